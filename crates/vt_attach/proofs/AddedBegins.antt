@@ -12,8 +12,8 @@ use Rattle.vt_spec.specs.Machine.Settled.{is_located, mount_lives}
 use Rattle.vt_spec.specs.Machine.World.{Filesystem, Namespace, World, all_locations, mount_at}
 use Rattle.vt_spec.specs.Machine.Invariants.{is_nowhere_or_attached, is_private}
 use Rattle.vt_count_laws.specs.Using.{AreThere, Exchanges, is_inode, is_on, pinned_if, places_of}
-use Rattle.vt_count_laws.proofs.MountRoots as Roots
-use Rattle.vt_count_laws.proofs.Places.{exchanges_follow, locations_are_uses, locations_use_mounts, mounts_are_uses}
+use Rattle.vt_count_laws.proofs.using.MountRoots as Roots
+use Rattle.vt_count_laws.proofs.using.Places.{exchanges_follow, locations_are_uses, locations_use_mounts, mounts_are_uses}
 use Rattle.vt_fs.specs.FilesystemsValue.{FilesystemEntry, Shown, filesystem_seen, inodes_seen, shown, shown_entry}
 use Rattle.vt_letting_go.specs.Counts.{mount_uses, times}
 use Rattle.vt_letting_go.specs.Keeping.{LocationsStand}
@@ -21,14 +21,14 @@ use Rattle.vt_letting_go.specs.Leaving.{MountsStand, stands_on_attached}
 use Rattle.vt_letting_go.specs.Mounting.{inode_at}
 use Rattle.vt_letting_go.specs.OneByOne.{Inode}
 use Rattle.vt_letting_go.proofs.Lists.{Among, all_pass, among-append, among-append_left, among-append_right, among-from_map, among-map, among_from_all, among_numbers, any_passes, is_among_numbers, map_alike, map_twice, one_passes, or_first, passes}
-use Rattle.vt_letting_go.proofs.MountsAdded.{found_before}
-use Rattle.vt_letting_go.proofs.OfWorlds.{mounts_of_worlds_stand}
-use Rattle.vt_letting_go.proofs.UsesCounted.{located_while_counted}
+use Rattle.vt_letting_go.proofs.leaving.MountsAdded.{found_before}
+use Rattle.vt_letting_go.proofs.sweeps.OfWorlds.{mounts_of_worlds_stand}
+use Rattle.vt_letting_go.proofs.sweeps.UsesCounted.{located_while_counted}
 use Rattle.vt_location.specs.Numbers.{counted}
 use Rattle.vt_mount.specs.MountsValue.{MountEntry, mounts_in}
 use Rattle.vt_tasks.specs.TasksValue.{Tasks}
 use Rattle.vt_world_laws.proofs.RaisedInUse.{worlds_are_in_use}
-use Rattle.vt_letting_go.proofs.UpperUses.{times_append}
+use Rattle.vt_letting_go.proofs.sweeps.UpperUses.{times_append}
 use Rattle.vt_detach.specs.Held.{CountsItsMounts, IsHeld, writes_of}
 use Rattle.vt_detach.specs.Uses.{Kept, is_unused}
 use Rattle.vt_detach.specs.WorldValue.{WorldValue, world_of}
@@ -394,7 +394,7 @@ module _ (value : WorldValue) (whole : IsHeld value) (added : List (Mount ℕ)) 
           ∙ ap (λ n. is_some (mount_in nat_eq world.mounts n).namespace)
           (sym (eqb-true entry.mount.number t.0.mount t.2))
           ∙ ap (λ (x : Mount ℕ). is_some x.namespace)
-          (Rattle.vt_letting_go.proofs.PlacesLeft.found_itself world.mounts stand.one_number entry.mount old) ∙ none)))
+          (Rattle.vt_letting_go.proofs.leaving.PlacesLeft.found_itself world.mounts stand.one_number entry.mount old) ∙ none)))
           (λ come. there (subst (λ all. Among t.0 all) (sym is.is)
           (among-append_right is.front (more ++ is.back) t.0 (among-append_left more is.back t.0 come))))
           (is.left t.0 gone))

@@ -5,7 +5,7 @@ use Rattle.std.proofs.lemmas.Bool.{ltb-true, ne_eqb}
 use Rattle.vt_spec.specs.Lists.{is_among}
 use Rattle.vt_spec.specs.Machine.Mounts as meant
 use Rattle.vt_spec.specs.Machine.World.{Descriptor, Task, all_locations, locations_of}
-use Rattle.vt_count_laws.proofs.MountRoots as Roots
+use Rattle.vt_count_laws.proofs.using.MountRoots as Roots
 use Rattle.vt_letting_go.specs.Counts.{times}
 use Rattle.vt_letting_go.proofs.Lists.{Among, among-append_left, among-append_right, among-from_map, among-map, among_numbers, is_among_numbers, passes}
 use Rattle.vt_location.specs.declared.mounts.Mount.{Mount}

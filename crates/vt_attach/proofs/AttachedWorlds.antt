@@ -13,7 +13,7 @@ use Rattle.vt_count_laws.specs.Using.{AreThere}
 use Rattle.vt_fs.specs.FilesystemsValue.{FilesystemEntry, Filesystems, filesystem_seen, filesystems_seen, inodes_seen}
 use Rattle.vt_letting_go.specs.OneByOne.{Inode}
 use Rattle.vt_letting_go.proofs.Lists.{Among, among-append_right, among-map, passes}
-use Rattle.vt_letting_go.proofs.PlacesLeft.{found_itself}
+use Rattle.vt_letting_go.proofs.leaving.PlacesLeft.{found_itself}
 use Rattle.vt_location.specs.declared.locations.Location.{Location}
 use Rattle.vt_location.specs.declared.locations.NodeRef.{NodeRef}
 use Rattle.vt_location.specs.declared.mounts.Mount.{Mount}
@@ -22,7 +22,7 @@ use Rattle.vt_location.specs.MountValue.{mount_of}
 use Rattle.vt_location.specs.Numbers.{counted}
 use Rattle.vt_location.proofs.NumberLemmas.{inode_same, slot_of}
 use Rattle.vt_world_laws.specs.Worlds.Kept.{IsUnderWay}
-use Rattle.vt_world_laws.proofs.Roots.{directory_there}
+use Rattle.vt_world_laws.proofs.worlds.Roots.{directory_there}
 use Rattle.vt_detach.specs.Held.{HasOwnInodes}
 use Rattle.vt_attach.specs.Room.{has_small_slots, point_is_small}
 use Rattle.vt_attach.proofs.AddedUses.{IsFoundIn, gained_by, point_inodes}

@@ -13,23 +13,23 @@ use Rattle.vt_spec.specs.Machine.Receives.{has_members, is_member_of}
 use Rattle.vt_spec.specs.Machine.World.{World, mount_at}
 use Rattle.vt_spec.specs.Machine.Invariants.{is_located_well}
 use Rattle.vt_count_laws.specs.Counted.{IsCounted}
-use Rattle.vt_count_laws.proofs.MountRoots as Roots
+use Rattle.vt_count_laws.proofs.using.MountRoots as Roots
 use Rattle.vt_fs.specs.FilesystemsValue.{Filesystems, filesystem_seen, inodes_seen}
 use Rattle.vt_group.specs.Grouping.{Grouping, HasGroup}
 use Rattle.vt_group.specs.Together.{new_group}
 use Rattle.vt_laws.specs.Numbers.{KeepsTo}
-use Rattle.vt_letting_go.proofs.AttachedSwept.{binds_keep_all}
+use Rattle.vt_letting_go.proofs.mounting.AttachedSwept.{binds_keep_all}
 use Rattle.vt_letting_go.proofs.Lists.{Among, among-map, among_from_all, any_passes}
-use Rattle.vt_letting_go.proofs.OfWorlds.{mounts_of_worlds_stand, worlds_have_trees}
-use Rattle.vt_letting_go.proofs.PlacesLeft.{found_is_there}
+use Rattle.vt_letting_go.proofs.sweeps.OfWorlds.{mounts_of_worlds_stand, worlds_have_trees}
+use Rattle.vt_letting_go.proofs.leaving.PlacesLeft.{found_is_there}
 use Rattle.vt_location.specs.declared.locations.Location.{Location}
 use Rattle.vt_location.specs.Locations.{location_of}
 use Rattle.vt_location.specs.MountValue.{mount_of}
 use Rattle.vt_location.specs.Numbers.{counted}
 use Rattle.vt_mount.specs.MountsValue.{MountEntry, are_ascending, mounts_in}
-use Rattle.vt_mount_laws.proofs.BindsStand.{bind_there_or_source}
-use Rattle.vt_mount_laws.proofs.MountsNumbered.{parts_apart}
-use Rattle.vt_mount_laws.proofs.Standing.{binds_take_each_once}
+use Rattle.vt_mount_laws.proofs.attached.BindsStand.{bind_there_or_source}
+use Rattle.vt_mount_laws.proofs.mounts.MountsNumbered.{parts_apart}
+use Rattle.vt_mount_laws.proofs.mounts.Standing.{binds_take_each_once}
 use Rattle.vt_propagate.specs.declared.copying.Counts.{Counts}
 use Rattle.vt_propagate.specs.declared.copying.Graft.{Graft}
 use Rattle.vt_propagate.specs.Copying as planned

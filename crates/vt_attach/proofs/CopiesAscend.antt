@@ -11,8 +11,8 @@ use Rattle.vt_location.specs.Locations.{location_of}
 use Rattle.vt_location.specs.MountValue.{mount_of}
 use Rattle.vt_location.specs.Numbers.{counted}
 use Rattle.vt_mount.specs.MountsValue.{are_ascending}
-use Rattle.vt_mount_laws.proofs.MountsNumbered.{parts_apart}
-use Rattle.vt_permit_laws.proofs.TakenAttached.{index_bound}
+use Rattle.vt_mount_laws.proofs.mounts.MountsNumbered.{parts_apart}
+use Rattle.vt_permit_laws.proofs.taken.TakenAttached.{index_bound}
 use Rattle.vt_propagate.specs.declared.copying.Counts.{Counts}
 use Rattle.vt_propagate.specs.declared.copying.Graft.{Graft}
 use Rattle.vt_propagate.specs.Planned.{graft_in, numbers_at, planned_copies}

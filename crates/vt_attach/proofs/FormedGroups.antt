@@ -2,7 +2,7 @@
 use Rattle.std.proofs.Common.{◌≡◌, ◌⊎◌, refl, sym, ap, subst, ◌∙◌, true≢false, inl, inr, ℕ, nat_eq, eq-eqb, eqb-true, Bool, true, false, cond, not, List, map, Option, Some, None, is_some, option_map, unwrap_or}
 use Rattle.std.specs.Prelude.{filter_map}
 use Rattle.vt_group.specs.Grouping.{HasGroup}
-use Rattle.vt_mount_laws.proofs.MountsFound.{number_found}
+use Rattle.vt_mount_laws.proofs.mounts.MountsFound.{number_found}
 use Rattle.vt_spec.specs.Lists.{holds_of, is_among, then_some, when}
 use Rattle.vt_spec.specs.Machine.Attach.{Copies, Graft, Twig, copies_at, copy_at, copy_type, graft_of, group_made, image, is_destination, nearest_image, parts_of, twig_master, twig_of, type_at, type_at_part}
 use Rattle.vt_spec.specs.Machine.Mounts.{Location, Mount, Propagation, group_of, is_shared}

@@ -23,23 +23,23 @@ use Rattle.vt_spec.proofs.Lists.{among_from_contains, contains_from_among}
 use Rattle.vt_count_laws.specs.Counted.{IsPlain}
 use Rattle.vt_count_laws.specs.Sweeping.{living}
 use Rattle.vt_count_laws.specs.Using.{Exchanges}
-use Rattle.vt_count_laws.proofs.MountRoots as Roots
+use Rattle.vt_count_laws.proofs.using.MountRoots as Roots
 use Rattle.vt_fs.specs.FilesystemsValue.{Filesystems, Shown, filesystems_seen}
 use Rattle.vt_group.specs.Grouping.{Grouping, Has, master_in, numbers_of}
 use Rattle.vt_group.specs.Together.{Grows, new_group, typed}
 use Rattle.vt_laws.specs.Numbers.{KeepsTo}
 use Rattle.vt_letting_go.proofs.Lists.{Among, all_from_among, among-from_map, among-map, among_from_all, is_among_numbers, map_twice, none_passes, passes}
-use Rattle.vt_letting_go.proofs.OfWorlds.{mounts_of_worlds_stand}
+use Rattle.vt_letting_go.proofs.sweeps.OfWorlds.{mounts_of_worlds_stand}
 use Rattle.vt_location.specs.declared.mounts.Mount.{Mount}
 use Rattle.vt_location.specs.Locations.{location_of}
 use Rattle.vt_location.specs.MountValue.{mount_of}
 use Rattle.vt_location.specs.Numbers.{counted}
 use Rattle.vt_mount.specs.MountsValue.{MountEntry, are_ascending, mounts_in}
-use Rattle.vt_mount_laws.proofs.MountsNumbered.{parts_apart}
-use Rattle.vt_mount_laws.proofs.MountsReplaced.{one_number_by_numbers}
-use Rattle.vt_mount_laws.proofs.MovingRoots.{tree_placed}
-use Rattle.vt_mount_laws.proofs.Standing.{trees_have_each_once}
-use Rattle.vt_permit_laws.proofs.PermitsLeave.{given_permits_are_under_way}
+use Rattle.vt_mount_laws.proofs.mounts.MountsNumbered.{parts_apart}
+use Rattle.vt_mount_laws.proofs.mounts.MountsReplaced.{one_number_by_numbers}
+use Rattle.vt_mount_laws.proofs.moves.MovingRoots.{tree_placed}
+use Rattle.vt_mount_laws.proofs.mounts.Standing.{trees_have_each_once}
+use Rattle.vt_permit_laws.proofs.left.PermitsLeave.{given_permits_are_under_way}
 use Rattle.vt_propagate.specs.declared.copying.Counts.{Counts}
 use Rattle.vt_propagate.specs.declared.copying.Graft.{Graft}
 use Rattle.vt_propagate.specs.Attaching.{AttachesBy, IsMoved}
@@ -51,7 +51,7 @@ use Rattle.vt_run_laws.specs.Handed.{counts_from, is_counted_before}
 use Rattle.vt_world_laws.specs.Worlds.Kept.{IsUnderWay}
 use Rattle.vt_world_laws.specs.Worlds.Permits.{MayMoveTo}
 use Rattle.vt_world_laws.proofs.RaisedInUse.{worlds_are_in_use}
-use Rattle.vt_world_laws.proofs.SettledTasks.{under_way}
+use Rattle.vt_world_laws.proofs.settling.SettledTasks.{under_way}
 use Rattle.vt_detach.specs.Events.{Permits, left_by}
 use Rattle.vt_detach.specs.Held.{IsHeld}
 use Rattle.vt_detach.specs.Uses.{kept, unused_entry}

@@ -8,10 +8,10 @@ use Rattle.vt_letting_go.specs.Keeping.{LocationsStand}
 use Rattle.vt_letting_go.specs.Leaving.{MountsStand}
 use Rattle.vt_letting_go.specs.OneByOne.{AllInUseBut, IsPlain}
 use Rattle.vt_letting_go.specs.Mounting.{used_by_mounts}
-use Rattle.vt_letting_go.proofs.Attached.{attached_groups, attached_loses}
+use Rattle.vt_letting_go.proofs.mounting.Attached.{attached_groups, attached_loses}
 use Rattle.vt_letting_go.proofs.Lists.{Among}
-use Rattle.vt_letting_go.proofs.MountingLosers.{all_but_losers}
-use Rattle.vt_letting_go.proofs.OneByOne.{filesystems_go_one_by_one, mounts_go_one_by_one}
+use Rattle.vt_letting_go.proofs.mounting.MountingLosers.{all_but_losers}
+use Rattle.vt_letting_go.proofs.sweeps.OneByOne.{filesystems_go_one_by_one, mounts_go_one_by_one}
 use Rattle.vt_spec.specs.Machine.Attach.{Copies, attached_by}
 use Rattle.vt_spec.specs.Machine.Mounts.{Location, Mount}
 use Rattle.vt_spec.specs.Machine.Settled.{mount_lives, without_dead_filesystems, without_dead_mounts}

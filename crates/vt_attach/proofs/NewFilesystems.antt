@@ -7,7 +7,7 @@ use Rattle.vt_spec.specs.Machine.World.{Namespace, root_attr}
 use Rattle.vt_spec.specs.Inodes.{Inodes}
 use Rattle.vt_count_laws.specs.Using.{root_counted}
 use Rattle.vt_fs.specs.FilesystemsValue.{FilesystemEntry, Filesystems, IsNew, entry_of, filesystem_seen, inodes_seen, without}
-use Rattle.vt_laws.proofs.Supports.{used_numbers_are_named}
+use Rattle.vt_laws.proofs.numbers.Supports.{used_numbers_are_named}
 use Rattle.vt_letting_go.proofs.Lists.{Among, all_from_among, among-append, among-append_left, among-append_right, among-flat_map, among-map, among_from_all, filter_here, filter_skip, is_among_numbers}
 use Rattle.vt_location.specs.Numbers.{counted, inode_number, is_inode_of}
 use Rattle.vt_location.proofs.NumberLemmas.{is_inode}

@@ -2,10 +2,10 @@
 use Rattle.std.proofs.Common.{◌≡◌, refl, sym, ap, subst, ◌∙◌, ℕ, zero, suc, ◌+◌, ◌*◌, ◌-◌, ◌%◌, ◌/◌, ◌==◌, ◌<◌, nat_eq, eq-eqb, lt-ltb, Bool, true, false, true≢false, cond, ◌&&◌, ◌||◌, List, [], ◌∷◌, filter, map, Some, length, unwrap_or, arith}
 use Rattle.std.specs.Prelude.{nat_lt}
 use Rattle.vt_laws.specs.Numbers.{KeepsTo}
-use Rattle.vt_permit_laws.proofs.NamedPermits.{permit_left}
-use Rattle.vt_permit_laws.proofs.PermitsKeepTo.{left_renamed}
-use Rattle.vt_permit_laws.proofs.TakenAttached.{index_bound}
-use Rattle.vt_permit_laws.proofs.TakenNumbers.{counted_later}
+use Rattle.vt_permit_laws.proofs.named.NamedPermits.{permit_left}
+use Rattle.vt_permit_laws.proofs.named.PermitsKeepTo.{left_renamed}
+use Rattle.vt_permit_laws.proofs.taken.TakenAttached.{index_bound}
+use Rattle.vt_permit_laws.proofs.taken.TakenNumbers.{counted_later}
 use Rattle.vt_permit_laws.specs.Left.{left_by}
 use Rattle.vt_permit_laws.specs.Named.{permit_named}
 use Rattle.vt_run_laws.specs.Handed.{counts_from, handed_from, is_counted_before}
@@ -21,7 +21,7 @@ use Rattle.vt_spec.specs.Machine.World.{Namespace, Task, World, mount_numbered, 
 use Rattle.vt_spec.specs.Machine.Invariants.{IsWorld, has_one_root, is_listed, is_root_mount}
 use Rattle.vt_spec.specs.Machine.Namespaces.{namespaces_ended, unshared_by}
 use Rattle.vt_spec.proofs.Lists.{among_from_list_all, among_numbers, among-from_map}
-use Rattle.vt_world_laws.proofs.ReachedWalks.{task_among}
+use Rattle.vt_world_laws.proofs.worlds.ReachedWalks.{task_among}
 use Rattle.vt_attach.specs.AttachedNumbers.{BindsKeepToNumbers, MovesKeepToNumbers, NewMountsKeepToNumbers, UnsharesKeepToNumbers, numbers_of_new_mount, numbers_of_parts}
 
 -- places in a table

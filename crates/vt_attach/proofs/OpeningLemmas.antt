@@ -13,9 +13,9 @@ use Rattle.vt_spec.specs.Inodes.{Inodes, node_in, one_directory, pinned, tree_of
 use Rattle.vt_spec.specs.Tree.{new_directory, tree_of_root}
 use Rattle.vt_count_laws.specs.Counted.{IsCounted}
 use Rattle.vt_count_laws.specs.Using.{one_counted, root_counted}
-use Rattle.vt_count_laws.proofs.Places.{opening_is_counted}
+use Rattle.vt_count_laws.proofs.using.Places.{opening_is_counted}
 use Rattle.vt_laws.specs.Numbers.{KeepsTo}
-use Rattle.vt_laws.proofs.Supports.{opening_keeps_to_four}
+use Rattle.vt_laws.proofs.numbers.Supports.{opening_keeps_to_four}
 use Rattle.vt_group.specs.Grouping.{Grouping, Has, no_groups}
 use Rattle.vt_group.proofs.Showing.{opening_has_no_groups}
 use Rattle.vt_letting_go.specs.Counts.{mounts_showing}
@@ -31,7 +31,7 @@ use Rattle.vt_location.specs.MountValue.{mount_of}
 use Rattle.vt_location.specs.Numbers.{counted, inode_number, is_inode_of}
 use Rattle.vt_location.proofs.NumberLemmas.{is_inode}
 use Rattle.vt_run_laws.specs.Handed.{is_counted_before}
-use Rattle.vt_world_laws.proofs.OpeningWorld.{opening_is_a_world}
+use Rattle.vt_world_laws.proofs.opening.OpeningWorld.{opening_is_a_world}
 use Rattle.vt_fs.specs.FilesystemsValue.{ChangesInodes, FilesystemEntry, Filesystems, IsNew, Shown, filesystem_seen, inodes_seen, numbers_seen, shown, shown_entry, shown_with, with_changed}
 use Rattle.vt_fs.proofs.Numbers.{numbers_counted, numbers_listed}
 use Rattle.vt_mount.specs.MountsValue.{MountEntry, mounts_in}

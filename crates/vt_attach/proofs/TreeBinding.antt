@@ -4,14 +4,14 @@ use Rattle.std.specs.Prelude.{filter, flat_map}
 use Rattle.std.specs.List.{cons_option}
 use Rattle.std.proofs.lemmas.Bool.{and_parts}
 use Rattle.vt_letting_go.proofs.Lists.{Among}
-use Rattle.vt_letting_go.proofs.PlacesLeft.{number_found}
+use Rattle.vt_letting_go.proofs.leaving.PlacesLeft.{number_found}
 use Rattle.vt_location.specs.declared.locations.Location.{Location as Place}
 use Rattle.vt_location.specs.declared.numbers.MountId.{MountId}
 use Rattle.vt_location.specs.Locations.{location_of, number_of}
 use Rattle.vt_location.specs.Numbers.{counted}
 use Rattle.vt_mount.specs.MountsValue.{are_ascending, mounts_in}
-use Rattle.vt_mount_laws.proofs.BindsStand.{bind_there_or_source}
-use Rattle.vt_mount_laws.proofs.Standing.{binds_take_each_once}
+use Rattle.vt_mount_laws.proofs.attached.BindsStand.{bind_there_or_source}
+use Rattle.vt_mount_laws.proofs.mounts.Standing.{binds_take_each_once}
 use Rattle.vt_propagate.specs.Pushing.{EachOnce}
 use Rattle.vt_spec.specs.Machine.Attach.{bind_tree, bindable_children, bindable_tree, bound, stands_under}
 use Rattle.vt_spec.specs.Machine.Mounts.{Mount, no_mount}

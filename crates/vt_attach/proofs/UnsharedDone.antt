@@ -25,7 +25,7 @@ use Rattle.vt_location.specs.declared.mounts.Mount.{Mount as Attached}
 use Rattle.vt_location.specs.MountValue.{mount_of}
 use Rattle.vt_location.specs.Numbers.{counted}
 use Rattle.vt_mount.specs.MountsValue.{MountEntry, are_ascending, mounts_in}
-use Rattle.vt_permit_laws.proofs.SameNumbers.{same_worlds_keep_to_numbers}
+use Rattle.vt_permit_laws.proofs.same.SameNumbers.{same_worlds_keep_to_numbers}
 use Rattle.vt_run_laws.specs.Handed.{counts_from, is_counted_before}
 use Rattle.vt_tasks.specs.TasksValue.{Tasks}
 use Rattle.vt_mount.specs.Attached.{attached_in}

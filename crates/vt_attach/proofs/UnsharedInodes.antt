@@ -20,7 +20,7 @@ use Rattle.vt_letting_go.specs.Counts.{times}
 use Rattle.vt_letting_go.specs.Mounting.{inode_at}
 use Rattle.vt_letting_go.specs.OneByOne.{Inode}
 use Rattle.vt_letting_go.proofs.Lists.{Among, among-append_right, among-filter, among-from_filter, among-from_map, among-map, passes}
-use Rattle.vt_letting_go.proofs.PlacesLeft.{found_itself}
+use Rattle.vt_letting_go.proofs.leaving.PlacesLeft.{found_itself}
 use Rattle.vt_location.specs.declared.locations.Location.{Location}
 use Rattle.vt_location.specs.declared.locations.NodeRef.{NodeRef}
 use Rattle.vt_location.specs.declared.mounts.Mount.{Mount}
@@ -28,8 +28,8 @@ use Rattle.vt_location.specs.Locations.{location_of, number_of}
 use Rattle.vt_location.specs.MountValue.{mount_of}
 use Rattle.vt_location.specs.Numbers.{counted}
 use Rattle.vt_location.proofs.NumberLemmas.{inode_same, slot_of}
-use Rattle.vt_mount_laws.proofs.Unsharing.{parent_of}
-use Rattle.vt_world_laws.proofs.Roots.{directory_there}
+use Rattle.vt_mount_laws.proofs.namespaces.Unsharing.{parent_of}
+use Rattle.vt_world_laws.proofs.worlds.Roots.{directory_there}
 use Rattle.vt_detach.specs.Held.{IsHeld}
 use Rattle.vt_attach.specs.Room.{has_small_slots, point_is_small}
 use Rattle.vt_detach.specs.WorldValue.{WorldValue, world_of}

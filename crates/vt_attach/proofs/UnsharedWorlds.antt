@@ -14,7 +14,7 @@ use Rattle.vt_spec.specs.Machine.Run.{Serves, numbers_in_use, used_by_filesystem
 use Rattle.vt_spec.specs.Machine.World.{Namespace, Task, World, mount_at, task_called}
 use Rattle.vt_spec.specs.Machine.Invariants.{MountInvariants, is_listed}
 use Rattle.vt_location.proofs.NumberLemmas.{counted_test}
-use Rattle.vt_mount_laws.proofs.Unsharing.{unshare_keeps_mounts}
+use Rattle.vt_mount_laws.proofs.namespaces.Unsharing.{unshare_keeps_mounts}
 use Rattle.vt_letting_go.specs.Counts.{times}
 use Rattle.vt_letting_go.proofs.Lists.{Among, among-append, among-append_right, among-from_filter, among-from_map, among-map, among_from_all, among_numbers, filter_alike, is_among_left, is_among_right, is_among_numbers, passes}
 use Rattle.vt_location.specs.Numbers.{counted}

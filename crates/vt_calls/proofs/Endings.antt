@@ -21,7 +21,7 @@ use Rattle.vt_permits.specs.declared.permit.Permit as code
 use Rattle.vt_request.specs.Answers.{answer_of}
 use Rattle.vt_request.specs.declared.answer.Answer.{Answer}
 use Rattle.vt_request.specs.declared.answer.Answer.TheVariants.{Done}
-use Rattle.vt_run_laws.proofs.AlikeWorlds.{sameness_is_an_equivalence}
+use Rattle.vt_run_laws.proofs.answered.AlikeWorlds.{sameness_is_an_equivalence}
 use Rattle.vt_run_laws.specs.Handed.{counts_from}
 use Rattle.vt_detach.specs.Events.{Becomes, Permits, left_by, supply_of}
 use Rattle.vt_detach.specs.Held.{IsHeld}

@@ -16,10 +16,10 @@ use Rattle.vt_spec.specs.Machine.Policy.{call_outcome, filesystems_changed_by, f
 use Rattle.vt_spec.specs.Machine.SameWorlds.{SameFiles, SameFilesystems, SameWorlds, without_changes}
 use Rattle.vt_spec.specs.Machine.Settled.{settled}
 use Rattle.vt_spec.specs.Machine.World.{Filesystem, Task, World, task_called}
-use Rattle.vt_laws.proofs.CallsJudged.{call_is_judged_then_applied}
-use Rattle.vt_laws.proofs.NumbersRaised.{last_step_raises_numbers_alone}
-use Rattle.vt_laws.proofs.Unchanged.{look_changes_nothing}
-use Rattle.vt_run_laws.proofs.AlikeWorlds.{files_itself, sameness_is_an_equivalence}
+use Rattle.vt_laws.proofs.judged.CallsJudged.{call_is_judged_then_applied}
+use Rattle.vt_laws.proofs.judged.NumbersRaised.{last_step_raises_numbers_alone}
+use Rattle.vt_laws.proofs.denials.Unchanged.{look_changes_nothing}
+use Rattle.vt_run_laws.proofs.answered.AlikeWorlds.{files_itself, sameness_is_an_equivalence}
 
 -- Worlds that are one but for change numbers are the same.
 abbrev bare : Filesystem ℕ → Filesystem ℕ

@@ -32,7 +32,7 @@ use Rattle.vt_spec.specs.Machine.Walking.{Place, directory_walk, file_walk, is_d
 use Rattle.vt_spec.specs.Machine.World.{Task}
 use Rattle.vt_spec.specs.Rights.{cap_sys_admin, cap_sys_chroot, owns}
 use Rattle.vt_spec.specs.Tree.{Node}
-use Rattle.vt_permit_laws.proofs.SeesGiven.{Gives, given_is, gives_then, gives_unless}
+use Rattle.vt_permit_laws.proofs.sees.SeesGiven.{Gives, given_is, gives_then, gives_unless}
 use Rattle.vt_permits.specs.Allocating.{TakesMemory}
 
 -- a change that does not allocate

@@ -12,14 +12,14 @@ use Rattle.vt_spec.specs.Machine.Run.{Serves}
 use Rattle.vt_spec.specs.Machine.World.{Filesystem, is_overlay, task_called}
 use Rattle.vt_fs.specs.FilesystemsValue.{FilesystemEntry, filesystem_seen, filesystems_seen}
 use Rattle.vt_laws.specs.Numbers.{Allotment}
-use Rattle.vt_laws.proofs.Texts.{room_serves}
+use Rattle.vt_laws.proofs.numbers.Texts.{room_serves}
 use Rattle.vt_location.specs.Numbers.{inode_number}
-use Rattle.vt_permit_laws.proofs.InUseServes.{worlds_keep_to_named_before}
-use Rattle.vt_permit_laws.proofs.TakenJudged.{judgements_do_not_see_supplies}
+use Rattle.vt_permit_laws.proofs.in_use.InUseServes.{worlds_keep_to_named_before}
+use Rattle.vt_permit_laws.proofs.taken.TakenJudged.{judgements_do_not_see_supplies}
 use Rattle.vt_permits.specs.PermitValue.{permit_of}
 use Rattle.vt_permits.specs.declared.permit.Permit as code
-use Rattle.vt_run_laws.proofs.Counts.{counts_serve}
-use Rattle.vt_run_laws.proofs.InodesAllotted.{allotted_numbers_serve}
+use Rattle.vt_run_laws.proofs.handed.Counts.{counts_serve}
+use Rattle.vt_run_laws.proofs.handed.InodesAllotted.{allotted_numbers_serve}
 use Rattle.vt_run_laws.specs.Handed.{counts_from, handed_from, may_be_given}
 use Rattle.vt_run_laws.specs.Runs.{ServesInHand}
 use Rattle.vt_tree_laws.specs.Trees.Calls.{mounts_overlay}
@@ -27,7 +27,7 @@ use Rattle.vt_detach.specs.Events.{Permits, next_inode, supply_of}
 use Rattle.vt_detach.specs.Held.{IsHeld}
 use Rattle.vt_ns.specs.Vacancy.{IsVacant, NextInodeIsVacant, NextRootIsVacant}
 use Rattle.vt_detach.specs.WorldValue.{WorldValue, world_of}
-use Rattle.vt_world_laws.proofs.CallsKept.{name_found}
+use Rattle.vt_world_laws.proofs.worlds.CallsKept.{name_found}
 use Rattle.vt_world_laws.specs.Worlds.Kept.{IsPlain}
 use Rattle.vt_calls.specs.Permitted.{IsPermitted}
 

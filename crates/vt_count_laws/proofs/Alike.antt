@@ -13,12 +13,12 @@ use Rattle.vt_spec.specs.Tree.{Node}
 use Rattle.vt_letting_go.specs.OneByOne as LettingGo
 use Rattle.vt_letting_go.proofs.Lists.{flat_map-map}
 use Rattle.vt_one_text.specs.OneTree.{times_in}
-use Rattle.vt_one_text.proofs.OneTreeEntries.{named_by, one_if}
-use Rattle.vt_one_text.proofs.OneTreeTrees.{times_append}
+use Rattle.vt_one_text.proofs.one_tree.OneTreeEntries.{named_by, one_if}
+use Rattle.vt_one_text.proofs.one_tree.OneTreeTrees.{times_append}
 use Rattle.vt_count_laws.specs.Sweeping.{SameWorldsCountAlike}
 use Rattle.vt_count_laws.proofs.Listed.{no_repeats, once_times}
-use Rattle.vt_count_laws.proofs.Places.{count_in}
-use Rattle.vt_count_laws.proofs.Swept.{plain_of, plain_uses_are}
+use Rattle.vt_count_laws.proofs.using.Places.{count_in}
+use Rattle.vt_count_laws.proofs.using.Swept.{plain_of, plain_uses_are}
 
 -- sums over a list do not hang on its order
 times_sum : (n : ℕ) (list : List ℕ) → times_in n list ≡ sum_by (one_if n) list

@@ -1,13 +1,2 @@
 pub mod Listed
-pub mod TreeCounts
-pub mod NameCounts
-pub mod Swept
-pub mod Changes
-pub mod SameAfter
-pub mod Exchanged
-pub mod Places
-pub mod Gone
-pub mod KeptAll
-pub mod Sweeps
 pub mod Alike
-pub mod MountRoots

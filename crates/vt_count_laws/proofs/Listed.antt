@@ -7,8 +7,8 @@ use Rattle.std.proofs.lemmas.List.Sorted.{IsPermutation-cons, IsPermutation-midd
 use Rattle.vt_spec.specs.Lists.{any_pair, is_among}
 use Rattle.vt_letting_go.specs.Counts.{times}
 use Rattle.vt_one_text.specs.OneTree.{times_in}
-use Rattle.vt_one_text.proofs.OneTreeEntries.{one_if}
-use Rattle.vt_one_text.proofs.OneTreeTrees.{among_times, removed, times_among, times_removed}
+use Rattle.vt_one_text.proofs.one_tree.OneTreeEntries.{one_if}
+use Rattle.vt_one_text.proofs.one_tree.OneTreeTrees.{among_times, removed, times_among, times_removed}
 use Rattle.vt_count_laws.specs.Numbers.{SameNumbersArePermuted}
 
 -- a comparison the other way round

@@ -9,16 +9,16 @@ use Rattle.vt_spec.specs.Machine.Invariants.{IsWorld}
 use Rattle.vt_count_laws.specs.Counted.{IsCounted, IsPlain}
 use Rattle.vt_count_laws.specs.Sweeping.{living}
 use Rattle.vt_count_laws.specs.Using.{AreThere, Exchanges, exchanged}
-use Rattle.vt_count_laws.proofs.Exchanged.{numbers_mapped}
-use Rattle.vt_count_laws.proofs.Sweeps.{uses_are_swept}
+use Rattle.vt_count_laws.proofs.using.Exchanged.{numbers_mapped}
+use Rattle.vt_count_laws.proofs.using.Sweeps.{uses_are_swept}
 use Rattle.vt_fs.specs.FilesystemsValue.{FilesystemEntry, filesystem_seen, inodes_seen}
 use Rattle.vt_group.specs.Grouping.{Has}
 use Rattle.vt_letting_go.specs.OneByOne.{Inode}
 use Rattle.vt_letting_go.proofs.Lists.{Among, among-map, among_from_all}
-use Rattle.vt_letting_go.proofs.OfWorlds.{worlds_have_trees}
+use Rattle.vt_letting_go.proofs.sweeps.OfWorlds.{worlds_have_trees}
 use Rattle.vt_location.specs.Numbers.{counted}
 use Rattle.vt_mount.specs.MountsValue.{mounts_in}
-use Rattle.vt_world_laws.proofs.SettledSeen.{used_number}
+use Rattle.vt_world_laws.proofs.settling.SettledSeen.{used_number}
 use Rattle.vt_world_laws.proofs.RaisedInUse.{worlds_are_in_use}
 use Rattle.vt_detach.specs.Held.{CountsItsMounts, IsHeld}
 use Rattle.vt_detach.specs.WorldValue.{WorldValue, world_of}

@@ -12,7 +12,7 @@ use Rattle.vt_spec.specs.Machine.Invariants.{is_nowhere_or_attached}
 use Rattle.vt_count_laws.specs.Counted.{IsPlain}
 use Rattle.vt_count_laws.specs.Sweeping.{living}
 use Rattle.vt_count_laws.specs.Using.{Exchanges}
-use Rattle.vt_count_laws.proofs.Places.{exchanges_follow, mount_is_placed}
+use Rattle.vt_count_laws.proofs.using.Places.{exchanges_follow, mount_is_placed}
 use Rattle.vt_fs.specs.FilesystemsValue.{Shown}
 use Rattle.vt_letting_go.specs.Counts.{mounts_showing, times}
 use Rattle.vt_letting_go.specs.Detaching.{detached_if, without_place}
@@ -23,7 +23,7 @@ use Rattle.vt_letting_go.specs.Mounting.{inode_at}
 use Rattle.vt_letting_go.specs.OneByOne.{Inode, MountsInUseBut}
 use Rattle.vt_letting_go.specs.OneByOne as Looks
 use Rattle.vt_letting_go.proofs.Lists.{Among, all_from_among, all_pass, among-from_map, among_from_all, any-map, any_passes, among-from_filter, fails, filter_all, filter_alike, filter_twice, map_alike, map_same, map_twice, one_passes, or_second, passes}
-use Rattle.vt_letting_go.proofs.OneByOne.{mounts_go_one_by_one}
+use Rattle.vt_letting_go.proofs.sweeps.OneByOne.{mounts_go_one_by_one}
 use Rattle.vt_location.specs.Numbers.{counted}
 use Rattle.vt_mount.specs.MountsValue.{mounts_in}
 use Rattle.vt_detach.specs.Held.{CountsItsUses}

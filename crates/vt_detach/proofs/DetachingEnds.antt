@@ -19,7 +19,7 @@ use Rattle.vt_spec.specs.Tree.{is_directory_node}
 use Rattle.vt_count_laws.specs.Counted.{IsPlain}
 use Rattle.vt_count_laws.specs.Sweeping.{living}
 use Rattle.vt_count_laws.specs.Using.{Exchanges}
-use Rattle.vt_count_laws.proofs.MountRoots as Roots
+use Rattle.vt_count_laws.proofs.using.MountRoots as Roots
 use Rattle.vt_fs.specs.FilesystemsValue.{Filesystems, Shown, filesystem_seen, shown_entry}
 use Rattle.vt_group.specs.Grouping.{Grouping, Has}
 use Rattle.vt_group.specs.Together.{TakesAway}
@@ -27,14 +27,14 @@ use Rattle.vt_letting_go.specs.Counts.{mount_uses, mounts_showing, times}
 use Rattle.vt_letting_go.specs.Leaving.{stands_on_attached}
 use Rattle.vt_letting_go.specs.OneByOne.{Inode}
 use Rattle.vt_letting_go.proofs.Lists.{Among, all_from_among, among-from_map, among-map, among_from_all, is_among_numbers, map_alike, map_twice, passes}
-use Rattle.vt_letting_go.proofs.MountingTaken as Taken
-use Rattle.vt_letting_go.proofs.OfWorlds.{mounts_of_worlds_stand}
-use Rattle.vt_letting_go.proofs.PlacesLeft.{found_is_there, number_found}
+use Rattle.vt_letting_go.proofs.mounting.MountingTaken as Taken
+use Rattle.vt_letting_go.proofs.sweeps.OfWorlds.{mounts_of_worlds_stand}
+use Rattle.vt_letting_go.proofs.leaving.PlacesLeft.{found_is_there, number_found}
 use Rattle.vt_location.specs.Locations.{location_of}
 use Rattle.vt_location.specs.Numbers.{counted}
 use Rattle.vt_mount.specs.MountsValue.{MountEntry, mounts_in}
 use Rattle.vt_world_laws.proofs.RaisedInUse.{worlds_are_in_use}
-use Rattle.vt_world_laws.proofs.Roots.{directory_there}
+use Rattle.vt_world_laws.proofs.worlds.Roots.{directory_there}
 use Rattle.vt_detach.specs.Held.{CountsItsMounts, CountsItsUses, CountsWhatIsInIt, IsHeld, is_ungrouped, writes_of}
 use Rattle.vt_detach.specs.Uses.{kept}
 use Rattle.vt_detach.specs.WorldValue.{WorldValue, world_of}

@@ -15,11 +15,11 @@ use Rattle.vt_location.specs.Locations.{location_of, number_of}
 use Rattle.vt_location.specs.Numbers.{is_inode_of}
 use Rattle.vt_permit_laws.specs.Named.{change_named}
 use Rattle.vt_permit_laws.specs.Sees.{SeesToChange}
-use Rattle.vt_permit_laws.proofs.SeesFit.{given_changes_fit}
-use Rattle.vt_permit_laws.proofs.SeesTasks.{given_permits_are_seen_to}
+use Rattle.vt_permit_laws.proofs.sees.SeesFit.{given_changes_fit}
+use Rattle.vt_permit_laws.proofs.sees.SeesTasks.{given_permits_are_seen_to}
 use Rattle.vt_run_laws.specs.Handed.{is_counted_before}
 use Rattle.vt_world_laws.specs.Worlds.Permits.{IsFitPermit}
-use Rattle.vt_world_laws.proofs.FitPermitsNamed.{permits_fit}
+use Rattle.vt_world_laws.proofs.worlds.FitPermitsNamed.{permits_fit}
 use Rattle.vt_detach.specs.Events.{Permits, supply_of}
 use Rattle.vt_detach.specs.Held.{IsHeld}
 use Rattle.vt_detach.specs.WorldValue.{WorldValue, world_of}

@@ -13,7 +13,7 @@ use Rattle.vt_spec.specs.Inodes.{node_in}
 use Rattle.vt_spec.specs.TreeLaws.{IsTree}
 use Rattle.vt_fs.specs.FilesystemsValue.{FilesystemEntry, Filesystems, entry_of, files_at, filesystem_seen, filesystems_seen, inodes_at, inodes_seen, no_entry}
 use Rattle.vt_laws.specs.Numbers.{LeavesOutTwo, location_named}
-use Rattle.vt_laws.proofs.Supports.{used_numbers_are_named}
+use Rattle.vt_laws.proofs.numbers.Supports.{used_numbers_are_named}
 use Rattle.vt_letting_go.proofs.Lists.{Among, all_from_among, among_from_all, among-from_map, among-map, fails}
 use Rattle.vt_location.specs.declared.locations.Location.{Location}
 use Rattle.vt_location.specs.declared.locations.NodeRef.{NodeRef}

@@ -21,10 +21,10 @@ use Rattle.vt_letting_go.proofs.Lists.{Among, all_from_among, among_from_all}
 use Rattle.vt_location.specs.Numbers.{counted}
 use Rattle.vt_permit_laws.specs.Left.{IsGiven}
 use Rattle.vt_permit_laws.specs.Named.{permit_named}
-use Rattle.vt_permit_laws.proofs.PermitsKeepTo.{permits_keep_to_numbers}
-use Rattle.vt_permit_laws.proofs.PermitsLeave.{given_permits_leave_worlds}
-use Rattle.vt_permit_laws.proofs.SameInUse.{same_worlds_are_worlds}
-use Rattle.vt_permit_laws.proofs.SameNumbers.{same_worlds_keep_to_numbers}
+use Rattle.vt_permit_laws.proofs.named.PermitsKeepTo.{permits_keep_to_numbers}
+use Rattle.vt_permit_laws.proofs.left.PermitsLeave.{given_permits_leave_worlds}
+use Rattle.vt_permit_laws.proofs.same.SameInUse.{same_worlds_are_worlds}
+use Rattle.vt_permit_laws.proofs.same.SameNumbers.{same_worlds_keep_to_numbers}
 use Rattle.vt_run_laws.specs.Handed.{is_counted_before}
 use Rattle.vt_detach.specs.Events.{supply_of}
 use Rattle.vt_detach.specs.Held.{CountsItsMounts, CountsItsUses, CountsWhatIsInIt, HasOwnInodes, IsHeld}

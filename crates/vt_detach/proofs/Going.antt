@@ -13,10 +13,10 @@ use Rattle.vt_spec.specs.Machine.Invariants.{is_located_well}
 use Rattle.vt_count_laws.specs.Counted.{IsPlain}
 use Rattle.vt_count_laws.specs.Sweeping.{living}
 use Rattle.vt_count_laws.specs.Using.{Exchanges, unpinned_if}
-use Rattle.vt_count_laws.proofs.Gone.{mount_takes_its_count}
-use Rattle.vt_count_laws.proofs.MountRoots as Roots
-use Rattle.vt_count_laws.proofs.Places.{exchanges_follow, others_use_nothing}
-use Rattle.vt_count_laws.proofs.Swept.{plain_of}
+use Rattle.vt_count_laws.proofs.going.Gone.{mount_takes_its_count}
+use Rattle.vt_count_laws.proofs.using.MountRoots as Roots
+use Rattle.vt_count_laws.proofs.using.Places.{exchanges_follow, others_use_nothing}
+use Rattle.vt_count_laws.proofs.using.Swept.{plain_of}
 use Rattle.vt_fs.specs.FilesystemsValue.{FilesystemEntry, Filesystems, Shown, filesystem_seen, shown, shown_entry}
 use Rattle.vt_letting_go.specs.Counts.{mount_uses, mounts_showing, times}
 use Rattle.vt_letting_go.specs.Keeping.{LocationsStand}
@@ -24,9 +24,9 @@ use Rattle.vt_letting_go.specs.Leaving.{MountsStand}
 use Rattle.vt_letting_go.specs.Mounting.{inode_at}
 use Rattle.vt_letting_go.specs.OneByOne.{Inode, is_mount_used, without_mount}
 use Rattle.vt_letting_go.proofs.Lists.{Among, all_from_among, all_pass, among-append, among-append_left, among-append_right, among-from_filter, among-from_map, among-map, among_from_all, filter_all, filter_alike, map_alike, map_twice, passes}
-use Rattle.vt_letting_go.proofs.OfWorlds.{mounts_of_worlds_stand}
-use Rattle.vt_letting_go.proofs.PlacesLeft.{found_itself, no_layers}
-use Rattle.vt_letting_go.proofs.UsesCounted.{located_while_counted, mounted_while_counted}
+use Rattle.vt_letting_go.proofs.sweeps.OfWorlds.{mounts_of_worlds_stand}
+use Rattle.vt_letting_go.proofs.leaving.PlacesLeft.{found_itself, no_layers}
+use Rattle.vt_letting_go.proofs.sweeps.UsesCounted.{located_while_counted, mounted_while_counted}
 use Rattle.vt_location.specs.Numbers.{counted}
 use Rattle.vt_mount.specs.MountsValue.{MountEntry, mounts_in, without}
 use Rattle.vt_tasks.specs.TasksValue.{Tasks}

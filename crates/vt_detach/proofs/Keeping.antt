@@ -10,7 +10,7 @@ use Rattle.vt_spec.specs.Machine.Settled.{filesystem_lives, is_mounted, without_
 use Rattle.vt_spec.specs.Machine.World.{Filesystem, World, mount_at}
 use Rattle.vt_count_laws.specs.Counted.{IsPlain}
 use Rattle.vt_count_laws.specs.Using.{AreThere, Exchanges, exchanged}
-use Rattle.vt_count_laws.proofs.Swept.{plain_of}
+use Rattle.vt_count_laws.proofs.using.Swept.{plain_of}
 use Rattle.vt_fs.specs.FilesystemsValue.{FilesystemEntry, Shown, inodes_seen}
 use Rattle.vt_letting_go.specs.Counts.{mounts_showing}
 use Rattle.vt_letting_go.specs.Detaching.{detached_if}
@@ -21,7 +21,7 @@ use Rattle.vt_letting_go.specs.Mounting.{inode_at}
 use Rattle.vt_letting_go.specs.OneByOne.{Inode, MountsInUseBut, is_mount_used, without_mount}
 use Rattle.vt_letting_go.specs.OneByOne as Looks
 use Rattle.vt_letting_go.proofs.Lists.{Among, filter-map}
-use Rattle.vt_letting_go.proofs.PlacesLeft.{found_in_filter, no_layers}
+use Rattle.vt_letting_go.proofs.leaving.PlacesLeft.{found_in_filter, no_layers}
 use Rattle.vt_location.specs.declared.locations.Location.{Location}
 use Rattle.vt_location.specs.Locations.{location_of}
 use Rattle.vt_location.specs.Numbers.{counted}

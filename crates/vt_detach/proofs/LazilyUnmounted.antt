@@ -13,10 +13,10 @@ use Rattle.vt_spec.specs.Machine.World.{World, mount_at, mount_numbered, with_mo
 use Rattle.vt_spec.specs.Machine.Invariants.{HasLivingGroups, Lives, MountInvariants, is_nowhere_or_attached, is_private}
 use Rattle.vt_spec.proofs.Lists as Spec
 use Rattle.vt_letting_go.proofs.Lists.{Among, all_from_among, among-flat_map, among_from_all, among-from_filter, among-from_flat_map, among-from_map, among-map, among_numbers, is_among_numbers, map_alike, map_twice, passes}
-use Rattle.vt_letting_go.proofs.MountingTaken as Taken
-use Rattle.vt_letting_go.proofs.PlacesLeft.{found_is_there, found_itself}
-use Rattle.vt_mount_laws.proofs.Standing.{standing_is_computed}
-use Rattle.vt_mount_laws.proofs.UnmountingTrees.{trees_closed}
+use Rattle.vt_letting_go.proofs.mounting.MountingTaken as Taken
+use Rattle.vt_letting_go.proofs.leaving.PlacesLeft.{found_is_there, found_itself}
+use Rattle.vt_mount_laws.proofs.mounts.Standing.{standing_is_computed}
+use Rattle.vt_mount_laws.proofs.ends.UnmountingTrees.{trees_closed}
 use Rattle.vt_group.specs.Grouping.{GroupsLive, peer_of, peers_of}
 use Rattle.vt_group.proofs.Together.{regrouped_living}
 use Rattle.vt_detach.specs.Held.{is_ungrouped}

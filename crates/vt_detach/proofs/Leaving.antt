@@ -8,15 +8,15 @@ use Rattle.vt_spec.specs.Machine.Mounts.{Mount, no_mount}
 use Rattle.vt_spec.specs.Machine.Permits.{Permit}
 use Rattle.vt_spec.specs.Machine.Settled.{without_dead_mounts}
 use Rattle.vt_spec.specs.Machine.World.{Task, World, all_locations, mount_numbered}
-use Rattle.vt_count_laws.proofs.Gone.{mount_goes_at_zero}
-use Rattle.vt_count_laws.proofs.MountRoots as Roots
+use Rattle.vt_count_laws.proofs.going.Gone.{mount_goes_at_zero}
+use Rattle.vt_count_laws.proofs.using.MountRoots as Roots
 use Rattle.vt_fs.specs.FilesystemsValue.{Filesystems}
 use Rattle.vt_letting_go.specs.Counts.{mount_uses, times}
 use Rattle.vt_letting_go.specs.OneByOne.{without_mount}
 use Rattle.vt_letting_go.proofs.Lists.{Among, among-append_right, among-from_map, passes}
-use Rattle.vt_letting_go.proofs.OneByOne.{mounts_go_one_by_one}
-use Rattle.vt_letting_go.proofs.OfWorlds.{mounts_of_worlds_stand}
-use Rattle.vt_letting_go.proofs.PlacesLeft.{mounts_but}
+use Rattle.vt_letting_go.proofs.sweeps.OneByOne.{mounts_go_one_by_one}
+use Rattle.vt_letting_go.proofs.sweeps.OfWorlds.{mounts_of_worlds_stand}
+use Rattle.vt_letting_go.proofs.leaving.PlacesLeft.{mounts_but}
 use Rattle.vt_mount.specs.MountsValue.{MountEntry, entry_numbered}
 use Rattle.vt_tasks.specs.TasksValue.{Tasks}
 use Rattle.vt_world_laws.proofs.RaisedInUse.{worlds_are_in_use}

@@ -14,8 +14,8 @@ use Rattle.vt_spec.specs.Machine.Invariants.{has_its_root}
 use Rattle.vt_spec.specs.Tree.{is_directory_node}
 use Rattle.vt_spec.specs.TreeLaws.{HasOwnParents, IsTree}
 use Rattle.vt_spec.proofs.Lists.{Among, all_from_among, among_from_all, among_from_list_all}
-use Rattle.vt_mount_laws.proofs.MountsFound.{found_or_none}
-use Rattle.vt_world_laws.proofs.Roots.{directory_there}
+use Rattle.vt_mount_laws.proofs.mounts.MountsFound.{found_or_none}
+use Rattle.vt_world_laws.proofs.worlds.Roots.{directory_there}
 use Rattle.vt_location.specs.declared.locations.Location.{Location}
 use Rattle.vt_location.specs.declared.locations.NodeRef.{NodeRef}
 use Rattle.vt_location.specs.Locations.{location_of, number_of}

@@ -24,7 +24,7 @@ use Rattle.vt_location.specs.declared.locations.Location.{Location as Place}
 use Rattle.vt_location.specs.Locations.{location_of, number_of}
 use Rattle.vt_location.specs.Numbers.{counted}
 use Rattle.vt_mount.specs.MountsValue.{MountEntry, changed, entry_numbered, mounts_in, released}
-use Rattle.vt_letting_go.proofs.UpperUses.{times_append}
+use Rattle.vt_letting_go.proofs.sweeps.UpperUses.{times_append}
 use Rattle.vt_detach.specs.Held.{IsHeld, writes_of}
 use Rattle.vt_detach.specs.Uses as meant
 use Rattle.vt_detach.specs.Uses.{Kept, detached_entry, inode_of, is_unused, let_go_entry, let_go_filesystem, mounts_shown, released_if, released_in, unpinned_at, unpinned_in, without_filesystem}

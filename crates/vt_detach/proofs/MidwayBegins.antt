@@ -12,9 +12,9 @@ use Rattle.vt_spec.specs.Machine.World.{Filesystem, Namespace, World, all_locati
 use Rattle.vt_spec.specs.Machine.Invariants.{Stands, has_its_root, is_located_well, is_nowhere_or_attached}
 use Rattle.vt_spec.specs.Machine.Invariants.Stands.{at_root, on_parent}
 use Rattle.vt_count_laws.specs.Using.{Exchanges, exchanged, is_inode, pinned_if, places_of}
-use Rattle.vt_count_laws.proofs.MountRoots as Roots
-use Rattle.vt_count_laws.proofs.Places.{exchanges_follow, locations_use_mounts, mount_is_placed}
-use Rattle.vt_count_laws.proofs.Swept.{plain_of}
+use Rattle.vt_count_laws.proofs.using.MountRoots as Roots
+use Rattle.vt_count_laws.proofs.using.Places.{exchanges_follow, locations_use_mounts, mount_is_placed}
+use Rattle.vt_count_laws.proofs.using.Swept.{plain_of}
 use Rattle.vt_fs.specs.FilesystemsValue.{FilesystemEntry, Shown, filesystem_seen, shown, shown_entry}
 use Rattle.vt_letting_go.specs.Counts.{mount_uses, mounts_showing, times}
 use Rattle.vt_letting_go.specs.Keeping.{LocationsStand}
@@ -22,14 +22,14 @@ use Rattle.vt_letting_go.specs.Leaving.{MountsStand, stands_on_attached}
 use Rattle.vt_letting_go.specs.Mounting.{inode_at}
 use Rattle.vt_letting_go.specs.OneByOne.{Inode}
 use Rattle.vt_letting_go.proofs.Lists.{Among, all_pass, among-append, among-append_left, among-append_right, among-filter_map, among-from_map, among-map, among_from_all, map_alike, map_twice, passes}
-use Rattle.vt_letting_go.proofs.OfWorlds.{mounts_of_worlds_stand}
-use Rattle.vt_letting_go.proofs.PlacesLeft.{found_itself, no_layers}
-use Rattle.vt_letting_go.proofs.UsesCounted.{located_while_counted, mounted_while_counted}
+use Rattle.vt_letting_go.proofs.sweeps.OfWorlds.{mounts_of_worlds_stand}
+use Rattle.vt_letting_go.proofs.leaving.PlacesLeft.{found_itself, no_layers}
+use Rattle.vt_letting_go.proofs.sweeps.UsesCounted.{located_while_counted, mounted_while_counted}
 use Rattle.vt_location.specs.Numbers.{counted}
 use Rattle.vt_mount.specs.MountsValue.{MountEntry, mounts_in}
 use Rattle.vt_tasks.specs.TasksValue.{Tasks}
 use Rattle.vt_world_laws.proofs.RaisedInUse.{worlds_are_in_use}
-use Rattle.vt_world_laws.proofs.Roots.{directory_there}
+use Rattle.vt_world_laws.proofs.worlds.Roots.{directory_there}
 use Rattle.vt_detach.specs.Held.{CountsItsMounts, CountsItsUses, IsHeld, writes_of}
 use Rattle.vt_detach.specs.Uses.{Kept, is_unused, kept}
 use Rattle.vt_detach.specs.WorldValue.{WorldValue, world_of}

@@ -10,14 +10,14 @@ use Rattle.vt_spec.specs.Machine.World.{Filesystem, Task, World}
 use Rattle.vt_count_laws.specs.Counted.{IsPlain}
 use Rattle.vt_count_laws.specs.Sweeping.{living}
 use Rattle.vt_count_laws.specs.Using.{Exchanges}
-use Rattle.vt_count_laws.proofs.Swept.{plain_of}
+use Rattle.vt_count_laws.proofs.using.Swept.{plain_of}
 use Rattle.vt_fs.specs.FilesystemsValue.{FilesystemEntry, Shown, shown_entry}
 use Rattle.vt_letting_go.specs.Counts.{mount_uses, mounts_showing}
 use Rattle.vt_letting_go.specs.OneByOne.{Inode}
 use Rattle.vt_letting_go.specs.Mounting.{inode_at}
 use Rattle.vt_letting_go.proofs.Lists.{Among, all_from_among, among-from_map, among-map, filter_all, flat_map_none, map_same, map_twice}
-use Rattle.vt_letting_go.proofs.PlacesLeft.{no_layers}
-use Rattle.vt_letting_go.proofs.UsesCounted.{located_while_counted, mounted_while_counted}
+use Rattle.vt_letting_go.proofs.leaving.PlacesLeft.{no_layers}
+use Rattle.vt_letting_go.proofs.sweeps.UsesCounted.{located_while_counted, mounted_while_counted}
 use Rattle.vt_location.specs.declared.locations.Location.{Location as Place}
 use Rattle.vt_location.specs.Numbers.{counted}
 use Rattle.vt_mount.specs.MountsValue.{MountEntry, mounts_in}

@@ -15,21 +15,21 @@ use Rattle.vt_spec.specs.Machine.Invariants.{is_nowhere_or_attached}
 use Rattle.vt_count_laws.specs.Counted.{IsPlain}
 use Rattle.vt_count_laws.specs.Sweeping.{living}
 use Rattle.vt_count_laws.specs.Using.{Exchanges, is_inode, pinned_if, unpinned_if}
-use Rattle.vt_count_laws.proofs.Gone.{mount_takes_its_count}
-use Rattle.vt_count_laws.proofs.MountRoots as Roots
-use Rattle.vt_count_laws.proofs.Places.{exchanges_follow, others_use_nothing}
-use Rattle.vt_count_laws.proofs.Swept.{plain_of}
+use Rattle.vt_count_laws.proofs.going.Gone.{mount_takes_its_count}
+use Rattle.vt_count_laws.proofs.using.MountRoots as Roots
+use Rattle.vt_count_laws.proofs.using.Places.{exchanges_follow, others_use_nothing}
+use Rattle.vt_count_laws.proofs.using.Swept.{plain_of}
 use Rattle.vt_fs.specs.FilesystemsValue.{Shown, inodes_seen}
 use Rattle.vt_letting_go.specs.Counts.{mount_uses, mounts_showing, times}
 use Rattle.vt_letting_go.specs.Keeping.{LocationsStand}
 use Rattle.vt_letting_go.specs.Leaving.{MountsStand, stands_on_attached}
 use Rattle.vt_letting_go.specs.OneByOne.{Inode, is_mount_used, without_mount}
 use Rattle.vt_letting_go.proofs.Lists.{Among, all_from_among, all_pass, among-filter, among-from_filter, among-from_map, among-map, among_from_all, among_numbers, fails, filter-map, filter_all, filter_alike, is_among_numbers, map_alike, map_twice, none_passes, passes}
-use Rattle.vt_letting_go.proofs.PlacesLeft.{found_itself, no_layers}
-use Rattle.vt_letting_go.proofs.UsesCounted.{located_while_counted, mounted_while_counted}
+use Rattle.vt_letting_go.proofs.leaving.PlacesLeft.{found_itself, no_layers}
+use Rattle.vt_letting_go.proofs.sweeps.UsesCounted.{located_while_counted, mounted_while_counted}
 use Rattle.vt_location.specs.Numbers.{counted}
 use Rattle.vt_mount.specs.MountsValue.{MountEntry, entry_numbered, mounts_in, without}
-use Rattle.vt_letting_go.proofs.UpperUses.{times_append}
+use Rattle.vt_letting_go.proofs.sweeps.UpperUses.{times_append}
 use Rattle.vt_detach.specs.Held.{IsHeld}
 use Rattle.vt_detach.specs.Uses as meant
 use Rattle.vt_detach.specs.Uses.{Kept, is_unused, let_go_entry, mounts_shown, released_if}

@@ -14,7 +14,7 @@ use Rattle.vt_spec.specs.Machine.Settled.{filesystem_lives, has_layer_on, is_loc
 use Rattle.vt_spec.specs.Machine.World.{Filesystem, Task, World, mount_numbered, with_mounts}
 use Rattle.vt_count_laws.specs.Sweeping.{living}
 use Rattle.vt_count_laws.specs.Using.{AreThere, Exchanges}
-use Rattle.vt_count_laws.proofs.Places.{mount_is_placed}
+use Rattle.vt_count_laws.proofs.using.Places.{mount_is_placed}
 use Rattle.vt_fs.specs.FilesystemsValue.{FilesystemEntry, Filesystems, Shown, filesystem_seen, inodes_seen, shown, shown_entry}
 use Rattle.vt_group.specs.Grouping.{Has}
 use Rattle.vt_letting_go.specs.Counts.{mounts_showing, times}

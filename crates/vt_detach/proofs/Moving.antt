@@ -9,7 +9,7 @@ use Rattle.vt_spec.specs.Machine.Invariants.{is_located_well, is_there}
 use Rattle.vt_spec.specs.Inodes.{Inodes, node_in}
 use Rattle.vt_spec.specs.Inodes as Trees
 use Rattle.vt_count_laws.specs.Using.{AreThere, Exchanges, exchanged, pinned_if, unpinned_if}
-use Rattle.vt_count_laws.proofs.Places.{locations_are_uses, locations_use_mounts}
+use Rattle.vt_count_laws.proofs.using.Places.{locations_are_uses, locations_use_mounts}
 use Rattle.vt_fs.specs.FilesystemsValue.{FilesystemEntry, Shown, filesystem_seen, inodes_seen}
 use Rattle.vt_letting_go.specs.Counts.{mount_uses, times}
 use Rattle.vt_letting_go.specs.Leaving.{is_location_among, only_these_are_left}

@@ -13,7 +13,7 @@ use Rattle.vt_spec.specs.Machine.World.{Namespace, Task, World, mount_at, mount_
 use Rattle.vt_spec.specs.Machine.Invariants.{is_listed}
 use Rattle.vt_letting_go.specs.Counts.{times}
 use Rattle.vt_letting_go.proofs.Lists.{Among, all_from_among, among-append, among-from_filter, among-from_map, among-map, among_numbers, any_passes, filter-map, filter_alike, filter_all, is_among_numbers, map_alike, none_passes, passes}
-use Rattle.vt_letting_go.proofs.PlacesLeft.{found_itself}
+use Rattle.vt_letting_go.proofs.leaving.PlacesLeft.{found_itself}
 use Rattle.vt_location.specs.Numbers.{counted}
 use Rattle.vt_tasks.specs.TasksValue.{Tasks}
 use Rattle.vt_detach.specs.Held.{CountsWhatIsInIt}

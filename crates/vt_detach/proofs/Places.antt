@@ -11,7 +11,7 @@ use Rattle.vt_spec.specs.Machine.World.{Filesystem, Task, World, all_locations, 
 use Rattle.vt_spec.specs.Machine.Invariants.{ListsNumbers, is_located_well, is_there}
 use Rattle.vt_fs.specs.FilesystemsValue.{Filesystems}
 use Rattle.vt_laws.specs.Numbers.{location_named}
-use Rattle.vt_laws.proofs.Supports.{used_numbers_are_named}
+use Rattle.vt_laws.proofs.numbers.Supports.{used_numbers_are_named}
 use Rattle.vt_letting_go.specs.Counts.{times}
 use Rattle.vt_letting_go.proofs.Lists.{Among, among-append_left, among-append_right, among-flat_map, among-from_map, among_from_all, among_numbers, is_among_numbers, passes}
 use Rattle.vt_location.specs.declared.locations.Location.{Location}

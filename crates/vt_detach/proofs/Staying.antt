@@ -20,16 +20,16 @@ use Rattle.vt_letting_go.specs.Counts.{inode_uses, times}
 use Rattle.vt_letting_go.specs.Leaving.{IsSettledPlain, is_location_among, only_these_are_left}
 use Rattle.vt_letting_go.proofs.Lists.{Among, all_from_among, all_pass, among_from_all, any_passes, or_first}
 use Rattle.vt_location.specs.Numbers.{counted}
-use Rattle.vt_run_laws.proofs.AlikeWorlds.{sameness_is_an_equivalence}
+use Rattle.vt_run_laws.proofs.answered.AlikeWorlds.{sameness_is_an_equivalence}
 use Rattle.vt_tasks.specs.Counts.{one_if}
 use Rattle.vt_world_laws.proofs.RaisedInUse.{worlds_are_in_use}
-use Rattle.vt_letting_go.proofs.OfWorlds.{mounts_of_worlds_stand, worlds_have_trees}
-use Rattle.vt_letting_go.proofs.PlacesLeft.{staying_keeps_all}
-use Rattle.vt_count_laws.proofs.Swept.{plain_of}
+use Rattle.vt_letting_go.proofs.sweeps.OfWorlds.{mounts_of_worlds_stand, worlds_have_trees}
+use Rattle.vt_letting_go.proofs.leaving.PlacesLeft.{staying_keeps_all}
+use Rattle.vt_count_laws.proofs.using.Swept.{plain_of}
 use Rattle.vt_permit_laws.specs.Left.{IsGiven}
 use Rattle.vt_permit_laws.specs.Named.{permit_named}
-use Rattle.vt_permit_laws.proofs.PermitsKeepTo.{permits_keep_to_numbers}
-use Rattle.vt_permit_laws.proofs.PermitsLeave.{given_permits_leave_worlds}
+use Rattle.vt_permit_laws.proofs.named.PermitsKeepTo.{permits_keep_to_numbers}
+use Rattle.vt_permit_laws.proofs.left.PermitsLeave.{given_permits_leave_worlds}
 use Rattle.vt_run_laws.specs.Handed.{is_counted_before}
 use Rattle.vt_tasks.specs.TasksValue.{Tasks, changed_by, changed_called, replaced}
 use Rattle.vt_world_laws.specs.Worlds.Kept.{IsPlain}

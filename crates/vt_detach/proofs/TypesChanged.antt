@@ -21,11 +21,11 @@ use Rattle.vt_letting_go.specs.Detaching.{with_changed}
 use Rattle.vt_letting_go.specs.InUse.{GroupsInUse}
 use Rattle.vt_letting_go.specs.Keeping.{KeepsUses}
 use Rattle.vt_letting_go.proofs.Lists.{all_from_among, among-from_map, among_from_all, map_twice}
-use Rattle.vt_letting_go.proofs.UsesKept.{types_keep_all}
+use Rattle.vt_letting_go.proofs.leaving.UsesKept.{types_keep_all}
 use Rattle.vt_location.specs.Numbers.{counted}
 use Rattle.vt_mount.specs.MountsValue.{MountEntry, mounts_in}
 use Rattle.vt_retype.specs.Retyping.{retyped as retyped_entry}
-use Rattle.vt_permit_laws.proofs.PermitsLeave.{given_permits_leave_worlds}
+use Rattle.vt_permit_laws.proofs.left.PermitsLeave.{given_permits_leave_worlds}
 use Rattle.vt_run_laws.specs.Handed.{counts_from, is_counted_before}
 use Rattle.vt_world_laws.proofs.RaisedInUse.{worlds_are_in_use}
 use Rattle.vt_detach.specs.Events.{Permits, left_by, supply_of}
@@ -35,7 +35,7 @@ use Rattle.vt_detach.proofs.DetachingBegins.{filesystem_kept}
 use Rattle.vt_detach.proofs.MountsChanged.{times_map}
 use Rattle.vt_detach.proofs.Staying.{IsDone, becomes_so, world_is_plain}
 use Rattle.vt_detach.proofs.TypedWorlds.{settled_without_groups}
-use Rattle.vt_run_laws.proofs.AlikeWorlds.{sameness_is_an_equivalence}
+use Rattle.vt_run_laws.proofs.answered.AlikeWorlds.{sameness_is_an_equivalence}
 
 -- Worlds in which mounts have other types, and groups other masters
 

@@ -17,9 +17,9 @@ use Rattle.vt_group.specs.Grouping.{Grouping, Has, LacksGroup}
 use Rattle.vt_laws.specs.Numbers.{KeepsTo}
 use Rattle.vt_mount.specs.MountsValue.{mounts_in}
 use Rattle.vt_retype.specs.Retyping.{retyped as retyped_entry}
-use Rattle.vt_permit_laws.proofs.PermitsKeepTo.{permits_keep_to_numbers}
-use Rattle.vt_permit_laws.proofs.TakenAttached.{index_bound}
-use Rattle.vt_permit_laws.proofs.TakenNumbers.{counted_later}
+use Rattle.vt_permit_laws.proofs.named.PermitsKeepTo.{permits_keep_to_numbers}
+use Rattle.vt_permit_laws.proofs.taken.TakenAttached.{index_bound}
+use Rattle.vt_permit_laws.proofs.taken.TakenNumbers.{counted_later}
 use Rattle.vt_run_laws.specs.Handed.{counts_from, is_counted_before}
 use Rattle.vt_detach.specs.Events.{Permits}
 use Rattle.vt_detach.specs.Held.{IsHeld}

@@ -16,8 +16,8 @@ use Rattle.vt_letting_go.specs.Counts.{times}
 use Rattle.vt_letting_go.specs.Keeping.{flags_if}
 use Rattle.vt_letting_go.specs.Mounting.{inode_at}
 use Rattle.vt_letting_go.proofs.Lists.{Among, is_among_numbers, among-map, map_alike}
-use Rattle.vt_letting_go.proofs.PlacesLeft.{found_is_there, number_found}
-use Rattle.vt_letting_go.proofs.UsesKept.{flags_are_of_one}
+use Rattle.vt_letting_go.proofs.leaving.PlacesLeft.{found_is_there, number_found}
+use Rattle.vt_letting_go.proofs.leaving.UsesKept.{flags_are_of_one}
 use Rattle.vt_mount.specs.MountsValue.{changed, mounts_in}
 use Rattle.vt_permit_laws.specs.Named.{permit_named}
 use Rattle.vt_run_laws.specs.Handed.{is_counted_before}

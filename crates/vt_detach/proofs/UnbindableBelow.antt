@@ -13,12 +13,12 @@ use Rattle.vt_spec.specs.Machine.Invariants.{Stands, is_nowhere_or_attached, is_
 use Rattle.vt_spec.specs.Machine.Invariants.Stands.{at_root, on_parent}
 use Rattle.vt_spec.proofs.Lists.{Among, among-filter, among-map, among_from_list_all, any_among, any_from_among, filter_none, none_from_among}
 use Rattle.vt_letting_go.specs.Leaving.{stands_on_attached}
-use Rattle.vt_letting_go.proofs.OfWorlds.{mounts_of_worlds_stand}
+use Rattle.vt_letting_go.proofs.sweeps.OfWorlds.{mounts_of_worlds_stand}
 use Rattle.vt_mount.specs.MountsValue.{mounts_in}
-use Rattle.vt_mount_laws.proofs.MountsFound.{found_or_none, number_found}
-use Rattle.vt_mount_laws.proofs.MountsReplaced.{found_itself, tree_among}
-use Rattle.vt_mount_laws.proofs.Standing.{LiesIn, lies_in_tree, stand}
-use Rattle.vt_mount_laws.proofs.Standing.LiesIn.{itself, under}
+use Rattle.vt_mount_laws.proofs.mounts.MountsFound.{found_or_none, number_found}
+use Rattle.vt_mount_laws.proofs.mounts.MountsReplaced.{found_itself, tree_among}
+use Rattle.vt_mount_laws.proofs.mounts.Standing.{LiesIn, lies_in_tree, stand}
+use Rattle.vt_mount_laws.proofs.mounts.Standing.LiesIn.{itself, under}
 use Rattle.vt_detach.specs.Held.{IsHeld}
 use Rattle.vt_detach.specs.WorldValue.{WorldValue, world_of}
 use Rattle.vt_detach.proofs.NumbersBeside.{one_test}

@@ -11,9 +11,9 @@ use Rattle.vt_spec.specs.Machine.Run.{numbers_in_use, used_by_filesystem, used_b
 use Rattle.vt_spec.specs.Machine.World.{World, mount_at, mount_numbered}
 use Rattle.vt_count_laws.specs.Sweeping.{living}
 use Rattle.vt_fs.specs.FilesystemsValue.{Filesystems}
-use Rattle.vt_laws.proofs.Supports.{used_numbers_are_named}
+use Rattle.vt_laws.proofs.numbers.Supports.{used_numbers_are_named}
 use Rattle.vt_letting_go.proofs.Lists.{Among, among-append_left, among-flat_map, fails, is_among_numbers}
-use Rattle.vt_letting_go.proofs.PlacesLeft.{found_is_there, found_itself, number_found}
+use Rattle.vt_letting_go.proofs.leaving.PlacesLeft.{found_is_there, found_itself, number_found}
 use Rattle.vt_location.specs.declared.locations.Location.{Location}
 use Rattle.vt_location.specs.Locations.{location_of}
 use Rattle.vt_mount.specs.MountsValue.{MountEntry, mounts_in}

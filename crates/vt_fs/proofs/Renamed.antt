@@ -8,7 +8,7 @@ use Rattle.vt_spec.specs.Inodes.{Inode, Inodes, changed, is_directory_under, one
 use Rattle.vt_spec.specs.Tree.{Node, parent_in}
 use Rattle.vt_spec.specs.TreeLaws.{entry_at}
 use Rattle.vt_laws.specs.Renaming.{Renaming}
-use Rattle.vt_laws.proofs.Commuting.{Named, commutes_nat, node_itself, option_itself}
+use Rattle.vt_laws.proofs.numbers.Commuting.{Named, commutes_nat, node_itself, option_itself}
 use Rattle.vt_tree.specs.Paths.{path_in}
 use Rattle.vt_location.specs.Numbers.{exchanged}
 use Rattle.vt_location.proofs.NumberLemmas.{exchanged_back}

@@ -21,26 +21,26 @@ use Rattle.vt_spec.specs.Machine.Invariants.{IsWorld}
 use Rattle.vt_spec.specs.Rights.{Credentials}
 use Rattle.vt_spec.specs.Machine.Rightful.{node_allows}
 use Rattle.vt_spec.specs.Tree.{entries_in, entry_named, is_directory_node, parent_in}
-use Rattle.vt_call_laws.proofs.InodesSettled.{settled_holds}
+use Rattle.vt_call_laws.proofs.inodes.InodesSettled.{settled_holds}
 use Rattle.vt_call_laws.specs.Inodes.{change_of}
 use Rattle.vt_letting_go.specs.FileChanges.{MayChange, inodes_lost, names_lost}
 use Rattle.vt_letting_go.specs.InUse.{IsListedTree}
 use Rattle.vt_letting_go.specs.OneByOne.{Inode}
 use Rattle.vt_letting_go.specs.Overlays.{is_plain, let_go_all_inodes, let_go_in, let_go_in_of, uppers_of, without_inode_of}
-use Rattle.vt_letting_go.proofs.FilesChanged.{file_changes_let_go}
-use Rattle.vt_letting_go.proofs.OfWorlds.{worlds_are_settled}
-use Rattle.vt_permit_laws.proofs.SeesFit.{given_changes_are_proper}
+use Rattle.vt_letting_go.proofs.leaving.FilesChanged.{file_changes_let_go}
+use Rattle.vt_letting_go.proofs.sweeps.OfWorlds.{worlds_are_settled}
+use Rattle.vt_permit_laws.proofs.sees.SeesFit.{given_changes_are_proper}
 use Rattle.vt_tree_laws.specs.Trees.{IsFileTree}
 use Rattle.vt_tree_laws.specs.Trees.Calls.{mounts_overlay}
 use Rattle.vt_tree_laws.specs.Trees.Limits.{names_few_groups}
-use Rattle.vt_tree_laws.proofs.ChangesKeepTrees.{changes_keep_numbers, changes_keep_trees}
-use Rattle.vt_tree_laws.proofs.TreesOfWorlds.{numbered}
+use Rattle.vt_tree_laws.proofs.trees.ChangesKeepTrees.{changes_keep_numbers, changes_keep_trees}
+use Rattle.vt_tree_laws.proofs.trees.TreesOfWorlds.{numbered}
 use Rattle.vt_world_laws.specs.Worlds.Kept.{IsPlain}
 use Rattle.vt_world_laws.proofs.Plain.{plain_numbered}
 use Rattle.vt_world_laws.proofs.Raised.{FilesBy, same_files}
 use Rattle.vt_world_laws.proofs.RaisedInUse.{namespace_if, number_if, numbers_raised_are, raising_numbers_keeps_world, task_if}
-use Rattle.vt_world_laws.proofs.SeenTrees.{change_mounts}
-use Rattle.vt_world_laws.proofs.SettledTasks.{settling_leaves_a_world}
+use Rattle.vt_world_laws.proofs.worlds.SeenTrees.{change_mounts}
+use Rattle.vt_world_laws.proofs.settling.SettledTasks.{settling_leaves_a_world}
 use Rattle.vt_later_laws.proofs.Changed.{files_changed, files_other}
 use Rattle.vt_later_laws.proofs.Granted.{IsPermitted}
 use Rattle.vt_later_laws.proofs.OpenedNew.{given_of}

@@ -34,13 +34,13 @@ use Rattle.vt_call_laws.specs.Inodes.{change_of}
 use Rattle.vt_tree_laws.specs.Trees.{IsFileTree}
 use Rattle.vt_tree_laws.specs.Trees.Calls.{mounts_overlay}
 use Rattle.vt_tree_laws.specs.Trees.Limits.{names_few_groups}
-use Rattle.vt_tree_laws.proofs.ChangesNodes.{there}
-use Rattle.vt_tree_laws.proofs.TreesOfWorlds.{numbered_all}
-use Rattle.vt_tree_laws.proofs.TreesWalked.{Ends}
+use Rattle.vt_tree_laws.proofs.trees.ChangesNodes.{there}
+use Rattle.vt_tree_laws.proofs.trees.TreesOfWorlds.{numbered_all}
+use Rattle.vt_tree_laws.proofs.trees.TreesWalked.{Ends}
 use Rattle.vt_world_laws.specs.Worlds.Kept.{IsPlain}
 use Rattle.vt_world_laws.proofs.RaisedInUse.{unsettled_of}
-use Rattle.vt_world_laws.proofs.ReachedWalks.{End, object_end}
-use Rattle.vt_world_laws.proofs.SettledTasks.{file_trees}
+use Rattle.vt_world_laws.proofs.worlds.ReachedWalks.{End, object_end}
+use Rattle.vt_world_laws.proofs.settling.SettledTasks.{file_trees}
 use Rattle.vt_later_laws.specs.LaterPaths.{ChmodThenStat, ChownThenStat, IsAnsweredUnless, IsSeenByAll, reads_all}
 use Rattle.vt_later_laws.specs.Later.{IsAnswered}
 use Rattle.vt_later_laws.proofs.AfterChange.{spent}

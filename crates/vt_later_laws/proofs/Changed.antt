@@ -6,9 +6,9 @@ use Rattle.vt_spec.specs.Lists.{Fresh}
 use Rattle.vt_spec.specs.Machine.Filesystems.{with_change}
 use Rattle.vt_spec.specs.Machine.Mounts.{Location}
 use Rattle.vt_spec.specs.Machine.World.{Filesystem, World, files_at, filesystem_numbered, mount_at, no_filesystem, node_at, replaced_if_numbered, with_filesystem}
-use Rattle.vt_tree_laws.proofs.TreesOfWorlds.{numbered}
+use Rattle.vt_tree_laws.proofs.trees.TreesOfWorlds.{numbered}
 use Rattle.vt_world_laws.specs.Worlds.Kept.{IsPlain}
-use Rattle.vt_world_laws.proofs.SeenTrees.{change_of_plain, changed_one, found_new, old_number}
+use Rattle.vt_world_laws.proofs.worlds.SeenTrees.{change_of_plain, changed_one, found_new, old_number}
 use Rattle.vt_spec.proofs.Truths.{nat_eq_false_turned}
 
 -- a filesystem of another number than the one that is replaced

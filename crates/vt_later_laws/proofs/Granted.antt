@@ -15,7 +15,7 @@ use Rattle.vt_spec.specs.Machine.Permits.{Permit}
 use Rattle.vt_spec.specs.Machine.Policy.{filesystems_changed_by, finished, finished_by, numbers_raised, only_looks, policy, raised_task}
 use Rattle.vt_spec.specs.Machine.Settled.{settled}
 use Rattle.vt_spec.specs.Machine.World.{Task, World, task_called}
-use Rattle.vt_laws.proofs.CallsJudged.{policy_judges_then_applies}
+use Rattle.vt_laws.proofs.judged.CallsJudged.{policy_judges_then_applies}
 use Rattle.vt_spec.proofs.Worlds.{answer-finished_by}
 
 -- what a call that was granted, and does not only look, was permitted, and what it left

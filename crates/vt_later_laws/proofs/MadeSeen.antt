@@ -37,13 +37,13 @@ use Rattle.vt_spec.proofs.Nodes.{directory_used}
 use Rattle.vt_call_laws.specs.Inodes.{change_of}
 use Rattle.vt_letting_go.specs.FileChanges.{IsMade}
 use Rattle.vt_permit_laws.specs.Sees.{MayBeMade, SeesTo}
-use Rattle.vt_permit_laws.proofs.SeesNames.{tree_here}
-use Rattle.vt_permit_laws.proofs.SeesTasks.{given_permits_are_seen_to}
+use Rattle.vt_permit_laws.proofs.sees.SeesNames.{tree_here}
+use Rattle.vt_permit_laws.proofs.sees.SeesTasks.{given_permits_are_seen_to}
 use Rattle.vt_tree_laws.specs.Trees.{IsFileTree}
 use Rattle.vt_tree_laws.specs.Trees.Calls.{mounts_overlay}
 use Rattle.vt_tree_laws.specs.Trees.Limits.{names_few_groups}
 use Rattle.vt_world_laws.specs.Worlds.Kept.{IsPlain}
-use Rattle.vt_world_laws.proofs.SeenTrees.{unused_inode}
+use Rattle.vt_world_laws.proofs.worlds.SeenTrees.{unused_inode}
 use Rattle.vt_later_laws.specs.LaterPaths.{MkdirThenList, SymlinkThenReadlink}
 use Rattle.vt_later_laws.specs.Later.{IsAnswered}
 use Rattle.vt_later_laws.proofs.AfterChange.{all_stays, later_is, later_mounts, spent}

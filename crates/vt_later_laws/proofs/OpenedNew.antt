@@ -31,13 +31,13 @@ use Rattle.vt_spec.proofs.Nodes.{directory_used}
 use Rattle.vt_letting_go.proofs.Lists.{passes}
 use Rattle.vt_tree_laws.specs.Trees.Calls.{mounts_overlay}
 use Rattle.vt_tree_laws.specs.Trees.Limits.{names_few_groups}
-use Rattle.vt_tree_laws.proofs.ChangesNodes.{elsewhere}
+use Rattle.vt_tree_laws.proofs.trees.ChangesNodes.{elsewhere}
 use Rattle.vt_world_laws.specs.Worlds.Kept.{IsPlain}
-use Rattle.vt_world_laws.proofs.CallsKept.{name_found}
-use Rattle.vt_world_laws.proofs.SeenTrees.{change_mounts, change_tasks, unused_inode}
+use Rattle.vt_world_laws.proofs.worlds.CallsKept.{name_found}
+use Rattle.vt_world_laws.proofs.worlds.SeenTrees.{change_mounts, change_tasks, unused_inode}
 use Rattle.vt_permit_laws.specs.Left.{IsGiven}
 use Rattle.vt_permit_laws.specs.Sees.{MayBeMade, SeesTo}
-use Rattle.vt_permit_laws.proofs.SeesTasks.{given_permits_are_seen_to}
+use Rattle.vt_permit_laws.proofs.sees.SeesTasks.{given_permits_are_seen_to}
 use Rattle.vt_later_laws.specs.Later.{CreateThenPread, ExclusiveThenPread, OpenOrCreateThenPread, OpenThenPread, OpensFile, OpensNewFile, ReadsBy}
 use Rattle.vt_later_laws.proofs.Changed.{files_changed}
 use Rattle.vt_later_laws.proofs.Granted.{IsPermitted, permitted}

@@ -22,16 +22,16 @@ use Rattle.vt_spec.specs.Rights.{execute_right}
 use Rattle.vt_spec.specs.Tree.{entries_in, entry_named, is_directory_node}
 use Rattle.vt_call_laws.specs.Inodes.{change_of}
 use Rattle.vt_letting_go.specs.FileChanges.{MayChange}
-use Rattle.vt_mount_laws.proofs.MountsFound.{found_in}
-use Rattle.vt_mount_laws.proofs.MountsPlaces.{stands_there}
+use Rattle.vt_mount_laws.proofs.mounts.MountsFound.{found_in}
+use Rattle.vt_mount_laws.proofs.mounts.MountsPlaces.{stands_there}
 use Rattle.vt_spec.proofs.Lists.{among_from_all}
 use Rattle.vt_tree_laws.specs.Trees.{IsFileTree}
 use Rattle.vt_tree_laws.specs.Trees.Calls.{mounts_overlay}
 use Rattle.vt_tree_laws.specs.Trees.Limits.{names_few_groups}
-use Rattle.vt_tree_laws.proofs.TreesOfMounts.{worlds_are_standing}
+use Rattle.vt_tree_laws.proofs.trees.TreesOfMounts.{worlds_are_standing}
 use Rattle.vt_world_laws.specs.Worlds.Kept.{IsPlain}
-use Rattle.vt_world_laws.proofs.CallsKept.{name_found}
-use Rattle.vt_world_laws.proofs.SeenTrees.{change_tasks}
+use Rattle.vt_world_laws.proofs.worlds.CallsKept.{name_found}
+use Rattle.vt_world_laws.proofs.worlds.SeenTrees.{change_tasks}
 use Rattle.vt_later_laws.specs.LaterPaths.{LooksFrom, reads_all}
 use Rattle.vt_later_laws.proofs.AfterChange.{later_is, node_changed, spent, world_rights, world_stays}
 use Rattle.vt_later_laws.proofs.Granted.{IsPermitted}

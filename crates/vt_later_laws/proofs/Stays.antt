@@ -16,10 +16,10 @@ use Rattle.vt_letting_go.proofs.Lists.{Among}
 use Rattle.vt_tree_laws.specs.Trees.Calls.{mounts_overlay}
 use Rattle.vt_tree_laws.specs.Trees.Limits.{names_few_groups}
 use Rattle.vt_world_laws.specs.Worlds.Kept.{IsPlain, IsWorldButForUse}
-use Rattle.vt_world_laws.proofs.CallsKept.{applied, name_found, unsettled}
+use Rattle.vt_world_laws.proofs.worlds.CallsKept.{applied, name_found, unsettled}
 use Rattle.vt_world_laws.proofs.Raised.{FilesBy, same_files}
 use Rattle.vt_world_laws.proofs.RaisedInUse.{namespace_if, number_if, numbers_raised_are, task_if}
-use Rattle.vt_world_laws.proofs.SettledTasks.{of_task, same_node}
+use Rattle.vt_world_laws.proofs.settling.SettledTasks.{of_task, same_node}
 use Rattle.vt_later_laws.proofs.Granted.{IsPermitted, called_raised}
 use Rattle.vt_spec.proofs.Found.{found_among}
 

@@ -30,8 +30,8 @@ use Rattle.vt_spec.specs.Tree.{Content, Node, bytes_in, node_with_bytes}
 use Rattle.vt_spec.specs.Tree.Content.{Directory, Regular, Symlink, Whiteout}
 use Rattle.vt_letting_go.proofs.Lists.{Among, among-map, passes}
 use Rattle.vt_world_laws.specs.Worlds.Kept.{IsPlain}
-use Rattle.vt_world_laws.proofs.SeenTrees.{change_of_plain, change_tasks, changed_one, found_new, old_number}
-use Rattle.vt_tree_laws.proofs.TreesOfWorlds.{numbered}
+use Rattle.vt_world_laws.proofs.worlds.SeenTrees.{change_of_plain, change_tasks, changed_one, found_new, old_number}
+use Rattle.vt_tree_laws.proofs.trees.TreesOfWorlds.{numbered}
 use Rattle.vt_later_laws.specs.Later.{IsOneInode, PwriteThenPread}
 use Rattle.vt_later_laws.proofs.Granted.{IsPermitted, permitted}
 use Rattle.vt_later_laws.proofs.Stays.{still_called, still_seen}

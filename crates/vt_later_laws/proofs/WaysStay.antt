@@ -19,15 +19,15 @@ use Rattle.vt_spec.specs.Tree.{Node, Tree, entries_in, entry_named, is_directory
 use Rattle.vt_spec.specs.TreeLaws.{entry_at}
 use Rattle.vt_spec.proofs.Nodes.{directory_used, none_is_not}
 use Rattle.vt_mount_laws.specs.Mounts.Attaching.{numbers_of}
-use Rattle.vt_mount_laws.proofs.MountsFound.{found_there}
+use Rattle.vt_mount_laws.proofs.mounts.MountsFound.{found_there}
 use Rattle.vt_spec.proofs.Lists.{among_from_list_all}
 use Rattle.vt_tree_laws.specs.Trees.{IsFileTree}
-use Rattle.vt_tree_laws.proofs.TreesEntered.{chain_ends}
-use Rattle.vt_permit_laws.proofs.SeesNames.{tree_here}
+use Rattle.vt_tree_laws.proofs.trees.TreesEntered.{chain_ends}
+use Rattle.vt_permit_laws.proofs.sees.SeesNames.{tree_here}
 use Rattle.vt_world_laws.specs.Worlds.Kept.{IsPlain}
 use Rattle.vt_world_laws.proofs.Plain.{plain_numbered}
-use Rattle.vt_world_laws.proofs.Reached.{IsFound, IsFoundDirectory, directory_found, place_found, step_found}
-use Rattle.vt_world_laws.proofs.ReachedWalks.{own_directory_found, root_found}
+use Rattle.vt_world_laws.proofs.worlds.Reached.{IsFound, IsFoundDirectory, directory_found, place_found, step_found}
+use Rattle.vt_world_laws.proofs.worlds.ReachedWalks.{own_directory_found, root_found}
 use Rattle.vt_later_laws.proofs.Ways.{LeadsToo}
 use Rattle.vt_later_laws.proofs.WaysTrees.{DirectoryNamesStay, present_later, under_later}
 

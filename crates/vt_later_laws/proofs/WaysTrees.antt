@@ -7,8 +7,8 @@ use Rattle.vt_spec.specs.TreeLaws.{IsDirectory, IsReached, IsTree, entry_at, led
 use Rattle.vt_spec.proofs.Nodes.{directory_used, none_is_not}
 use Rattle.vt_spec.proofs.Trees.{found, led-append, parent_reached, reached_named}
 use Rattle.vt_tree_laws.specs.Trees.{IsFileTree}
-use Rattle.vt_tree_laws.proofs.TreesAbove.{parent_named, under_seen}
-use Rattle.vt_tree_laws.proofs.TreesReached.{not_removed_reached}
+use Rattle.vt_tree_laws.proofs.trees.TreesAbove.{parent_named, under_seen}
+use Rattle.vt_tree_laws.proofs.trees.TreesReached.{not_removed_reached}
 use Rattle.std.proofs.lemmas.Option.{same_Some}
 use Rattle.vt_spec.proofs.NodeChanges.{directory_from_entry}
 

@@ -15,8 +15,8 @@ use Rattle.vt_spec.specs.Machine.World.{World, mount_numbered, mounts_of, mount_
 use Rattle.vt_spec.specs.Machine.Detach.{after_going, deepest_first, going, is_going, unmounted, unmounted_if_there}
 use Rattle.vt_spec.specs.Machine.Namespaces.{copied_mount, is_in_ended, pivoted, pivoted_mount, unshared}
 use Rattle.vt_spec.specs.Lists.{evens, folded, holds_of, is_among, odds, then_some}
-use Rattle.vt_mount_laws.proofs.MountsReplaced.{found_itself, replaced_elsewhere, replaced_there}
-use Rattle.vt_mount_laws.proofs.Unmounting.{going_is_detached, middle, staying_is_placed}
+use Rattle.vt_mount_laws.proofs.mounts.MountsReplaced.{found_itself, replaced_elsewhere, replaced_there}
+use Rattle.vt_mount_laws.proofs.ends.Unmounting.{going_is_detached, middle, staying_is_placed}
 use Rattle.vt_spec.specs.Machine.Receives.{groups_up, has_members, heir, inherited, inheriting, is_lost_group, is_member_of, lost_a_group, regrouped, regrouped_by, slave_of_heir}
 use Rattle.std.specs.Prelude.{if◌then◌else◌}
 use Rattle.vt_spec.specs.Machine.Settled.{is_located, mount_lives, settled}

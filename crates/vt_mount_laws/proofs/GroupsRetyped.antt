@@ -13,7 +13,7 @@ use Rattle.vt_mount_laws.specs.Mounts.Receivers.{GroupsLive}
 use Rattle.vt_mount_laws.specs.Mounts.Conditions.{TypeKeepsGroups}
 use Rattle.vt_spec.specs.Language.Calls.{TypeWord}
 use Rattle.vt_spec.specs.Machine.World.{World, mount_numbered}
-use Rattle.vt_mount_laws.proofs.MountsRetyped.{between, groups_by, next_world, retype, retyped_if}
+use Rattle.vt_mount_laws.proofs.mounts.MountsRetyped.{between, groups_by, next_world, retype, retyped_if}
 use Rattle.std.proofs.lemmas.Bool.Decides.{eqb_tells}
 use Rattle.std.proofs.lemmas.Bool.{false_from_ne_true}
 use Rattle.vt_spec.specs.Machine.Receives.{has_members, is_member_of}
@@ -21,7 +21,7 @@ use Rattle.std.specs.Prelude.{if◌then◌else◌, option_to_list}
 use Rattle.vt_spec.specs.Machine.Types.{master_after, named_mounts, type_after, with_master, with_new_groups}
 use Rattle.vt_mount_laws.proofs.GroupsKept.{member_shared, regrouped_live}
 use Rattle.vt_spec.specs.Machine.Run.{numbers_in_use, used_by_mount}
-use Rattle.vt_mount_laws.proofs.MountsNumbered.{mount_uses}
+use Rattle.vt_mount_laws.proofs.mounts.MountsNumbered.{mount_uses}
 use Rattle.std.proofs.lemmas.Option.{same_Some}
 use Rattle.vt_spec.proofs.Worlds.{found_or_none, tree_among}
 

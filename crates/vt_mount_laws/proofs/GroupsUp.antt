@@ -2,7 +2,7 @@
 use Rattle.std.proofs.lemmas.List.Filters.{length-filter_both}
 use Rattle.std.proofs.Common.{◌≡◌, refl, sym, ap, subst, ◌∙◌, true, false, zero, suc, Bool, List, None, Option, Some, [], arith, is_some, length, nat_eq, true≢false, ℕ, ◌&&◌, ◌∷◌, ◌≤◌, eqb-true, filter, not, ⊎_elim}
 use Rattle.std.specs.List.{list_any, list_all}
-use Rattle.vt_mount_laws.proofs.Receivers.{along_chain, groups_live_at}
+use Rattle.vt_mount_laws.proofs.mounts.Receivers.{along_chain, groups_live_at}
 use Rattle.std.proofs.lemmas.Bool.{and_parts, and_from, false_from_ne_true, not-true, or_from, or_parts}
 use Rattle.vt_spec.specs.Lists.{chain, is_among, last_or, any_pair, holds_of}
 use Rattle.vt_spec.proofs.Lists.{chain_ends, chain_goes_on, last_of_chain, Among, among-filter, among_from_list_all, among_numbers, any_among, any_from_among, list_all_from_among, none_among}

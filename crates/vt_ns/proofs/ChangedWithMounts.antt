@@ -25,30 +25,30 @@ use Rattle.vt_fs.specs.FilesystemsValue.{Filesystems, filesystem_seen, inodes_se
 use Rattle.vt_group.specs.Grouping.{Grouping, Has}
 use Rattle.vt_group.specs.Together.{TakesAway}
 use Rattle.vt_permit_laws.specs.Named.{permit_named}
-use Rattle.vt_permit_laws.proofs.PermitsKeepTo.{same_keeps_to_numbers_too}
-use Rattle.vt_permit_laws.proofs.PermitsLeave.{given_permits_are_under_way, given_permits_leave_worlds}
-use Rattle.vt_permit_laws.proofs.SameInUse.{same_worlds_are_worlds}
+use Rattle.vt_permit_laws.proofs.named.PermitsKeepTo.{same_keeps_to_numbers_too}
+use Rattle.vt_permit_laws.proofs.left.PermitsLeave.{given_permits_are_under_way, given_permits_leave_worlds}
+use Rattle.vt_permit_laws.proofs.same.SameInUse.{same_worlds_are_worlds}
 use Rattle.vt_letting_go.proofs.Lists.{Among, all_from_among, among-append_right, among-filter, among-filter_map, among-map, among_from_all, is_among_left, is_among_numbers, is_among_right, map_same, or_second}
-use Rattle.vt_letting_go.proofs.NamesKept.{changes_keep_names}
-use Rattle.vt_letting_go.proofs.OfWorlds.{worlds_have_trees}
-use Rattle.vt_letting_go.proofs.TreesChanged.{unnamed_go}
+use Rattle.vt_letting_go.proofs.leaving.NamesKept.{changes_keep_names}
+use Rattle.vt_letting_go.proofs.sweeps.OfWorlds.{worlds_have_trees}
+use Rattle.vt_letting_go.proofs.leaving.TreesChanged.{unnamed_go}
 use Rattle.vt_letting_go.specs.FileChanges.{MayChange, names_lost}
 use Rattle.vt_letting_go.specs.InUse.{IsListedTree, is_inode_used}
 use Rattle.vt_letting_go.specs.OneByOne.{let_go_inode, let_go_inode_of, without_inode}
 use Rattle.vt_letting_go.specs.TreeChanges.{ChangesTree}
 use Rattle.vt_mount.specs.MountsValue.{MountEntry}
 use Rattle.vt_run_laws.specs.Handed.{is_counted_before}
-use Rattle.vt_run_laws.proofs.AlikeMounts.{regrouped_alike}
-use Rattle.vt_run_laws.proofs.AlikeSettled.{settled_alike}
-use Rattle.vt_run_laws.proofs.AlikeWorlds.{alike_from_same, same_from_alike, sameness_is_an_equivalence}
+use Rattle.vt_run_laws.proofs.answered.AlikeMounts.{regrouped_alike}
+use Rattle.vt_run_laws.proofs.answered.AlikeSettled.{settled_alike}
+use Rattle.vt_run_laws.proofs.answered.AlikeWorlds.{alike_from_same, same_from_alike, sameness_is_an_equivalence}
 use Rattle.vt_world_laws.specs.Worlds.Kept.{IsWorldButForUse}
 use Rattle.vt_world_laws.specs.Worlds.Permits.{IsFitPermit, NamesWhatIsThere}
-use Rattle.vt_world_laws.proofs.MountsKept.{mounts_kept}
-use Rattle.vt_world_laws.proofs.NamespacesKept.{namespaces_kept}
-use Rattle.vt_world_laws.proofs.PermitsNamed.{permits_keep_counting_forks, permits_keep_names}
-use Rattle.vt_world_laws.proofs.PermitsPlaced.{permits_keep_directories, permits_keep_locations, permits_keep_open_files}
-use Rattle.vt_world_laws.proofs.PermitsShow.{permits_keep_mounts_showing}
-use Rattle.vt_world_laws.proofs.SettledTasks.{settling_leaves_a_world}
+use Rattle.vt_world_laws.proofs.kept.MountsKept.{mounts_kept}
+use Rattle.vt_world_laws.proofs.kept.NamespacesKept.{namespaces_kept}
+use Rattle.vt_world_laws.proofs.worlds.PermitsNamed.{permits_keep_counting_forks, permits_keep_names}
+use Rattle.vt_world_laws.proofs.worlds.PermitsPlaced.{permits_keep_directories, permits_keep_locations, permits_keep_open_files}
+use Rattle.vt_world_laws.proofs.worlds.PermitsShow.{permits_keep_mounts_showing}
+use Rattle.vt_world_laws.proofs.settling.SettledTasks.{settling_leaves_a_world}
 use Rattle.vt_detach.specs.Events.{Permits, supply_of}
 use Rattle.vt_detach.specs.Detached.{LeaveInTurn, LeaveTogether}
 use Rattle.vt_detach.specs.Held.{CountsItsMounts, CountsWhatIsInIt, HasOwnInodes, IsHeld}

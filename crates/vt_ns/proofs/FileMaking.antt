@@ -22,8 +22,8 @@ use Rattle.vt_location.specs.Locations.{location_of, number_of}
 use Rattle.vt_location.specs.Numbers.{counted, exchanged, inode_number, is_inode_of}
 use Rattle.vt_location.proofs.NumberLemmas.{exchanged_same, exchanged_slot, is_inode}
 use Rattle.vt_permit_laws.specs.Sees.{MayBeMade}
-use Rattle.vt_permit_laws.proofs.SeesFit.{given_changes_fit}
-use Rattle.vt_permit_laws.proofs.SeesTasks.{given_permits_are_seen_to}
+use Rattle.vt_permit_laws.proofs.sees.SeesFit.{given_changes_fit}
+use Rattle.vt_permit_laws.proofs.sees.SeesTasks.{given_permits_are_seen_to}
 use Rattle.vt_run_laws.specs.Handed.{is_counted_before}
 use Rattle.vt_detach.specs.Events.{Permits, next_inode, supply_of}
 use Rattle.vt_detach.specs.Held.{IsHeld}

@@ -22,10 +22,10 @@ use Rattle.vt_spec.proofs.Lists.{among_from_list_all}
 use Rattle.vt_location.specs.declared.locations.Location.{Location}
 use Rattle.vt_location.specs.Locations.{location_of, number_of}
 use Rattle.vt_permit_laws.specs.Sees.{HasOpen, SeesTo}
-use Rattle.vt_permit_laws.proofs.SeesFit.{given_changes_fit}
-use Rattle.vt_permit_laws.proofs.SeesTasks.{given_permits_are_seen_to}
-use Rattle.vt_run_laws.proofs.AlikeWorlds.{sameness_is_an_equivalence}
-use Rattle.vt_world_laws.proofs.ReachedWalks.{found_among}
+use Rattle.vt_permit_laws.proofs.sees.SeesFit.{given_changes_fit}
+use Rattle.vt_permit_laws.proofs.sees.SeesTasks.{given_permits_are_seen_to}
+use Rattle.vt_run_laws.proofs.answered.AlikeWorlds.{sameness_is_an_equivalence}
+use Rattle.vt_world_laws.proofs.worlds.ReachedWalks.{found_among}
 use Rattle.vt_detach.specs.Events.{Becomes, Permits, supply_of}
 use Rattle.vt_detach.specs.Held.{IsHeld}
 use Rattle.vt_detach.specs.WorldValue.{WorldValue, world_of}

@@ -22,8 +22,8 @@ use Rattle.vt_location.specs.declared.locations.Location.{Location}
 use Rattle.vt_location.specs.Locations.{location_of, number_of}
 use Rattle.vt_permit_laws.specs.Named.{permit_named}
 use Rattle.vt_permit_laws.specs.Sees.{MayBeRenamed}
-use Rattle.vt_permit_laws.proofs.SeesFit.{given_changes_fit}
-use Rattle.vt_permit_laws.proofs.SeesTasks.{given_permits_are_seen_to}
+use Rattle.vt_permit_laws.proofs.sees.SeesFit.{given_changes_fit}
+use Rattle.vt_permit_laws.proofs.sees.SeesTasks.{given_permits_are_seen_to}
 use Rattle.vt_run_laws.specs.Handed.{is_counted_before}
 use Rattle.vt_world_laws.specs.Worlds.Permits.{IsReached, NamesWhatIsThere}
 use Rattle.vt_detach.specs.Events.{Permits, supply_of}

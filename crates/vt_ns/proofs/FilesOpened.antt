@@ -16,9 +16,9 @@ use Rattle.vt_spec.specs.Machine.World.{Descriptor, Overlay, Task, mount_at, no_
 use Rattle.vt_spec.specs.Machine.Invariants.{is_located_well}
 use Rattle.vt_fs.specs.FilesystemsValue.{Filesystems, filesystem_seen, filesystems_seen}
 use Rattle.vt_letting_go.specs.Counts.{times}
-use Rattle.vt_letting_go.proofs.OneByOne.{mounts_go_one_by_one}
-use Rattle.vt_letting_go.proofs.OfWorlds.{mounts_of_worlds_stand}
-use Rattle.vt_letting_go.proofs.PlacesLeft.{mounts_but}
+use Rattle.vt_letting_go.proofs.sweeps.OneByOne.{mounts_go_one_by_one}
+use Rattle.vt_letting_go.proofs.sweeps.OfWorlds.{mounts_of_worlds_stand}
+use Rattle.vt_letting_go.proofs.leaving.PlacesLeft.{mounts_but}
 use Rattle.vt_location.specs.Locations.{location_of, number_of}
 use Rattle.vt_location.specs.Numbers.{counted}
 use Rattle.vt_mount.specs.MountsValue.{MountEntry}
@@ -31,7 +31,7 @@ use Rattle.vt_detach.specs.Events.{Permits, supply_of}
 use Rattle.vt_detach.specs.Held.{IsHeld, writes_of_task, writes_on}
 use Rattle.vt_detach.specs.Uses.{kept, with_location, with_use}
 use Rattle.vt_detach.specs.WorldValue.{WorldValue, world_of}
-use Rattle.vt_permit_laws.proofs.SeesTasks.{given_permits_are_seen_to}
+use Rattle.vt_permit_laws.proofs.sees.SeesTasks.{given_permits_are_seen_to}
 use Rattle.vt_detach.proofs.FileEvents.{permit_fits}
 use Rattle.vt_detach.proofs.FilesSeen.{files_are_plain}
 use Rattle.vt_detach.proofs.LocationsSeen.{seen_where_located}

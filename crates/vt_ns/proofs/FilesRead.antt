@@ -7,8 +7,8 @@ use Rattle.vt_spec.specs.Machine.World.{node_at}
 use Rattle.vt_fs.specs.FilesystemsValue.{files_at}
 use Rattle.vt_location.specs.declared.locations.Location.{Location}
 use Rattle.vt_location.specs.Locations.{location_of, number_of}
-use Rattle.vt_permit_laws.proofs.SeesTasks.{given_permits_are_seen_to}
-use Rattle.vt_world_laws.proofs.Roots.{directory_there}
+use Rattle.vt_permit_laws.proofs.sees.SeesTasks.{given_permits_are_seen_to}
+use Rattle.vt_world_laws.proofs.worlds.Roots.{directory_there}
 use Rattle.vt_detach.specs.Events.{Permits, supply_of}
 use Rattle.vt_detach.specs.Held.{IsHeld}
 use Rattle.vt_detach.specs.WorldValue.{WorldValue, world_of}

@@ -12,7 +12,7 @@ use Rattle.vt_spec.specs.Machine.World.{Descriptor, Task, all_locations, locatio
 use Rattle.vt_spec.specs.Machine.Invariants.{is_located_well, is_there}
 use Rattle.vt_spec.proofs.Lists.{Among, among-flat_map, among-map, among_from_all, among_from_list_all, none_among, none_from_among}
 use Rattle.vt_letting_go.specs.Counts.{mount_uses, times}
-use Rattle.vt_letting_go.proofs.UsesCounted.{located_while_counted}
+use Rattle.vt_letting_go.proofs.sweeps.UsesCounted.{located_while_counted}
 use Rattle.vt_mount.specs.MountsValue.{MountEntry, entry_numbered, mounts_in, uses_of, writers_of}
 use Rattle.vt_detach.specs.Held.{CountsItsUses, IsHeld, writes_of, writes_on}
 use Rattle.vt_detach.specs.WorldValue.{WorldValue, world_of}

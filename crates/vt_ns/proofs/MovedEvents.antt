@@ -1,8 +1,8 @@
 -- What the event that moves mounts finds: its place, and the tree that moves.
 use Rattle.std.proofs.Common.{◌≡◌, refl, sym, ap, ◌∙◌, ℕ, nat_eq, eqb-true, Bool, true, false, cond, List, find, Some, is_some, unwrap_or}
-use Rattle.vt_letting_go.proofs.AttachedSwept.{of_tree}
+use Rattle.vt_letting_go.proofs.mounting.AttachedSwept.{of_tree}
 use Rattle.vt_letting_go.proofs.Lists.{Among, map_same}
-use Rattle.vt_letting_go.proofs.PlacesLeft.{found_is_there}
+use Rattle.vt_letting_go.proofs.leaving.PlacesLeft.{found_is_there}
 use Rattle.vt_location.specs.declared.locations.Location.{Location}
 use Rattle.vt_location.specs.declared.mounts.Mount.{Mount as Code}
 use Rattle.vt_location.specs.declared.numbers.MountId.{MountId}

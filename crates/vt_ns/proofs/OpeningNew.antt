@@ -22,8 +22,8 @@ use Rattle.vt_spec.specs.Fits.{Fits}
 use Rattle.vt_spec.specs.Inodes.{Inodes, changed, tree_of, uses_in, with_changed}
 use Rattle.vt_spec.specs.Tree.{Node, node_with_entry}
 use Rattle.vt_count_laws.specs.Counted.{IsPlain}
-use Rattle.vt_count_laws.proofs.Changes.{only_files_change}
-use Rattle.vt_count_laws.proofs.KeptAll.{names_keep_all}
+use Rattle.vt_count_laws.proofs.changing.Changes.{only_files_change}
+use Rattle.vt_count_laws.proofs.changing.KeptAll.{names_keep_all}
 use Rattle.vt_fs.specs.FilesystemsValue.{ChangesInodes, Filesystems, entry_at, entry_of, inodes_at, inodes_seen, next_seen, no_entry, node_seen}
 use Rattle.vt_letting_go.proofs.Lists.{Among, among-append_right, among-flat_map, among-map}
 use Rattle.vt_letting_go.specs.Mounting.{inode_at}
@@ -36,24 +36,24 @@ use Rattle.vt_location.proofs.NumberLemmas.{is_inode}
 use Rattle.vt_mount.specs.MountsValue.{MountEntry}
 use Rattle.vt_permit_laws.specs.Named.{permit_named}
 use Rattle.vt_permit_laws.specs.Sees.{HasRoom, MayBeMade}
-use Rattle.vt_permit_laws.proofs.PermitsKeepTo.{same_keeps_to_numbers_too}
-use Rattle.vt_permit_laws.proofs.PermitsLeave.{given_permits_are_under_way, given_permits_leave_worlds}
-use Rattle.vt_permit_laws.proofs.SameInUse.{same_worlds_are_worlds}
-use Rattle.vt_permit_laws.proofs.SameInvariants.{same_worlds_are_under_way}
-use Rattle.vt_permit_laws.proofs.SeesFit.{given_changes_fit}
-use Rattle.vt_permit_laws.proofs.SeesTasks.{given_permits_are_seen_to}
+use Rattle.vt_permit_laws.proofs.named.PermitsKeepTo.{same_keeps_to_numbers_too}
+use Rattle.vt_permit_laws.proofs.left.PermitsLeave.{given_permits_are_under_way, given_permits_leave_worlds}
+use Rattle.vt_permit_laws.proofs.same.SameInUse.{same_worlds_are_worlds}
+use Rattle.vt_permit_laws.proofs.same.SameInvariants.{same_worlds_are_under_way}
+use Rattle.vt_permit_laws.proofs.sees.SeesFit.{given_changes_fit}
+use Rattle.vt_permit_laws.proofs.sees.SeesTasks.{given_permits_are_seen_to}
 use Rattle.vt_run_laws.specs.Handed.{is_counted_before}
-use Rattle.vt_run_laws.proofs.AlikeSettled.{settled_alike}
-use Rattle.vt_run_laws.proofs.AlikeWorlds.{alike_from_same, same_from_alike, same_worlds_are_plain_alike, sameness_is_an_equivalence}
+use Rattle.vt_run_laws.proofs.answered.AlikeSettled.{settled_alike}
+use Rattle.vt_run_laws.proofs.answered.AlikeWorlds.{alike_from_same, same_from_alike, same_worlds_are_plain_alike, sameness_is_an_equivalence}
 use Rattle.vt_tasks.specs.TasksValue.{MayOpenMore, Tasks, called, changed_by, changed_called, replaced}
 use Rattle.vt_world_laws.specs.Worlds.Kept.{IsWorldButForUse}
 use Rattle.vt_world_laws.specs.Worlds.Permits.{IsFitPermit}
-use Rattle.vt_world_laws.proofs.MountsKept.{mounts_kept}
-use Rattle.vt_world_laws.proofs.NamespacesKept.{namespaces_kept}
-use Rattle.vt_world_laws.proofs.PermitsNamed.{permits_keep_counting_forks, permits_keep_names}
-use Rattle.vt_world_laws.proofs.PermitsPlaced.{permits_keep_directories, permits_keep_locations, permits_keep_open_files}
-use Rattle.vt_world_laws.proofs.PermitsShow.{permits_keep_mounts_showing}
-use Rattle.vt_world_laws.proofs.SettledTasks.{settling_leaves_a_world}
+use Rattle.vt_world_laws.proofs.kept.MountsKept.{mounts_kept}
+use Rattle.vt_world_laws.proofs.kept.NamespacesKept.{namespaces_kept}
+use Rattle.vt_world_laws.proofs.worlds.PermitsNamed.{permits_keep_counting_forks, permits_keep_names}
+use Rattle.vt_world_laws.proofs.worlds.PermitsPlaced.{permits_keep_directories, permits_keep_locations, permits_keep_open_files}
+use Rattle.vt_world_laws.proofs.worlds.PermitsShow.{permits_keep_mounts_showing}
+use Rattle.vt_world_laws.proofs.settling.SettledTasks.{settling_leaves_a_world}
 use Rattle.vt_detach.specs.Events.{Permits, next_inode, supply_of}
 use Rattle.vt_detach.specs.Held.{IsHeld}
 use Rattle.vt_detach.specs.Uses.{kept, with_location, with_use}

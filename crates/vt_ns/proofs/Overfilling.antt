@@ -17,14 +17,14 @@ use Rattle.vt_location.specs.declared.numbers.NamespaceId.{NamespaceId}
 use Rattle.vt_location.specs.MountValue.{mount_of}
 use Rattle.vt_location.specs.Numbers.{counted}
 use Rattle.vt_mount.specs.MountsValue.{mounts_in}
-use Rattle.vt_mount_laws.proofs.MountsFound.{found_in}
-use Rattle.vt_mount_laws.proofs.Standing.{trees_have_each_once}
-use Rattle.vt_permit_laws.proofs.PartsKept.{receivers_there, same_parts}
+use Rattle.vt_mount_laws.proofs.mounts.MountsFound.{found_in}
+use Rattle.vt_mount_laws.proofs.mounts.Standing.{trees_have_each_once}
+use Rattle.vt_permit_laws.proofs.taken.PartsKept.{receivers_there, same_parts}
 use Rattle.vt_propagate.specs.Filling.{GrowsBy, MovesFrom, mount_count}
 use Rattle.vt_propagate.proofs.Counting.{absent_counted, added_counted, moved_all}
 use Rattle.vt_letting_go.proofs.Lists.{among-from_filter}
 use Rattle.vt_run_laws.specs.Handed.{counts_from}
-use Rattle.vt_world_laws.proofs.FewMounts.{shrinks_few}
+use Rattle.vt_world_laws.proofs.worlds.FewMounts.{shrinks_few}
 use Rattle.vt_detach.proofs.Leaving.{none_among}
 use Rattle.vt_detach.specs.Held.{IsHeld}
 use Rattle.vt_detach.specs.Looking.{overfills_of}

@@ -11,10 +11,10 @@ use Rattle.vt_spec.specs.Machine.World.{World, mount_numbered}
 use Rattle.vt_spec.proofs.Lists.{contains_from_among}
 use Rattle.vt_group.specs.Grouping.{Grouping, Has, LacksGroup, numbers_of}
 use Rattle.vt_letting_go.proofs.Lists.{Among, all_from_among, map_twice}
-use Rattle.vt_letting_go.proofs.PlacesLeft.{found_is_there}
+use Rattle.vt_letting_go.proofs.leaving.PlacesLeft.{found_is_there}
 use Rattle.vt_mount.specs.MountsValue.{MountEntry, mounts_in}
 use Rattle.vt_retype.specs.Retyping.{retyped as retyped_entry}
-use Rattle.vt_mount_laws.proofs.Standing.{trees_have_each_once}
+use Rattle.vt_mount_laws.proofs.mounts.Standing.{trees_have_each_once}
 use Rattle.vt_propagate.specs.Pushing.{EachOnce}
 use Rattle.vt_run_laws.specs.Handed.{counts_from}
 use Rattle.vt_detach.specs.Events.{Permits}

@@ -21,16 +21,16 @@ use Rattle.vt_group.specs.Grouping.{Grouping, Has}
 use Rattle.vt_group.specs.Laws.{typed_by}
 use Rattle.vt_letting_go.specs.Leaving.{stands_on_attached}
 use Rattle.vt_letting_go.proofs.Lists.{Among, all_from_among, among-from_map, among-map, among_from_all, is_among_numbers, map_alike, map_twice, passes}
-use Rattle.vt_letting_go.proofs.OfWorlds.{mounts_of_worlds_stand}
-use Rattle.vt_letting_go.proofs.PlacesLeft.{found_is_there, found_itself, number_found}
+use Rattle.vt_letting_go.proofs.sweeps.OfWorlds.{mounts_of_worlds_stand}
+use Rattle.vt_letting_go.proofs.leaving.PlacesLeft.{found_is_there, found_itself, number_found}
 use Rattle.vt_location.specs.declared.locations.Location.{Location as At}
 use Rattle.vt_location.specs.Locations.{location_of}
 use Rattle.vt_location.specs.Numbers.{counted}
 use Rattle.vt_mount.specs.MountsValue.{MountEntry}
-use Rattle.vt_permit_laws.proofs.PermitsLeave.{given_permits_are_under_way}
+use Rattle.vt_permit_laws.proofs.left.PermitsLeave.{given_permits_are_under_way}
 use Rattle.vt_propagate.specs.Falling.{left_by, moved_by}
 use Rattle.vt_world_laws.specs.Worlds.Kept.{IsWorldButForUse}
-use Rattle.vt_world_laws.proofs.Roots.{directory_there}
+use Rattle.vt_world_laws.proofs.worlds.Roots.{directory_there}
 use Rattle.vt_attach.specs.Planned.{Point, is_small, points_left, points_taken, with_planned}
 use Rattle.vt_attach.specs.PlannedUses.{point_seen}
 use Rattle.vt_detach.specs.Detached.{LeaveInTurn}
@@ -51,7 +51,7 @@ use Rattle.vt_detach.proofs.Staying.{IsDone, world_is_plain}
 use Rattle.vt_detach.proofs.TypedEvents.{counts_typed, swept_typed, typed_value}
 use Rattle.vt_detach.proofs.TypedWorlds.{settled_without_groups, typed_world}
 use Rattle.vt_detach.proofs.UnmountedLazily.{all_detached}
-use Rattle.vt_mount_laws.proofs.MountsFound.{placed_among}
+use Rattle.vt_mount_laws.proofs.mounts.MountsFound.{placed_among}
 use Rattle.vt_ns.proofs.PointsMoved.{MayMove, gained, looked_up, lost, moved_is_kept, moved_world}
 
 -- a mount with a mount point is in a namespace

@@ -13,8 +13,8 @@ use Rattle.vt_spec.specs.Machine.Mounts.{Location, Mount, group_of, mount_in, no
 use Rattle.vt_spec.specs.Machine.World.{Namespace, World, mount_at}
 use Rattle.vt_spec.specs.Machine.Invariants.{NamespaceInvariants, is_listed}
 use Rattle.vt_spec.proofs.Lists.{Among, among-from_filter, among-from_map, among-map, among_from_all, among_from_contains, among_from_list_all, among_numbers, any_among, any_from_among, is_among_numbers, none_among}
-use Rattle.vt_mount_laws.proofs.MountsFound.{number_found}
-use Rattle.vt_mount_laws.proofs.MountsReplaced.{found-with_mount_other, found_itself, numbers-with_mount, one_number_by_numbers}
+use Rattle.vt_mount_laws.proofs.mounts.MountsFound.{number_found}
+use Rattle.vt_mount_laws.proofs.mounts.MountsReplaced.{found-with_mount_other, found_itself, numbers-with_mount, one_number_by_numbers}
 use Rattle.vt_location.specs.declared.mounts.Mount.{Mount as Kept}
 use Rattle.vt_location.specs.declared.numbers.NamespaceId.{NamespaceId}
 use Rattle.vt_location.specs.MountValue.{mount_of}

@@ -14,14 +14,14 @@ use Rattle.vt_spec.proofs.Lists.{among-filter, among-from_map, any_among, any_fr
 use Rattle.vt_group.proofs.GroupLemmas.{members-regrouped}
 use Rattle.vt_location.specs.declared.numbers.MountId.{MountId}
 use Rattle.vt_location.specs.Numbers.{counted}
-use Rattle.vt_mount_laws.proofs.EndingLazy.{IsUnderWay, begun, childless, next}
-use Rattle.vt_mount_laws.proofs.EndingOrder.{taken_in_turn}
-use Rattle.vt_mount_laws.proofs.MountsFound.{number_found, placed_among}
-use Rattle.vt_mount_laws.proofs.MountsPlaces.{stands_there}
-use Rattle.vt_mount_laws.proofs.MountsReplaced.{found_itself}
-use Rattle.vt_mount_laws.proofs.Unmounting.{middle, taken}
-use Rattle.vt_mount_laws.proofs.UnmountingPlaces.{Falls, goes_or_may, stood}
-use Rattle.vt_mount_laws.proofs.UnmountingPlaces.Falls.{direct, down}
+use Rattle.vt_mount_laws.proofs.ends.EndingLazy.{IsUnderWay, begun, childless, next}
+use Rattle.vt_mount_laws.proofs.ends.EndingOrder.{taken_in_turn}
+use Rattle.vt_mount_laws.proofs.mounts.MountsFound.{number_found, placed_among}
+use Rattle.vt_mount_laws.proofs.mounts.MountsPlaces.{stands_there}
+use Rattle.vt_mount_laws.proofs.mounts.MountsReplaced.{found_itself}
+use Rattle.vt_mount_laws.proofs.ends.Unmounting.{middle, taken}
+use Rattle.vt_mount_laws.proofs.ends.UnmountingPlaces.{Falls, goes_or_may, stood}
+use Rattle.vt_mount_laws.proofs.ends.UnmountingPlaces.Falls.{direct, down}
 use Rattle.vt_propagate.specs.LazyUnmounts.{going_if_there, gone_by, gone_lazily, lazy_events}
 use Rattle.vt_propagate.specs.Through.{going_then, going_then_if_there}
 use Rattle.vt_propagate.proofs.Found.{counts, numbers}

@@ -16,13 +16,13 @@ use Rattle.vt_group.specs.Grouping.{Grouping, GroupsLive, are_rising, numbers_of
 use Rattle.vt_group.proofs.Together.{regrouped_living}
 use Rattle.vt_mount.specs.MountsValue.{MountEntry}
 use Rattle.vt_mount.proofs.PointLemmas.{end-here}
-use Rattle.vt_mount_laws.proofs.EndingLazy.{IsUnderWay, begun, childless, lazy_unmount_keeps_mounts, next}
-use Rattle.vt_mount_laws.proofs.EndingOrder.{is_taken_in_turn, taken_in_turn}
-use Rattle.vt_mount_laws.proofs.MountsFound.{number_found}
-use Rattle.vt_mount_laws.proofs.Standing.{LiesIn, lies_in_tree, stand}
-use Rattle.vt_mount_laws.proofs.Standing.LiesIn.{itself, under}
-use Rattle.vt_mount_laws.proofs.Unmounting.{kept_by_number}
-use Rattle.vt_mount_laws.proofs.UnmountingEnds.{the_mount_itself_goes}
+use Rattle.vt_mount_laws.proofs.ends.EndingLazy.{IsUnderWay, begun, childless, lazy_unmount_keeps_mounts, next}
+use Rattle.vt_mount_laws.proofs.ends.EndingOrder.{is_taken_in_turn, taken_in_turn}
+use Rattle.vt_mount_laws.proofs.mounts.MountsFound.{number_found}
+use Rattle.vt_mount_laws.proofs.mounts.Standing.{LiesIn, lies_in_tree, stand}
+use Rattle.vt_mount_laws.proofs.mounts.Standing.LiesIn.{itself, under}
+use Rattle.vt_mount_laws.proofs.ends.Unmounting.{kept_by_number}
+use Rattle.vt_mount_laws.proofs.ends.UnmountingEnds.{the_mount_itself_goes}
 use Rattle.vt_propagate.specs.LazyUnmounts.{LazyUnmountsAreAtOnce, LazyUnmountsAreSeen, LazyUnmountsSettleAlike, LazyUnmountsTakeTheTree, gone_by, gone_lazily, going_if_there}
 use Rattle.vt_propagate.specs.Seen.{IsSeen}
 use Rattle.vt_propagate.proofs.TakenTwice.{taken_twice}

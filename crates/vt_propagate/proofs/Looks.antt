@@ -16,11 +16,11 @@ use Rattle.vt_spec.proofs.Worlds.{found_or_none}
 use Rattle.vt_group.proofs.GroupLemmas.{group-inherited}
 use Rattle.vt_mount_laws.specs.Mounts.Unmounting.{KeepsAllButPlaceAndType}
 use Rattle.vt_mount_laws.specs.Mounts.Unmounting.FallsTo.{rests}
-use Rattle.vt_mount_laws.proofs.MountsFound.{found_in, number_found, placed_among}
-use Rattle.vt_mount_laws.proofs.MountsPlaces.{found_at_its_place, one_place_of_two, stands_at_its_place, stands_there}
-use Rattle.vt_mount_laws.proofs.MountsReplaced.{found_itself}
-use Rattle.vt_mount_laws.proofs.Standing.{standing_is_computed}
-use Rattle.vt_mount_laws.proofs.Unmounting.{detached_by_number, kept_by_number, middle, place_fallen, staying_is_placed, taken}
+use Rattle.vt_mount_laws.proofs.mounts.MountsFound.{found_in, number_found, placed_among}
+use Rattle.vt_mount_laws.proofs.mounts.MountsPlaces.{found_at_its_place, one_place_of_two, stands_at_its_place, stands_there}
+use Rattle.vt_mount_laws.proofs.mounts.MountsReplaced.{found_itself}
+use Rattle.vt_mount_laws.proofs.mounts.Standing.{standing_is_computed}
+use Rattle.vt_mount_laws.proofs.ends.Unmounting.{detached_by_number, kept_by_number, middle, place_fallen, staying_is_placed, taken}
 use Rattle.vt_propagate.specs.Going.{group_at}
 use Rattle.vt_propagate.specs.Through.{free_at_then, free_on_then, going_by, going_then, group_at_then, is_free_by_number, is_free_then, rests_on_root, standing_over}
 use Rattle.vt_propagate.proofs.Found.{numbers}

@@ -19,7 +19,7 @@ use Rattle.vt_group.proofs.Receiving.{Ends, chain_same, living_ends}
 use Rattle.vt_group.proofs.Together.{map-twice}
 use Rattle.vt_mount_laws.proofs.GroupsKept.{taking_away_keeps_groups}
 use Rattle.vt_mount_laws.proofs.GroupsLiving.{all_live, tested_live}
-use Rattle.vt_mount_laws.proofs.Unmounting.{middle}
+use Rattle.vt_mount_laws.proofs.ends.Unmounting.{middle}
 use Rattle.vt_propagate.proofs.Found.{numbers}
 
 -- a group is among those up from another if it is that one, or among those up from its master

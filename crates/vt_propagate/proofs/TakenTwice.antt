@@ -25,9 +25,9 @@ use Rattle.vt_mount_laws.specs.Mounts.Conditions.{OneNumberEach}
 use Rattle.vt_mount_laws.specs.Mounts.Standing.{AllStand}
 use Rattle.vt_mount_laws.proofs.GroupsKept.{taking_away_keeps_groups}
 use Rattle.vt_mount_laws.proofs.GroupsLiving.{all_live, tested_live}
-use Rattle.vt_mount_laws.proofs.MountsFound.{number_found}
-use Rattle.vt_mount_laws.proofs.Standing.{rank, rank_bounded, rank_child}
-use Rattle.vt_mount_laws.proofs.Unmounting.{all_but_mounts, middle, number_after, numbers_taken, root_stays, staying_is_placed, taken}
+use Rattle.vt_mount_laws.proofs.mounts.MountsFound.{number_found}
+use Rattle.vt_mount_laws.proofs.mounts.Standing.{rank, rank_bounded, rank_child}
+use Rattle.vt_mount_laws.proofs.ends.Unmounting.{all_but_mounts, middle, number_after, numbers_taken, root_stays, staying_is_placed, taken}
 use Rattle.vt_propagate.specs.LazyUnmounts.{PartsGoAtOnce}
 
 -- a mount that goes, or falls

@@ -19,11 +19,11 @@ use Rattle.vt_spec.specs.Machine.SameWorlds.{SameWorlds}
 use Rattle.vt_spec.specs.Machine.Sealed.{directed}
 use Rattle.vt_spec.specs.Machine.World.{World}
 use Rattle.vt_laws.specs.Numbers.{Allotment}
-use Rattle.vt_laws.proofs.OwnRules.{denial_changes_nothing}
-use Rattle.vt_laws.proofs.Unchanged.{directive_changes_nothing}
+use Rattle.vt_laws.proofs.rules.OwnRules.{denial_changes_nothing}
+use Rattle.vt_laws.proofs.denials.Unchanged.{directive_changes_nothing}
 use Rattle.vt_run_laws.specs.Handed.{may_be_given}
 use Rattle.vt_run_laws.specs.Runs.{ServesInHand}
-use Rattle.vt_run_laws.proofs.AlikeWorlds.{sameness_is_an_equivalence}
+use Rattle.vt_run_laws.proofs.answered.AlikeWorlds.{sameness_is_an_equivalence}
 use Rattle.vt_io.specs.declared.output.Sink.{Ghosts}
 use Rattle.vt_io.specs.Sink.{Wrote, WroteFront, Prints}
 use Rattle.vt_io.specs.LineBuffer.{LineSoFar, Holds}

@@ -11,7 +11,7 @@ use Rattle.vt_spec.specs.Machine.World.{World}
 use Rattle.vt_laws.specs.Numbers.{Allotment}
 use Rattle.vt_run_laws.specs.Handed.{may_be_given}
 use Rattle.vt_run_laws.specs.Runs.{TellsAlike}
-use Rattle.vt_run_laws.proofs.AlikeWorlds.{sameness_is_an_equivalence}
+use Rattle.vt_run_laws.proofs.answered.AlikeWorlds.{sameness_is_an_equivalence}
 use Rattle.vt_script.specs.Progress.{Moment, Runs, HasNoNewline, after_line}
 use Rattle.vt_script.specs.Session.{State, moment, IsReading, IsHanded, Fed, Feeds, Broke, begun, lines_begun, IsLast, Closed, BrokeLast, Closes, Replied, BrokeReply, Replies, step_of}
 use Rattle.vt_script.proofs.RunLemmas.{stays, runs_then, runs_bytes, runs_refused, runs_spoken, lines_of-last, HasNoNewline-append}

@@ -7,8 +7,8 @@ use Rattle.vt_spec.specs.Language.Script.{lines_of, propagation}
 use Rattle.vt_spec.specs.Machine.Run.{first_world, script_text, text_from}
 use Rattle.vt_run_laws.specs.Handed.{may_be_given}
 use Rattle.vt_run_laws.specs.Runs.{TellsAlike}
-use Rattle.vt_run_laws.proofs.Counts.{programs_have_one_text}
-use Rattle.vt_run_laws.proofs.GrammarsPlain.{grammars_keep_overlays_out, propagation_mounts_no_overlay}
+use Rattle.vt_run_laws.proofs.handed.Counts.{programs_have_one_text}
+use Rattle.vt_run_laws.proofs.runs.GrammarsPlain.{grammars_keep_overlays_out, propagation_mounts_no_overlay}
 use Rattle.std.specs.Prelude.{OnOk, IsErrOf}
 use Rattle.vt_io.specs.declared.output.Sink.{Ghosts}
 use Rattle.vt_io.specs.Sink.{WroteFront}

@@ -4,7 +4,7 @@ use Rattle.std.specs.Prelude.{⊤}
 use Rattle.vt_spec.specs.declared.errors.Deny.{Deny}
 use Rattle.vt_spec.specs.Errors.{Rules, and_then, unless}
 use Rattle.vt_spec.specs.Machine.Walk.{Stop, walk_end}
-use Rattle.vt_tree_laws.proofs.TreesWalked.{Ends, Passed}
+use Rattle.vt_tree_laws.proofs.trees.TreesWalked.{Ends, Passed}
 
 -- if there is an answer, this holds of it
 abbrev pub Gives : {A : Type 0} → (A → Type 0) → Result A Deny → Type 0

@@ -30,20 +30,20 @@ use Rattle.vt_spec.specs.Tree.{Tree, entries_in, entry_named, is_directory_node,
 use Rattle.vt_spec.specs.TreeLaws.{entry_at}
 use Rattle.vt_spec.proofs.Nodes.{directory_used}
 use Rattle.vt_letting_go.specs.Unmounting.{numbers_of_trees}
-use Rattle.vt_mount_laws.proofs.Standing.{standing_is_computed}
-use Rattle.vt_mount_laws.proofs.Unmounting.{kept_by_number}
-use Rattle.vt_mount_laws.proofs.UnmountingTrees.{AreClosed, trees_closed}
+use Rattle.vt_mount_laws.proofs.mounts.Standing.{standing_is_computed}
+use Rattle.vt_mount_laws.proofs.ends.Unmounting.{kept_by_number}
+use Rattle.vt_mount_laws.proofs.ends.UnmountingTrees.{AreClosed, trees_closed}
 use Rattle.vt_overlays_let_go.proofs.changing.MountsOfOthers.{parent_reached, reached_stays}
 use Rattle.vt_permit_laws.specs.Sees.{SeesTo}
-use Rattle.vt_permit_laws.proofs.SeesTasks.{given_permits_are_seen_to}
+use Rattle.vt_permit_laws.proofs.sees.SeesTasks.{given_permits_are_seen_to}
 use Rattle.vt_tree_laws.specs.Trees.{MayRemove}
 use Rattle.vt_tree_laws.specs.Trees.Calls.{mounts_overlay}
 use Rattle.vt_tree_laws.specs.Trees.Limits.{names_few_groups}
 use Rattle.vt_world_laws.specs.Worlds.Kept.{IsPlain}
 use Rattle.vt_world_laws.specs.Worlds.Permits.{IsReached}
-use Rattle.vt_world_laws.proofs.PermitsSeen.{taken_plain}
-use Rattle.vt_world_laws.proofs.Reached.{IsOn, is_reached}
-use Rattle.vt_world_laws.proofs.SeenTrees.{change_mounts, change_tasks}
+use Rattle.vt_world_laws.proofs.worlds.PermitsSeen.{taken_plain}
+use Rattle.vt_world_laws.proofs.worlds.Reached.{IsOn, is_reached}
+use Rattle.vt_world_laws.proofs.worlds.SeenTrees.{change_mounts, change_tasks}
 use Rattle.vt_later_laws.proofs.AfterChange.{as_spent, later_files, later_is}
 use Rattle.vt_later_laws.proofs.Changed.{files_changed, files_other}
 use Rattle.vt_later_laws.proofs.Granted.{IsPermitted}

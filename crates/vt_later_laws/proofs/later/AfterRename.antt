@@ -29,30 +29,30 @@ use Rattle.vt_spec.specs.Tree.{entries_in, entry_named, is_directory_node}
 use Rattle.vt_spec.specs.TreeLaws.{entry_at}
 use Rattle.vt_spec.proofs.Lists.{Among, among-filter, among-from_filter, among_from_list_all, any_from_among}
 use Rattle.vt_spec.proofs.Nodes.{directory_used}
-use Rattle.vt_letting_go.proofs.PlacesLeft.{nowhere_parts}
+use Rattle.vt_letting_go.proofs.leaving.PlacesLeft.{nowhere_parts}
 use Rattle.vt_layer_laws.specs.Layers.Untouched.{IsKept}
 use Rattle.vt_layer_laws.proofs.layers.LowersKept.{kept_both, kept_same, others_stay}
 use Rattle.vt_layer_laws.proofs.layers.LowersMounts.{same_mounted_without}
 use Rattle.vt_layer_laws.proofs.views.Entries.{is_entry, is_that_entry}
 use Rattle.vt_layer_laws.proofs.views.Moves.{move_told, no_way_up}
 use Rattle.vt_mount_laws.specs.Mounts.Attaching.{numbers_of}
-use Rattle.vt_mount_laws.proofs.Ending.{replaced_keeps_mounts}
-use Rattle.vt_mount_laws.proofs.MountsFound.{found_in, found_there}
-use Rattle.vt_mount_laws.proofs.MountsPlaces.{stands_there}
-use Rattle.vt_mount_laws.proofs.MountsReplaced.{found_itself}
-use Rattle.vt_mount_laws.proofs.Standing.{standing_is_computed}
-use Rattle.vt_mount_laws.proofs.UnmountingTrees.{trees_closed}
+use Rattle.vt_mount_laws.proofs.ends.Ending.{replaced_keeps_mounts}
+use Rattle.vt_mount_laws.proofs.mounts.MountsFound.{found_in, found_there}
+use Rattle.vt_mount_laws.proofs.mounts.MountsPlaces.{stands_there}
+use Rattle.vt_mount_laws.proofs.mounts.MountsReplaced.{found_itself}
+use Rattle.vt_mount_laws.proofs.mounts.Standing.{standing_is_computed}
+use Rattle.vt_mount_laws.proofs.ends.UnmountingTrees.{trees_closed}
 use Rattle.vt_permit_laws.specs.Sees.{MayBeRenamed, SeesTo}
-use Rattle.vt_permit_laws.proofs.SeesNames.{tree_here}
-use Rattle.vt_permit_laws.proofs.SeesTasks.{given_permits_are_seen_to}
+use Rattle.vt_permit_laws.proofs.sees.SeesNames.{tree_here}
+use Rattle.vt_permit_laws.proofs.sees.SeesTasks.{given_permits_are_seen_to}
 use Rattle.vt_letting_go.specs.Unmounting.{numbers_of_trees}
 use Rattle.vt_tree_laws.specs.Trees.{IsFileTree}
 use Rattle.vt_tree_laws.specs.Trees.Calls.{mounts_overlay}
 use Rattle.vt_tree_laws.specs.Trees.Limits.{names_few_groups}
-use Rattle.vt_tree_laws.proofs.TreesOfWorlds.{number_numbered}
+use Rattle.vt_tree_laws.proofs.trees.TreesOfWorlds.{number_numbered}
 use Rattle.vt_world_laws.specs.Worlds.Kept.{IsPlain}
-use Rattle.vt_world_laws.proofs.PermitsSeen.{replaced_plain}
-use Rattle.vt_world_laws.proofs.SeenTrees.{change_mounts}
+use Rattle.vt_world_laws.proofs.worlds.PermitsSeen.{replaced_plain}
+use Rattle.vt_world_laws.proofs.worlds.SeenTrees.{change_mounts}
 use Rattle.vt_later_laws.proofs.AfterChange.{as_spent, later_is}
 use Rattle.vt_later_laws.proofs.Changed.{files_changed}
 use Rattle.vt_later_laws.proofs.Granted.{IsPermitted}

@@ -40,18 +40,18 @@ use Rattle.vt_spec.proofs.Lists.{contains_from_among}
 use Rattle.vt_spec.proofs.Nodes.{directory_used}
 use Rattle.vt_call_laws.specs.Inodes.{change_of}
 use Rattle.vt_letting_go.specs.InUse.{IsListedTree}
-use Rattle.vt_letting_go.proofs.FilesChanged.{opened_new_keeps_all}
-use Rattle.vt_letting_go.proofs.OfWorlds.{worlds_are_settled}
+use Rattle.vt_letting_go.proofs.leaving.FilesChanged.{opened_new_keeps_all}
+use Rattle.vt_letting_go.proofs.sweeps.OfWorlds.{worlds_are_settled}
 use Rattle.vt_permit_laws.specs.Sees.{MayBeMade, SeesTo}
-use Rattle.vt_permit_laws.proofs.SeesFit.{given_changes_are_proper}
-use Rattle.vt_permit_laws.proofs.SeesNames.{tree_here}
-use Rattle.vt_permit_laws.proofs.SeesTasks.{given_permits_are_seen_to}
+use Rattle.vt_permit_laws.proofs.sees.SeesFit.{given_changes_are_proper}
+use Rattle.vt_permit_laws.proofs.sees.SeesNames.{tree_here}
+use Rattle.vt_permit_laws.proofs.sees.SeesTasks.{given_permits_are_seen_to}
 use Rattle.vt_tree_laws.specs.Trees.{IsFileTree}
-use Rattle.vt_tree_laws.proofs.ChangesKeepTrees.{changes_keep_numbers, changes_keep_trees}
+use Rattle.vt_tree_laws.proofs.trees.ChangesKeepTrees.{changes_keep_numbers, changes_keep_trees}
 use Rattle.vt_world_laws.specs.Worlds.Kept.{IsPlain}
-use Rattle.vt_world_laws.proofs.CallsKept.{name_found}
+use Rattle.vt_world_laws.proofs.worlds.CallsKept.{name_found}
 use Rattle.vt_world_laws.proofs.Plain.{plain_numbered}
-use Rattle.vt_world_laws.proofs.SeenTrees.{change_mounts, change_tasks, unused_inode}
+use Rattle.vt_world_laws.proofs.worlds.SeenTrees.{change_mounts, change_tasks, unused_inode}
 use Rattle.vt_later_laws.specs.LaterPaths.{ExclusiveTwice}
 use Rattle.vt_later_laws.proofs.AfterChange.{later_files, later_is, listed, spent}
 use Rattle.vt_later_laws.proofs.Changed.{files_changed, files_other}

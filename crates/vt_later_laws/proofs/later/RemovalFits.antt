@@ -24,18 +24,18 @@ use Rattle.vt_spec.specs.TreeLaws.{entry_at}
 use Rattle.vt_spec.proofs.Lists.{Among, among-filter, among_from_list_all, any_from_among}
 use Rattle.vt_spec.proofs.Nodes.{directory_used, none_is_not}
 use Rattle.vt_spec.proofs.Trees.{reached_named}
-use Rattle.vt_letting_go.proofs.PlacesLeft.{nowhere_parts}
-use Rattle.vt_mount_laws.proofs.MountsFound.{found_in, placed_among}
-use Rattle.vt_mount_laws.proofs.MountsReplaced.{found_itself}
-use Rattle.vt_permit_laws.proofs.SeesNames.{tree_here}
+use Rattle.vt_letting_go.proofs.leaving.PlacesLeft.{nowhere_parts}
+use Rattle.vt_mount_laws.proofs.mounts.MountsFound.{found_in, placed_among}
+use Rattle.vt_mount_laws.proofs.mounts.MountsReplaced.{found_itself}
+use Rattle.vt_permit_laws.proofs.sees.SeesNames.{tree_here}
 use Rattle.vt_tree_laws.specs.Trees.{IsFileTree}
 use Rattle.vt_tree_laws.specs.Trees.Calls.{mounts_overlay}
 use Rattle.vt_tree_laws.specs.Trees.Limits.{names_few_groups}
-use Rattle.vt_tree_laws.proofs.TreesEntered.{chain_ends}
-use Rattle.vt_tree_laws.proofs.TreesOfWorlds.{number_numbered}
-use Rattle.vt_tree_laws.proofs.TreesReached.{not_removed_reached}
+use Rattle.vt_tree_laws.proofs.trees.TreesEntered.{chain_ends}
+use Rattle.vt_tree_laws.proofs.trees.TreesOfWorlds.{number_numbered}
+use Rattle.vt_tree_laws.proofs.trees.TreesReached.{not_removed_reached}
 use Rattle.vt_world_laws.specs.Worlds.Kept.{IsPlain}
-use Rattle.vt_world_laws.proofs.Reached.{IsFoundDirectory}
+use Rattle.vt_world_laws.proofs.worlds.Reached.{IsFoundDirectory}
 use Rattle.vt_later_laws.proofs.later.AfterRemoval.{each, is_left, left, may, mounts_seen, node_left, reaches, root_left, seen_to, shown, spent, spent_shown}
 use Rattle.vt_later_laws.proofs.Granted.{IsPermitted}
 use Rattle.vt_later_laws.proofs.later.WaysLeft.{BothAre, FitsWays, GoesUp, top}

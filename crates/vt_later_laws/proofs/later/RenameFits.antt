@@ -37,20 +37,20 @@ use Rattle.vt_layer_laws.proofs.layers.CopyingNames.{moved_part}
 use Rattle.vt_layer_laws.proofs.views.Entries.{is_entry, is_that_entry}
 use Rattle.vt_layer_laws.proofs.views.Moves.{led_parts, move_told, no_way_up}
 use Rattle.vt_letting_go.specs.FileChanges.{IsMoved}
-use Rattle.vt_letting_go.proofs.PlacesLeft.{nowhere_parts}
-use Rattle.vt_mount_laws.proofs.MountsFound.{found_in, placed_among}
-use Rattle.vt_mount_laws.proofs.MountsReplaced.{found_itself}
+use Rattle.vt_letting_go.proofs.leaving.PlacesLeft.{nowhere_parts}
+use Rattle.vt_mount_laws.proofs.mounts.MountsFound.{found_in, placed_among}
+use Rattle.vt_mount_laws.proofs.mounts.MountsReplaced.{found_itself}
 use Rattle.vt_permit_laws.specs.Sees.{MayBeRenamed}
-use Rattle.vt_permit_laws.proofs.SeesNames.{tree_here}
+use Rattle.vt_permit_laws.proofs.sees.SeesNames.{tree_here}
 use Rattle.vt_tree_laws.specs.Trees.{IsFileTree}
 use Rattle.vt_tree_laws.specs.Trees.Calls.{mounts_overlay}
 use Rattle.vt_tree_laws.specs.Trees.Limits.{names_few_groups}
-use Rattle.vt_tree_laws.proofs.ChangesNodes.{elsewhere, part_stays}
-use Rattle.vt_tree_laws.proofs.TreesAbove.{under_seen}
-use Rattle.vt_tree_laws.proofs.TreesEntered.{chain_ends}
+use Rattle.vt_tree_laws.proofs.trees.ChangesNodes.{elsewhere, part_stays}
+use Rattle.vt_tree_laws.proofs.trees.TreesAbove.{under_seen}
+use Rattle.vt_tree_laws.proofs.trees.TreesEntered.{chain_ends}
 use Rattle.vt_world_laws.specs.Worlds.Kept.{IsPlain}
-use Rattle.vt_world_laws.proofs.Reached.{IsFoundDirectory}
-use Rattle.vt_world_laws.proofs.SeenTrees.{change_tasks}
+use Rattle.vt_world_laws.proofs.worlds.Reached.{IsFoundDirectory}
+use Rattle.vt_world_laws.proofs.worlds.SeenTrees.{change_tasks}
 use Rattle.vt_later_laws.specs.LaterNames.{StandsOutside, lies_in}
 use Rattle.vt_later_laws.proofs.AfterChange.{all_stays, as_spent, in_each, later_files, later_mounts}
 use Rattle.vt_later_laws.proofs.later.AfterRename.{is_left, left, may, object_shown, shown}

@@ -22,15 +22,15 @@ use Rattle.vt_spec.specs.TreeLaws.{IsReached, entry_at, led}
 use Rattle.vt_spec.proofs.Nodes.{directory_used, none_is_not}
 use Rattle.vt_spec.proofs.Trees.{found, last_step, reached_named}
 use Rattle.vt_layer_laws.proofs.views.Moves.{led_parts}
-use Rattle.vt_permit_laws.proofs.SeesNames.{tree_here}
+use Rattle.vt_permit_laws.proofs.sees.SeesNames.{tree_here}
 use Rattle.vt_tree_laws.specs.Trees.{IsFileTree}
 use Rattle.vt_tree_laws.specs.Trees.Calls.{mounts_overlay}
 use Rattle.vt_tree_laws.specs.Trees.Limits.{names_few_groups}
-use Rattle.vt_tree_laws.proofs.TreesAbove.{under_seen}
-use Rattle.vt_tree_laws.proofs.TreesEntered.{chain_ends}
-use Rattle.vt_tree_laws.proofs.TreesReached.{not_removed_reached}
+use Rattle.vt_tree_laws.proofs.trees.TreesAbove.{under_seen}
+use Rattle.vt_tree_laws.proofs.trees.TreesEntered.{chain_ends}
+use Rattle.vt_tree_laws.proofs.trees.TreesReached.{not_removed_reached}
 use Rattle.vt_world_laws.specs.Worlds.Kept.{IsPlain}
-use Rattle.vt_world_laws.proofs.Reached.{IsFoundDirectory}
+use Rattle.vt_world_laws.proofs.worlds.Reached.{IsFoundDirectory}
 use Rattle.vt_later_laws.specs.LaterNames.{StandsOutside}
 use Rattle.vt_later_laws.proofs.later.AfterRename.{old_left}
 use Rattle.vt_later_laws.proofs.Granted.{IsPermitted}

@@ -19,8 +19,8 @@ use Rattle.vt_spec.specs.TreeLaws.{entry_at}
 use Rattle.vt_mount_laws.specs.Mounts.Attaching.{numbers_of}
 use Rattle.vt_world_laws.specs.Worlds.Kept.{IsPlain}
 use Rattle.vt_world_laws.proofs.Plain.{plain_numbered}
-use Rattle.vt_world_laws.proofs.Reached.{IsFound, IsFoundDirectory, IsOn, directory_found, step_found}
-use Rattle.vt_world_laws.proofs.ReachedWalks.{own_directory_found, root_found}
+use Rattle.vt_world_laws.proofs.worlds.Reached.{IsFound, IsFoundDirectory, IsOn, directory_found, step_found}
+use Rattle.vt_world_laws.proofs.worlds.ReachedWalks.{own_directory_found, root_found}
 use Rattle.vt_later_laws.proofs.Steps.{same_ok}
 use Rattle.vt_later_laws.proofs.Ways.{LeadsToo}
 use Rattle.vt_later_laws.proofs.later.WaysMounts.{SeenAlike, top_known}

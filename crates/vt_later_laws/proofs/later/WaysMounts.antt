@@ -15,18 +15,18 @@ use Rattle.vt_spec.proofs.Nodes.{none_is_not}
 use Rattle.vt_mount_laws.specs.Mounts.Attaching.{numbers_of}
 use Rattle.vt_mount_laws.specs.Mounts.Conditions.{OneNumberEach}
 use Rattle.vt_mount_laws.specs.Mounts.Unmounting.{KeepsAllButPlaceAndType}
-use Rattle.vt_mount_laws.proofs.MountsFound.{found_in, found_there, placed_among, unfound}
-use Rattle.vt_mount_laws.proofs.MountsKept.{taking_away_keeps_numbers}
-use Rattle.vt_mount_laws.proofs.MountsNumbered.{is_one_of}
-use Rattle.vt_mount_laws.proofs.MountsPlaces.{found_at_its_place, stands_at_its_place, stands_there}
-use Rattle.vt_mount_laws.proofs.MountsReplaced.{found_itself}
-use Rattle.vt_mount_laws.proofs.Standing.{rank, rank_bounded, rank_child}
-use Rattle.vt_mount_laws.proofs.Topmost.{topmost_is_free}
-use Rattle.vt_mount_laws.proofs.Unmounting.{detached_by_number, kept_by_number, place_kept, root_stays}
-use Rattle.vt_mount_laws.proofs.UnmountingTrees.{AreClosed}
-use Rattle.vt_tree_laws.proofs.TreesEntered.{chain_ends as chain_ends_at}
-use Rattle.vt_letting_go.proofs.PlacesLeft.{nowhere_parts}
-use Rattle.vt_world_laws.proofs.Reached.{IsFoundDirectory, IsOn, namespace_below, place_found}
+use Rattle.vt_mount_laws.proofs.mounts.MountsFound.{found_in, found_there, placed_among, unfound}
+use Rattle.vt_mount_laws.proofs.mounts.MountsKept.{taking_away_keeps_numbers}
+use Rattle.vt_mount_laws.proofs.mounts.MountsNumbered.{is_one_of}
+use Rattle.vt_mount_laws.proofs.mounts.MountsPlaces.{found_at_its_place, stands_at_its_place, stands_there}
+use Rattle.vt_mount_laws.proofs.mounts.MountsReplaced.{found_itself}
+use Rattle.vt_mount_laws.proofs.mounts.Standing.{rank, rank_bounded, rank_child}
+use Rattle.vt_mount_laws.proofs.namespaces.Topmost.{topmost_is_free}
+use Rattle.vt_mount_laws.proofs.ends.Unmounting.{detached_by_number, kept_by_number, place_kept, root_stays}
+use Rattle.vt_mount_laws.proofs.ends.UnmountingTrees.{AreClosed}
+use Rattle.vt_tree_laws.proofs.trees.TreesEntered.{chain_ends as chain_ends_at}
+use Rattle.vt_letting_go.proofs.leaving.PlacesLeft.{nowhere_parts}
+use Rattle.vt_world_laws.proofs.worlds.Reached.{IsFoundDirectory, IsOn, namespace_below, place_found}
 use Rattle.vt_spec.proofs.Worlds.{number-mount_in}
 
 -- Chains that agree end at one place

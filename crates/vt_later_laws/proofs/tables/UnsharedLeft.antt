@@ -18,17 +18,17 @@ use Rattle.vt_spec.specs.Machine.World.{Filesystem, Namespace, Task, World, all_
 use Rattle.vt_spec.proofs.Lists.{none_among, pair-filter}
 use Rattle.vt_letting_go.specs.InUse.{FilesystemsInUse, InodesInUse, is_inode_used}
 use Rattle.vt_letting_go.specs.Mounting.{ended_mounts}
-use Rattle.vt_letting_go.proofs.InUse.{filesystems_stay, inodes_stay, used_at}
+use Rattle.vt_letting_go.proofs.sweeps.InUse.{filesystems_stay, inodes_stay, used_at}
 use Rattle.vt_letting_go.proofs.Lists.{Among, all_from_among, all_pass, among-append, among-append_left, among-append_right, among-filter, among-filter_map, among-flat_map, among-from_filter, among-from_filter_map, among-from_flat_map, among-from_map, among-map, among_from_all, among_numbers, any_passes, is_among_numbers, none_passes, one_passes, or_first, or_second, passes}
-use Rattle.vt_letting_go.proofs.MountingLosers.{places_of, places_stand}
-use Rattle.vt_letting_go.proofs.MountingTaken
-use Rattle.vt_letting_go.proofs.OfWorlds.{all_in_use, locations_of_worlds_stand, mounts_of_worlds_stand}
+use Rattle.vt_letting_go.proofs.mounting.MountingLosers.{places_of, places_stand}
+use Rattle.vt_letting_go.proofs.mounting.MountingTaken
+use Rattle.vt_letting_go.proofs.sweeps.OfWorlds.{all_in_use, locations_of_worlds_stand, mounts_of_worlds_stand}
 use Rattle.vt_mount_laws.specs.Mounts.Attaching.{OneNumberAMount}
-use Rattle.vt_mount_laws.proofs.MountsFound.{found_there, numbers-map}
-use Rattle.vt_mount_laws.proofs.MountsReplaced.{found_itself, one_number_by_numbers}
-use Rattle.vt_mount_laws.proofs.Unsharing.{Parent, parent_of, placed_inside, unshare_keeps_mounts}
-use Rattle.vt_world_laws.proofs.NamespacesListed.{AreNamespaces, are_namespaces}
-use Rattle.vt_world_laws.proofs.NamespacesTasks.{called_there}
+use Rattle.vt_mount_laws.proofs.mounts.MountsFound.{found_there, numbers-map}
+use Rattle.vt_mount_laws.proofs.mounts.MountsReplaced.{found_itself, one_number_by_numbers}
+use Rattle.vt_mount_laws.proofs.namespaces.Unsharing.{Parent, parent_of, placed_inside, unshare_keeps_mounts}
+use Rattle.vt_world_laws.proofs.kept.NamespacesListed.{AreNamespaces, are_namespaces}
+use Rattle.vt_world_laws.proofs.kept.NamespacesTasks.{called_there}
 use Rattle.vt_spec.proofs.Found.{is_among_left, is_among_right}
 use Rattle.vt_spec.proofs.Worlds.{number-mount_in, same_task_name}
 

@@ -32,15 +32,15 @@ use Rattle.vt_spec.specs.Machine.Settled.{mount_lives, settled, without_dead_gro
 use Rattle.vt_spec.specs.Machine.World.{Filesystem, Namespace, Task, World, is_overlay, mount_numbered, mounts_of, no_filesystem, replaced_if_called, task_called}
 use Rattle.vt_letting_go.proofs.Lists.{Among, among-append_left, among-append_right, among-from_filter, among-map, any_passes, filter_here, filter_skip, flat_map_alike, map_alike}
 use Rattle.vt_spec.proofs.Lists.{is_among_numbers, map_same}
-use Rattle.vt_letting_go.proofs.MountingTaken
+use Rattle.vt_letting_go.proofs.mounting.MountingTaken
 use Rattle.vt_mount_laws.specs.Mounts.Propagation.{UnshareListsOthersTheSame, UnshareListsTheSame}
 use Rattle.vt_mount_laws.proofs.GroupsKept.{shared_member}
-use Rattle.vt_mount_laws.proofs.MountsReplaced.{found_itself}
-use Rattle.vt_mount_laws.proofs.Unsharing.{Parent, parent_of}
-use Rattle.vt_mount_laws.proofs.UnsharingNamespaces.{new_namespace_is_empty}
-use Rattle.vt_world_laws.proofs.CallsKept.{name_found}
-use Rattle.vt_world_laws.proofs.NamespacesListed.{IsListedIn, listed_in, number_of}
-use Rattle.vt_world_laws.proofs.NamespacesTasks.{called_there}
+use Rattle.vt_mount_laws.proofs.mounts.MountsReplaced.{found_itself}
+use Rattle.vt_mount_laws.proofs.namespaces.Unsharing.{Parent, parent_of}
+use Rattle.vt_mount_laws.proofs.namespaces.UnsharingNamespaces.{new_namespace_is_empty}
+use Rattle.vt_world_laws.proofs.worlds.CallsKept.{name_found}
+use Rattle.vt_world_laws.proofs.kept.NamespacesListed.{IsListedIn, listed_in, number_of}
+use Rattle.vt_world_laws.proofs.kept.NamespacesTasks.{called_there}
 use Rattle.vt_later_laws.specs.Tables.{UnshareGivesANamespace, UnshareThenMounts}
 use Rattle.vt_later_laws.proofs.Granted.{IsPermitted, permitted}
 use Rattle.vt_later_laws.proofs.Steps.{passing, same_ok}

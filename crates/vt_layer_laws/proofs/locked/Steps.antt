@@ -15,10 +15,10 @@ use Rattle.vt_spec.specs.Machine.World.{Filesystem, Task, World, files_at, is_di
 use Rattle.vt_spec.specs.Machine.Invariants.{IsWorld}
 use Rattle.vt_spec.proofs.Nodes.{directory_used, none_is_not}
 use Rattle.vt_tree_laws.specs.Trees.Calls.{IsStanding}
-use Rattle.vt_tree_laws.proofs.TreesEntered.{chain_ends, found_all}
-use Rattle.vt_tree_laws.proofs.TreesOfMounts.{worlds_are_standing}
-use Rattle.vt_tree_laws.proofs.TreesOfWorlds.{numbered_all}
-use Rattle.vt_tree_laws.proofs.TreesWalked.{Ends, ends_step, not_true, ok_same}
+use Rattle.vt_tree_laws.proofs.trees.TreesEntered.{chain_ends, found_all}
+use Rattle.vt_tree_laws.proofs.trees.TreesOfMounts.{worlds_are_standing}
+use Rattle.vt_tree_laws.proofs.trees.TreesOfWorlds.{numbered_all}
+use Rattle.vt_tree_laws.proofs.trees.TreesWalked.{Ends, ends_step, not_true, ok_same}
 
 module _ (world : World ℕ) (conditions : IsWorld nat_eq world) where
   standing : IsStanding world

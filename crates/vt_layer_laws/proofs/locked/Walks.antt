@@ -17,7 +17,7 @@ use Rattle.vt_spec.specs.Language.Calls.{same_name}
 use Rattle.vt_spec.specs.Machine.Invariants.{IsWorld, is_located_well, stands_on_directories}
 use Rattle.vt_spec.proofs.Lists.{Among, among-flat_map, among-map, among_from_list_all}
 use Rattle.vt_spec.proofs.Nodes.{directory_used}
-use Rattle.vt_tree_laws.proofs.TreesWalked.{Ends, ends_next, ends_then, ends_unless, ok_same}
+use Rattle.vt_tree_laws.proofs.trees.TreesWalked.{Ends, ends_next, ends_then, ends_unless, ok_same}
 use Rattle.vt_layer_laws.proofs.locked.Steps.{word_there}
 use Rattle.vt_spec.proofs.Found.{found_among}
 use Rattle.vt_spec.proofs.Truths.{and_true_left, and_true_right}

@@ -20,7 +20,7 @@ use Rattle.vt_spec.specs.Machine.World.{Filesystem, Layer, Overlay, Task, World,
 use Rattle.vt_spec.specs.Machine.Invariants.{IsMerged, IsWorld, ListsNumbers, OverlayInvariants, TreeInvariants, has_fit_layers, is_fit_filesystem, is_plain_layer}
 use Rattle.vt_spec.specs.TreeLaws.{HasOwnParents, IsReached, IsTree}
 use Rattle.vt_spec.proofs.Lists
-use Rattle.vt_tree_laws.proofs.TreesWalked.{Passed, after_any, after_holds, judged_holds}
+use Rattle.vt_tree_laws.proofs.trees.TreesWalked.{Passed, after_any, after_holds, judged_holds}
 use Rattle.vt_layer_laws.specs.Layers.Mounted.{AreLayers}
 use Rattle.vt_layer_laws.specs.Layers.Mounting.{AreNewNumbers, MountingKeepsOverlays, MountingKeepsTrees, MountingMakesOverlay}
 use Rattle.vt_layer_laws.proofs.directories.Apart.{changed_stay_apart, from_no_pair, lowers_stay_apart, no_pair}

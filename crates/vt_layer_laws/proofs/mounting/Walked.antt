@@ -21,7 +21,7 @@ use Rattle.vt_spec.specs.Machine.Rules.Mounting.{layer_at}
 use Rattle.vt_spec.specs.Machine.Walk.{Stop, directory_walk, path_walked, walk_end}
 use Rattle.vt_spec.specs.Machine.World.{Layer, Overlay, Task, World, is_directory_at, is_removed_at, layers_of}
 use Rattle.vt_spec.specs.Machine.Invariants.{has_fit_layers, is_plain_layer}
-use Rattle.vt_tree_laws.proofs.TreesWalked.{Ends, Passed, ends_next, ends_then, ends_unless, not_true}
+use Rattle.vt_tree_laws.proofs.trees.TreesWalked.{Ends, Passed, ends_next, ends_then, ends_unless, not_true}
 use Rattle.vt_layer_laws.specs.Layers.NewOverlays.{NoneRefuses}
 use Rattle.vt_spec.specs.Errors.{Rules}
 use Rattle.vt_tree_laws.proofs.Given.{Gives, given_is}

@@ -20,7 +20,7 @@ use Rattle.vt_spec.specs.Machine.Policy.{call_outcome, filesystems_changed_by, f
 use Rattle.vt_spec.specs.Machine.Judge.{judge_in}
 use Rattle.vt_spec.specs.Machine.Walk.{Here, walk_end}
 use Rattle.vt_spec.specs.Machine.World.{Filesystem, Layer, Task, World, filesystem_numbered, no_filesystem, open_layer, shown_layers, task_called}
-use Rattle.vt_tree_laws.proofs.TreesWalked.{Passed}
+use Rattle.vt_tree_laws.proofs.trees.TreesWalked.{Passed}
 use Rattle.vt_layer_laws.specs.Layers.Mounted.{AreAsOthers, AreLayers, IsAlike}
 use Rattle.vt_layer_laws.specs.Layers.Mounting.{AreNewNumbers}
 use Rattle.vt_layer_laws.proofs.mounting.Kept.{mounting_makes_overlay}

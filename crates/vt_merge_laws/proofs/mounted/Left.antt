@@ -9,7 +9,7 @@ use Rattle.vt_spec.specs.Machine.Outcome.Mounting.{LayerPlaces, admin_rules, des
 use Rattle.vt_spec.specs.Machine.Outcomes.{granted}
 use Rattle.vt_spec.specs.Machine.Settled.{settled}
 use Rattle.vt_spec.specs.Machine.World.{Task, World, mount_at}
-use Rattle.vt_tree_laws.proofs.TreesWalked.{Passed, after_any, after_holds, judged_holds}
+use Rattle.vt_tree_laws.proofs.trees.TreesWalked.{Passed, after_any, after_holds, judged_holds}
 use Rattle.vt_layer_laws.specs.Layers.Mounting.{AreNewNumbers}
 use Rattle.vt_layer_laws.proofs.mounting.Kept.{mounting_keeps_overlays, mounting_keeps_trees}
 use Rattle.vt_layer_laws.proofs.mounting.Walked.{AreWalked, are_walked, has_layers, shown_plain}

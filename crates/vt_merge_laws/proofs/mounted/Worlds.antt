@@ -22,14 +22,14 @@ use Rattle.vt_spec.specs.Tree.{Node, is_directory_node}
 use Rattle.vt_spec.proofs.Lists.{Among, among-append, among-append_left, among-append_right, among-from_flat_map, among-from_map, none_from_among}
 use Rattle.vt_mount_laws.specs.Mounts.Attached.{IsAttachedAt}
 use Rattle.vt_mount_laws.specs.Mounts.Attaching.{is_mount}
-use Rattle.vt_mount_laws.proofs.AttachedKept.{new_mounts_keep_groups}
-use Rattle.vt_mount_laws.proofs.AttachedNowhere.{new_mounts_keep_nowhere}
-use Rattle.vt_mount_laws.proofs.BindsStand.{new_mounts_keep_numbers, new_mounts_keep_places, new_mounts_keep_standing}
+use Rattle.vt_mount_laws.proofs.attached.AttachedKept.{new_mounts_keep_groups}
+use Rattle.vt_mount_laws.proofs.attached.AttachedNowhere.{new_mounts_keep_nowhere}
+use Rattle.vt_mount_laws.proofs.attached.BindsStand.{new_mounts_keep_numbers, new_mounts_keep_places, new_mounts_keep_standing}
 use Rattle.vt_mount_laws.proofs.GroupsLiving.{all_live, tested_live}
-use Rattle.vt_mount_laws.proofs.MountsAttached.{supplied}
-use Rattle.vt_mount_laws.proofs.MovingRoots.{new_mounts_keep_root_mounts, new_mounts_stay_in_namespaces}
-use Rattle.vt_mount_laws.proofs.Topmost.{topmost_is_free}
-use Rattle.vt_tree_laws.proofs.TreesWalked.{after_ends, after_holds, judged_holds, not_true}
+use Rattle.vt_mount_laws.proofs.mounts.MountsAttached.{supplied}
+use Rattle.vt_mount_laws.proofs.moves.MovingRoots.{new_mounts_keep_root_mounts, new_mounts_stay_in_namespaces}
+use Rattle.vt_mount_laws.proofs.namespaces.Topmost.{topmost_is_free}
+use Rattle.vt_tree_laws.proofs.trees.TreesWalked.{after_ends, after_holds, judged_holds, not_true}
 use Rattle.vt_layer_laws.specs.Layers.Mounted.{AreLayers}
 use Rattle.vt_layer_laws.specs.Layers.Mounting.{AreNewNumbers}
 use Rattle.vt_layer_laws.proofs.directories.Fit.{new_overlay_is_tree}
@@ -37,15 +37,15 @@ use Rattle.vt_layer_laws.proofs.directories.Later.{not_found}
 use Rattle.vt_layer_laws.proofs.directories.Still.{find_new}
 use Rattle.vt_layer_laws.proofs.mounting.Walked.{are_walked, has_layers, shown_plain}
 use Rattle.vt_world_laws.specs.Worlds.Permits.{IsDestination, IsOwn}
-use Rattle.vt_world_laws.proofs.NamespacesListed.{are_namespaces, attached_stay, from_namespaces, namespaces_stay, same_tasks_stay}
-use Rattle.vt_world_laws.proofs.Placed.{all_are_placed, all_placed_after, locations_are_there, open_files_are_regular, tasks_stand_on_directories}
-use Rattle.vt_world_laws.proofs.Reached.{directory_found, is_reached_directory}
-use Rattle.vt_world_laws.proofs.ReachedPlaces.{IsTopmost, destination_walk_end}
-use Rattle.vt_world_laws.proofs.Seen.{KeepsWhatIsSeen, directory_after, node_in}
-use Rattle.vt_world_laws.proofs.SeenMounts.{added_seen, attached_seen, mounted_seen}
-use Rattle.vt_world_laws.proofs.SeenTrees.{unused_by_filesystem, unused_number}
-use Rattle.vt_world_laws.proofs.Shows.{AllShow, IsPlace, all_show_after, mounts_show, world_shows}
-use Rattle.vt_world_laws.proofs.ShowsAttached.{attached_show}
+use Rattle.vt_world_laws.proofs.kept.NamespacesListed.{are_namespaces, attached_stay, from_namespaces, namespaces_stay, same_tasks_stay}
+use Rattle.vt_world_laws.proofs.worlds.Placed.{all_are_placed, all_placed_after, locations_are_there, open_files_are_regular, tasks_stand_on_directories}
+use Rattle.vt_world_laws.proofs.worlds.Reached.{directory_found, is_reached_directory}
+use Rattle.vt_world_laws.proofs.worlds.ReachedPlaces.{IsTopmost, destination_walk_end}
+use Rattle.vt_world_laws.proofs.worlds.Seen.{KeepsWhatIsSeen, directory_after, node_in}
+use Rattle.vt_world_laws.proofs.worlds.SeenMounts.{added_seen, attached_seen, mounted_seen}
+use Rattle.vt_world_laws.proofs.worlds.SeenTrees.{unused_by_filesystem, unused_number}
+use Rattle.vt_world_laws.proofs.worlds.Shows.{AllShow, IsPlace, all_show_after, mounts_show, world_shows}
+use Rattle.vt_world_laws.proofs.worlds.ShowsAttached.{attached_show}
 use Rattle.vt_merge_laws.specs.MountedAnew.{MountingLeavesAWorld}
 use Rattle.vt_merge_laws.proofs.mounted.Left.{mounting_lets_nothing_go}
 use Rattle.vt_layer_laws.proofs.mounting.Kept.{mounting_keeps_overlays, mounting_keeps_trees}

@@ -22,15 +22,15 @@ use Rattle.vt_spec.specs.Machine.World.Real.{Below, Upper}
 use Rattle.vt_spec.specs.Tree.{is_directory_node}
 use Rattle.vt_spec.specs.TreeLaws.{IsReached}
 use Rattle.vt_spec.proofs.Lists.{all-map}
-use Rattle.vt_letting_go.proofs.InUse.{nothing_goes}
+use Rattle.vt_letting_go.proofs.sweeps.InUse.{nothing_goes}
 use Rattle.vt_letting_go.proofs.Lists.{any-map, flat_map-map}
 use Rattle.vt_world_laws.proofs.Raised.{FilesBy, counted, files_by, mounts_counted, namespaces_counted, roots_counted, same_files, tasks_counted, trees_counted}
 use Rattle.vt_world_laws.proofs.RaisedInUse.{in_use_later, namespace_if, number_if, numbers_raised_are, task_if}
 use Rattle.vt_merge_laws.specs.MountedAnew.{PolicyMountsAWorld, RaisingKeepsWorlds}
-use Rattle.vt_world_laws.proofs.CallsKept.{name_found}
+use Rattle.vt_world_laws.proofs.worlds.CallsKept.{name_found}
 use Rattle.vt_merge_laws.proofs.mounted.Left.{mounting_lets_nothing_go}
 use Rattle.vt_merge_laws.proofs.mounted.Worlds.{are_new, mounting_leaves_a_world}
-use Rattle.vt_letting_go.proofs.OfWorlds.{all_in_use}
+use Rattle.vt_letting_go.proofs.sweeps.OfWorlds.{all_in_use}
 
 -- What is asked of layers, by the files of each filesystem
 abbrev opened : FilesBy → Layer ℕ → OpenLayer ℕ

@@ -13,7 +13,7 @@ use Rattle.vt_spec.specs.Machine.Detach.{mounts_on, taken_away}
 use Rattle.vt_spec.specs.Machine.Mounts.{mount_tree}
 use Rattle.vt_spec.specs.Machine.Permits.{Permit}
 use Rattle.vt_spec.specs.Machine.Outcomes.{after}
-use Rattle.vt_laws.proofs.CallsJudged.{call_is_judged_then_applied}
+use Rattle.vt_laws.proofs.judged.CallsJudged.{call_is_judged_then_applied}
 use Rattle.vt_spec.specs.Machine.World.{Filesystem, Layer, Overlay, Task, World, filesystem_at, filesystem_numbered, mount_at, no_filesystem, with_filesystem}
 use Rattle.vt_spec.specs.Tree.{is_directory_node}
 use Rattle.vt_layer_laws.proofs.layers.LowersWorld.{filesystem_elsewhere, filesystem_there, number_of_filesystem}

@@ -14,7 +14,7 @@ use Rattle.vt_spec.specs.Machine.Invariants.{ListsNumbers, SameObject, number_at
 use Rattle.vt_spec.specs.Tree.{Content, Node, kind_of, node_with_bytes, with_bytes}
 use Rattle.vt_spec.specs.Tree.Content.{Directory, Regular, Symlink, Whiteout}
 use Rattle.vt_spec.specs.TreeLaws.{IsTree}
-use Rattle.vt_tree_laws.proofs.ChangesKeepTrees.{changes_keep_numbers, changes_keep_trees}
+use Rattle.vt_tree_laws.proofs.trees.ChangesKeepTrees.{changes_keep_numbers, changes_keep_trees}
 use Rattle.vt_layer_laws.specs.Layers.ChangesUpper.{StandsInUpper}
 use Rattle.vt_overlay_laws.specs.WhatIsShown.{AttrKeepsWhole, BytesKeepWhole, IsWhole, inode_behind, layers_under, real_seen}
 use Rattle.vt_layer_laws.proofs.views.After.{shown_elsewhere_stays}

@@ -20,7 +20,7 @@ use Rattle.vt_spec.specs.TreeLaws.{HasOwnParents, IsDirectory, IsReached, IsTree
 use Rattle.vt_spec.proofs.Nodes.{directory_used, node_other, node_set}
 use Rattle.vt_spec.proofs.Trees.{led-append}
 use Rattle.vt_tree_laws.specs.Trees.{MayMake}
-use Rattle.vt_tree_laws.proofs.ChangesKeepTrees.{changes_keep_trees, numbers_with_inode}
+use Rattle.vt_tree_laws.proofs.trees.ChangesKeepTrees.{changes_keep_trees, numbers_with_inode}
 use Rattle.vt_layer_laws.specs.Layers.ChangesUpper.{StandsInUpper}
 use Rattle.vt_layer_laws.specs.Layers.Mounted.{IsAlike}
 use Rattle.vt_layer_laws.specs.Layers.Views.{TakesName, goes_through, names_entry, view_in}

@@ -22,7 +22,7 @@ use Rattle.vt_layer_laws.proofs.layers.UpperChain.{depth_bound, up_at_root, up_f
 use Rattle.vt_layer_laws.proofs.layers.UpperLine.{ReachedIn, has_entries, is_reached_in, named_so, reached_directory}
 use Rattle.vt_overlay_laws.proofs.whole.UpperGoes.{Goes, goes_both, goes_none}
 use Rattle.vt_tree_laws.specs.Trees.Sizes.{is_fit_node, is_fit_tree}
-use Rattle.vt_tree_laws.proofs.ChangesOfSizes.{fits, inode_fits}
+use Rattle.vt_tree_laws.proofs.trees.ChangesOfSizes.{fits, inode_fits}
 use Rattle.vt_overlay_laws.proofs.whole.UpperSizes.{copy_fits_limits, fits_here, name_fits, name_sized}
 use Rattle.vt_overlay_laws.proofs.whole.UpperTold.{Told, told_both, told_inode, told_name, told_none}
 use Rattle.vt_overlay_laws.specs.WholeStays.{IsNewBy}

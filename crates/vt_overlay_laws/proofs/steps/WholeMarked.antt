@@ -15,7 +15,7 @@ use Rattle.vt_spec.specs.Machine.World.Real.{Below, Upper}
 use Rattle.vt_spec.specs.Machine.Invariants.{SameObject, number_at_path}
 use Rattle.vt_spec.specs.Tree.{Content, Node, is_directory_node}
 use Rattle.vt_spec.specs.Tree.Content.{Directory, Regular, Symlink, Whiteout}
-use Rattle.vt_tree_laws.proofs.ChangesKeepTrees.{changes_keep_trees}
+use Rattle.vt_tree_laws.proofs.trees.ChangesKeepTrees.{changes_keep_trees}
 use Rattle.vt_layer_laws.specs.Layers.ChangesUpper.{StandsInUpper}
 use Rattle.vt_layer_laws.specs.Layers.ShownAfter.{leads_over}
 use Rattle.vt_layer_laws.specs.Layers.Views.{view_in}

@@ -15,7 +15,7 @@ use Rattle.vt_spec.proofs.Lists.{Among, all_from_among, among-append, among-flat
 use Rattle.std.proofs.lemmas.List.Elements.{All-weaker}
 use Rattle.vt_tree_laws.specs.Trees.{IsFileTree}
 use Rattle.vt_tree_laws.specs.Trees.Sizes.{is_fit_tree}
-use Rattle.vt_tree_laws.proofs.TreesOfWorlds.{numbered_anyhow}
+use Rattle.vt_tree_laws.proofs.trees.TreesOfWorlds.{numbered_anyhow}
 use Rattle.vt_overlay_laws.proofs.whole.UpperLimits.{sizes_stay}
 use Rattle.vt_layer_laws.specs.Layers.Locked.{AreNoInodes}
 use Rattle.vt_layer_laws.proofs.locked.Apart.{layer_among, layer_plain, no_overlay_in, upper_in_layers}
@@ -333,7 +333,7 @@ module _ (fresh : Fresh ℕ) (world : World ℕ) (location : Location ℕ) (chan
       ⊎_elim (λ tree. tree)
       (λ missing. absurd (true≢false
       (sym d ∙ ap (λ (f : Filesystem ℕ). is_directory_node (f.files.tree.node directory)) missing.0)))
-      (Rattle.vt_tree_laws.proofs.TreesOfWorlds.numbered_all
+      (Rattle.vt_tree_laws.proofs.trees.TreesOfWorlds.numbered_all
       (λ (f : Filesystem ℕ). IsFileTree f.files) n world.filesystems
       (all_from_among (λ (f : Filesystem ℕ). IsFileTree f.files) world.filesystems was_tree))
 

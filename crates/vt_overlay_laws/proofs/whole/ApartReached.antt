@@ -14,7 +14,7 @@ use Rattle.vt_spec.specs.Tree.{Tree, entries_in, is_directory_node, parent_in}
 use Rattle.vt_spec.specs.TreeLaws.{HasName, HasOwnParents, IsDirectory, IsReached, IsTree, entry_at, led}
 use Rattle.vt_spec.proofs.Nodes.{directory_used}
 use Rattle.vt_spec.proofs.Trees.{led-append, reached_named}
-use Rattle.vt_tree_laws.proofs.TreesOfWorlds.{numbered_all}
+use Rattle.vt_tree_laws.proofs.trees.TreesOfWorlds.{numbered_all}
 use Rattle.vt_layer_laws.specs.Layers.Locked.{AreNoInodes}
 use Rattle.vt_layer_laws.proofs.locked.Apart.{object_counts}
 use Rattle.vt_layer_laws.proofs.locked.Paths.{layer_tree}

@@ -14,11 +14,11 @@ use Rattle.vt_spec.specs.TreeLaws.{HasName, HasOwnParents, IsDirectory, IsReache
 use Rattle.vt_spec.proofs.Nodes.{directory_used}
 use Rattle.vt_spec.proofs.Trees.{directory_kept, entry_kept, reached_named, used_differs}
 use Rattle.vt_tree_laws.specs.Trees.{IsProper, MayMake}
-use Rattle.vt_tree_laws.proofs.ChangesKeepTrees.{bytes_keep_place, changes_keep_numbers, changes_keep_own_parents, changes_keep_trees, made_alike, numbers_stay}
-use Rattle.vt_tree_laws.proofs.ChangesNodes.{KeepsPlace, attr_keeps_place, elsewhere, mark_keeps_place, part_stays, there}
-use Rattle.vt_tree_laws.proofs.ChangesOfNames.{Nobody, Nowhere, linked_rearranged, removed_rearranged, still_rearranged}
-use Rattle.vt_tree_laws.proofs.ChangesOfPlace.{moved_rearranged}
-use Rattle.vt_tree_laws.proofs.TreesRearranged.{IsRearranged, is_tree-rearranged, own_parent-rearranged}
+use Rattle.vt_tree_laws.proofs.trees.ChangesKeepTrees.{bytes_keep_place, changes_keep_numbers, changes_keep_own_parents, changes_keep_trees, made_alike, numbers_stay}
+use Rattle.vt_tree_laws.proofs.trees.ChangesNodes.{KeepsPlace, attr_keeps_place, elsewhere, mark_keeps_place, part_stays, there}
+use Rattle.vt_tree_laws.proofs.trees.ChangesOfNames.{Nobody, Nowhere, linked_rearranged, removed_rearranged, still_rearranged}
+use Rattle.vt_tree_laws.proofs.trees.ChangesOfPlace.{moved_rearranged}
+use Rattle.vt_tree_laws.proofs.trees.TreesRearranged.{IsRearranged, is_tree-rearranged, own_parent-rearranged}
 use Rattle.vt_layer_laws.proofs.layers.CopyingParts.{without_entries_keeps}
 use Rattle.vt_spec.proofs.NodeChanges.{entries-node_without_entries}
 use Rattle.vt_spec.proofs.Options.{none_is_some}

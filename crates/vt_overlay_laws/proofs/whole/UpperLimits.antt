@@ -7,7 +7,7 @@ use Rattle.vt_spec.specs.Machine.CopyUp.{Merge, Stack, copied_up, emptied, hides
 use Rattle.vt_spec.specs.Tree.{Node}
 use Rattle.vt_spec.proofs.Nodes.{directory_used}
 use Rattle.vt_tree_laws.specs.Trees.Sizes.{IsFitChange, is_fit_name, is_fit_node, is_fit_tree}
-use Rattle.vt_tree_laws.proofs.ChangesOfSizes.{changes_keep_sizes, inode_fits}
+use Rattle.vt_tree_laws.proofs.trees.ChangesOfSizes.{changes_keep_sizes, inode_fits}
 use Rattle.vt_layer_laws.specs.Layers.Upper.{IsThere}
 use Rattle.vt_layer_laws.proofs.layers.UpperLine.{has_entries}
 use Rattle.vt_overlay_laws.specs.WhatIsShown.{IsWhole}

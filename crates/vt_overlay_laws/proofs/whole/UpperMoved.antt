@@ -56,12 +56,12 @@ moved_twice files from old to new object r named =
     once = without_parent nat_eq files (Some r)
 
     there : (without_parent nat_eq files (Some r)).tree.node r ≡ node_with_parent r (files.tree.node r)
-    there = Rattle.vt_tree_laws.proofs.ChangesNodes.there files r (node_with_parent r)
+    there = Rattle.vt_tree_laws.proofs.trees.ChangesNodes.there files r (node_with_parent r)
 
     still : entry_at (without_parent nat_eq files (Some r)).tree to new ≡ Some r
     still =
         ap (entry_named new)
-        (Rattle.vt_tree_laws.proofs.ChangesNodes.part_stays files r (node_with_parent r) entries_in
+        (Rattle.vt_tree_laws.proofs.trees.ChangesNodes.part_stays files r (node_with_parent r) entries_in
         (Rattle.vt_spec.proofs.NodeChanges.entries-node_with_parent r) to)
         ∙ named
 

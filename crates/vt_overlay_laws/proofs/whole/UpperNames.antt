@@ -109,10 +109,10 @@ module _ (files : FileTree ℕ) (d : ℕ) (w : List ℕ)
   free = without_name nat_eq files d w
 
   there : free.tree.node d ≡ node_without_entry w (files.tree.node d)
-  there = Rattle.vt_tree_laws.proofs.ChangesNodes.there files d (node_without_entry w)
+  there = Rattle.vt_tree_laws.proofs.trees.ChangesNodes.there files d (node_without_entry w)
 
   elsewhere : (k : ℕ) → k ≢ d → free.tree.node k ≡ files.tree.node k
-  elsewhere k differ = Rattle.vt_tree_laws.proofs.ChangesNodes.elsewhere files d (node_without_entry w) k differ
+  elsewhere k differ = Rattle.vt_tree_laws.proofs.trees.ChangesNodes.elsewhere files d (node_without_entry w) k differ
 
   pub freed_named : (k : ℕ) → with_name nat_eq free d w k ≡ with_name nat_eq files d w k
   freed_named k =
@@ -154,7 +154,7 @@ pub without_name_free : (files : FileTree ℕ) (d : ℕ) (w : List ℕ)
     → entry_at (without_name nat_eq files d w).tree d w ≡ None
 without_name_free files d w =
     ap (entry_named w)
-    (ap entries_in (Rattle.vt_tree_laws.proofs.ChangesNodes.there files d (node_without_entry w))
+    (ap entries_in (Rattle.vt_tree_laws.proofs.trees.ChangesNodes.there files d (node_without_entry w))
     ∙ Rattle.vt_spec.proofs.NodeChanges.entries-node_without_entry w (files.tree.node d))
     ∙ entry_named-without_entry w w (entries_in (files.tree.node d))
     ∙ ap (λ b. cond (not b) (entry_named w (entries_in (files.tree.node d))) None) ((bytes_decides w w).1 refl)
@@ -206,12 +206,12 @@ module _ (top : ℕ) (files : FileTree ℕ) (good : IsGood top files) (d : ℕ) 
 
   pub freed_kind : (k : ℕ) → is_directory_node (freed.tree.node k) ≡ is_directory_node (files.tree.node k)
   freed_kind k =
-      Rattle.vt_tree_laws.proofs.ChangesNodes.part_stays files d (node_without_entry w) is_directory_node
+      Rattle.vt_tree_laws.proofs.trees.ChangesNodes.part_stays files d (node_without_entry w) is_directory_node
       (Rattle.vt_spec.proofs.NodeChanges.is_directory-node_without_entry w) k
 
   pub freed_used : (k : ℕ) → is_some (freed.tree.node k) ≡ is_some (files.tree.node k)
   freed_used k =
-      Rattle.vt_tree_laws.proofs.ChangesNodes.part_stays files d (node_without_entry w) is_some
+      Rattle.vt_tree_laws.proofs.trees.ChangesNodes.part_stays files d (node_without_entry w) is_some
       (Rattle.vt_spec.proofs.NodeChanges.is_some-node_without_entry w) k
 
   -- it is a removal, or nothing

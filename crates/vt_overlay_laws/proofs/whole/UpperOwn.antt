@@ -11,7 +11,7 @@ use Rattle.vt_spec.specs.TreeLaws.{led}
 use Rattle.vt_spec.proofs.Trees.{led-append}
 use Rattle.vt_spec.specs.Tree.Content.{Directory, Regular, Symlink, Whiteout}
 use Rattle.vt_spec.proofs.Nodes.{directory_used, entries-node_with_bytes}
-use Rattle.vt_tree_laws.proofs.ChangesNodes.{attr_keeps_place}
+use Rattle.vt_tree_laws.proofs.trees.ChangesNodes.{attr_keeps_place}
 use Rattle.vt_layer_laws.specs.Layers.ChangesUpper.{StandsInUpper}
 use Rattle.vt_layer_laws.specs.Layers.Upper.{IsThere}
 use Rattle.vt_layer_laws.proofs.layers.UpperLine.{has_entries, is_reached_in}

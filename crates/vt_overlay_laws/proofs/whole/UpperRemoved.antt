@@ -156,17 +156,17 @@ module _ (top : ℕ) (files : FileTree ℕ) (good : IsGood top files) (d : ℕ) 
     gone_vacant : gone.tree.node c ≡ None
     gone_vacant =
         none_from_not_some (gone.tree.node c)
-        (Rattle.vt_tree_laws.proofs.ChangesNodes.part_stays (without_name nat_eq emptied_first d w) r
+        (Rattle.vt_tree_laws.proofs.trees.ChangesNodes.part_stays (without_name nat_eq emptied_first d w) r
         (node_with_parent r) is_some
         (Rattle.vt_spec.proofs.NodeChanges.is_some-node_with_parent r) c
-        ∙ Rattle.vt_tree_laws.proofs.ChangesNodes.part_stays emptied_first d (node_without_entry w) is_some
+        ∙ Rattle.vt_tree_laws.proofs.trees.ChangesNodes.part_stays emptied_first d (node_without_entry w) is_some
         (Rattle.vt_spec.proofs.NodeChanges.is_some-node_without_entry w) c
         ∙ bare_used files r good.tree leaves c ∙ ap is_some vacant)
 
     gone_free : (k : ℕ) → entry_at gone.tree d w ≡ Some k → is_directory_node (gone.tree.node k) ≡ false
     gone_free k e =
         none_is_some k (sym (ap (entry_named w)
-        (Rattle.vt_tree_laws.proofs.ChangesNodes.part_stays (without_name nat_eq emptied_first d w) r
+        (Rattle.vt_tree_laws.proofs.trees.ChangesNodes.part_stays (without_name nat_eq emptied_first d w) r
         (node_with_parent r) entries_in
         (Rattle.vt_spec.proofs.NodeChanges.entries-node_with_parent r) d)
         ∙ Rattle.vt_overlay_laws.proofs.whole.UpperNames.without_name_free emptied_first d w) ∙ e)

@@ -15,7 +15,7 @@ use Rattle.vt_spec.specs.TreeLaws.{entry_at}
 use Rattle.vt_spec.proofs.Lists.{among_from_list_all, among_numbers}
 use Rattle.vt_spec.proofs.Nodes.{directory_used, same_name}
 use Rattle.vt_tree_laws.specs.Trees.Sizes.{is_fit_name, is_fit_node, is_fit_tree}
-use Rattle.vt_tree_laws.proofs.ChangesOfSizes.{changed_fits_there, changes_keep_sizes, fits, inode_fits, no_entry_fits, parent_fits}
+use Rattle.vt_tree_laws.proofs.trees.ChangesOfSizes.{changed_fits_there, changes_keep_sizes, fits, inode_fits, no_entry_fits, parent_fits}
 use Rattle.vt_layer_laws.proofs.layers.UpperLine.{has_entries}
 use Rattle.vt_spec.proofs.Options.{none_is_some}
 use Rattle.vt_spec.proofs.Truths.{and_true_left, and_true_right}

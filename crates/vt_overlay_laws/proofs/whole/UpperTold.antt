@@ -8,8 +8,8 @@ use Rattle.vt_spec.specs.Machine.CopyUp.{Stack, emptied, marked, name_left_by, w
 use Rattle.vt_spec.specs.Tree.{Node, entries_in, entries_of, entry_named, is_directory_node, node_with_entry}
 use Rattle.vt_spec.specs.TreeLaws.{entry_at}
 use Rattle.vt_spec.proofs.Nodes.{is_directory-node_with_entry, node_other, node_set}
-use Rattle.vt_tree_laws.proofs.ChangesNames.{given_told, untaken_told}
-use Rattle.vt_tree_laws.proofs.ChangesNodes.{elsewhere, there}
+use Rattle.vt_tree_laws.proofs.trees.ChangesNames.{given_told, untaken_told}
+use Rattle.vt_tree_laws.proofs.trees.ChangesNodes.{elsewhere, there}
 use Rattle.vt_layer_laws.proofs.views.Entries.{entries_stay}
 use Rattle.vt_spec.proofs.NodeChanges.{entries-node_with_mark, entries-node_with_parent, entries-node_without_entries, entries_in-no_directory}
 use Rattle.vt_spec.proofs.Options.{none_is_some}

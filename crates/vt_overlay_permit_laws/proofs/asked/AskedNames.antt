@@ -30,17 +30,17 @@ use Rattle.vt_spec.specs.Tree.{Node, entries_in, entry_named, is_directory_node,
 use Rattle.vt_spec.specs.Tree.Content.{Symlink, Whiteout}
 use Rattle.vt_spec.specs.TreeLaws.{HasOwnParents, IsTree}
 use Rattle.vt_tree_laws.specs.Trees.{IsFileTree, MayMake}
-use Rattle.vt_tree_laws.proofs.ChangesByLinks.{may_link}
-use Rattle.vt_tree_laws.proofs.ChangesByRemoving.{may_move, old_removable}
-use Rattle.vt_tree_laws.proofs.ChangesOfCalls.{place_is_free}
-use Rattle.vt_tree_laws.proofs.TreesOfWorlds.{new_at, numbered_all}
-use Rattle.vt_tree_laws.proofs.TreesWalked.{Ends, IsFilePlace, IsNewFilePlace, IsNewPlace, IsOldPlace, Passed, ends_anyhow, ends_file_walk, ends_new_leaf_walk, ends_new_walk, ends_old_leaf_walk, ends_old_walk, ends_then, ends_unless, file_named, place_is_file, place_named}
-use Rattle.vt_world_laws.proofs.CallsKept.{new_numbers}
-use Rattle.vt_world_laws.proofs.ReachedWalks.{Found, link_walk_found}
+use Rattle.vt_tree_laws.proofs.trees.ChangesByLinks.{may_link}
+use Rattle.vt_tree_laws.proofs.trees.ChangesByRemoving.{may_move, old_removable}
+use Rattle.vt_tree_laws.proofs.trees.ChangesOfCalls.{place_is_free}
+use Rattle.vt_tree_laws.proofs.trees.TreesOfWorlds.{new_at, numbered_all}
+use Rattle.vt_tree_laws.proofs.trees.TreesWalked.{Ends, IsFilePlace, IsNewFilePlace, IsNewPlace, IsOldPlace, Passed, ends_anyhow, ends_file_walk, ends_new_leaf_walk, ends_new_walk, ends_old_leaf_walk, ends_old_walk, ends_then, ends_unless, file_named, place_is_file, place_named}
+use Rattle.vt_world_laws.proofs.worlds.CallsKept.{new_numbers}
+use Rattle.vt_world_laws.proofs.worlds.ReachedWalks.{Found, link_walk_found}
 use Rattle.vt_tree_laws.specs.Trees.Sizes.{is_fit_node}
-use Rattle.vt_tree_laws.proofs.TreesSizes.{HasFitLast, IsFitWord, fit_file_walk, fit_name_of, fit_new_leaf_walk, fit_new_walk, no_longer}
-use Rattle.vt_tree_laws.proofs.TreesTasks.{both}
-use Rattle.vt_permit_laws.proofs.SeesGiven.{Gives, ends_both, gives_unless, gives_walk}
+use Rattle.vt_tree_laws.proofs.trees.TreesSizes.{HasFitLast, IsFitWord, fit_file_walk, fit_name_of, fit_new_leaf_walk, fit_new_walk, no_longer}
+use Rattle.vt_tree_laws.proofs.trees.TreesTasks.{both}
+use Rattle.vt_permit_laws.proofs.sees.SeesGiven.{Gives, ends_both, gives_unless, gives_walk}
 use Rattle.vt_overlay_permit_laws.specs.Asked.{AsksWellIf, change_asked}
 use Rattle.vt_spec.proofs.NodeChanges.{allowed_is_there, entries_in-no_directory, nil_from_not_some}
 use Rattle.vt_spec.proofs.Truths.{or_false_left}

@@ -1,7 +1,7 @@
 -- What each call asks for.
 use Rattle.std.proofs.Common.{false, length, sym, true≢false, le-leb, leb-true, ltb-false, not, ◌&&◌, ◌+◌, ◌++◌, take, drop, nat_le, nat_lt, arith, ◌≡◌, refl, ℕ, nat_eq, Bool, true, [], ◌∷◌, ◌||◌, ◌==◌, List, Option, Some, None, is_some, ok_or}
 use Rattle.std.specs.Prelude.{⊤}
-use Rattle.vt_permit_laws.proofs.SeesGiven.{found_there, gives_then, gives_unless, gives_walk}
+use Rattle.vt_permit_laws.proofs.sees.SeesGiven.{found_there, gives_then, gives_unless, gives_walk}
 use Rattle.vt_overlay_permit_laws.proofs.asked.AskedNames
 use Rattle.vt_overlay_permit_laws.proofs.asked.AskedNames.{link_asked, mkdir_asked, open_asked, rename_asked, rmdir_asked, symlink_asked, unlink_asked, whiteout_asked, write_asked}
 use Rattle.vt_overlay_permit_laws.specs.Asked.{AsksWellIf}
@@ -14,8 +14,8 @@ use Rattle.vt_spec.specs.Language.Limits.{largest_file}
 use Rattle.vt_spec.specs.Machine.Outcome.Descriptors.{overwritten, padded}
 use Rattle.vt_spec.specs.PathText.{is_empty}
 use Rattle.vt_spec.specs.Tree.Content.{Directory, Regular, Symlink, Whiteout}
-use Rattle.vt_tree_laws.proofs.ChangesOfSizes.{fits}
-use Rattle.vt_tree_laws.proofs.TreesOfWorlds.{numbered_anyhow}
+use Rattle.vt_tree_laws.proofs.trees.ChangesOfSizes.{fits}
+use Rattle.vt_tree_laws.proofs.trees.TreesOfWorlds.{numbered_anyhow}
 use Rattle.vt_overlay_laws.proofs.whole.UpperSizes.{fits_here}
 use Rattle.vt_spec.specs.declared.attributes.Attr.{Attr}
 use Rattle.vt_spec.specs.declared.errors.Rule.TheVariants.{K1, S2, S4}
@@ -44,8 +44,8 @@ use Rattle.vt_spec.specs.Machine.World.{Descriptor, Filesystem, Task, World, fil
 use Rattle.vt_spec.specs.Machine.Invariants.{IsWorld, ListsNumbers, has_regular_files_open, is_fit_filesystem}
 use Rattle.vt_spec.specs.Rights.{cap_sys_admin, cap_sys_chroot, owns}
 use Rattle.vt_spec.specs.Tree.{Content, Node, bytes_in}
-use Rattle.vt_tree_laws.proofs.TreesWalked.{ends_anyhow}
-use Rattle.vt_world_laws.proofs.ReachedWalks.{End, FoundDirectory, directory_walk_end, object_end, task_among}
+use Rattle.vt_tree_laws.proofs.trees.TreesWalked.{ends_anyhow}
+use Rattle.vt_world_laws.proofs.worlds.ReachedWalks.{End, FoundDirectory, directory_walk_end, object_end, task_among}
 use Rattle.vt_spec.proofs.Found.{found_among}
 use Rattle.vt_spec.proofs.NodeChanges.{file_is_there}
 use Rattle.vt_spec.proofs.Truths.{and_true_first}

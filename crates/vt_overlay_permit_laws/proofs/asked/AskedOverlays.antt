@@ -11,7 +11,7 @@ use Rattle.vt_spec.specs.Machine.Mounts.{Location}
 use Rattle.vt_spec.specs.Machine.World.{Layer, Overlay, World, files_at, filesystem_at, is_overlay, open_layer}
 use Rattle.vt_tree_laws.specs.Trees.{IsProper}
 use Rattle.vt_overlay_laws.specs.WholeChanges.{IsAskedWell}
-use Rattle.vt_permit_laws.proofs.SeesGiven.{given_is}
+use Rattle.vt_permit_laws.proofs.sees.SeesGiven.{given_is}
 use Rattle.vt_overlay_permit_laws.specs.Asked.{AsksWell, AsksWellIf, PermitsAskOverlaysWell, PermitsAskProperly, PermitsAskWell}
 use Rattle.vt_overlay_permit_laws.proofs.asked.AskedNames
 use Rattle.vt_overlay_permit_laws.proofs.asked.AskedOthers.{call_asked}

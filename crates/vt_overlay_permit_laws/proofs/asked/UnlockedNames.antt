@@ -22,15 +22,15 @@ use Rattle.vt_spec.specs.Machine.Walk.{Place, is_special, name_of}
 use Rattle.vt_spec.specs.Machine.Walking.{file_walk, is_directory_there, new_leaf_walk, new_walk, object_walk, old_leaf_walk, old_walk, symlink_walk}
 use Rattle.vt_spec.specs.Machine.World.{Task, World, files_at, mount_at, task_called}
 use Rattle.vt_spec.specs.Tree.{Node}
-use Rattle.vt_tree_laws.proofs.TreesWalked.{Ends, IsNewPlace, IsOldPlace, ends_anyhow, ends_new_walk, ends_old_leaf_walk, ends_old_walk, ends_then, ends_unless, place_named}
-use Rattle.vt_permit_laws.proofs.SeesGiven.{Gives, gives_unless, gives_walk}
+use Rattle.vt_tree_laws.proofs.trees.TreesWalked.{Ends, IsNewPlace, IsOldPlace, ends_anyhow, ends_new_walk, ends_old_leaf_walk, ends_old_walk, ends_then, ends_unless, place_named}
+use Rattle.vt_permit_laws.proofs.sees.SeesGiven.{Gives, gives_unless, gives_walk}
 use Rattle.vt_overlay_permit_laws.specs.Asked.{change_asked}
 use Rattle.std.proofs.Common.{◌≢◌, ◌||◌}
 use Rattle.std.specs.List.{list_any}
 use Rattle.vt_spec.specs.Language.Changes.{Change}
 use Rattle.vt_spec.specs.Machine.Locked.{is_locked, is_locked_at}
 use Rattle.vt_spec.specs.TreeLaws.{entry_at}
-use Rattle.vt_tree_laws.proofs.TreesWalked.{not_true}
+use Rattle.vt_tree_laws.proofs.trees.TreesWalked.{not_true}
 use Rattle.vt_overlay_permit_laws.proofs.asked.AskedNames.{through}
 use Rattle.vt_overlay_permit_laws.specs.Unlocked.{SparesLockedIf}
 use Rattle.vt_spec.proofs.Truths.{or_false_left, or_false_right}

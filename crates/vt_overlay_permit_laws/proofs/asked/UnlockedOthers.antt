@@ -1,7 +1,7 @@
 -- What each call asks for spares what is locked.
 use Rattle.std.proofs.Common.{false, ◌≡◌, refl, ℕ, nat_eq, Bool, true, [], ◌∷◌, ◌||◌, List, Option, Some, None, ok_or}
 use Rattle.std.specs.Prelude.{⊤}
-use Rattle.vt_permit_laws.proofs.SeesGiven.{given_is, gives_then, gives_unless, gives_walk}
+use Rattle.vt_permit_laws.proofs.sees.SeesGiven.{given_is, gives_then, gives_unless, gives_walk}
 use Rattle.vt_overlay_permit_laws.proofs.asked.UnlockedNames
 use Rattle.vt_overlay_permit_laws.proofs.asked.UnlockedNames.{differs, link_spared, mkdir_spared, open_spared, rename_spared, rmdir_spared, symlink_spared, unlink_spared, whiteout_spared, write_spared}
 use Rattle.vt_overlay_permit_laws.specs.Unlocked.{PermitsSpareWhatIsLocked, SparesLockedIf}
@@ -34,8 +34,8 @@ use Rattle.vt_spec.specs.Machine.Walking.{directory_walk, object_walk, symlink_w
 use Rattle.vt_spec.specs.Machine.World.{Task, World, task_called}
 use Rattle.vt_spec.specs.Machine.Invariants.{IsWorld}
 use Rattle.vt_spec.specs.Rights.{cap_sys_admin, cap_sys_chroot, owns}
-use Rattle.vt_tree_laws.proofs.TreesWalked.{ends_anyhow}
-use Rattle.vt_world_laws.proofs.ReachedWalks.{End, FoundDirectory, directory_walk_end, object_end}
+use Rattle.vt_tree_laws.proofs.trees.TreesWalked.{ends_anyhow}
+use Rattle.vt_world_laws.proofs.worlds.ReachedWalks.{End, FoundDirectory, directory_walk_end, object_end}
 
 module _ (world : World ℕ) (whole : IsWorld nat_eq world) (task : Task ℕ)
     (called : task_called world task.name ≡ Some task)

@@ -10,8 +10,8 @@ use Rattle.vt_spec.specs.Machine.Permits.{Permit}
 use Rattle.vt_spec.specs.Machine.Permits.Permit.{Allowed, ToBind, ToChange, ToClose, ToEnterNamespace, ToExit, ToFork, ToList, ToListMounts, ToMake, ToMountOverlay, ToMountPlain, ToMove, ToOpen, ToOpenNew, ToPivot, ToRead, ToReadPart, ToRemoveDirectory, ToRename, ToSetCredentials, ToSetDirectory, ToSetFlags, ToSetRoot, ToSetType, ToSetUmask, ToStat, ToUnmount, ToUnmountLazily, ToUnshare, ToWritePart}
 use Rattle.vt_spec.specs.Machine.Run.{Serves}
 use Rattle.vt_spec.specs.Machine.World.{Filesystem, World, mount_at}
-use Rattle.vt_tree_laws.proofs.ChangesKeepTrees.{changes_keep_numbers, changes_keep_trees}
-use Rattle.vt_tree_laws.proofs.TreesOfWorlds.{numbered_anyhow}
+use Rattle.vt_tree_laws.proofs.trees.ChangesKeepTrees.{changes_keep_numbers, changes_keep_trees}
+use Rattle.vt_tree_laws.proofs.trees.TreesOfWorlds.{numbered_anyhow}
 use Rattle.vt_layer_laws.specs.Layers.Untouched.{inode_in}
 use Rattle.vt_layer_laws.proofs.layers.UpperWorld.{overlay_numbers, overlay_tree}
 use Rattle.vt_overlay_laws.specs.WholeChanges.{IsAskedWell}
@@ -19,7 +19,7 @@ use Rattle.vt_overlay_laws.proofs.whole.UpperWhole.{change_goes, proper}
 use Rattle.vt_overlay_laws.proofs.changes.WholeWorlds.{overlays_are_whole}
 use Rattle.vt_letting_go.specs.FileChanges.{MayChange}
 use Rattle.vt_overlays_let_go.specs.OverlayChanges.{NameIsThere}
-use Rattle.vt_world_laws.proofs.CallsKept.{new_numbers}
+use Rattle.vt_world_laws.proofs.worlds.CallsKept.{new_numbers}
 use Rattle.vt_overlay_permit_laws.specs.Changed.{AskedChangesCanBeMade, PermitsCanChange, numbers_left}
 use Rattle.vt_overlay_permit_laws.proofs.asked.AskedOverlays.{permits_ask_overlays_well}
 

@@ -21,8 +21,8 @@ use Rattle.vt_spec.specs.Machine.World.{Task, World, files_at, filesystem_at, fi
 use Rattle.vt_spec.proofs.Lists.{Among, among-append_left, any_from_among, among_from_contains}
 use Rattle.vt_spec.proofs.Nodes.{directory_used}
 use Rattle.vt_laws.specs.Given.{IsFor}
-use Rattle.vt_laws.proofs.CallsJudged.{call_is_judged_then_applied}
-use Rattle.vt_laws.proofs.GivenPermits.{permits_are_for_their_calls}
+use Rattle.vt_laws.proofs.judged.CallsJudged.{call_is_judged_then_applied}
+use Rattle.vt_laws.proofs.given.GivenPermits.{permits_are_for_their_calls}
 use Rattle.vt_layer_laws.specs.Layers.Locked.{GoesThrough}
 use Rattle.vt_layer_laws.specs.Layers.Untouched.{changes_no_mount, inodes_changed}
 use Rattle.vt_layer_laws.specs.Layers.Upper.{SpeaksOfWhatIsThere}

@@ -25,8 +25,8 @@ use Rattle.vt_layer_laws.proofs.layers.LowersCalls.{same_filesystem}
 use Rattle.vt_merge_laws.proofs.mounted.Again.{files_raised}
 use Rattle.vt_merge_laws.proofs.mounted.Worlds.{mounting_leaves_a_world}
 use Rattle.vt_world_laws.specs.Worlds.Kept.{IsUnderWay}
-use Rattle.vt_world_laws.proofs.CallsKept.{name_found}
-use Rattle.vt_world_laws.proofs.SettledTasks.{trees_under_way}
+use Rattle.vt_world_laws.proofs.worlds.CallsKept.{name_found}
+use Rattle.vt_world_laws.proofs.settling.SettledTasks.{trees_under_way}
 use Rattle.vt_overlay_permit_laws.specs.Asked.{change_asked}
 use Rattle.vt_overlay_permit_laws.specs.LockedOverScripts.{is_live}
 use Rattle.vt_overlay_permit_laws.specs.Through.{EveryCallLeavesOtherLayers}

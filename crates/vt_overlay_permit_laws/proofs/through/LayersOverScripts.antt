@@ -10,9 +10,9 @@ use Rattle.vt_spec.specs.Lists.{Fresh}
 use Rattle.vt_spec.specs.Machine.Invariants.{IsWorld}
 use Rattle.vt_spec.specs.Machine.Run.{Serves, line_step, line_step_by, requested, step_world}
 use Rattle.vt_spec.specs.Machine.World.{Layer, Overlay, World, filesystem_numbered, layers_of, opening}
-use Rattle.vt_laws.proofs.Unchanged.{directive_changes_nothing, refused_memory_changes_nothing}
-use Rattle.vt_world_laws.proofs.OpeningWorld.{opening_is_a_world}
-use Rattle.vt_world_laws.proofs.WordsFew.{lines_name_few, request_names_few}
+use Rattle.vt_laws.proofs.denials.Unchanged.{directive_changes_nothing, refused_memory_changes_nothing}
+use Rattle.vt_world_laws.proofs.opening.OpeningWorld.{opening_is_a_world}
+use Rattle.vt_world_laws.proofs.worlds.WordsFew.{lines_name_few, request_names_few}
 use Rattle.vt_overlay_permit_laws.specs.LockedOverScripts.{is_live}
 use Rattle.vt_overlay_permit_laws.specs.Through.{ChangesNothingThrough, LayersStay, LayersStayOverScripts, LeadsApart}
 use Rattle.vt_overlay_permit_laws.proofs.worlds.EveryScript.{line_keeps, lines_keep}

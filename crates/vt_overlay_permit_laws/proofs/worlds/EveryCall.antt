@@ -21,23 +21,23 @@ use Rattle.vt_spec.specs.Machine.Policy.{call_outcome, finished_by, policy}
 use Rattle.vt_spec.specs.Machine.Run.{Serves}
 use Rattle.vt_spec.specs.Machine.Settled.{settled}
 use Rattle.vt_spec.specs.Machine.World.{Filesystem, Layer, Overlay, Task, World, filesystem_at, mount_numbered, task_called, without_task}
-use Rattle.vt_laws.proofs.CallsJudged.{call_is_judged_then_applied}
+use Rattle.vt_laws.proofs.judged.CallsJudged.{call_is_judged_then_applied}
 use Rattle.vt_letting_go.proofs.Lists.{all_from_among, passes}
-use Rattle.vt_mount_laws.proofs.MountsRetyped.{types_are_of_mounts}
-use Rattle.vt_mount_laws.proofs.UnmountingEnds.{lazy_is_of_mounts}
+use Rattle.vt_mount_laws.proofs.mounts.MountsRetyped.{types_are_of_mounts}
+use Rattle.vt_mount_laws.proofs.ends.UnmountingEnds.{lazy_is_of_mounts}
 use Rattle.vt_tree_laws.specs.Trees.Calls.{mounts_overlay}
 use Rattle.vt_tree_laws.specs.Trees.Limits.{names_few_groups}
-use Rattle.vt_tree_laws.proofs.TreesEntered.{found_all}
-use Rattle.vt_tree_laws.proofs.TreesLimits.{outcome_small}
+use Rattle.vt_tree_laws.proofs.trees.TreesEntered.{found_all}
+use Rattle.vt_tree_laws.proofs.trees.TreesLimits.{outcome_small}
 use Rattle.vt_world_laws.specs.Worlds.Kept.{IsUnderWay, MountsShow}
 use Rattle.vt_world_laws.specs.Worlds.Permits.{IsFitPermit, NamesWhatIsThere}
 use Rattle.vt_world_laws.specs.Worlds.Tasks.{LocationsAreThere, OneTaskAName, OpenFilesAreRegular, TasksStandOnDirectories}
-use Rattle.vt_world_laws.proofs.FitPermitsNamed.{all_permits_fit}
-use Rattle.vt_world_laws.proofs.MountsKept.{all_mounts_kept}
-use Rattle.vt_world_laws.proofs.NamespacesKept.{all_namespaces_kept}
-use Rattle.vt_world_laws.proofs.PermitsNamed.{all_permits_keep_counting_forks, all_permits_keep_names}
-use Rattle.vt_world_laws.proofs.PermitsPlaced.{HasLayerToWrite, directories_stay, locations_stay, open_files_stay}
-use Rattle.vt_world_laws.proofs.PermitsShow.{all_permits_keep_mounts_showing}
+use Rattle.vt_world_laws.proofs.worlds.FitPermitsNamed.{all_permits_fit}
+use Rattle.vt_world_laws.proofs.kept.MountsKept.{all_mounts_kept}
+use Rattle.vt_world_laws.proofs.kept.NamespacesKept.{all_namespaces_kept}
+use Rattle.vt_world_laws.proofs.worlds.PermitsNamed.{all_permits_keep_counting_forks, all_permits_keep_names}
+use Rattle.vt_world_laws.proofs.worlds.PermitsPlaced.{HasLayerToWrite, directories_stay, locations_stay, open_files_stay}
+use Rattle.vt_world_laws.proofs.worlds.PermitsShow.{all_permits_keep_mounts_showing}
 use Rattle.vt_merge_laws.proofs.mounted.WorldsRaised.{policy_mounts_a_world, raising_keeps_worlds}
 use Rattle.vt_overlay_permit_laws.specs.Asked.{change_asked}
 use Rattle.vt_overlay_permit_laws.specs.Changed.{numbers_left}

@@ -8,10 +8,10 @@ use Rattle.vt_spec.specs.Language.Limits.{longest_line}
 use Rattle.vt_spec.specs.Language.Script.Request.{Asking, Calling}
 use Rattle.vt_spec.specs.Machine.World.{World, opening}
 use Rattle.vt_spec.specs.Machine.Invariants.{IsWorld}
-use Rattle.vt_laws.proofs.Unchanged.{directive_changes_nothing, refused_memory_changes_nothing}
+use Rattle.vt_laws.proofs.denials.Unchanged.{directive_changes_nothing, refused_memory_changes_nothing}
 use Rattle.vt_world_laws.specs.Worlds.Calls.{LeadsTo}
-use Rattle.vt_world_laws.proofs.OpeningWorld.{opening_is_a_world}
-use Rattle.vt_world_laws.proofs.WordsFew.{lines_name_few, request_names_few}
+use Rattle.vt_world_laws.proofs.opening.OpeningWorld.{opening_is_a_world}
+use Rattle.vt_world_laws.proofs.worlds.WordsFew.{lines_name_few, request_names_few}
 use Rattle.vt_overlay_permit_laws.specs.EveryWorld.{EveryScriptLeadsToWorlds}
 use Rattle.vt_overlay_permit_laws.proofs.worlds.EveryCall.{every_call_keeps_worlds}
 

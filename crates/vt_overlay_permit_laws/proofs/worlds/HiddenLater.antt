@@ -20,7 +20,7 @@ use Rattle.vt_spec.specs.Machine.Settled.{settled}
 use Rattle.vt_spec.specs.Machine.World.{Filesystem, Layer, Overlay, Task, World, filesystem_at, filesystem_numbered, layers_of, mount_at, open_layer, opening, shown_layers, task_called}
 use Rattle.vt_spec.specs.Tree.{Tree}
 use Rattle.vt_spec.proofs.Lists.{Among, contains_from_among}
-use Rattle.vt_laws.proofs.Unchanged.{directive_changes_nothing, refused_memory_changes_nothing}
+use Rattle.vt_laws.proofs.denials.Unchanged.{directive_changes_nothing, refused_memory_changes_nothing}
 use Rattle.vt_tree_laws.specs.Trees.Calls.{mounts_overlay}
 use Rattle.vt_tree_laws.specs.Trees.Limits.{names_few_groups}
 use Rattle.vt_layer_laws.specs.Layers.Locked.{AreNoInodes, LeadsAsBefore}
@@ -34,9 +34,9 @@ use Rattle.vt_overlay_laws.proofs.changes.WholeHidden.{hidden_stays_hidden}
 use Rattle.vt_overlay_laws.proofs.changes.WholeLater
 use Rattle.vt_overlay_laws.proofs.changes.WholeWorlds.{overlays_are_whole}
 use Rattle.vt_merge_laws.proofs.mounted.Again.{files_raised}
-use Rattle.vt_world_laws.proofs.CallsKept.{name_found}
-use Rattle.vt_world_laws.proofs.OpeningWorld.{opening_is_a_world}
-use Rattle.vt_world_laws.proofs.WordsFew.{lines_name_few, request_names_few}
+use Rattle.vt_world_laws.proofs.worlds.CallsKept.{name_found}
+use Rattle.vt_world_laws.proofs.opening.OpeningWorld.{opening_is_a_world}
+use Rattle.vt_world_laws.proofs.worlds.WordsFew.{lines_name_few, request_names_few}
 use Rattle.vt_overlay_permit_laws.specs.Asked.{change_asked}
 use Rattle.vt_overlay_permit_laws.specs.Changed.{numbers_left}
 use Rattle.vt_overlay_permit_laws.specs.HiddenOverScripts.{EveryCallUncoversNothing, HiddenOverScripts, UncoversNothing, is_lower, shown_in}

@@ -27,9 +27,9 @@ use Rattle.vt_spec.specs.TreeLaws.{led}
 use Rattle.vt_spec.proofs.Lists.{Among, among-from_filter, among_from_contains, any_among, contains_from_among}
 use Rattle.vt_spec.proofs.Nodes.{directory_used}
 use Rattle.vt_laws.specs.Given.{IsFor, makes_a_name}
-use Rattle.vt_laws.proofs.CallsJudged.{call_is_judged_then_applied}
-use Rattle.vt_laws.proofs.GivenPermits.{permits_are_for_their_calls}
-use Rattle.vt_letting_go.proofs.OfWorlds.{found_filesystem}
+use Rattle.vt_laws.proofs.judged.CallsJudged.{call_is_judged_then_applied}
+use Rattle.vt_laws.proofs.given.GivenPermits.{permits_are_for_their_calls}
+use Rattle.vt_letting_go.proofs.sweeps.OfWorlds.{found_filesystem}
 use Rattle.vt_tree_laws.specs.Trees.Calls.{mounts_overlay}
 use Rattle.vt_tree_laws.specs.Trees.Limits.{names_few_groups}
 use Rattle.vt_layer_laws.specs.Layers.Locked.{LeadsAsBefore}
@@ -40,7 +40,7 @@ use Rattle.vt_layer_laws.proofs.layers.LowersCalls.{same_filesystem}
 use Rattle.vt_layer_laws.proofs.layers.UpperWorld.{overlay_found}
 use Rattle.vt_merge_laws.proofs.mounted.Worlds.{mounting_leaves_a_world}
 use Rattle.vt_overlay_laws.proofs.whole.ApartPaths.{under_led}
-use Rattle.vt_world_laws.proofs.SeenTrees.{unused_inode}
+use Rattle.vt_world_laws.proofs.worlds.SeenTrees.{unused_inode}
 use Rattle.vt_overlay_permit_laws.specs.Asked.{change_asked}
 use Rattle.vt_overlay_permit_laws.specs.Changed.{numbers_left}
 use Rattle.vt_overlay_permit_laws.specs.LockedOverScripts.{EveryCallLeavesLowers, LowersStay, is_live}

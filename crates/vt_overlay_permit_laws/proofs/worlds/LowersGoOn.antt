@@ -20,7 +20,7 @@ use Rattle.vt_layer_laws.proofs.layers.LowersKept.{kept_both, kept_same}
 use Rattle.vt_layer_laws.proofs.layers.LowersWorld.{filesystem_elsewhere, filesystem_there, number_of_filesystem}
 use Rattle.vt_merge_laws.proofs.mounted.Again.{files_raised}
 use Rattle.vt_world_laws.specs.Worlds.Kept.{IsUnderWay}
-use Rattle.vt_world_laws.proofs.SettledTasks.{trees_under_way}
+use Rattle.vt_world_laws.proofs.settling.SettledTasks.{trees_under_way}
 use Rattle.vt_overlay_permit_laws.proofs.worlds.OverlaysGoOn.{GoesOn}
 use Rattle.vt_overlay_permit_laws.proofs.worlds.SweptInodes.{file_trees_are, files_later, first_goes, one_later, second_goes}
 use Rattle.vt_overlay_permit_laws.proofs.worlds.SweptOverlays.{living_goes}

@@ -8,10 +8,10 @@ use Rattle.vt_spec.specs.Language.Script.{Grammar, Request, is_silent, request_o
 use Rattle.vt_spec.specs.Language.Limits.{longest_line}
 use Rattle.vt_spec.specs.Language.Script.Request.{Asking, Calling}
 use Rattle.vt_spec.specs.Machine.World.{Layer, Overlay, World, filesystem_numbered, opening}
-use Rattle.vt_laws.proofs.Unchanged.{directive_changes_nothing, refused_memory_changes_nothing}
+use Rattle.vt_laws.proofs.denials.Unchanged.{directive_changes_nothing, refused_memory_changes_nothing}
 use Rattle.vt_layer_laws.proofs.layers.LowersKept.{kept_both}
-use Rattle.vt_world_laws.proofs.OpeningWorld.{opening_is_a_world}
-use Rattle.vt_world_laws.proofs.WordsFew.{lines_name_few, request_names_few}
+use Rattle.vt_world_laws.proofs.opening.OpeningWorld.{opening_is_a_world}
+use Rattle.vt_world_laws.proofs.worlds.WordsFew.{lines_name_few, request_names_few}
 use Rattle.vt_overlay_permit_laws.specs.LockedOverScripts.{LeadsLive, LowersStay, LowersStayOverScripts, is_live}
 use Rattle.vt_overlay_permit_laws.proofs.worlds.EveryScript.{line_keeps, lines_keep}
 use Rattle.vt_overlay_permit_laws.proofs.worlds.LowersAfterCalls.{every_call_leaves_lowers, lowers_stay}

@@ -14,13 +14,13 @@ use Rattle.vt_spec.specs.Tree.{new_directory}
 use Rattle.vt_spec.specs.TreeLaws.{HasOwnParents, IsReached, IsTree}
 use Rattle.vt_spec.proofs.Lists.{Among}
 use Rattle.vt_spec.proofs.Nodes.{directory_used}
-use Rattle.vt_tree_laws.proofs.ChangesByCalls.{new_tree_is}
-use Rattle.vt_tree_laws.proofs.ChangesOfSizes.{fits}
-use Rattle.vt_tree_laws.proofs.TreesTasks.{all_appended, both}
+use Rattle.vt_tree_laws.proofs.trees.ChangesByCalls.{new_tree_is}
+use Rattle.vt_tree_laws.proofs.trees.ChangesOfSizes.{fits}
+use Rattle.vt_tree_laws.proofs.trees.TreesTasks.{all_appended, both}
 use Rattle.vt_layer_laws.proofs.layers.LowersKept.{kept_same}
 use Rattle.vt_overlay_laws.proofs.changes.WholeOthers.{stays_merged}
-use Rattle.vt_world_laws.proofs.PermitsFilesystems.{appended_apart}
-use Rattle.vt_world_laws.proofs.SeenTrees.{unused_by_filesystem}
+use Rattle.vt_world_laws.proofs.worlds.PermitsFilesystems.{appended_apart}
+use Rattle.vt_world_laws.proofs.worlds.SeenTrees.{unused_by_filesystem}
 use Rattle.vt_overlay_permit_laws.proofs.worlds.OverlaysGoOn.{GoesOn, are_trees, overlays_go_on, plain_layer}
 use Rattle.vt_overlay_permit_laws.proofs.worlds.SweptOverlays.{leads_same, shown_among, upper_among}
 use Rattle.vt_spec.proofs.Options.{none_is_some}

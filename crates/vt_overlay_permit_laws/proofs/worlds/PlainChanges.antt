@@ -16,10 +16,10 @@ use Rattle.vt_spec.proofs.Lists.{Among, all_from_among, among-append, among-appe
 use Rattle.std.proofs.lemmas.List.Elements.{All-weaker}
 use Rattle.vt_tree_laws.specs.Trees.{IsFileTree, IsProper}
 use Rattle.vt_tree_laws.specs.Trees.Sizes.{IsFitChange}
-use Rattle.vt_tree_laws.proofs.ChangesKeepTrees.{changes_keep_numbers, changes_keep_own_parents, changes_keep_trees}
-use Rattle.vt_tree_laws.proofs.ChangesOfSizes.{changes_keep_sizes}
-use Rattle.vt_tree_laws.proofs.TreesOfWorlds.{numbered_all, replaced_all}
-use Rattle.vt_letting_go.proofs.OfWorlds.{found_filesystem}
+use Rattle.vt_tree_laws.proofs.trees.ChangesKeepTrees.{changes_keep_numbers, changes_keep_own_parents, changes_keep_trees}
+use Rattle.vt_tree_laws.proofs.trees.ChangesOfSizes.{changes_keep_sizes}
+use Rattle.vt_tree_laws.proofs.trees.TreesOfWorlds.{numbered_all, replaced_all}
+use Rattle.vt_letting_go.proofs.sweeps.OfWorlds.{found_filesystem}
 use Rattle.vt_layer_laws.specs.Layers.Locked.{LeadsAsBefore}
 use Rattle.vt_layer_laws.specs.Layers.Untouched.{IsKept, inode_in, inodes_changed}
 use Rattle.vt_layer_laws.specs.Layers.Upper.{IsUpperObject}

@@ -15,10 +15,10 @@ use Rattle.vt_spec.specs.Machine.Outcomes.{Outcome, after}
 use Rattle.vt_spec.specs.Machine.Permits.{Permit}
 use Rattle.vt_spec.specs.Machine.Policy.{call_outcome, filesystems_changed_by, finished, finished_by, only_looks, policy}
 use Rattle.vt_spec.specs.Machine.World.{Task, World, task_called}
-use Rattle.vt_laws.proofs.CallsJudged.{call_is_judged_then_applied}
-use Rattle.vt_laws.proofs.OwnRules.{denial_changes_nothing}
-use Rattle.vt_laws.proofs.Unchanged.{look_changes_nothing}
-use Rattle.vt_world_laws.proofs.CallsKept.{name_found}
+use Rattle.vt_laws.proofs.judged.CallsJudged.{call_is_judged_then_applied}
+use Rattle.vt_laws.proofs.rules.OwnRules.{denial_changes_nothing}
+use Rattle.vt_laws.proofs.denials.Unchanged.{look_changes_nothing}
+use Rattle.vt_world_laws.proofs.worlds.CallsKept.{name_found}
 
 module _ (Holds : World ℕ → Type 0) (world : World ℕ) (fresh : Fresh ℕ) (name : TaskName) (call : Call)
     (is : Holds world) where

@@ -13,7 +13,7 @@ use Rattle.vt_spec.specs.TreeLaws.{IsReached, IsTree}
 use Rattle.vt_spec.proofs.Lists.{Among, among-append, among-append_left, among-append_right, among-filter, among-from_filter, any_among, any_from_among, pair-filter}
 use Rattle.std.proofs.lemmas.List.Elements.{All-filter}
 use Rattle.vt_letting_go.proofs.Lists.{or_second}
-use Rattle.vt_letting_go.proofs.OfWorlds.{found_filesystem}
+use Rattle.vt_letting_go.proofs.sweeps.OfWorlds.{found_filesystem}
 use Rattle.vt_layer_laws.specs.Layers.Locked.{LeadsAsBefore}
 use Rattle.vt_layer_laws.specs.Layers.Untouched.{inode_in}
 use Rattle.vt_layer_laws.proofs.locked.Apart.{found_among}

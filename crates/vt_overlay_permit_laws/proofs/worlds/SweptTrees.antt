@@ -9,7 +9,7 @@ use Rattle.vt_spec.specs.TreeLaws.{IsReached, entry_at, led}
 use Rattle.vt_spec.proofs.Trees.{found}
 use Rattle.vt_tree_laws.specs.Trees.{IsFileTree}
 use Rattle.vt_tree_laws.specs.Trees.Settling.{HoldsTree}
-use Rattle.vt_tree_laws.proofs.TreesForgotten.{entry_used}
+use Rattle.vt_tree_laws.proofs.trees.TreesForgotten.{entry_used}
 use Rattle.std.proofs.lemmas.Option.{same_Some}
 
 module _ (used : List ℕ) (files : FileTree ℕ) (holds : HoldsTree used files) (is : IsFileTree files) where

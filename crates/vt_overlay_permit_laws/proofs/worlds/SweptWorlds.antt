@@ -11,11 +11,11 @@ use Rattle.vt_spec.proofs.Lists.{Among, all_from_among}
 use Rattle.vt_tree_laws.specs.Trees.{IsFileTree}
 use Rattle.vt_tree_laws.specs.Trees.Settling.{HasFileTrees}
 use Rattle.vt_letting_go.specs.InUse.{UppersArePlain, has_upper_in}
-use Rattle.vt_letting_go.proofs.InUse.{one_sweep_is_enough}
-use Rattle.vt_letting_go.proofs.OfWorlds.{found_filesystem}
+use Rattle.vt_letting_go.proofs.sweeps.InUse.{one_sweep_is_enough}
+use Rattle.vt_letting_go.proofs.sweeps.OfWorlds.{found_filesystem}
 use Rattle.vt_world_laws.specs.Worlds.Kept.{IsUnderWay}
-use Rattle.vt_world_laws.proofs.SettledMounts.{settled_mounts, settled_namespaces}
-use Rattle.vt_world_laws.proofs.SettledTasks.{listed_trees, settled_roots, settled_tasks, settled_trees, trees_under_way}
+use Rattle.vt_world_laws.proofs.settling.SettledMounts.{settled_mounts, settled_namespaces}
+use Rattle.vt_world_laws.proofs.settling.SettledTasks.{listed_trees, settled_roots, settled_tasks, settled_trees, trees_under_way}
 use Rattle.vt_overlay_permit_laws.specs.EveryWorld.{SettlingLeavesEveryWorld}
 use Rattle.vt_overlay_permit_laws.proofs.kept.KeptOverlays.{overlays_in}
 use Rattle.vt_overlay_permit_laws.proofs.worlds.OverlaysGoOn.{are_trees, plain_layer}

@@ -17,16 +17,16 @@ use Rattle.vt_spec.specs.Machine.Rules.Conditions.{is_point_anywhere, is_point_i
 use Rattle.vt_spec.specs.Machine.Rules.Removing.{is_one_object, object_there, old_word_rules, rename_new_walk, rename_rules, rmdir_rules, rmdir_word_rules, same_object_rules}
 use Rattle.vt_spec.specs.Machine.Walking.{Place, is_directory_there, name_of, old_leaf_walk, old_walk}
 use Rattle.vt_spec.specs.Machine.World.{Task, World, mount_at, mount_numbered, task_called}
-use Rattle.vt_laws.proofs.GivenPermits.{permits_are_for_their_calls}
+use Rattle.vt_laws.proofs.given.GivenPermits.{permits_are_for_their_calls}
 use Rattle.vt_letting_go.specs.Unmounting.{numbers_of_trees}
-use Rattle.vt_letting_go.proofs.PlacesLeft.{nowhere_parts}
-use Rattle.vt_mount_laws.proofs.MountsReplaced.{found_itself}
+use Rattle.vt_letting_go.proofs.leaving.PlacesLeft.{nowhere_parts}
+use Rattle.vt_mount_laws.proofs.mounts.MountsReplaced.{found_itself}
 use Rattle.vt_tree_laws.proofs.Given.{Gives, given_is, gives_unless, gives_walk}
 use Rattle.vt_overlays_let_go.specs.OverlayCalls.{RemovingKeepsTheMount, ReplacingKeepsTheMount}
 use Rattle.vt_world_laws.specs.Worlds.Permits.{IsReached}
-use Rattle.vt_world_laws.proofs.Reached.{is_reached}
-use Rattle.vt_world_laws.proofs.ReachedPlaces.{IsFoundPlace, IsOldPlace, old_leaf_walk_found, old_walk_found, rename_new_walk_found}
-use Rattle.vt_world_laws.proofs.SeenMounts.{tree_namespace}
+use Rattle.vt_world_laws.proofs.worlds.Reached.{is_reached}
+use Rattle.vt_world_laws.proofs.worlds.ReachedPlaces.{IsFoundPlace, IsOldPlace, old_leaf_walk_found, old_walk_found, rename_new_walk_found}
+use Rattle.vt_world_laws.proofs.worlds.SeenMounts.{tree_namespace}
 use Rattle.vt_spec.proofs.Worlds.{tree_among}
 
 -- P1: no mount of the task's namespace stands on the directory

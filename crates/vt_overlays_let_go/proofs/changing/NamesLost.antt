@@ -24,9 +24,9 @@ use Rattle.vt_layer_laws.proofs.layers.CopyingNames.{emptied_other, marked_entri
 use Rattle.vt_letting_go.specs.FileChanges.{names_lost}
 use Rattle.vt_letting_go.specs.InUse.{IsListedTree}
 use Rattle.vt_letting_go.specs.Overlays.{let_go_all_inodes}
-use Rattle.vt_letting_go.proofs.FilesChanged.{none_left}
+use Rattle.vt_letting_go.proofs.leaving.FilesChanged.{none_left}
 use Rattle.vt_letting_go.proofs.Lists.{Among, all_pass, among-append_left, among-append_right, among-from_filter, among-from_flat_map, among-from_map, among_from_all, among_numbers, is_among_numbers}
-use Rattle.vt_letting_go.proofs.NamesKept.{found_entry}
+use Rattle.vt_letting_go.proofs.leaving.NamesKept.{found_entry}
 use Rattle.vt_letting_go.proofs.Trees.{named_among}
 use Rattle.vt_overlays_let_go.specs.OverlayChanges.{CanChange, inodes_lost_with_upper, merge_after, merge_at, unnamed_by}
 use Rattle.vt_overlays_let_go.specs.OverlayNames.{OnlyTheseLoseNames, OpenedCopiesKeepAll, OverlayChangesKeepAll, names_under, under_name, upper_names_lost}

@@ -20,12 +20,12 @@ use Rattle.vt_letting_go.specs.MountingOverlays.{used_by_gone_with_layers}
 use Rattle.vt_letting_go.specs.Overlays.{RealsAreThere, let_go_all, let_go_all_inodes}
 use Rattle.vt_letting_go.specs.TreesOverlays.{in_use_of, with_filesystems, with_lost}
 use Rattle.vt_letting_go.specs.Unmounting.{numbers_of_trees}
-use Rattle.vt_letting_go.proofs.FilesChanged.{none_left}
+use Rattle.vt_letting_go.proofs.leaving.FilesChanged.{none_left}
 use Rattle.vt_letting_go.proofs.Lists.{Among, among-filter, among-from_map, among-map, among_numbers, any_passes, one_passes, or_second, or_first, passes}
-use Rattle.vt_letting_go.proofs.MountingTaken.{after, hands_on, same_filesystem, same_namespace, same_number, shows_the_same, taken_is}
-use Rattle.vt_letting_go.proofs.MountingTaken
-use Rattle.vt_letting_go.proofs.PlacesLeft.{found_itself, mounts_but}
-use Rattle.vt_letting_go.proofs.TreesWithOverlays.{left_and_changed_lets_go, taken_and_changed_lets_go}
+use Rattle.vt_letting_go.proofs.mounting.MountingTaken.{after, hands_on, same_filesystem, same_namespace, same_number, shows_the_same, taken_is}
+use Rattle.vt_letting_go.proofs.mounting.MountingTaken
+use Rattle.vt_letting_go.proofs.leaving.PlacesLeft.{found_itself, mounts_but}
+use Rattle.vt_letting_go.proofs.leaving.TreesWithOverlays.{left_and_changed_lets_go, taken_and_changed_lets_go}
 use Rattle.vt_world_laws.specs.Worlds.Permits.{IsReached}
 use Rattle.vt_overlays_let_go.specs.OverlayCalls.{MadeInOverlaysLetsGo, OpenedNewInOverlaysLetsGo, RemovedFromOverlaysLetGo, ReplacedInOverlaysLetGo, TakenAndOverlayChangesLetGo, is_on_mount, keeps_a_mount}
 use Rattle.vt_overlays_let_go.specs.OverlayChanges.{CanChange, inodes_lost_with_upper}

@@ -27,12 +27,12 @@ use Rattle.vt_letting_go.specs.OneByOne.{Inode, is_inode_among}
 use Rattle.vt_letting_go.specs.Overlays.{RealsAreThere, let_go_all_inodes, real_in}
 use Rattle.vt_letting_go.specs.TreeChanges.{ChangesTree}
 use Rattle.vt_letting_go.specs.TreesOverlays.{ChangesFilesystem, upper_objects, with_filesystems}
-use Rattle.vt_letting_go.proofs.InUse.{no_objects}
+use Rattle.vt_letting_go.proofs.sweeps.InUse.{no_objects}
 use Rattle.vt_letting_go.proofs.Lists.{Among, all_from_among, all_pass, among-append_left, among-filter, among-filter_map, among-flat_map, among-from_filter_map, among-from_map, among-map, among_from_all, among_numbers, any_passes, found_in, is_among_numbers, map_twice, or_first, or_second, passes}
-use Rattle.vt_letting_go.proofs.NamesKept.{changes_keep_names}
-use Rattle.vt_letting_go.proofs.OfWorlds.{found_filesystem, worlds_are_settled}
+use Rattle.vt_letting_go.proofs.leaving.NamesKept.{changes_keep_names}
+use Rattle.vt_letting_go.proofs.sweeps.OfWorlds.{found_filesystem, worlds_are_settled}
 use Rattle.vt_letting_go.proofs.Trees.{named_among}
-use Rattle.vt_letting_go.proofs.TreesWithOverlays.{changed_trees_let_go, no_real, unchanged}
+use Rattle.vt_letting_go.proofs.leaving.TreesWithOverlays.{changed_trees_let_go, no_real, unchanged}
 use Rattle.vt_overlays_let_go.specs.OverlayChanges.{CanChange, OverlayChangesLetGo, inodes_lost_with_upper, merge_after, merge_at, unnamed_by}
 use Rattle.vt_overlays_let_go.proofs.changing.Added.{Adds, adds}
 use Rattle.vt_overlays_let_go.proofs.changing.Copied.{numbers_stay}

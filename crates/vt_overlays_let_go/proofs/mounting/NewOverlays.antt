@@ -20,9 +20,9 @@ use Rattle.vt_layer_laws.proofs.layers.ShownPaths.{not_empty}
 use Rattle.vt_layer_laws.proofs.layers.ShownTree.{Arrives, arrives, merged_tree}
 use Rattle.vt_layer_laws.proofs.layers.ShownWhole.{is_of_object}
 use Rattle.vt_letting_go.specs.InUse.{IsListedTree}
-use Rattle.vt_letting_go.proofs.AttachedSwept.{new_filesystems_keep_all}
+use Rattle.vt_letting_go.proofs.mounting.AttachedSwept.{new_filesystems_keep_all}
 use Rattle.vt_letting_go.proofs.Lists.{all_pass, is_among_numbers, or_first, or_second}
-use Rattle.vt_letting_go.proofs.OfWorlds.{locations_of_worlds_stand, worlds_are_settled}
+use Rattle.vt_letting_go.proofs.sweeps.OfWorlds.{locations_of_worlds_stand, worlds_are_settled}
 use Rattle.vt_letting_go.proofs.Trees.{named_among}
 use Rattle.vt_overlays_let_go.proofs.changing.Copied.{even_distinct}
 use Rattle.vt_overlays_let_go.specs.NewOverlays.{NewMountsOfOverlaysKeepAll, NewOverlaysAreNamed}

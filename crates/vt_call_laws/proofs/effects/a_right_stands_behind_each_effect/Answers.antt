@@ -1,5 +1,5 @@
 mod Told
-use Rattle.vt_call_laws.proofs.EffectsRights.{changes_are_by_right}
+use Rattle.vt_call_laws.proofs.effects.EffectsRights.{changes_are_by_right}
 use Rattle.vt_call_laws.proofs.effects.a_right_stands_behind_each_effect.Answers.Told.{bytes_are_told_by_right, names_are_told_by_right, opens_are_by_right}
 use Rattle.vt_call_laws.proofs.effects.a_right_stands_behind_each_effect.Goals as goal
 

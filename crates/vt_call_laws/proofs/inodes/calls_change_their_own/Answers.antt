@@ -1,6 +1,6 @@
-use Rattle.vt_call_laws.proofs.InodesEntries.{other_entries_stay}
-use Rattle.vt_call_laws.proofs.InodesOwn.{calls_change_their_own}
-use Rattle.vt_call_laws.proofs.InodesRemain.{only_unused_inodes_end}
+use Rattle.vt_call_laws.proofs.inodes.InodesEntries.{other_entries_stay}
+use Rattle.vt_call_laws.proofs.inodes.InodesOwn.{calls_change_their_own}
+use Rattle.vt_call_laws.proofs.inodes.InodesRemain.{only_unused_inodes_end}
 use Rattle.vt_call_laws.proofs.inodes.calls_change_their_own.Goals as goal
 
 pub returns-clause-own : goal.returns-clause-own

@@ -1,4 +1,4 @@
-use Rattle.vt_call_laws.proofs.InodesPartLaws.{kinds_stay, link_texts_stay, only_chmod_changes_modes, only_chown_changes_owners, only_naming_changes_entries, only_opaque_changes_marks, only_writes_change_bytes}
+use Rattle.vt_call_laws.proofs.inodes.InodesPartLaws.{kinds_stay, link_texts_stay, only_chmod_changes_modes, only_chown_changes_owners, only_naming_changes_entries, only_opaque_changes_marks, only_writes_change_bytes}
 use Rattle.vt_call_laws.proofs.inodes.parts_change_by_their_own_calls.Goals as goal
 
 pub returns-clause-bytes : goal.returns-clause-bytes

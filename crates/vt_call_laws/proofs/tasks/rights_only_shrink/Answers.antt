@@ -1,4 +1,4 @@
-use Rattle.vt_call_laws.proofs.TasksLaws.{new_tasks_are_children, only_drop_takes_rights, only_exit_leaves, only_open_gives_descriptors, only_umask_sets_umask, other_tasks_stay, rights_only_shrink}
+use Rattle.vt_call_laws.proofs.tasks.TasksLaws.{new_tasks_are_children, only_drop_takes_rights, only_exit_leaves, only_open_gives_descriptors, only_umask_sets_umask, other_tasks_stay, rights_only_shrink}
 use Rattle.vt_call_laws.proofs.tasks.rights_only_shrink.Goals as goal
 
 pub returns-clause-rights : goal.returns-clause-rights

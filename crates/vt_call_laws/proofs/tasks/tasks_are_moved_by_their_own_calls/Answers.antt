@@ -1,4 +1,4 @@
-use Rattle.vt_call_laws.proofs.TasksLaws.{only_these_move_directories, only_these_move_namespaces, only_these_move_roots}
+use Rattle.vt_call_laws.proofs.tasks.TasksLaws.{only_these_move_directories, only_these_move_namespaces, only_these_move_roots}
 use Rattle.vt_call_laws.proofs.tasks.tasks_are_moved_by_their_own_calls.Goals as goal
 
 pub returns-clause-directories : goal.returns-clause-directories

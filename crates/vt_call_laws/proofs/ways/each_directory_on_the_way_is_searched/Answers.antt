@@ -1,6 +1,6 @@
-use Rattle.vt_call_laws.proofs.WaysEnds.{destination_ways_are_searched, directory_ways_are_searched, object_ways_are_searched, source_ways_are_searched}
-use Rattle.vt_call_laws.proofs.WaysOne.{ways_are_one}
-use Rattle.vt_call_laws.proofs.WaysSearched.{each_last_word_is_looked_up_by_right, each_word_is_looked_up_by_right}
+use Rattle.vt_call_laws.proofs.ways.WaysEnds.{destination_ways_are_searched, directory_ways_are_searched, object_ways_are_searched, source_ways_are_searched}
+use Rattle.vt_call_laws.proofs.ways.WaysOne.{ways_are_one}
+use Rattle.vt_call_laws.proofs.ways.WaysSearched.{each_last_word_is_looked_up_by_right, each_word_is_looked_up_by_right}
 use Rattle.vt_call_laws.proofs.ways.each_directory_on_the_way_is_searched.Goals as goal
 
 pub returns-clause-words : goal.returns-clause-words

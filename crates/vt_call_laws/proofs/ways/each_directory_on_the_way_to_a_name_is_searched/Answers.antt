@@ -1,5 +1,5 @@
-use Rattle.vt_call_laws.proofs.WaysFiles.{file_ways_are_searched}
-use Rattle.vt_call_laws.proofs.WaysNamed.{new_leaf_ways_are_searched, new_name_ways_are_searched, old_leaf_ways_are_searched, old_name_ways_are_searched, place_ways_are_searched, renamed_ways_are_searched, symlink_ways_are_searched}
+use Rattle.vt_call_laws.proofs.ways.WaysFiles.{file_ways_are_searched}
+use Rattle.vt_call_laws.proofs.ways.WaysNamed.{new_leaf_ways_are_searched, new_name_ways_are_searched, old_leaf_ways_are_searched, old_name_ways_are_searched, place_ways_are_searched, renamed_ways_are_searched, symlink_ways_are_searched}
 use Rattle.vt_call_laws.proofs.ways.each_directory_on_the_way_to_a_name_is_searched.Goals as goal
 
 pub returns-clause-symlinks : goal.returns-clause-symlinks

@@ -1,5 +1,5 @@
-use Rattle.vt_count_laws.proofs.Changes.{counts_follow_changes, only_files_change, other_counts_stay}
-use Rattle.vt_count_laws.proofs.KeptAll.{names_keep_all}
+use Rattle.vt_count_laws.proofs.changing.Changes.{counts_follow_changes, only_files_change, other_counts_stay}
+use Rattle.vt_count_laws.proofs.changing.KeptAll.{names_keep_all}
 use Rattle.vt_count_laws.proofs.changing.changes_are_counted.Goals as goal
 
 pub returns-clause-only : goal.returns-clause-only

@@ -1,5 +1,5 @@
 use Rattle.vt_count_laws.proofs.Listed.{same_numbers_are_permuted}
-use Rattle.vt_count_laws.proofs.SameAfter.{counted_changes_are_swept}
+use Rattle.vt_count_laws.proofs.changing.SameAfter.{counted_changes_are_swept}
 use Rattle.vt_count_laws.proofs.changing.counted_inodes_are_the_world.Goals as goal
 
 pub returns-clause-numbers : goal.returns-clause-numbers

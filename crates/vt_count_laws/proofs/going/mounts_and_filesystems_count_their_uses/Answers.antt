@@ -1,4 +1,4 @@
-use Rattle.vt_count_laws.proofs.Places.{locations_use_mounts, mounts_use_filesystems}
+use Rattle.vt_count_laws.proofs.using.Places.{locations_use_mounts, mounts_use_filesystems}
 use Rattle.vt_count_laws.proofs.going.mounts_and_filesystems_count_their_uses.Goals as goal
 
 pub returns-clause-locations : goal.returns-clause-locations

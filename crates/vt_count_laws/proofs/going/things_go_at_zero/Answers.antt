@@ -1,4 +1,4 @@
-use Rattle.vt_count_laws.proofs.Gone.{filesystem_goes_at_zero, mount_goes_at_zero, mount_takes_its_count}
+use Rattle.vt_count_laws.proofs.going.Gone.{filesystem_goes_at_zero, mount_goes_at_zero, mount_takes_its_count}
 use Rattle.vt_count_laws.proofs.going.things_go_at_zero.Goals as goal
 
 pub returns-clause-mount : goal.returns-clause-mount

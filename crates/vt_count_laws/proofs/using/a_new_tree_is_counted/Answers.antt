@@ -1,4 +1,4 @@
-use Rattle.vt_count_laws.proofs.Places.{new_tree_is_counted, opening_is_counted}
+use Rattle.vt_count_laws.proofs.using.Places.{new_tree_is_counted, opening_is_counted}
 use Rattle.vt_count_laws.proofs.using.a_new_tree_is_counted.Goals as goal
 
 pub returns-clause-shown : goal.returns-clause-shown

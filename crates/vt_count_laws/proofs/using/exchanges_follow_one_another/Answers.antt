@@ -1,5 +1,5 @@
-use Rattle.vt_count_laws.proofs.Exchanged.{exchanges_turn}
-use Rattle.vt_count_laws.proofs.Places.{exchanges_follow}
+use Rattle.vt_count_laws.proofs.using.Exchanged.{exchanges_turn}
+use Rattle.vt_count_laws.proofs.using.Places.{exchanges_follow}
 use Rattle.vt_count_laws.proofs.using.exchanges_follow_one_another.Goals as goal
 
 pub returns-clause-turned : goal.returns-clause-turned

@@ -1,4 +1,4 @@
-use Rattle.vt_count_laws.proofs.Places.{locations_are_uses, mount_is_placed, mounts_are_uses, others_use_nothing}
+use Rattle.vt_count_laws.proofs.using.Places.{locations_are_uses, mount_is_placed, mounts_are_uses, others_use_nothing}
 use Rattle.vt_count_laws.proofs.using.locations_and_mounts_are_uses.Goals as goal
 
 pub returns-clause-locations : goal.returns-clause-locations

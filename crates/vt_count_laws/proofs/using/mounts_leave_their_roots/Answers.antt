@@ -1,4 +1,4 @@
-use Rattle.vt_count_laws.proofs.MountRoots as Roots
+use Rattle.vt_count_laws.proofs.using.MountRoots as Roots
 use Rattle.vt_count_laws.proofs.using.mounts_leave_their_roots.Goals as goal
 
 pub returns-clause-locations : goal.returns-clause-locations

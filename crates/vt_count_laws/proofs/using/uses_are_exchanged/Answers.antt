@@ -1,5 +1,5 @@
-use Rattle.vt_count_laws.proofs.Exchanged.{uses_are_exchanged}
-use Rattle.vt_count_laws.proofs.Sweeps.{uses_are_swept}
+use Rattle.vt_count_laws.proofs.using.Exchanged.{uses_are_exchanged}
+use Rattle.vt_count_laws.proofs.using.Sweeps.{uses_are_swept}
 use Rattle.vt_count_laws.proofs.using.uses_are_exchanged.Goals as goal
 
 pub returns-clause-one_by_one : goal.returns-clause-one_by_one

@@ -1,5 +1,5 @@
-use Rattle.vt_laws.proofs.OwnRules.{denial_changes_nothing}
-use Rattle.vt_laws.proofs.Unchanged.{denied_line_changes_nothing, refused_memory_changes_nothing}
+use Rattle.vt_laws.proofs.rules.OwnRules.{denial_changes_nothing}
+use Rattle.vt_laws.proofs.denials.Unchanged.{denied_line_changes_nothing, refused_memory_changes_nothing}
 use Rattle.vt_laws.proofs.denials.denials_change_nothing.Goals as goal
 
 pub returns-clause-call : goal.returns-clause-call

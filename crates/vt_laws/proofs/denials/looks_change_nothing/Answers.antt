@@ -1,4 +1,4 @@
-use Rattle.vt_laws.proofs.Unchanged.{directive_changes_nothing, look_changes_nothing}
+use Rattle.vt_laws.proofs.denials.Unchanged.{directive_changes_nothing, look_changes_nothing}
 use Rattle.vt_laws.proofs.denials.looks_change_nothing.Goals as goal
 
 pub returns-clause-call : goal.returns-clause-call

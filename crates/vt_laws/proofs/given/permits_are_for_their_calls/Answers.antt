@@ -1,4 +1,4 @@
-use Rattle.vt_laws.proofs.GivenPermits.{permits_are_for_their_calls}
+use Rattle.vt_laws.proofs.given.GivenPermits.{permits_are_for_their_calls}
 use Rattle.vt_laws.proofs.given.permits_are_for_their_calls.Goals as goal
 
 pub returns : goal.returns

@@ -1,4 +1,4 @@
-use Rattle.vt_laws.proofs.Texts.{any_two_texts_are_one, room_serves, supplies_do_not_matter, texts_are_told, worlds_keep_to_hand}
+use Rattle.vt_laws.proofs.numbers.Texts.{any_two_texts_are_one, room_serves, supplies_do_not_matter, texts_are_told, worlds_keep_to_hand}
 use Rattle.vt_laws.proofs.numbers.answers_are_one_text.Goals as goal
 
 pub returns-clause-one : goal.returns-clause-one

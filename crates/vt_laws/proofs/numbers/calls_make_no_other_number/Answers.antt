@@ -1,5 +1,5 @@
-use Rattle.vt_laws.proofs.NamedWorlds.{named_is_kept}
-use Rattle.vt_laws.proofs.Supports.{calls_keep_to_numbers, lines_keep_to_numbers, opening_keeps_to_four, used_numbers_are_named}
+use Rattle.vt_laws.proofs.numbers.NamedWorlds.{named_is_kept}
+use Rattle.vt_laws.proofs.numbers.Supports.{calls_keep_to_numbers, lines_keep_to_numbers, opening_keeps_to_four, used_numbers_are_named}
 use Rattle.vt_laws.proofs.numbers.calls_make_no_other_number.Goals as goal
 
 pub returns-clause-opening : goal.returns-clause-opening

@@ -1,4 +1,4 @@
-use Rattle.vt_laws.proofs.Texts.{some_text_is_there, whole_machine_has_one_text}
+use Rattle.vt_laws.proofs.numbers.Texts.{some_text_is_there, whole_machine_has_one_text}
 use Rattle.vt_laws.proofs.numbers.whole_machine_has_one_text.Goals as goal
 
 pub returns-clause-some : goal.returns-clause-some

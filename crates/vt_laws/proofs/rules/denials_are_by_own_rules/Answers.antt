@@ -1,6 +1,6 @@
 mod OwnLines
 use Rattle.vt_laws.proofs.rules.denials_are_by_own_rules.Answers.OwnLines.{denied_line_is_own}
-use Rattle.vt_laws.proofs.OwnRules.{denial_has_error_of_rule, denial_is_own}
+use Rattle.vt_laws.proofs.rules.OwnRules.{denial_has_error_of_rule, denial_is_own}
 use Rattle.vt_laws.proofs.rules.denials_are_by_own_rules.Goals as goal
 
 pub returns-clause-own : goal.returns-clause-own

@@ -1,6 +1,6 @@
 mod WalkOrder
 use Rattle.std.proofs.Common.{refl}
-use Rattle.vt_laws.proofs.TableOrder.{first_in_order, last_in_order}
+use Rattle.vt_laws.proofs.rules.TableOrder.{first_in_order, last_in_order}
 use Rattle.vt_laws.proofs.rules.tables_are_in_order.Answers.WalkOrder.{missing_before_slash, removed_before_slash, removed_before_slash_of_rename, step_rules_in_order}
 use Rattle.vt_laws.proofs.rules.tables_are_in_order.Goals as goal
 

@@ -2,7 +2,7 @@ mod LeastRule
 mod LeastAnswers
 mod AskedRules
 use Rattle.vt_laws.proofs.rules.the_least_rule_answers.Answers.LeastAnswers.{first_rules_answer, last_rules_answer, no_task_is_refused, walks_answer_next}
-use Rattle.vt_laws.proofs.TableOrder.{walks_refuse_as_walks}
+use Rattle.vt_laws.proofs.rules.TableOrder.{walks_refuse_as_walks}
 use Rattle.vt_laws.proofs.rules.the_least_rule_answers.Goals as goal
 
 pub returns-clause-no_task : goal.returns-clause-no_task

@@ -1,5 +1,5 @@
-use Rattle.vt_laws.proofs.SameJudged.{plain_has_one_name, same_worlds_are_judged_alike, same_worlds_look_alike}
-use Rattle.vt_laws.proofs.SameMany.{same_worlds_judge_alike}
+use Rattle.vt_laws.proofs.same.SameJudged.{plain_has_one_name, same_worlds_are_judged_alike, same_worlds_look_alike}
+use Rattle.vt_laws.proofs.same.SameMany.{same_worlds_judge_alike}
 use Rattle.vt_laws.proofs.same.same_worlds_are_judged_alike.Goals as goal
 
 pub returns-clause-looks : goal.returns-clause-looks

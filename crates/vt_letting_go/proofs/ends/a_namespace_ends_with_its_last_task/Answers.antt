@@ -1,4 +1,4 @@
-use Rattle.vt_letting_go.proofs.NamespacesEnd.{no_namespace_ends, one_namespace_ends}
+use Rattle.vt_letting_go.proofs.ends.NamespacesEnd.{no_namespace_ends, one_namespace_ends}
 use Rattle.vt_letting_go.proofs.ends.a_namespace_ends_with_its_last_task.Goals as goal
 
 pub returns-clause-one : goal.returns-clause-one

@@ -1,4 +1,4 @@
-use Rattle.vt_letting_go.proofs.TasksEnd.{enters_let_go, exits_let_go, leaving_namespaces_lets_go, unshares_let_go}
+use Rattle.vt_letting_go.proofs.ends.TasksEnd.{enters_let_go, exits_let_go, leaving_namespaces_lets_go, unshares_let_go}
 use Rattle.vt_letting_go.proofs.ends.what_tasks_leave_with_namespaces_goes.Goals as goal
 
 pub returns-clause-left : goal.returns-clause-left

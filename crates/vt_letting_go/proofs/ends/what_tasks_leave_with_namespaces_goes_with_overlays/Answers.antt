@@ -1,4 +1,4 @@
-use Rattle.vt_letting_go.proofs.TasksEnd.{enters_with_overlays_let_go, exits_with_overlays_let_go, leaving_namespaces_with_overlays_lets_go, unshares_with_overlays_let_go}
+use Rattle.vt_letting_go.proofs.ends.TasksEnd.{enters_with_overlays_let_go, exits_with_overlays_let_go, leaving_namespaces_with_overlays_lets_go, unshares_with_overlays_let_go}
 use Rattle.vt_letting_go.proofs.ends.what_tasks_leave_with_namespaces_goes_with_overlays.Goals as goal
 
 pub returns-clause-left : goal.returns-clause-left

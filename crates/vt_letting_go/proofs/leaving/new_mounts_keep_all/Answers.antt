@@ -1,4 +1,4 @@
-use Rattle.vt_letting_go.proofs.MountsAdded
+use Rattle.vt_letting_go.proofs.leaving.MountsAdded
 use Rattle.vt_letting_go.proofs.leaving.new_mounts_keep_all.Goals as goal
 
 pub returns : goal.returns

@@ -1,4 +1,4 @@
-use Rattle.vt_letting_go.proofs.UsesKept.{flags_are_of_one, flags_keep_all, types_keep_all}
+use Rattle.vt_letting_go.proofs.leaving.UsesKept.{flags_are_of_one, flags_keep_all, types_keep_all}
 use Rattle.vt_letting_go.proofs.leaving.types_and_flags_keep_all.Goals as goal
 
 pub returns-clause-types : goal.returns-clause-types

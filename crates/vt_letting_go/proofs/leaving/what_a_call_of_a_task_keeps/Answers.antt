@@ -1,4 +1,4 @@
-use Rattle.vt_letting_go.proofs.TaskCalls.{forks_keep_all, new_credentials_keep_all, new_umasks_keep_all, opened_files_keep_all}
+use Rattle.vt_letting_go.proofs.leaving.TaskCalls.{forks_keep_all, new_credentials_keep_all, new_umasks_keep_all, opened_files_keep_all}
 use Rattle.vt_letting_go.proofs.leaving.what_a_call_of_a_task_keeps.Goals as goal
 
 pub returns-clause-fork : goal.returns-clause-fork

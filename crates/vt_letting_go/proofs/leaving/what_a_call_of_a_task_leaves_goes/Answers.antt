@@ -1,4 +1,4 @@
-use Rattle.vt_letting_go.proofs.TaskCalls.{changed_directories_let_go, changed_roots_let_go, closes_let_go}
+use Rattle.vt_letting_go.proofs.leaving.TaskCalls.{changed_directories_let_go, changed_roots_let_go, closes_let_go}
 use Rattle.vt_letting_go.proofs.leaving.what_a_call_of_a_task_leaves_goes.Goals as goal
 
 pub returns-clause-close : goal.returns-clause-close

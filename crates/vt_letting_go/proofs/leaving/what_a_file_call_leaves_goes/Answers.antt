@@ -1,5 +1,5 @@
-use Rattle.vt_letting_go.proofs.FilesChanged.{file_changes_let_go, removed_directories_let_go, replacing_lets_go, taken_and_file_changes_let_go}
-use Rattle.vt_letting_go.proofs.NamesKept.{changes_keep_names}
+use Rattle.vt_letting_go.proofs.leaving.FilesChanged.{file_changes_let_go, removed_directories_let_go, replacing_lets_go, taken_and_file_changes_let_go}
+use Rattle.vt_letting_go.proofs.leaving.NamesKept.{changes_keep_names}
 use Rattle.vt_letting_go.proofs.leaving.what_a_file_call_leaves_goes.Goals as goal
 
 pub returns-clause-names : goal.returns-clause-names

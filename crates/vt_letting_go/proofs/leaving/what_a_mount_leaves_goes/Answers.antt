@@ -1,5 +1,5 @@
-use Rattle.vt_letting_go.proofs.Detached.{unmount_is_of_one}
-use Rattle.vt_letting_go.proofs.MountingMoved.{detaching_lets_go}
+use Rattle.vt_letting_go.proofs.leaving.Detached.{unmount_is_of_one}
+use Rattle.vt_letting_go.proofs.mounting.MountingMoved.{detaching_lets_go}
 use Rattle.vt_letting_go.proofs.leaving.what_a_mount_leaves_goes.Goals as goal
 
 pub returns-clause-unmount : goal.returns-clause-unmount

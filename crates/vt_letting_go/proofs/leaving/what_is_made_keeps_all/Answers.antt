@@ -1,4 +1,4 @@
-use Rattle.vt_letting_go.proofs.FilesChanged.{made_keeps_all, opened_new_keeps_all}
+use Rattle.vt_letting_go.proofs.leaving.FilesChanged.{made_keeps_all, opened_new_keeps_all}
 use Rattle.vt_letting_go.proofs.leaving.what_is_made_keeps_all.Goals as goal
 
 pub returns-clause-make : goal.returns-clause-make

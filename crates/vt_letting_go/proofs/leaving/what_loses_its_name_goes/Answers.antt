@@ -1,4 +1,4 @@
-use Rattle.vt_letting_go.proofs.TreesChanged.{named_stay, unnamed_go}
+use Rattle.vt_letting_go.proofs.leaving.TreesChanged.{named_stay, unnamed_go}
 use Rattle.vt_letting_go.proofs.leaving.what_loses_its_name_goes.Goals as goal
 
 pub returns-clause-unnamed : goal.returns-clause-unnamed

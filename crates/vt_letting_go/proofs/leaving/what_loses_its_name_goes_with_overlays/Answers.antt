@@ -1,4 +1,4 @@
-use Rattle.vt_letting_go.proofs.TreesWithOverlays.{changed_trees_keep_all, changed_trees_let_go, unnamed_go_with_overlays}
+use Rattle.vt_letting_go.proofs.leaving.TreesWithOverlays.{changed_trees_keep_all, changed_trees_let_go, unnamed_go_with_overlays}
 use Rattle.vt_letting_go.proofs.leaving.what_loses_its_name_goes_with_overlays.Goals as goal
 
 pub returns-clause-trees : goal.returns-clause-trees

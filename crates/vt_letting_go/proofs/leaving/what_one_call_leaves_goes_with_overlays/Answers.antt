@@ -1,4 +1,4 @@
-use Rattle.vt_letting_go.proofs.TreesWithOverlays.{left_and_changed_lets_go, opened_keeps_all, taken_and_changed_lets_go}
+use Rattle.vt_letting_go.proofs.leaving.TreesWithOverlays.{left_and_changed_lets_go, opened_keeps_all, taken_and_changed_lets_go}
 use Rattle.vt_letting_go.proofs.leaving.what_one_call_leaves_goes_with_overlays.Goals as goal
 
 pub returns-clause-removed : goal.returns-clause-removed

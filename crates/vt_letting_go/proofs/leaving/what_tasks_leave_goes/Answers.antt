@@ -1,5 +1,5 @@
-use Rattle.vt_letting_go.proofs.LeftOneByOne.{one_sweep_for_several}
-use Rattle.vt_letting_go.proofs.PlacesLeft.{leaving_lets_go, staying_keeps_all}
+use Rattle.vt_letting_go.proofs.leaving.LeftOneByOne.{one_sweep_for_several}
+use Rattle.vt_letting_go.proofs.leaving.PlacesLeft.{leaving_lets_go, staying_keeps_all}
 use Rattle.vt_letting_go.proofs.leaving.what_tasks_leave_goes.Goals as goal
 
 pub returns-clause-left : goal.returns-clause-left

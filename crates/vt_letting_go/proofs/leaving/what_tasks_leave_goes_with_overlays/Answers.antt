@@ -1,5 +1,5 @@
-use Rattle.vt_letting_go.proofs.LeftWithOverlays.{leaving_overlays_lets_go, staying_keeps_overlays}
-use Rattle.vt_letting_go.proofs.LeftOneByOne.{one_sweep_with_overlays}
+use Rattle.vt_letting_go.proofs.leaving.LeftWithOverlays.{leaving_overlays_lets_go, staying_keeps_overlays}
+use Rattle.vt_letting_go.proofs.leaving.LeftOneByOne.{one_sweep_with_overlays}
 use Rattle.vt_letting_go.proofs.leaving.what_tasks_leave_goes_with_overlays.Goals as goal
 
 pub returns-clause-left : goal.returns-clause-left

@@ -1,4 +1,4 @@
-use Rattle.vt_letting_go.proofs.AttachedSwept.{moved_trees_let_go, moves_let_go}
+use Rattle.vt_letting_go.proofs.mounting.AttachedSwept.{moved_trees_let_go, moves_let_go}
 use Rattle.vt_letting_go.proofs.mounting.what_a_move_leaves_goes.Goals as goal
 
 pub returns-clause-trees : goal.returns-clause-trees

@@ -1,4 +1,4 @@
-use Rattle.vt_letting_go.proofs.Pivoted.{pivoted_lets_go, pivots_let_go}
+use Rattle.vt_letting_go.proofs.mounting.Pivoted.{pivoted_lets_go, pivots_let_go}
 use Rattle.vt_letting_go.proofs.mounting.what_a_pivot_leaves_goes.Goals as goal
 
 pub returns-clause-pivoted : goal.returns-clause-pivoted

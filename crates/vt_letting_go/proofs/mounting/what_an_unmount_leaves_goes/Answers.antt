@@ -1,4 +1,4 @@
-use Rattle.vt_letting_go.proofs.Unmounted.{lazy_unmounts_let_go, mounts_on_directories_let_go, trees_let_go, unmounts_let_go}
+use Rattle.vt_letting_go.proofs.mounting.Unmounted.{lazy_unmounts_let_go, mounts_on_directories_let_go, trees_let_go, unmounts_let_go}
 use Rattle.vt_letting_go.proofs.mounting.what_an_unmount_leaves_goes.Goals as goal
 
 pub returns-clause-unmount : goal.returns-clause-unmount

@@ -1,4 +1,4 @@
-use Rattle.vt_letting_go.proofs.AttachedSwept.{binds_keep_all, copies_keep_all, new_filesystems_keep_all, new_mounts_of_trees_keep_all}
+use Rattle.vt_letting_go.proofs.mounting.AttachedSwept.{binds_keep_all, copies_keep_all, new_filesystems_keep_all, new_mounts_of_trees_keep_all}
 use Rattle.vt_letting_go.proofs.mounting.what_is_attached_keeps_all.Goals as goal
 
 pub returns-clause-copies : goal.returns-clause-copies

@@ -1,5 +1,5 @@
-use Rattle.vt_letting_go.proofs.MountingTaken.{ending_lets_go, taking_away_lets_go}
-use Rattle.vt_letting_go.proofs.MountingMoved.{moving_lets_go}
+use Rattle.vt_letting_go.proofs.mounting.MountingTaken.{ending_lets_go, taking_away_lets_go}
+use Rattle.vt_letting_go.proofs.mounting.MountingMoved.{moving_lets_go}
 use Rattle.vt_letting_go.proofs.mounting.what_mounts_leave_goes.Goals as goal
 
 pub returns-clause-taken_away : goal.returns-clause-taken_away

@@ -1,4 +1,4 @@
-use Rattle.vt_letting_go.proofs.MountingWithOverlays.{moves_with_overlays_let_go, pivots_with_overlays_let_go}
+use Rattle.vt_letting_go.proofs.mounting_overlays.MountingWithOverlays.{moves_with_overlays_let_go, pivots_with_overlays_let_go}
 use Rattle.vt_letting_go.proofs.mounting_overlays.what_a_move_leaves_goes_with_overlays.Goals as goal
 
 pub returns-clause-moves : goal.returns-clause-moves

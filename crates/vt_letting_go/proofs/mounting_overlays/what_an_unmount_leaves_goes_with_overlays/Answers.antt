@@ -1,4 +1,4 @@
-use Rattle.vt_letting_go.proofs.MountingWithOverlays.{lazy_unmounts_with_overlays_let_go, mounts_on_directories_with_overlays_let_go, unmounts_with_overlays_let_go}
+use Rattle.vt_letting_go.proofs.mounting_overlays.MountingWithOverlays.{lazy_unmounts_with_overlays_let_go, mounts_on_directories_with_overlays_let_go, unmounts_with_overlays_let_go}
 use Rattle.vt_letting_go.proofs.mounting_overlays.what_an_unmount_leaves_goes_with_overlays.Goals as goal
 
 pub returns-clause-unmount : goal.returns-clause-unmount

@@ -1,4 +1,4 @@
-use Rattle.vt_letting_go.proofs.MountingWithOverlays.{ending_with_overlays_lets_go, moving_with_overlays_lets_go, taking_away_with_overlays_lets_go}
+use Rattle.vt_letting_go.proofs.mounting_overlays.MountingWithOverlays.{ending_with_overlays_lets_go, moving_with_overlays_lets_go, taking_away_with_overlays_lets_go}
 use Rattle.vt_letting_go.proofs.mounting_overlays.what_mounts_leave_goes_with_overlays.Goals as goal
 
 pub returns-clause-taken_away : goal.returns-clause-taken_away

@@ -1,4 +1,4 @@
-use Rattle.vt_letting_go.proofs.InUse.{nothing_goes, one_sweep_is_enough, what_is_left_is_in_use}
+use Rattle.vt_letting_go.proofs.sweeps.InUse.{nothing_goes, one_sweep_is_enough, what_is_left_is_in_use}
 use Rattle.vt_letting_go.proofs.sweeps.one_sweep_is_enough.Goals as goal
 
 pub returns-clause-nothing : goal.returns-clause-nothing

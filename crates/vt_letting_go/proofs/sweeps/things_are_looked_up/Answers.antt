@@ -1,4 +1,4 @@
-use Rattle.vt_letting_go.proofs.LookedUp.{filesystem_is_looked_up, mount_is_looked_up}
+use Rattle.vt_letting_go.proofs.sweeps.LookedUp.{filesystem_is_looked_up, mount_is_looked_up}
 use Rattle.vt_letting_go.proofs.sweeps.things_are_looked_up.Goals as goal
 
 pub returns-clause-mount : goal.returns-clause-mount

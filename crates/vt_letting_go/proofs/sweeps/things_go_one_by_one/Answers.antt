@@ -1,5 +1,5 @@
-use Rattle.vt_letting_go.proofs.Inodes.{all_goes_one_by_one, inodes_go_one_by_one}
-use Rattle.vt_letting_go.proofs.OneByOne.{filesystems_go_one_by_one, groups_go_one_by_one, mounts_go_one_by_one}
+use Rattle.vt_letting_go.proofs.sweeps.Inodes.{all_goes_one_by_one, inodes_go_one_by_one}
+use Rattle.vt_letting_go.proofs.sweeps.OneByOne.{filesystems_go_one_by_one, groups_go_one_by_one, mounts_go_one_by_one}
 use Rattle.vt_letting_go.proofs.sweeps.things_go_one_by_one.Goals as goal
 
 pub returns-clause-mounts : goal.returns-clause-mounts

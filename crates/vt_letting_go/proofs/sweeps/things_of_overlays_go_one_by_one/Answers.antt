@@ -1,6 +1,6 @@
-use Rattle.vt_letting_go.proofs.OverlaysGone.{filesystems_take_their_uses}
-use Rattle.vt_letting_go.proofs.UpperUses.{one_upper_use_less}
-use Rattle.vt_letting_go.proofs.WithOverlays.{all_inodes_go_one_by_one, merged_go_one_by_one, with_overlays_all_goes}
+use Rattle.vt_letting_go.proofs.sweeps.OverlaysGone.{filesystems_take_their_uses}
+use Rattle.vt_letting_go.proofs.sweeps.UpperUses.{one_upper_use_less}
+use Rattle.vt_letting_go.proofs.sweeps.WithOverlays.{all_inodes_go_one_by_one, merged_go_one_by_one, with_overlays_all_goes}
 use Rattle.vt_letting_go.proofs.sweeps.things_of_overlays_go_one_by_one.Goals as goal
 
 pub returns-clause-merged : goal.returns-clause-merged

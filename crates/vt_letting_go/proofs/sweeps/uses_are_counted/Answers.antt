@@ -1,4 +1,4 @@
-use Rattle.vt_letting_go.proofs.UsesCounted.{located_while_counted, mounted_while_counted, one_mount_less, one_use_less, used_while_counted}
+use Rattle.vt_letting_go.proofs.sweeps.UsesCounted.{located_while_counted, mounted_while_counted, one_mount_less, one_use_less, used_while_counted}
 use Rattle.vt_letting_go.proofs.sweeps.uses_are_counted.Goals as goal
 
 pub returns-clause-located : goal.returns-clause-located

@@ -1,4 +1,4 @@
-use Rattle.vt_letting_go.proofs.OfWorlds.{locations_of_worlds_stand, plain_worlds_are_settled, worlds_are_settled, mounts_of_worlds_stand, reals_of_worlds_are_there, uppers_of_worlds_are_plain, worlds_have_trees}
+use Rattle.vt_letting_go.proofs.sweeps.OfWorlds.{locations_of_worlds_stand, plain_worlds_are_settled, worlds_are_settled, mounts_of_worlds_stand, reals_of_worlds_are_there, uppers_of_worlds_are_plain, worlds_have_trees}
 use Rattle.vt_letting_go.proofs.sweeps.worlds_are_fit_to_be_swept.Goals as goal
 
 pub returns-clause-trees : goal.returns-clause-trees

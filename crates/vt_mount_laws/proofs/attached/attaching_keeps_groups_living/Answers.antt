@@ -1,4 +1,4 @@
-use Rattle.vt_mount_laws.proofs.AttachedKept.{binds_keep_groups, moves_keep_groups, new_mounts_keep_groups}
+use Rattle.vt_mount_laws.proofs.attached.AttachedKept.{binds_keep_groups, moves_keep_groups, new_mounts_keep_groups}
 use Rattle.vt_mount_laws.proofs.attached.attaching_keeps_groups_living.Goals as goal
 
 pub returns-clause-bind : goal.returns-clause-bind

@@ -1,4 +1,4 @@
-use Rattle.vt_mount_laws.proofs.AttachedNowhere.{binds_keep_nowhere, moves_keep_nowhere, new_mounts_keep_nowhere}
+use Rattle.vt_mount_laws.proofs.attached.AttachedNowhere.{binds_keep_nowhere, moves_keep_nowhere, new_mounts_keep_nowhere}
 use Rattle.vt_mount_laws.proofs.attached.attaching_keeps_mounts_nowhere.Goals as goal
 
 pub returns-clause-bind : goal.returns-clause-bind

@@ -1,5 +1,5 @@
-use Rattle.vt_mount_laws.proofs.EndingCounts.{ended_namespaces_take_none_in, points_take_none_in, replaced_takes_none_in, trees_take_none_in, unmount_takes_none_in}
-use Rattle.vt_mount_laws.proofs.EndingLazyCounts.{lazy_unmount_takes_none_in}
+use Rattle.vt_mount_laws.proofs.ends.EndingCounts.{ended_namespaces_take_none_in, points_take_none_in, replaced_takes_none_in, trees_take_none_in, unmount_takes_none_in}
+use Rattle.vt_mount_laws.proofs.ends.EndingLazyCounts.{lazy_unmount_takes_none_in}
 use Rattle.vt_mount_laws.proofs.ends.mounts_come_to_no_other_namespace.Goals as goal
 
 pub returns-clause-unmount : goal.returns-clause-unmount

@@ -1,5 +1,5 @@
-use Rattle.vt_mount_laws.proofs.EndingCounts.{ended_namespaces_have_no_more, points_have_no_more, replaced_has_no_more, trees_have_no_more, unmount_has_no_more}
-use Rattle.vt_mount_laws.proofs.EndingLazyCounts.{lazy_unmount_has_no_more}
+use Rattle.vt_mount_laws.proofs.ends.EndingCounts.{ended_namespaces_have_no_more, points_have_no_more, replaced_has_no_more, trees_have_no_more, unmount_has_no_more}
+use Rattle.vt_mount_laws.proofs.ends.EndingLazyCounts.{lazy_unmount_has_no_more}
 use Rattle.vt_mount_laws.proofs.ends.namespaces_have_no_more_mounts.Goals as goal
 
 pub returns-clause-unmount : goal.returns-clause-unmount

@@ -1,5 +1,5 @@
-use Rattle.vt_mount_laws.proofs.EndingCounts.{ended_namespaces_keep_roots, points_keep_roots, replaced_keeps_roots, trees_keep_roots, unmount_keeps_roots}
-use Rattle.vt_mount_laws.proofs.EndingLazyCounts.{lazy_unmount_keeps_roots}
+use Rattle.vt_mount_laws.proofs.ends.EndingCounts.{ended_namespaces_keep_roots, points_keep_roots, replaced_keeps_roots, trees_keep_roots, unmount_keeps_roots}
+use Rattle.vt_mount_laws.proofs.ends.EndingLazyCounts.{lazy_unmount_keeps_roots}
 use Rattle.vt_mount_laws.proofs.ends.namespaces_keep_their_root_mounts.Goals as goal
 
 pub returns-clause-unmount : goal.returns-clause-unmount

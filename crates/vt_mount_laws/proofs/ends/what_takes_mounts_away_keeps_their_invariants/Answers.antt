@@ -1,5 +1,5 @@
-use Rattle.vt_mount_laws.proofs.Ending.{ended_namespaces_keep_mounts, points_keep_mounts, replaced_keeps_mounts, trees_keep_mounts, unmount_keeps_mounts}
-use Rattle.vt_mount_laws.proofs.EndingLazy.{lazy_unmount_keeps_mounts}
+use Rattle.vt_mount_laws.proofs.ends.Ending.{ended_namespaces_keep_mounts, points_keep_mounts, replaced_keeps_mounts, trees_keep_mounts, unmount_keeps_mounts}
+use Rattle.vt_mount_laws.proofs.ends.EndingLazy.{lazy_unmount_keeps_mounts}
 use Rattle.vt_mount_laws.proofs.ends.what_takes_mounts_away_keeps_their_invariants.Goals as goal
 
 pub returns-clause-unmount : goal.returns-clause-unmount

@@ -1,4 +1,4 @@
-use Rattle.vt_mount_laws.proofs.MountsAttached.{attach_keeps_mounts, attach_leaves_mounts, new_mounts_follow}
+use Rattle.vt_mount_laws.proofs.mounts.MountsAttached.{attach_keeps_mounts, attach_leaves_mounts, new_mounts_follow}
 use Rattle.vt_mount_laws.proofs.mounts.a_bind_leaves_the_other_mounts.Goals as goal
 
 pub returns-clause-order : goal.returns-clause-order

@@ -1,4 +1,4 @@
-use Rattle.vt_mount_laws.proofs.MountsRetyped.{alone_is_private, type_is_all_that_changes, type_is_of_the_named, type_is_taken, types_are_of_mounts}
+use Rattle.vt_mount_laws.proofs.mounts.MountsRetyped.{alone_is_private, type_is_all_that_changes, type_is_of_the_named, type_is_taken, types_are_of_mounts}
 use Rattle.vt_mount_laws.proofs.mounts.a_change_of_type_is_of_the_named_mounts.Goals as goal
 
 pub returns-clause-alone : goal.returns-clause-alone

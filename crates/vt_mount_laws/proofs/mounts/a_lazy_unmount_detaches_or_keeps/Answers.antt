@@ -1,4 +1,4 @@
-use Rattle.vt_mount_laws.proofs.UnmountingEnds.{lazy_detaches_or_keeps, lazy_is_of_mounts}
+use Rattle.vt_mount_laws.proofs.ends.UnmountingEnds.{lazy_detaches_or_keeps, lazy_is_of_mounts}
 use Rattle.vt_mount_laws.proofs.mounts.a_lazy_unmount_detaches_or_keeps.Goals as goal
 
 pub returns-clause-mounts : goal.returns-clause-mounts

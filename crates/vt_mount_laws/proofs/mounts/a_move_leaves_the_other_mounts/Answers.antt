@@ -1,4 +1,4 @@
-use Rattle.vt_mount_laws.proofs.MountsAttached.{move_keeps_mounts, move_leaves_mounts, moved_mounts_show}
+use Rattle.vt_mount_laws.proofs.mounts.MountsAttached.{move_keeps_mounts, move_leaves_mounts, moved_mounts_show}
 use Rattle.vt_mount_laws.proofs.mounts.a_move_leaves_the_other_mounts.Goals as goal
 
 pub returns-clause-kept : goal.returns-clause-kept

@@ -1,6 +1,6 @@
-use Rattle.vt_mount_laws.proofs.Unmounting.{groups_keep_their_masters, root_mounts_stay, slaves_are_inherited, unmount_is_of_mounts, unmount_keeps_the_order, what_covered_falls, what_goes_is_detached, what_stays_keeps, what_stays_keeps_its_place, what_stays_keeps_its_type}
-use Rattle.vt_mount_laws.proofs.UnmountingEnds.{the_mount_itself_goes}
-use Rattle.vt_mount_laws.proofs.UnmountingGoes.{what_goes_is_named}
+use Rattle.vt_mount_laws.proofs.ends.Unmounting.{groups_keep_their_masters, root_mounts_stay, slaves_are_inherited, unmount_is_of_mounts, unmount_keeps_the_order, what_covered_falls, what_goes_is_detached, what_stays_keeps, what_stays_keeps_its_place, what_stays_keeps_its_type}
+use Rattle.vt_mount_laws.proofs.ends.UnmountingEnds.{the_mount_itself_goes}
+use Rattle.vt_mount_laws.proofs.ends.UnmountingGoes.{what_goes_is_named}
 use Rattle.vt_mount_laws.proofs.mounts.an_unmount_takes_just_what_propagation_names.Goals as goal
 
 pub returns-clause-named : goal.returns-clause-named

@@ -1,4 +1,4 @@
-use Rattle.vt_mount_laws.proofs.BindsStand.{binds_keep_numbers, binds_keep_places, binds_keep_standing, moves_keep_numbers, new_mounts_keep_numbers, new_mounts_keep_places, new_mounts_keep_standing}
+use Rattle.vt_mount_laws.proofs.attached.BindsStand.{binds_keep_numbers, binds_keep_places, binds_keep_standing, moves_keep_numbers, new_mounts_keep_numbers, new_mounts_keep_places, new_mounts_keep_standing}
 use Rattle.vt_mount_laws.proofs.mounts.attaching_keeps_mounts_standing.Goals as goal
 
 pub returns-clause-bind : goal.returns-clause-bind

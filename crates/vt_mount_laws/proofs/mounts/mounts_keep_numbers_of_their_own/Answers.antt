@@ -1,6 +1,6 @@
-use Rattle.vt_mount_laws.proofs.MountsApart.{lazy_keeps_numbers}
-use Rattle.vt_mount_laws.proofs.MountsKept.{ended_namespaces_keep_numbers, flags_keep_numbers, inheritance_keeps_numbers, pivot_keeps_numbers, settling_keeps_numbers, taking_away_keeps_numbers, types_keep_numbers, unmount_keeps_numbers}
-use Rattle.vt_mount_laws.proofs.MountsNumbered.{attach_keeps_numbers, copies_keep_numbers, supplies_serve_as_copies, supplies_serve_as_images, unshare_keeps_numbers}
+use Rattle.vt_mount_laws.proofs.mounts.MountsApart.{lazy_keeps_numbers}
+use Rattle.vt_mount_laws.proofs.mounts.MountsKept.{ended_namespaces_keep_numbers, flags_keep_numbers, inheritance_keeps_numbers, pivot_keeps_numbers, settling_keeps_numbers, taking_away_keeps_numbers, types_keep_numbers, unmount_keeps_numbers}
+use Rattle.vt_mount_laws.proofs.mounts.MountsNumbered.{attach_keeps_numbers, copies_keep_numbers, supplies_serve_as_copies, supplies_serve_as_images, unshare_keeps_numbers}
 use Rattle.vt_mount_laws.proofs.mounts.mounts_keep_numbers_of_their_own.Goals as goal
 
 pub returns-clause-taking_away : goal.returns-clause-taking_away

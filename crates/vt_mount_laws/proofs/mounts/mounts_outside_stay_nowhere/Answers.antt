@@ -1,5 +1,5 @@
-use Rattle.vt_mount_laws.proofs.MountsApart.{flags_keep_nowhere, lazy_keeps_nowhere, unshare_keeps_nowhere}
-use Rattle.vt_mount_laws.proofs.MountsKept.{ended_namespaces_keep_nowhere, inheritance_keeps_nowhere, settling_keeps_nowhere, taking_away_keeps_nowhere, unmount_keeps_nowhere}
+use Rattle.vt_mount_laws.proofs.mounts.MountsApart.{flags_keep_nowhere, lazy_keeps_nowhere, unshare_keeps_nowhere}
+use Rattle.vt_mount_laws.proofs.mounts.MountsKept.{ended_namespaces_keep_nowhere, inheritance_keeps_nowhere, settling_keeps_nowhere, taking_away_keeps_nowhere, unmount_keeps_nowhere}
 use Rattle.vt_mount_laws.proofs.mounts.mounts_outside_stay_nowhere.Goals as goal
 
 pub returns-clause-taking_away : goal.returns-clause-taking_away

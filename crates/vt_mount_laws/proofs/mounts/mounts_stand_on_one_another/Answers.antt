@@ -1,4 +1,4 @@
-use Rattle.vt_mount_laws.proofs.Standing.{binds_take_each_once, standing_is_computed, trees_have_each_once}
+use Rattle.vt_mount_laws.proofs.mounts.Standing.{binds_take_each_once, standing_is_computed, trees_have_each_once}
 use Rattle.vt_mount_laws.proofs.mounts.mounts_stand_on_one_another.Goals as goal
 
 pub returns-clause-computed : goal.returns-clause-computed

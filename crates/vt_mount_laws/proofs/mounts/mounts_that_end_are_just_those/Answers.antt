@@ -1,4 +1,4 @@
-use Rattle.vt_mount_laws.proofs.UnmountingEnds.{others_are_kept, others_keep_their_places, others_keep_their_types, taken_are_detached}
+use Rattle.vt_mount_laws.proofs.ends.UnmountingEnds.{others_are_kept, others_keep_their_places, others_keep_their_types, taken_are_detached}
 use Rattle.vt_mount_laws.proofs.mounts.mounts_that_end_are_just_those.Goals as goal
 
 pub returns-clause-taken : goal.returns-clause-taken

@@ -1,4 +1,4 @@
-use Rattle.vt_mount_laws.proofs.MountsPlaces.{stands_alone}
+use Rattle.vt_mount_laws.proofs.mounts.MountsPlaces.{stands_alone}
 use Rattle.vt_mount_laws.proofs.mounts.one_mount_stands_at_a_place.Goals as goal
 
 pub returns : goal.returns

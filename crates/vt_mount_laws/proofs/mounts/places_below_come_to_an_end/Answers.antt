@@ -1,4 +1,4 @@
-use Rattle.vt_mount_laws.proofs.MountsEnding.{flags_keep_places_ending, inheritance_keeps_places_ending, type_keeps_places_ending}
+use Rattle.vt_mount_laws.proofs.mounts.MountsEnding.{flags_keep_places_ending, inheritance_keeps_places_ending, type_keeps_places_ending}
 use Rattle.vt_mount_laws.proofs.mounts.places_below_come_to_an_end.Goals as goal
 
 pub returns-clause-types : goal.returns-clause-types

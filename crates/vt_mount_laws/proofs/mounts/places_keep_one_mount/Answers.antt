@@ -1,7 +1,7 @@
-use Rattle.vt_mount_laws.proofs.MountsApart.{flags_keep_apart, inheritance_keeps_apart, settling_keeps_apart, types_keep_apart}
-use Rattle.vt_mount_laws.proofs.UnmountingNamespaces.{ended_namespaces_leave_one_mount_a_place}
-use Rattle.vt_mount_laws.proofs.UnmountingPlaces.{unmount_leaves_one_mount_a_place}
-use Rattle.vt_mount_laws.proofs.UnmountingTrees.{trees_leave_one_mount_a_place}
+use Rattle.vt_mount_laws.proofs.mounts.MountsApart.{flags_keep_apart, inheritance_keeps_apart, settling_keeps_apart, types_keep_apart}
+use Rattle.vt_mount_laws.proofs.ends.UnmountingNamespaces.{ended_namespaces_leave_one_mount_a_place}
+use Rattle.vt_mount_laws.proofs.ends.UnmountingPlaces.{unmount_leaves_one_mount_a_place}
+use Rattle.vt_mount_laws.proofs.ends.UnmountingTrees.{trees_leave_one_mount_a_place}
 use Rattle.vt_mount_laws.proofs.mounts.places_keep_one_mount.Goals as goal
 
 pub returns-clause-unmount : goal.returns-clause-unmount

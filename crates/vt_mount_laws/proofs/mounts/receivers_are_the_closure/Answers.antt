@@ -1,4 +1,4 @@
-use Rattle.vt_mount_laws.proofs.Receivers.{receivers_are_closed, receivers_are_least, receivers_receive, receives_is_computed}
+use Rattle.vt_mount_laws.proofs.mounts.Receivers.{receivers_are_closed, receivers_are_least, receivers_receive, receives_is_computed}
 use Rattle.vt_mount_laws.proofs.mounts.receivers_are_the_closure.Goals as goal
 
 pub returns-clause-computed : goal.returns-clause-computed

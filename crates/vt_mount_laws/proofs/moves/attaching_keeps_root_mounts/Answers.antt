@@ -1,4 +1,4 @@
-use Rattle.vt_mount_laws.proofs.MovingRoots.{binds_keep_root_mounts, binds_stay_in_namespaces, moves_keep_root_mounts, moves_stay_in_namespaces, new_mounts_keep_root_mounts, new_mounts_stay_in_namespaces}
+use Rattle.vt_mount_laws.proofs.moves.MovingRoots.{binds_keep_root_mounts, binds_stay_in_namespaces, moves_keep_root_mounts, moves_stay_in_namespaces, new_mounts_keep_root_mounts, new_mounts_stay_in_namespaces}
 use Rattle.vt_mount_laws.proofs.moves.attaching_keeps_root_mounts.Goals as goal
 
 pub returns-clause-bind : goal.returns-clause-bind

@@ -1,4 +1,4 @@
-use Rattle.vt_mount_laws.proofs.Moving.{moves_keep_places, moves_keep_standing}
+use Rattle.vt_mount_laws.proofs.moves.Moving.{moves_keep_places, moves_keep_standing}
 use Rattle.vt_mount_laws.proofs.moves.moves_keep_mounts_standing.Goals as goal
 
 pub returns-clause-standing : goal.returns-clause-standing

@@ -1,5 +1,5 @@
-use Rattle.vt_mount_laws.proofs.Pivoting.{numbered_mounts_can_pivot, pivot_keeps_mounts}
-use Rattle.vt_mount_laws.proofs.PivotingCounts.{pivot_keeps_counts}
+use Rattle.vt_mount_laws.proofs.namespaces.Pivoting.{numbered_mounts_can_pivot, pivot_keeps_mounts}
+use Rattle.vt_mount_laws.proofs.namespaces.PivotingCounts.{pivot_keeps_counts}
 use Rattle.vt_mount_laws.proofs.namespaces.pivoting_keeps_mounts.Goals as goal
 
 pub returns-clause-mounts : goal.returns-clause-mounts

@@ -1,4 +1,4 @@
-use Rattle.vt_mount_laws.proofs.Topmost.{topmost_is_free}
+use Rattle.vt_mount_laws.proofs.namespaces.Topmost.{topmost_is_free}
 use Rattle.vt_mount_laws.proofs.namespaces.the_topmost_place_is_free.Goals as goal
 
 pub returns : goal.returns

@@ -1,4 +1,4 @@
-use Rattle.vt_mount_laws.proofs.MountsInvariants.{flags_keep_counts, flags_keep_mounts, type_keeps_counts, type_keeps_mounts}
+use Rattle.vt_mount_laws.proofs.namespaces.MountsInvariants.{flags_keep_counts, flags_keep_mounts, type_keeps_counts, type_keeps_mounts}
 use Rattle.vt_mount_laws.proofs.namespaces.types_and_flags_keep_mounts.Goals as goal
 
 pub returns-clause-types : goal.returns-clause-types

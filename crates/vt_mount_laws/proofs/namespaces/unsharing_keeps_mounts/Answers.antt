@@ -1,5 +1,5 @@
-use Rattle.vt_mount_laws.proofs.Unsharing.{unshare_keeps_mounts}
-use Rattle.vt_mount_laws.proofs.UnsharingNamespaces.{new_namespace_is_empty, unshare_copies_mounts, unshare_keeps_counts, unshare_leaves_namespaces}
+use Rattle.vt_mount_laws.proofs.namespaces.Unsharing.{unshare_keeps_mounts}
+use Rattle.vt_mount_laws.proofs.namespaces.UnsharingNamespaces.{new_namespace_is_empty, unshare_copies_mounts, unshare_keeps_counts, unshare_leaves_namespaces}
 use Rattle.vt_mount_laws.proofs.namespaces.unsharing_keeps_mounts.Goals as goal
 
 pub returns-clause-mounts : goal.returns-clause-mounts

@@ -1,5 +1,5 @@
-use Rattle.vt_mount_laws.proofs.PropagationAbove.{lower_groups_have_a_group_above, slaves_have_a_group_above}
-use Rattle.vt_mount_laws.proofs.PropagationAttaching.{copies_at_lower_groups_follow, copies_at_peers_are_peers, copies_at_slaves_are_slaves, private_on_shared, shared_on_shared, slave_on_shared, type_on_not_shared}
+use Rattle.vt_mount_laws.proofs.propagation.PropagationAbove.{lower_groups_have_a_group_above, slaves_have_a_group_above}
+use Rattle.vt_mount_laws.proofs.propagation.PropagationAttaching.{copies_at_lower_groups_follow, copies_at_peers_are_peers, copies_at_slaves_are_slaves, private_on_shared, shared_on_shared, slave_on_shared, type_on_not_shared}
 use Rattle.vt_mount_laws.proofs.propagation.copies_take_their_type.Goals as goal
 
 pub returns-clause-not_shared : goal.returns-clause-not_shared

@@ -1,4 +1,4 @@
-use Rattle.vt_one_text.proofs.OneTreeTexts.{language_text_is_the_text, one_tree_has_one_text, one_tree_has_some_text, whole_text_is_the_text}
+use Rattle.vt_one_text.proofs.one_tree.OneTreeTexts.{language_text_is_the_text, one_tree_has_one_text, one_tree_has_some_text, whole_text_is_the_text}
 use Rattle.vt_one_text.proofs.one_tree.one_tree_has_one_text.Goals as goal
 
 pub returns-clause-one : goal.returns-clause-one

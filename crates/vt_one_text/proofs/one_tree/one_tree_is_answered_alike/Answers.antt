@@ -1,11 +1,11 @@
-use Rattle.vt_one_text.proofs.OneTreeForks.{drops_agree, forks_agree, umasks_agree}
-use Rattle.vt_one_text.proofs.OneTreeLinks.{links_agree, rmdirs_agree, unlinks_agree}
-use Rattle.vt_one_text.proofs.OneTreeLooks.{looks_agree, partial_reads_agree}
-use Rattle.vt_one_text.proofs.OneTreeMaking.{mkdirs_agree, opens_agree, symlinks_agree, writes_agree}
-use Rattle.vt_one_text.proofs.OneTreeOpening.{opening_is_fit}
-use Rattle.vt_one_text.proofs.OneTreeOpens.{closes_agree, exits_agree}
-use Rattle.vt_one_text.proofs.OneTreeRenames.{renames_agree}
-use Rattle.vt_one_text.proofs.OneTreeRewrites.{attributes_agree, partial_writes_agree}
+use Rattle.vt_one_text.proofs.one_tree.OneTreeForks.{drops_agree, forks_agree, umasks_agree}
+use Rattle.vt_one_text.proofs.one_tree.OneTreeLinks.{links_agree, rmdirs_agree, unlinks_agree}
+use Rattle.vt_one_text.proofs.one_tree.OneTreeLooks.{looks_agree, partial_reads_agree}
+use Rattle.vt_one_text.proofs.one_tree.OneTreeMaking.{mkdirs_agree, opens_agree, symlinks_agree, writes_agree}
+use Rattle.vt_one_text.proofs.one_tree.OneTreeOpening.{opening_is_fit}
+use Rattle.vt_one_text.proofs.one_tree.OneTreeOpens.{closes_agree, exits_agree}
+use Rattle.vt_one_text.proofs.one_tree.OneTreeRenames.{renames_agree}
+use Rattle.vt_one_text.proofs.one_tree.OneTreeRewrites.{attributes_agree, partial_writes_agree}
 use Rattle.vt_one_text.proofs.one_tree.one_tree_is_answered_alike.Goals as goal
 
 pub returns-clause-looks : goal.returns-clause-looks

@@ -1,5 +1,5 @@
-use Rattle.vt_one_text.proofs.OneTreeLanguage.{files_are_in_language}
-use Rattle.vt_one_text.proofs.OneTreeRuns.{language_is_told}
+use Rattle.vt_one_text.proofs.one_tree.OneTreeLanguage.{files_are_in_language}
+use Rattle.vt_one_text.proofs.one_tree.OneTreeRuns.{language_is_told}
 use Rattle.vt_one_text.proofs.one_tree.one_tree_is_in_the_language.Goals as goal
 
 pub returns-clause-lines : goal.returns-clause-lines

@@ -1,4 +1,4 @@
-use Rattle.vt_one_text.proofs.OneTreeWalks.{directory_walks_agree, file_walks_agree, link_walks_agree, new_leaf_walks_agree, new_walks_agree, object_walks_agree, old_leaf_walks_agree, old_walks_agree, rename_new_walks_agree}
+use Rattle.vt_one_text.proofs.one_tree.OneTreeWalks.{directory_walks_agree, file_walks_agree, link_walks_agree, new_leaf_walks_agree, new_walks_agree, object_walks_agree, old_leaf_walks_agree, old_walks_agree, rename_new_walks_agree}
 use Rattle.vt_one_text.proofs.one_tree.one_tree_is_walked_alike.Goals as goal
 
 pub returns-clause-objects : goal.returns-clause-objects

@@ -1,5 +1,5 @@
-use Rattle.vt_one_text.proofs.OneTreeOpening.{opening_is_fit}
-use Rattle.vt_one_text.proofs.OneTreeTexts.{lines_keep_fit, refused_lines_keep_fit}
+use Rattle.vt_one_text.proofs.one_tree.OneTreeOpening.{opening_is_fit}
+use Rattle.vt_one_text.proofs.one_tree.OneTreeTexts.{lines_keep_fit, refused_lines_keep_fit}
 use Rattle.vt_one_text.proofs.one_tree.one_tree_stays_fit.Goals as goal
 
 pub returns-clause-opening : goal.returns-clause-opening

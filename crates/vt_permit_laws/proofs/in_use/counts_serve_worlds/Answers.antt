@@ -1,4 +1,4 @@
-use Rattle.vt_permit_laws.proofs.InUseServes.{counts_serve_worlds, handed_numbers_serve_worlds}
+use Rattle.vt_permit_laws.proofs.in_use.InUseServes.{counts_serve_worlds, handed_numbers_serve_worlds}
 use Rattle.vt_permit_laws.proofs.in_use.counts_serve_worlds.Goals as goal
 
 pub returns-clause-counts : goal.returns-clause-counts

@@ -1,5 +1,5 @@
-use Rattle.vt_permit_laws.proofs.InUseNamed.{worlds_have_numbers_in_use}
-use Rattle.vt_permit_laws.proofs.InUseServes.{worlds_keep_to_named_before, worlds_keep_to_numbers_in_use}
+use Rattle.vt_permit_laws.proofs.in_use.InUseNamed.{worlds_have_numbers_in_use}
+use Rattle.vt_permit_laws.proofs.in_use.InUseServes.{worlds_keep_to_named_before, worlds_keep_to_numbers_in_use}
 use Rattle.vt_permit_laws.proofs.in_use.worlds_have_numbers_in_use.Goals as goal
 
 pub returns-clause-named : goal.returns-clause-named

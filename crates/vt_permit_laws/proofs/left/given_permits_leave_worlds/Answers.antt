@@ -1,4 +1,4 @@
-use Rattle.vt_permit_laws.proofs.PermitsLeave.{given_permits_are_under_way, given_permits_leave_worlds, same_is_a_world_too}
+use Rattle.vt_permit_laws.proofs.left.PermitsLeave.{given_permits_are_under_way, given_permits_leave_worlds, same_is_a_world_too}
 use Rattle.vt_permit_laws.proofs.left.given_permits_leave_worlds.Goals as goal
 
 pub returns-clause-worlds : goal.returns-clause-worlds

@@ -1,4 +1,4 @@
-use Rattle.vt_permit_laws.proofs.PermitsKeepTo.{permits_keep_to_numbers, same_keeps_to_numbers_too}
+use Rattle.vt_permit_laws.proofs.named.PermitsKeepTo.{permits_keep_to_numbers, same_keeps_to_numbers_too}
 use Rattle.vt_permit_laws.proofs.named.permits_keep_to_numbers.Goals as goal
 
 pub returns-clause-numbers : goal.returns-clause-numbers

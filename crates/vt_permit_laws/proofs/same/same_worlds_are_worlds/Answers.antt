@@ -1,6 +1,6 @@
-use Rattle.vt_permit_laws.proofs.SameInUse.{same_worlds_are_worlds}
-use Rattle.vt_permit_laws.proofs.SameInvariants.{same_worlds_are_under_way}
-use Rattle.vt_permit_laws.proofs.SameNumbers.{same_worlds_keep_to_numbers}
+use Rattle.vt_permit_laws.proofs.same.SameInUse.{same_worlds_are_worlds}
+use Rattle.vt_permit_laws.proofs.same.SameInvariants.{same_worlds_are_under_way}
+use Rattle.vt_permit_laws.proofs.same.SameNumbers.{same_worlds_keep_to_numbers}
 use Rattle.vt_permit_laws.proofs.same.same_worlds_are_worlds.Goals as goal
 
 pub returns-clause-worlds : goal.returns-clause-worlds

@@ -1,5 +1,5 @@
-use Rattle.vt_permit_laws.proofs.SeesFit.{given_changes_are_proper, given_changes_fit}
-use Rattle.vt_permit_laws.proofs.SeesTasks.{given_permits_are_seen_to}
+use Rattle.vt_permit_laws.proofs.sees.SeesFit.{given_changes_are_proper, given_changes_fit}
+use Rattle.vt_permit_laws.proofs.sees.SeesTasks.{given_permits_are_seen_to}
 use Rattle.vt_permit_laws.proofs.sees.given_permits_are_seen_to.Goals as goal
 
 pub returns-clause-permits : goal.returns-clause-permits

@@ -1,4 +1,4 @@
-use Rattle.vt_permit_laws.proofs.TakenGiven.{given_counts_go_on, given_permits_are_left, given_permits_keep_to_taken}
+use Rattle.vt_permit_laws.proofs.taken.TakenGiven.{given_counts_go_on, given_permits_are_left, given_permits_keep_to_taken}
 use Rattle.vt_permit_laws.proofs.taken.given_permits_keep_to_taken.Goals as goal
 
 pub returns-clause-permits : goal.returns-clause-permits

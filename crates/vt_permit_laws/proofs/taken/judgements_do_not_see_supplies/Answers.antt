@@ -1,4 +1,4 @@
-use Rattle.vt_permit_laws.proofs.TakenJudged.{given_with_any_supply, judgements_do_not_see_supplies}
+use Rattle.vt_permit_laws.proofs.taken.TakenJudged.{given_with_any_supply, judgements_do_not_see_supplies}
 use Rattle.vt_permit_laws.proofs.taken.judgements_do_not_see_supplies.Goals as goal
 
 pub returns-clause-judged : goal.returns-clause-judged

@@ -1,6 +1,6 @@
-use Rattle.vt_permit_laws.proofs.TakenHanded.{handed_counts_go_on}
-use Rattle.vt_permit_laws.proofs.TakenFirst.{only_the_first_are_taken}
-use Rattle.vt_permit_laws.proofs.TakenNumbers.{counts_go_on, permits_keep_to_taken}
+use Rattle.vt_permit_laws.proofs.taken.TakenHanded.{handed_counts_go_on}
+use Rattle.vt_permit_laws.proofs.taken.TakenFirst.{only_the_first_are_taken}
+use Rattle.vt_permit_laws.proofs.taken.TakenNumbers.{counts_go_on, permits_keep_to_taken}
 use Rattle.vt_permit_laws.proofs.taken.only_the_first_numbers_are_taken.Goals as goal
 
 pub returns-clause-first : goal.returns-clause-first

@@ -1,5 +1,5 @@
-use Rattle.vt_run_laws.proofs.AlikeAnswered.{same_worlds_are_answered_alike, same_worlds_are_directed_alike}
-use Rattle.vt_run_laws.proofs.AlikeWorlds.{same_worlds_are_plain_alike, sameness_is_an_equivalence}
+use Rattle.vt_run_laws.proofs.answered.AlikeAnswered.{same_worlds_are_answered_alike, same_worlds_are_directed_alike}
+use Rattle.vt_run_laws.proofs.answered.AlikeWorlds.{same_worlds_are_plain_alike, sameness_is_an_equivalence}
 use Rattle.vt_run_laws.proofs.answered.same_worlds_are_answered_alike.Goals as goal
 
 pub returns-clause-equivalence : goal.returns-clause-equivalence

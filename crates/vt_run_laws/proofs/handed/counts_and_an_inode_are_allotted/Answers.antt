@@ -1,4 +1,4 @@
-use Rattle.vt_run_laws.proofs.InodesAllotted.{allotted_numbers_serve, allotted_numbers_serve_named, numbers_are_allotted}
+use Rattle.vt_run_laws.proofs.handed.InodesAllotted.{allotted_numbers_serve, allotted_numbers_serve_named, numbers_are_allotted}
 use Rattle.vt_run_laws.proofs.handed.counts_and_an_inode_are_allotted.Goals as goal
 
 pub returns-clause-allotted : goal.returns-clause-allotted

@@ -1,4 +1,4 @@
-use Rattle.vt_run_laws.proofs.Counts.{counts_are_allotted, counts_serve, counts_serve_named}
+use Rattle.vt_run_laws.proofs.handed.Counts.{counts_are_allotted, counts_serve, counts_serve_named}
 use Rattle.vt_run_laws.proofs.handed.counts_are_allotted.Goals as goal
 
 pub returns-clause-allotted : goal.returns-clause-allotted

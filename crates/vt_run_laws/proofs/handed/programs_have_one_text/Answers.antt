@@ -1,5 +1,5 @@
-use Rattle.vt_run_laws.proofs.Counts.{programs_have_one_text}
-use Rattle.vt_run_laws.proofs.InodesAllotted.{allotted_numbers_open}
+use Rattle.vt_run_laws.proofs.handed.Counts.{programs_have_one_text}
+use Rattle.vt_run_laws.proofs.handed.InodesAllotted.{allotted_numbers_open}
 use Rattle.vt_run_laws.proofs.handed.programs_have_one_text.Goals as goal
 
 pub returns-clause-opening : goal.returns-clause-opening

@@ -1,5 +1,5 @@
-use Rattle.vt_run_laws.proofs.GrammarsPlain.{grammars_keep_overlays_out}
-use Rattle.vt_run_laws.proofs.RunsTold.{runs_have_one_text}
+use Rattle.vt_run_laws.proofs.runs.GrammarsPlain.{grammars_keep_overlays_out}
+use Rattle.vt_run_laws.proofs.runs.RunsTold.{runs_have_one_text}
 use Rattle.vt_run_laws.proofs.runs.runs_have_one_text.Goals as goal
 
 pub returns-clause-grammars : goal.returns-clause-grammars

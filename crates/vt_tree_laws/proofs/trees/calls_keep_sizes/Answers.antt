@@ -1,4 +1,4 @@
-use Rattle.vt_tree_laws.proofs.ChangesWithinSizes
+use Rattle.vt_tree_laws.proofs.trees.ChangesWithinSizes
 use Rattle.vt_tree_laws.proofs.trees.calls_keep_sizes.Goals as goal
 
 pub returns-clause-opening : goal.returns-clause-opening

@@ -1,4 +1,4 @@
-use Rattle.vt_tree_laws.proofs.TreesLimits
+use Rattle.vt_tree_laws.proofs.trees.TreesLimits
 use Rattle.vt_tree_laws.proofs.trees.calls_keep_small_tasks.Goals as goal
 
 pub returns-clause-opening : goal.returns-clause-opening

@@ -1,5 +1,5 @@
-use Rattle.vt_tree_laws.proofs.ChangesByCalls
-use Rattle.vt_tree_laws.proofs.TreesOfMounts
+use Rattle.vt_tree_laws.proofs.trees.ChangesByCalls
+use Rattle.vt_tree_laws.proofs.trees.TreesOfMounts
 use Rattle.vt_tree_laws.proofs.trees.calls_keep_trees.Goals as goal
 
 pub returns-clause-opening : goal.returns-clause-opening

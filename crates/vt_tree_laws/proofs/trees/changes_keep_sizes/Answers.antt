@@ -1,4 +1,4 @@
-use Rattle.vt_tree_laws.proofs.ChangesOfSizes
+use Rattle.vt_tree_laws.proofs.trees.ChangesOfSizes
 use Rattle.vt_tree_laws.proofs.trees.changes_keep_sizes.Goals as goal
 
 pub returns-clause-changes : goal.returns-clause-changes

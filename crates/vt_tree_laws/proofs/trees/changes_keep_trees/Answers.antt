@@ -1,4 +1,4 @@
-use Rattle.vt_tree_laws.proofs.ChangesKeepTrees
+use Rattle.vt_tree_laws.proofs.trees.ChangesKeepTrees
 use Rattle.vt_tree_laws.proofs.trees.changes_keep_trees.Goals as goal
 
 pub returns-clause-trees : goal.returns-clause-trees

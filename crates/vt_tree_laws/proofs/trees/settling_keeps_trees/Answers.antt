@@ -1,6 +1,6 @@
 mod SettlingStays
 use Rattle.vt_tree_laws.proofs.trees.settling_keeps_trees.Answers.SettlingStays
-use Rattle.vt_tree_laws.proofs.TreesForgotten
+use Rattle.vt_tree_laws.proofs.trees.TreesForgotten
 use Rattle.vt_tree_laws.proofs.trees.settling_keeps_trees.Goals as goal
 
 pub returns-clause-trees : goal.returns-clause-trees

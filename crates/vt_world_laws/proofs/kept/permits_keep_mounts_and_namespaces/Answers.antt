@@ -1,5 +1,5 @@
-use Rattle.vt_world_laws.proofs.MountsKept.{all_mounts_kept}
-use Rattle.vt_world_laws.proofs.NamespacesKept.{all_namespaces_kept}
+use Rattle.vt_world_laws.proofs.kept.MountsKept.{all_mounts_kept}
+use Rattle.vt_world_laws.proofs.kept.NamespacesKept.{all_namespaces_kept}
 use Rattle.vt_world_laws.proofs.kept.permits_keep_mounts_and_namespaces.Goals as goal
 
 pub returns-clause-mounts : goal.returns-clause-mounts

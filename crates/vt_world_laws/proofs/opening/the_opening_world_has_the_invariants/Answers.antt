@@ -1,4 +1,4 @@
-use Rattle.vt_world_laws.proofs.OpeningWorld.{opening_is_a_world}
+use Rattle.vt_world_laws.proofs.opening.OpeningWorld.{opening_is_a_world}
 use Rattle.vt_world_laws.proofs.opening.the_opening_world_has_the_invariants.Goals as goal
 
 pub returns : goal.returns

@@ -1,4 +1,4 @@
-use Rattle.vt_world_laws.proofs.SettledTasks.{settling_leaves_a_world}
+use Rattle.vt_world_laws.proofs.settling.SettledTasks.{settling_leaves_a_world}
 use Rattle.vt_world_laws.proofs.settling.what_is_left_is_a_world.Goals as goal
 
 pub returns : goal.returns

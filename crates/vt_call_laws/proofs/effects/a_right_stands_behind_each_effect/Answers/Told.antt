@@ -1,8 +1,8 @@
 -- What a call tells its task may read.
 use Rattle.std.proofs.Common.{◌≡◌, refl, sym, ap, subst, ◌∙◌, inl, inr, ◌⊎◌, true≢false, ℕ, nat_eq, Bool, true, false, List, [], Option, None, take, drop, Some, Result, Ok, Err, IfOk, ok_or, find, option_to_list}
 use Rattle.std.specs.Prelude.{is_ok, ⊤}
-use Rattle.vt_call_laws.proofs.EffectsRights.{anyhow, open_found, ruled}
-use Rattle.vt_laws.proofs.GivenPermits.{given, permits_are_for_their_calls}
+use Rattle.vt_call_laws.proofs.effects.EffectsRights.{anyhow, open_found, ruled}
+use Rattle.vt_laws.proofs.given.GivenPermits.{given, permits_are_for_their_calls}
 use Rattle.vt_call_laws.specs.Effects.{BytesAreToldByRight, NamesAreToldByRight, OpensAreByRight, TellsOf}
 use Rattle.vt_call_laws.specs.Effects.TellsOf.{a_directory, a_symlink, an_object}
 use Rattle.vt_laws.specs.Given.{IsFor}
@@ -33,7 +33,7 @@ use Rattle.vt_spec.specs.Machine.Walking.{Here, Place, Stop, directory_walk, fil
 use Rattle.vt_spec.specs.Machine.World.{Descriptor, Task, World, node_at}
 use Rattle.vt_spec.specs.Rights.{read_right}
 use Rattle.vt_spec.specs.Tree.{bytes_in, names_in}
-use Rattle.vt_tree_laws.proofs.TreesWalked.{not_true}
+use Rattle.vt_tree_laws.proofs.trees.TreesWalked.{not_true}
 
 are_names : Result Answer Deny → Bool
 are_names (Ok (Names names)) = true

@@ -1,14 +1,14 @@
 -- A call changes no inode but those that its paths and descriptors lead it to.
 use Rattle.std.proofs.Common.{◌≡◌, refl, sym, ap, ◌∙◌, inl, inr, ◌⊎◌, ℕ, nat_eq, Option, None, Ok, Err}
-use Rattle.vt_call_laws.proofs.InodesOwn.{calls_change_their_own}
-use Rattle.vt_call_laws.proofs.InodesSettled.{inode_after_call}
+use Rattle.vt_call_laws.proofs.inodes.InodesOwn.{calls_change_their_own}
+use Rattle.vt_call_laws.proofs.inodes.InodesSettled.{inode_after_call}
 use Rattle.vt_call_laws.proofs.inodes.calls_keep_to_their_paths.Answers.ReachedWalks.{IsSpared, spares}
 use Rattle.vt_call_laws.specs.Inodes.{inode_in}
 use Rattle.vt_call_laws.specs.Reached.{CallsKeepToTheirPaths}
 use Rattle.vt_spec.specs.Machine.Judge.{Judgement, judge_in}
 use Rattle.vt_spec.specs.Machine.Policy.{policy}
 use Rattle.vt_spec.specs.Tree.{Node}
-use Rattle.vt_laws.proofs.GivenPermits.{given}
+use Rattle.vt_laws.proofs.given.GivenPermits.{given}
 
 pub calls_keep_to_their_paths : CallsKeepToTheirPaths
 calls_keep_to_their_paths fresh world name call task filesystem number plain no_overlay is apart root =

@@ -1,8 +1,8 @@
 -- What a permit names lies where the walks of its call lead, or its descriptors are.
 use Rattle.std.proofs.Common.{◌≡◌, refl, sym, ap, subst, ◌∙◌, inl, inr, true≢false, ℕ, nat_eq, eqb-true, nat_lt, length, Bool, true, false, not, ◌&&◌, ◌||◌, List, [], ◌∷◌, ◌++◌, map, Option, Some, None, is_some, option_map, option_to_list, unwrap_or, Result, Ok, Err, IfOk}
 use Rattle.std.specs.Prelude.{⊤}
-use Rattle.vt_call_laws.proofs.EffectsRights.{open_found, ruled}
-use Rattle.vt_laws.proofs.GivenPermits.{permits_are_for_their_calls}
+use Rattle.vt_call_laws.proofs.effects.EffectsRights.{open_found, ruled}
+use Rattle.vt_laws.proofs.given.GivenPermits.{permits_are_for_their_calls}
 use Rattle.vt_laws.specs.Given.{IsFor, IsForAttr, NoneFails, makes_a_name}
 use Rattle.vt_call_laws.specs.Inodes.{changes_names, is_own, sets_mark, sets_mode, sets_owner, writes_bytes}
 use Rattle.vt_call_laws.specs.Reached.{directory_and_new, directory_and_new_at, directory_and_object_at, directory_at, file_or_new, file_or_new_at, is_at_one_of, is_new_root, nothing_or_new, nothing_or_new_at, object_at, reached_by}
@@ -30,10 +30,10 @@ use Rattle.vt_spec.specs.Machine.Rules.Removing.{is_one_object, object_there, ol
 use Rattle.vt_spec.specs.Machine.Walk.{Place, Stop, directory_walk, file_walk, is_directory_there, is_special, name_of, new_leaf_walk, new_walk, object_walk, old_leaf_walk, old_walk, symlink_walk, then_walk, walk_end, walk_unless}
 use Rattle.vt_spec.specs.Machine.World.{Descriptor, Task, World, files_at, mount_at, mount_numbered, node_at}
 use Rattle.vt_spec.specs.Tree.{Node, entries_in, entry_named}
-use Rattle.vt_tree_laws.proofs.TreesWalked.{IsNewPlace, IsOldPlace, IsPlace, ends_new_walk, ends_old_leaf_walk, ends_old_walk, not_true, place_named}
+use Rattle.vt_tree_laws.proofs.trees.TreesWalked.{IsNewPlace, IsOldPlace, IsPlace, ends_new_walk, ends_old_leaf_walk, ends_old_walk, not_true, place_named}
 use Rattle.std.proofs.lemmas.Bool.{or_parts}
 use Rattle.std.proofs.Math.Bool.{and-false}
-use Rattle.vt_call_laws.proofs.WaysSearched.{at_end}
+use Rattle.vt_call_laws.proofs.ways.WaysSearched.{at_end}
 use Rattle.vt_spec.proofs.Truths.{or_false_left}
 use Rattle.vt_spec.proofs.Worlds.{special_word}
 

@@ -2,7 +2,7 @@
 use Rattle.std.proofs.Common.{◌≡◌, refl, sym, ap, subst, ◌∙◌, inl, inr, ◌⊎◌, true≢false, ℕ, ◌+◌, nat_eq, eqb-true, eq-eqb, Bool, true, false, not, cond, ◌||◌, List, [], ◌∷◌, ◌++◌, map, filter, find, Option, Some, None, is_some, option_map, unwrap_or, Ok, Err, ok_or}
 use Rattle.std.proofs.lemmas.Option.{same_Some}
 use Rattle.vt_call_laws.specs.Reached.{RootsStay, root_in}
-use Rattle.vt_laws.proofs.CallsJudged.{policy_judges_then_applies}
+use Rattle.vt_laws.proofs.judged.CallsJudged.{policy_judges_then_applies}
 use Rattle.vt_spec.specs.declared.errors.Rule.TheVariants.{S2}
 use Rattle.vt_spec.specs.Errors.{denial}
 use Rattle.vt_spec.specs.FileTree.{FileTree, a_name}
@@ -26,8 +26,8 @@ use Rattle.vt_spec.specs.Machine.Policy.{filesystems_changed_by, finished, finis
 use Rattle.vt_spec.specs.Machine.Settled.{filesystem_lives, only_used, only_used_by, settled, used_in, without_dead_filesystems, without_dead_in, without_dead_mounts}
 use Rattle.vt_spec.specs.Machine.World.{Filesystem, Layer, Overlay, Task, World, filesystem_at, filesystem_numbered, is_overlay, mount_at, mount_numbered, no_filesystem, replaced_if_numbered, task_called, without_task}
 use Rattle.vt_spec.specs.Tree.{Node}
-use Rattle.vt_tree_laws.proofs.TreesOfWorlds.{number_numbered, numbered}
-use Rattle.vt_tree_laws.proofs.ChangesByOthers.{lazily_filesystems, typed_filesystems}
+use Rattle.vt_tree_laws.proofs.trees.TreesOfWorlds.{number_numbered, numbered}
+use Rattle.vt_tree_laws.proofs.trees.ChangesByOthers.{lazily_filesystems, typed_filesystems}
 use Rattle.vt_spec.proofs.Worlds.{filesystems-taken_away, filesystems-without_replaced, root-emptied, root-marked, root-name_left_by}
 
 -- a change of a tree leaves its root

@@ -2,27 +2,27 @@
 use Rattle.std.proofs.Common.{◌≡◌, refl, sym, ap, ◌∙◌, inl, inr, ◌⊎◌, ⊎_elim, true≢false, ℕ, nat_eq, Bool, true, false, ◌&&◌, List, [], ◌∷◌, Option, Some, is_some, map, option_to_list, Result, Ok, Err, IfOk}
 use Rattle.std.proofs.lemmas.Bool.{and_parts}
 use Rattle.std.specs.Prelude.{Contains}
-use Rattle.vt_call_laws.proofs.EffectsRights.{ruled}
-use Rattle.vt_laws.proofs.GivenPermits.{given, permits_are_for_their_calls}
-use Rattle.vt_call_laws.proofs.InodesRemain.{only_unused_inodes_end}
+use Rattle.vt_call_laws.proofs.effects.EffectsRights.{ruled}
+use Rattle.vt_laws.proofs.given.GivenPermits.{given, permits_are_for_their_calls}
+use Rattle.vt_call_laws.proofs.inodes.InodesRemain.{only_unused_inodes_end}
 use Rattle.vt_laws.specs.Given.{IsFor}
 use Rattle.vt_call_laws.specs.Inodes.{change_of, inode_in, mounts_overlay}
-use Rattle.vt_laws.proofs.OwnRules.{denial_changes_nothing}
-use Rattle.vt_laws.proofs.Unchanged.{look_changes_nothing}
-use Rattle.vt_letting_go.proofs.AttachedSwept.{binds_keep_all, new_mounts_of_trees_keep_all}
-use Rattle.vt_letting_go.proofs.FilesChanged.{file_changes_let_go, opened_new_keeps_all}
-use Rattle.vt_letting_go.proofs.OfWorlds.{locations_of_worlds_stand, mounts_of_worlds_stand, worlds_are_settled}
-use Rattle.vt_letting_go.proofs.Retyped.{set_types_let_go}
-use Rattle.vt_letting_go.proofs.TaskCalls.{forks_keep_all, new_credentials_keep_all, new_umasks_keep_all, opened_files_keep_all}
-use Rattle.vt_letting_go.proofs.UsesKept.{flags_keep_all}
+use Rattle.vt_laws.proofs.rules.OwnRules.{denial_changes_nothing}
+use Rattle.vt_laws.proofs.denials.Unchanged.{look_changes_nothing}
+use Rattle.vt_letting_go.proofs.mounting.AttachedSwept.{binds_keep_all, new_mounts_of_trees_keep_all}
+use Rattle.vt_letting_go.proofs.leaving.FilesChanged.{file_changes_let_go, opened_new_keeps_all}
+use Rattle.vt_letting_go.proofs.sweeps.OfWorlds.{locations_of_worlds_stand, mounts_of_worlds_stand, worlds_are_settled}
+use Rattle.vt_letting_go.proofs.leaving.Retyped.{set_types_let_go}
+use Rattle.vt_letting_go.proofs.leaving.TaskCalls.{forks_keep_all, new_credentials_keep_all, new_umasks_keep_all, opened_files_keep_all}
+use Rattle.vt_letting_go.proofs.leaving.UsesKept.{flags_keep_all}
 use Rattle.vt_letting_go.specs.Attaching.{is_attached}
 use Rattle.vt_letting_go.specs.FileChanges.{IsMade, MayChange, names_lost}
 use Rattle.vt_letting_go.specs.InUse.{AllInUse, IsListedTree}
 use Rattle.vt_letting_go.specs.OneByOne.{let_go_groups}
 use Rattle.vt_letting_go.specs.Overlays.{let_go_all_inodes}
 use Rattle.vt_letting_go.specs.Retyping.{groups_of_types}
-use Rattle.vt_permit_laws.proofs.SeesFit.{given_changes_are_proper}
-use Rattle.vt_permit_laws.proofs.SeesTasks.{given_permits_are_seen_to}
+use Rattle.vt_permit_laws.proofs.sees.SeesFit.{given_changes_are_proper}
+use Rattle.vt_permit_laws.proofs.sees.SeesTasks.{given_permits_are_seen_to}
 use Rattle.vt_permit_laws.specs.Left.{IsGiven}
 use Rattle.vt_permit_laws.specs.Sees.{MayBeMade, SeesTo, SeesToChange}
 use Rattle.vt_spec.proofs.Lists.{contains_from_among}
@@ -57,12 +57,12 @@ use Rattle.vt_spec.specs.TreeLaws.{entry_at}
 use Rattle.vt_tree_laws.specs.Trees.{IsFileTree}
 use Rattle.vt_tree_laws.specs.Trees.Calls
 use Rattle.vt_tree_laws.specs.Trees.Limits.{names_few_groups}
-use Rattle.vt_tree_laws.proofs.ChangesKeepTrees.{changes_keep_numbers, changes_keep_trees}
-use Rattle.vt_tree_laws.proofs.TreesOfWorlds.{numbered}
-use Rattle.vt_world_laws.proofs.CallsKept.{name_found}
-use Rattle.vt_world_laws.proofs.FitPermitsNamed.{permits_fit}
+use Rattle.vt_tree_laws.proofs.trees.ChangesKeepTrees.{changes_keep_numbers, changes_keep_trees}
+use Rattle.vt_tree_laws.proofs.trees.TreesOfWorlds.{numbered}
+use Rattle.vt_world_laws.proofs.worlds.CallsKept.{name_found}
+use Rattle.vt_world_laws.proofs.worlds.FitPermitsNamed.{permits_fit}
 use Rattle.vt_world_laws.proofs.Plain.{plain_numbered}
-use Rattle.vt_world_laws.proofs.SeenTrees.{unused_inode}
+use Rattle.vt_world_laws.proofs.worlds.SeenTrees.{unused_inode}
 use Rattle.vt_world_laws.specs.Worlds.Kept.{IsPlain}
 use Rattle.vt_world_laws.specs.Worlds.Permits.{IsDestination, NamesWhatIsThere}
 use Rattle.vt_later_laws.proofs.AfterChange.{listed, raised_files}

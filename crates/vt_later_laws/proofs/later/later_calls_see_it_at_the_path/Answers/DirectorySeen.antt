@@ -25,7 +25,7 @@ use Rattle.vt_spec.specs.Tree.{Node, entries_in, entry_named, is_directory_node,
 use Rattle.vt_layer_laws.specs.Layers.Untouched.{IsKept}
 use Rattle.vt_permit_laws.specs.Sees.{MayBeRenamed}
 use Rattle.vt_world_laws.specs.Worlds.Kept.{IsPlain}
-use Rattle.vt_world_laws.proofs.Reached.{directory_no_link}
+use Rattle.vt_world_laws.proofs.worlds.Reached.{directory_no_link}
 use Rattle.vt_later_laws.specs.LaterNames.{IsAnsweredUnlessBy, RenameDirectoryThenList, RenameDirectoryThenLstat, StandsOutside}
 use Rattle.vt_later_laws.specs.Later.{IsAnswered}
 use Rattle.vt_later_laws.specs.LaterPaths.{IsAnsweredUnless, IsRefused, LooksFrom, reads_all}

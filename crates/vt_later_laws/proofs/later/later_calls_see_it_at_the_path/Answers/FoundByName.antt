@@ -29,10 +29,10 @@ use Rattle.vt_spec.specs.Rights.{is_directory, read_right}
 use Rattle.vt_spec.specs.Tree.{Node, entries_in, entry_named, is_directory_node, names_in}
 use Rattle.vt_spec.specs.TreeLaws.{entry_at}
 use Rattle.vt_permit_laws.specs.Sees.{MayBeRenamed}
-use Rattle.vt_permit_laws.proofs.SeesNames.{tree_here}
+use Rattle.vt_permit_laws.proofs.sees.SeesNames.{tree_here}
 use Rattle.vt_layer_laws.specs.Layers.Untouched.{IsKept}
 use Rattle.vt_world_laws.specs.Worlds.Kept.{IsPlain}
-use Rattle.vt_world_laws.proofs.Reached.{IsFound, directory_no_link}
+use Rattle.vt_world_laws.proofs.worlds.Reached.{IsFound, directory_no_link}
 use Rattle.vt_later_laws.specs.LaterNames.{LeadsToName, RenameThenFound, RenameThenListed}
 use Rattle.vt_later_laws.proofs.later.AfterRename.{free_left, free_over, is_left, may, new_left, object_left, object_shown, old_left, to_shown}
 use Rattle.vt_later_laws.proofs.Granted.{IsPermitted, permitted}

@@ -22,7 +22,7 @@ use Rattle.vt_spec.specs.Machine.Walking.{Place, is_special, name_of, old_walk, 
 use Rattle.vt_spec.specs.Machine.World.{Task, World, is_directory_at, mount_at, mount_numbered, node_at, task_called}
 use Rattle.vt_spec.specs.Rights.{execute_right}
 use Rattle.vt_spec.specs.Tree.{entries_in, entry_named, is_directory_node}
-use Rattle.vt_mount_laws.proofs.MountsPlaces.{same_location_itself}
+use Rattle.vt_mount_laws.proofs.mounts.MountsPlaces.{same_location_itself}
 use Rattle.vt_world_laws.specs.Worlds.Kept.{IsPlain}
 use Rattle.vt_later_laws.specs.Later.{IsOneInode}
 use Rattle.vt_later_laws.specs.LaterPaths.{RmdirThenLstat}

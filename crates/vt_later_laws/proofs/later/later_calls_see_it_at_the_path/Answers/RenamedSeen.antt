@@ -34,13 +34,13 @@ use Rattle.vt_spec.proofs.Nodes.{directory_used}
 use Rattle.vt_call_laws.specs.Inodes.{change_of}
 use Rattle.vt_letting_go.specs.FileChanges.{IsMoved}
 use Rattle.vt_permit_laws.specs.Sees.{MayBeRenamed, SeesTo}
-use Rattle.vt_permit_laws.proofs.SeesNames.{tree_here}
-use Rattle.vt_permit_laws.proofs.SeesTasks.{given_permits_are_seen_to}
+use Rattle.vt_permit_laws.proofs.sees.SeesNames.{tree_here}
+use Rattle.vt_permit_laws.proofs.sees.SeesTasks.{given_permits_are_seen_to}
 use Rattle.vt_tree_laws.specs.Trees.{IsFileTree}
 use Rattle.vt_world_laws.specs.Worlds.Kept.{IsPlain}
 use Rattle.vt_world_laws.proofs.Plain.{plain_numbered}
-use Rattle.vt_world_laws.proofs.Reached.{IsFound, directory_found, step_found}
-use Rattle.vt_world_laws.proofs.ReachedWalks.{own_directory_found, root_found}
+use Rattle.vt_world_laws.proofs.worlds.Reached.{IsFound, directory_found, step_found}
+use Rattle.vt_world_laws.proofs.worlds.ReachedWalks.{own_directory_found, root_found}
 use Rattle.vt_later_laws.specs.LaterPaths.{RenameThenLstat}
 use Rattle.vt_later_laws.proofs.AfterChange.{all_stays, later_mounts, node_changed, spent}
 use Rattle.vt_later_laws.proofs.Granted.{IsPermitted, permitted}

@@ -24,8 +24,8 @@ use Rattle.vt_spec.specs.Tree.{entries_in, entry_named}
 use Rattle.vt_spec.proofs.Nodes.{directory_used}
 use Rattle.vt_call_laws.specs.Inodes.{change_of}
 use Rattle.vt_permit_laws.specs.Sees.{SeesTo}
-use Rattle.vt_permit_laws.proofs.SeesNames.{tree_here}
-use Rattle.vt_permit_laws.proofs.SeesTasks.{given_permits_are_seen_to}
+use Rattle.vt_permit_laws.proofs.sees.SeesNames.{tree_here}
+use Rattle.vt_permit_laws.proofs.sees.SeesTasks.{given_permits_are_seen_to}
 use Rattle.vt_tree_laws.specs.Trees.{IsFileTree}
 use Rattle.vt_world_laws.specs.Worlds.Kept.{IsPlain}
 use Rattle.vt_later_laws.specs.LaterPaths.{UnlinkThenLstat}

@@ -37,12 +37,12 @@ use Rattle.vt_spec.specs.Tree.{Content, Node, is_directory_node, kind_of, node_w
 use Rattle.vt_spec.specs.Tree.Content.{Directory, Regular, Symlink, Whiteout}
 use Rattle.vt_call_laws.specs.Inodes.{change_of}
 use Rattle.vt_tree_laws.specs.Trees.{IsFileTree}
-use Rattle.vt_tree_laws.proofs.ChangesNodes.{there}
-use Rattle.vt_tree_laws.proofs.TreesWalked.{Ends}
+use Rattle.vt_tree_laws.proofs.trees.ChangesNodes.{there}
+use Rattle.vt_tree_laws.proofs.trees.TreesWalked.{Ends}
 use Rattle.vt_world_laws.specs.Worlds.Kept.{IsPlain}
-use Rattle.vt_world_laws.proofs.Reached.{others_are_files}
-use Rattle.vt_world_laws.proofs.ReachedPlaces.{IsEndPlace, file_walk_end}
-use Rattle.vt_world_laws.proofs.ReachedWalks.{own_directory_found, root_found}
+use Rattle.vt_world_laws.proofs.worlds.Reached.{others_are_files}
+use Rattle.vt_world_laws.proofs.worlds.ReachedPlaces.{IsEndPlace, file_walk_end}
+use Rattle.vt_world_laws.proofs.worlds.ReachedWalks.{own_directory_found, root_found}
 use Rattle.vt_later_laws.specs.LaterPaths.{IsAnsweredUnless, IsSeenByAll, WriteThenRead}
 use Rattle.vt_later_laws.proofs.AfterChange.{all_stays, later_is, spent}
 use Rattle.vt_later_laws.proofs.AttrSeen.{tree_there}

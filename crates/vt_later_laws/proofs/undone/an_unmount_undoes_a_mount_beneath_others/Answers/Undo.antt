@@ -11,10 +11,10 @@ use Rattle.vt_spec.specs.Machine.Receives.{receivers, receives}
 use Rattle.vt_spec.specs.Machine.World.{Filesystem, World, mount_at, mount_numbered}
 use Rattle.vt_spec.specs.Language.Calls.{MountFlags}
 use Rattle.vt_mount_laws.specs.Mounts.Propagation.{world_after}
-use Rattle.vt_mount_laws.proofs.BindsStand.{binds_keep_numbers, binds_keep_places, binds_keep_standing, new_mounts_keep_numbers, new_mounts_keep_places, new_mounts_keep_standing}
-use Rattle.vt_mount_laws.proofs.PropagationPremises.{binds_can, new_mounts_can}
-use Rattle.vt_mount_laws.proofs.Standing.{standing_is_computed}
-use Rattle.vt_mount_laws.proofs.Unsharing.{stands_on_mount}
+use Rattle.vt_mount_laws.proofs.attached.BindsStand.{binds_keep_numbers, binds_keep_places, binds_keep_standing, new_mounts_keep_numbers, new_mounts_keep_places, new_mounts_keep_standing}
+use Rattle.vt_mount_laws.proofs.propagation.PropagationPremises.{binds_can, new_mounts_can}
+use Rattle.vt_mount_laws.proofs.mounts.Standing.{standing_is_computed}
+use Rattle.vt_mount_laws.proofs.namespaces.Unsharing.{stands_on_mount}
 use Rattle.vt_later_laws.specs.Undone.{CoveredTakePart, NoneGoesWithTheCopies, UnmountTakesWhatStoodBeside, UnmountTakesWhatStoodThere, UnmountUndoesBindBeneath, UnmountUndoesNewMountBeneath}
 use Rattle.vt_later_laws.proofs.undone.Beneath.{copy_is_gone, has_its_record_back, masters_back, one_of, taken_along, taken_beside}
 

@@ -1,8 +1,8 @@
 -- Lines are refused by their own rules.
 use Rattle.std.proofs.Common.{refl, subst, ℕ, nat_eq, Bool, true, false, nat_lt, length, List, [], ◌∷◌, ◌++◌, Option, Some, None, Result, Ok, Err}
 use Rattle.std.specs.List.{list_any}
-use Rattle.vt_laws.proofs.Outcomes.{IsOwn, RefusesOwn, among_more, error_is}
-use Rattle.vt_laws.proofs.OwnRules.{policy_refuses_own}
+use Rattle.vt_laws.proofs.rules.Outcomes.{IsOwn, RefusesOwn, among_more, error_is}
+use Rattle.vt_laws.proofs.rules.OwnRules.{policy_refuses_own}
 use Rattle.vt_laws.specs.RuleOrder.{DeniedLineIsOwn, rules_of, rules_of_request}
 use Rattle.vt_spec.specs.declared.errors.Deny.{Deny}
 use Rattle.vt_spec.specs.declared.errors.Rule.{Rule}

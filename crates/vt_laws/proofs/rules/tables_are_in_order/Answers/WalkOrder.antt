@@ -1,6 +1,6 @@
 -- The rules of walks are in order, but for those of links and of slashes.
 use Rattle.std.proofs.Common.{◌≡◌, refl, subst, ℕ, nat_eq, Bool, true, false, not, ◌&&◌, is_some, [], ◌∷◌, ◌++◌, Option, Some, None, option_map, ok_or, Result, Ok, Err, IfErr, cond}
-use Rattle.vt_laws.proofs.Outcomes.{error_is}
+use Rattle.vt_laws.proofs.rules.Outcomes.{error_is}
 use Rattle.vt_laws.specs.RuleOrder.{MissingBeforeSlash, RemovedBeforeSlash, RemovedBeforeSlashOfRename, StepRulesInOrder}
 use Rattle.vt_laws.specs.RuleRanks.{IsInOrder}
 use Rattle.vt_spec.specs.declared.errors.Deny.{Deny}

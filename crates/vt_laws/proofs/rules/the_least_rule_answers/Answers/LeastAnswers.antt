@@ -3,7 +3,7 @@ use Rattle.std.proofs.Common.{◌≡◌, ◌∙◌, ◌+◌, refl, sym, subst, a
 use Rattle.std.specs.Result.{result_err}
 use Rattle.vt_laws.proofs.rules.the_least_rule_answers.Answers.AskedRules.{asked, decided, policy_asked}
 use Rattle.vt_laws.proofs.rules.the_least_rule_answers.Answers.LeastRule.{before_least, denied_as, front_in_order, least_as, none_fails, refused_as, table_least}
-use Rattle.vt_laws.proofs.TableOrder.{first_in_order, last_in_order}
+use Rattle.vt_laws.proofs.rules.TableOrder.{first_in_order, last_in_order}
 use Rattle.vt_laws.specs.Asked.{IsLeastOf, asked_first, asked_last, failing}
 use Rattle.vt_laws.specs.RuleOrder.{FirstRulesAnswer, LastRulesAnswer, NoTaskIsRefused, WalksAnswerNext}
 use Rattle.vt_laws.specs.RuleRanks.{IsInOrderAfterWalk, rank}

@@ -13,13 +13,13 @@ use Rattle.vt_spec.specs.Machine.Outcome.Mounting.{LayerPlaces, admin_rules, bin
 use Rattle.vt_spec.specs.Machine.Outcomes.{Outcome, after, granted, judged}
 use Rattle.vt_spec.specs.Errors.{Rules, denial}
 use Rattle.vt_spec.specs.Machine.World.{Task, World, mount_at, task_called, without_task}
-use Rattle.vt_mount_laws.proofs.MountsGranted.{answered, judged_granted, settles}
+use Rattle.vt_mount_laws.proofs.mounts.MountsGranted.{answered, judged_granted, settles}
 use Rattle.vt_spec.specs.Machine.Policy.{call_outcome, only_looks, policy}
 use Rattle.vt_spec.specs.Rights.{cap_sys_admin, cap_sys_chroot}
 use Rattle.vt_spec.specs.Machine.Outcome.Tasks.{exit_outcome, setns_outcome, unshare_outcome}
 use Rattle.vt_spec.specs.Machine.Rows.{lacks}
 use Rattle.vt_spec.specs.Machine.Detach.{lazily_unmounted, without_mounts_on}
-use Rattle.vt_mount_laws.proofs.MountsLeft.{mounts-with_change}
+use Rattle.vt_mount_laws.proofs.mounts.MountsLeft.{mounts-with_change}
 use Rattle.vt_spec.specs.Machine.Namespaces.{namespace_entered, namespaces_ended, pivoted, unshared}
 use Rattle.vt_spec.specs.Machine.Outcome.Removing.{object_there, removing, rmdir_outcome, rmdir_rules, rmdir_word_rules, is_one_object, moving, old_word_rules, rename_new_walk, rename_outcome, rename_rules, renamed_by, same_object_rules, without_replaced}
 use Rattle.vt_spec.specs.Machine.Filesystems.{with_change}

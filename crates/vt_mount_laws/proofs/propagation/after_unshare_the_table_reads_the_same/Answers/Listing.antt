@@ -14,11 +14,11 @@ use Rattle.vt_spec.specs.Machine.World.{Task, World, filesystem_numbered, is_ove
 use Rattle.vt_spec.specs.Machine.Invariants.{MountInvariants}
 use Rattle.vt_mount_laws.specs.Mounts.Attaching.{OneNumberAMount}
 use Rattle.vt_mount_laws.specs.Mounts.Propagation.{UnshareListsOthersTheSame, UnshareListsTheSame}
-use Rattle.vt_mount_laws.proofs.MountsCounted.{is_in}
-use Rattle.vt_mount_laws.proofs.MountsNumbered.{is_one_of, odds_apart, one_index, unshare_keeps_numbers}
-use Rattle.vt_mount_laws.proofs.MountsReplaced.{found_itself}
-use Rattle.vt_mount_laws.proofs.Unsharing.{itself, parent_of}
-use Rattle.vt_mount_laws.proofs.UnsharingNamespaces.{unshare_copies_mounts, unshare_leaves_namespaces}
+use Rattle.vt_mount_laws.proofs.mounts.MountsCounted.{is_in}
+use Rattle.vt_mount_laws.proofs.mounts.MountsNumbered.{is_one_of, odds_apart, one_index, unshare_keeps_numbers}
+use Rattle.vt_mount_laws.proofs.mounts.MountsReplaced.{found_itself}
+use Rattle.vt_mount_laws.proofs.namespaces.Unsharing.{itself, parent_of}
+use Rattle.vt_mount_laws.proofs.namespaces.UnsharingNamespaces.{unshare_copies_mounts, unshare_leaves_namespaces}
 
 pub map_alike : {A B C : Type 0} (f : A → C) (g : B → C) (h : A → B) (xs : List A)
     → ((x : A) → Among x xs → g (h x) ≡ f x) → map g (map h xs) ≡ map f xs

@@ -6,10 +6,10 @@ use Rattle.vt_spec.specs.Machine.Mounts.{Location}
 use Rattle.vt_spec.specs.Machine.Outcome.Mounting.{new_mount, with_new_filesystem}
 use Rattle.vt_spec.specs.Machine.World.{World}
 use Rattle.vt_mount_laws.specs.Mounts.Propagation.{NothingAtReceivers, UnmountUndoesBind, UnmountUndoesNewMount}
-use Rattle.vt_mount_laws.proofs.BindsStand.{binds_keep_places, new_mounts_keep_places}
-use Rattle.vt_mount_laws.proofs.PropagationPremises.{binds_can, new_mounts_can}
+use Rattle.vt_mount_laws.proofs.attached.BindsStand.{binds_keep_places, new_mounts_keep_places}
+use Rattle.vt_mount_laws.proofs.propagation.PropagationPremises.{binds_can, new_mounts_can}
 use Rattle.vt_mount_laws.proofs.propagation.an_unmount_undoes_a_mount.Answers.Undone.{NoneAtReceivers, copy_is_gone, has_its_record_back, masters_back}
-use Rattle.vt_mount_laws.proofs.Unsharing.{stands_on_mount}
+use Rattle.vt_mount_laws.proofs.namespaces.Unsharing.{stands_on_mount}
 
 none_at_receivers : (world : World ℕ) (place : Location ℕ) → NothingAtReceivers world place
     → NoneAtReceivers world place

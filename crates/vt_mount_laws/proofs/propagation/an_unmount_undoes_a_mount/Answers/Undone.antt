@@ -18,24 +18,24 @@ use Rattle.vt_mount_laws.specs.Mounts.Propagation.{Attachment, CanAttach, IsPart
 use Rattle.vt_mount_laws.specs.Mounts.Receivers.{GroupsLive}
 use Rattle.vt_mount_laws.specs.Mounts.Unmounting.{Goes, goes_with, has_its_master, mount_left}
 use Rattle.vt_mount_laws.specs.Mounts.Unmounting.Goes.{alone, at_receiver, from_nowhere}
-use Rattle.vt_mount_laws.proofs.AttachedMasters.{old_master}
-use Rattle.vt_mount_laws.proofs.Attaching.{taker_there}
+use Rattle.vt_mount_laws.proofs.attached.AttachedMasters.{old_master}
+use Rattle.vt_mount_laws.proofs.attached.Attaching.{taker_there}
 use Rattle.vt_mount_laws.proofs.GroupsKept.{member_shared, shared_member}
 use Rattle.vt_mount_laws.proofs.GroupsUp.{live_members, lives_in}
 use Rattle.vt_mount_laws.proofs.GroupsUp.Up.{above, here}
-use Rattle.vt_mount_laws.proofs.MountsAttached.{attach_leaves_mounts, new_mounts_follow, push_keeps}
-use Rattle.vt_mount_laws.proofs.MountsFound.{found_in, found_there}
-use Rattle.vt_mount_laws.proofs.MountsNumbered.{attach_keeps_numbers, is_one_of}
-use Rattle.vt_mount_laws.proofs.MountsPlaces.{found_at_its_place, stands_there}
-use Rattle.vt_mount_laws.proofs.MountsReplaced.{found_itself}
-use Rattle.vt_mount_laws.proofs.PropagationAttaching.{copies_are_new, each_is_copied, first_stands_on_its_part, is_copy, serve_images, supply}
-use Rattle.vt_mount_laws.proofs.PropagationCopies.{copies, push}
-use Rattle.vt_mount_laws.proofs.PropagationHeard.{groups_after, only_part}
-use Rattle.vt_mount_laws.proofs.PropagationHearing.{old_up, old_up_after}
-use Rattle.vt_mount_laws.proofs.PropagationUp.{heard, hears, lives_up}
-use Rattle.vt_mount_laws.proofs.Receivers.{receives_completely, receives_soundly, receives_from_source}
-use Rattle.vt_mount_laws.proofs.Unmounting.{root_mounts_stay, unmount_keeps_the_order, what_goes_is_detached, what_stays_keeps, what_stays_keeps_its_place, what_stays_keeps_its_type, groups_keep_their_masters, middle}
-use Rattle.vt_mount_laws.proofs.UnmountingGoes.{what_goes_is_named}
+use Rattle.vt_mount_laws.proofs.mounts.MountsAttached.{attach_leaves_mounts, new_mounts_follow, push_keeps}
+use Rattle.vt_mount_laws.proofs.mounts.MountsFound.{found_in, found_there}
+use Rattle.vt_mount_laws.proofs.mounts.MountsNumbered.{attach_keeps_numbers, is_one_of}
+use Rattle.vt_mount_laws.proofs.mounts.MountsPlaces.{found_at_its_place, stands_there}
+use Rattle.vt_mount_laws.proofs.mounts.MountsReplaced.{found_itself}
+use Rattle.vt_mount_laws.proofs.propagation.PropagationAttaching.{copies_are_new, each_is_copied, first_stands_on_its_part, is_copy, serve_images, supply}
+use Rattle.vt_mount_laws.proofs.propagation.PropagationCopies.{copies, push}
+use Rattle.vt_mount_laws.proofs.propagation.PropagationHeard.{groups_after, only_part}
+use Rattle.vt_mount_laws.proofs.propagation.PropagationHearing.{old_up, old_up_after}
+use Rattle.vt_mount_laws.proofs.propagation.PropagationUp.{heard, hears, lives_up}
+use Rattle.vt_mount_laws.proofs.mounts.Receivers.{receives_completely, receives_soundly, receives_from_source}
+use Rattle.vt_mount_laws.proofs.ends.Unmounting.{root_mounts_stay, unmount_keeps_the_order, what_goes_is_detached, what_stays_keeps, what_stays_keeps_its_place, what_stays_keeps_its_type, groups_keep_their_masters, middle}
+use Rattle.vt_mount_laws.proofs.ends.UnmountingGoes.{what_goes_is_named}
 use Rattle.vt_spec.proofs.Worlds.{master-regrouped_by, number-mount_in}
 
 -- the attachment of one mount, of which no copy goes onto another mount

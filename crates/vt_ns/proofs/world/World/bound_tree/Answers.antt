@@ -4,7 +4,7 @@ use Rattle.std.proofs.lemmas.List.{append-nil, nil_from_length}
 use Rattle.vt_location.specs.Locations.{location_of}
 use Rattle.vt_mount.proofs.PlaceLemmas.{counts, numbers}
 use Rattle.vt_mount.specs.MountsValue.{mounts_in}
-use Rattle.vt_mount_laws.proofs.MountsFound.{number_found}
+use Rattle.vt_mount_laws.proofs.mounts.MountsFound.{number_found}
 use Rattle.vt_spec.specs.Machine.Attach.{bind_tree, bindable_children, bindable_tree, stands_under}
 use Rattle.vt_ns.specs.Trees.{bindable_to_come}
 use Rattle.vt_detach.specs.WorldValue.{world_of}

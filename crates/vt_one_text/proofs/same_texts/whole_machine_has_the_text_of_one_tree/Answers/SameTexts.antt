@@ -5,10 +5,10 @@ use Rattle.vt_spec.specs.Language.Script as Script
 use Rattle.vt_spec.specs.Machine.World as MachineWorld
 use Rattle.vt_spec.specs.OneTree.Run as Tree
 use Rattle.vt_spec.specs.OneTree.World.{World, opening}
-use Rattle.vt_one_text.proofs.OneTreeRuns.{files_are_told}
-use Rattle.vt_one_text.proofs.OneTreeTexts.{language_text_is_the_text, one_tree_has_one_text}
+use Rattle.vt_one_text.proofs.one_tree.OneTreeRuns.{files_are_told}
+use Rattle.vt_one_text.proofs.one_tree.OneTreeTexts.{language_text_is_the_text, one_tree_has_one_text}
 use Rattle.vt_one_text.specs.SameTexts.{FilesTextIsTheText, MachineTextIsTheText}
-use Rattle.vt_laws.proofs.Texts.{some_text_is_there, texts_are_told}
+use Rattle.vt_laws.proofs.numbers.Texts.{some_text_is_there, texts_are_told}
 
 -- Of each line it is said whether it was refused memory: of those of which nothing was said, that they were not.
 fitted : List (List ℕ) → List Bool → List Bool

@@ -2,14 +2,14 @@
 use Rattle.std.proofs.Common.{◌≡◌, refl, subst, ℕ, ◌+◌, ◌%◌, nat_eq, true, false}
 use Rattle.std.specs.List.{list_all}
 use Rattle.vt_laws.specs.Numbers.{KeepsTo}
-use Rattle.vt_permit_laws.proofs.InUseServes.{counts_serve_worlds, handed_numbers_serve_worlds}
-use Rattle.vt_permit_laws.proofs.PermitsLeave.{given_permits_leave_worlds}
-use Rattle.vt_permit_laws.proofs.SameInUse.{same_worlds_are_worlds}
-use Rattle.vt_permit_laws.proofs.SameNumbers.{same_worlds_keep_to_numbers}
+use Rattle.vt_permit_laws.proofs.in_use.InUseServes.{counts_serve_worlds, handed_numbers_serve_worlds}
+use Rattle.vt_permit_laws.proofs.left.PermitsLeave.{given_permits_leave_worlds}
+use Rattle.vt_permit_laws.proofs.same.SameInUse.{same_worlds_are_worlds}
+use Rattle.vt_permit_laws.proofs.same.SameNumbers.{same_worlds_keep_to_numbers}
 use Rattle.vt_permit_laws.proofs.steps.steps_keep_worlds.Answers.Ungrouped.{left_free}
-use Rattle.vt_permit_laws.proofs.TakenGiven.{given_counts_go_on, no_overlay_given}
-use Rattle.vt_permit_laws.proofs.TakenJudged.{given_with_any_supply}
-use Rattle.vt_permit_laws.proofs.TakenNumbers.{counted_later}
+use Rattle.vt_permit_laws.proofs.taken.TakenGiven.{given_counts_go_on, no_overlay_given}
+use Rattle.vt_permit_laws.proofs.taken.TakenJudged.{given_with_any_supply}
+use Rattle.vt_permit_laws.proofs.taken.TakenNumbers.{counted_later}
 use Rattle.vt_permit_laws.specs.InUse.{is_in_use}
 use Rattle.vt_permit_laws.specs.Left.{left_by}
 use Rattle.vt_permit_laws.specs.Steps.{StepsAreGiven, StepsKeepWorlds, StepsStayUngrouped, makes_inode}

@@ -4,9 +4,9 @@ use Rattle.std.specs.Prelude.{All, option_map}
 use Rattle.std.specs.List.{list_all}
 use Rattle.std.proofs.lemmas.Bool.{and_parts}
 use Rattle.vt_letting_go.proofs.Lists.{Among, all_pass, among-from_filter, among-from_flat_map, passes}
-use Rattle.vt_permit_laws.proofs.TakenAttached.{at_destination, copy_by, twigs}
-use Rattle.vt_permit_laws.proofs.TakenFirst.{IsNoOverlay, found_ungrouped}
-use Rattle.vt_permit_laws.proofs.TakenTypes.{found_is, makes_groups, tree_is}
+use Rattle.vt_permit_laws.proofs.taken.TakenAttached.{at_destination, copy_by, twigs}
+use Rattle.vt_permit_laws.proofs.taken.TakenFirst.{IsNoOverlay, found_ungrouped}
+use Rattle.vt_permit_laws.proofs.taken.TakenTypes.{found_is, makes_groups, tree_is}
 use Rattle.vt_permit_laws.specs.Steps.{makes_shared}
 use Rattle.vt_permit_laws.specs.Taken.{IsUngrouped, is_ungrouped}
 use Rattle.vt_spec.specs.Language.Calls.{TypeWord}

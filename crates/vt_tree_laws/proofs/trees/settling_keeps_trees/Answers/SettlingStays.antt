@@ -14,8 +14,8 @@ use Rattle.vt_spec.specs.Machine.World.{Filesystem, World, all_locations, filesy
 use Rattle.vt_spec.proofs.Nodes.{none_is_not}
 use Rattle.vt_tree_laws.specs.Trees.{IsFileTree}
 use Rattle.vt_tree_laws.specs.Trees.Settling.{HasFileTrees, HoldsTree, LocatedStays, NamedStays}
-use Rattle.vt_tree_laws.proofs.TreesForgotten.{among_located, entry_used, named_is_used, used_stays, without_dead_in_is}
-use Rattle.vt_tree_laws.proofs.TreesOfWorlds.{number_numbered, numbered, numbered_all}
+use Rattle.vt_tree_laws.proofs.trees.TreesForgotten.{among_located, entry_used, named_is_used, used_stays, without_dead_in_is}
+use Rattle.vt_tree_laws.proofs.trees.TreesOfWorlds.{number_numbered, numbered, numbered_all}
 use Rattle.vt_spec.proofs.Worlds.{number-only_used, same_location_is}
 
 -- A filesystem of a shorter list, where those of its number stay

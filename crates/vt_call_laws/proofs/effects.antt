@@ -1,0 +1,3 @@
+-- What the proofs of src/effects.rt use.
+pub mod EffectsRights
+pub mod EffectsSearched

@@ -1,0 +1,6 @@
+-- What the proofs of src/changing.rt use.
+pub mod Changes
+pub mod KeptAll
+pub mod NameCounts
+pub mod SameAfter
+pub mod TreeCounts

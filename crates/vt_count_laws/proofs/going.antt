@@ -1,0 +1,2 @@
+-- What the proofs of src/going.rt use.
+pub mod Gone

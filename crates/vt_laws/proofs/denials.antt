@@ -1,0 +1,2 @@
+-- What the proofs of src/denials.rt use.
+pub mod Unchanged

@@ -1,0 +1,2 @@
+-- What the proofs of src/given.rt use.
+pub mod GivenPermits

@@ -1,0 +1,5 @@
+-- What the proofs of src/rules.rt use.
+pub mod Outcomes
+pub mod OwnRules
+pub mod TableOrder
+pub mod WalkRules

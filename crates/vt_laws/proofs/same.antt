@@ -1,0 +1,5 @@
+-- What the proofs of src/same.rt use.
+pub mod SameFiles
+pub mod SameJudged
+pub mod SameLooks
+pub mod SameMany

@@ -1,0 +1,3 @@
+-- What the proofs of src/ends.rt use.
+pub mod NamespacesEnd
+pub mod TasksEnd

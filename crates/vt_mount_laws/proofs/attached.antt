@@ -1,0 +1,9 @@
+-- What the proofs of src/attached.rt use.
+pub mod AttachedGroups
+pub mod AttachedKept
+pub mod AttachedMasters
+pub mod AttachedNowhere
+pub mod AttachedTypes
+pub mod Attaching
+pub mod AttachingPlaces
+pub mod BindsStand

@@ -1,0 +1,6 @@
+-- What the proofs of src/moves.rt use.
+pub mod Moving
+pub mod MovingLeaves
+pub mod MovingPlaces
+pub mod MovingRoots
+pub mod MovingStands

@@ -1,0 +1,9 @@
+-- What the proofs of src/propagation.rt use.
+pub mod PropagationAbove
+pub mod PropagationAttaching
+pub mod PropagationCopies
+pub mod PropagationHeard
+pub mod PropagationHearing
+pub mod PropagationPremises
+pub mod PropagationTypes
+pub mod PropagationUp

@@ -1,0 +1,26 @@
+-- What the proofs of src/one_tree.rt use.
+pub mod OneTreeChanges
+pub mod OneTreeCounts
+pub mod OneTreeDescriptors
+pub mod OneTreeEntries
+pub mod OneTreeForks
+pub mod OneTreeJudged
+pub mod OneTreeLanguage
+pub mod OneTreeLinks
+pub mod OneTreeLooks
+pub mod OneTreeMakes
+pub mod OneTreeMaking
+pub mod OneTreeMoves
+pub mod OneTreeNames
+pub mod OneTreeNumbers
+pub mod OneTreeOpening
+pub mod OneTreeOpens
+pub mod OneTreeRenamed
+pub mod OneTreeRenames
+pub mod OneTreeRewrites
+pub mod OneTreeRuns
+pub mod OneTreeSettled
+pub mod OneTreeTasks
+pub mod OneTreeTexts
+pub mod OneTreeTrees
+pub mod OneTreeWalks

@@ -1,0 +1,3 @@
+-- What the proofs of src/named.rt use.
+pub mod NamedPermits
+pub mod PermitsKeepTo

@@ -1,0 +1,5 @@
+-- What the proofs of src/sees.rt use.
+pub mod SeesFit
+pub mod SeesGiven
+pub mod SeesNames
+pub mod SeesTasks

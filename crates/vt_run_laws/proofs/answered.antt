@@ -1,0 +1,14 @@
+-- What the proofs of src/answered.rt use.
+pub mod AlikeAnswered
+pub mod AlikeApplied
+pub mod AlikeAttached
+pub mod AlikeChanges
+pub mod AlikeDirected
+pub mod AlikeLines
+pub mod AlikeListed
+pub mod AlikeMounts
+pub mod AlikeNamespaces
+pub mod AlikeRenamed
+pub mod AlikeSettled
+pub mod AlikeWorlds
+pub mod TaskChanges

@@ -1,0 +1,3 @@
+-- What the proofs of src/handed.rt use.
+pub mod Counts
+pub mod InodesAllotted

@@ -1,0 +1,196 @@
+-- A run that goes on from worlds that are the same writes a text that may be written, and so the one text.
+use Rattle.std.proofs.Common.{◌≡◌, refl, sym, ap, ◌∙◌, subst, true≢false, ℕ, suc, nat_eq, ◌+◌, ◌≤◌, Bool, true, false, List, [], ◌∷◌, ◌++◌, Some, None, arith}
+use Rattle.std.specs.Prelude.{All}
+use Rattle.std.proofs.lemmas.List.Elements.{All-cons, All-head, All-tail}
+use Rattle.vt_laws.proofs.numbers.Allotments.{agree, allotted_kept, allotted_new, joined, kept_lot}
+use Rattle.vt_laws.proofs.numbers.Renamings.{named_world}
+use Rattle.vt_laws.proofs.numbers.Rows.{row, row-spread, spread}
+use Rattle.vt_laws.proofs.numbers.Stages.{stage, stage_keeps, stage_new, stage_rows}
+use Rattle.vt_laws.proofs.numbers.Supports.{opening_alike, opening_keeps_to_four}
+use Rattle.vt_laws.proofs.numbers.Texts.{first_early, line_alike, line_leads, refused_alike, refused_leads, whole_machine_has_one_text, worlds_keep_to_hand}
+use Rattle.vt_laws.specs.Numbers.{Allotment, KeepsTo, Lot, ServesWithRoom, TellsWithRoom, first_four, is_in_hand, is_in_hand_lot, is_kept, is_kept_lot}
+use Rattle.vt_laws.specs.Numbers.Lot.{Kept, LeftOver, New}
+use Rattle.vt_laws.proofs.numbers.Commuting.{Named, commutes_nat}
+use Rattle.vt_laws.specs.Renaming.{Renaming}
+use Rattle.vt_run_laws.proofs.answered.AlikeLines.{line_step_alike}
+use Rattle.vt_run_laws.proofs.answered.AlikeRenamed.{same_renamed}
+use Rattle.vt_run_laws.proofs.answered.AlikeWorlds.{Alike, alike_back, alike_from_same, alike_onward, plain_from_alike, sameness_is_an_equivalence}
+use Rattle.vt_run_laws.proofs.runs.Seats.{Start, started}
+use Rattle.vt_run_laws.specs.Answered.{IsPlain}
+use Rattle.vt_run_laws.specs.Runs.{RunsHaveOneText, TellsAlike, asks_for_overlay}
+use Rattle.vt_spec.specs.Language.Script.{Grammar, lines_of, request_of}
+use Rattle.vt_spec.specs.Lists.{Fresh}
+use Rattle.vt_spec.specs.Machine.Renaming.{renamed}
+use Rattle.vt_spec.specs.Machine.Run.{first_world, line_step, step_world}
+use Rattle.vt_spec.specs.Machine.SameWorlds.{SameWorlds}
+use Rattle.vt_spec.specs.Machine.World.{Filesystem, World, is_overlay, new_plain, opening}
+
+-- A line that is handed some supply, and the same line in the renamed world that is handed the next row
+module _ (m : ℕ) (renaming : Renaming ℕ ℕ) (in_hand : ℕ → Bool) (world : World ℕ)
+    (early : (number : ℕ) → in_hand number ≡ true → row (renaming.there number) ≤ m) (allotment : Allotment)
+    (serves : ServesWithRoom in_hand world allotment) where
+  is_kept_there : ℕ → Bool
+  is_kept_there number = is_kept allotment (renaming.back number)
+
+  keeps_early : (number : ℕ) → is_kept_there number ≡ true → row number ≤ m
+  unfolding is_kept_there
+  keeps_early number is =
+      let low = early (renaming.back number) (serves.from_hand (renaming.back number) is) in
+      let there : row (renaming.there (renaming.back number)) ≡ row number = ap row (renaming.there_back number) in
+      omega arith
+
+  next_row : Allotment
+  next_row = stage m is_kept_there keeps_early
+
+  next : Renaming ℕ ℕ
+  unfolding is_kept_there next_row
+  next = joined allotment next_row renaming (λ number. stage_keeps m is_kept_there keeps_early number)
+
+  next_kept : (number : ℕ) → is_kept allotment number ≡ true → next.there number ≡ renaming.there number
+  unfolding next joined
+  next_kept number is =
+      allotted_kept allotment next_row renaming.there number (kept_lot (allotment.lot number) is)
+
+  next_new : (number k : ℕ) → allotment.lot number ≡ New k → next.there number ≡ spread (suc m) k
+  unfolding next next_row joined
+  next_new number k e =
+      allotted_new allotment next_row renaming.there number k e ∙ stage_new m is_kept_there keeps_early k
+
+  next_same : renamed next.there next.back world ≡ renamed renaming.there renaming.back world
+  next_same = agree (is_kept allotment) world renaming next serves.keeps next_kept
+
+  next_early : (number : ℕ) → is_in_hand allotment number ≡ true → row (next.there number) ≤ suc m
+  next_early number = by (allotment.lot number) refl
+    where
+      by : (lot : Lot) → allotment.lot number ≡ lot → is_in_hand_lot lot ≡ true → row (next.there number) ≤ suc m
+      by Kept e is =
+          let kept : is_kept allotment number ≡ true = ap is_kept_lot e in
+          let low = early number (serves.from_hand number kept) in
+          let there : row (next.there number) ≡ row (renaming.there number) = ap row (next_kept number kept) in
+          omega arith
+      by (New k) e is =
+          let there : row (next.there number) ≡ suc m = ap row (next_new number k e) ∙ row-spread (suc m) k in
+          omega arith
+      by (LeftOver k) e is = absurd (true≢false (sym is))
+
+-- The next world, renamed, and the one that the row leads to
+module _ (renaming : Renaming ℕ ℕ) (left next reached there : World ℕ) (same : SameWorlds left next)
+    (leads : renamed renaming.there renaming.back left ≡ reached) (alike : Alike reached there) where
+  goes_on_alike : Alike (renamed renaming.there renaming.back next) there
+  goes_on_alike =
+      alike_onward (renamed renaming.there renaming.back next) reached there
+      (alike_back reached (renamed renaming.there renaming.back next)
+      (alike_from_same reached (renamed renaming.there renaming.back next)
+      (subst (λ world. SameWorlds world (renamed renaming.there renaming.back next)) leads
+      (same_renamed renaming left next same))
+      (plain_from_alike reached there alike)))
+      alike
+
+module _ (grammar : Grammar) (in_hand : ℕ → Bool) where
+  -- a line that was refused memory changes nothing
+  refused_keeps : (mine : ℕ → Bool) (world : World ℕ) (line : List ℕ) → KeepsTo mine world
+      → KeepsTo mine (step_world world (line_step nat_eq grammar world line None))
+  refused_keeps mine world line keeps renaming leaves =
+      refused_leads renaming grammar world world (keeps renaming leaves) line
+
+  stage_serves : (m : ℕ) (mine : ℕ → Bool) (world : World ℕ) → KeepsTo mine world
+      → (early : (number : ℕ) → mine number ≡ true → row number ≤ m)
+      → ServesWithRoom mine world (stage m mine early)
+  stage_serves m mine world keeps early = record {
+    from_hand = λ number is. sym (stage_keeps m mine early number) ∙ is;
+    keeps = λ renaming leaves.
+        keeps renaming (λ number is. leaves number (stage_keeps m mine early number ∙ is));
+  }
+
+  abbrev Asks : List ℕ → Type 0
+  Asks line = asks_for_overlay (request_of grammar line) ≡ false
+
+  told_alike : (lines : List (List ℕ)) (refused : List Bool) (m number : ℕ) (renaming : Renaming ℕ ℕ)
+      (world other : World ℕ) (mine : ℕ → Bool)
+      → Alike (renamed renaming.there renaming.back world) other
+      → ((k : ℕ) → in_hand k ≡ true → row (renaming.there k) ≤ m)
+      → KeepsTo mine other → ((k : ℕ) → mine k ≡ true → row k ≤ m) → All Asks lines
+      → (text : List ℕ) → TellsAlike grammar in_hand world number lines refused text
+      → TellsWithRoom grammar mine other number lines refused text
+  unfolding stage
+  told_alike [] refused m number renaming world other mine alike early keeps mine_early asks text tells = tells
+  told_alike (line ∷ lines) [] m number renaming world other mine alike early keeps mine_early asks text tells =
+      absurd tells
+  told_alike (line ∷ lines) (true ∷ refused) m number renaming world other mine alike early keeps mine_early asks text
+      tells =
+      let here : World ℕ = renamed renaming.there renaming.back world in
+      let steps = line_step_alike here other alike grammar line None (All-head Asks line lines asks) in
+      let written = refused_alike renaming grammar world here refl line number ∙ steps.text number in (
+        tells.2,
+        tells.3 ∙ ap (λ first. first ++ tells.2) written,
+        told_alike lines refused (suc m) (number + 1) renaming tells.0 _ mine
+            (goes_on_alike renaming _ tells.0 _ _ tells.1
+            (refused_leads renaming grammar world here refl line) steps.worlds)
+            (λ k is. let low = early k is in omega arith) (refused_keeps mine other line keeps)
+            (λ k is. let low = mine_early k is in omega arith) (All-tail Asks line lines asks) tells.2 tells.4,
+      )
+  told_alike (line ∷ lines) (false ∷ refused) m number renaming world other mine alike early keeps mine_early asks text
+      tells =
+      let allotment = tells.0 in
+      let joint = next m renaming in_hand world early allotment tells.1.serves in
+      let here : World ℕ = renamed joint.there joint.back world in
+      let supplied = λ (k : ℕ).
+      next_new m renaming in_hand world early allotment tells.1.serves (allotment.new k) k (allotment.new_lot k) in
+      let again : Alike here other =
+      subst (λ there. Alike there other)
+      (sym (next_same m renaming in_hand world early allotment tells.1.serves)) alike in
+      let steps = line_step_alike here other again grammar line (Some (spread (suc m)))
+      (All-head Asks line lines asks) in
+      let written =
+      line_alike joint grammar world here refl line allotment.new (spread (suc m)) supplied number
+      ∙ steps.text number in
+      let serves = stage_serves m mine other keeps mine_early in (
+        stage m mine mine_early,
+        serves,
+        tells.4,
+        tells.5 ∙ ap (λ first. first ++ tells.4) written,
+        told_alike lines refused (suc m) (number + 1) joint tells.2 _ (is_in_hand (stage m mine mine_early))
+            (goes_on_alike joint _ tells.2 _ _ tells.3
+            (line_leads joint grammar world here refl line allotment.new (spread (suc m)) supplied) steps.worlds)
+            (λ k is. next_early m renaming in_hand world early allotment tells.1.serves k (tells.1.stays k is))
+            (worlds_keep_to_hand grammar mine other (stage m mine mine_early) line serves)
+            (stage_rows m mine mine_early) (All-tail Asks line lines asks) tells.4 tells.6,
+      )
+
+-- The opening world
+
+named_supply : Named Fresh
+named_supply = record { rename = λ A B there back fresh k. there (fresh k); itself = λ A fresh. refl }
+
+opening_renamed : (renaming : Renaming ℕ ℕ) (fresh : Fresh ℕ)
+    → opening nat_eq (λ k. renaming.there (fresh k)) ≡ renamed renaming.there renaming.back (opening nat_eq fresh)
+unfolding named_supply
+opening_renamed renaming fresh =
+    commutes_nat Fresh World named_supply named_world (λ A eq supply. opening eq supply) renaming fresh
+
+first_plain : IsPlain first_world
+first_plain =
+    All-cons (λ (filesystem : Filesystem ℕ). is_overlay filesystem ≡ false) (new_plain nat_eq 2 3) [] refl
+    (λ k d below. absurd (omega arith))
+
+first_alike : Alike first_world first_world
+first_alike =
+    alike_from_same first_world first_world (sameness_is_an_equivalence.itself first_world) first_plain
+
+pub runs_have_one_text : RunsHaveOneText
+runs_have_one_text grammar refused script text in_hand fresh leaves opens asks tells =
+    whole_machine_has_one_text grammar refused script text
+    (told_alike grammar in_hand (lines_of script) refused 0 1 start.renaming
+    (opening nat_eq fresh) first_world first_four
+    (subst (λ world. Alike world first_world) (sym opened) first_alike)
+    (λ k is. let first : row (start.renaming.there k) ≡ 0 = start.early k is in omega arith)
+    (opening_keeps_to_four first_four (λ place. place) refl refl refl refl) first_early asks text tells)
+  where
+    start : Start in_hand leaves fresh 4
+    start = started in_hand leaves fresh opens
+
+    opened : renamed start.renaming.there start.renaming.back (opening nat_eq fresh) ≡ first_world
+    opened =
+        sym (opening_renamed start.renaming fresh)
+        ∙ opening_alike (λ k. start.renaming.there (fresh k)) (λ place. place) (start.fixed 0 (omega arith))
+        (start.fixed 1 (omega arith)) (start.fixed 2 (omega arith)) (start.fixed 3 (omega arith))

@@ -1,0 +1,2 @@
+-- What the proofs of src/opening.rt use.
+pub mod OpeningWorld

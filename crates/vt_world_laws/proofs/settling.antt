@@ -1,0 +1,4 @@
+-- What the proofs of src/settling.rt use.
+pub mod SettledMounts
+pub mod SettledSeen
+pub mod SettledTasks
