@@ -11,7 +11,7 @@ use std::{env, io};
 use vt_script::RunFault;
 
 /// The version of the program and of what a script may say.
-pub const VERSION: &str = "0.3.0";
+pub const VERSION: &str = "0.4.0";
 
 const ABOUT: &str =
     "Answers calls on a file tree as Linux would, with the rule by which each is granted or refused";

@@ -34,7 +34,7 @@ const FAULTS: [(&[&str], u8, &str); 6] = [
         2,
         "unrecognized subcommand 'frob'; `vtree --help` says what it takes",
     ),
-    (&["vtree", "--version"], 2, "vtree 0.3.0\n"),
+    (&["vtree", "--version"], 2, "vtree 0.4.0\n"),
     (
         &["vtree", "run", "/no/such/file"],
         1,
