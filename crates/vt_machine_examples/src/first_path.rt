@@ -1,7 +1,7 @@
 //! Worked examples: first path.
 ghost use Rattle.std.specs.Prelude.{◌≡◌, [], codes, ◌++◌, replicate};
 ghost use Rattle.vt_spec.specs.Machine.Run.{machine_text, script_text};
-ghost use Rattle.vt_spec.specs.Language.Script.Version.{One};
+ghost use Rattle.vt_spec.specs.Language.Script.{Version};
 
 /// An empty script writes nothing.
 pub fn empty_script()
@@ -10,7 +10,7 @@ pub fn empty_script()
 
 /// The same of the whole machine.
 pub fn empty_script_in_the_whole()
-    ensures { machine_text One [] (codes "") ≡ codes "" }
+    ensures { (version : Version) → machine_text version [] (codes "") ≡ codes "" }
 {}
 
 /// A directory is made and the root listed.
@@ -20,7 +20,7 @@ pub fn one_directory_listed()
 
 /// The same of the whole machine.
 pub fn one_directory_listed_in_the_whole()
-    ensures { machine_text One [] (codes "t mkdir /d\nt ls /\n") ≡ codes "1 ok\n2 ok d\n" }
+    ensures { (version : Version) → machine_text version [] (codes "t mkdir /d\nt ls /\n") ≡ codes "1 ok\n2 ok d\n" }
 {}
 
 /// Make, write, read and list on one tree; dropped capabilities; wrong kinds and missing names.
@@ -34,7 +34,7 @@ pub fn one_task_one_tree()
 
 /// The same of the whole machine.
 pub fn one_task_one_tree_in_the_whole()
-    ensures { machine_text One [] (codes "t mkdir /d 700\nt write /d/f hi\nt read /d/f\nt ls /d/../d/.\nt mkdir /d\nt read /d\nt ls /d/f\n"
+    ensures { (version : Version) → machine_text version [] (codes "t mkdir /d 700\nt write /d/f hi\nt read /d/f\nt ls /d/../d/.\nt mkdir /d\nt read /d\nt ls /d/f\n"
         ++ codes "t read /g\nt mkdir /n 0\nt drop *\nt ls /n\nt ls /n/x\nt write /f \\e\nt read /f\nt ls /\n")
         ≡ codes "1 ok\n2 ok\n3 ok hi\n4 ok f\n5 deny 17 EEXIST E1\n6 deny 21 EISDIR E2\n7 deny 20 ENOTDIR W3\n"
         ++ codes "8 deny 2 ENOENT W6\n9 ok\n10 ok\n11 deny 13 EACCES C1\n12 deny 13 EACCES W4\n13 ok\n14 ok \\e\n"
@@ -49,7 +49,7 @@ pub fn line_of_8192_bytes()
 
 /// The same of the whole machine.
 pub fn line_of_8192_bytes_in_the_whole()
-    ensures { machine_text One [] (codes "t write /f " ++ replicate 8181 97 ++ codes "\n")
+    ensures { (version : Version) → machine_text version [] (codes "t write /f " ++ replicate 8181 97 ++ codes "\n")
         ≡ codes "1 ok\n" }
 {}
 
@@ -61,6 +61,6 @@ pub fn line_of_8193_bytes()
 
 /// The same of the whole machine.
 pub fn line_of_8193_bytes_in_the_whole()
-    ensures { machine_text One [] (codes "t write /f " ++ replicate 8182 97 ++ codes "\n")
+    ensures { (version : Version) → machine_text version [] (codes "t write /f " ++ replicate 8182 97 ++ codes "\n")
         ≡ codes "1 deny 22 EINVAL S1\n" }
 {}

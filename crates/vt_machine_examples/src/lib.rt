@@ -13,7 +13,6 @@ pub mod credentials_links_descriptors;
 pub mod first_path;
 pub mod mounts;
 pub mod namespaces;
-pub mod older_rows_in_version_2;
 pub mod order_of_rules;
 pub mod overlay_reading;
 pub mod overlay_writing;

@@ -1,7 +1,9 @@
 use Rattle.std.specs.Prelude.{refl}
+use Rattle.vt_spec.specs.Language.Script.Version.{One, Two}
 use Rattle.vt_spec.specs.Machine.Run.{everything}
 use Rattle.vt_machine_examples.proofs.credentials_links_descriptors.groups_umask_and_refused_chown.Goals as goal
 
 pub returns : goal.returns
 unfolding everything
-returns c = refl
+returns c One = refl
+returns c Two = refl

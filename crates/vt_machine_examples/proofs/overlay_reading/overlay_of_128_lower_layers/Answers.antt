@@ -4,4 +4,4 @@ use Rattle.vt_machine_examples.proofs.overlay_reading.overlay_of_128_lower_layer
 
 pub returns : goal.returns
 unfolding everything
-returns c = refl
+returns c version = refl

@@ -1,7 +1,0 @@
-use Rattle.std.specs.Prelude.{refl}
-use Rattle.vt_spec.specs.Machine.Run.{everything}
-use Rattle.vt_machine_examples.proofs.older_rows_in_version_2.longest_path_and_name.Goals as goal
-
-pub returns : goal.returns
-unfolding everything
-returns c = refl

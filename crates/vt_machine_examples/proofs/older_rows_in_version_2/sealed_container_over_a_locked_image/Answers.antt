@@ -1,7 +1,0 @@
-use Rattle.std.specs.Prelude.{refl}
-use Rattle.vt_spec.specs.Machine.Run.{everything}
-use Rattle.vt_machine_examples.proofs.older_rows_in_version_2.sealed_container_over_a_locked_image.Goals as goal
-
-pub returns : goal.returns
-unfolding everything
-returns c = refl
