@@ -23,7 +23,8 @@ use Rattle.vt_location.specs.MountValue.{mount_of}
 use Rattle.vt_location.specs.Numbers.{counted}
 use Rattle.vt_letting_go.proofs.sweeps.UpperUses.{times_append}
 use Rattle.vt_detach.specs.Uses.{inode_of, mounted_if, pinned_at, pinned_in, shown_by}
-use Rattle.vt_detach.proofs.Shown.{counted_eq, counted_eq_back}
+use Rattle.vt_detach.proofs.Shown.{counted_eq_back}
+use Rattle.vt_location.proofs.NumberLemmas.{counted_test}
 
 -- the inodes that a mount uses, and those that mounts use
 abbrev pub point_inodes : Option Location → List Inode
@@ -62,7 +63,7 @@ mounted_one count one =
     ∙ (λ i. record one { mounts = one.mounts + (if turned i then 1 else 0) })
   where
     turned : nat_eq (counted count) (counted one.count) ≡ nat_eq (counted one.count) (counted count)
-    turned = counted_eq_back count one.count ∙ sym (counted_eq one.count count)
+    turned = counted_eq_back count one.count ∙ sym (counted_test one.count count)
 
     none : one.mounts ≡ one.mounts + 0
     none = omega arith

@@ -4,7 +4,6 @@ use Rattle.std.specs.Prelude.{All, nat_lt, option_to_list, unwrap_or}
 use Rattle.std.specs.List.{list_all}
 use Rattle.std.proofs.lemmas.Bool.{and_parts, ltb-true}
 use Rattle.vt_spec.specs.Machine.Mounts as meant
-use Rattle.vt_spec.specs.Machine.Mounts.{mount_in, root_of}
 use Rattle.vt_spec.specs.Machine.World.{Filesystem, World, filesystem_numbered, is_directory_at, mount_at, no_filesystem, node_at}
 use Rattle.vt_spec.specs.Machine.Invariants.{has_its_root}
 use Rattle.vt_spec.specs.Inodes.{Inode as Counted, node_in}
@@ -27,7 +26,7 @@ use Rattle.vt_detach.specs.Held.{HasOwnInodes}
 use Rattle.vt_attach.specs.Room.{has_small_slots, point_is_small}
 use Rattle.vt_attach.proofs.AddedUses.{IsFoundIn, gained_by, point_inodes}
 use Rattle.vt_detach.proofs.FilesSeen.{seen_in}
-use Rattle.vt_detach.proofs.Showing.{found_filesystem}
+use Rattle.vt_letting_go.proofs.sweeps.OfWorlds.{found_filesystem}
 
 -- an inode of which there is a node is there
 inode_is_there : (o : Option (Counted ℕ)) → is_some (node_in o) ≡ true → is_some o ≡ true

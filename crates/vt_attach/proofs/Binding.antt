@@ -20,7 +20,7 @@ use Rattle.vt_group.specs.Together.{new_group}
 use Rattle.vt_laws.specs.Numbers.{KeepsTo}
 use Rattle.vt_letting_go.proofs.mounting.AttachedSwept.{binds_keep_all}
 use Rattle.vt_letting_go.proofs.Lists.{Among, among-map, among_from_all, any_passes}
-use Rattle.vt_letting_go.proofs.sweeps.OfWorlds.{mounts_of_worlds_stand, worlds_have_trees}
+use Rattle.vt_letting_go.proofs.sweeps.OfWorlds.{found_filesystem, mounts_of_worlds_stand, worlds_have_trees}
 use Rattle.vt_letting_go.proofs.leaving.PlacesLeft.{found_is_there}
 use Rattle.vt_location.specs.declared.locations.Location.{Location}
 use Rattle.vt_location.specs.Locations.{location_of}
@@ -46,7 +46,6 @@ use Rattle.vt_detach.specs.Uses.{kept}
 use Rattle.vt_detach.specs.WorldValue.{WorldValue, world_of}
 use Rattle.vt_detach.proofs.FileEvents.{permit_fits}
 use Rattle.vt_detach.proofs.Places.{located_is_named}
-use Rattle.vt_detach.proofs.Showing.{found_filesystem}
 use Rattle.vt_detach.proofs.Staying.{IsDone}
 use Rattle.vt_attach.specs.AttachedGroups.{HasGroupsOf}
 use Rattle.vt_attach.specs.AttachedNumbers.{numbers_of_parts}

@@ -64,7 +64,7 @@ use Rattle.vt_detach.proofs.Places.{located_is_named}
 use Rattle.vt_detach.proofs.Showing.{ShowsAs}
 use Rattle.vt_detach.proofs.Staying.{IsDone, world_is_plain}
 use Rattle.vt_detach.proofs.TypesSet.{attached_named}
-use Rattle.vt_detach.proofs.UnbindableBelow.{in_tree}
+use Rattle.vt_detach.proofs.TreesInNamespaces.{in_tree}
 use Rattle.vt_attach.specs.AttachedGroups.{HasGroupsOf, all_copies, groups_formed, type_of}
 use Rattle.vt_attach.specs.AttachedNumbers.{numbers_of_parts}
 use Rattle.vt_attach.specs.Moved.{IsMovedBy, MayMoveTree, top_of}

@@ -29,7 +29,7 @@ use Rattle.vt_letting_go.specs.Counts.{mounts_showing}
 use Rattle.vt_letting_go.specs.InUse.{HasTrees, InodesInUse, is_inode_used}
 use Rattle.vt_letting_go.proofs.mounting.AttachedSwept.{new_mounts_of_trees_keep_all}
 use Rattle.vt_letting_go.proofs.Lists.{Among, all_from_among, all_pass, among-append, among-append_left, among-append_right, among-filter_map, among-from_filter, among-from_filter_map, among-from_map, among-map, among_from_all, among_numbers, filter_alike, passes}
-use Rattle.vt_letting_go.proofs.sweeps.OfWorlds.{mounts_of_worlds_stand, worlds_have_trees}
+use Rattle.vt_letting_go.proofs.sweeps.OfWorlds.{found_filesystem, mounts_of_worlds_stand, worlds_have_trees}
 use Rattle.vt_letting_go.proofs.leaving.PlacesLeft.{found_itself}
 use Rattle.vt_location.specs.Numbers.{counted, inode_number}
 use Rattle.vt_mount.specs.MountsValue.{mounts_in}
@@ -42,7 +42,6 @@ use Rattle.vt_detach.specs.WorldValue.{WorldValue, world_of}
 use Rattle.vt_detach.proofs.FileEvents.{permit_fits}
 use Rattle.vt_detach.proofs.FilesSeen.{seen_in}
 use Rattle.vt_detach.proofs.LookLemmas.{turned}
-use Rattle.vt_detach.proofs.Showing.{found_filesystem}
 use Rattle.vt_detach.proofs.Staying.{world_is_plain}
 use Rattle.vt_attach.proofs.AttachedCounts.{times_none}
 use Rattle.vt_attach.proofs.GraftedDone.{IsBase, with_base}

@@ -1,7 +1,10 @@
 -- A filesystem that is new: one empty directory, with a number that no other has.
-use Rattle.std.proofs.Common.{◌≡◌, refl, sym, ap, subst, ◌∙◌, inl, inr, ⊎_elim, ℕ, ◌<◌, ◌%◌, ◌/◌, ◌==◌, nat_eq, eq-eqb, eqb-true, nat_lt, Bool, true, false, true≢false, cond, not, ◌&&◌, ◌||◌, List, [], ◌∷◌, ◌++◌, map, flat_map, Some, None, arith}
+use Rattle.std.proofs.Common.{◌≡◌, refl, sym, ap, subst, ◌∙◌, inl, inr, ⊎_elim, ℕ, ◌<◌, ◌%◌, ◌/◌, ◌==◌, nat_eq, eq-eqb, eqb-true, lt-ltb, nat_lt, Bool, true, false, true≢false, cond, not, ◌&&◌, ◌||◌, List, [], ◌∷◌, ◌++◌, map, flat_map, Some, None, arith}
 use Rattle.std.specs.Prelude.{All}
+use Rattle.std.specs.List.{list_all}
 use Rattle.std.proofs.lemmas.Bool.{ltb-true, ne_eqb}
+use Rattle.vt_spec.proofs.Lists.{list_all_from_among}
+use Rattle.vt_spec.proofs.Truths.{and_true_left, and_true_right}
 use Rattle.vt_spec.specs.Machine.Run.{used_by_filesystem, used_by_mount}
 use Rattle.vt_spec.specs.Machine.World.{Namespace, root_attr}
 use Rattle.vt_spec.specs.Inodes.{Inodes}
@@ -14,8 +17,8 @@ use Rattle.vt_location.proofs.NumberLemmas.{is_inode}
 use Rattle.vt_run_laws.specs.Handed.{is_counted_before}
 use Rattle.vt_detach.specs.Held.{HasOwnInodes, IsHeld}
 use Rattle.vt_detach.specs.WorldValue.{WorldValue, world_of}
-use Rattle.vt_detach.proofs.FilesSeen.{two_left_out}
 use Rattle.vt_detach.proofs.OwnInodesKept.{IsOwn}
+use Rattle.vt_permit_laws.proofs.in_use.InUseServes.{leaves_two}
 
 -- what is counted before
 pub counted_before : (next count : ℕ) → is_counted_before next (counted count) ≡ true → count < next
@@ -33,7 +36,7 @@ pub filesystem_counted : (value : WorldValue) → IsHeld value → (entry : File
     → entry.count < value.next
 filesystem_counted value whole entry m =
     counted_before value.next entry.count
-    (used_numbers_are_named (is_counted_before value.next) (world_of value) whole.given (two_left_out value.next)
+    (used_numbers_are_named (is_counted_before value.next) (world_of value) whole.given (leaves_two value.next)
     (counted entry.count)
     (is_among_numbers (counted entry.count) (mounts_used ++ files_used ++ namespaces_used)
     (among-append_left (mounts_used ++ files_used) namespaces_used (counted entry.count)
@@ -63,22 +66,26 @@ none_of (entry ∷ rest) count less =
 pub next_is_free : (value : WorldValue) → IsHeld value → entry_of value.filesystems value.next ≡ None
 next_is_free value whole = none_of value.filesystems value.next (filesystem_counted value whole)
 
+-- each has a smaller one
+pub next_is_above : (value : WorldValue) → IsHeld value
+    → list_all (λ (entry : FilesystemEntry). nat_lt entry.count value.next) value.filesystems ≡ true
+next_is_above value whole =
+    list_all_from_among (λ (entry : FilesystemEntry). nat_lt entry.count value.next) value.filesystems
+    (λ entry m. lt-ltb entry.count value.next (filesystem_counted value whole entry m))
+
 -- what is added is taken out again
 pub removed_again : (filesystems : Filesystems) (entry : FilesystemEntry) (count : ℕ) → entry.count ≡ count
-    → entry_of filesystems count ≡ None
+    → list_all (λ (one : FilesystemEntry). nat_lt one.count count) filesystems ≡ true
     → without count (filesystems ++ entry ∷ []) ≡ filesystems
-removed_again [] entry count is none = filter_skip
+removed_again [] entry count is above = filter_skip
     (λ (other : FilesystemEntry). not (nat_eq count other.count)) entry [] (ap not (eq-eqb count entry.count (sym is)))
-removed_again (first ∷ rest) entry count is none = by (nat_eq count first.count) refl none
-    (removed_again rest entry count is)
+removed_again (first ∷ rest) entry count is above =
+    filter_here (λ (other : FilesystemEntry). not (nat_eq count other.count)) first (rest ++ entry ∷ [])
+    (ap not (ne_eqb count first.count (λ same. absurd (omega (arith, low, same)))))
+    ∙ ap (λ others. first ∷ others) (removed_again rest entry count is (and_true_right _ _ above))
   where
-    by : (b : Bool) → nat_eq count first.count ≡ b → cond b (Some first) (entry_of rest count) ≡ None
-        → (entry_of rest count ≡ None → without count (rest ++ entry ∷ []) ≡ rest)
-        → without count (first ∷ rest ++ entry ∷ []) ≡ first ∷ rest
-    by true e f later = absurd cc
-    by false e f later =
-        filter_here (λ (other : FilesystemEntry). not (nat_eq count other.count)) first (rest ++ entry ∷ []) (ap not e)
-        ∙ ap (λ others. first ∷ others) (later f)
+    low : first.count < count
+    low = ltb-true first.count count (and_true_left _ _ above)
 
 -- its inodes have numbers of its own
 pub new_is_own : (count : ℕ) (entry : FilesystemEntry) → IsNew count root_attr entry

@@ -1,5 +1,5 @@
 -- The numbers that an attachment takes, whatever groups there are: two for each mount of the tree at each part.
-use Rattle.std.proofs.Common.{◌≡◌, refl, sym, ap, subst, ◌∙◌, ℕ, zero, suc, ◌+◌, ◌*◌, ◌-◌, ◌%◌, ◌/◌, ◌==◌, ◌<◌, nat_eq, eq-eqb, lt-ltb, Bool, true, false, true≢false, cond, ◌&&◌, ◌||◌, List, [], ◌∷◌, filter, map, Some, length, unwrap_or, arith}
+use Rattle.std.proofs.Common.{◌≡◌, refl, sym, ap, subst, ◌∙◌, ℕ, ◌+◌, ◌*◌, ◌-◌, ◌%◌, ◌/◌, ◌==◌, ◌<◌, nat_eq, eq-eqb, Bool, true, false, cond, ◌&&◌, ◌||◌, List, [], ◌∷◌, map, Some, length, unwrap_or, arith}
 use Rattle.std.specs.Prelude.{nat_lt}
 use Rattle.vt_laws.specs.Numbers.{KeepsTo}
 use Rattle.vt_permit_laws.proofs.named.NamedPermits.{permit_left}
@@ -11,18 +11,20 @@ use Rattle.vt_permit_laws.specs.Named.{permit_named}
 use Rattle.vt_run_laws.specs.Handed.{counts_from, handed_from, is_counted_before}
 use Rattle.vt_spec.specs.Lists.{Fresh, odds, place_from}
 use Rattle.vt_spec.specs.Machine.Attach.{Copies, attach, attached_by, bind_tree, copies_from, index_of_group, numbered, parts_of}
-use Rattle.vt_spec.specs.Machine.Mounts.{Location, Mount, index_of, mount_tree, numbers_by, tree_from}
+use Rattle.vt_spec.specs.Machine.Mounts.{Location, Mount, index_of, mount_tree}
 use Rattle.vt_spec.specs.Machine.Outcome.Mounting.{mounted, new_mount, plain_filesystem, with_new_filesystem}
 use Rattle.vt_spec.specs.Machine.Permits.{Permit}
 use Rattle.vt_spec.specs.Machine.Permits.Permit.{ToBind, ToMountPlain, ToMove, ToUnshare}
 use Rattle.vt_spec.specs.Machine.Receives.{is_member_of}
 use Rattle.vt_spec.specs.Machine.Settled.{settled}
 use Rattle.vt_spec.specs.Machine.World.{Namespace, Task, World, mount_numbered, mounts_of, new_plain, task_called}
-use Rattle.vt_spec.specs.Machine.Invariants.{IsWorld, has_one_root, is_listed, is_root_mount}
+use Rattle.vt_spec.specs.Machine.Invariants.{IsWorld, has_one_root, is_listed}
 use Rattle.vt_spec.specs.Machine.Namespaces.{namespaces_ended, unshared_by}
 use Rattle.vt_spec.proofs.Lists.{among_from_list_all, among_numbers, among-from_map}
 use Rattle.vt_world_laws.proofs.worlds.ReachedWalks.{task_among}
 use Rattle.vt_attach.specs.AttachedNumbers.{BindsKeepToNumbers, MovesKeepToNumbers, NewMountsKeepToNumbers, UnsharesKeepToNumbers, numbers_of_new_mount, numbers_of_parts}
+use Rattle.vt_permit_laws.proofs.taken.TakenFirst.{nonempty, numbers_same, tree_some}
+use Rattle.vt_permit_laws.proofs.taken.TakenHanded.{counted_here}
 
 -- places in a table
 
@@ -73,26 +75,10 @@ attach_same world place moves tree some fresh again same =
     ap (λ (new : Copies ℕ). attached_by nat_eq world new place moves tree)
     (copies_same (parts_of nat_eq world place) tree (omega arith) some fresh again same)
 
--- a count that is taken is before those that are left over
-counted_here : (next taken k : ℕ) → k < taken → is_counted_before (next + taken) (counts_from next k) ≡ true
-counted_here next taken k low =
-    let rest : (4 * (next + k) + 1) % 4 ≡ 1 = omega arith in
-    either ((4 * (next + k) + 1) % 2 == 0)
-    (λ i. eq-eqb ((4 * (next + k) + 1) % 4) 1 rest i
-    && lt-ltb ((4 * (next + k) + 1) / 4) (next + taken) (omega (arith, low)) i)
-  where
-    either : (a : Bool) {b : Bool} → b ≡ true → (a || b) ≡ true
-    either true e = refl
-    either false e = e
-
 pub bind_some : (world : World ℕ) (source : Location ℕ) (recursive : Bool)
     → 0 < length (bind_tree nat_eq world source recursive)
 bind_some world source false = omega arith
 bind_some world source true = omega arith
-
-pub tree_some : (depth : ℕ) (mounts : List (Mount ℕ)) (mount : Mount ℕ) → 0 < length (tree_from nat_eq depth mounts mount)
-tree_some zero mounts mount = omega arith
-tree_some (suc depth) mounts mount = omega arith
 
 -- Where a permit takes the first numbers of a supply alone, the world that it leaves keeps to those, and to the numbers
 -- that it had.
@@ -160,16 +146,6 @@ new_mounts_keep_to_numbers next inode even world task place flags called keeps n
 
 -- A new namespace
 
-numbers_same : (mounts : List (Mount ℕ)) → 0 < length mounts → (one other : Fresh ℕ)
-    → ((k : ℕ) → k < length mounts → one k ≡ other k)
-    → numbers_by nat_eq one mounts ≡ numbers_by nat_eq other mounts
-numbers_same mounts some one other same = λ i number. same (index_of nat_eq mounts number)
-    (index_bound mounts number some) i
-
-has_some : (list : List (Mount ℕ)) → (length (filter (is_root_mount nat_eq) list) == 1) ≡ true → 0 < length list
-has_some [] e = absurd (true≢false (sym e))
-has_some (mount ∷ rest) e = omega arith
-
 -- the namespace of a task has a root mount
 own_some : (world : World ℕ) (task : Task ℕ) → IsWorld nat_eq world → task_called world task.name ≡ Some task
     → 0 < length (mounts_of nat_eq world task.namespace)
@@ -181,7 +157,7 @@ own_some world task whole called =
     among-from_map (λ (namespace : Namespace ℕ). namespace.number) world.namespaces task.namespace
     (among_numbers (map (λ (namespace : Namespace ℕ). namespace.number) world.namespaces) task.namespace listed) in
     subst (λ number. 0 < length (mounts_of nat_eq world number)) (sym found.2)
-    (has_some (mounts_of nat_eq world found.0.number)
+    (nonempty (mounts_of nat_eq world found.0.number)
     (among_from_list_all (has_one_root nat_eq world) world.namespaces whole.namespaces.root_mounts found.0 found.1))
 
 pub unshares_keep_to_numbers : UnsharesKeepToNumbers

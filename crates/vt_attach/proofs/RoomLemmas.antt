@@ -20,7 +20,7 @@ use Rattle.vt_location.specs.Numbers.{counted}
 use Rattle.vt_attach.specs.Room.{has_room, most_counted, point_has_room, uses_shown}
 use Rattle.vt_detach.specs.Uses.{inode_of, mounted_if, mounted_in, mounts_shown, pinned_at, pinned_in, shown_by}
 use Rattle.vt_attach.proofs.EnteringLemmas.{among_at}
-use Rattle.vt_detach.proofs.Shown.{counted_eq}
+use Rattle.vt_location.proofs.NumberLemmas.{counted_test}
 
 -- the uses of an inode, as code counts them
 pub uses_are_shown : (count number : ℕ) (filesystems : Filesystems)
@@ -30,7 +30,7 @@ uses_are_shown count number (entry ∷ rest) =
     by (nat_eq count entry.count) (uses_are_shown count number rest)
     ∙ ap (λ b. unwrap_or (option_map (λ one. uses_in (one.inodes.inode number))
     (cond b (Some (shown_entry entry)) (find (λ one. nat_eq (counted count) (counted one.count)) (shown rest)))) 0)
-    (sym (counted_eq count entry.count))
+    (sym (counted_test count entry.count))
   where
     by : (b : Bool) → uses_in ((inodes_seen (unwrap_or (entry_of rest count) (no_entry count))).inode number)
         ≡ uses_shown (counted count, number) (shown rest)
@@ -256,7 +256,7 @@ holds count [] = refl
 holds count (entry ∷ rest) =
     λ i. (by (nat_eq count entry.count)
     ∙ ap (λ b. cond b (record (shown_entry entry) { mounts = entry.mounts + 1 }) (shown_entry entry))
-    (sym (counted_eq count entry.count))) i
+    (sym (counted_test count entry.count))) i
     ∷ holds count rest i
   where
     by : (b : Bool) → shown_entry (cond b (record entry { mounts = entry.mounts + 1 }) entry)

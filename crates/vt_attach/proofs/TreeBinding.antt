@@ -1,5 +1,5 @@
 -- The mounts of a tree that a bind copies: what code makes of them is the policy's tree.
-use Rattle.std.proofs.Common.{◌≡◌, ◌<◌, refl, sym, ap, subst, ◌∙◌, ⊎_elim, inl, inr, ℕ, nat_eq, eq-eqb, Bool, true, false, true≢false, cond, length, List, [], ◌∷◌, map, find, Option, Some, None, option_map, is_some, unwrap_or}
+use Rattle.std.proofs.Common.{◌≡◌, ◌<◌, refl, sym, ap, subst, ◌∙◌, ⊎_elim, inl, inr, ℕ, nat_eq, eq-eqb, Bool, true, false, true≢false, cond, length, List, [], ◌∷◌, map, find, Some, option_map}
 use Rattle.std.specs.Prelude.{filter, flat_map}
 use Rattle.std.specs.List.{cons_option}
 use Rattle.std.proofs.lemmas.Bool.{and_parts}
@@ -25,10 +25,7 @@ use Rattle.vt_detach.proofs.FilesSeen.{IsLocated, located}
 use Rattle.vt_attach.proofs.Binding.{found_some}
 use Rattle.vt_attach.proofs.CopiesAscend.{differs}
 use Rattle.vt_mount.proofs.AttachedLemmas.{ascending_found, picked}
-
-is_there : {A : Type 0} (o : Option A) (default : A) → is_some o ≡ true → o ≡ Some (unwrap_or o default)
-is_there None default some = absurd (true≢false (sym some))
-is_there (Some a) default some = refl
+use Rattle.vt_world_laws.proofs.worlds.FitPermits.{some_of}
 
 module _ (value : WorldValue) (whole : IsHeld value) (source : Place) (recursive : Bool)
     (small : source.node.slot < 18446744073709551616)
@@ -84,7 +81,7 @@ module _ (value : WorldValue) (whole : IsHeld value) (source : Place) (recursive
   source_found : find (λ (mount : Mount ℕ). nat_eq (counted source.mount.count) mount.number) mounts_now
       ≡ Some (mount_at nat_eq world (location_of source))
   source_found =
-      is_there (find (λ (mount : Mount ℕ). nat_eq (counted source.mount.count) mount.number) mounts_now)
+      some_of (find (λ (mount : Mount ℕ). nat_eq (counted source.mount.count) mount.number) mounts_now)
       (no_mount (counted source.mount.count))
       (found_some (counted source.mount.count) mounts_now (and_parts _ _ there).0)
 

@@ -7,7 +7,6 @@ use Rattle.std.proofs.lemmas.Option.{same_Some}
 use Rattle.vt_spec.specs.Language.Calls.{TaskName}
 use Rattle.vt_spec.specs.Lists.{Fresh, holds_of}
 use Rattle.vt_spec.specs.Machine.Mounts as meant
-use Rattle.vt_spec.specs.Machine.Mounts.{root_of}
 use Rattle.vt_spec.specs.Machine.Namespaces.{copied_mount, location_on_copy}
 use Rattle.vt_spec.specs.Machine.Run.{Serves}
 use Rattle.vt_spec.specs.Machine.World.{Filesystem, Task, World, filesystem_numbered, mount_at, mount_numbered, task_called}
@@ -37,8 +36,8 @@ use Rattle.vt_attach.proofs.AddedBegins.{nothing_moves, with_added}
 use Rattle.vt_attach.proofs.AddedUses.{IsFoundIn, gained_by, gained_uses, point_inodes}
 use Rattle.vt_detach.proofs.FilesSeen.{seen_in}
 use Rattle.vt_detach.proofs.MidwayBegins.{point_is_located}
-use Rattle.vt_detach.proofs.Showing.{found_filesystem}
 use Rattle.vt_attach.proofs.UnsharedTasks.{added, copied, copy, copy_is, from_spec, new_namespace, one_number, tasks_moved, to_spec}
+use Rattle.vt_letting_go.proofs.sweeps.OfWorlds.{found_filesystem}
 
 module _ (value : WorldValue) (whole : IsHeld value) (name : TaskName) (task : Task ℕ)
     (found : task_called (world_of value) name ≡ Some task)

@@ -19,10 +19,10 @@ use Rattle.vt_detach.specs.Held.{IsHeld}
 use Rattle.vt_detach.specs.Looking.{looks_of_value, overfills_of}
 use Rattle.vt_detach.specs.WorldValue.{WorldValue, world_of}
 use Rattle.vt_calls.proofs.Endings.{refused}
-use Rattle.vt_calls.proofs.Supplies.{no_overlay}
 use Rattle.vt_calls.proofs.Tied.{judged_alike}
 use Rattle.vt_calls.specs.Meets.{Ends}
 use Rattle.vt_calls.specs.Permitted.{IsPermitted}
+use Rattle.vt_run_laws.proofs.runs.GrammarsPlain.{propagation_mounts_no_overlay}
 
 -- a fork is given at most 32 groups
 few : (asked : Call) → names_few_groups (call_of asked) ≡ true
@@ -34,7 +34,7 @@ module _ (value : WorldValue) (name : TaskName) (asked : Call) (held : IsHeld va
     (called : task_called (world_of value) name ≡ Some task) (has : propagation.has (call_of asked) ≡ true) where
   tied : judge nat_eq (looks_of_value value) (overfills_of value) task (call_of asked)
       ≡ judge_in nat_eq (counts_from value.next) (world_of value) task (call_of asked)
-  tied = judged_alike value task (call_of asked) (no_overlay (call_of asked) has)
+  tied = judged_alike value task (call_of asked) (propagation_mounts_no_overlay (call_of asked) has)
 
   abbrev by_code : Judgement ℕ
   by_code = judge nat_eq (looks_of_value value) (overfills_of value) task (call_of asked)

@@ -1,16 +1,12 @@
 -- The numbers that a permit is handed: they serve the world, so the permit is given with them.
-use Rattle.std.proofs.Common.{◌≡◌, refl, subst, ◌∙◌, ℕ, true, false, nat_eq, List, [], ◌∷◌, Some, Ok, arith}
-use Rattle.std.specs.Prelude.{All, ⊤}
-use Rattle.std.proofs.lemmas.List.Elements.{All-cons}
+use Rattle.std.proofs.Common.{◌≡◌, subst, ◌∙◌, ℕ, nat_eq, Some, Ok}
+use Rattle.std.specs.Prelude.{⊤}
 use Rattle.vt_spec.specs.Language.Calls.{Call, TaskName}
-use Rattle.vt_spec.specs.Language.Calls.Call.{MountOverlay}
-use Rattle.vt_spec.specs.Language.Script.{propagation}
 use Rattle.vt_spec.specs.Machine.Judge.{judge_in}
 use Rattle.vt_spec.specs.Machine.Permits.{Permit}
 use Rattle.vt_spec.specs.Machine.Permits.Permit.{Allowed, ToBind, ToChange, ToClose, ToEnterNamespace, ToExit, ToFork, ToList, ToListMounts, ToMake, ToMountOverlay, ToMountPlain, ToMove, ToOpen, ToOpenNew, ToPivot, ToRead, ToReadPart, ToRemoveDirectory, ToRename, ToSetCredentials, ToSetDirectory, ToSetFlags, ToSetRoot, ToSetType, ToSetUmask, ToStat, ToUnmount, ToUnmountLazily, ToUnshare, ToWritePart}
 use Rattle.vt_spec.specs.Machine.Run.{Serves}
-use Rattle.vt_spec.specs.Machine.World.{Filesystem, is_overlay, task_called}
-use Rattle.vt_fs.specs.FilesystemsValue.{FilesystemEntry, filesystem_seen, filesystems_seen}
+use Rattle.vt_spec.specs.Machine.World.{task_called}
 use Rattle.vt_laws.specs.Numbers.{Allotment}
 use Rattle.vt_laws.proofs.numbers.Texts.{room_serves}
 use Rattle.vt_location.specs.Numbers.{inode_number}
@@ -22,26 +18,14 @@ use Rattle.vt_run_laws.proofs.handed.Counts.{counts_serve}
 use Rattle.vt_run_laws.proofs.handed.InodesAllotted.{allotted_numbers_serve}
 use Rattle.vt_run_laws.specs.Handed.{counts_from, handed_from, may_be_given}
 use Rattle.vt_run_laws.specs.Runs.{ServesInHand}
-use Rattle.vt_tree_laws.specs.Trees.Calls.{mounts_overlay}
 use Rattle.vt_detach.specs.Events.{Permits, next_inode, supply_of}
 use Rattle.vt_detach.specs.Held.{IsHeld}
 use Rattle.vt_ns.specs.Vacancy.{IsVacant, NextInodeIsVacant, NextRootIsVacant}
 use Rattle.vt_detach.specs.WorldValue.{WorldValue, world_of}
 use Rattle.vt_world_laws.proofs.worlds.CallsKept.{name_found}
-use Rattle.vt_world_laws.specs.Worlds.Kept.{IsPlain}
 use Rattle.vt_calls.specs.Permitted.{IsPermitted}
-
--- no filesystem of the code is an overlay
-filesystems_plain : (entries : List FilesystemEntry)
-    → All (λ (filesystem : Filesystem ℕ). is_overlay filesystem ≡ false) (filesystems_seen entries)
-filesystems_plain [] = λ k d below. absurd (omega arith)
-filesystems_plain (entry ∷ rest) =
-    All-cons (λ (filesystem : Filesystem ℕ). is_overlay filesystem ≡ false) (filesystem_seen entry)
-    (filesystems_seen rest) refl
-    (filesystems_plain rest)
-
-pub plain : (value : WorldValue) → IsPlain (world_of value)
-plain value = filesystems_plain value.filesystems
+use Rattle.vt_run_laws.proofs.runs.GrammarsPlain.{propagation_mounts_no_overlay}
+use Rattle.vt_detach.proofs.Staying.{world_is_plain}
 
 -- what a permit is handed beside counts is not in use
 abbrev pub AreVacant : WorldValue → Permit ℕ → Type 0
@@ -62,7 +46,7 @@ handed : (value : WorldValue) → IsHeld value → (place inode : ℕ) → IsVac
     → IsAllotted value (handed_from value.next place inode)
 handed value held place inode vacant =
     allotted_numbers_serve value.next place inode vacant.even (world_of value)
-    (worlds_keep_to_named_before value.next inode (world_of value) held.in_world (plain value) held.given vacant.unused)
+    (worlds_keep_to_named_before value.next inode (world_of value) held.in_world (world_is_plain value) held.given vacant.unused)
 
 pub allotted : (value : WorldValue) → IsHeld value → (permit : Permit ℕ) → AreVacant value permit
     → IsAllotted value (supply_of value permit)
@@ -99,11 +83,6 @@ allotted value held (ToSetType mount word recursive) vacant = counts value held
 allotted value held (ToPivot new put) vacant = counts value held
 allotted value held ToListMounts vacant = counts value held
 
--- the grammar has no mount of an overlay
-pub no_overlay : (call : Call) → propagation.has call ≡ true → mounts_overlay call ≡ false
-no_overlay (MountOverlay path options flags) has = absurd cc
-no_overlay call has = refl
-
 module _ (value : WorldValue) (name : TaskName) (call : Call) (permit : code.Permit)
     (given : IsPermitted value name call permit) where
   abbrev granted : Permit ℕ
@@ -113,7 +92,7 @@ module _ (value : WorldValue) (name : TaskName) (call : Call) (permit : code.Per
   pub judged_with : (fresh : ℕ → ℕ) → judge_in nat_eq fresh (world_of value) given.task call ≡ Ok granted
   judged_with fresh =
       judgements_do_not_see_supplies (world_of value) given.task call fresh (counts_from value.next)
-      given.held.in_world (no_overlay call given.has)
+      given.held.in_world (propagation_mounts_no_overlay call given.has)
       ∙ given.judged
 
   -- so it is permitted to the task
@@ -130,7 +109,7 @@ module _ (value : WorldValue) (name : TaskName) (call : Call) (permit : code.Per
               subst (λ called. task_called (world_of value) called ≡ Some given.task)
               (name_found (world_of value) name given.task given.called) given.called;
           call = call;
-          no_overlay = no_overlay call given.has;
+          no_overlay = propagation_mounts_no_overlay call given.has;
           few_groups = given.few_groups;
           judged = judged_with (supply_of value granted);
         };

@@ -3,7 +3,7 @@ use Rattle.std.specs.Prelude.{nat_eq, ℕ, ◌≡◌}
 use Rattle.vt_spec.specs.FileTree as Trees
 use Rattle.vt_spec.specs.Machine.World.{Filesystem, World}
 use Rattle.vt_spec.specs.Inodes.{Inodes, is_directory_under, tree_of}
-use Rattle.vt_spec.specs.TreeLaws.{HasOwnParents, IsTree}
+use Rattle.vt_spec.specs.TreeInvariant.{HasOwnParents, IsTree}
 use Rattle.vt_count_laws.specs.Counted.{IsCounted}
 
 -- Counted inodes, uses aside, are the tree.

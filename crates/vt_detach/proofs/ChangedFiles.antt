@@ -41,7 +41,7 @@ use Rattle.vt_detach.specs.WorldValue.{WorldValue, world_of}
 use Rattle.vt_detach.proofs.ChangedNumbers.{MakesOther, none_stays}
 use Rattle.vt_detach.proofs.Grouped.{same_has}
 use Rattle.vt_detach.proofs.FilesSeen.{files_are_plain, one_entry}
-use Rattle.vt_detach.proofs.NumbersBeside.{found_by_number, numbers_apart_each, numbers_listed}
+use Rattle.vt_fs.proofs.Numbers.{found_by_number, numbers_apart_each, numbers_listed}
 
 abbrev pub with_filesystems : WorldValue → Filesystems → WorldValue
 with_filesystems value filesystems = record value { filesystems = filesystems }

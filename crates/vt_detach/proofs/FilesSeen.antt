@@ -10,9 +10,9 @@ use Rattle.vt_spec.specs.Machine.Run.{used_by_filesystem, used_by_mount}
 use Rattle.vt_spec.specs.Machine.World.{Filesystem, Namespace, filesystem_at, filesystem_numbered, is_overlay, mount_at, no_filesystem, node_at}
 use Rattle.vt_spec.specs.Machine.Invariants.{is_located_well}
 use Rattle.vt_spec.specs.Inodes.{node_in}
-use Rattle.vt_spec.specs.TreeLaws.{IsTree}
+use Rattle.vt_spec.specs.TreeInvariant.{IsTree}
 use Rattle.vt_fs.specs.FilesystemsValue.{FilesystemEntry, Filesystems, entry_of, files_at, filesystem_seen, filesystems_seen, inodes_at, inodes_seen, no_entry}
-use Rattle.vt_laws.specs.Numbers.{LeavesOutTwo, location_named}
+use Rattle.vt_laws.specs.Numbers.{location_named}
 use Rattle.vt_laws.proofs.numbers.Supports.{used_numbers_are_named}
 use Rattle.vt_letting_go.proofs.Lists.{Among, all_from_among, among_from_all, among-from_map, among-map, fails}
 use Rattle.vt_location.specs.declared.locations.Location.{Location}
@@ -23,7 +23,8 @@ use Rattle.vt_location.proofs.NumberLemmas.{counted_same, counted_test, inode_sa
 use Rattle.vt_run_laws.specs.Handed.{is_counted_before}
 use Rattle.vt_detach.specs.Held.{HasOwnInodes, IsHeld}
 use Rattle.vt_detach.specs.WorldValue.{WorldValue, world_of}
-use Rattle.vt_detach.proofs.NumbersBeside.{found_by_number}
+use Rattle.vt_fs.proofs.Numbers.{found_by_number}
+use Rattle.vt_permit_laws.proofs.in_use.InUseServes.{leaves_two}
 
 -- No filesystem is an overlay
 
@@ -159,14 +160,11 @@ among_first n (x ∷ a) b m = by (nat_eq n x) m (among_first n a b)
     by true e next = refl
     by false e next = next e
 
-pub two_left_out : (next : ℕ) → LeavesOutTwo (is_counted_before next)
-two_left_out next = (3, 7, (λ same. cc), refl, refl)
-
 pub mount_named : (value : WorldValue) → IsHeld value → (number : ℕ)
     → is_among nat_eq number (map (λ (mount : Mount ℕ). mount.number) (world_of value).mounts) ≡ true
     → is_counted_before value.next number ≡ true
 mount_named value held number there =
-    used_numbers_are_named (is_counted_before value.next) (world_of value) held.given (two_left_out value.next) number
+    used_numbers_are_named (is_counted_before value.next) (world_of value) held.given (leaves_two value.next) number
     (among_first number
     (flat_map used_by_mount (world_of value).mounts ++ flat_map used_by_filesystem (world_of value).filesystems)
     (map (λ (namespace : Namespace ℕ). namespace.number) (world_of value).namespaces)

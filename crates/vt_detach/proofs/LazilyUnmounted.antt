@@ -27,6 +27,7 @@ use Rattle.vt_detach.proofs.Leaving.{found_it}
 use Rattle.vt_detach.proofs.MountsGone.{found_mapped}
 use Rattle.vt_detach.proofs.Moving.{map_itself}
 use Rattle.vt_detach.proofs.UnmountedAlone.{goes_apart}
+use Rattle.vt_mount_laws.proofs.ends.EndingCounts.{tree_placed}
 
 -- Mounts ordered by their depth are the same mounts
 
@@ -542,31 +543,7 @@ trees_have_children world kept tops mount m place p goes =
     trees_closed world kept.one_number ((standing_is_computed world kept.one_number).0 kept.standing) tops mount place
     (to_spec mount world.mounts m) p goes
 
--- a mount of a tree is the top, or has a mount point
-tree_member : (depth : ℕ) (mounts : List (Mount ℕ)) (top x : Mount ℕ) → Among x (tree_from nat_eq depth mounts top)
-    → (x ≡ top) ⊎ (Among x mounts × (is_some x.mount_point ≡ true))
-tree_member zero mounts top x m = ⊎_elim inl (λ none. absurd none) m
-tree_member (suc depth) mounts top x m =
-    ⊎_elim inl
-    (λ later.
-    let under = among-from_flat_map (tree_from nat_eq depth mounts) (children nat_eq mounts top.number) x later in
-    let child = among-from_filter (stands_on nat_eq top.number) mounts under.0 under.1 in
-    inr (⊎_elim (λ same. (
-      subst (λ y. Among y mounts) (sym same) child.0,
-      ap
-          (λ (y : Mount ℕ). is_some y.mount_point) same ∙ placed under.0 child.1,
-    )) (λ l. l)
-    (tree_member depth mounts under.0 x under.2)))
-    m
-  where
-    placed : (child : Mount ℕ) → stands_on nat_eq top.number child ≡ true → is_some child.mount_point ≡ true
-    placed child on = by child.mount_point on
-      where
-        by : (o : Option (Place ℕ)) → holds_of (λ place. nat_eq top.number place.mount) o ≡ true → is_some o ≡ true
-        by None h = absurd (true≢false (sym h))
-        by (Some place) h = refl
-
--- and stands on another of the tree, if it is not the top
+-- a mount of a tree stands on another of the tree, if it is not the top
 tree_parent : (depth : ℕ) (mounts : List (Mount ℕ)) (top x : Mount ℕ) → Among x (tree_from nat_eq depth mounts top)
     → (x ≡ top) ⊎ ((parent : Mount ℕ) × Among parent (tree_from nat_eq depth mounts top)
     × (stands_on nat_eq parent.number x ≡ true))
@@ -630,7 +607,7 @@ module _ (world : World ℕ) (kept : MountInvariants nat_eq world) (number : ℕ
   tree_attached mount m within =
       let from = among-from_map (λ (x : Mount ℕ). x.number) tree mount.number
       (among_numbers mount.number numbers within) in
-      let member = member_attached from.0 (tree_member (length world.mounts) world.mounts top from.0 from.1) in
+      let member = member_attached from.0 (tree_placed (length world.mounts) world.mounts top from.0 from.1) in
       ap (λ (x : Mount ℕ). is_some x.namespace)
       (sym (found_itself world.mounts kept.one_number mount m) ∙ ap (mount_in nat_eq world.mounts) from.2
       ∙ found_itself world.mounts kept.one_number from.0 member.0)
@@ -642,7 +619,7 @@ module _ (world : World ℕ) (kept : MountInvariants nat_eq world) (number : ℕ
   tree_mount mount m within =
       let from = among-from_map (λ (x : Mount ℕ). x.number) tree mount.number
       (among_numbers mount.number numbers within) in
-      let member = member_attached from.0 (tree_member (length world.mounts) world.mounts top from.0 from.1) in
+      let member = member_attached from.0 (tree_placed (length world.mounts) world.mounts top from.0 from.1) in
       subst (λ x. Among x tree)
       (sym (sym (found_itself world.mounts kept.one_number mount m) ∙ ap (mount_in nat_eq world.mounts) from.2
       ∙ found_itself world.mounts kept.one_number from.0 member.0)) from.1

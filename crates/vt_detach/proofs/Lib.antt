@@ -1,7 +1,6 @@
 pub mod FilesystemsFound
 pub mod LookLemmas
 pub mod OwnInodesKept
-pub mod NumbersBeside
 pub mod ChangedNumbers
 pub mod FilesSeen
 pub mod ChangedFiles
@@ -52,5 +51,5 @@ pub mod NamespacesTyped
 pub mod LeavingNamespaces
 pub mod Departing
 pub mod Exiting
-pub mod UnbindableBelow
+pub mod TreesInNamespaces
 pub mod Entered

@@ -12,7 +12,7 @@ use Rattle.vt_spec.specs.Machine.Mounts.{no_mount}
 use Rattle.vt_spec.specs.Machine.World.{Filesystem, filesystem_at, filesystem_numbered, is_directory_at, is_removed_at, mount_at, mount_numbered, node_at}
 use Rattle.vt_spec.specs.Machine.Invariants.{has_its_root}
 use Rattle.vt_spec.specs.Tree.{is_directory_node}
-use Rattle.vt_spec.specs.TreeLaws.{HasOwnParents, IsTree}
+use Rattle.vt_spec.specs.TreeInvariant.{HasOwnParents, IsTree}
 use Rattle.vt_spec.proofs.Lists.{Among, all_from_among, among_from_all, among_from_list_all}
 use Rattle.vt_mount_laws.proofs.mounts.MountsFound.{found_or_none}
 use Rattle.vt_world_laws.proofs.worlds.Roots.{directory_there}

@@ -49,7 +49,8 @@ use Rattle.vt_detach.proofs.Places.{located_is_named}
 use Rattle.vt_detach.proofs.Remaining.{remade}
 use Rattle.vt_detach.proofs.Staying.{IsDone}
 use Rattle.vt_detach.proofs.TypesSet.{attached_named}
-use Rattle.vt_detach.proofs.UnbindableBelow.{in_tree}
+use Rattle.vt_detach.proofs.TreesInNamespaces.{in_tree}
+use Rattle.vt_spec.proofs.Options.{none_from_not_some}
 
 -- the mount of a location stands at another mount point
 abbrev pub placed_at : Location ℕ → Mount ℕ → Mount ℕ
@@ -235,10 +236,6 @@ module _ (value : WorldValue) (held : IsHeld value) (number namespace : ℕ) (pl
             (made_none begins.0 begins.1 new (top ∷ begins.0) i ++ []);
       })
 
-none_is : {A : Type 0} (o : Option A) → is_some o ≡ false → o ≡ None
-none_is None e = refl
-none_is (Some a) e = absurd (true≢false e)
-
 -- a mount point is there
 pub mount_point_located : (value : WorldValue) → IsHeld value → (number namespace : ℕ) (point : Location ℕ)
     → (mount_numbered nat_eq (world_of value) number).namespace ≡ Some namespace
@@ -357,6 +354,6 @@ module _ (value : WorldValue) (whole : IsHeld value) (name : TaskName) (number :
         applied = λ fresh.
             tree_moved value whole number permits.task.namespace
             (location_of place) may.own may.destination.own may.placed fresh
-            (none_is (group_of (mount_at nat_eq (world_of value) (location_of place)).propagation) unshared);
+            (none_from_not_some (group_of (mount_at nat_eq (world_of value) (location_of place)).propagation) unshared);
       })
       (kind_kept value whole number (placed_at (location_of place)) (places_keep (location_of place)) (λ mount. refl))

@@ -1,5 +1,5 @@
 -- The world in which a namespace has ended, and what its entries count.
-use Rattle.std.proofs.Common.{◌≡◌, ◌≢◌, refl, sym, ap, subst, ◌∙◌, ⊎_elim, inl, inr, ℕ, ◌+◌, ◌-◌, nat_eq, nat_lt, eqb-true, eq-eqb, Bool, true, false, true≢false, cond, not, ◌&&◌, ◌||◌, List, [], ◌∷◌, map, filter, find, Option, Some, None, is_some, arith}
+use Rattle.std.proofs.Common.{◌≡◌, ◌≢◌, refl, sym, ap, subst, ◌∙◌, ⊎_elim, inl, inr, ℕ, ◌+◌, ◌-◌, nat_eq, nat_lt, eqb-true, eq-eqb, Bool, true, false, true≢false, cond, not, ◌&&◌, ◌||◌, List, [], ◌∷◌, map, filter, Option, Some, None, arith}
 use Rattle.std.specs.Prelude.{All, nat_le, option_map, option_to_list}
 use Rattle.std.specs.List.{list_all, list_any}
 use Rattle.std.proofs.lemmas.Bool.{and_parts, leb-false, leb-true, lt-ltb}
@@ -12,7 +12,7 @@ use Rattle.vt_spec.specs.Machine.Receives.{regrouped}
 use Rattle.vt_spec.specs.Machine.World.{Namespace, Task, World, mount_at, mount_numbered, with_mounts}
 use Rattle.vt_spec.specs.Machine.Invariants.{is_listed}
 use Rattle.vt_letting_go.specs.Counts.{times}
-use Rattle.vt_letting_go.proofs.Lists.{Among, all_from_among, among-append, among-from_filter, among-from_map, among-map, among_numbers, any_passes, filter-map, filter_alike, filter_all, is_among_numbers, map_alike, none_passes, passes}
+use Rattle.vt_letting_go.proofs.Lists.{Among, all_from_among, among-from_filter, among-from_map, among-map, among_numbers, any_passes, filter_all, is_among_numbers, map_alike, none_passes}
 use Rattle.vt_letting_go.proofs.leaving.PlacesLeft.{found_itself}
 use Rattle.vt_location.specs.Numbers.{counted}
 use Rattle.vt_tasks.specs.TasksValue.{Tasks}
@@ -21,7 +21,7 @@ use Rattle.vt_detach.specs.NamespacesLeft.{entries_left, has_one_task, left_if, 
 use Rattle.vt_detach.specs.WorldValue.{NamespaceEntry, namespace_of}
 use Rattle.vt_detach.proofs.LostUses.{OneNumber, positive}
 use Rattle.vt_detach.proofs.Midway.{gone_if}
-use Rattle.vt_detach.proofs.Shown.{counted_eq}
+use Rattle.vt_location.proofs.NumberLemmas.{counted_test}
 
 -- Mounts that are taken away, and no mount that stays is on them
 
@@ -349,7 +349,7 @@ module _ (count : ℕ) (tasks : Tasks) (entries : List NamespaceEntry)
             let is : number ≡ counted entry.0.count = from.2 ∙ ap (λ (n : Namespace ℕ). n.number) entry.2 in
             ap not (lives number entry.0 entry.1 from.0 from.1 is entry.2 (ends && nat_eq count entry.0.count) refl)
             ∙ not_twice (ends && nat_eq count entry.0.count)
-            ∙ ap (λ b. ends && b) (sym (counted_eq count entry.0.count) ∙ ap (nat_eq (counted count)) (sym is))
+            ∙ ap (λ b. ends && b) (sym (counted_test count entry.0.count) ∙ ap (nat_eq (counted count)) (sym is))
           where
             not_twice : (b : Bool) → not (not b) ≡ b
             not_twice true = refl

@@ -1,48 +1,24 @@
 -- The code's world is one of the definitions: the same mounts, namespaces and tasks, and filesystems whose counted
 -- inodes are
 -- counted there.
-use Rattle.std.proofs.Common.{◌≡◌, refl, sym, ap, subst, ◌∙◌, ⊎_elim, inl, inr, ℕ, nat_eq, eqb-true, eq-eqb, Bool, true, false, true≢false, cond, List, [], ◌∷◌, map, find, Option, Some, None, is_some, unwrap_or}
-use Rattle.std.specs.List.{list_any}
-use Rattle.std.proofs.lemmas.Bool.{or_parts}
-use Rattle.vt_spec.specs.Lists.{any_pair}
+use Rattle.std.proofs.Common.{◌≡◌, refl, sym, ap, subst, ◌∙◌, inl, inr, ℕ, nat_eq, true, false, true≢false, List, [], ◌∷◌, map, Option, Some, None, is_some}
 use Rattle.vt_spec.specs.Machine.SameWorlds.{SameFilesystem, SameFilesystems, SameWorlds, without_changes}
-use Rattle.vt_spec.specs.Machine.World.{Filesystem, Overlay, World, filesystem_numbered, is_overlay, no_filesystem}
+use Rattle.vt_spec.specs.Machine.World.{Filesystem, Overlay, World, filesystem_numbered, is_overlay}
 use Rattle.vt_spec.specs.Machine.Invariants.{IsWorld, ListsNumbers}
 use Rattle.vt_count_laws.specs.Counted.{IsCounted, IsPlain}
 use Rattle.vt_count_laws.proofs.Alike.{same_worlds_count_alike}
 use Rattle.vt_count_laws.proofs.Listed.{same_numbers_are_permuted}
 use Rattle.vt_fs.specs.FilesystemsValue.{FilesystemEntry, Filesystems, filesystem_seen, filesystems_seen, inodes_seen}
 use Rattle.vt_group.specs.Grouping.{Has}
-use Rattle.vt_letting_go.proofs.Lists.{Among, among-map, among_from_all, fails}
+use Rattle.vt_letting_go.proofs.Lists.{Among, among-map, among_from_all}
 use Rattle.vt_location.specs.Numbers.{counted}
 use Rattle.vt_mount.specs.MountsValue.{mounts_in}
 use Rattle.vt_detach.specs.WorldValue.{WorldValue, world_of}
 use Rattle.vt_detach.proofs.Grouped.{master_is, same_has}
-use Rattle.vt_detach.proofs.NumbersBeside.{numbers_apart_each, numbers_listed}
+use Rattle.vt_fs.proofs.Numbers.{numbers_apart_each, numbers_listed}
+use Rattle.vt_letting_go.proofs.sweeps.OfWorlds.{found_filesystem}
 
 -- Filesystems by their numbers
-
-pub found_filesystem : (filesystems : List (Filesystem ℕ))
-    → any_pair (λ (a b : Filesystem ℕ). nat_eq a.number b.number) filesystems ≡ false
-    → (f : Filesystem ℕ) → Among f filesystems
-    → unwrap_or (find (λ x. nat_eq f.number x.number) filesystems) (no_filesystem f.number) ≡ f
-found_filesystem [] one f m = absurd m
-found_filesystem (first ∷ rest) one f m =
-    let parts = or_parts (list_any (λ b. nat_eq first.number b.number) rest)
-    (any_pair (λ (a b : Filesystem ℕ). nat_eq a.number b.number) rest) one in
-    by parts.0 (nat_eq f.number first.number) refl m (λ n. found_filesystem rest parts.1 f n)
-  where
-    by : list_any (λ b. nat_eq first.number b.number) rest ≡ false → (b : Bool) → nat_eq f.number first.number ≡ b
-        → Among f (first ∷ rest)
-        → (Among f rest → unwrap_or (find (λ x. nat_eq f.number x.number) rest) (no_filesystem f.number) ≡ f)
-        → unwrap_or (cond b (Some first) (find (λ x. nat_eq f.number x.number) rest)) (no_filesystem f.number) ≡ f
-    by others true e n next =
-        ⊎_elim (λ same. sym same)
-        (λ later. absurd (true≢false
-        (sym (eq-eqb first.number f.number (sym (eqb-true f.number first.number e)))
-        ∙ fails (λ x. nat_eq first.number x.number) rest others f later))) n
-    by others false e n next =
-        ⊎_elim (λ same. absurd (true≢false (sym (eq-eqb f.number first.number (ap (λ x. x.number) same)) ∙ e))) next n
 
 -- filesystems with the same numbers are the same, one after the other
 same_filesystems : (filesystems : List (Filesystem ℕ)) (entries : Filesystems)

@@ -1,5 +1,5 @@
 -- Filesystems with the uses of their inodes, as contracts of vt_fs change them.
-use Rattle.std.proofs.Common.{◌≡◌, ◌≢◌, ◌<◌, ◌⊎◌, ⊎_elim, ◌&&◌, is_some, refl, sym, ap, ◌∙◌, ℕ, nat_eq, ◌*◌, ◌+◌, ◌-◌, eqb-true, eq-eqb, ne_eqb, Bool, true, false, true≢false, cond, not, List, [], ◌∷◌, map, find, Option, Some, None, option_map, unwrap_or, arith}
+use Rattle.std.proofs.Common.{◌≡◌, ◌≢◌, ◌<◌, ◌⊎◌, ⊎_elim, ◌&&◌, is_some, refl, sym, ap, ◌∙◌, ℕ, nat_eq, ◌-◌, eqb-true, eq-eqb, ne_eqb, Bool, true, false, true≢false, cond, not, List, [], ◌∷◌, map, find, Option, Some, None, option_map, unwrap_or, arith}
 use Rattle.vt_fs.specs.FilesystemsValue.{ChangesInodes, Filesystems, Shown, entry_at, entry_of, no_entry, shown, shown_entry, shown_with, with_changed, without}
 use Rattle.vt_location.specs.Numbers.{counted}
 use Rattle.vt_mount.specs.MountsValue.{MountEntry, entry_numbered, mounts_in, uses_of}
@@ -7,17 +7,10 @@ use Rattle.vt_spec.specs.Machine.Mounts.{Mount}
 use Rattle.vt_spec.specs.Inodes.{Inodes, pinned, unpinned}
 use Rattle.vt_count_laws.specs.Using.{pinned_if, unpinned_if}
 use Rattle.vt_detach.specs.Uses.{Kept, let_go_entry, let_go_filesystem, let_go_mount, mounts_shown, pinned_in, released_in, unpinned_in, without_filesystem, without_mount}
-
-pub counted_eq : (a b : ℕ) → nat_eq (counted a) (counted b) ≡ nat_eq a b
-counted_eq a b = by (nat_eq a b) refl
-  where
-    by : (t : Bool) → nat_eq a b ≡ t → nat_eq (counted a) (counted b) ≡ t
-    by true e = eq-eqb (counted a) (counted b) (ap counted (eqb-true a b e))
-    by false e = ne_eqb (counted a) (counted b)
-        (λ same. true≢false (sym (eq-eqb a b (let s : 4 * a + 1 ≡ 4 * b + 1 = same in omega (arith, s))) ∙ e))
+use Rattle.vt_location.proofs.NumberLemmas.{counted_test}
 
 pub counted_eq_back : (a b : ℕ) → nat_eq (counted a) (counted b) ≡ nat_eq b a
-counted_eq_back a b = counted_eq a b ∙ by (nat_eq a b) refl
+counted_eq_back a b = counted_test a b ∙ by (nat_eq a b) refl
   where
     by : (t : Bool) → nat_eq a b ≡ t → t ≡ nat_eq b a
     by true e = sym (eq-eqb b a (sym (eqb-true a b e)))
@@ -65,7 +58,7 @@ releases count [] = refl
 releases count (entry ∷ rest) =
     λ i. (by (nat_eq count entry.count)
     ∙ ap (λ b. cond b (record (shown_entry entry) { mounts = entry.mounts - 1 }) (shown_entry entry))
-    (sym (counted_eq count entry.count))) i
+    (sym (counted_test count entry.count))) i
     ∷ releases count rest i
   where
     by : (b : Bool) → shown_entry (cond b (record entry { mounts = entry.mounts - 1 }) entry)
@@ -79,7 +72,7 @@ removes count [] = refl
 removes count (entry ∷ rest) =
     by (nat_eq count entry.count) (removes count rest)
     ∙ ap (λ b. cond (not b) (shown_entry entry ∷ without_filesystem (counted count) (shown rest))
-    (without_filesystem (counted count) (shown rest))) (sym (counted_eq count entry.count))
+    (without_filesystem (counted count) (shown rest))) (sym (counted_test count entry.count))
   where
     by : (b : Bool) → shown (without count rest) ≡ without_filesystem (counted count) (shown rest)
         → shown (cond (not b) (entry ∷ without count rest) (without count rest))
@@ -95,7 +88,7 @@ mounts_are_shown count (entry ∷ rest) =
     by (nat_eq count entry.count) (mounts_are_shown count rest)
     ∙ ap (λ b. unwrap_or (option_map (λ one. one.mounts)
     (cond b (Some (shown_entry entry)) (find (λ one. nat_eq (counted count) (counted one.count)) (shown rest)))) 0)
-    (sym (counted_eq count entry.count))
+    (sym (counted_test count entry.count))
   where
     by : (b : Bool) → (unwrap_or (entry_of rest count) (no_entry count)).mounts
         ≡ mounts_shown (counted count) (shown rest)

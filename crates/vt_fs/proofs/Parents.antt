@@ -6,7 +6,7 @@ use Rattle.vt_spec.specs.Lists.{chain, is_among, when}
 use Rattle.vt_spec.specs.Inodes.{Inodes, is_directory_under as is_under_in, parent_above, tree_of}
 use Rattle.vt_spec.specs.Tree.{Content, Node, Tree, is_directory_node, parent_in}
 use Rattle.vt_spec.specs.Tree.Content.{Directory, Regular, Symlink, Whiteout}
-use Rattle.vt_spec.specs.TreeLaws.{HasOwnParents, IsDirectory, IsTree, entry_at, led}
+use Rattle.vt_spec.specs.TreeInvariant.{HasOwnParents, IsDirectory, IsTree, entry_at, led}
 use Rattle.vt_spec.proofs.Trees.{found}
 use Rattle.vt_fs.specs.Laws.{ParentsAreNamed, TreesNameParents}
 use Rattle.std.proofs.Math.Bool.{or-false}

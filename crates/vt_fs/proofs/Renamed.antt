@@ -6,7 +6,7 @@ use Rattle.vt_spec.specs.Language.Changes.Change.{AddName, CopyUp, Make, Move, R
 use Rattle.vt_spec.specs.Machine.Renaming.{renamed_node}
 use Rattle.vt_spec.specs.Inodes.{Inode, Inodes, changed, is_directory_under, one_directory, pinned, renamed_inode, renamed_inodes, tree_of, unpinned, uses_in}
 use Rattle.vt_spec.specs.Tree.{Node, parent_in}
-use Rattle.vt_spec.specs.TreeLaws.{entry_at}
+use Rattle.vt_spec.specs.TreeInvariant.{entry_at}
 use Rattle.vt_laws.specs.Renaming.{Renaming}
 use Rattle.vt_laws.proofs.numbers.Commuting.{Named, commutes_nat, node_itself, option_itself}
 use Rattle.vt_tree.specs.Paths.{path_in}

@@ -9,7 +9,7 @@ use Rattle.vt_spec.specs.Lists.{any_pair, is_empty_list}
 use Rattle.vt_spec.specs.Inodes.{Inode, Inodes, changed, is_directory_under, node_in, pinned, renamed_inode, tree_of as tree_of_inodes, unpinned, uses_in}
 use Rattle.vt_spec.specs.Fits.{MayReplace, StaysOutside}
 use Rattle.vt_spec.specs.Tree.{Entries, Node, entries_in, is_directory_node, parent_in}
-use Rattle.vt_spec.specs.TreeLaws.{IsDirectory, entry_at as number_at}
+use Rattle.vt_spec.specs.TreeInvariant.{IsDirectory, entry_at as number_at}
 use Rattle.vt_location.specs.Numbers.{exchanged}
 use Rattle.vt_tree.specs.Paths.{path_in}
 use Rattle.vt_tree.specs.TreeValue.{TreeValue, inodes_of, tree_of}

@@ -8,6 +8,7 @@ use Rattle.vt_spec.specs.Inodes.{Inode, Inodes, one_directory, renamed_inodes, t
 use Rattle.vt_spec.specs.Tree.{Node, tree_of_root}
 use Rattle.vt_tree.specs.TreeValue.{TreeValue, inodes_of, next_number}
 use Rattle.vt_location.specs.declared.numbers.FilesystemId.{FilesystemId}
+use Rattle.vt_location.specs.InOrder.{in_order_by}
 use Rattle.vt_location.specs.Numbers.{counted, exchanged, inode_number}
 use Rattle.vt_fs.specs.declared.filesystems.Filesystem.{Filesystem as Held}
 
@@ -25,8 +26,12 @@ Filesystems = List FilesystemEntry
 abbrev pub held_entry : FilesystemId × Held → FilesystemEntry
 held_entry entry = record { count = entry.0.count; tree = entry.1.tree; mounts = entry.1.mounts }
 
+abbrev pub entries_in : List (FilesystemId × Held) → Filesystems
+entries_in kept = map held_entry kept
+
+-- those that are kept by hash, in the order of their counts: that in which they were made
 abbrev pub held : List (FilesystemId × Held) → Filesystems
-held entries = map held_entry entries
+held kept = entries_in (in_order_by (λ id. id.count) kept)
 
 -- a tree in the slots of a filesystem: its inodes by their numbers, with their uses
 abbrev pub seen_in : ℕ → TreeValue → Inodes ℕ

@@ -1,6 +1,6 @@
 -- What filesystems end as, where a `&mut` to the tree of one is returned.
-use Rattle.std.specs.Prelude.{ℕ, Option, [], ◌∷◌, zero, suc}
-use Rattle.std.specs.Borrow.{Lends, LendsIf, Fml, MutBor}
+use Rattle.std.specs.Prelude.{ℕ, Option}
+use Rattle.std.specs.Borrow.{LendsIf, Fml, MutBor}
 use Rattle.vt_tree.specs.contracts.trees.Tree.{the_row as tree_row}
 use Rattle.vt_tree.specs.TreeValue.{TreeValue}
 use Rattle.vt_fs.specs.FilesystemsValue.{Filesystems, with_tree}
@@ -10,13 +10,3 @@ use Rattle.vt_fs.specs.contracts.filesystems.Filesystems.{the_row}
 abbrev pub lends_tree : MutBor Filesystems → ℕ → Option (MutBor TreeValue) → Fml
 lends_tree filesystems count r =
     LendsIf the_row tree_row filesystems r (λ tree. with_tree count tree filesystems.now) filesystems.now
-
--- the filesystem at this place with another tree
-abbrev pub with_tree_at : ℕ → TreeValue → Filesystems → Filesystems
-with_tree_at place tree [] = []
-with_tree_at zero tree (entry ∷ rest) = record entry { tree = tree } ∷ rest
-with_tree_at (suc place) tree (entry ∷ rest) = entry ∷ with_tree_at place tree rest
-
-abbrev pub lends_tree_at : MutBor Filesystems → ℕ → MutBor TreeValue → Fml
-lends_tree_at filesystems place r =
-    Lends the_row tree_row filesystems r (λ tree. with_tree_at place tree filesystems.now)

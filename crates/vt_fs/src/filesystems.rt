@@ -1,7 +1,8 @@
 //! `Filesystems`, and the calls that look at them and change them.
-ghost use Rattle.std.specs.Prelude.{◌≡◌, ℕ, [], ◌+◌, ◌-◌, ◌++◌, ◌∷◌, ◌↔◌, ◌≤◌, nat_eq, length, map, drop, take, false, is_some, slice_get, None, Some, IfOk, IfErr, IfSome, IsErrOf, IsOk, IsTrue, OnOk, OnErr, ◌<◌, option_copied, option_map};
+ghost use Rattle.std.specs.Prelude.{◌≡◌, ℕ, [], ◌+◌, ◌-◌, ◌++◌, ◌∷◌, ◌↔◌, ◌≤◌, nat_eq, length, map, drop, take, true, false, nat_lt, None, Some, IfOk, IfErr, IfSome, IsErrOf, IsOk, IsTrue, OnOk, OnErr, ◌<◌, option_copied, option_map};
 ghost use Rattle.std.specs.Option.{option_copied_mut};
 ghost use Rattle.std.specs.Borrow.{sem};
+ghost use Rattle.std.specs.List.{list_all};
 ghost use Rattle.std.specs.Map.{lookup};
 ghost use Rattle.vt_spec.specs.Errors.{denial};
 ghost use Rattle.vt_spec.specs.declared.attributes.Kind.TheVariants.{File};
@@ -15,7 +16,7 @@ ghost use Rattle.vt_spec.specs.Laws.Trees.{IsNewIn};
 ghost use Rattle.vt_spec.specs.Lists.{any_pair};
 ghost use Rattle.vt_spec.specs.Machine.Outcome.Descriptors.{overwritten};
 ghost use Rattle.vt_spec.specs.Tree.{bytes_in, entries_in, is_directory_node, names_in};
-ghost use Rattle.vt_spec.specs.TreeLaws.{IsDirectory, entry_at as number_at};
+ghost use Rattle.vt_spec.specs.TreeInvariant.{IsDirectory, entry_at as number_at};
 ghost use Rattle.vt_tree.specs.Slots.{most_uses};
 ghost use Rattle.vt_location.specs.Locations.{number_of};
 ghost use Rattle.vt_location.specs.Numbers.{exchanged, is_inode_of};
@@ -65,7 +66,10 @@ fn found_under(
     }
 }
 
-/// The plain filesystems, in the order in which they were made. Each is a tree of inodes in slots of its own.
+/// The plain filesystems. Each is a tree of inodes in slots of its own.
+///
+/// They are kept by hash, in no order, so that making one and removing one cost the same however many there are; their
+/// numbers keep the order in which they were made.
 ///
 /// In a filesystem that does not exist there is nothing to read, and a change of bytes, attributes or uses has no
 /// effect.
@@ -83,9 +87,9 @@ impl Model for Filesystems {
 }
 
 impl Filesystems {
-    ghost use Rattle.vt_fs.specs.FilesystemsValue.{FilesystemEntry, ChangesInodes, IsNew, entry_at, entry_of, files_at, filesystems_seen, inodes_at, inodes_seen, next_seen, node_seen, with_changed, without};
+    ghost use Rattle.vt_fs.specs.FilesystemsValue.{FilesystemEntry, ChangesInodes, IsNew, entry_at, entry_of, files_at, inodes_at, inodes_seen, next_seen, node_seen, with_changed, without};
     ghost use Rattle.vt_fs.specs.Laws.{ParentsAreNamed};
-    ghost use Rattle.vt_fs.specs.Lends.{lends_tree, lends_tree_at};
+    ghost use Rattle.vt_fs.specs.Lends.{lends_tree};
 
     /// No filesystems. It does not allocate.
     pub fn new(alloc: Global) -> Self
@@ -103,13 +107,6 @@ impl Filesystems {
         self.by_number.len()
     }
 
-    /// A theorem: no two filesystems have the same number.
-    pub fn have_numbers_apart(&self)
-        ensures { any_pair (λ a b. nat_eq a.number b.number) (filesystems_seen self.now) ≡ false }
-    {
-        let _len = self.by_number.len();
-    }
-
     /// A theorem: each inode of a filesystem has one of the numbers of that filesystem's slots.
     pub fn has_own_numbers(&self, filesystem: FilesystemId)
         ensures { (number : ℕ) → is_inode_of filesystem.count number ≡ false
@@ -118,13 +115,6 @@ impl Filesystems {
         if let Some(tree) = self.get(filesystem) {
             tree.numbers_fit();
         }
-    }
-
-    /// Whether there is such a filesystem.
-    pub fn contains(&self, filesystem: FilesystemId) -> bool
-        ensures { result ≡ is_some (entry_of self.now filesystem.count) }
-    {
-        self.by_number.contains_key(&filesystem)
     }
 
     /// The tree of a filesystem, with its inodes in their slots.
@@ -143,19 +133,10 @@ impl Filesystems {
             ≡ option_map (λ entry. entry.tree) (entry_of self.old filesystem.count) }
         ensures apart { any_pair (λ a b. nat_eq a.count b.count) self.old ≡ false }
     {
-        match self.by_number.get_index_of(&filesystem) {
-            Some(place) => Some(self.tree_at(place)),
+        match self.by_number.get_mut(&filesystem) {
+            Some(found) => Some(found.tree_mut()),
             None => None,
         }
-    }
-
-    // The tree of the filesystem at this place.
-    fn tree_at(&mut self, place: usize) -> &mut Tree
-        requires { place < length self.old }
-        ensures* writes_back { sem 𝓛 (lends_tree_at self.entry place result) }
-        ensures value { option_map (λ entry. entry.tree) (slice_get self.old place) ≡ Some result.now }
-    {
-        self.by_number[place].tree_mut()
     }
 
     /// The node of an inode, its entries and its parent by slots.
@@ -175,16 +156,6 @@ impl Filesystems {
     {
         let tree = self.get(filesystem)?;
         Some(in_slot(filesystem, tree.root()))
-    }
-
-    /// How many inodes a filesystem has.
-    pub fn count(&self, filesystem: FilesystemId) -> usize
-        ensures { result ≡ (inodes_at self.now filesystem.count).count }
-    {
-        match self.get(filesystem) {
-            Some(tree) => tree.len(),
-            None => 0,
-        }
     }
 
     /// How often an inode is in use: the names that lead to it, and what is pinned.
@@ -235,11 +206,11 @@ impl Filesystems {
         Some(in_slot(filesystem, tree.next_number()))
     }
 
-    /// Makes a filesystem of one empty directory, which no mount shows yet.
+    /// Makes a filesystem of one empty directory, which no mount shows yet. Its number is above all that are there.
     ///
     /// S5 (ENOMEM): an allocation failed.
     pub fn add(&mut self, filesystem: FilesystemId, attr: Attr) -> Result<(), Deny>
-        requires { entry_of self.old filesystem.count ≡ None }
+        requires { list_all (λ entry. nat_lt entry.count filesystem.count) self.old ≡ true }
         ensures ok { OnOk result
             ((entry : FilesystemEntry) × (self.new ≡ self.old ++ entry ∷ []) × IsNew filesystem.count attr entry) }
         ensures memory { IfErr result (λ deny. deny ≡ denial S5) }
@@ -260,7 +231,7 @@ impl Filesystems {
     pub fn remove(&mut self, filesystem: FilesystemId)
         ensures { self.new ≡ without filesystem.count self.old }
     {
-        self.by_number.shift_remove(&filesystem);
+        self.by_number.swap_remove(&filesystem);
     }
 
     /// How many mounts show a filesystem.

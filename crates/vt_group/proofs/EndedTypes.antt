@@ -109,7 +109,7 @@ module _ {V : Type 0} (change : ℕ → V → Option V) where
       by false is later = there (change e.0 e.1) is ∙ later
 
 -- what a mount's type is after a group ended
-once_ended : (lost : ℕ) (heir : Option ℕ) (found : Option (Propagation ℕ))
+pub once_ended : (lost : ℕ) (heir : Option ℕ) (found : Option (Propagation ℕ))
     → unwrap_or (then_some found (handed_type lost heir)) Private ≡ type_after_end lost heir (unwrap_or found Private)
 once_ended lost heir None = refl
 once_ended lost heir (Some (Shared group)) = refl

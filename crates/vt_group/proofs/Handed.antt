@@ -2,13 +2,14 @@
 use Rattle.std.proofs.Common.{◌≡◌, ℕ, Bool, true, false, ◌||◌, ◌∷◌, List, nat_eq, Option, None, Some, refl, sym, ap, ◌∙◌, option_map}
 use Rattle.std.proofs.lemmas.Bool.{eqb-true}
 use Rattle.std.specs.List.{list_any}
-use Rattle.std.specs.Prelude.{if◌then◌else◌}
-use Rattle.vt_spec.specs.Lists.{then_some}
+use Rattle.std.specs.Option.{option_eq}
+use Rattle.std.specs.Prelude.{if◌then◌else◌, unwrap_or}
+use Rattle.vt_spec.specs.Lists.{holds_of, then_some}
 use Rattle.vt_location.specs.declared.mounts.Propagation.{Propagation}
 use Rattle.vt_location.specs.declared.mounts.Propagation.TheVariants.{Private, Shared, Slave, Unbindable}
 use Rattle.vt_location.specs.declared.numbers.GroupId.{GroupId}
 use Rattle.vt_group.specs.Handing.{group_handed, kind_handed}
-use Rattle.vt_spec.specs.Machine.Mounts.Propagation.{Slave as SlaveOf}
+use Rattle.vt_spec.specs.Machine.Mounts.Propagation.{Private as MeansPrivate, Slave as SlaveOf}
 use Rattle.vt_location.specs.MountValue.{propagation_of}
 use Rattle.vt_location.specs.Numbers.{counted}
 use Rattle.vt_group.specs.Indexed.{has_source}
@@ -121,6 +122,19 @@ kind_seen lost heir (Slave master) =
     slave (Some above) = refl
 kind_seen lost heir Private = refl
 kind_seen lost heir Unbindable = refl
+
+-- a type, or private where there is none
+pub shown_or_private : (found : Option Propagation)
+    → propagation_of (unwrap_or found Private) ≡ unwrap_or (option_map propagation_of found) MeansPrivate
+shown_or_private None = refl
+shown_or_private (Some kind) = refl
+
+-- two groups are the same where their numbers are
+pub option_eq-counted : (found : Option GroupId) (group : GroupId)
+    → option_eq same_group found (Some group) ≡ holds_of (nat_eq (counted group.count)) (option_map group_number found)
+option_eq-counted None group = refl
+option_eq-counted (Some own) group =
+    sym (same_count group.count own.count ∙ eqb-swapped own.count group.count (nat_eq own.count group.count) refl)
 
 -- what is left at a key
 

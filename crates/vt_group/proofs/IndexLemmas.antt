@@ -132,6 +132,18 @@ stays_under eq names old new one group stays is keeps under =
     ∙ any_within (λ name. has eq name one old) (λ name. has eq name one new) same_group itself stays keeps
     (ap (list_any (λ name. has eq name one old)) is ∙ under)
 
+-- a name that is none of these is not the same as one of them
+pub apart_from_each : (name at : GroupId) (names : List GroupId)
+    → list_any (λ other. same_group other name) names ≡ false → list_any (λ other. same_group other at) names ≡ true
+    → same_group name at ≡ false
+apart_from_each name at names none among = by (same_group name at) refl
+  where
+    by : (b : Bool) → same_group name at ≡ b → same_group name at ≡ false
+    by true same =
+        absurd (true≢false (sym among
+        ∙ ap (λ (id : GroupId). list_any (λ other. same_group other id) names) (same_number name at same) ∙ none))
+    by false apart = apart
+
 pub neither_one : (a b : Bool) → b ≡ false → (a && b) ≡ false
 neither_one true b is = is
 neither_one false b is = refl

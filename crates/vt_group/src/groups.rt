@@ -77,8 +77,8 @@ impl Groups {
         }
     }
 
-    /// A theorem, which does nothing: each mount has one type.
-    pub fn are_ordered(&self)
+    // A theorem, which does nothing: each mount has one type.
+    fn are_ordered(&self)
         ensures { is_ordered self.now ≡ true }
     {
         let _ = &self.mounts;

@@ -1,5 +1,5 @@
 //! The lists by which the groups find mounts and groups without passing over all of them.
-ghost use Rattle.std.specs.Prelude.{◌≡◌, ◌≢◌, ℕ, None, Some, OnErr, OnOk, IsSome, false, true};
+ghost use Rattle.std.specs.Prelude.{◌≡◌, ◌≢◌, ℕ, None, Some, OnErr, OnOk, IfSome, IsSome, false, true};
 ghost use Rattle.std.specs.BTreeMap.{get};
 ghost use Rattle.std.specs.List.{list_any};
 ghost use Rattle.std.specs.Ordering.{nat_cmp};
@@ -17,6 +17,8 @@ ghost use Rattle.vt_group.specs.Sets.{has, same_group, same_id};
 use crate::groups::NewGroup;
 use crate::listed::Listed;
 use crate::names::Names;
+use crate::places::{Places, forget_lower, forget_untyped};
+use crate::propagation::{own_group, source};
 use crate::sets::{Sets, keep_lower, keep_typed};
 use std::alloc::{AllocError, Global};
 use std::collections::{BTreeMap, LinkedList};
@@ -32,6 +34,9 @@ pub(crate) struct Index {
     lowers: Sets<GroupId>,
     // By groups.
     members: Sets<MountId>,
+    // The name that each of these is under, or was first put under.
+    mount_places: Places<MountId>,
+    lower_places: Places<GroupId>,
 }
 
 impl Index {
@@ -42,6 +47,8 @@ impl Index {
             mounts: Sets::new(alloc),
             lowers: Sets::new(alloc),
             members: Sets::new(alloc),
+            mount_places: Places::new(alloc),
+            lower_places: Places::new(alloc),
         }
     }
 
@@ -84,10 +91,22 @@ impl Index {
     {
         match kind {
             Propagation::Shared(group) => {
-                put(&mut self.names, &mut self.mounts, group, mount)?;
+                put(
+                    &mut self.names,
+                    &mut self.mounts,
+                    &mut self.mount_places,
+                    group,
+                    mount,
+                )?;
                 self.members.insert(group, mount)
             }
-            Propagation::Slave(master) => put(&mut self.names, &mut self.mounts, master, mount),
+            Propagation::Slave(master) => put(
+                &mut self.names,
+                &mut self.mounts,
+                &mut self.mount_places,
+                master,
+                mount,
+            ),
             Propagation::Private | Propagation::Unbindable => Ok(()),
         }
     }
@@ -99,7 +118,13 @@ impl Index {
             → is_listed self.new mount kind ≡ true }
         ensures lower { (low up : GroupNumber) → is_lower self.old low up ≡ true → is_lower self.new low up ≡ true }
     {
-        put(&mut self.names, &mut self.lowers, upper, lower)
+        put(
+            &mut self.names,
+            &mut self.lowers,
+            &mut self.lower_places,
+            upper,
+            lower,
+        )
     }
 
     /// Lists the groups that have masters here.
@@ -231,8 +256,15 @@ impl Index {
             return;
         }
         let stays = self.names.of_any(now);
-        take_out(&mut self.mounts, self.names.of(group), stays, mount);
-        self.names.prune(group, &self.mounts, &self.lowers);
+        let name = take_out(
+            &mut self.mounts,
+            &mut self.mount_places,
+            self.names.of(group),
+            stays,
+            mount,
+        );
+        self.names
+            .prune_left(group, name, &self.mounts, &self.lowers);
     }
 
     /// Takes out a group that had this master, once it has that one, or none. It does not allocate.
@@ -245,8 +277,14 @@ impl Index {
             → is_lower self.new lower upper ≡ true }
     {
         let stays = self.names.of_any(is);
-        take_out(&mut self.lowers, self.names.of(was), stays, lower);
-        self.names.prune(was, &self.mounts, &self.lowers);
+        let name = take_out(
+            &mut self.lowers,
+            &mut self.lower_places,
+            self.names.of(was),
+            stays,
+            lower,
+        );
+        self.names.prune_left(was, name, &self.mounts, &self.lowers);
     }
 
     /// Takes mounts out of where they are listed for these types, unless they have them. It does not allocate.
@@ -318,7 +356,6 @@ impl Index {
         if heir == lost {
             return;
         }
-        self.names.prune(lost, &self.mounts, &self.lowers);
         self.names.inherit(lost, heir);
     }
 
@@ -337,6 +374,15 @@ impl Index {
             → is_lower self.old lower upper ≡ true → is_lower self.new lower upper ≡ true }
     {
         let names = self.names.of(lost);
+        forget_under(
+            names,
+            &self.mounts,
+            &mut self.mount_places,
+            &self.lowers,
+            &mut self.lower_places,
+            types,
+            above,
+        );
         keep_under(names, &mut self.mounts, &mut self.lowers, types, above);
         self.names.forget(lost);
     }
@@ -346,6 +392,7 @@ impl Index {
 fn put<T: Eq + Hash + Copy + Clone + Drop>(
     names: &mut Names,
     sets: &mut Sets<T>,
+    places: &mut Places<T>,
     group: GroupId,
     one: T,
 ) -> Result<(), AllocError>
@@ -355,25 +402,77 @@ fn put<T: Eq + Hash + Copy + Clone + Drop>(
         → has T.eq at other sets.new ≡ true }
 {
     let name = names.name(group)?;
-    sets.insert(name, one)
+    sets.insert(name, one)?;
+    places.put(one, name)
 }
 
-// Takes one out from under these names, except for those under which it stays.
+// Takes one out from under a name of its group, unless it stays there. It returns that name.
 fn take_out<T: Eq + Hash + Copy + Clone + Drop>(
     sets: &mut Sets<T>,
+    places: &mut Places<T>,
     names: &LinkedList<GroupId>,
     stays: &LinkedList<GroupId>,
     one: T,
-)
+) -> Option<GroupId>
     ensures others { (at : GroupNumber) (other : T) → T.eq one other ≡ false → has T.eq at other sets.old ≡ true
         → has T.eq at other sets.new ≡ true }
     ensures own { (at : GroupNumber) (other : T) → list_any (λ name. same_group name at) stays.now ≡ true
         → has T.eq at other sets.old ≡ true → has T.eq at other sets.new ≡ true }
 {
-    for name in names {
-        if !stays.contains(name) {
-            sets.remove(*name, one);
+    let name = name_over(sets, places.of(one), names, stays, one)?;
+    sets.remove(name, one);
+    places.leave(one, name, stays.front().copied());
+    Some(name)
+}
+
+// The name that one is to be taken out from under: this one, if it is there, or else the first of these.
+fn name_over<T: Eq + Hash + Copy + Clone + Drop>(
+    sets: &Sets<T>,
+    place: Option<GroupId>,
+    names: &LinkedList<GroupId>,
+    stays: &LinkedList<GroupId>,
+    one: T,
+) -> Option<GroupId>
+    ensures { IfSome result (λ name. list_any (λ other. same_group other name) stays.now ≡ false) }
+{
+    if let Some(name) = place {
+        if leaves(sets, name, stays, one) {
+            return Some(name);
         }
+    }
+    for name in names {
+        if leaves(sets, *name, stays, one) {
+            return Some(*name);
+        }
+    }
+    None
+}
+
+// Whether one is under a name, and does not stay there.
+fn leaves<T: Eq + Hash + Copy + Clone + Drop>(
+    sets: &Sets<T>,
+    name: GroupId,
+    stays: &LinkedList<GroupId>,
+    one: T,
+) -> bool
+    ensures { result ≡ true → list_any (λ other. same_group other name) stays.now ≡ false }
+{
+    sets.contains(name, &one) && !stays.contains(&name)
+}
+
+// What is under these names and has no type or no master is under no name any more.
+fn forget_under(
+    names: &LinkedList<GroupId>,
+    mounts: &Sets<MountId>,
+    mount_places: &mut Places<MountId>,
+    lowers: &Sets<GroupId>,
+    lower_places: &mut Places<GroupId>,
+    types: &BTreeMap<u64, Propagation>,
+    above: &BTreeMap<u64, GroupId>,
+) {
+    for name in names {
+        forget_untyped(mount_places, mounts.get(*name), types);
+        forget_lower(lower_places, lowers.get(*name), above);
     }
 }
 
@@ -420,19 +519,12 @@ fn take_out_of_one(
 fn group_in(kind: Option<Propagation>) -> Option<GroupId>
     ensures { result ≡ then_some kind group_of_kind }
 {
-    match kind {
-        Some(Propagation::Shared(group)) => Some(group),
-        Some(Propagation::Slave(_) | Propagation::Private | Propagation::Unbindable) | None => None,
-    }
+    own_group(kind?)
 }
 
 // The group that a mount of a type receives from.
 fn source_in(kind: Option<Propagation>) -> Option<GroupId>
     ensures { result ≡ then_some kind source_of_kind }
 {
-    match kind {
-        Some(Propagation::Shared(group)) => Some(group),
-        Some(Propagation::Slave(master)) => Some(master),
-        Some(Propagation::Private | Propagation::Unbindable) | None => None,
-    }
+    source(kind?)
 }

@@ -9,8 +9,11 @@ mod insertions;
 pub mod laws;
 mod listed;
 mod names;
+mod places;
 mod propagation;
 mod sets;
+mod unused;
 
 pub use groups::{Groups, NewGroup};
 pub use listed::Listed;
+pub use propagation::type_after_end;

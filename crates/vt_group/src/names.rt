@@ -5,9 +5,10 @@ ghost use Rattle.std.specs.Map.{lookup};
 ghost use Rattle.vt_location.specs.declared.numbers.GroupId.{GroupId as GroupNumber};
 ghost use Rattle.vt_location.specs.declared.numbers.MountId.{MountId as MountNumber};
 ghost use Rattle.vt_group.specs.Names.{KeepsNames, is_under, names_of, names_of_any};
-ghost use Rattle.vt_group.specs.Sets.{has, same_group, same_id};
+ghost use Rattle.vt_group.specs.Sets.{has, kept_in, same_group, same_id};
 
 use crate::sets::Sets;
+use crate::unused::Unused;
 use indexmap::IndexMap;
 use std::alloc::{AllocError, Global};
 use std::collections::LinkedList;
@@ -26,6 +27,7 @@ pub(crate) struct Names {
     none: LinkedList<GroupId>,
     // How many names were made, so that two lists are known to fit into one.
     made: usize,
+    unused: Unused,
 }
 
 impl Model for Names {
@@ -47,6 +49,7 @@ impl Names {
             lists: IndexMap::new(alloc),
             none: LinkedList::new(alloc),
             made: 0,
+            unused: Unused::new(alloc),
         }
     }
 
@@ -98,13 +101,54 @@ impl Names {
         }
         let mut list = LinkedList::new(self.allocator());
         list.push_back(group)?;
+        self.unused.start(group)?;
         self.lists.insert(group, list)?;
         self.made += 1;
         Ok(group)
     }
 
-    /// Drops the names of a group under which nothing is kept. It does not allocate.
-    pub(crate) fn prune(&mut self, group: GroupId, mounts: &Sets<MountId>, lowers: &Sets<GroupId>)
+    /// Drops the names of a group under which nothing is kept, once one was taken out from under this name. It passes
+    /// over the names only where half of them may have fallen out of use since it last did. It does not allocate.
+    pub(crate) fn prune_left(
+        &mut self,
+        group: GroupId,
+        name: Option<GroupId>,
+        mounts: &Sets<MountId>,
+        lowers: &Sets<GroupId>,
+    )
+        ensures mounts { (mount : MountNumber) (at : GroupNumber) → is_under same_id self.old mounts.now mount at ≡ true
+            → is_under same_id self.new mounts.now mount at ≡ true }
+        ensures lowers { (lower at : GroupNumber) → is_under same_group self.old lowers.now lower at ≡ true
+            → is_under same_group self.new lowers.now lower at ≡ true }
+    {
+        if self.keeps_names(group, name, mounts, lowers) {
+            return;
+        }
+        self.prune(group, mounts, lowers);
+    }
+
+    // Whether the names of a group stay, once one was taken out from under this name.
+    fn keeps_names(
+        &mut self,
+        group: GroupId,
+        name: Option<GroupId>,
+        mounts: &Sets<MountId>,
+        lowers: &Sets<GroupId>,
+    ) -> bool
+        ensures { self.new ≡ self.old }
+    {
+        let Some(name) = name else {
+            return false;
+        };
+        if is_used(name, mounts, lowers) {
+            return true;
+        }
+        let names = self.of(group).len();
+        !self.unused.add(group, names)
+    }
+
+    // Drops the names of a group under which nothing is kept.
+    fn prune(&mut self, group: GroupId, mounts: &Sets<MountId>, lowers: &Sets<GroupId>)
         ensures mounts { (mount : MountNumber) (at : GroupNumber) → is_under same_id self.old mounts.now mount at ≡ true
             → is_under same_id self.new mounts.now mount at ≡ true }
         ensures lowers { (lower at : GroupNumber) → is_under same_group self.old lowers.now lower at ≡ true
@@ -128,6 +172,7 @@ impl Names {
         ensures kept { (at : GroupNumber) (test : GroupNumber → Bool) → same_group lost at ≡ false
             → list_any test (names_of self.old at) ≡ true → list_any test (names_of self.new at) ≡ true }
     {
+        self.unused.inherit(lost, heir);
         let Some(mut list) = self.lists.swap_remove(&lost) else {
             return;
         };
@@ -142,6 +187,7 @@ impl Names {
         ensures kept { (at : GroupNumber) (test : GroupNumber → Bool) → same_group lost at ≡ false
             → list_any test (names_of self.old at) ≡ true → list_any test (names_of self.new at) ≡ true }
     {
+        self.unused.forget(lost);
         self.lists.swap_remove(&lost);
     }
 }
@@ -179,6 +225,13 @@ fn turn(list: &mut LinkedList<GroupId>)
     *list = rest;
 }
 
+// Whether something is kept under a name.
+fn is_used(name: GroupId, mounts: &Sets<MountId>, lowers: &Sets<GroupId>) -> bool
+    ensures unused { result ≡ false → (kept_in name mounts.now ≡ []) × (kept_in name lowers.now ≡ []) }
+{
+    !mounts.get(name).is_empty() || !lowers.get(name).is_empty()
+}
+
 // Whether nothing is kept under the first of these names.
 fn first_is_unused(
     list: &LinkedList<GroupId>,
@@ -193,7 +246,7 @@ fn first_is_unused(
         → list_any (λ name. has same_group name lower lowers.now) (drop 1 list.now) ≡ true }
 {
     match list.front() {
-        Some(name) => mounts.get(*name).is_empty() && lowers.get(*name).is_empty(),
+        Some(name) => !is_used(*name, mounts, lowers),
         None => false,
     }
 }

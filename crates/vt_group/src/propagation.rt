@@ -5,13 +5,16 @@ ghost use Rattle.vt_spec.specs.Machine.Mounts.{group_of, source_of};
 ghost use Rattle.vt_location.specs.MountValue.{propagation_of};
 ghost use Rattle.vt_location.specs.Numbers.{counted};
 ghost use Rattle.vt_group.specs.Handing.{group_handed, kind_handed};
+ghost use Rattle.vt_group.specs.Indexed.{group_of_kind, source_of_kind};
+ghost use Rattle.vt_group.specs.Leaving.{type_after_end as type_in_the_end};
 ghost use Rattle.vt_group.specs.Steps.{group_number};
 
 use vt_location::{GroupId, Propagation};
 
 // The group that a mount of this type is in.
 pub(crate) fn own_group(kind: Propagation) -> Option<GroupId>
-    ensures { option_map group_number result ≡ group_of (propagation_of kind) }
+    ensures kept { result ≡ group_of_kind kind }
+    ensures number { option_map group_number result ≡ group_of (propagation_of kind) }
 {
     match kind {
         Propagation::Shared(group) => Some(group),
@@ -23,15 +26,13 @@ pub(crate) fn own_group(kind: Propagation) -> Option<GroupId>
 pub(crate) fn is_in(kind: Propagation, group: GroupId) -> bool
     ensures { result ≡ holds_of (nat_eq (counted group.count)) (group_of (propagation_of kind)) }
 {
-    match kind {
-        Propagation::Shared(own) => group == own,
-        Propagation::Slave(_) | Propagation::Private | Propagation::Unbindable => false,
-    }
+    own_group(kind) == Some(group)
 }
 
 // The group that a mount of this type receives from.
 pub(crate) fn source(kind: Propagation) -> Option<GroupId>
-    ensures { option_map group_number result ≡ source_of (propagation_of kind) }
+    ensures kept { result ≡ source_of_kind kind }
+    ensures number { option_map group_number result ≡ source_of (propagation_of kind) }
 {
     match kind {
         Propagation::Shared(group) => Some(group),
@@ -44,11 +45,16 @@ pub(crate) fn source(kind: Propagation) -> Option<GroupId>
 pub(crate) fn has_source(kind: Propagation, group: GroupId) -> bool
     ensures { result ≡ holds_of (nat_eq (counted group.count)) (source_of (propagation_of kind)) }
 {
-    match kind {
-        Propagation::Shared(own) => group == own,
-        Propagation::Slave(master) => group == master,
-        Propagation::Private | Propagation::Unbindable => false,
-    }
+    source(kind) == Some(group)
+}
+
+/// The type of a mount after a group ended that had this heir: a slave of the group is a slave of the heir then, or
+/// private if there is none.
+pub fn type_after_end(kind: Propagation, lost: GroupId, heir: Option<GroupId>) -> Propagation
+    ensures { propagation_of result
+        ≡ type_in_the_end (counted lost.count) (option_map group_number heir) (propagation_of kind) }
+{
+    handed(kind, lost, heir).unwrap_or(Propagation::Private)
 }
 
 // The type of a mount after a group was lost, to which this one is the heir. A slave of the group is private if there is

@@ -36,6 +36,16 @@ impl<T: Eq + Hash + Copy + Clone + Drop> Sets<T> {
         }
     }
 
+    /// Whether one is under a group.
+    pub(crate) fn contains(&self, group: GroupId, one: &T) -> bool
+        ensures { result ≡ has T.eq group one.now self.now }
+    {
+        match self.sets.get(&group) {
+            Some(set) => set.contains(one),
+            None => false,
+        }
+    }
+
     /// Adds one under a group.
     pub(crate) fn insert(&mut self, group: GroupId, one: T) -> Result<(), AllocError>
         ensures there { OnOk result (has T.eq group one self.new ≡ true) }

@@ -17,7 +17,7 @@ use Rattle.vt_spec.specs.Machine.Rightful.{node_allows}
 use Rattle.vt_spec.specs.Rights.{Credentials, allows}
 use Rattle.vt_spec.specs.Tree.{Content, Node, Tree, entries_in, entries_of, entry_named, is_directory_node, kind_of, name_cmp, node_with_bytes, node_with_entry, parent_in, with_bytes, with_entries, with_entry}
 use Rattle.vt_spec.specs.Tree.Content.{Directory, Regular, Symlink, Whiteout}
-use Rattle.vt_spec.specs.TreeLaws.{IsDirectory, entry_at}
+use Rattle.vt_spec.specs.TreeInvariant.{IsDirectory, entry_at}
 use Rattle.vt_spec.proofs.Nodes.{entries-node_with_bytes, entries-node_with_entry, entry_named-with_entry, entry_named-without_entry, is_directory-node_with_bytes, is_directory-node_with_entry, none_is_not, parent-node_with_bytes, parent-node_with_entry, same_name}
 use Rattle.vt_tree_laws.proofs.trees.ChangesNodes.{attr_keeps_place, elsewhere, part_stays, there}
 use Rattle.vt_spec.proofs.NodeChanges.{directory_from_entry, entries-node_without_entry, is_directory-node_without_entry, node_with_parent-no_directory, parent-node_without_entry}

@@ -16,7 +16,7 @@ use Rattle.vt_spec.specs.Machine.World.{Task, World, filesystem_numbered, is_dir
 use Rattle.vt_spec.specs.Machine.Invariants.{IsWorld, has_its_root}
 use Rattle.vt_spec.specs.Rights.{execute_right}
 use Rattle.vt_spec.specs.Tree.{Node, Tree, entries_in, entry_named, is_directory_node, parent_in}
-use Rattle.vt_spec.specs.TreeLaws.{entry_at}
+use Rattle.vt_spec.specs.TreeInvariant.{entry_at}
 use Rattle.vt_spec.proofs.Nodes.{directory_used, none_is_not}
 use Rattle.vt_mount_laws.specs.Mounts.Attaching.{numbers_of}
 use Rattle.vt_mount_laws.proofs.mounts.MountsFound.{found_there}

@@ -3,7 +3,7 @@ use Rattle.std.proofs.Common.{◌≡◌, refl, sym, ap, subst, ◌∙◌, ⊎_el
 use Rattle.vt_spec.specs.FileTree.{FileTree, has_entry_to, is_directory_under, is_removed, named_parent}
 use Rattle.vt_spec.specs.Lists.{chain, is_among, when}
 use Rattle.vt_spec.specs.Tree.{Tree, parent_in}
-use Rattle.vt_spec.specs.TreeLaws.{IsDirectory, IsReached, IsTree, entry_at, led}
+use Rattle.vt_spec.specs.TreeInvariant.{IsDirectory, IsReached, IsTree, entry_at, led}
 use Rattle.vt_spec.proofs.Nodes.{directory_used, none_is_not}
 use Rattle.vt_spec.proofs.Trees.{found, led-append, parent_reached, reached_named}
 use Rattle.vt_tree_laws.specs.Trees.{IsFileTree}

@@ -3,3 +3,4 @@ pub mod SameFiles
 pub mod SameJudged
 pub mod SameLooks
 pub mod SameMany
+pub mod SameNames

@@ -4,6 +4,7 @@ use Rattle.std.specs.Prelude.{Bool, false, nat_eq, ℕ, ◌≡◌}
 use Rattle.std.specs.List.{All}
 use Rattle.vt_laws.specs.Judged.{LookAlike}
 use Rattle.vt_spec.specs.Language.Calls.{Call}
+use Rattle.vt_spec.specs.Machine.Invariants.{IsWorld}
 use Rattle.vt_spec.specs.Machine.Judge.{judge, judge_in}
 use Rattle.vt_spec.specs.Lists.{Fresh}
 use Rattle.vt_spec.specs.Machine.Looks.{looks_of}
@@ -37,3 +38,21 @@ abbrev pub PlainHasOneName : Type 0
 PlainHasOneName =
     (world : World ℕ) → All (λ filesystem. is_overlay filesystem ≡ false) world.filesystems
     → BelowHasOneName nat_eq world
+
+-- Nor has it names in two directories in a world that has the invariants, with overlays or without: its real object is
+-- of one path, which is the one that names lead along.
+abbrev pub WorldsHaveOneName : Type 0
+WorldsHaveOneName = (world : World ℕ) → IsWorld nat_eq world → BelowHasOneName nat_eq world
+
+-- So of worlds that have the invariants it is not asked,
+abbrev pub SameInvariantWorldsLookAlike : Type 0
+SameInvariantWorldsLookAlike =
+    (one other : World ℕ) → SameWorlds one other → IsWorld nat_eq one
+    → LookAlike (looks_of nat_eq one) (looks_of nat_eq other)
+
+-- and each call is judged alike in both.
+abbrev pub SameInvariantWorldsJudgeAlike : Type 0
+SameInvariantWorldsJudgeAlike =
+    (one other : World ℕ) → SameWorlds one other → IsWorld nat_eq one
+    → (fresh : Fresh ℕ) (task : Task ℕ) (call : Call)
+    → judge_in nat_eq fresh one task call ≡ judge_in nat_eq fresh other task call

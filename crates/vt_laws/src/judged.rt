@@ -1,7 +1,7 @@
 //! A call is judged by what a world shows, and what it is permitted is then applied.
 ghost use Rattle.vt_laws.specs.Judged.{AlikeAreJudgedAlike, AlikeAreWalkedAlike, CallIsJudgedThenApplied, LastStepRaisesNumbersAlone, PolicyJudgesThenApplies};
 
-/// The outcome of each of the 38 calls is its judgement, then its permit applied: it is refused by the rule that
+/// The outcome of each of the 39 calls is its judgement, then its permit applied: it is refused by the rule that
 /// `judge` gives, and the world stays, or it has the answer of `apply`, and leaves the world of `apply`.
 ///
 /// So is the outcome of the policy, where what nothing uses then goes and change numbers are raised.

@@ -1,2 +1,4 @@
+pub mod Chains
 pub mod Lists
+pub mod SweptBetween
 pub mod Trees

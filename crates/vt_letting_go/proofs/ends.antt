@@ -1,3 +1,4 @@
 -- What the proofs of src/ends.rt use.
+pub mod EndsInTurn
 pub mod NamespacesEnd
 pub mod TasksEnd

@@ -1,6 +1,7 @@
 -- Uses are counted: a thing is in use just while its count is not zero.
 use Rattle.std.specs.Prelude.{Bool, List, [], if◌then◌else◌, nat_eq, nat_lt, ℕ, ◌+◌, ◌++◌, ◌∷◌, ◌≡◌}
 use Rattle.vt_spec.specs.Machine.Mounts.{Location, Mount}
+use Rattle.vt_spec.specs.Machine.Receives.{has_members, is_member_of}
 use Rattle.vt_spec.specs.Machine.Settled.{is_located, is_mounted, used_in}
 use Rattle.vt_spec.specs.Machine.World.{Filesystem, World, all_locations}
 use Rattle.vt_letting_go.specs.InUse.{is_inode_used}
@@ -22,6 +23,10 @@ mounts_showing world number = times (λ mount. nat_eq number mount.filesystem) w
 abbrev pub inode_uses : World ℕ → Filesystem ℕ → ℕ → ℕ
 inode_uses world filesystem number = times (nat_eq number) (used_in nat_eq world filesystem)
 
+-- how many mounts are members of a group
+abbrev pub member_count : World ℕ → ℕ → ℕ
+member_count world group = times (is_member_of nat_eq group) world.mounts
+
 abbrev pub LocatedWhileCounted : Type 0
 LocatedWhileCounted =
     (world : World ℕ) (number : ℕ) → is_located nat_eq world number ≡ nat_lt 0 (mount_uses world number)
@@ -34,6 +39,10 @@ abbrev pub UsedWhileCounted : Type 0
 UsedWhileCounted =
     (world : World ℕ) (filesystem : Filesystem ℕ) (number : ℕ)
     → is_inode_used world filesystem number ≡ nat_lt 0 (inode_uses world filesystem number)
+
+abbrev pub MembersWhileCounted : Type 0
+MembersWhileCounted =
+    (world : World ℕ) (group : ℕ) → has_members nat_eq world.mounts group ≡ nat_lt 0 (member_count world group)
 
 -- A location that is left is one use less of its mount, and of no other.
 abbrev pub OneUseLess : Type 0

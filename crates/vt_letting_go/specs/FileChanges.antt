@@ -10,11 +10,11 @@ use Rattle.vt_spec.specs.Machine.Apply.{apply}
 use Rattle.vt_spec.specs.Machine.Detach.{mounts_on, taken_away}
 use Rattle.vt_spec.specs.Machine.Filesystems.{with_change}
 use Rattle.vt_spec.specs.Machine.Mounts.{Location}
-use Rattle.vt_spec.specs.Machine.Permits.Permit.{ToMake, ToOpenNew, ToRemoveDirectory, ToRename}
+use Rattle.vt_spec.specs.Machine.Permits.Permit.{ToMake, ToOpenNew, ToRemoveDirectory, ToRename, ToWritePart}
 use Rattle.vt_spec.specs.Machine.Settled.{settled}
 use Rattle.vt_spec.specs.Machine.World.{Filesystem, Task, World, filesystem_at, files_at, is_overlay, mount_at}
 use Rattle.vt_spec.specs.Tree.{Node, is_directory_node}
-use Rattle.vt_spec.specs.TreeLaws.{entry_at}
+use Rattle.vt_spec.specs.TreeInvariant.{entry_at}
 use Rattle.vt_letting_go.specs.InUse.{IsListedTree}
 use Rattle.vt_letting_go.specs.LeavingOverlays.{IsSettled}
 use Rattle.vt_letting_go.specs.MountingOverlays.{used_by_gone_with_layers}
@@ -146,6 +146,18 @@ MadeKeepsAll =
     → entry_at (files_at nat_eq world directory).tree directory.node name ≡ None
     → settled nat_eq (apply nat_eq fresh world task (ToMake directory name node)).world
     ≡ (apply nat_eq fresh world task (ToMake directory name node)).world
+
+-- Nor does one that writes a part of a file, or nothing: pwrite(2).
+abbrev pub WrittenPartsKeepAll : Type 0
+WrittenPartsKeepAll =
+    (fresh : Fresh ℕ) (world : World ℕ) (task : Task ℕ) (file : Location ℕ) (offset : ℕ) (bytes : List ℕ)
+    → IsSettled world
+    → any_pair (λ (a b : Filesystem ℕ). nat_eq a.number b.number) world.filesystems ≡ false
+    → is_among nat_eq (mount_at nat_eq world file).filesystem (map (λ filesystem. filesystem.number) world.filesystems)
+    ≡ true
+    → is_overlay (filesystem_at nat_eq world file) ≡ false
+    → settled nat_eq (apply nat_eq fresh world task (ToWritePart file offset bytes)).world
+    ≡ (apply nat_eq fresh world task (ToWritePart file offset bytes)).world
 
 -- Nor does one by which a task of the world opens a new file: open(2) with O_CREAT.
 abbrev pub OpenedNewKeepsAll : Type 0

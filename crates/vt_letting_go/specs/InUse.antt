@@ -9,7 +9,7 @@ use Rattle.vt_spec.specs.Machine.Receives.{has_members}
 use Rattle.vt_spec.specs.Machine.Settled.{filesystem_lives, mount_lives, settled, used_in}
 use Rattle.vt_spec.specs.Machine.World.{Filesystem, World, is_overlay}
 use Rattle.vt_spec.specs.Machine.Invariants.{ListsNumbers}
-use Rattle.vt_spec.specs.TreeLaws.{IsTree}
+use Rattle.vt_spec.specs.TreeInvariant.{IsTree}
 
 -- each mount is in a namespace, or a root, working directory or descriptor is on it
 abbrev pub MountsInUse : World ℕ → Type 0

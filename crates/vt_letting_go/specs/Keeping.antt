@@ -1,12 +1,14 @@
 -- Changes of mounts that take no use away: mount(2), also with MS_BIND, MS_REMOUNT, MS_SHARED and its kin.
 use Rattle.std.specs.Prelude.{Bool, List, Option, false, if◌then◌else◌, is_some, map, nat_eq, true, ℕ, ◌++◌, ◌||◌, ◌≡◌}
 use Rattle.std.specs.List.{list_all}
-use Rattle.vt_spec.specs.Lists.{any_pair, is_among}
+use Rattle.vt_spec.specs.Lists.{Fresh, any_pair, is_among}
+use Rattle.vt_spec.specs.Machine.Apply.{apply}
 use Rattle.vt_spec.specs.Machine.Mounts.{Location, Mount}
 use Rattle.vt_spec.specs.Language.Calls.{MountFlags}
 use Rattle.vt_spec.specs.Machine.Outcome.Mounting.{with_flags}
+use Rattle.vt_spec.specs.Machine.Permits.Permit.{ToSetFlags}
 use Rattle.vt_spec.specs.Machine.Settled.{is_mounted, named_in, settled}
-use Rattle.vt_spec.specs.Machine.World.{Filesystem, World, all_locations, with_mounts}
+use Rattle.vt_spec.specs.Machine.World.{Filesystem, Task, World, all_locations, with_mounts}
 use Rattle.vt_letting_go.specs.Detaching.{with_changed}
 use Rattle.vt_letting_go.specs.InUse.{AllInUse, GroupsInUse}
 use Rattle.vt_letting_go.specs.Leaving.{MountsStand}
@@ -44,6 +46,14 @@ FlagsKeepAll =
     (world : World ℕ) (here : Location ℕ) (flags : MountFlags)
     → any_pair (λ (a b : Mount ℕ). nat_eq a.number b.number) world.mounts ≡ false
     → AllInUse world → settled nat_eq (with_flags nat_eq world here flags) ≡ with_flags nat_eq world here flags
+
+-- So it is after a call that sets the flags of a mount.
+abbrev pub SetFlagsKeepAll : Type 0
+SetFlagsKeepAll =
+    (fresh : Fresh ℕ) (world : World ℕ) (task : Task ℕ) (number : ℕ) (flags : MountFlags)
+    → any_pair (λ (a b : Mount ℕ). nat_eq a.number b.number) world.mounts ≡ false → AllInUse world
+    → settled nat_eq (apply nat_eq fresh world task (ToSetFlags number flags)).world
+    ≡ (apply nat_eq fresh world task (ToSetFlags number flags)).world
 
 -- New mounts and filesystems
 

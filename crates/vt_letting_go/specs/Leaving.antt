@@ -1,7 +1,7 @@
 -- What goes when tasks leave places: close(2), chdir(2), chroot(2), setns(2), _exit(2).
-use Rattle.std.specs.Prelude.{Bool, List, [], false, flat_map, is_some, map, nat_eq, option_to_list, true, ℕ, ◌||◌, ◌∷◌, ◌≡◌}
+use Rattle.std.specs.Prelude.{Bool, List, [], false, flat_map, is_some, map, nat_eq, option_to_list, true, ℕ, ◌&&◌, ◌||◌, ◌∷◌, ◌≡◌}
 use Rattle.std.specs.List.{list_all, list_any}
-use Rattle.vt_spec.specs.Lists.{any_pair}
+use Rattle.vt_spec.specs.Lists.{any_pair, folded}
 use Rattle.vt_spec.specs.Machine.Mounts.{Location, Mount, same_location}
 use Rattle.vt_spec.specs.Machine.Settled.{settled}
 use Rattle.vt_spec.specs.Machine.World.{Task, World, all_locations, mount_at}
@@ -80,3 +80,21 @@ OneSweepForSeveral =
     (world : World ℕ) (tasks : List (Task ℕ)) → IsPlain world → HasTrees world → MountsStand world
     → comes_nowhere world tasks ≡ true
     → settled nat_eq (with_tasks (settled nat_eq world) tasks) ≡ settled nat_eq (with_tasks world tasks)
+
+-- none of these changes, one after the other, brings a task to a new place
+abbrev pub each_comes_nowhere : World ℕ → List (List (Task ℕ)) → Bool
+each_comes_nowhere world [] = true
+each_comes_nowhere world (tasks ∷ rest) =
+    comes_nowhere world tasks && each_comes_nowhere (with_tasks world tasks) rest
+
+-- the world after these changes, one after the other, with a sweep after each
+abbrev pub with_sweeps : {A : Type 0} → (World ℕ → A → World ℕ) → World ℕ → List A → World ℕ
+with_sweeps change world list = folded (λ now a. settled nat_eq (change now a)) world list
+
+-- So for any number of changes: in a world that is swept, places are left with a sweep after each change, or all
+-- changes are made, with one sweep at the end.
+abbrev pub OneSweepForAll : Type 0
+OneSweepForAll =
+    (world : World ℕ) (changes : List (List (Task ℕ))) → IsPlain world → HasTrees world → MountsStand world
+    → each_comes_nowhere world changes ≡ true
+    → with_sweeps with_tasks (settled nat_eq world) changes ≡ settled nat_eq (folded with_tasks world changes)

@@ -1,11 +1,12 @@
 -- What goes when tasks leave places, in worlds with overlays: close(2), chdir(2), chroot(2), setns(2), _exit(2).
 use Rattle.std.specs.Prelude.{List, [], flat_map, if◌then◌else◌, map, nat_eq, true, ℕ, ◌++◌, ◌∷◌, ◌≡◌}
+use Rattle.vt_spec.specs.Lists.{folded}
 use Rattle.vt_spec.specs.Machine.Locked.{of_overlay}
 use Rattle.vt_spec.specs.Machine.Mounts.{Location}
 use Rattle.vt_spec.specs.Machine.Settled.{settled}
 use Rattle.vt_spec.specs.Machine.World.{Task, World, layers_of, mount_at}
 use Rattle.vt_letting_go.specs.InUse.{AllInUse, HasTrees, UppersArePlain}
-use Rattle.vt_letting_go.specs.Leaving.{MountsStand, comes_nowhere, inodes_of_location, only_these_are_left, with_tasks}
+use Rattle.vt_letting_go.specs.Leaving.{MountsStand, comes_nowhere, each_comes_nowhere, inodes_of_location, only_these_are_left, with_sweeps, with_tasks}
 use Rattle.vt_letting_go.specs.OneByOne.{Losers}
 use Rattle.vt_letting_go.specs.Overlays.{RealsAreThere, let_go_all, used_by_filesystems}
 
@@ -60,3 +61,10 @@ OneSweepForSeveralWithOverlays =
     (world : World ℕ) (tasks : List (Task ℕ)) → HasTrees world → UppersArePlain world → RealsAreThere world
     → MountsStand world → comes_nowhere world tasks ≡ true
     → settled nat_eq (with_tasks (settled nat_eq world) tasks) ≡ settled nat_eq (with_tasks world tasks)
+
+-- So for any number of changes.
+abbrev pub OneSweepForAllWithOverlays : Type 0
+OneSweepForAllWithOverlays =
+    (world : World ℕ) (changes : List (List (Task ℕ))) → HasTrees world → UppersArePlain world → RealsAreThere world
+    → MountsStand world → each_comes_nowhere world changes ≡ true
+    → with_sweeps with_tasks (settled nat_eq world) changes ≡ settled nat_eq (folded with_tasks world changes)

@@ -20,3 +20,4 @@ pub mod EndingTasks
 pub mod Retyping
 pub mod FileChanges
 pub mod TaskCalls
+pub mod Several

@@ -7,7 +7,7 @@ use Rattle.vt_spec.specs.Lists.{any_pair, folded, is_among}
 use Rattle.vt_spec.specs.Machine.Mounts.{Mount}
 use Rattle.vt_spec.specs.Machine.Receives.{has_members}
 use Rattle.vt_spec.specs.Machine.Settled.{filesystem_lives, has_layer_on, is_located, is_mounted, mount_lives, settled, without_dead_filesystems, without_dead_groups, without_dead_inodes, without_dead_mounts}
-use Rattle.vt_spec.specs.Machine.World.{Filesystem, World, is_overlay, mount_numbered, with_mounts}
+use Rattle.vt_spec.specs.Machine.World.{Filesystem, World, filesystem_numbered, is_overlay, mount_numbered, with_mounts}
 use Rattle.vt_letting_go.specs.InUse.{HasTrees, is_inode_used}
 
 -- The mount of this number goes, unless it is in a namespace, or a root, working directory or descriptor is on it.
@@ -172,3 +172,32 @@ FilesystemIsLookedUp =
     (world : World ℕ) (number : ℕ)
     → let_go_filesystem world number
     ≡ (if is_filesystem_used world number then world else without_filesystem world number)
+
+-- Of inodes of plain trees: where each filesystem has a number of its own, the inode is looked up in the one of that
+-- number.
+abbrev pub is_inode_used_in : World ℕ → Inode → Bool
+is_inode_used_in world inode = is_inode_used world (filesystem_numbered nat_eq world inode.0) inode.1
+
+abbrev pub without_inode_in : Inode → Filesystem ℕ → Filesystem ℕ
+without_inode_in inode filesystem =
+    if nat_eq filesystem.number inode.0
+    then record filesystem { files = without_inode inode.1 filesystem.files } else filesystem
+
+abbrev pub without_inode_at : World ℕ → Inode → World ℕ
+without_inode_at world inode = record world { filesystems = map (without_inode_in inode) world.filesystems }
+
+abbrev pub InodeIsLookedUp : Type 0
+InodeIsLookedUp =
+    (world : World ℕ) (inode : Inode)
+    → any_pair (λ (a b : Filesystem ℕ). nat_eq a.number b.number) world.filesystems ≡ false
+    → let_go_inode world inode ≡ (if is_inode_used_in world inode then world else without_inode_at world inode)
+
+abbrev pub without_master : World ℕ → ℕ → World ℕ
+without_master world group =
+    record world { master = λ other. if nat_eq other group then None else world.master other }
+
+abbrev pub GroupIsLookedUp : Type 0
+GroupIsLookedUp =
+    (world : World ℕ) (group : ℕ)
+    → let_go_group world group
+    ≡ (if has_members nat_eq world.mounts group then world else without_master world group)

@@ -1,9 +1,9 @@
 //! What goes with the uses that a change took away.
 ghost use Rattle.vt_letting_go.specs.Detaching.{DetachingLetsGo, UnmountIsOfOne};
-ghost use Rattle.vt_letting_go.specs.FileChanges.{ChangesKeepNames, FileChangesLetGo, MadeKeepsAll, OpenedNewKeepsAll, RemovedDirectoriesLetGo, ReplacingLetsGo, TakenAndFileChangesLetGo};
-ghost use Rattle.vt_letting_go.specs.Keeping.{FlagsAreOfOne, FlagsKeepAll, NewMountsKeepAll, TypesKeepAll};
-ghost use Rattle.vt_letting_go.specs.Leaving.{LeavingLetsGo, OneSweepForSeveral, StayingKeepsAll};
-ghost use Rattle.vt_letting_go.specs.LeavingOverlays.{LeavingOverlaysLetsGo, OneSweepForSeveralWithOverlays, StayingKeepsOverlays};
+ghost use Rattle.vt_letting_go.specs.FileChanges.{ChangesKeepNames, FileChangesLetGo, MadeKeepsAll, OpenedNewKeepsAll, RemovedDirectoriesLetGo, ReplacingLetsGo, TakenAndFileChangesLetGo, WrittenPartsKeepAll};
+ghost use Rattle.vt_letting_go.specs.Keeping.{FlagsAreOfOne, FlagsKeepAll, NewMountsKeepAll, SetFlagsKeepAll, TypesKeepAll};
+ghost use Rattle.vt_letting_go.specs.Leaving.{LeavingLetsGo, OneSweepForAll, OneSweepForSeveral, StayingKeepsAll};
+ghost use Rattle.vt_letting_go.specs.LeavingOverlays.{LeavingOverlaysLetsGo, OneSweepForAllWithOverlays, OneSweepForSeveralWithOverlays, StayingKeepsOverlays};
 ghost use Rattle.vt_letting_go.specs.Retyping.{SetTypesLetGo};
 ghost use Rattle.vt_letting_go.specs.TaskCalls.{ChangedDirectoriesLetGo, ChangedRootsLetGo, ClosesLetGo, ForksKeepAll, NewCredentialsKeepAll, NewUmasksKeepAll, OpenedFilesKeepAll};
 ghost use Rattle.vt_letting_go.specs.TreeChanges.{NamedStay, UnnamedGo};
@@ -11,11 +11,13 @@ ghost use Rattle.vt_letting_go.specs.TreesOverlays.{ChangedTreesKeepAll, Changed
 
 /// Where tasks left places, what nothing uses any more goes of what they used there, and nothing else.
 ///
-/// One sweep for several is the same as a sweep after each.
+/// Where tasks come to no new location, a sweep before makes no difference after the sweep that follows, and a sweep
+/// after each of several changes is the same as one at the end.
 pub fn what_tasks_leave_goes()
     ensures left { LeavingLetsGo }
     ensures stayed { StayingKeepsAll }
     ensures several { OneSweepForSeveral }
+    ensures each { OneSweepForAll }
 {}
 
 /// So it is in worlds with overlays: what an overlay used goes with the overlay's last use.
@@ -23,6 +25,7 @@ pub fn what_tasks_leave_goes_with_overlays()
     ensures left { LeavingOverlaysLetsGo }
     ensures stayed { StayingKeepsOverlays }
     ensures several { OneSweepForSeveralWithOverlays }
+    ensures each { OneSweepForAllWithOverlays }
 {}
 
 /// After a call by which a task leaves locations, that goes which nothing uses any more of what it used there.
@@ -62,6 +65,11 @@ pub fn what_is_made_keeps_all()
     ensures open { OpenedNewKeepsAll }
 {}
 
+/// After a write of a part of a file in a plain tree nothing goes.
+pub fn what_is_written_keeps_all()
+    ensures { WrittenPartsKeepAll }
+{}
+
 /// Where trees changed in a world with overlays, the inodes go that lost their last name or overlay and where nothing
 /// is, with their real objects, and nothing else.
 pub fn what_loses_its_name_goes_with_overlays()
@@ -90,6 +98,7 @@ pub fn types_and_flags_keep_all()
     ensures types { TypesKeepAll }
     ensures one { FlagsAreOfOne }
     ensures flags { FlagsKeepAll }
+    ensures set_flags { SetFlagsKeepAll }
 {}
 
 /// Where types of mounts change, at the most groups lose their masters: those that the mounts left, and new ones.

@@ -2,6 +2,7 @@
 ghost use Rattle.vt_letting_go.specs.Attaching.{BindsKeepAll, CopiesKeepAll, MovedTreesLetGo, MovesLetGo, NewFilesystemsKeepAll, NewMountsOfTreesKeepAll};
 ghost use Rattle.vt_letting_go.specs.Mounting.{EndingLetsGo, MovingLetsGo, TakingAwayLetsGo};
 ghost use Rattle.vt_letting_go.specs.Pivoting.{PivotedLetsGo, PivotsLetGo};
+ghost use Rattle.vt_letting_go.specs.Several.{GoingIsNotSwept, OneSweepForAllEvents, OneSweepForAllMounts, OneSweepForEvents, OneSweepForMounts};
 ghost use Rattle.vt_letting_go.specs.Unmounting.{LazyUnmountsLetGo, MountsOnDirectoriesLetGo, TreesLetGo, UnmountsLetGo};
 
 /// Where any mounts are taken away, the filesystems and inodes go that only they used, or the places that they and the
@@ -12,6 +13,13 @@ pub fn what_mounts_leave_goes()
     ensures taken_away { TakingAwayLetsGo }
     ensures ended { EndingLetsGo }
     ensures moved { MovingLetsGo }
+{}
+
+/// Where mounts are taken away one list after the other, and the invariants of mounts hold on the way, a sweep after
+/// each list is the same as one at the end.
+pub fn mounts_that_leave_one_by_one_are_swept_once()
+    ensures several { OneSweepForMounts }
+    ensures each { OneSweepForAllMounts }
 {}
 
 /// Where mounts are attached, with a copy at each receiver, nothing goes: a bind, recursive or not, and a mount of a
@@ -42,4 +50,12 @@ pub fn what_an_unmount_leaves_goes()
     ensures lazy { LazyUnmountsLetGo }
     ensures trees { TreesLetGo }
     ensures directory { MountsOnDirectoriesLetGo }
+{}
+
+/// What an unmount event detaches does not depend on a sweep before it. Where the invariants of mounts hold on the way,
+/// a sweep after each of several events, as of those of a lazy unmount, is the same as one at the end.
+pub fn events_of_unmounts_are_swept_once()
+    ensures going { GoingIsNotSwept }
+    ensures several { OneSweepForEvents }
+    ensures each { OneSweepForAllEvents }
 {}

@@ -1,5 +1,6 @@
 //! What goes after a change of mounts in worlds with overlays: what an overlay used goes with the overlay's last use.
 ghost use Rattle.vt_letting_go.specs.MountingOverlays.{EndingWithOverlaysLetsGo, LazyUnmountsWithOverlaysLetGo, MountsOnDirectoriesWithOverlaysLetGo, MovesWithOverlaysLetGo, MovingWithOverlaysLetsGo, PivotsWithOverlaysLetGo, TakingAwayWithOverlaysLetsGo, UnmountsWithOverlaysLetGo};
+ghost use Rattle.vt_letting_go.specs.Several.{OneSweepForAllEventsWithOverlays, OneSweepForAllMountsWithOverlays, OneSweepForEventsWithOverlays, OneSweepForMountsWithOverlays};
 
 /// Where any mounts are taken away, the filesystems go that only they used, with the layers that only these used, and
 /// the inodes of all of that. Where mounts only get other mount points, at the most the inodes of their old ones go.
@@ -20,4 +21,13 @@ pub fn what_an_unmount_leaves_goes_with_overlays()
 pub fn what_a_move_leaves_goes_with_overlays()
     ensures moves { MovesWithOverlaysLetGo }
     ensures pivot { PivotsWithOverlaysLetGo }
+{}
+
+/// Where mounts are taken away one list after the other, or one unmount event comes after the other, and the invariants
+/// of mounts hold on the way, a sweep after each is the same as one at the end.
+pub fn mounts_that_leave_one_by_one_are_swept_once_with_overlays()
+    ensures several { OneSweepForMountsWithOverlays }
+    ensures each { OneSweepForAllMountsWithOverlays }
+    ensures event { OneSweepForEventsWithOverlays }
+    ensures events { OneSweepForAllEventsWithOverlays }
 {}

@@ -1,7 +1,7 @@
 //! What the sweep leaves, and what it takes.
-ghost use Rattle.vt_letting_go.specs.Counts.{LocatedWhileCounted, MountedWhileCounted, OneMountLess, OneUseLess, UsedWhileCounted};
+ghost use Rattle.vt_letting_go.specs.Counts.{LocatedWhileCounted, MembersWhileCounted, MountedWhileCounted, OneMountLess, OneUseLess, UsedWhileCounted};
 ghost use Rattle.vt_letting_go.specs.InUse.{NothingGoes, WhatIsLeftIsInUse, OneSweepIsEnough};
-ghost use Rattle.vt_letting_go.specs.OneByOne.{AllGoesOneByOne, FilesystemIsLookedUp, FilesystemsGoOneByOne, GroupsGoOneByOne, InodesGoOneByOne, MountIsLookedUp, MountsGoOneByOne};
+ghost use Rattle.vt_letting_go.specs.OneByOne.{AllGoesOneByOne, FilesystemIsLookedUp, FilesystemsGoOneByOne, GroupIsLookedUp, GroupsGoOneByOne, InodeIsLookedUp, InodesGoOneByOne, MountIsLookedUp, MountsGoOneByOne};
 ghost use Rattle.vt_letting_go.specs.Overlays.{AllInodesGoOneByOne, FilesystemsTakeTheirUses, MergedGoOneByOne, OneUpperUseLess, WithOverlaysAllGoes};
 ghost use Rattle.vt_letting_go.specs.Worlds.{LocationsOfWorldsStand, MountsOfWorldsStand, PlainWorldsAreSettled, RealsOfWorldsAreThere, UppersOfWorldsArePlain, WorldsAreSettled, WorldsHaveTrees};
 
@@ -37,19 +37,25 @@ pub fn things_of_overlays_go_one_by_one()
 {}
 
 /// A thing is in use just while the count of its uses is not zero, and what goes takes one from the counts of what it
-/// used.
+/// used. A peer group has members just while their count is not zero.
 pub fn uses_are_counted()
     ensures located { LocatedWhileCounted }
     ensures mounted { MountedWhileCounted }
     ensures inodes { UsedWhileCounted }
+    ensures members { MembersWhileCounted }
     ensures location { OneUseLess }
     ensures mount { OneMountLess }
 {}
 
-/// To look at a mount or a filesystem is to look it up by its number, and to take it away unless it is used.
+/// To look at a mount, a filesystem or an inode is to look it up by its number, and to take it away unless it is used;
+/// to look at a group is to take its master away unless it has members.
+///
+/// Of inodes this is said of plain trees: an inode of an overlay goes with its real object.
 pub fn things_are_looked_up()
     ensures mount { MountIsLookedUp }
     ensures filesystem { FilesystemIsLookedUp }
+    ensures inode { InodeIsLookedUp }
+    ensures group { GroupIsLookedUp }
 {}
 
 /// The conditions of a world have what the laws of the sweep ask.

@@ -1,3 +1,4 @@
 pub mod Numbers
 pub mod Locations
 pub mod MountValue
+pub mod InOrder

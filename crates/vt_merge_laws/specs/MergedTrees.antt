@@ -7,7 +7,7 @@ use Rattle.vt_spec.specs.Machine.World.{Filesystem, Overlay, Real, World, filesy
 use Rattle.vt_spec.specs.Machine.Invariants.{IsMerged, IsWorld, ListsNumbers, node_shown, number_at_path, real_node, real_shown}
 use Rattle.vt_spec.specs.Tree.{Content, Entries, Node}
 use Rattle.vt_spec.specs.Tree.Content.{Directory, Regular, Symlink, Whiteout}
-use Rattle.vt_spec.specs.TreeLaws.{HasName, HasOwnParents, IsDirectory, IsTree}
+use Rattle.vt_spec.specs.TreeInvariant.{HasName, HasOwnParents, IsDirectory, IsTree}
 
 -- the layers of an overlay, from the top
 abbrev pub layers_shown : World ℕ → Overlay ℕ → List (OpenLayer ℕ)

@@ -11,7 +11,7 @@ use Rattle.vt_spec.specs.Machine.Policy.{call_outcome, numbers_raised, policy}
 use Rattle.vt_spec.specs.Machine.Run.{Serves}
 use Rattle.vt_spec.specs.Machine.Settled.{settled}
 use Rattle.vt_spec.specs.Machine.World.{Filesystem, Layer, Overlay, Task, World, filesystem_numbered, layers_of, open_layer, shown_layers, task_called}
-use Rattle.vt_spec.specs.TreeLaws.{IsReached}
+use Rattle.vt_spec.specs.TreeInvariant.{IsReached}
 use Rattle.vt_layer_laws.specs.Layers.Mounted.{AreAsOthers, ShowTheSame}
 use Rattle.vt_layer_laws.specs.Layers.Mounting.{AreNewNumbers, OfMounting}
 

@@ -14,7 +14,7 @@ use Rattle.vt_spec.specs.Machine.World.{Real, upper_object}
 use Rattle.vt_spec.specs.Machine.World.Real.{Below, Upper}
 use Rattle.vt_spec.specs.Machine.Invariants.{number_at_path}
 use Rattle.vt_spec.specs.Tree.{Node, is_directory_node, node_with_bytes}
-use Rattle.vt_spec.specs.TreeLaws.{IsDirectory, led}
+use Rattle.vt_spec.specs.TreeInvariant.{IsDirectory, led}
 use Rattle.vt_tree_laws.specs.Trees.{MayMove}
 use Rattle.vt_overlay_laws.specs.WhatIsShown.{IsWhole}
 

@@ -8,6 +8,7 @@ pub mod KeptLemmas
 pub mod AttachedLemmas
 pub mod PointLemmas
 pub mod TreeLemmas
+mod TreeSearchLemmas
 pub mod MoveLemmas
 pub mod SourceLemmas
 mod RisingLemmas

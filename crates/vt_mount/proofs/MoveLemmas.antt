@@ -14,7 +14,7 @@ use Rattle.vt_location.specs.declared.numbers.NamespaceId.{NamespaceId}
 use Rattle.vt_mount.specs.declared.indexes.Indexes.{Indexes}
 use Rattle.vt_mount.specs.declared.mounted.Mounted.{Mounted}
 use Rattle.vt_mount.specs.Indexed.{IsIndexed, is_in_slot, numbers_where}
-use Rattle.vt_mount.specs.Indexes.{is_at, is_in, is_on, is_over, listed_at, listed_in, listed_on, listed_over, relisted, same_namespace, stood_at, stood_on, stood_over, was_in}
+use Rattle.vt_mount.specs.Indexes.{is_at, is_in, is_on, is_over, listed_at, listed_in, listed_on, listed_over, relisted, stood_at, stood_on, stood_over}
 use Rattle.vt_mount.specs.Listed.{inserted, same_id}
 use Rattle.vt_mount.specs.Moving.{has_small_slot}
 use Rattle.vt_mount.specs.MountsValue.{are_ascending, entries_of, id_cmp, in_order, mount_kept, mounts_in}
@@ -208,44 +208,6 @@ module _ (id : MountId) (point : Option Location) (x : Mounted) (kept : List (Mo
         ∙ ap (relisted (stood_over q x.mount_point) (stood_over q point) id) (indexed.inode q) ∙ inode-placed q;
     slots = slots-placed id point kept slot indexed.slots;
   }
-
--- what is kept of a mount in another namespace
-abbrev pub rehomed_kept : NamespaceId → Mounted → Mounted
-rehomed_kept namespace one = record one { namespace = Some namespace }
-
-slots-rehomed : (id : MountId) (namespace : NamespaceId) (kept : List (MountId × Mounted))
-    → list_all is_in_slot kept ≡ true
-    → list_all is_in_slot (map (change_kept id (rehomed_kept namespace)) kept) ≡ true
-slots-rehomed id namespace [] slots = refl
-slots-rehomed id namespace (one ∷ kept) slots =
-    ap (λ b. b && list_all is_in_slot (map (change_kept id (rehomed_kept namespace)) kept)) (by (same_id id one.0))
-    ∙ slots-rehomed id namespace kept (and_true_right _ _ slots)
-  where
-    by : (b : Bool) → is_in_slot (one.0, cond b (rehomed_kept namespace one.1) one.1) ≡ true
-    by true = and_true_left _ _ slots
-    by false = and_true_left _ _ slots
-
-pub indexed-rehomed : (id : MountId) (namespace : NamespaceId) (x : Mounted) (kept : List (MountId × Mounted))
-    (old new : Indexes)
-    → T (rises kept) → found id kept ≡ Some x
-    → ((q : NamespaceId) → listed_in new q
-    ≡ relisted (was_in q x.namespace) (same_namespace q namespace) id (listed_in old q))
-    → ((q : MountId) → listed_on new q ≡ listed_on old q) → ((q : Location) → listed_at new q ≡ listed_at old q)
-    → ((q : NodeRef) → listed_over new q ≡ listed_over old q)
-    → IsIndexed old kept → IsIndexed new (map (change_kept id (rehomed_kept namespace)) kept)
-indexed-rehomed id namespace x kept old new rising there home parent location inode indexed = record {
-  namespace = λ q. home q
-      ∙ ap (relisted (was_in q x.namespace) (same_namespace q namespace) id) (indexed.namespace q)
-      ∙ relisted-numbers id (is_in q) (same_namespace q namespace) (rehomed_kept namespace)
-      (λ n one. refl) x kept rising there;
-  parent = λ q. parent q ∙ indexed.parent q
-      ∙ sym (numbers-changed (is_on q) id (rehomed_kept namespace) (λ n one. refl) kept);
-  place = λ q. location q ∙ indexed.place q
-      ∙ sym (numbers-changed (is_at q) id (rehomed_kept namespace) (λ n one. refl) kept);
-  inode = λ q. inode q ∙ indexed.inode q
-      ∙ sym (numbers-changed (is_over q) id (rehomed_kept namespace) (λ n one. refl) kept);
-  slots = slots-rehomed id namespace kept indexed.slots;
-}
 
 -- lists that are as they were
 pub indexed-same : (kept : List (MountId × Mounted)) (old new : Indexes)

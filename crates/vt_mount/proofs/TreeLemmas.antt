@@ -1,9 +1,9 @@
 -- The tree of a mount, walked with a stack.
-use Rattle.std.proofs.Common.{◌≡◌, ℕ, suc, zero, Bool, true, false, cond, List, [], ◌∷◌, ◌++◌, map, nat_eq, length, Some, refl, sym, ap, ◌∙◌, append_assoc}
-use Rattle.std.specs.Prelude.{find as seek, flat_map, reverse, unwrap_or}
-use Rattle.std.proofs.lemmas.Bool.{eqb-true}
+use Rattle.std.proofs.Common.{◌≡◌, ℕ, suc, zero, List, [], ◌∷◌, ◌++◌, map, nat_eq, length, refl, sym, ap, ◌∙◌, append_assoc}
+use Rattle.std.specs.Prelude.{flat_map, reverse}
 use Rattle.std.proofs.lemmas.List.{append-nil, map-append, reverse-append}
-use Rattle.vt_spec.specs.Machine.Mounts.{Mount, children, mount_in, mount_tree, no_mount, tree_from}
+use Rattle.vt_spec.proofs.Worlds.{number-mount_in}
+use Rattle.vt_spec.specs.Machine.Mounts.{Mount, children, mount_in, mount_tree, tree_from}
 use Rattle.vt_location.specs.declared.numbers.MountId.{MountId}
 use Rattle.vt_location.specs.Numbers.{counted}
 use Rattle.vt_mount.specs.declared.trees.Branch.{Branch}
@@ -26,21 +26,11 @@ module _ (mounts : List (Mount ℕ)) where
       (flat-numbers (tree_from nat_eq depth mounts) (tree_numbers mounts depth) (numbers-tree depth)
       (children nat_eq mounts mount.number))
 
-  number-in : (number : ℕ) (all : List (Mount ℕ)) → (mount_in nat_eq all number).number ≡ number
-  number-in number [] = refl
-  number-in number (mount ∷ all) = by (nat_eq number mount.number) (eqb-true number mount.number) (number-in number all)
-    where
-      by : (b : Bool) → (b ≡ true → number ≡ mount.number) → (mount_in nat_eq all number).number ≡ number
-          → (unwrap_or (cond b (Some mount) (seek (λ mount. nat_eq number mount.number) all)) (no_mount number)).number
-          ≡ number
-      by true same rest = sym (same refl)
-      by false same rest = rest
-
   -- the tree of the mount with a number
   pub numbers-whole : (number : ℕ)
       → tree_numbers mounts (length mounts) number ≡ numbers (mount_tree nat_eq mounts (mount_in nat_eq mounts number))
   numbers-whole number =
-      ap (tree_numbers mounts (length mounts)) (sym (number-in number mounts))
+      ap (tree_numbers mounts (length mounts)) (sym (number-mount_in mounts number))
       ∙ sym (numbers-tree (length mounts) (mount_in nat_eq mounts number))
 
   come-last : (waiting : List Branch) (branch : Branch)

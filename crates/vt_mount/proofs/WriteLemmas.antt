@@ -14,8 +14,9 @@ use Rattle.vt_mount.specs.Indexes.{is_at, is_in, is_on, is_over, same_inode, sam
 use Rattle.vt_mount.specs.Listed.{same_id}
 use Rattle.vt_mount.specs.MountsValue.{MountEntry, changed, entries_of, entry_of, held, in_order, released}
 use Rattle.vt_mount.proofs.EntryLemmas.{kept-changed}
-use Rattle.vt_mount.proofs.IndexLemmas.{numbers-changed, same_mount_id}
-use Rattle.vt_mount.proofs.OrderLemmas.{change_kept, in_order-changed}
+use Rattle.vt_mount.proofs.IndexLemmas.{numbers-changed}
+use Rattle.vt_location.proofs.OrderLemmas.{changed-by, changed-none}
+use Rattle.vt_mount.proofs.OrderLemmas.{change_kept, count_of, in_order-changed, whole}
 
 -- a map in which one mount is changed by a function, if it is there
 abbrev pub IsWritten : MountId → (Mounted → Mounted) → List (MountId × Mounted) → List (MountId × Mounted) → Type 0
@@ -27,31 +28,16 @@ module _ {S : Type 0} (id : MountId) (change : Mounted → Mounted) (m n : Index
   pub is-written : (x w : Mounted) → get_by (same_id id) m ≡ Some x → w ≡ change x
       → WritesThrough same_id (same_id id) m w n
       → IsWritten id change m.entries n.entries
-  is-written x w there is writes q =
-      (writes.3 some).0 q ∙ by (same_id id q) (same_mount_id id q)
+  is-written x w there is writes =
+      changed-by count_of whole id change m.entries n.entries x w there is (writes.3 some).0
     where
       some : IsSome (get_by (same_id id) m)
       some = ap is_some there
 
-      by : (b : Bool) → (b ≡ true → id ≡ q) → cond b (Some w) (lookup (same_id q) m.entries)
-          ≡ cond b (option_map change (lookup (same_id q) m.entries)) (lookup (same_id q) m.entries)
-      by true here = ap Some is ∙ sym
-          (ap (option_map change) ((λ i. lookup (same_id (sym (here refl) i)) m.entries) ∙ there))
-      by false here = refl
-
 pub not-written : {S : Type 0} (id : MountId) (change : Mounted → Mounted) (m : IndexMap MountId Mounted S)
     (new : List (MountId × Mounted))
     → get_by (same_id id) m ≡ None → new ≡ m.entries → IsWritten id change m.entries new
-not-written id change m new none is q =
-    ap (lookup (same_id q)) is ∙ by (same_id id q) (same_mount_id id q)
-  where
-    by : (b : Bool) → (b ≡ true → id ≡ q) → lookup (same_id q) m.entries
-        ≡ cond b (option_map change (lookup (same_id q) m.entries)) (lookup (same_id q) m.entries)
-    by true here =
-        let absent : lookup (same_id q) m.entries ≡ None = (λ i. lookup (same_id (sym (here refl) i)) m.entries)
-        ∙ none in
-        absent ∙ sym (ap (option_map change) absent)
-    by false here = refl
+not-written id change m new none is = changed-none count_of whole id change m.entries new none is
 
 -- the lists stay right where a mount stays where it is
 module _ (id : MountId) (change : Mounted → Mounted)

@@ -66,10 +66,6 @@ stood_at location was = holds_of (same_place location) was
 abbrev pub stood_over : NodeRef → Option Location → Bool
 stood_over inode was = holds_of (λ place. same_inode inode place.node) was
 
--- the old namespace is this one
-abbrev pub was_in : NamespaceId → Option NamespaceId → Bool
-was_in namespace was = holds_of (same_namespace namespace) was
-
 -- a list with a mount inserted, or moved: removed if it was there, inserted if it is here now
 abbrev pub put_in_place : Bool → MountId → List MountId → List MountId
 put_in_place here id list = if here then inserted id list else list

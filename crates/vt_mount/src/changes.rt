@@ -11,7 +11,7 @@ ghost use Rattle.vt_mount.specs.MountsValue.{changed, mounts_in, without};
 
 use crate::mounted::Mounted;
 use crate::mounts::Mounts;
-use vt_location::{Location, Mount, MountId, NamespaceId, Propagation};
+use vt_location::{Location, Mount, MountId, Propagation};
 use vt_spec::errors::{Deny, Rule};
 
 impl Mounts {
@@ -69,36 +69,6 @@ impl Mounts {
             return Err(Rule::S5.denial());
         }
         kept.mount_point = Some(place);
-        Ok(())
-    }
-
-    /// Moves a mount to another namespace, as a move between namespaces does with a tree: mount(2) with `MS_MOVE`. The
-    /// order of the mounts stays.
-    ///
-    /// S5 (ENOMEM): an allocation failed.
-    pub fn set_namespace(&mut self, id: MountId, namespace: NamespaceId) -> Result<(), Deny>
-        ensures ok { OnOk result (self.new
-            ≡ changed (counted id.count)
-            (λ entry. record entry {
-              mount = record entry.mount {
-                namespace = Some
-                    (counted namespace.count);
-              };
-            }) self.old) }
-        ensures memory { IfErr result (λ deny. deny ≡ denial S5) }
-        ensures err { OnErr result (self.new ≡ self.old) }
-    {
-        let Some(kept) = self.by_number.get_mut(&id) else {
-            return Ok(());
-        };
-        if self
-            .indexes
-            .change_namespace(kept.namespace, namespace, id)
-            .is_err()
-        {
-            return Err(Rule::S5.denial());
-        }
-        kept.namespace = Some(namespace);
         Ok(())
     }
 

@@ -9,7 +9,7 @@ ghost use Rattle.vt_location.specs.declared.locations.Location.{Location};
 ghost use Rattle.vt_location.specs.declared.locations.NodeRef.{NodeRef};
 ghost use Rattle.vt_mount.specs.Indexes.{has_slot, is_at, is_in, is_on, is_over, listed_at, listed_in, listed_on};
 ghost use Rattle.vt_mount.specs.Indexes.{listed_over, pushed, put_in_place, relisted, same_inode, same_place};
-ghost use Rattle.vt_mount.specs.Indexes.{same_namespace, stood_at, stood_on, stood_over, taken, was_in};
+ghost use Rattle.vt_mount.specs.Indexes.{stood_at, stood_on, stood_over, taken};
 
 use crate::lists::MountsBy;
 use std::alloc::{AllocError, Global};
@@ -175,54 +175,6 @@ impl Indexes {
         self.take_out(now, mount);
         if let Some(place) = was {
             self.put_in(place, mount);
-        }
-    }
-
-    /// Moves a mount from the list of its old namespace to that of the new one, in the order of numbers.
-    pub(crate) fn change_namespace(
-        &mut self,
-        was: Option<NamespaceId>,
-        namespace: NamespaceId,
-        mount: MountId,
-    ) -> Result<(), AllocError>
-        ensures namespace_ok { OnOk result ((q : NamespaceId) → listed_in self.new q
-            ≡ relisted (was_in q was) (same_namespace q namespace) mount (listed_in self.old q)) }
-        ensures namespace_err { OnErr result ((q : NamespaceId) → listed_in self.new q ≡ listed_in self.old q) }
-        ensures parent { (q : MountId) → listed_on self.new q ≡ listed_on self.old q }
-        ensures place { (q : Location) → listed_at self.new q ≡ listed_at self.old q }
-        ensures inode { (q : NodeRef) → listed_over self.new q ≡ listed_over self.old q }
-    {
-        self.by_namespace.prepare(namespace)?;
-        self.leave_namespace(was, mount);
-        self.by_namespace.put_in(&namespace, mount);
-        self.drop_namespace(was);
-        Ok(())
-    }
-
-    // Removes a mount from the list of its old namespace, which stays even if it is empty.
-    fn leave_namespace(&mut self, was: Option<NamespaceId>, mount: MountId)
-        ensures namespace { (q : NamespaceId)
-            → listed_in self.new q ≡ taken (was_in q was) mount (listed_in self.old q) }
-        ensures room { (q : NamespaceId) → has_room same_namespace q self.old.by_namespace
-            ≡ true → has_room same_namespace q self.new.by_namespace ≡ true }
-        ensures parent { self.new.by_parent ≡ self.old.by_parent }
-        ensures place { self.new.by_location ≡ self.old.by_location }
-        ensures inode { self.new.by_inode ≡ self.old.by_inode }
-    {
-        if let Some(was) = was {
-            self.by_namespace.take_out(&was, mount);
-        }
-    }
-
-    // Drops the list of a namespace that is empty.
-    fn drop_namespace(&mut self, was: Option<NamespaceId>)
-        ensures namespace { (q : NamespaceId) → listed_in self.new q ≡ listed_in self.old q }
-        ensures parent { self.new.by_parent ≡ self.old.by_parent }
-        ensures place { self.new.by_location ≡ self.old.by_location }
-        ensures inode { self.new.by_inode ≡ self.old.by_inode }
-    {
-        if let Some(was) = was {
-            self.by_namespace.drop_empty(&was);
         }
     }
 

@@ -38,23 +38,12 @@ pub struct Moved {
 }
 
 impl Mounts {
-    /// Moves mounts to other mount points, all or none, the last one of the list first: of two for one mount the first
-    /// one stays. It costs what each move costs, however many other mounts there are.
+    /// Moves mounts to other mount points, the last one of the list first: of two for one mount the first one stays.
+    /// Then it takes one more step, which may fail and change something else; if it fails, the mounts are back where
+    /// they were. It returns what moved, in the order of the moves. It costs what each move costs, however many other
+    /// mounts there are.
     ///
-    /// S5 (ENOMEM): an allocation failed.
-    pub fn move_all(&mut self, points: &[NewPoint]) -> Result<(), Deny>
-        ensures ok { OnOk result (self.new ≡ with_points points.now self.old) }
-        ensures memory { IfErr result (λ deny. deny ≡ denial S5) }
-        ensures err { OnErr result (self.new ≡ self.old) }
-    {
-        self.move_all_then(points, &mut (), |_| Ok(()))?;
-        Ok(())
-    }
-
-    /// Moves mounts as `move_all` does, and then takes one more step, which may fail and change something else. If it
-    /// fails, the mounts are back where they were. It returns what moved, in the order of the moves.
-    ///
-    /// S5 (ENOMEM): an allocation failed; that step has not been taken then.
+    /// S5 (ENOMEM): an allocation failed; that step has not been taken then, and no mount has moved.
     pub fn move_all_then<S, F: FnOnce(&mut S) -> Result<(), Deny>>(
         &mut self,
         points: &[NewPoint],

@@ -1,15 +1,16 @@
 //! Trees of mounts.
+ghost use Rattle.std.specs.List.{list_any};
 ghost use Rattle.std.specs.Prelude.{◌≡◌, ◌++◌, ◌∷◌, [], map, reverse, OnOk, nat_eq, IfErr, IfOk};
 ghost use Rattle.vt_spec.specs.declared.errors.Rule.TheVariants.{S5};
 ghost use Rattle.vt_spec.specs.Errors.{denial};
-ghost use Rattle.vt_spec.specs.Machine.Mounts.{mount_in, mount_tree};
+ghost use Rattle.vt_spec.specs.Machine.Mounts.{is_unbindable, mount_in, mount_tree, tree_from};
 ghost use Rattle.vt_location.specs.Numbers.{counted};
 ghost use Rattle.vt_mount.specs.MountsValue.{mounts_in};
 ghost use Rattle.vt_mount.specs.Waiting.{to_come};
 
 use crate::mounts::Mounts;
 use std::alloc::AllocError;
-use vt_location::MountId;
+use vt_location::{MountId, Propagation};
 use vt_spec::errors::{Deny, Rule};
 
 // A mount whose tree is still to be walked, and how deep that tree may be.
@@ -65,6 +66,45 @@ impl Mounts {
             return Ok(());
         }
         push_reversed(waiting, self.children(branch.mount), branch.depth - 1)
+    }
+
+    /// Whether a mount or a descendant of it is unbindable: EINVAL of mount(2) with `MS_MOVE`. It looks at the mounts
+    /// of that tree alone, up to the first that is unbindable, and does not allocate.
+    pub fn has_unbindable(&self, id: MountId) -> bool
+        ensures { result ≡ list_any (λ mount. is_unbindable mount.propagation)
+            (mount_tree nat_eq (mounts_in self.now) (mount_in nat_eq (mounts_in self.now) (counted id.count))) }
+    {
+        self.has_unbindable_within(id, self.len())
+    }
+
+    // Whether a mount of a tree is unbindable, down to a depth.
+    fn has_unbindable_within(&self, id: MountId, depth: usize) -> bool
+        ensures { result ≡ list_any (λ mount. is_unbindable mount.propagation)
+            (tree_from nat_eq depth (mounts_in self.now) (mount_in nat_eq (mounts_in self.now) (counted id.count))) }
+    {
+        if self.is_unbindable(id) {
+            return true;
+        }
+        if depth == 0 {
+            return false;
+        }
+        self.are_ascending();
+        for child in self.children(id) {
+            if self.has_unbindable_within(*child, depth - 1) {
+                return true;
+            }
+        }
+        false
+    }
+
+    /// Whether a mount is unbindable.
+    pub fn is_unbindable(&self, id: MountId) -> bool
+        ensures { result ≡ is_unbindable (mount_in nat_eq (mounts_in self.now) (counted id.count)).propagation }
+    {
+        match self.get(id) {
+            Some(mount) => mount.propagation == Propagation::Unbindable,
+            None => false,
+        }
     }
 }
 

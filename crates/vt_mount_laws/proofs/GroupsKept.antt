@@ -9,7 +9,7 @@ use Rattle.vt_spec.specs.Machine.Invariants.Lives.{has_master, has_no_master}
 use Rattle.vt_mount_laws.proofs.GroupsUp.Up.{above, here}
 use Rattle.vt_spec.proofs.Lists.{Among, among-append, among-append_left, among-filter, among-from_filter, among-from_map, among-map, among_from_list_all, any_among, any_from_among, head_among, none_among, tail_among}
 use Rattle.vt_mount_laws.specs.Mounts.Receivers.{GroupsLive}
-use Rattle.vt_mount_laws.specs.Mounts.Conditions.{KeptByEndedNamespaces, KeptByInheritance, KeptByLazyUnmount, KeptByPivot, KeptByTakingAway, KeptByUnmount, KeptByUnshare, SettlingKeepsGroups, FlagsKeepGroups}
+use Rattle.vt_mount_laws.specs.Mounts.Invariants.{KeptByEndedNamespaces, KeptByInheritance, KeptByLazyUnmount, KeptByPivot, KeptByTakingAway, KeptByUnmount, KeptByUnshare, SettlingKeepsGroups, FlagsKeepGroups}
 use Rattle.vt_spec.specs.Machine.Mounts.{Mount, Propagation, group_of, mount_in, mount_tree, source_of, with_mount, replaced_if_same, numbers_by}
 use Rattle.vt_spec.specs.Machine.World.{World, mount_numbered, mounts_of, mount_at}
 use Rattle.vt_spec.specs.Machine.Detach.{after_going, deepest_first, going, is_going, unmounted, unmounted_if_there}

@@ -10,7 +10,7 @@ use Rattle.vt_spec.specs.Machine.Invariants.Lives.{has_master, has_no_master}
 use Rattle.vt_spec.proofs.Lists.{Among, among-from_map, any_among, is_among_numbers}
 use Rattle.vt_spec.specs.Lists.{is_among}
 use Rattle.vt_mount_laws.specs.Mounts.Receivers.{GroupsLive}
-use Rattle.vt_mount_laws.specs.Mounts.Conditions.{TypeKeepsGroups}
+use Rattle.vt_mount_laws.specs.Mounts.Invariants.{TypeKeepsGroups}
 use Rattle.vt_spec.specs.Language.Calls.{TypeWord}
 use Rattle.vt_spec.specs.Machine.World.{World, mount_numbered}
 use Rattle.vt_mount_laws.proofs.mounts.MountsRetyped.{between, groups_by, next_world, retype, retyped_if}

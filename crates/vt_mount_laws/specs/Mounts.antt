@@ -1,7 +1,7 @@
 pub mod Attached
 pub mod Attaching
 pub mod Changing
-pub mod Conditions
+pub mod Invariants
 pub mod Copies
 pub mod Ending
 pub mod Ends

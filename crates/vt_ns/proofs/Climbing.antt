@@ -10,8 +10,7 @@ use Rattle.vt_mount_laws.proofs.mounts.MountsFound.{found_or_none, number_found}
 use Rattle.vt_mount_laws.proofs.mounts.MountsReplaced.{found_itself}
 use Rattle.vt_detach.proofs.LookLemmas.{turned}
 use Rattle.vt_fs.proofs.TreesLookedAt.{or_nothing}
-use Rattle.vt_detach.proofs.NumbersBeside.{one_test}
-use Rattle.vt_spec.proofs.Truths.{nat_eq_itself}
+use Rattle.vt_spec.proofs.Truths.{nat_eq_itself, same_truth}
 
 -- going up from a mount meets another, in at most so many steps
 abbrev pub meets : List (Mount ℕ) → ℕ → ℕ → ℕ → Bool
@@ -72,7 +71,7 @@ module _ (mounts : List (Mount ℕ)) (one : any_pair (λ (a b : Mount ℕ). nat_
   child_stands : (top number : ℕ)
       → list_any (λ child. nat_eq number child.number) (children nat_eq mounts top)
       ≡ holds_of (λ place. nat_eq place.mount top) (mount_in nat_eq mounts number).mount_point
-  child_stands top number = one_test _ _ there back
+  child_stands top number = same_truth _ _ there back
     where
       on : (mount : Mount ℕ) (o : Option (Location ℕ))
           → holds_of (λ place. nat_eq top place.mount) o ≡ holds_of (λ place. nat_eq place.mount top) o

@@ -2,7 +2,7 @@
 use Rattle.std.proofs.Common.{◌≡◌, refl, sym, ap, true≢false, ℕ, List, [], ◌∷◌, is_some, map}
 use Rattle.std.specs.Map.{keys_of}
 use Rattle.vt_spec.specs.Machine.World.{Filesystem, Namespace}
-use Rattle.vt_spec.specs.TreeLaws.{IsTree}
+use Rattle.vt_spec.specs.TreeInvariant.{IsTree}
 use Rattle.vt_letting_go.proofs.Lists.{all_from_among, among_from_all}
 use Rattle.vt_location.specs.declared.numbers.NamespaceId.{NamespaceId}
 use Rattle.vt_location.specs.Numbers.{counted}

@@ -29,7 +29,7 @@ use Rattle.vt_detach.proofs.Leaving.{none_among}
 use Rattle.vt_detach.specs.Held.{IsHeld}
 use Rattle.vt_detach.specs.Looking.{overfills_of}
 use Rattle.vt_detach.specs.WorldValue.{WorldValue, world_of}
-use Rattle.vt_detach.proofs.UnbindableBelow.{alone_in_tree, in_tree}
+use Rattle.vt_detach.proofs.TreesInNamespaces.{alone_in_tree, in_tree}
 
 -- A place on a mount that is not there is in no namespace, and nothing is received there.
 module _ (mounts : List (Mount ℕ)) (place : Location ℕ)

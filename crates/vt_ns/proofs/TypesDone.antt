@@ -23,11 +23,11 @@ use Rattle.vt_detach.specs.WorldValue.{WorldValue, world_of}
 use Rattle.vt_detach.proofs.FileEvents.{permit_fits}
 use Rattle.vt_detach.proofs.Staying.{IsDone}
 use Rattle.vt_detach.proofs.TypesKept.{counts_lack, group, types_are_changed, types_are_shared}
-use Rattle.vt_detach.proofs.UnbindableBelow.{in_tree}
-use Rattle.vt_attach.proofs.NumbersByParts.{tree_some}
+use Rattle.vt_detach.proofs.TreesInNamespaces.{in_tree}
 use Rattle.vt_ns.specs.Retyped.{IsRetyped, NumbersGroups, counted_after, with_counts}
 use Rattle.vt_ns.proofs.RetypedMounts.{places_are_counted}
 use Rattle.vt_ns.proofs.WorldSeen.{world_seen}
+use Rattle.vt_permit_laws.proofs.taken.TakenFirst.{tree_some}
 
 module _ (value : WorldValue) (whole : IsHeld value) (name : TaskName) (number : ℕ) (word : TypeWord) (recursive : Bool)
     (permits : Permits value name (ToSetType number word recursive)) where

@@ -21,9 +21,8 @@ use Rattle.vt_detach.specs.Held.{HasOwnInodes, IsHeld}
 use Rattle.vt_ns.specs.Vacancy.{IsVacant}
 use Rattle.vt_detach.specs.WorldValue.{NamespaceEntry, WorldValue, namespace_of, world_of}
 use Rattle.vt_detach.proofs.FilesSeen.{one_entry}
-use Rattle.vt_fs.proofs.Numbers.{inode_of_one}
+use Rattle.vt_fs.proofs.Numbers.{inode_of_one, numbers_listed}
 use Rattle.vt_attach.proofs.NewFilesystems.{next_is_free}
-use Rattle.vt_detach.proofs.NumbersBeside.{numbers_listed}
 
 module _ (count slot : ℕ) (small : slot < 18446744073709551616) where
   abbrev number : ℕ

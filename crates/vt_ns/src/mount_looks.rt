@@ -1,5 +1,5 @@
 //! What the rules of mount calls look at: mount(2), umount(2).
-ghost use Rattle.std.specs.Prelude.{◌≡◌, IfErr, IfOk, List, false, length, nat_eq, option_map, ℕ};
+ghost use Rattle.std.specs.Prelude.{◌≡◌, IfErr, IfOk, List, false, length, nat_eq, ℕ};
 ghost use Rattle.vt_location.specs.Locations.{location_of};
 ghost use Rattle.vt_location.specs.Numbers.{counted};
 ghost use Rattle.vt_mount.specs.MountsValue.{mounts_in};
@@ -14,7 +14,7 @@ ghost use Rattle.vt_detach.specs.Looking.{looks_of_value, overfills_of};
 ghost use Rattle.vt_detach.specs.WorldValue.{world_of};
 
 use crate::world::World;
-use vt_location::{Location, MountId, NamespaceId};
+use vt_location::{Location, MountId};
 use vt_looks::{Attachment, LookAtMounts};
 use vt_propagate::{Load, is_busy, overfills};
 use vt_spec::errors::Deny;
@@ -46,12 +46,7 @@ impl LookAtMounts for World {
     }
 
     fn has_unbindable(&self, top: MountId) -> bool {
-        self.is_held();
-        let Some(namespace) = self.namespace_of(top) else {
-            return false;
-        };
-        self.mounts.attached_in(namespace).iter().any(|mount| self.is_unbindable(*mount)
-            && self.is_at_or_below(top, *mount))
+        self.mounts.has_unbindable(top)
     }
 
     fn is_busy(&self, mount: MountId) -> Result<bool, Deny> {
@@ -80,14 +75,6 @@ impl LookAtMounts for World {
 }
 
 impl World {
-    // The namespace that a mount is attached in.
-    fn namespace_of(&self, mount: MountId) -> Option<NamespaceId>
-        ensures { option_map (λ namespace. counted namespace.count) result
-            ≡ (mount_numbered nat_eq (world_of self.now) (counted mount.count)).namespace }
-    {
-        self.mounts.get(mount)?.namespace
-    }
-
     // Whether a namespace has too many mounts once so many are attached at a place, and at the receivers there.
     // S5 (ENOMEM): an allocation failed.
     fn has_too_many_with(&self, place: Location, count: usize) -> Result<bool, Deny>

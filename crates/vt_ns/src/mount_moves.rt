@@ -69,7 +69,7 @@ impl World {
         Ok(())
     }
 
-    // Moves a mount to a shared one. All mounts are passed over.
+    // Moves a mount to a shared one: each receiver gets a copy of all that moves.
     fn move_everywhere(
         &mut self,
         name: &TaskName,

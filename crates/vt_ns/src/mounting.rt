@@ -1,6 +1,7 @@
 //! The event that mounts a new filesystem: mount(2).
-ghost use Rattle.std.specs.Prelude.{◌≡◌, ◌++◌, ◌∷◌, [], IfErr, None, OnErr, OnOk};
-ghost use Rattle.vt_fs.specs.FilesystemsValue.{FilesystemEntry, IsNew, entry_of};
+ghost use Rattle.std.specs.List.{list_all};
+ghost use Rattle.std.specs.Prelude.{◌≡◌, ◌++◌, ◌∷◌, [], nat_lt, true, IfErr, OnErr, OnOk};
+ghost use Rattle.vt_fs.specs.FilesystemsValue.{FilesystemEntry, IsNew};
 ghost use Rattle.vt_cred.specs.MountFlags.{flags_of};
 ghost use Rattle.vt_location.specs.Locations.{location_of};
 ghost use Rattle.vt_location.specs.MountValue.{mount_of};
@@ -115,7 +116,7 @@ fn mount_new(
     graft: &Graft,
     counts: Counts,
 ) -> Result<(), Deny>
-    requires new { entry_of filesystems.old filesystem.count ≡ None }
+    requires above { list_all (λ entry. nat_lt entry.count filesystem.count) filesystems.old ≡ true }
     requires room { HasRoomFor graft.now counts }
     requires may { MayGraft mounts.old groups.old graft.now counts }
     ensures ok { OnOk result ((entry : FilesystemEntry) × IsNew filesystem.count meant.root_attr entry

@@ -24,7 +24,7 @@ use Rattle.vt_spec.specs.Language.Script.{Request, Version, files, lines_of, req
 use Rattle.vt_spec.specs.OneTree.Run as tree_run
 use Rattle.vt_spec.specs.Rights.{Credentials}
 use Rattle.vt_spec.specs.Tree.{Tree, entries_in, name_cmp, parent_in}
-use Rattle.vt_spec.specs.TreeLaws.{IsDirectory}
+use Rattle.vt_spec.specs.TreeInvariant.{IsDirectory}
 
 -- what the whole machine has beside: the numbers of the inodes that are there, and change numbers
 pub record Beside : Type 0 where

@@ -9,7 +9,7 @@ use Rattle.vt_spec.specs.Machine.Invariants.{IsWorld, OverlayInvariants, TreeInv
 use Rattle.vt_spec.specs.Machine.Locked.{live_upper_and_work, overlaps_one_of}
 use Rattle.vt_spec.specs.Machine.Mounts.{Location}
 use Rattle.vt_spec.specs.Machine.World.{Filesystem, Layer, Overlay, World, filesystem_at, filesystem_numbered}
-use Rattle.vt_spec.specs.TreeLaws.{IsReached}
+use Rattle.vt_spec.specs.TreeInvariant.{IsReached}
 use Rattle.vt_tree_laws.specs.Trees.{IsFileTree}
 use Rattle.vt_tree_laws.specs.Trees.Sizes.{IsFitChange}
 use Rattle.vt_layer_laws.specs.Layers.Locked.{AreNoInodes}

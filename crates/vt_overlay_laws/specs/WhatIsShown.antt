@@ -13,7 +13,7 @@ use Rattle.vt_spec.specs.Machine.World.{Real, upper_object}
 use Rattle.vt_spec.specs.Machine.World.Real.{Below, Upper}
 use Rattle.vt_spec.specs.Machine.Invariants.{ListsNumbers, SameObject, number_at_path}
 use Rattle.vt_spec.specs.Tree.{Node, kind_of, node_with_bytes}
-use Rattle.vt_spec.specs.TreeLaws.{IsDirectory, IsReached, IsTree}
+use Rattle.vt_spec.specs.TreeInvariant.{IsDirectory, IsReached, IsTree}
 use Rattle.vt_tree_laws.specs.Trees.{MayAddName, MayMake, MayMove, MayRemove}
 use Rattle.vt_layer_laws.specs.Layers.ChangesUpper.{StandsInUpper}
 use Rattle.vt_layer_laws.specs.Layers.Upper.{IsThere}

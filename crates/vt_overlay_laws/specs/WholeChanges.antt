@@ -14,7 +14,7 @@ use Rattle.vt_spec.specs.Machine.Layers.{has_lower_directory, shown}
 use Rattle.vt_spec.specs.Machine.World.{Filesystem, Layer, Overlay, Task, World, files_at, filesystem_at, filesystem_numbered, mount_at, task_called}
 use Rattle.vt_spec.specs.Machine.Invariants.{IsMerged, IsWorld}
 use Rattle.vt_spec.specs.Tree.{kind_of}
-use Rattle.vt_spec.specs.TreeLaws.{IsDirectory}
+use Rattle.vt_spec.specs.TreeInvariant.{IsDirectory}
 use Rattle.vt_tree_laws.specs.Trees.{MayAddName, MayMake, MayMove, MayRemove}
 use Rattle.vt_spec.specs.Machine.Mounts.{Location}
 use Rattle.vt_layer_laws.specs.Layers.Locked.{AreNoInodes, GoesThrough}

@@ -9,7 +9,7 @@ use Rattle.vt_spec.specs.Machine.CopyUp.{Merge, Stack, linked, made, merge_chang
 use Rattle.vt_spec.specs.Machine.Layers.{has_lower_directory}
 use Rattle.vt_spec.specs.Tree.{Node, is_directory_node, kind_of}
 use Rattle.vt_spec.specs.Machine.World.Real.{Upper}
-use Rattle.vt_spec.specs.TreeLaws.{IsDirectory, entry_at, led}
+use Rattle.vt_spec.specs.TreeInvariant.{IsDirectory, entry_at, led}
 use Rattle.vt_tree_laws.specs.Trees.{IsFileTree, MayAddName, MayMake, MayMove, MayRemove}
 use Rattle.vt_tree_laws.specs.Trees.Sizes.{IsFitChange, is_fit_tree}
 use Rattle.vt_layer_laws.specs.Layers.ChangesUpper.{StandsInUpper}

@@ -18,7 +18,7 @@ use Rattle.vt_spec.specs.Machine.Permits.Permit.{ToOpen}
 use Rattle.vt_spec.specs.Machine.Run.{Serves}
 use Rattle.vt_spec.specs.Machine.World.{Layer, Overlay, Task, World, files_at, filesystem_at, is_overlay, task_called}
 use Rattle.vt_spec.specs.Tree.{kind_of}
-use Rattle.vt_spec.specs.TreeLaws.{IsDirectory}
+use Rattle.vt_spec.specs.TreeInvariant.{IsDirectory}
 use Rattle.vt_tree_laws.specs.Trees.{IsProper, MayAddName, MayMake, MayMove, MayRemove}
 use Rattle.vt_tree_laws.specs.Trees.Sizes.{IsFitChange}
 use Rattle.vt_layer_laws.specs.Layers.Upper.{IsThere}

@@ -13,7 +13,7 @@ use Rattle.vt_spec.specs.Machine.Mounts.{Location}
 use Rattle.vt_spec.specs.Machine.Permits.{Permit}
 use Rattle.vt_spec.specs.Machine.Run.{Serves}
 use Rattle.vt_spec.specs.Machine.World.{Overlay, Task, World, files_at, filesystem_at, mount_at, task_called}
-use Rattle.vt_spec.specs.TreeLaws.{entry_at}
+use Rattle.vt_spec.specs.TreeInvariant.{entry_at}
 use Rattle.vt_overlay_permit_laws.specs.Asked.{change_asked}
 
 -- A change does not write to an inode, and takes no name from it.

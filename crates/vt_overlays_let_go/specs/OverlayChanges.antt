@@ -12,7 +12,7 @@ use Rattle.vt_spec.specs.Machine.Mounts.{Location}
 use Rattle.vt_spec.specs.Machine.Settled.{named_in, settled}
 use Rattle.vt_spec.specs.Machine.World.{Layer, Overlay, World, filesystem_at, filesystem_numbered, files_at, mount_at}
 use Rattle.vt_spec.specs.Machine.Invariants.{IsWorld}
-use Rattle.vt_spec.specs.TreeLaws.{entry_at}
+use Rattle.vt_spec.specs.TreeInvariant.{entry_at}
 use Rattle.vt_layer_laws.specs.Layers.Untouched.{inode_in}
 use Rattle.vt_letting_go.specs.FileChanges.{MayChange, names_lost}
 use Rattle.vt_letting_go.specs.InUse.{IsListedTree}

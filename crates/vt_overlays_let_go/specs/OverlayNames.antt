@@ -1,6 +1,6 @@
 -- What loses a name in the upper layer when an overlay changes: the kernel's overlayfs document, "whiteouts and opaque
 -- directories".
-use Rattle.std.specs.Prelude.{Contains, List, None, Option, Some, [], nat_eq, option_to_list, true, ℕ, ◌++◌, ◌≡◌}
+use Rattle.std.specs.Prelude.{Contains, List, None, Option, Some, [], nat_eq, option_to_list, true, ℕ, ◌++◌, ◌≡◌, ◌≢◌}
 use Rattle.std.specs.List.{list_all}
 use Rattle.vt_spec.specs.FileTree.{targets_in}
 use Rattle.vt_spec.specs.Language.Calls.{Access}
@@ -11,12 +11,13 @@ use Rattle.vt_spec.specs.Machine.Apply.{apply}
 use Rattle.vt_spec.specs.Machine.CopyUp.{Merge, upper_directory_named, upper_of}
 use Rattle.vt_spec.specs.Machine.Filesystems.{with_change}
 use Rattle.vt_spec.specs.Machine.Mounts.{Location}
-use Rattle.vt_spec.specs.Machine.Outcome.Descriptors.{is_copied_up}
-use Rattle.vt_spec.specs.Machine.Permits.Permit.{ToOpen}
+use Rattle.vt_spec.specs.Machine.Outcome.Descriptors.{is_copied_up, overwritten}
+use Rattle.vt_spec.specs.Machine.Permits.Permit.{ToOpen, ToWritePart}
 use Rattle.vt_spec.specs.Machine.Settled.{settled}
-use Rattle.vt_spec.specs.Machine.World.{Layer, Overlay, Task, World, files_at, filesystem_numbered}
+use Rattle.vt_spec.specs.Machine.World.{Layer, Overlay, Task, World, files_at, filesystem_numbered, node_at}
 use Rattle.vt_spec.specs.Machine.Invariants.{IsWorld}
-use Rattle.vt_spec.specs.TreeLaws.{entry_at}
+use Rattle.vt_spec.specs.Tree.{bytes_in}
+use Rattle.vt_spec.specs.TreeInvariant.{entry_at}
 use Rattle.vt_layer_laws.specs.Layers.ChangesUpper.{copied_for}
 use Rattle.vt_letting_go.specs.FileChanges.{names_lost}
 use Rattle.vt_overlays_let_go.specs.OverlayCalls.{is_on_mount}
@@ -68,7 +69,17 @@ OverlayChangesKeepAll =
     → upper_names_lost (copied_for fresh (merge_at world location overlay upper) change) change ≡ []
     → settled nat_eq (with_change nat_eq fresh world location change) ≡ with_change nat_eq fresh world location change
 
--- So nothing goes with open(2) of a file that is copied up, by a task of the world.
+-- So nothing goes with a write of a part of a file, or of nothing: pwrite(2).
+abbrev pub WrittenPartsInOverlaysKeepAll : Type 0
+WrittenPartsInOverlaysKeepAll =
+    (fresh : Fresh ℕ) (world : World ℕ) (task : Task ℕ) (file : Location ℕ) (offset : ℕ) (bytes : List ℕ)
+    (overlay : Overlay ℕ) (upper : Layer ℕ) → IsWorld nat_eq world
+    → (bytes ≢ [] → CanChange fresh world file
+    (SetBytes file.node (overwritten offset bytes (bytes_in (node_at nat_eq world file)))) overlay upper)
+    → settled nat_eq (apply nat_eq fresh world task (ToWritePart file offset bytes)).world
+    ≡ (apply nat_eq fresh world task (ToWritePart file offset bytes)).world
+
+-- Nor does anything with open(2) of a file that is copied up, by a task of the world.
 abbrev pub OpenedCopiesKeepAll : Type 0
 OpenedCopiesKeepAll =
     (fresh : Fresh ℕ) (world : World ℕ) (task : Task ℕ) (file : Location ℕ) (access : Access) (overlay : Overlay ℕ)

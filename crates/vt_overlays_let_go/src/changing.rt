@@ -1,7 +1,7 @@
 //! What goes when an overlay changes.
 ghost use Rattle.vt_overlays_let_go.specs.OverlayCalls.{MadeInOverlaysLetsGo, OpenedNewInOverlaysLetsGo, RemovedFromOverlaysLetGo, RemovingKeepsTheMount, ReplacedInOverlaysLetGo, ReplacingKeepsTheMount, TakenAndOverlayChangesLetGo};
 ghost use Rattle.vt_overlays_let_go.specs.OverlayChanges.{OverlayChangesLetGo};
-ghost use Rattle.vt_overlays_let_go.specs.OverlayNames.{OnlyTheseLoseNames, OpenedCopiesKeepAll, OverlayChangesKeepAll};
+ghost use Rattle.vt_overlays_let_go.specs.OverlayNames.{OnlyTheseLoseNames, OpenedCopiesKeepAll, OverlayChangesKeepAll, WrittenPartsInOverlaysKeepAll};
 
 /// After a call that changed an overlay at the most the inode goes that lost a name there, and those that lost their
 /// last name in the upper layer: a whiteout, what was removed or replaced, and the whiteouts in it. With a directory
@@ -10,6 +10,7 @@ pub fn what_a_change_of_an_overlay_leaves_goes()
     ensures names { OnlyTheseLoseNames }
     ensures change { OverlayChangesLetGo }
     ensures kept { OverlayChangesKeepAll }
+    ensures written { WrittenPartsInOverlaysKeepAll }
     ensures make { MadeInOverlaysLetsGo }
     ensures with_mounts { TakenAndOverlayChangesLetGo }
     ensures rmdir { RemovedFromOverlaysLetGo }

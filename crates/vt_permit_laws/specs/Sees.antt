@@ -18,7 +18,7 @@ use Rattle.vt_spec.specs.Fits.{Fits}
 use Rattle.vt_spec.specs.Inodes.{Inodes, tree_of}
 use Rattle.vt_spec.specs.PathText.{is_empty}
 use Rattle.vt_spec.specs.Tree.{Node, Tree, is_directory_node}
-use Rattle.vt_spec.specs.TreeLaws.{entry_at}
+use Rattle.vt_spec.specs.TreeInvariant.{entry_at}
 use Rattle.vt_tree_laws.specs.Trees.{IsFree, IsProper, MayAddName, MayMove, MayRemove}
 use Rattle.vt_tree_laws.specs.Trees.Sizes.{IsFitChange, is_fit_name, is_fit_node}
 use Rattle.vt_world_laws.specs.Worlds.Kept.{IsPlain}

@@ -2,7 +2,7 @@
 use Rattle.std.proofs.Common.{◌≡◌, refl, sym, ap, subst, ◌∙◌, ℕ, nat_eq, Bool, true, false, true≢false, ◌||◌, List, [], ◌∷◌, ◌++◌, filter, Option, None, Some, option_map, is_some, ⊎_elim}
 use Rattle.std.proofs.lemmas.List.Folds.{list_any-append}
 use Rattle.std.proofs.lemmas.Option.{same_Some}
-use Rattle.std.specs.Prelude.{Contains, if◌then◌else◌, length}
+use Rattle.std.specs.Prelude.{Contains, flat_map, if◌then◌else◌, length}
 use Rattle.vt_spec.specs.Lists.{folded, is_among}
 use Rattle.vt_spec.specs.Machine.Detach.{after_going, going, going_at, has_child, is_going, lazily_unmounted, mount_point_left, mount_point_of_parent, taken_away, unmounted, unmounted_if_there}
 use Rattle.vt_spec.specs.Machine.Invariants.{MountInvariants, Stands}
@@ -14,6 +14,8 @@ use Rattle.vt_spec.specs.Machine.World.{World, mount_numbered, with_mounts}
 use Rattle.vt_spec.proofs.Lists.{all_from_among, among_cases, among_numbers, contains_from_among, head_among, map_same, none-filter}
 use Rattle.vt_group.specs.Grouping.{Grouping, GroupsLive, are_rising, numbers_of, peers_of}
 use Rattle.vt_group.proofs.Together.{regrouped_living}
+use Rattle.vt_letting_go.specs.Several.{KeepsMounts}
+use Rattle.vt_letting_go.proofs.mounting.TakenInTurn.{one_sweep_for_all_mounts_with_overlays}
 use Rattle.vt_mount.specs.MountsValue.{MountEntry}
 use Rattle.vt_mount.proofs.PointLemmas.{end-here}
 use Rattle.vt_mount_laws.proofs.ends.EndingLazy.{IsUnderWay, begun, childless, lazy_unmount_keeps_mounts, next}
@@ -23,7 +25,7 @@ use Rattle.vt_mount_laws.proofs.mounts.Standing.{LiesIn, lies_in_tree, stand}
 use Rattle.vt_mount_laws.proofs.mounts.Standing.LiesIn.{itself, under}
 use Rattle.vt_mount_laws.proofs.ends.Unmounting.{kept_by_number}
 use Rattle.vt_mount_laws.proofs.ends.UnmountingEnds.{the_mount_itself_goes}
-use Rattle.vt_propagate.specs.LazyUnmounts.{LazyUnmountsAreAtOnce, LazyUnmountsAreSeen, LazyUnmountsSettleAlike, LazyUnmountsTakeTheTree, gone_by, gone_lazily, going_if_there}
+use Rattle.vt_propagate.specs.LazyUnmounts.{LazyUnmountsAreAtOnce, LazyUnmountsAreSeen, LazyUnmountsSettleAlike, LazyUnmountsTakeTheTree, PartsAreSweptOnce, gone_by, gone_lazily, going_if_there}
 use Rattle.vt_propagate.specs.Seen.{IsSeen}
 use Rattle.vt_propagate.proofs.TakenTwice.{taken_twice}
 
@@ -198,6 +200,23 @@ settled_without_groups world = λ i. record (settled nat_eq world) { master = λ
         by false e c f =
             ap (λ b. if b then (if has_members nat_eq world.mounts group then world.master group else None) else None) e
             ∙ sym (ap (λ b. if b then world.master group else None) e)
+
+-- Parts that are taken in turn settle to the world from which all of them are taken at once.
+parts_settle_alike : (world : World ℕ) (parts : List (List ℕ)) → KeepsMounts (taken_away nat_eq) world parts
+    → settled nat_eq (folded (taken_away nat_eq) world parts)
+    ≡ settled nat_eq (taken_away nat_eq world (flat_map (λ part. part) parts))
+parts_settle_alike world [] kept = sym (ap (settled nat_eq) (nothing_taken world kept))
+parts_settle_alike world (first ∷ rest) kept =
+    let others = flat_map (λ part. part) rest in
+    parts_settle_alike (taken_away nat_eq world first) rest kept.1
+    ∙ sym (settled_without_groups (taken_away nat_eq (taken_away nat_eq world first) others))
+    ∙ ap (settled nat_eq) (taken_twice world first others kept.0)
+    ∙ settled_without_groups (taken_away nat_eq world (first ++ others))
+
+pub parts_are_swept_once : PartsAreSweptOnce
+parts_are_swept_once world parts trees uppers reals kept =
+    one_sweep_for_all_mounts_with_overlays world parts trees uppers reals kept
+    ∙ parts_settle_alike world parts kept
 
 -- A lazy unmount settles to the world in which they were detached at once.
 pub settled_lazily : LazyUnmountsSettleAlike

@@ -1,5 +1,5 @@
 -- What is made by the masters that are kept is what is made in the world.
-use Rattle.std.proofs.Common.{◌≡◌, ℕ, Bool, true, cond, ◌++◌, suc, zero, List, [], ◌∷◌, map, length, nat_eq, Option, None, Some, option_map, flat_map, is_some, refl, sym, ap, ◌∙◌, true≢false, inl, inr, ⊎_elim, subst}
+use Rattle.std.proofs.Common.{◌≡◌, ℕ, Bool, true, false, cond, ◌++◌, suc, zero, List, [], ◌∷◌, map, length, nat_eq, Option, None, Some, option_map, flat_map, is_some, refl, sym, ap, ◌∙◌, true≢false, inl, inr, ⊎_elim, subst}
 use Rattle.std.specs.Prelude.{find as seek, filter_map, if◌then◌else◌, not, slice_get, unwrap_or}
 use Rattle.std.specs.List.{cons_option}
 use Rattle.std.proofs.lemmas.Option.{same_Some}
@@ -19,7 +19,8 @@ use Rattle.vt_location.specs.MountValue.{mount_of}
 use Rattle.vt_location.specs.declared.mounts.Mount.{Mount as Kept}
 use Rattle.vt_mount.specs.MountsValue.{MountEntry, mounts_in}
 use Rattle.vt_propagate.specs.declared.numbering.Copying.{Copying}
-use Rattle.vt_propagate.specs.Copying.{as_kept, copied, counts_from, graft_seen, made, parts_seen, supply, tree_seen, twig}
+use Rattle.vt_propagate.specs.Copying.{above_of, as_kept, copied, counts_from, graft_seen, heir_of, image_seen, made, nearest_part}
+use Rattle.vt_propagate.specs.Copying.{parts_seen, supply, tree_seen, twig, type_by_heir}
 use Rattle.vt_propagate.specs.Planned.{planned_copies, planned_groups}
 use Rattle.vt_propagate.specs.Seen.{IsSeen}
 use Rattle.vt_propagate.proofs.Found.{numbered}
@@ -52,6 +53,46 @@ module _ {A B : Type 0} where
       → filter_map f list ≡ filter_map g list
   filter_map_alike f g same [] = refl
   filter_map_alike f g same (a ∷ list) = λ i. cons_option (same a i) (filter_map_alike f g same list i)
+
+-- Types and masters of copies, by the groups that are looked for once at each part
+
+module _ (world : World ℕ) (copying : Copying) (origin : Mount ℕ) where
+  abbrev nearest : Option ℕ → Option ℕ
+  nearest master =
+      nearest_image nat_eq world (supply copying) (parts_seen copying) (mount_of copying.destination)
+      (twig copying origin) master
+
+  type_by_heir-heir_of : (kind : Propagation ℕ) → type_by_heir copying (heir_of world copying kind) origin kind
+      ≡ copy_type nat_eq world (supply copying) (parts_seen copying) (mount_of copying.destination)
+      (twig copying origin) kind
+  type_by_heir-heir_of (Shared group) = refl
+  type_by_heir-heir_of (Slave master) = refl
+  type_by_heir-heir_of Private = refl
+  type_by_heir-heir_of Unbindable = refl
+
+  -- the group is that of the destination's mount, or not
+  abbrev formed_if : Bool → ℕ → Option ℕ → Option (ℕ × Option ℕ)
+  formed_if member group master = when (not member) (image_seen copying origin group, master)
+
+  abbrev formed : ℕ → Option ℕ → Option (ℕ × Option ℕ)
+  formed group master = formed_if (is_member_of nat_eq group (mount_of copying.destination)) group master
+
+  image_of-above_of : (kind : Propagation ℕ)
+      → then_some (group_of kind) (λ group. formed group
+      (option_map (image_seen copying origin) (above_of world copying kind)))
+      ≡ then_some (group_of kind) (λ group. formed group (nearest (world.master group)))
+  image_of-above_of (Shared group) = by (is_member_of nat_eq group (mount_of copying.destination)) (world.master group)
+    where
+      by : (member : Bool) (master : Option ℕ)
+          → formed_if member group
+          (option_map (image_seen copying origin) (if member then None else nearest_part world copying master))
+          ≡ formed_if member group (nearest master)
+      by true master = refl
+      by false None = refl
+      by false (Some above) = refl
+  image_of-above_of (Slave master) = refl
+  image_of-above_of Private = refl
+  image_of-above_of Unbindable = refl
 
 module _ (world : World ℕ) (kept : List MountEntry) (grouping : Grouping) (seen : IsSeen world kept grouping) where
   abbrev members : ℕ → Bool
@@ -171,8 +212,9 @@ module _ (world : World ℕ) (kept : List MountEntry) (grouping : Grouping) (see
           mount_point = Some (copy_place nat_eq (supply copying) (graft_seen copying) part.number origin);
           propagation =
               if is_destination nat_eq (graft_seen copying) part.number then (twig copying origin).propagation
-              else type_alike (supply copying) (parts_seen copying) (mount_of copying.destination)
-              (twig copying origin) part.propagation life i;
+              else (type_by_heir-heir_of (as_kept kept grouping) copying origin part.propagation
+              ∙ type_alike (supply copying) (parts_seen copying) (mount_of copying.destination)
+              (twig copying origin) part.propagation life) i;
         })
         ∙ (λ i. copy_with (at i) part origin)
 
@@ -196,7 +238,7 @@ module _ (world : World ℕ) (kept : List MountEntry) (grouping : Grouping) (see
         ≡ group_made nat_eq world (supply copying) graft (parts_seen copying) part (grown origin)
     made_in_world part life origin =
         ap (λ o. if is_destination nat_eq (graft_seen copying) part.number then twig_master (twig copying origin)
-        else o) (by part.propagation life)
+        else o) (image_of-above_of (as_kept kept grouping) copying origin part.propagation ∙ by part.propagation life)
         ∙ (λ i. made_with (at i) part origin)
       where
         by : (kind : Propagation ℕ) → ((group : ℕ) → source_of kind ≡ Some group → Lives members world.master group)

@@ -21,7 +21,7 @@ use Rattle.vt_group.proofs.Living.{group_lives}
 use Rattle.vt_group.proofs.Receiving.{Ends, living_ends}
 use Rattle.vt_group.proofs.Together.{map_alike, map-twice}
 use Rattle.vt_mount.proofs.PointLemmas.{end-here, end-more, end_of}
-use Rattle.vt_mount_laws.specs.Mounts.Conditions.{OneNumberEach}
+use Rattle.vt_mount_laws.specs.Mounts.Invariants.{OneNumberEach}
 use Rattle.vt_mount_laws.specs.Mounts.Standing.{AllStand}
 use Rattle.vt_mount_laws.proofs.GroupsKept.{taking_away_keeps_groups}
 use Rattle.vt_mount_laws.proofs.GroupsLiving.{all_live, tested_live}

@@ -1,11 +1,12 @@
 -- What an attachment makes, as code has it: copies of mounts, and new groups.
-use Rattle.std.specs.Prelude.{List, Option, Some, [], length, map, nat_eq, not, if◌then◌else◌, ℕ, ◌*◌, ◌+◌, ◌<◌}
+use Rattle.std.specs.Prelude.{List, None, Option, Some, [], find, length, map, nat_eq, not, option_map, if◌then◌else◌, ℕ, ◌*◌, ◌+◌, ◌<◌}
 use Rattle.vt_spec.specs.Lists.{Fresh, then_some, when}
 use Rattle.vt_spec.specs.Machine.Attach as meant
-use Rattle.vt_spec.specs.Machine.Attach.{Copies, Twig, copies_from, copy_number, copy_place, copy_type, image, is_destination}
-use Rattle.vt_spec.specs.Machine.Attach.{nearest_image, twig_master, twig_of}
-use Rattle.vt_spec.specs.Machine.Mounts.{Mount, group_of}
-use Rattle.vt_spec.specs.Machine.Receives.{is_member_of}
+use Rattle.vt_spec.specs.Machine.Attach.{Copies, Twig, copies_from, copy_number, copy_place, image, is_destination}
+use Rattle.vt_spec.specs.Machine.Attach.{twig_master, twig_of}
+use Rattle.vt_spec.specs.Machine.Mounts.{Mount, Propagation, group_of}
+use Rattle.vt_spec.specs.Machine.Mounts.Propagation.{Private, Shared, Slave, Unbindable}
+use Rattle.vt_spec.specs.Machine.Receives.{groups_up, has_members, is_member_of, slave_of_heir}
 use Rattle.vt_spec.specs.Machine.World.{World}
 use Rattle.vt_group.specs.Grouping.{Grouping, master_in}
 pub use Rattle.vt_group.specs.Together.{new_group}
@@ -61,27 +62,62 @@ pub record IsReady (copying : Copying) : Type 0 where
   pub room : HasRoomFor copying.graft copying.counts
   pub indexed : IsIndexed copying.indexes.now copying.graft
 
--- a copy at a part
-abbrev pub copied : World ℕ → Copying → Mount ℕ → Mount ℕ → Mount ℕ
-copied world copying part origin = record origin {
+-- the group that the copies of a mount form at the members of a group
+abbrev pub image_seen : Copying → Mount ℕ → ℕ → ℕ
+image_seen copying origin group =
+    image nat_eq (supply copying) (mount_of copying.destination) (twig copying origin) group
+
+-- the nearest group with a part, from this group up the masters
+abbrev pub nearest_part : World ℕ → Copying → Option ℕ → Option ℕ
+nearest_part world copying None = None
+nearest_part world copying (Some group) = find (has_members nat_eq (parts_seen copying)) (groups_up world group)
+
+-- the heir of a receiver of this type: of a slave, the nearest group with a part, from its master up
+abbrev pub heir_of : World ℕ → Copying → Propagation ℕ → Option ℕ
+heir_of world copying (Shared group) = None
+heir_of world copying (Slave master) = nearest_part world copying (Some master)
+heir_of world copying Private = None
+heir_of world copying Unbindable = None
+
+-- the group above the new ones at a part of this type: the nearest with a part, from the master of its group up
+abbrev pub above_of : World ℕ → Copying → Propagation ℕ → Option ℕ
+above_of world copying (Shared group) =
+    if is_member_of nat_eq group (mount_of copying.destination) then None
+    else nearest_part world copying (world.master group)
+above_of world copying (Slave master) = None
+above_of world copying Private = None
+above_of world copying Unbindable = None
+
+-- the type of the copy of a mount at a receiver of this type, with its heir
+abbrev pub type_by_heir : Copying → Option ℕ → Mount ℕ → Propagation ℕ → Propagation ℕ
+type_by_heir copying heir origin (Shared group) = Shared (image_seen copying origin group)
+type_by_heir copying heir origin (Slave master) = slave_of_heir (option_map (image_seen copying origin) heir)
+type_by_heir copying heir origin Private = Private
+type_by_heir copying heir origin Unbindable = Unbindable
+
+-- a copy at a part with this heir
+abbrev pub copied_by : Copying → Option ℕ → Mount ℕ → Mount ℕ → Mount ℕ
+copied_by copying heir part origin = record origin {
   number = copy_number nat_eq (supply copying) (graft_seen copying) part.number origin.number;
   namespace = part.namespace;
   mount_point = Some (copy_place nat_eq (supply copying) (graft_seen copying) part.number origin);
   propagation =
       if is_destination nat_eq (graft_seen copying) part.number then (twig copying origin).propagation
-      else copy_type nat_eq world (supply copying) (parts_seen copying) (mount_of copying.destination)
-      (twig copying origin)
-      part.propagation;
+      else type_by_heir copying heir origin part.propagation;
 }
+
+-- a copy at a part
+abbrev pub copied : World ℕ → Copying → Mount ℕ → Mount ℕ → Mount ℕ
+copied world copying part origin = copied_by copying (heir_of world copying part.propagation) part origin
+
+-- the new group of a copy at a part with this group above, if it forms one
+abbrev pub made_by : Copying → Option ℕ → Mount ℕ → Mount ℕ → Option (ℕ × Option ℕ)
+made_by copying above part origin =
+    if is_destination nat_eq (graft_seen copying) part.number then twig_master (twig copying origin)
+    else then_some (group_of part.propagation) (λ group.
+    when (not (is_member_of nat_eq group (mount_of copying.destination)))
+    (image_seen copying origin group, option_map (image_seen copying origin) above))
 
 -- the new group of a copy at a part, if it forms one
 abbrev pub made : World ℕ → Copying → Mount ℕ → Mount ℕ → Option (ℕ × Option ℕ)
-made world copying part origin =
-    if is_destination nat_eq (graft_seen copying) part.number then twig_master (twig copying origin)
-    else then_some (group_of part.propagation) (λ group.
-    when (not (is_member_of nat_eq group (mount_of copying.destination))) (
-      image nat_eq (supply copying) (mount_of copying.destination) (twig copying origin) group,
-      nearest_image nat_eq world (supply copying) (parts_seen copying) (mount_of copying.destination)
-          (twig copying origin)
-          (world.master group),
-    ))
+made world copying part origin = made_by copying (above_of world copying part.propagation) part origin

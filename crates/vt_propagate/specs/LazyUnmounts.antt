@@ -1,11 +1,15 @@
 -- Lazy unmounts: the mounts that the events detach one after the other may as well go all at once.
-use Rattle.std.specs.Prelude.{All, Contains, List, [], if◌then◌else◌, is_some, nat_eq, true, ℕ, ◌++◌, ◌∷◌, ◌≡◌}
+use Rattle.std.specs.Prelude.{All, Contains, List, [], flat_map, if◌then◌else◌, is_some, nat_eq, true, ℕ, ◌++◌, ◌∷◌, ◌≡◌}
 use Rattle.vt_spec.specs.Machine.Detach.{deepest_first, going, lazily_unmounted, taken_away, unmounted_if_there}
 use Rattle.vt_spec.specs.Machine.Invariants.{MountInvariants}
 use Rattle.vt_spec.specs.Machine.Mounts.{Mount, mount_tree}
 use Rattle.vt_spec.specs.Machine.Settled.{settled, without_dead_groups}
 use Rattle.vt_spec.specs.Machine.World.{World, mount_numbered}
 use Rattle.vt_group.specs.Grouping.{Grouping}
+use Rattle.vt_letting_go.specs.InUse.{HasTrees, UppersArePlain}
+use Rattle.vt_letting_go.specs.Leaving.{with_sweeps}
+use Rattle.vt_letting_go.specs.Overlays.{RealsAreThere}
+use Rattle.vt_letting_go.specs.Several.{KeepsMounts}
 use Rattle.vt_mount.specs.MountsValue.{MountEntry}
 use Rattle.vt_propagate.specs.Seen.{IsSeen}
 
@@ -64,3 +68,12 @@ LazyUnmountsSettleAlike =
     (world : World ℕ) (number : ℕ) → MountInvariants nat_eq world
     → settled nat_eq (lazily_unmounted nat_eq world number)
     ≡ settled nat_eq (taken_away nat_eq world (gone_lazily world number))
+
+-- Mounts are taken away in parts with a sweep after each, or all at once with one sweep: the same world is left, where
+-- the invariants of mounts hold on the way.
+abbrev pub PartsAreSweptOnce : Type 0
+PartsAreSweptOnce =
+    (world : World ℕ) (parts : List (List ℕ)) → HasTrees world → UppersArePlain world → RealsAreThere world
+    → KeepsMounts (taken_away nat_eq) world parts
+    → with_sweeps (taken_away nat_eq) (settled nat_eq world) parts
+    ≡ settled nat_eq (taken_away nat_eq world (flat_map (λ part. part) parts))

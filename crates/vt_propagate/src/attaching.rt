@@ -14,12 +14,13 @@ ghost use Rattle.vt_propagate.specs.Pushing.{EachOnce, KeepsLeaver, MovesOnce, O
 ghost use Rattle.vt_propagate.specs.Seen.{IsSeen};
 
 use crate::copying::{Counts, Graft, copies, new_groups};
+use crate::indexes::Indexes;
 use crate::pushing::pushes;
 use std::alloc::Global;
 use vt_group::{Groups, NewGroup};
 use vt_location::Mount;
 use vt_mount::{Mounts, NewPoint};
-use vt_spec::errors::Deny;
+use vt_spec::errors::{Deny, Rule};
 
 /// The plan of an attachment.
 #[derive(Debug, Drop)]
@@ -54,8 +55,11 @@ pub fn attachment(
         → MovesOnce (mounts_in mounts.now) (map point_of plan.points.items)) }
     ensures memory { IfErr result (λ deny. deny ≡ denial S5) }
 {
-    let copies = copies(alloc, mounts, groups, graft, counts)?;
-    let new = new_groups(alloc, mounts, groups, graft, counts)?;
+    let Ok(indexes) = Indexes::new(alloc, graft) else {
+        return Err(Rule::S5.denial());
+    };
+    let copies = copies(alloc, mounts, groups, graft, counts, &indexes)?;
+    let new = new_groups(alloc, mounts, groups, graft, counts, &indexes)?;
     let points = pushes(alloc, mounts, graft, &copies)?;
     Ok(Plan {
         copies,

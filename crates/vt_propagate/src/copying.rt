@@ -9,8 +9,9 @@ ghost use Rattle.vt_group.specs.Steps.{group_number};
 ghost use Rattle.vt_location.specs.Locations.{location_of};
 ghost use Rattle.vt_location.specs.MountValue.{mount_of, propagation_of};
 ghost use Rattle.vt_location.specs.Numbers.{counted};
-ghost use Rattle.vt_propagate.specs.Copying.{IsReady, HasRoomFor, as_kept, copied, graft_seen, made, new_group};
-ghost use Rattle.vt_propagate.specs.Copying.{parts_seen, supply, tree_seen, twig};
+ghost use Rattle.vt_propagate.specs.Copying.{IsReady, HasRoomFor, as_kept, copied, copied_by, graft_seen, made, made_by};
+ghost use Rattle.vt_propagate.specs.Copying.{new_group, parts_seen, supply, tree_seen, twig};
+ghost use Rattle.vt_propagate.specs.Indexes.{IsIndexed};
 ghost use Rattle.vt_propagate.specs.Planned.{planned_copies, planned_groups};
 ghost use Rattle.vt_propagate.specs.Seen.{IsSeen};
 
@@ -48,14 +49,16 @@ pub struct Counts {
 /// i-th part of the j-th mount of n, both from 0, is the `2·(n·i + j)`-th of the counts.
 ///
 /// S5 (ENOMEM): an allocation failed.
-pub fn copies(
+pub(crate) fn copies(
     alloc: Global,
     mounts: &Mounts,
     groups: &Groups,
     graft: &Graft,
     counts: Counts,
+    indexes: &Indexes,
 ) -> Result<Vec<Mount>, Deny>
-    requires { HasRoomFor graft.now counts }
+    requires room { HasRoomFor graft.now counts }
+    requires indexed { IsIndexed indexes.now graft.now }
     ensures length { IfOk result (λ copies. length copies.items
         ≡ length graft.now.parts.now * length graft.now.tree.now) }
     ensures ok { IfOk result (λ copies. (world : World ℕ) → IsSeen world mounts.now groups.now
@@ -66,14 +69,11 @@ pub fn copies(
     let Some(destination) = graft.parts.first() else {
         return Ok(Vec::new(alloc));
     };
-    let Ok(indexes) = Indexes::new(alloc, graft) else {
-        return Err(Rule::S5.denial());
-    };
     let copying = Copying {
         graft: *graft,
         destination: *destination,
         counts,
-        indexes: &indexes,
+        indexes,
     };
     let Ok(copies) = copying.all_copies(alloc, mounts, groups) else {
         return Err(Rule::S5.denial());
@@ -86,14 +86,16 @@ pub fn copies(
 /// j-th mount of n for the group of the i-th part, both from 0, is the `2·(n·i + j) + 1`-th of the counts.
 ///
 /// S5 (ENOMEM): an allocation failed.
-pub fn new_groups(
+pub(crate) fn new_groups(
     alloc: Global,
     mounts: &Mounts,
     groups: &Groups,
     graft: &Graft,
     counts: Counts,
+    indexes: &Indexes,
 ) -> Result<Vec<NewGroup>, Deny>
-    requires { HasRoomFor graft.now counts }
+    requires room { HasRoomFor graft.now counts }
+    requires indexed { IsIndexed indexes.now graft.now }
     ensures ok { IfOk result (λ new. (world : World ℕ) → IsSeen world mounts.now groups.now
         → map mount_of graft.now.parts.now ≡ parts_of nat_eq world (location_of graft.now.place)
         → map new_group new.items ≡ planned_groups world graft.now counts) }
@@ -102,14 +104,11 @@ pub fn new_groups(
     let Some(destination) = graft.parts.first() else {
         return Ok(Vec::new(alloc));
     };
-    let Ok(indexes) = Indexes::new(alloc, graft) else {
-        return Err(Rule::S5.denial());
-    };
     let copying = Copying {
         graft: *graft,
         destination: *destination,
         counts,
-        indexes: &indexes,
+        indexes,
     };
     let Ok(new) = copying.all_groups(alloc, mounts, groups) else {
         return Err(Rule::S5.denial());
@@ -150,24 +149,25 @@ impl<'a> Copying<'a> {
         ensures { OnOk result (map mount_of copies.new.items ≡ map mount_of copies.old.items
             ++ map (copied (as_kept mounts.now groups.now) self.now (mount_of part.now)) (tree_seen self.now)) }
     {
+        let heir = self.heir(mounts, groups, part.propagation);
         for origin in self.graft.tree {
-            copies.push(self.copy(mounts, groups, part, origin))?;
+            copies.push(self.copy(part, heir, origin))?;
         }
         Ok(())
     }
 
-    // The copy of a mount at a part.
-    fn copy(&self, mounts: &Mounts, groups: &Groups, part: &Mount, origin: &Mount) -> Mount
+    // The copy of a mount at a part with this heir.
+    fn copy(&self, part: &Mount, heir: Option<GroupId>, origin: &Mount) -> Mount
         requires ready { IsReady self.now }
         requires parts { 0 < length self.now.graft.parts.now }
         requires tree { 0 < length self.now.graft.tree.now }
-        ensures { mount_of result ≡ copied (as_kept mounts.now groups.now) self.now (mount_of part.now)
-            (mount_of origin.now) }
+        ensures { mount_of result
+            ≡ copied_by self.now (option_map group_number heir) (mount_of part.now) (mount_of origin.now) }
     {
         let propagation = if part.number == self.graft.place.mount {
             self.type_at(origin)
         } else {
-            self.copy_type(mounts, groups, origin, part.propagation)
+            self.copy_type(heir, origin, part.propagation)
         };
         Mount {
             number: self.copy_number(part.number, origin.number),
@@ -244,27 +244,22 @@ impl<'a> Copying<'a> {
         ensures { OnOk result (map new_group new.new.items ≡ map new_group new.old.items
             ++ filter_map (made (as_kept mounts.now groups.now) self.now (mount_of part.now)) (tree_seen self.now)) }
     {
+        let above = self.above(mounts, groups, part.propagation);
         for origin in self.graft.tree {
-            if let Some(group) = self.group_made(mounts, groups, part, origin) {
+            if let Some(group) = self.group_made(part, above, origin) {
                 new.push(group)?;
             }
         }
         Ok(())
     }
 
-    // The new group of the copy of a mount at a part, if it forms one.
-    fn group_made(
-        &self,
-        mounts: &Mounts,
-        groups: &Groups,
-        part: &Mount,
-        origin: &Mount,
-    ) -> Option<NewGroup>
+    // The new group of the copy of a mount at a part with this group above, if it forms one.
+    fn group_made(&self, part: &Mount, above: Option<GroupId>, origin: &Mount) -> Option<NewGroup>
         requires ready { IsReady self.now }
         requires parts { 0 < length self.now.graft.parts.now }
         requires tree { 0 < length self.now.graft.tree.now }
         ensures { option_map new_group result
-            ≡ made (as_kept mounts.now groups.now) self.now (mount_of part.now) (mount_of origin.now) }
+            ≡ made_by self.now (option_map group_number above) (mount_of part.now) (mount_of origin.now) }
     {
         if part.number == self.graft.place.mount {
             return self.group_at_destination(origin);
@@ -277,7 +272,7 @@ impl<'a> Copying<'a> {
         }
         Some(NewGroup {
             group: self.image(origin, group),
-            master: self.nearest_image(mounts, groups, origin, groups.master_of(group)),
+            master: self.image_of(origin, above),
         })
     }
 

@@ -28,7 +28,11 @@ pub(crate) struct Gone<'a> {
 /// point; if that is on one of them too, the mount point of that, and so on.
 ///
 /// S5 (ENOMEM): an allocation failed.
-pub fn points_left(alloc: Global, mounts: &Mounts, gone: &[MountId]) -> Result<Vec<NewPoint>, Deny>
+pub(crate) fn points_left(
+    alloc: Global,
+    mounts: &Mounts,
+    gone: &[MountId],
+) -> Result<Vec<NewPoint>, Deny>
     ensures ok { IfOk result (λ points. (world : World ℕ) → mounts_in mounts.now ≡ world.mounts
         → LeavesBy world (map (λ id. counted id.count) gone.now) (map point_of points.items)) }
     ensures each { IfOk result (λ points. (world : World ℕ) → mounts_in mounts.now ≡ world.mounts

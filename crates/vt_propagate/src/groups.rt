@@ -1,11 +1,12 @@
 //! Types and groups of copies: the kernel's document sharedsubtree, "Bind semantics" and "Move semantics".
 ghost use Rattle.std.specs.Prelude.{◌≡◌, ◌<◌, find, length, map, nat_eq, option_map};
-ghost use Rattle.vt_spec.specs.Machine.Attach.{copy_type as copy_type_of, image as image_of, nearest_image as nearest_image_of};
+ghost use Rattle.vt_spec.specs.Machine.Attach.{image as image_of};
 ghost use Rattle.vt_spec.specs.Machine.Receives.{groups_up, has_members};
 ghost use Rattle.vt_group.specs.Steps.{group_number};
 ghost use Rattle.vt_location.specs.MountValue.{mount_of, propagation_of};
 ghost use Rattle.vt_location.specs.Numbers.{counted};
-ghost use Rattle.vt_propagate.specs.Copying.{IsReady, as_kept, parts_seen, supply, twig};
+ghost use Rattle.vt_propagate.specs.Copying.{IsReady, above_of, as_kept, heir_of, image_seen, parts_seen, supply, twig};
+ghost use Rattle.vt_propagate.specs.Copying.{type_by_heir};
 
 use crate::numbering::{Copying, is_member};
 use vt_group::Groups;
@@ -48,32 +49,21 @@ impl<'a> Copying<'a> {
         self.new_image(group, origin.number)
     }
 
-    /// The group that the copies of a mount form at the members of the nearest group with a part, from this one up the
-    /// masters.
-    pub(crate) fn nearest_image(
-        &self,
-        mounts: &Mounts,
-        groups: &Groups,
-        origin: &Mount,
-        group: Option<GroupId>,
-    ) -> Option<GroupId>
+    /// The group that the copies of a mount form at the members of this group, if there is one.
+    pub(crate) fn image_of(&self, origin: &Mount, group: Option<GroupId>) -> Option<GroupId>
         requires ready { IsReady self.now }
         requires parts { 0 < length self.now.graft.parts.now }
         requires tree { 0 < length self.now.graft.tree.now }
         ensures { option_map group_number result
-            ≡ nearest_image_of nat_eq (as_kept mounts.now groups.now) (supply self.now) (parts_seen self.now)
-            (mount_of self.now.destination)
-            (twig self.now (mount_of origin.now)) (option_map group_number group) }
+            ≡ option_map (image_seen self.now (mount_of origin.now)) (option_map group_number group) }
     {
-        let nearest = self.nearest(mounts, groups, group?)?;
-        Some(self.image(origin, nearest))
+        Some(self.image(origin, group?))
     }
 
-    /// The type of the copy of a mount at a receiver of this type.
+    /// The type of the copy of a mount at a receiver of this type, which has this heir.
     pub(crate) fn copy_type(
         &self,
-        mounts: &Mounts,
-        groups: &Groups,
+        heir: Option<GroupId>,
         origin: &Mount,
         receiver: Propagation,
     ) -> Propagation
@@ -81,21 +71,55 @@ impl<'a> Copying<'a> {
         requires parts { 0 < length self.now.graft.parts.now }
         requires tree { 0 < length self.now.graft.tree.now }
         ensures { propagation_of result
-            ≡ copy_type_of nat_eq (as_kept mounts.now groups.now) (supply self.now) (parts_seen self.now)
-            (mount_of self.now.destination)
-            (twig self.now (mount_of origin.now)) (propagation_of receiver) }
+            ≡ type_by_heir self.now (option_map group_number heir) (mount_of origin.now) (propagation_of receiver) }
     {
         match receiver {
             Propagation::Shared(group) => Propagation::Shared(self.image(origin, group)),
-            Propagation::Slave(master) => {
-                match self.nearest_image(mounts, groups, origin, Some(master)) {
-                    Some(image) => Propagation::Slave(image),
-                    None => Propagation::Private,
-                }
-            }
+            Propagation::Slave(_) => match self.image_of(origin, heir) {
+                Some(image) => Propagation::Slave(image),
+                None => Propagation::Private,
+            },
             Propagation::Private => Propagation::Private,
             Propagation::Unbindable => Propagation::Unbindable,
         }
+    }
+
+    /// The heir of a receiver of this type: of a slave, the nearest group that has a part, from its master up.
+    pub(crate) fn heir(
+        &self,
+        mounts: &Mounts,
+        groups: &Groups,
+        receiver: Propagation,
+    ) -> Option<GroupId>
+        requires { IsReady self.now }
+        ensures { option_map group_number result
+            ≡ heir_of (as_kept mounts.now groups.now) self.now (propagation_of receiver) }
+    {
+        match receiver {
+            Propagation::Slave(master) => self.nearest(mounts, groups, master),
+            Propagation::Shared(_) | Propagation::Private | Propagation::Unbindable => None,
+        }
+    }
+
+    /// The group above the new ones at a part of this type: the nearest group that has a part, from the master of the
+    /// part's group up. The peers of the destination form no new group.
+    pub(crate) fn above(
+        &self,
+        mounts: &Mounts,
+        groups: &Groups,
+        receiver: Propagation,
+    ) -> Option<GroupId>
+        requires { IsReady self.now }
+        ensures { option_map group_number result
+            ≡ above_of (as_kept mounts.now groups.now) self.now (propagation_of receiver) }
+    {
+        let Propagation::Shared(group) = receiver else {
+            return None;
+        };
+        if is_member(self.destination.propagation, group) {
+            return None;
+        }
+        self.nearest(mounts, groups, groups.master_of(group)?)
     }
 
     // The nearest group that has a part, from this one up the masters.

@@ -18,12 +18,10 @@ mod through;
 mod unmounting;
 
 pub use attaching::{Plan, attachment};
-pub use copying::{Counts, Graft, copies, new_groups};
+pub use copying::{Counts, Graft};
 pub use detaching::{Detachment, unmount};
-pub use falling::points_left;
 pub use filling::{Load, overfills};
 pub use lazily::unmount_lazily;
-pub use pushing::pushes;
 pub use reach::Reach;
 pub use receiving::parts;
 pub use unmounting::{going, is_busy};

@@ -27,7 +27,7 @@ use vt_spec::errors::{Deny, Rule};
 /// copies there, which are given as `copies` returns them. Where a tree moves, its first mount leaves its place before.
 ///
 /// S5 (ENOMEM): an allocation failed.
-pub fn pushes(
+pub(crate) fn pushes(
     alloc: Global,
     mounts: &Mounts,
     graft: &Graft,

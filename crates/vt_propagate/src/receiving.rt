@@ -6,7 +6,7 @@ ghost use Rattle.vt_spec.specs.Machine.Attach.{parts_of, receivers_of};
 ghost use Rattle.vt_spec.specs.Machine.Mounts as meant;
 ghost use Rattle.vt_spec.specs.Machine.World.{World};
 ghost use Rattle.vt_group.specs.Grouping.{GroupsLive, Has, numbers_of};
-ghost use Rattle.vt_location.specs.Locations.{location_of};
+ghost use Rattle.vt_location.specs.Locations.{location_of, number_of};
 ghost use Rattle.vt_location.specs.MountValue.{mount_of, propagation_of};
 ghost use Rattle.vt_location.specs.Numbers.{counted};
 ghost use Rattle.vt_mount.specs.MountsValue.{mounts_in};
@@ -15,7 +15,7 @@ ghost use Rattle.vt_propagate.specs.Seen.{IsSeen, ReachesAs, is_mounted, joins, 
 use crate::reach::Reach;
 use std::alloc::{AllocError, Global};
 use vt_group::Groups;
-use vt_location::{Location, Mount, MountId, Propagation};
+use vt_location::{Location, Mount, MountId, NodeRef, Propagation};
 use vt_mount::Mounts;
 use vt_spec::errors::{Deny, Rule};
 
@@ -64,7 +64,8 @@ pub(crate) fn receivers_of(
     }
 }
 
-// A mount, and those of its receivers that take part.
+// A mount, and those of its receivers that take part. Most receivers have the root of the mount itself: whether that
+// shows the destination is asked once.
 fn with_receivers<R: Reach>(
     alloc: Global,
     mounts: &Mounts,
@@ -79,9 +80,13 @@ fn with_receivers<R: Reach>(
 {
     let mut parts = Vec::new(alloc);
     parts.push(parent)?;
+    if receivers.is_empty() {
+        return Ok(parts);
+    }
+    let shown = directories.is_under(parent.root, place.node);
     for id in receivers {
         if let Some(mount) = mounts.get(*id) {
-            if takes_part(directories, place, &parent, &mount) {
+            if takes_part(directories, place, &parent, shown, &mount) {
                 parts.push(mount)?;
             }
         }
@@ -90,12 +95,39 @@ fn with_receivers<R: Reach>(
 }
 
 // Whether a receiver takes part: it is attached, shows the same filesystem, and its root is the destination or above
-// it.
-fn takes_part<R: Reach>(directories: &R, place: Location, parent: &Mount, mount: &Mount) -> bool
+// it. Of the root of the mount at the destination that is known.
+fn takes_part<R: Reach>(
+    directories: &R,
+    place: Location,
+    parent: &Mount,
+    shown: bool,
+    mount: &Mount,
+) -> bool
+    requires { shown ≡ R.under directories.now (counted parent.now.root.filesystem.count)
+        (number_of parent.now.root) (number_of place.node) }
     ensures { result ≡ joins (R.under directories.now) (location_of place) (mount_of parent.now) (mount_of mount.now) }
 {
     mount.number != place.mount
         && mount.namespace.is_some()
         && mount.root.filesystem == parent.root.filesystem
-        && directories.is_under(mount.root, place.node)
+        && shows(directories, place.node, parent.root, shown, mount.root)
+}
+
+// Whether a directory is this root or lies under it, where that is known of one root.
+fn shows<R: Reach>(
+    directories: &R,
+    directory: NodeRef,
+    known: NodeRef,
+    shown: bool,
+    root: NodeRef,
+) -> bool
+    requires { shown ≡ R.under directories.now (counted known.filesystem.count) (number_of known)
+        (number_of directory) }
+    ensures { result ≡ R.under directories.now (counted root.filesystem.count) (number_of root)
+        (number_of directory) }
+{
+    if root == known {
+        return shown;
+    }
+    directories.is_under(root, directory)
 }

@@ -1,15 +1,12 @@
 //! What the slaves of a group get where the group ends: mount_namespaces(7).
-ghost use Rattle.std.specs.Prelude.{◌≡◌, if◌then◌else◌, map, nat_eq, option_map};
-ghost use Rattle.vt_spec.specs.Machine.Mounts.Propagation.{Slave};
-ghost use Rattle.vt_group.specs.Leaving.{slave_or_private, type_after_end as type_in_the_end};
+ghost use Rattle.std.specs.Prelude.{◌≡◌, map, option_map};
 ghost use Rattle.vt_group.specs.Steps.{group_number};
-ghost use Rattle.vt_location.specs.MountValue.{propagation_of};
 ghost use Rattle.vt_location.specs.Numbers.{counted};
 ghost use Rattle.vt_mount.specs.MountsValue.{changed};
 ghost use Rattle.vt_retype.specs.Leaving.{HaveSources, OnlyTypesChange, after_end, after_end_of, once_left};
 
-use vt_group::{Groups, Listed};
-use vt_location::{GroupId, MountId, Propagation};
+use vt_group::{Groups, Listed, type_after_end};
+use vt_location::{GroupId, MountId};
 use vt_mount::Mounts;
 
 // If this mount is the last member of its group, the slaves of the group get its master, or become private.
@@ -48,28 +45,4 @@ fn hand_to(mounts: &mut Mounts, id: MountId, lost: GroupId, heir: Option<GroupId
         return;
     };
     mounts.set_propagation(id, type_after_end(mount.propagation, lost, heir));
-}
-
-// The type of a mount after a group ended that had this heir.
-fn type_after_end(kind: Propagation, lost: GroupId, heir: Option<GroupId>) -> Propagation
-    ensures { propagation_of result
-        ≡ type_in_the_end (counted lost.count) (option_map group_number heir) (propagation_of kind) }
-{
-    match kind {
-        Propagation::Slave(master) => slave_after_end(master, lost, heir),
-        Propagation::Shared(_) | Propagation::Private | Propagation::Unbindable => kind,
-    }
-}
-
-fn slave_after_end(master: GroupId, lost: GroupId, heir: Option<GroupId>) -> Propagation
-    ensures { propagation_of result ≡ (if nat_eq (counted master.count) (counted lost.count)
-        then slave_or_private (option_map group_number heir) else Slave (counted master.count)) }
-{
-    if master != lost {
-        return Propagation::Slave(master);
-    }
-    match heir {
-        Some(heir) => Propagation::Slave(heir),
-        None => Propagation::Private,
-    }
 }

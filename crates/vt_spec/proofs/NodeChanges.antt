@@ -21,7 +21,7 @@ use Rattle.vt_spec.specs.Machine.Rightful.{node_allows}
 use Rattle.vt_spec.specs.Rights.{Credentials, is_directory}
 use Rattle.vt_spec.specs.Tree.{Content, Entries, Node, Tree, entries_in, entries_of, entry_named, is_directory_node, kind_of, name_cmp, parent_in, parent_of, with_entries}
 use Rattle.vt_spec.specs.Tree.Content.{Directory, Regular, Symlink, Whiteout}
-use Rattle.vt_spec.specs.TreeLaws.{IsTree, entry_at}
+use Rattle.vt_spec.specs.TreeInvariant.{IsTree, entry_at}
 use Rattle.vt_spec.specs.declared.attributes.Attr.{Attr}
 use Rattle.vt_spec.specs.declared.attributes.Kind.TheVariants.{File, White}
 use Rattle.std.proofs.lemmas.Bool.{or_right}

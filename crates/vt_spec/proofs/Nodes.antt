@@ -9,7 +9,7 @@ use Rattle.vt_spec.specs.Language.Changes.{without_entry}
 use Rattle.vt_spec.specs.Rights.{is_directory}
 use Rattle.vt_spec.specs.Tree.{Tree, Node, Content, Entries, name_cmp, kind_of, entry_named, with_entry, entries_of, with_entries, with_bytes, is_directory_node, entries_in, parent_of, parent_in, node_with_entry, node_with_bytes, with_node}
 use Rattle.vt_spec.specs.Tree.Content.{Directory, Regular, Symlink, Whiteout}
-use Rattle.vt_spec.specs.TreeLaws.{IsDirectory}
+use Rattle.vt_spec.specs.TreeInvariant.{IsDirectory}
 
 -- names that tie are one name
 pub same_name : (a b : List ℕ) → eq_by_cmp name_cmp a b ≡ true → a ≡ b

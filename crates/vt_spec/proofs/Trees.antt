@@ -11,7 +11,7 @@ use Rattle.vt_spec.specs.Rights.{is_directory}
 use Rattle.vt_spec.specs.Tree.{Tree, Node, Content, name_cmp, kind_of, entry_named, with_entry, entries_of, parent_of, new_directory, is_directory_node, entries_in, parent_in, node_with_entry, node_with_bytes, with_node, with_object, with_file_bytes, tree_of_root}
 use Rattle.vt_spec.specs.Tree.Content.{Directory, Regular, Symlink, Whiteout}
 use Rattle.vt_spec.specs.Laws.Trees.{IsNewIn}
-use Rattle.vt_spec.specs.TreeLaws.{entry_at, led, IsDirectory, HasName, IsReached, IsTree}
+use Rattle.vt_spec.specs.TreeInvariant.{entry_at, led, IsDirectory, HasName, IsReached, IsTree}
 use Rattle.vt_spec.proofs.Nodes.{passes, directory_used, same_name, none_is_not, entry_named-with_entry, is_directory-node_with_entry, parent-node_with_entry, is_some-node_with_entry, entries-node_with_entry, is_directory-node_with_bytes, parent-node_with_bytes, is_some-node_with_bytes, entries-node_with_bytes, node_set, node_other, part_kept}
 
 -- the tree of one empty directory is a tree

@@ -13,9 +13,11 @@ pub record FileTree (N : Type 0) : Type 0 where
   pub tree : Tree N
   pub numbers : List N
 
+-- the attributes of an inode that does not exist
 abbrev pub no_attr : Attr
 no_attr = record { uid = 0; gid = 0; mode = 0 }
 
+-- two kinds are the same
 abbrev pub is_kind : Kind → Kind → Bool
 is_kind Dir Dir = true
 is_kind File File = true
@@ -25,18 +27,23 @@ is_kind wanted found = false
 
 module _ {N : Type 0} where
   -- Looks at an inode that may be missing
+
+  -- owner, group and mode: inode(7)
   abbrev pub attr_in : Option (Node N) → Attr
   attr_in None = no_attr
   attr_in (Some node) = node.attr
 
+  -- its kind: inode(7)
   abbrev pub kind_in : Option (Node N) → Kind
   kind_in None = White
   kind_in (Some node) = kind_of node.content
 
+  -- it exists and is of this kind
   abbrev pub is_kind_in : Kind → Option (Node N) → Bool
   is_kind_in kind None = false
   is_kind_in kind (Some node) = is_kind kind (kind_of node.content)
 
+  -- the opaque mark of a directory: overlayfs, "whiteouts and opaque directories"
   abbrev pub opaque_of : Content N → Bool
   opaque_of (Directory parent entries opaque) = opaque
   opaque_of (Regular bytes) = false
@@ -48,6 +55,7 @@ module _ {N : Type 0} where
   is_opaque_in None = false
   is_opaque_in (Some node) = opaque_of node.content
 
+  -- the text of a symlink: readlink(2)
   abbrev pub symlink_text : Option (Node N) → Option (List ℕ)
   symlink_text node = when (is_kind_in SymlinkKind node) (bytes_in node)
 
@@ -56,6 +64,7 @@ module _ {N : Type 0} where
   targets_in node = map (λ entry. entry.1) (entries_in node)
 
 module _ {N : Type 0} (eq : N → N → Bool) where
+  -- some entry of a directory leads to the object
   abbrev pub has_entry_to : Tree N → N → N → Bool
   has_entry_to tree directory object = is_among eq object (targets_in (tree.node directory))
 
@@ -74,9 +83,11 @@ module _ {N : Type 0} (eq : N → N → Bool) where
   abbrev pub ancestors : FileTree N → N → List N
   ancestors files directory = chain (length files.numbers) (named_parent files.tree) directory
 
+  -- a directory is another one, or lies under it
   abbrev pub is_directory_under : FileTree N → N → N → Bool
   is_directory_under files top directory = is_among eq top (ancestors files directory)
 
+  -- a file, symlink or whiteout has a name at or under a directory
   abbrev pub is_file_under : FileTree N → N → N → Bool
   is_file_under files top file =
       list_any (λ directory. has_entry_to files.tree directory file
@@ -94,9 +105,11 @@ module _ {N : Type 0} (eq : N → N → Bool) where
       option_map (λ entry. (directory, entry.0))
       (find (λ entry. eq object entry.1) (entries_in (files.tree.node directory)))
 
+  -- some name of an object, and the directory that has it, if it has one
   abbrev pub a_name : FileTree N → N → Option (N × List ℕ)
   a_name files object = first_of_list (filter_map (name_in files object) files.numbers)
 
+  -- the name of a directory in its parent
   abbrev pub own_name : FileTree N → N → List ℕ
   own_name files directory =
       unwrap_or (option_map (λ name. name.1)

@@ -6,7 +6,7 @@ use Rattle.vt_spec.specs.Language.Changes.Change.{AddName, CopyUp, Make, Move, R
 use Rattle.vt_spec.specs.Language.Limits.{largest_file}
 use Rattle.vt_spec.specs.Laws.Trees.{IsNewIn}
 use Rattle.vt_spec.specs.Tree.{Tree, entries_in, is_directory_node}
-use Rattle.vt_spec.specs.TreeLaws.{IsDirectory, entry_at}
+use Rattle.vt_spec.specs.TreeInvariant.{IsDirectory, entry_at}
 
 -- what an object may take the place of: another object of its kind, without entries: rename(2)
 abbrev pub MayReplace : Tree ℕ → ℕ → Option ℕ → Type 0
@@ -20,6 +20,7 @@ abbrev pub StaysOutside : Inodes ℕ → ℕ → ℕ → Type 0
 StaysOutside inodes object directory =
     IsDirectory (tree_of inodes) object → is_directory_under nat_eq inodes object directory ≡ false
 
+-- what a change needs of a tree, which the rules of its call have seen to
 abbrev pub Fits : Inodes ℕ → Change ℕ → Type 0
 Fits inodes (Make directory name number node) =
     IsDirectory (tree_of inodes) directory × (entry_at (tree_of inodes) directory name ≡ None)

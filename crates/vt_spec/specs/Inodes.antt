@@ -19,6 +19,7 @@ pub record Inodes (N : Type 0) : Type 0 where
   pub count : ℕ
 
 module _ {N : Type 0} where
+  -- what an inode holds, if it exists
   abbrev pub node_in : Option (Inode N) → Option (Node N)
   node_in inode = option_map (λ i. i.node) inode
 
@@ -26,6 +27,7 @@ module _ {N : Type 0} where
   abbrev pub tree_of : Inodes N → Tree N
   tree_of inodes = record { root = inodes.root; node = λ number. node_in (inodes.inode number) }
 
+  -- how many uses an inode has
   abbrev pub uses_in : Option (Inode N) → ℕ
   uses_in None = 0
   uses_in (Some inode) = inode.uses
@@ -52,6 +54,7 @@ module _ {N : Type 0} where
   count_after count (Some inode) = count
 
 module _ {N : Type 0} (eq : N → N → Bool) where
+  -- the inodes with this at a number
   abbrev pub with_inode : Inodes N → N → Option (Inode N) → Inodes N
   with_inode inodes number inode =
       record inodes { inode = λ other. if eq other number then inode else inodes.inode other }
@@ -77,14 +80,17 @@ module _ {N : Type 0} (eq : N → N → Bool) where
   without_replaced inodes None = inodes
   without_replaced inodes (Some object) = unpinned (with_changed inodes object (node_with_parent object)) object
 
+  -- one inode more, under a name of a directory: mkdir(2), symlink(2), open(2) with O_CREAT
   abbrev pub with_new : Inodes N → N → List ℕ → N → Node N → Inodes N
   with_new inodes directory name number node =
       record (with_inode (with_changed inodes directory (node_with_entry name number)) number
       (Some (record { node = node; uses = 1 }))) { count = inodes.count + 1 }
 
+  -- one name more of an inode: link(2)
   abbrev pub with_name : Inodes N → N → List ℕ → N → Inodes N
   with_name inodes directory name object = pinned (with_changed inodes directory (node_with_entry name object)) object
 
+  -- one name less of an inode: unlink(2), rmdir(2)
   abbrev pub without_name : Inodes N → N → List ℕ → N → Inodes N
   without_name inodes directory name object =
       without_replaced (with_changed inodes directory (node_without_entry name)) (Some object)
@@ -117,6 +123,7 @@ module _ {N : Type 0} (eq : N → N → Bool) where
   abbrev pub ancestors : Inodes N → N → List N
   ancestors inodes directory = chain inodes.count (parent_above inodes) directory
 
+  -- a directory is another one, or lies under it
   abbrev pub is_directory_under : Inodes N → N → N → Bool
   is_directory_under inodes top directory = is_among eq top (ancestors inodes directory)
 
@@ -131,9 +138,11 @@ module _ {N : Type 0} (eq : N → N → Bool) where
 
 -- the inodes under other numbers
 module _ {N M : Type 0} (there : N → M) (back : M → N) where
+  -- an inode
   abbrev pub renamed_inode : Inode N → Inode M
   renamed_inode inode = record { node = renamed_node there back inode.node; uses = inode.uses }
 
+  -- all inodes
   abbrev pub renamed_inodes : Inodes N → Inodes M
   renamed_inodes inodes = record {
     root = there inodes.root;

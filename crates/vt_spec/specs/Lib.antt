@@ -2,7 +2,7 @@ pub mod Errors
 pub mod Rights
 pub mod PathText
 pub mod Tree
-pub mod TreeLaws
+pub mod TreeInvariant
 pub mod Lists
 pub mod FileTree
 pub mod Language

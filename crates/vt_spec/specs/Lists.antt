@@ -2,6 +2,7 @@
 use Rattle.std.specs.Prelude.{Bool, List, None, Option, Some, [], false, filter, if◌then◌else◌, map, not, suc, take_while, true, zero, ℕ, ◌&&◌, ◌*◌, ◌+◌, ◌||◌, ◌∷◌}
 use Rattle.std.specs.List.{list_any}
 
+-- what comes after a value, if it exists
 abbrev pub then_some : {A B : Type 0} → Option A → (A → Option B) → Option B
 then_some None next = None
 then_some (Some a) next = next a
@@ -11,14 +12,17 @@ abbrev pub or_else : {A : Type 0} → Option A → Option A → Option A
 or_else (Some a) other = Some a
 or_else None other = other
 
+-- a value, if the condition holds
 abbrev pub when : {A : Type 0} → Bool → A → Option A
 when true a = Some a
 when false a = None
 
+-- a value exists and passes
 abbrev pub holds_of : {A : Type 0} → (A → Bool) → Option A → Bool
 holds_of test None = false
 holds_of test (Some a) = test a
 
+-- an element of the list equals this one
 abbrev pub is_among : {A : Type 0} → (A → A → Bool) → A → List A → Bool
 is_among eq a list = list_any (eq a) list
 
@@ -28,14 +32,17 @@ front_of [] = []
 front_of (a ∷ []) = []
 front_of (a ∷ b ∷ rest) = a ∷ front_of (b ∷ rest)
 
+-- the last element, or a given one where there is none
 abbrev pub last_or : {A : Type 0} → A → List A → A
 last_or default [] = default
 last_or default (a ∷ rest) = last_or a rest
 
+-- the first element, if there is one
 abbrev pub first_of_list : {A : Type 0} → List A → Option A
 first_of_list [] = None
 first_of_list (a ∷ rest) = Some a
 
+-- the list without its first
 abbrev pub rest_of : {A : Type 0} → List A → List A
 rest_of [] = []
 rest_of (a ∷ rest) = rest
@@ -69,6 +76,7 @@ each_once eq (a ∷ rest) = a ∷ filter (λ b. not (eq a b)) (each_once eq rest
 abbrev pub before_first : {A : Type 0} → (A → Bool) → List A → List A
 before_first test list = take_while (λ a. not (test a)) list
 
+-- the elements added one by one, from the first on
 abbrev pub folded : {A B : Type 0} → (B → A → B) → B → List A → B
 folded add b [] = b
 folded add b (a ∷ rest) = folded add (add b a) rest
@@ -83,12 +91,14 @@ abbrev pub is_empty_list : {A : Type 0} → List A → Bool
 is_empty_list [] = true
 is_empty_list (a ∷ rest) = false
 
+-- both exist and are equal, or neither exists
 abbrev pub same_option : {A : Type 0} → (A → A → Bool) → Option A → Option A → Bool
 same_option eq None None = true
 same_option eq None (Some b) = false
 same_option eq (Some a) None = false
 same_option eq (Some a) (Some b) = eq a b
 
+-- equal elements in the same order
 abbrev pub same_list : {A : Type 0} → (A → A → Bool) → List A → List A → Bool
 same_list eq [] [] = true
 same_list eq [] (b ∷ bs) = false
@@ -100,8 +110,11 @@ abbrev pub Fresh : Type 0 → Type 0
 Fresh N = ℕ → N
 
 -- two supplies out of one
+
+-- the numbers at even places
 abbrev pub evens : {N : Type 0} → Fresh N → Fresh N
 evens fresh k = fresh (2 * k)
 
+-- the numbers at odd places
 abbrev pub odds : {N : Type 0} → Fresh N → Fresh N
 odds fresh k = fresh (2 * k + 1)

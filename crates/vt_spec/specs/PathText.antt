@@ -6,16 +6,18 @@ use Rattle.vt_spec.specs.declared.errors.Deny.{Deny}
 use Rattle.vt_spec.specs.declared.errors.Rule.TheVariants.{W1, W2}
 use Rattle.vt_spec.specs.Errors.{Rules, unless}
 
--- the parts of a text before, between and after its separators
+-- the parts with one byte more before them; a separator ends a part
 abbrev pub with_byte : Bool → ℕ → List (List ℕ) → List (List ℕ)
 with_byte true byte parts = [] ∷ parts
 with_byte false byte [] = (byte ∷ []) ∷ []
 with_byte false byte (part ∷ parts) = (byte ∷ part) ∷ parts
 
+-- the parts of a text before, between and after its separators
 abbrev pub parts : ℕ → List ℕ → List (List ℕ)
 parts separator [] = [] ∷ []
 parts separator (byte ∷ bytes) = with_byte (byte == separator) byte (parts separator bytes)
 
+-- the empty text
 abbrev pub is_empty : List ℕ → Bool
 is_empty [] = true
 is_empty (byte ∷ bytes) = false

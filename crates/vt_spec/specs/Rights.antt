@@ -17,41 +17,54 @@ abbrev pub has_all : ℕ → ℕ → Bool
 has_all set wanted = bit_and set wanted == wanted
 
 -- the rights of a request, by their bits in a class of a mode: inode(7)
+
+-- read; of a directory: list its names
 abbrev pub read_right : ℕ
 read_right = 4
 
+-- write; of a directory: make, remove and rename in it
 abbrev pub write_right : ℕ
 write_right = 2
 
--- of a directory: search
+-- execute; of a directory: search
 abbrev pub execute_right : ℕ
 execute_right = 1
 
 -- the capabilities of this profile, by the profile's bits: capabilities(7)
+
+-- CAP_CHOWN: give any owner and group
 abbrev pub cap_chown : ℕ
 cap_chown = 1
 
+-- CAP_DAC_OVERRIDE: the mode is not checked, but for execute of a file without an execute bit
 abbrev pub cap_dac_override : ℕ
 cap_dac_override = 2
 
+-- CAP_DAC_READ_SEARCH: read files, and read and search directories, without regard to the mode
 abbrev pub cap_dac_read_search : ℕ
 cap_dac_read_search = 4
 
+-- CAP_FOWNER: count as the owner
 abbrev pub cap_fowner : ℕ
 cap_fowner = 8
 
+-- CAP_SETGID: another gid, other supplementary groups
 abbrev pub cap_setgid : ℕ
 cap_setgid = 16
 
+-- CAP_SETUID: another uid
 abbrev pub cap_setuid : ℕ
 cap_setuid = 32
 
+-- CAP_SYS_CHROOT: chroot(2), setns(2)
 abbrev pub cap_sys_chroot : ℕ
 cap_sys_chroot = 64
 
+-- CAP_SYS_ADMIN: mount(2), umount(2), pivot_root(2), unshare(2), setns(2), trusted.overlay.opaque
 abbrev pub cap_sys_admin : ℕ
 cap_sys_admin = 128
 
+-- all of them
 abbrev pub all_capabilities : ℕ
 all_capabilities = 255
 
@@ -60,15 +73,20 @@ abbrev pub without : ℕ → ℕ → ℕ
 without held dropped = bit_and held (all_capabilities - dropped)
 
 -- the three classes of a mode: inode(7)
+
+-- the owner's
 abbrev pub owner_bits : ℕ → ℕ
 owner_bits mode = mode / 64 % 8
 
+-- the group's
 abbrev pub group_bits : ℕ → ℕ
 group_bits mode = mode / 8 % 8
 
+-- the others'
 abbrev pub other_bits : ℕ → ℕ
 other_bits mode = mode % 8
 
+-- the sticky bit: inode(7)
 abbrev pub is_sticky : ℕ → Bool
 is_sticky mode = mode / 512 % 2 == 1
 
@@ -83,6 +101,7 @@ class_bits who attr =
     else if is_member who attr.gid then group_bits attr.mode
     else other_bits attr.mode
 
+-- the kind of a directory
 abbrev pub is_directory : Kind → Bool
 is_directory Dir = true
 is_directory File = false

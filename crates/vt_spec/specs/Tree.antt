@@ -22,6 +22,7 @@ pub data Content (N : Type 0) : Type 0 where
   Symlink : (text : List ℕ) → Content N
   Whiteout : Content N
 
+-- an inode: its attributes, and what it holds: inode(7)
 pub record Node (N : Type 0) : Type 0 where
   pub attr : Attr
   pub content : Content N
@@ -36,6 +37,7 @@ abbrev pub name_cmp : List ℕ → List ℕ → Rattle.std.specs.declared.cmp.Or
 name_cmp = slice_cmp nat_cmp
 
 module _ {N : Type 0} where
+  -- the kind of an inode: inode(7)
   abbrev pub kind_of : Content N → Kind
   kind_of (Directory parent entries opaque) = Dir
   kind_of (Regular bytes) = File
@@ -50,12 +52,14 @@ module _ {N : Type 0} where
   abbrev pub with_entry : List ℕ → N → Entries N → Entries N
   with_entry name number entries = put name_cmp name number entries
 
+  -- the entries of a directory; of anything else none
   abbrev pub entries_of : Content N → Entries N
   entries_of (Directory parent entries opaque) = entries
   entries_of (Regular bytes) = []
   entries_of (Symlink text) = []
   entries_of Whiteout = []
 
+  -- the bytes of a file, or the text of a symlink; of anything else none
   abbrev pub bytes_of : Content N → List ℕ
   bytes_of (Directory parent entries opaque) = []
   bytes_of (Regular bytes) = bytes
@@ -76,22 +80,26 @@ module _ {N : Type 0} where
   with_bytes (Symlink text) bytes = Symlink text
   with_bytes Whiteout bytes = Whiteout
 
-  -- a new directory below a parent
+  -- a new, empty directory with this parent
   abbrev pub new_directory : N → Content N
   new_directory parent = Directory parent [] false
 
+  -- an inode that exists and is a directory
   abbrev pub is_directory_node : Option (Node N) → Bool
   is_directory_node None = false
   is_directory_node (Some node) = is_directory (kind_of node.content)
 
+  -- its entries; of a missing inode none
   abbrev pub entries_in : Option (Node N) → Entries N
   entries_in None = []
   entries_in (Some node) = entries_of node.content
 
+  -- its bytes or its text; of a missing inode none
   abbrev pub bytes_in : Option (Node N) → List ℕ
   bytes_in None = []
   bytes_in (Some node) = bytes_of node.content
 
+  -- the names of a directory, in the order of their bytes
   abbrev pub names_in : Option (Node N) → List (List ℕ)
   names_in node = map (λ e. e.0) (entries_in node)
 
@@ -102,10 +110,12 @@ module _ {N : Type 0} where
   parent_of own (Symlink text) = own
   parent_of own Whiteout = own
 
+  -- the parent of a directory; of anything else, and of a missing inode, the number given
   abbrev pub parent_in : N → Option (Node N) → N
   parent_in own None = own
   parent_in own (Some node) = parent_of own node.content
 
+  -- a directory with one entry more
   abbrev pub node_with_entry : List ℕ → N → Option (Node N) → Option (Node N)
   node_with_entry name number None = None
   node_with_entry name number (Some node) =
@@ -115,6 +125,7 @@ module _ {N : Type 0} where
             (with_entry name number (entries_of node.content));
       })
 
+  -- a file with other bytes
   abbrev pub node_with_bytes : List ℕ → Option (Node N) → Option (Node N)
   node_with_bytes bytes None = None
   node_with_bytes bytes (Some node) = Some (record { attr = node.attr; content = with_bytes node.content bytes })

@@ -1,11 +1,9 @@
 -- How often tasks use locations and namespaces, where one of them changes.
-use Rattle.std.proofs.Common.{◌≡◌, ◌≢◌, ◌<◌, ℕ, ◌+◌, ◌||◌, Bool, true, false, cond, List, [], ◌∷◌, ◌++◌, filter, map, nat_eq, not, Some, refl, sym, ap, ◌∙◌, arith, eq-eqb, ne_eqb}
-use Rattle.std.specs.Prelude.{count_by, find, nat_lt}
+use Rattle.std.proofs.Common.{◌≡◌, ◌<◌, ℕ, ◌+◌, ◌||◌, Bool, true, false, cond, List, [], ◌∷◌, ◌++◌, filter, map, nat_eq, not, Some, refl, ap, ◌∙◌, arith, ne_eqb}
+use Rattle.std.specs.Prelude.{find, nat_lt}
 use Rattle.std.specs.List.{list_any}
-use Rattle.std.proofs.lemmas.Bool.{eqb-false, eqb-true, leb-true, or_parts}
+use Rattle.std.proofs.lemmas.Bool.{eqb-true, leb-true, or_parts}
 use Rattle.std.proofs.lemmas.List.Concat.{flat_map-cons}
-use Rattle.std.proofs.lemmas.List.Recursion.{is_count_by}
-use Rattle.vt_location.specs.Numbers.{counted}
 use Rattle.vt_spec.specs.Language.Calls.{TaskName, same_name}
 use Rattle.vt_spec.specs.Machine.Mounts.{Location}
 use Rattle.vt_spec.specs.Machine.Outcome.Descriptors.{free_number, inserted, with_descriptor, without_descriptor}
@@ -15,8 +13,6 @@ use Rattle.vt_spec.specs.Machine.Invariants.{are_ascending_from}
 use Rattle.vt_tasks.proofs.GivenOnce.{name-of-called}
 use Rattle.vt_tasks.proofs.TasksLemmas.{put}
 use Rattle.vt_tasks.specs.Counts.{ClosedUses, DirectoryUses, EnteredUses, ExitedTasks, ExitedUses, ForkedTasks, ForkedUses, HasTasksWhileCounted, MovedUses, OpenedUses, ReplacedTasks, ReplacedUses, RootUses, locations_in, one_if, tasks_in, times, uses}
-use Rattle.vt_tasks.specs.declared.task.Task.{Task as Held}
-use Rattle.vt_tasks.specs.TaskValue.{task_of}
 use Rattle.vt_tasks.specs.TasksValue.{AreNamedApart, Tasks, called, forked_once, replaced, without_called}
 use Rattle.vt_spec.proofs.Truths.{and_true_left, and_true_right, as_many_with_none, one_more_is_some}
 use Rattle.vt_spec.proofs.Worlds.{same_task_name}
@@ -165,32 +161,6 @@ pub tasks_in-total : (namespace : ℕ) (tasks : Tasks)
 tasks_in-total namespace [] = refl
 tasks_in-total namespace (task ∷ tasks) = ap (λ n. one_if (nat_eq namespace task.namespace) + n)
     (tasks_in-total namespace tasks)
-
-same_counts : (n k : ℕ) → nat_eq (counted n) (counted k) ≡ nat_eq k n
-same_counts n k = by (nat_eq k n) (eqb-true k n) (eqb-false k n)
-  where
-    by : (b : Bool) → (b ≡ true → k ≡ n) → (b ≡ false → k ≢ n) → nat_eq (counted n) (counted k) ≡ b
-    by true same apart = eq-eqb (counted n) (counted k) (ap counted (sym (same refl)))
-    by false same apart = ne_eqb (counted n) (counted k) (λ e. apart refl (omega (arith, e)))
-
--- the tasks in a namespace, by the count of that
-pub tasks_in-values : (count : ℕ) (tasks : List Held)
-    → tasks_in (counted count) (map task_of tasks) ≡ count_by (λ task. nat_eq task.namespace.count count) tasks
-tasks_in-values count tasks =
-    is_count_by (λ others. tasks_in (counted count) (map task_of others))
-    (λ task. nat_eq task.namespace.count count) refl more tasks
-  where
-    by : (b : Bool) (n : ℕ) → one_if b + n ≡ cond b (1 + n) n
-    by true n = refl
-    by false n = omega arith
-
-    more : (task : Held) (others : List Held)
-        → tasks_in (counted count) (map task_of (task ∷ others))
-        ≡ cond (nat_eq task.namespace.count count) (1 + tasks_in (counted count) (map task_of others))
-        (tasks_in (counted count) (map task_of others))
-    more task others =
-        ap (λ b. one_if b + tasks_in (counted count) (map task_of others)) (same_counts count task.namespace.count)
-        ∙ by (nat_eq task.namespace.count count) (tasks_in (counted count) (map task_of others))
 
 -- Open files
 

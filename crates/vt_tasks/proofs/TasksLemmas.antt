@@ -7,7 +7,7 @@ use Rattle.std.specs.Cmp.Lexicographic.{pointwise}
 use Rattle.std.proofs.lemmas.Cmp.{nat_list_eq_equiv}
 use Rattle.std.specs.List.{AllByRecursion, IsDistinct, list_all}
 use Rattle.std.proofs.lemmas.Map.Keys.{IsDistinct-head, IsDistinct-tail}
-use Rattle.std.specs.Map.{keys_of, lookup, remove_entry, set_value, values_of}
+use Rattle.std.specs.Map.{keys_of, lookup, remove_entry, set_value}
 use Rattle.indexmap.specs.IndexMap.{IndexMap, IsUnique, WritesThrough, get_by, insert_entry}
 use Rattle.indexmap.proofs.CallerLemmas.{insert_entry-new}
 use Rattle.vt_spec.specs.declared.errors.Deny.{Deny}
@@ -41,10 +41,6 @@ module _ {A : Type 0} where
 
   abbrev pub is_key : TaskName → Vec ℕ A → Bool
   is_key name key = pointwise nat_eq name key.items
-
-  pub tasks-values : (es : List (Vec ℕ A × Held)) → map task_of (values_of es) ≡ tasks_of es
-  tasks-values [] = refl
-  tasks-values (e ∷ es) = ap (λ l. task_of e.1 ∷ l) (tasks-values es)
 
   -- a name finds the task that it is under
   pub called-tasks : (name : TaskName) (es : List (Vec ℕ A × Held)) → AreKeyed es

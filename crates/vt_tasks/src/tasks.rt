@@ -12,10 +12,9 @@ ghost use Rattle.vt_cred.specs.Caps.{capability_bits};
 ghost use Rattle.vt_location.specs.Locations.{location_of};
 ghost use Rattle.vt_location.specs.MountValue.{mount_of};
 ghost use Rattle.vt_location.specs.Numbers.{counted};
-ghost use Rattle.vt_tasks.specs.Counts.{tasks_in};
 ghost use Rattle.vt_tasks.specs.Open.{numbered};
 ghost use Rattle.vt_tasks.specs.TaskValue.{task_of};
-ghost use Rattle.vt_tasks.specs.TasksValue.{AreNamedApart, MayFork, MayOpenMore, called, changed_called, first_task_at, forked, has_files_in_order, left_by, left_of, with_open, without_called};
+ghost use Rattle.vt_tasks.specs.TasksValue.{MayFork, MayOpenMore, called, changed_called, first_task_at, forked, has_files_in_order, left_by, left_of, with_open, without_called};
 
 use crate::descriptors::OpenFile;
 use crate::task::{Left, Task};
@@ -61,13 +60,6 @@ impl Tasks {
         Ok(Tasks { by_name })
     }
 
-    /// A theorem, which does nothing: no two tasks have the same name.
-    pub fn names_are_apart(&self)
-        ensures { AreNamedApart self.now }
-    {
-        let _ = &self.by_name;
-    }
-
     /// A theorem, which does nothing: each task has its open files in the order of their numbers.
     pub fn files_are_in_order(&self)
         ensures { list_all has_files_in_order self.now ≡ true }
@@ -89,23 +81,6 @@ impl Tasks {
     {
         let task = self.get(name)?;
         Some(task.namespace)
-    }
-
-    /// The tasks, in their order.
-    pub fn all(&self) -> &[Task]
-        ensures { map task_of result.now ≡ self.now }
-    {
-        self.by_name.values().as_slice()
-    }
-
-    /// How many tasks are in a namespace.
-    pub fn count_in(&self, namespace: NamespaceId) -> usize
-        ensures { result ≡ tasks_in (counted namespace.count) self.now }
-    {
-        self.by_name
-            .values()
-            .filter(|task| task.namespace == namespace)
-            .count()
     }
 
     /// Sets the umask of a task: umask(2). It does not allocate.

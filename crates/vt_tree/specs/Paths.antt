@@ -4,7 +4,7 @@ use Rattle.vt_spec.specs.FileTree.{FileTree, named_parent, own_name}
 use Rattle.vt_spec.specs.Lists.{before_first, chain, is_among, when}
 use Rattle.vt_spec.specs.Inodes.{Inodes, tree_of}
 use Rattle.vt_spec.specs.Tree.{Tree, is_directory_node}
-use Rattle.vt_spec.specs.TreeLaws.{entry_at}
+use Rattle.vt_spec.specs.TreeInvariant.{entry_at}
 
 -- the tree of some inodes, its numbers aside
 abbrev pub files_of : {N : Type 0} → Inodes N → FileTree N

@@ -2,3 +2,4 @@
 pub mod SettledMounts
 pub mod SettledSeen
 pub mod SettledTasks
+pub mod SweptOnce

@@ -4,3 +4,4 @@ pub mod Filesystems
 pub mod Kept
 pub mod Permits
 pub mod Tasks
+pub mod Swept

@@ -26,7 +26,7 @@ use Rattle.vt_spec.specs.Machine.Run.{Serves}
 use Rattle.vt_spec.specs.Machine.Settled.{mount_lives}
 use Rattle.vt_spec.specs.Machine.World.{Filesystem, World, files_at, filesystem_at, filesystem_numbered, mount_at, mount_numbered, no_filesystem}
 use Rattle.vt_spec.specs.Tree.{entries_in, entry_named, is_directory_node}
-use Rattle.vt_spec.specs.TreeLaws.{entry_at}
+use Rattle.vt_spec.specs.TreeInvariant.{entry_at}
 use Rattle.vt_spec.proofs.Lists.{Among, among-filter, among-from_filter, among_from_list_all, any_from_among}
 use Rattle.vt_spec.proofs.Nodes.{directory_used}
 use Rattle.vt_letting_go.proofs.leaving.PlacesLeft.{nowhere_parts}

@@ -20,7 +20,7 @@ use Rattle.vt_spec.specs.Machine.Run.{Serves}
 use Rattle.vt_spec.specs.Machine.Walk.{hop, is_lost, parent_location}
 use Rattle.vt_spec.specs.Machine.World.{Task, World, files_at, filesystem_at, filesystem_numbered, mount_at, mount_numbered, node_at}
 use Rattle.vt_spec.specs.Tree.{Tree, entries_in, entry_named, is_directory_node, parent_in}
-use Rattle.vt_spec.specs.TreeLaws.{entry_at}
+use Rattle.vt_spec.specs.TreeInvariant.{entry_at}
 use Rattle.vt_spec.proofs.Lists.{Among, among-filter, among_from_list_all, any_from_among}
 use Rattle.vt_spec.proofs.Nodes.{directory_used, none_is_not}
 use Rattle.vt_spec.proofs.Trees.{reached_named}

@@ -28,7 +28,7 @@ use Rattle.vt_spec.specs.Machine.Walk.{hop}
 use Rattle.vt_spec.specs.Machine.World.{Task, World, files_at, filesystem_numbered, mount_at, node_at, task_called}
 use Rattle.vt_spec.specs.Rights.{Credentials, allows}
 use Rattle.vt_spec.specs.Tree.{Node, Tree, bytes_in, entries_in, entry_named, is_directory_node, node_with_entry, parent_in}
-use Rattle.vt_spec.specs.TreeLaws.{IsReached, entry_at, led}
+use Rattle.vt_spec.specs.TreeInvariant.{IsReached, entry_at, led}
 use Rattle.vt_spec.proofs.Lists.{Among, among_from_list_all, contains_from_among}
 use Rattle.vt_spec.proofs.Nodes.{directory_used, none_is_not, parent-node_with_entry}
 use Rattle.vt_spec.proofs.Trees.{found, led-append}

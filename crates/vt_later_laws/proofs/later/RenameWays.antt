@@ -18,7 +18,7 @@ use Rattle.vt_spec.specs.Machine.Run.{Serves}
 use Rattle.vt_spec.specs.Machine.Walk.{hop, is_lost, parent_location}
 use Rattle.vt_spec.specs.Machine.World.{Task, World, files_at, filesystem_numbered, mount_at, mount_numbered, node_at}
 use Rattle.vt_spec.specs.Tree.{Tree, entries_in, entry_named, is_directory_node, parent_in}
-use Rattle.vt_spec.specs.TreeLaws.{IsReached, entry_at, led}
+use Rattle.vt_spec.specs.TreeInvariant.{IsReached, entry_at, led}
 use Rattle.vt_spec.proofs.Nodes.{directory_used, none_is_not}
 use Rattle.vt_spec.proofs.Trees.{found, last_step, reached_named}
 use Rattle.vt_layer_laws.proofs.views.Moves.{led_parts}

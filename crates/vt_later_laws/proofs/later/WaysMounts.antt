@@ -13,7 +13,7 @@ use Rattle.vt_spec.specs.Machine.World.{Task, World, mount_at, mount_numbered}
 use Rattle.vt_spec.proofs.Lists.{Among, among-filter, among-from_filter, among_from_all, among_from_list_all, chain_ends, chain_goes_on, last_of_chain}
 use Rattle.vt_spec.proofs.Nodes.{none_is_not}
 use Rattle.vt_mount_laws.specs.Mounts.Attaching.{numbers_of}
-use Rattle.vt_mount_laws.specs.Mounts.Conditions.{OneNumberEach}
+use Rattle.vt_mount_laws.specs.Mounts.Invariants.{OneNumberEach}
 use Rattle.vt_mount_laws.specs.Mounts.Unmounting.{KeepsAllButPlaceAndType}
 use Rattle.vt_mount_laws.proofs.mounts.MountsFound.{found_in, found_there, placed_among, unfound}
 use Rattle.vt_mount_laws.proofs.mounts.MountsKept.{taking_away_keeps_numbers}

@@ -12,7 +12,7 @@ use Rattle.vt_spec.specs.Machine.Rightful.{node_allows}
 use Rattle.vt_spec.specs.Rights.{Credentials, allows}
 use Rattle.vt_spec.specs.Tree.{Content, Node, Tree, entries_in, entry_named, is_directory_node, kind_of, parent_in}
 use Rattle.vt_spec.specs.Tree.Content.{Directory, Regular, Symlink, Whiteout}
-use Rattle.vt_spec.specs.TreeLaws.{entry_at}
+use Rattle.vt_spec.specs.TreeInvariant.{entry_at}
 use Rattle.vt_spec.proofs.Nodes.{entry_named-without_entry}
 use Rattle.vt_tree_laws.specs.Trees.{MayRemove}
 use Rattle.vt_tree_laws.proofs.trees.ChangesNodes.{elsewhere, own_parent-node_with_parent, part_stays, there}

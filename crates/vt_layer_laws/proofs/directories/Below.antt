@@ -5,7 +5,7 @@ use Rattle.vt_spec.specs.FileTree.{FileTree, has_entry_to, is_directory_under, i
 use Rattle.vt_spec.specs.Lists.{chain, is_among}
 use Rattle.vt_spec.specs.Machine.Invariants.{ListsNumbers}
 use Rattle.vt_spec.specs.Tree.{is_directory_node}
-use Rattle.vt_spec.specs.TreeLaws.{IsDirectory, IsTree, entry_at, led}
+use Rattle.vt_spec.specs.TreeInvariant.{IsDirectory, IsTree, entry_at, led}
 use Rattle.vt_spec.proofs.Nodes.{directory_used}
 use Rattle.vt_layer_laws.proofs.layers.UpperChain.{depth_below, up_at_root, up_from}
 use Rattle.vt_layer_laws.proofs.layers.UpperLine.{ReachedIn, has_entries, is_reached_in}

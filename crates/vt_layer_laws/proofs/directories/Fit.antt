@@ -16,7 +16,7 @@ use Rattle.vt_spec.specs.Machine.Invariants.{IsWorld, ListsNumbers, is_fit_files
 use Rattle.vt_spec.specs.PathText.{is_empty}
 use Rattle.vt_spec.specs.Tree.{Content, Entries, Node, bytes_in, entries_in, entry_named, name_cmp, names_in}
 use Rattle.vt_spec.specs.Tree.Content.{Directory, Regular, Symlink, Whiteout}
-use Rattle.vt_spec.specs.TreeLaws.{entry_at, led}
+use Rattle.vt_spec.specs.TreeInvariant.{entry_at, led}
 use Rattle.vt_spec.proofs.Nodes.{same_name}
 use Rattle.vt_layer_laws.specs.Layers.Mounted.{AreLayers}
 use Rattle.vt_layer_laws.specs.Layers.NewOverlays.{NewOverlayHasOwnParents, NewOverlayIsFit, NewOverlayIsTree, NewOverlayListsNumbers}

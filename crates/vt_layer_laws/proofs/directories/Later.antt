@@ -14,7 +14,7 @@ use Rattle.vt_spec.specs.Machine.World.{Filesystem, Layer, Overlay, Real, World,
 use Rattle.vt_spec.specs.Machine.World.Real.{Below, Upper}
 use Rattle.vt_spec.specs.Machine.Invariants.{IsWorld, ListsNumbers, is_plain_layer}
 use Rattle.vt_spec.specs.Tree.{is_directory_node}
-use Rattle.vt_spec.specs.TreeLaws.{IsTree, led}
+use Rattle.vt_spec.specs.TreeInvariant.{IsTree, led}
 use Rattle.vt_layer_laws.specs.Layers.Mounted.{AreLayers}
 use Rattle.vt_layer_laws.proofs.directories.Below.{led_below}
 use Rattle.vt_layer_laws.proofs.layers.ShownMerged.{InLayer, inodes}

@@ -10,7 +10,7 @@ use Rattle.vt_spec.specs.Machine.Invariants.{ListsNumbers}
 use Rattle.vt_spec.specs.Rights.{is_directory}
 use Rattle.vt_spec.specs.Tree.{Content, Tree, entries_in, entries_of, entry_named, is_directory_node, kind_of, name_cmp, parent_in, parent_of}
 use Rattle.vt_spec.specs.Tree.Content.{Directory, Regular, Symlink, Whiteout}
-use Rattle.vt_spec.specs.TreeLaws.{HasName, HasOwnParents, IsDirectory, IsTree, entry_at, led}
+use Rattle.vt_spec.specs.TreeInvariant.{HasName, HasOwnParents, IsDirectory, IsTree, entry_at, led}
 use Rattle.vt_layer_laws.proofs.directories.Order.{entries_in_order}
 use Rattle.vt_layer_laws.proofs.layers.ShownDirectories.{AreOpen, last_of, longer_is_not_empty, shown_in_directory}
 use Rattle.vt_layer_laws.proofs.layers.ShownMerged.{InLayer, LeadsTo, entry_leads, in_layer, inodes, layer_node_of, number, objects, one_number}

@@ -8,7 +8,7 @@ use Rattle.vt_spec.specs.Lists.{fronts, then_some, when}
 use Rattle.vt_spec.specs.Machine.Views.{Shown, View, cuts, hides, node_led, shown, shown_from, shown_over}
 use Rattle.vt_spec.specs.Rights.{is_directory}
 use Rattle.vt_spec.specs.Tree.{Node, Tree, is_directory_node, kind_of}
-use Rattle.vt_spec.specs.TreeLaws.{entry_at, led}
+use Rattle.vt_spec.specs.TreeInvariant.{entry_at, led}
 use Rattle.vt_layer_laws.specs.Layers.Directories.{AreViews, DirectoriesAreMerged, IsView, LayersAreViews, MergedAreViews, PlacedShowTheSame, PlacedView, PlacesAreCountedBack, ShownUnderName, counted_back, directories_under, directory_over, merged_over, merged_under, placed_from, placed_view, shown_in, view_under}
 use Rattle.vt_layer_laws.proofs.layers.ShownDirectories.{led_is_there}
 use Rattle.vt_layer_laws.proofs.layers.ShownFronts.{front_found, list_any_of_map}

@@ -7,7 +7,7 @@ use Rattle.vt_spec.specs.Lists.{Fresh, then_some}
 use Rattle.vt_spec.specs.Machine.World.{Real, upper_object}
 use Rattle.vt_spec.specs.Machine.World.Real.{Upper}
 use Rattle.vt_spec.specs.Tree.{Content, Node, entries_in, entry_named, is_directory_node, new_directory, node_with_bytes, node_with_entry}
-use Rattle.vt_spec.specs.TreeLaws.{IsDirectory, IsTree, entry_at}
+use Rattle.vt_spec.specs.TreeInvariant.{IsDirectory, IsTree, entry_at}
 use Rattle.vt_spec.specs.Machine.Invariants.{number_at_path}
 use Rattle.vt_spec.proofs.Nodes.{node_set}
 use Rattle.vt_spec.proofs.Trees.{led-append}

@@ -9,7 +9,7 @@ use Rattle.vt_spec.specs.Lists.{Fresh, chain, is_among}
 use Rattle.vt_spec.specs.Machine.World.{Real, upper_object}
 use Rattle.vt_spec.specs.Machine.World.Real.{Upper}
 use Rattle.vt_spec.specs.Tree.{Node, entries_in, is_directory_node, node_with_entry}
-use Rattle.vt_spec.specs.TreeLaws.{IsTree, entry_at}
+use Rattle.vt_spec.specs.TreeInvariant.{IsTree, entry_at}
 use Rattle.vt_spec.proofs.Nodes.{directory_used, node_set}
 use Rattle.vt_layer_laws.specs.Layers.ChangesUpper.{IsCopyOf, IsFitToChange}
 use Rattle.vt_layer_laws.proofs.layers.CopyingChanges.{no_loop, path_to}

@@ -12,7 +12,7 @@ use Rattle.vt_spec.specs.Lists.{Fresh}
 use Rattle.vt_spec.specs.Rights.{is_directory}
 use Rattle.vt_spec.specs.Tree.{Content, Entries, Node, entries_in, entries_of, entry_named, is_directory_node, kind_of, name_cmp, node_with_entry, with_entries, with_entry}
 use Rattle.vt_spec.specs.Tree.Content.{Directory, Regular, Symlink, Whiteout}
-use Rattle.vt_spec.specs.TreeLaws.{entry_at}
+use Rattle.vt_spec.specs.TreeInvariant.{entry_at}
 use Rattle.vt_spec.proofs.Nodes.{entries-node_with_entry, entry_named-with_entry, entry_named-without_entry, node_set, same_name}
 use Rattle.vt_layer_laws.specs.Layers.ChangesUpper.{IsLeftBy}
 use Rattle.vt_layer_laws.proofs.layers.CopyingParts.{KeepsButNames, entry_keeps, parent_keeps, without_entries_keeps, without_entry_keeps}

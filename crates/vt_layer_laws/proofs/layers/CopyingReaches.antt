@@ -9,7 +9,7 @@ use Rattle.vt_spec.specs.Machine.World.{Real, upper_object}
 use Rattle.vt_spec.specs.Machine.World.Real.{Upper}
 use Rattle.vt_spec.specs.Tree.{Content, Node, bytes_of, entries_in, entry_named, is_directory_node, kind_of, node_with_entry}
 use Rattle.vt_spec.specs.Tree.Content.{Directory, Regular, Symlink, Whiteout}
-use Rattle.vt_spec.specs.TreeLaws.{entry_at}
+use Rattle.vt_spec.specs.TreeInvariant.{entry_at}
 use Rattle.vt_spec.proofs.Nodes.{node_set}
 use Rattle.vt_layer_laws.specs.Layers.ChangesUpper.{IsMadeAs, IsReachedDirectory}
 use Rattle.vt_layer_laws.proofs.layers.CopyingEach.{IsNew}

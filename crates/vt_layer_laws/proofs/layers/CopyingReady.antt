@@ -7,7 +7,7 @@ use Rattle.vt_spec.specs.Machine.CopyUp.{Merge, copied_up, directories_to, line_
 use Rattle.vt_spec.specs.FileTree.{FileTree, a_name, named_parent}
 use Rattle.vt_spec.specs.Lists.{Fresh, chain, is_among}
 use Rattle.vt_spec.specs.Machine.World.{Real, upper_object}
-use Rattle.vt_spec.specs.TreeLaws.{entry_at}
+use Rattle.vt_spec.specs.TreeInvariant.{entry_at}
 use Rattle.vt_layer_laws.specs.Layers.ChangesUpper.{IsFitToChange, StandsNow}
 use Rattle.vt_layer_laws.proofs.layers.CopyingEach.{IsNew, line_copied}
 use Rattle.vt_spec.proofs.Worlds.{stands_still}

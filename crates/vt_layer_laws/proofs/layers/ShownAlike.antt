@@ -11,7 +11,7 @@ use Rattle.vt_spec.specs.Machine.Invariants.{SameObject, same_content}
 use Rattle.vt_spec.specs.Rights.{is_directory}
 use Rattle.vt_spec.specs.Tree.{Content, Node, Tree, bytes_of, kind_of}
 use Rattle.vt_spec.specs.Tree.Content.{Directory, Regular, Symlink, Whiteout}
-use Rattle.vt_spec.specs.TreeLaws.{IsTree, entry_at, led}
+use Rattle.vt_spec.specs.TreeInvariant.{IsTree, entry_at, led}
 use Rattle.vt_spec.proofs.Nodes.{directory_used}
 use Rattle.vt_layer_laws.specs.Layers.Mounted.{AreAsOthers, IsAlike}
 use Rattle.vt_layer_laws.proofs.layers.ShownDirectories.{AreOpen}
@@ -128,7 +128,7 @@ show_alike (layer ∷ layers) (other ∷ others) as_others are_open others_open 
     cut_alike : cuts other path ≡ cuts layer path
     cut_alike = λ i. list_any (λ front. hides_alike _ _ (as_others.0 front) i) (fronts path)
 
-    alive : (one : OpenLayer ℕ) → IsTree one.tree × (Rattle.vt_spec.specs.TreeLaws.IsDirectory one.tree one.directory)
+    alive : (one : OpenLayer ℕ) → IsTree one.tree × (Rattle.vt_spec.specs.TreeInvariant.IsDirectory one.tree one.directory)
         → (object : ℕ) → at_path one path ≡ Some object → is_some (node_at_path one path) ≡ true
     alive one is object e =
         ap (λ o. is_some (then_some o one.tree.node)) e

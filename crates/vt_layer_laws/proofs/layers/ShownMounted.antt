@@ -16,7 +16,7 @@ use Rattle.vt_spec.specs.Machine.World.Real.{Below, Upper}
 use Rattle.vt_spec.specs.Machine.Invariants.{IsMerged, IsWorld, ListsNumbers, SameObject, is_plain_layer, is_there, node_shown, real_node, same_content}
 use Rattle.vt_spec.specs.Tree.{Content, Node, is_directory_node}
 use Rattle.vt_spec.specs.Tree.Content.{Directory, Regular, Symlink, Whiteout}
-use Rattle.vt_spec.specs.TreeLaws.{IsDirectory, IsTree, entry_at, led}
+use Rattle.vt_spec.specs.TreeInvariant.{IsDirectory, IsTree, entry_at, led}
 use Rattle.vt_layer_laws.specs.Layers.Mounted.{AreLayers, RemountShowsTheSame}
 use Rattle.vt_layer_laws.proofs.layers.ShownAlike.{shown_alike}
 use Rattle.vt_layer_laws.proofs.layers.ShownAtPath.{computed}

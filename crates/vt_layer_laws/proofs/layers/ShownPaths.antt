@@ -4,7 +4,7 @@ use Rattle.vt_spec.specs.FileTree.{FileTree}
 use Rattle.vt_spec.specs.Lists.{last_or}
 use Rattle.vt_spec.specs.Machine.Merging.{is_root_path}
 use Rattle.vt_spec.specs.Tree.{Tree}
-use Rattle.vt_spec.specs.TreeLaws.{IsDirectory, IsTree, entry_at, led}
+use Rattle.vt_spec.specs.TreeInvariant.{IsDirectory, IsTree, entry_at, led}
 use Rattle.vt_layer_laws.proofs.layers.ShownDirectories.{last_of}
 use Rattle.vt_layer_laws.proofs.layers.ShownNames.{last_name}
 use Rattle.vt_layer_laws.proofs.layers.UpperChain.{one_depth}

@@ -9,7 +9,7 @@ use Rattle.vt_spec.specs.Machine.Invariants.{SameObject}
 use Rattle.vt_spec.specs.Rights.{is_directory}
 use Rattle.vt_spec.specs.Tree.{Content, Entries, Node, Tree, entries_in, entries_of, entry_named, kind_of}
 use Rattle.vt_spec.specs.Tree.Content.{Directory, Regular, Symlink, Whiteout}
-use Rattle.vt_spec.specs.TreeLaws.{entry_at, led}
+use Rattle.vt_spec.specs.TreeInvariant.{entry_at, led}
 use Rattle.vt_layer_laws.proofs.layers.ShownAtPath.{computed}
 use Rattle.vt_layer_laws.proofs.layers.ShownDirectories.{AreOpen, last_of, shown_in_directory}
 use Rattle.vt_layer_laws.proofs.layers.ShownMerged.{HasInode, LeadsTo, entry_leads, has_inode, in_layer, inodes, layer_node_of, node_of, number, objects, one_directory}

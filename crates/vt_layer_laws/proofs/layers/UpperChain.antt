@@ -5,7 +5,7 @@ use Rattle.vt_spec.specs.FileTree.{FileTree, has_entry_to, named_parent}
 use Rattle.vt_spec.specs.Lists.{chain, when}
 use Rattle.vt_spec.specs.Machine.Invariants.{ListsNumbers}
 use Rattle.vt_spec.specs.Tree.{parent_in}
-use Rattle.vt_spec.specs.TreeLaws.{IsTree}
+use Rattle.vt_spec.specs.TreeInvariant.{IsTree}
 use Rattle.vt_spec.proofs.Nodes.{directory_used}
 use Rattle.vt_layer_laws.proofs.layers.UpperLine.{ReachedIn, reached_directory}
 use Rattle.vt_spec.proofs.NodeChanges.{entry_to}

@@ -8,7 +8,7 @@ use Rattle.vt_spec.specs.Lists.{Fresh, evens, odds, then_some}
 use Rattle.vt_spec.specs.Machine.World.{Real, upper_object}
 use Rattle.vt_spec.specs.Machine.Invariants.{ListsNumbers}
 use Rattle.vt_spec.specs.Tree.{Node, entries_in, entry_named, is_directory_node, node_with_bytes, node_with_entry}
-use Rattle.vt_spec.specs.TreeLaws.{IsTree, entry_at}
+use Rattle.vt_spec.specs.TreeInvariant.{IsTree, entry_at}
 use Rattle.vt_layer_laws.specs.Layers.Untouched.{IsKept}
 use Rattle.vt_layer_laws.specs.Layers.Upper.{SpeaksOfWhatIsThere}
 use Rattle.vt_layer_laws.proofs.layers.LowersKept.{kept_both, kept_elsewhere, kept_moved, kept_same}

@@ -11,7 +11,7 @@ use Rattle.vt_spec.specs.Machine.World.{Real, upper_object}
 use Rattle.vt_spec.specs.Machine.World.Real.{Below, Upper}
 use Rattle.vt_spec.specs.Machine.Invariants.{ListsNumbers}
 use Rattle.vt_spec.specs.Tree.{Entries, Tree, entries_in}
-use Rattle.vt_spec.specs.TreeLaws.{IsDirectory, entry_at, led}
+use Rattle.vt_spec.specs.TreeInvariant.{IsDirectory, entry_at, led}
 use Rattle.vt_spec.proofs.Nodes.{directory_used}
 use Rattle.vt_spec.proofs.Trees.{led-append}
 use Rattle.vt_layer_laws.specs.Layers.Shown.{IsShown}

@@ -18,7 +18,7 @@ use Rattle.vt_spec.specs.Machine.World.{Filesystem, Layer, Overlay, Real, World,
 use Rattle.vt_spec.specs.Machine.World.Real.{Below, Upper}
 use Rattle.vt_spec.specs.Machine.Invariants.{IsMerged, IsWorld, ListsNumbers, SameObject, has_fit_layers, is_plain_layer, number_at_path}
 use Rattle.vt_spec.specs.Tree.{Node, is_directory_node}
-use Rattle.vt_spec.specs.TreeLaws.{IsTree, entry_at, led}
+use Rattle.vt_spec.specs.TreeInvariant.{IsTree, entry_at, led}
 use Rattle.vt_spec.proofs.Trees.{led-append}
 use Rattle.vt_layer_laws.specs.Layers.Mounted.{AreLayers}
 use Rattle.vt_layer_laws.specs.Layers.Untouched.{IsKept, inode_in}

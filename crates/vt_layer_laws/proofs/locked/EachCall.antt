@@ -20,7 +20,7 @@ use Rattle.vt_spec.specs.Machine.Walk.{Place, directory_walk, file_walk, is_dire
 use Rattle.vt_spec.specs.Machine.World.{Descriptor, Overlay, Task, World, filesystem_at, mount_at, node_at}
 use Rattle.vt_spec.specs.Rights.{cap_sys_admin}
 use Rattle.vt_spec.specs.Tree.{Node, entries_in, entry_named}
-use Rattle.vt_spec.specs.TreeLaws.{entry_at}
+use Rattle.vt_spec.specs.TreeInvariant.{entry_at}
 use Rattle.vt_tree_laws.proofs.trees.TreesWalked.{Ends, IsOldPlace, after_ends, after_holds, ends_old_leaf_walk, place_named}
 use Rattle.vt_layer_laws.specs.Layers.Upper.{SpeaksOfWhatIsThere}
 use Rattle.vt_layer_laws.proofs.locked.Change.{IsNew, Leaves, leaves_change}

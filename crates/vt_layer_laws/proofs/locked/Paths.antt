@@ -9,7 +9,7 @@ use Rattle.vt_spec.specs.Machine.Policy.{call_outcome}
 use Rattle.vt_spec.specs.Machine.World.{Filesystem, Layer, World, filesystem_numbered, is_overlay, layers_of, no_filesystem, open_layer}
 use Rattle.vt_spec.specs.Machine.Invariants.{IsWorld, ListsNumbers, is_plain_layer}
 use Rattle.vt_spec.specs.Tree.{entry_named, is_directory_node}
-use Rattle.vt_spec.specs.TreeLaws.{IsDirectory, IsTree}
+use Rattle.vt_spec.specs.TreeInvariant.{IsDirectory, IsTree}
 use Rattle.vt_spec.proofs.Lists.{Among, among-append_left, among-append_right, among_from_contains}
 use Rattle.vt_layer_laws.specs.Layers.Locked.{AreNoInodes, LeadsAsBefore, LowerPathsAreLocked, OtherPathsStay}
 use Rattle.vt_layer_laws.specs.Layers.Untouched.{IsKept, inode_in}

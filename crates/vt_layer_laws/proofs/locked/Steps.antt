@@ -6,7 +6,7 @@ use Rattle.vt_spec.specs.declared.errors.Deny.{Deny}
 use Rattle.vt_spec.specs.declared.errors.Rule.TheVariants.{W6, W8}
 use Rattle.vt_spec.specs.Errors.{denial, unless}
 use Rattle.vt_spec.specs.Tree.{entries_in, entry_named, is_directory_node}
-use Rattle.vt_spec.specs.TreeLaws.{IsTree}
+use Rattle.vt_spec.specs.TreeInvariant.{IsTree}
 use Rattle.vt_spec.specs.Lists.{last_or}
 use Rattle.vt_spec.specs.Machine.Mounts.{Location, Mount, child_at, mount_in, no_mount, root_of, same_location, stands_at, topmost}
 use Rattle.vt_spec.specs.Machine.Walk.{Here, LastWord, Stop, entry_location, hop, hops, is_lost, is_top, parent_location, search_rules, stepped, steps_with, up_from, word_walked}

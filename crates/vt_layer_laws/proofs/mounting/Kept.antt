@@ -18,7 +18,7 @@ use Rattle.vt_spec.specs.Machine.Outcomes.{Outcome, after, granted, judged}
 use Rattle.vt_spec.specs.Machine.Walk.{Here, walk_end}
 use Rattle.vt_spec.specs.Machine.World.{Filesystem, Layer, Overlay, Task, World, filesystem_numbered, layers_of, no_filesystem}
 use Rattle.vt_spec.specs.Machine.Invariants.{IsMerged, IsWorld, ListsNumbers, OverlayInvariants, TreeInvariants, has_fit_layers, is_fit_filesystem, is_plain_layer}
-use Rattle.vt_spec.specs.TreeLaws.{HasOwnParents, IsReached, IsTree}
+use Rattle.vt_spec.specs.TreeInvariant.{HasOwnParents, IsReached, IsTree}
 use Rattle.vt_spec.proofs.Lists
 use Rattle.vt_tree_laws.proofs.trees.TreesWalked.{Passed, after_any, after_holds, judged_holds}
 use Rattle.vt_layer_laws.specs.Layers.Mounted.{AreLayers}

@@ -15,7 +15,7 @@ use Rattle.vt_spec.specs.Machine.Rules.Mounting.{layer_at}
 use Rattle.vt_spec.specs.Machine.Walk.{directory_walk, path_walked, walk_end}
 use Rattle.vt_spec.specs.Machine.World.{Filesystem, Layer, Task, World, filesystem_numbered, is_directory_at, is_removed_at, layers_of, mount_at}
 use Rattle.vt_spec.specs.Tree.{Tree, is_directory_node, parent_in}
-use Rattle.vt_spec.specs.TreeLaws.{IsDirectory, IsReached, IsTree}
+use Rattle.vt_spec.specs.TreeInvariant.{IsDirectory, IsReached, IsTree}
 use Rattle.vt_tree_laws.proofs.trees.TreesOfWorlds.{numbered_all}
 use Rattle.vt_tree_laws.proofs.trees.TreesWalked.{Ends, ends_next, ends_then, ends_unless, not_true}
 use Rattle.vt_spec.proofs.NodeChanges.{entry_from}

@@ -12,7 +12,7 @@ use Rattle.vt_spec.specs.Lists.{fronts, same_option, then_some, when}
 use Rattle.vt_spec.specs.Machine.Views.{View, cuts, node_led, shown_from, shown_over}
 use Rattle.vt_spec.specs.Tree.{Content, Node, Tree, kind_of, node_with_bytes, with_bytes}
 use Rattle.vt_spec.specs.Tree.Content.{Directory, Regular, Symlink, Whiteout}
-use Rattle.vt_spec.specs.TreeLaws.{IsDirectory, IsTree, led}
+use Rattle.vt_spec.specs.TreeInvariant.{IsDirectory, IsTree, led}
 use Rattle.vt_layer_laws.specs.Layers.Mounted.{IsAlike}
 use Rattle.vt_layer_laws.specs.Layers.Shown.{IsFrontOf}
 use Rattle.vt_layer_laws.specs.Layers.ShownAfter.{HidesAlike, IsOneKind, IsPlainChange, LeadAlikeTo, LinkIsShown, NewNameIsShown, ShownElsewhereStays, may_show}

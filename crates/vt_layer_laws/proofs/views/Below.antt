@@ -7,7 +7,7 @@ use Rattle.vt_spec.specs.FileTree.{FileTree}
 use Rattle.vt_spec.specs.Lists.{front_of, fronts, holds_of, then_some}
 use Rattle.vt_spec.specs.Machine.Views.{Shown, View, below, cuts, hides, node_led, shown_from, shown_over}
 use Rattle.vt_spec.specs.Tree.{Tree}
-use Rattle.vt_spec.specs.TreeLaws.{IsTree, entry_at, led}
+use Rattle.vt_spec.specs.TreeInvariant.{IsTree, entry_at, led}
 use Rattle.vt_layer_laws.specs.Layers.ShownAfter.{LeadAlikeTo, MovedShowsBelow, RemovedShowsBelow}
 use Rattle.vt_layer_laws.specs.Layers.Views.{goes_through, names_entry, view_after, view_in}
 use Rattle.vt_layer_laws.proofs.layers.ShownFronts.{cons_is_not_empty, front_passes, list_any_of_map}

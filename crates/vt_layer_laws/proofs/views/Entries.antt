@@ -6,7 +6,7 @@ use Rattle.std.specs.Str.{bytes_eq}
 use Rattle.vt_spec.specs.Language.Changes.{changed_node, node_without_entry, with_name, without_name}
 use Rattle.vt_spec.specs.FileTree.{FileTree}
 use Rattle.vt_spec.specs.Tree.{Node, entries_in, entry_named, node_with_entry}
-use Rattle.vt_spec.specs.TreeLaws.{IsDirectory, entry_at}
+use Rattle.vt_spec.specs.TreeInvariant.{IsDirectory, entry_at}
 use Rattle.vt_spec.proofs.Nodes.{entries-node_with_entry, entry_named-with_entry, entry_named-without_entry, part_kept}
 use Rattle.vt_spec.proofs.NodeChanges.{entries-node_without_entry}
 

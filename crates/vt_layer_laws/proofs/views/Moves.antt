@@ -6,7 +6,7 @@ use Rattle.vt_spec.specs.Language.Changes.{node_with_parent, node_without_entry,
 use Rattle.vt_spec.specs.FileTree.{FileTree}
 use Rattle.vt_spec.specs.Lists.{holds_of}
 use Rattle.vt_spec.specs.Tree.{Tree, entries_in, entry_named, is_directory_node}
-use Rattle.vt_spec.specs.TreeLaws.{IsDirectory, IsTree, entry_at, led}
+use Rattle.vt_spec.specs.TreeInvariant.{IsDirectory, IsTree, entry_at, led}
 use Rattle.vt_layer_laws.specs.Layers.Views.{MovedLeadsOn, NewLeadsAsOld, OldLeadsNowhere, ThroughIsSplit}
 use Rattle.vt_layer_laws.proofs.layers.CopyingParts.{parent_keeps, without_entry_keeps}
 use Rattle.vt_layer_laws.proofs.layers.UpperChain.{one_depth}

@@ -6,7 +6,7 @@ use Rattle.vt_spec.specs.Language.Changes.Change.{AddName, CopyUp, Make, Move, R
 use Rattle.vt_spec.specs.FileTree.{FileTree}
 use Rattle.vt_spec.specs.Lists.{then_some}
 use Rattle.vt_spec.specs.Tree.{Node, Tree, entries_in, entries_of, entry_named, is_directory_node, node_with_entry}
-use Rattle.vt_spec.specs.TreeLaws.{IsDirectory, entry_at, led}
+use Rattle.vt_spec.specs.TreeInvariant.{IsDirectory, entry_at, led}
 use Rattle.vt_spec.proofs.Nodes.{node_other, node_set}
 use Rattle.vt_layer_laws.specs.Layers.Mounted.{IsAlike}
 use Rattle.vt_layer_laws.specs.Layers.Untouched.{IsKept}

@@ -5,7 +5,7 @@ use Rattle.vt_spec.specs.Language.Changes.Change.{AddName, CopyUp, Make, Move, R
 use Rattle.vt_spec.specs.FileTree.{FileTree}
 use Rattle.vt_spec.specs.Lists.{is_among, then_some}
 use Rattle.vt_spec.specs.Tree.{Node, Tree, entries_in, entries_of, entry_named, node_with_bytes}
-use Rattle.vt_spec.specs.TreeLaws.{entry_at, led}
+use Rattle.vt_spec.specs.TreeInvariant.{entry_at, led}
 use Rattle.vt_spec.proofs.Nodes.{entries-node_with_bytes}
 use Rattle.vt_layer_laws.specs.Layers.Mounted.{IsAlike}
 use Rattle.vt_layer_laws.specs.Layers.Untouched.{IsKept, inodes_changed}

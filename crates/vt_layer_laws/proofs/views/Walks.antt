@@ -5,7 +5,7 @@ use Rattle.std.specs.Str.{bytes_eq}
 use Rattle.vt_spec.specs.Lists.{front_of, fronts, holds_of, last_or, same_option}
 use Rattle.vt_spec.specs.Machine.Views.{View}
 use Rattle.vt_spec.specs.Tree.{Tree}
-use Rattle.vt_spec.specs.TreeLaws.{entry_at, led}
+use Rattle.vt_spec.specs.TreeInvariant.{entry_at, led}
 use Rattle.vt_layer_laws.specs.Layers.Views.{goes_through, names_entry}
 use Rattle.vt_layer_laws.proofs.layers.ShownFronts.{list_any_of_map}
 use Rattle.vt_layer_laws.proofs.views.Entries.{is_entry, is_that_entry}

@@ -6,7 +6,7 @@ use Rattle.vt_spec.specs.Machine.Layers.{OpenLayer, view_of}
 use Rattle.vt_spec.specs.Lists.{then_some}
 use Rattle.vt_spec.specs.Machine.Views.{Shown, View, cuts, hides, node_led, shown, shown_over}
 use Rattle.vt_spec.specs.Tree.{Node, is_directory_node}
-use Rattle.vt_spec.specs.TreeLaws.{IsDirectory, IsTree, entry_at}
+use Rattle.vt_spec.specs.TreeInvariant.{IsDirectory, IsTree, entry_at}
 
 -- the view of one layer, from its directory or from one under it, and the place of the layer, counted from the top
 pub record PlacedView (N : Type 0) : Type 0 where

@@ -8,7 +8,7 @@ use Rattle.vt_spec.specs.Machine.Views.{Shown, View, shown}
 use Rattle.vt_spec.specs.Machine.World.{Overlay, World, open_layer, shown_layers}
 use Rattle.vt_spec.specs.Machine.Invariants.{IsWorld, SameObject, node_shown, real_shown}
 use Rattle.vt_spec.specs.Tree.{Node, Tree}
-use Rattle.vt_spec.specs.TreeLaws.{IsDirectory, entry_at, led}
+use Rattle.vt_spec.specs.TreeInvariant.{IsDirectory, entry_at, led}
 use Rattle.vt_layer_laws.specs.Layers.Directories.{AreViews, PlacedView, merged_under, placed, shown_in, shown_node}
 use Rattle.vt_layer_laws.specs.Layers.Mounted.{AreLayers}
 

@@ -8,7 +8,7 @@ use Rattle.vt_spec.specs.Lists.{Fresh, any_pair, evens, is_among}
 use Rattle.vt_spec.specs.Machine.Outcome.Mounting.{LayerPlaces, layer_rules, overlay_filesystem, with_new_filesystem}
 use Rattle.vt_spec.specs.Machine.World.{Filesystem, Overlay, World, filesystem_numbered, layers_of}
 use Rattle.vt_spec.specs.Machine.Invariants.{IsMerged, IsWorld, ListsNumbers, is_fit_filesystem, is_plain_layer, live_lowers, overlap}
-use Rattle.vt_spec.specs.TreeLaws.{HasOwnParents, IsTree}
+use Rattle.vt_spec.specs.TreeInvariant.{HasOwnParents, IsTree}
 use Rattle.vt_layer_laws.specs.Layers.Mounted.{AreLayers}
 
 -- what is said of an overlay that is made of layers

@@ -8,7 +8,7 @@ use Rattle.vt_spec.specs.FileTree.{FileTree, is_kind, is_kind_in, is_opaque_in, 
 use Rattle.vt_spec.specs.Lists.{fronts, same_option, when}
 use Rattle.vt_spec.specs.Machine.Views.{View, below, node_led, shown}
 use Rattle.vt_spec.specs.Tree.{Node, Tree, entries_of, is_directory_node, kind_of}
-use Rattle.vt_spec.specs.TreeLaws.{IsDirectory, IsTree, entry_at}
+use Rattle.vt_spec.specs.TreeInvariant.{IsDirectory, IsTree, entry_at}
 use Rattle.vt_layer_laws.specs.Layers.Shown.{IsFrontOf}
 use Rattle.vt_layer_laws.specs.Layers.Views.{CanMove, TakesName, goes_through, names_entry, view_after, view_in}
 

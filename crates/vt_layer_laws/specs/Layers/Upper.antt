@@ -10,7 +10,7 @@ use Rattle.vt_spec.specs.Machine.Mounts.{Location}
 use Rattle.vt_spec.specs.Machine.World.{Layer, Overlay, World, files_at, filesystem_at}
 use Rattle.vt_spec.specs.Machine.World.Real.{Upper}
 use Rattle.vt_spec.specs.Machine.Invariants.{IsWorld}
-use Rattle.vt_spec.specs.TreeLaws.{entry_at}
+use Rattle.vt_spec.specs.TreeInvariant.{entry_at}
 use Rattle.vt_layer_laws.specs.Layers.Untouched.{IsKept, inode_in}
 
 abbrev pub IsThere : FileTree ℕ → ℕ → Type 0

@@ -11,7 +11,7 @@ use Rattle.vt_spec.specs.Machine.Layers.{View, view_of}
 use Rattle.vt_spec.specs.Lists.{front_of, fronts, is_among, is_empty_list, last_or, same_option}
 use Rattle.vt_spec.specs.Machine.Views.{node_led, shown}
 use Rattle.vt_spec.specs.Tree.{Node, Tree, entries_in, entries_of, is_directory_node, node_with_bytes}
-use Rattle.vt_spec.specs.TreeLaws.{IsDirectory, IsTree, entry_at, led}
+use Rattle.vt_spec.specs.TreeInvariant.{IsDirectory, IsTree, entry_at, led}
 use Rattle.vt_layer_laws.specs.Layers.Mounted.{IsAlike}
 
 -- the view of a layer whose directory is this one of a tree

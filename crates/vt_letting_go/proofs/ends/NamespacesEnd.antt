@@ -2,19 +2,21 @@
 use Rattle.std.proofs.Common.{◌≡◌, refl, sym, ap, ◌∙◌, ⊎_elim, ℕ, zero, suc, nat_eq, eqb-true, eq-eqb, Bool, true, false, cond, not, ◌||◌, ◌&&◌, ◌+◌, ◌++◌, ◌≤◌, List, [], ◌∷◌, filter, length, map, Option, Some, None, option_map, option_to_list, arith}
 use Rattle.std.specs.Prelude.{nat_lt}
 use Rattle.std.specs.List.{list_all, list_any}
+use Rattle.std.proofs.Math.Bool.{or-false}
 use Rattle.std.proofs.lemmas.Bool.{and_parts, cases_Bool}
 use Rattle.std.proofs.lemmas.Bool.Decides.{nat_tests}
 use Rattle.vt_spec.specs.Language.Limits.{most_mounts}
 use Rattle.vt_spec.specs.Machine.Detach.{after_going, mount_point_of_parent, mount_point_left, taken_away}
-use Rattle.vt_spec.specs.Lists.{chain, holds_of, last_or}
+use Rattle.vt_spec.specs.Lists.{chain, holds_of, is_among, last_or}
 use Rattle.vt_spec.specs.Machine.Mounts.{Location, Mount}
 use Rattle.vt_spec.specs.Machine.Namespaces.{has_tasks, is_in_ended}
 use Rattle.vt_spec.specs.Machine.Receives.{lost_a_group, regrouped, regrouped_by}
 use Rattle.vt_spec.specs.Machine.World.{Namespace, World, mounts_of, with_mounts}
 use Rattle.vt_spec.specs.Machine.Invariants.{is_listed}
-use Rattle.vt_letting_go.specs.Ends.{AddedMountsCount, MountsAreListed, NoNamespaceEnds, OneNamespaceEnds, TooManyIsOfOne, mount_count}
-use Rattle.vt_letting_go.proofs.Lists.{Among, among-from_map, among_numbers, any_passes, fails, map_same, none_passes, nothing_passes, passes}
+use Rattle.vt_letting_go.specs.Ends.{AddedMountsCount, AddedMountsCountInNoOther, AddedMountsCountInTheirOwn, MountsAreListed, NoNamespaceEnds, OneNamespaceEnds, TooManyIsOfOne, TooManyIsOfSome, is_in, mount_count}
+use Rattle.vt_letting_go.proofs.Lists.{Among, among-from_map, among_numbers, any_passes, fails, map_same, none_passes, nothing_passes, one_passes, passes}
 use Rattle.vt_spec.proofs.Found.{filter_alike, filter_all}
+use Rattle.vt_spec.proofs.Truths.{or_false_left}
 
 -- Where nothing is taken away, places stay.
 module _ (world : World ℕ) where
@@ -140,39 +142,72 @@ one_namespace_ends world number listed empty others = λ i. record (taken_away n
         (λ mount m. ends mount m mount.namespace refl)
 
 -- How many mounts
-count_added : (p : Mount ℕ → Bool) (before added : List (Mount ℕ)) → list_all p added ≡ true
-    → length (filter p (before ++ added)) ≡ length (filter p before) + length added
-count_added p [] added all = ap length (filter_all p added (passes p added all)) ∙ omega arith
-count_added p (mount ∷ before) added all = by (p mount) (count_added p before added all)
+count_both : (p : Mount ℕ → Bool) (before added : List (Mount ℕ))
+    → length (filter p (before ++ added)) ≡ length (filter p before) + length (filter p added)
+count_both p [] added = omega arith
+count_both p (mount ∷ before) added = by (p mount) (count_both p before added)
   where
-    by : (b : Bool) → length (filter p (before ++ added)) ≡ length (filter p before) + length added
+    by : (b : Bool) → length (filter p (before ++ added)) ≡ length (filter p before) + length (filter p added)
         → length (cond b (mount ∷ filter p (before ++ added)) (filter p (before ++ added)))
-        ≡ length (cond b (mount ∷ filter p before) (filter p before)) + length added
+        ≡ length (cond b (mount ∷ filter p before) (filter p before)) + length (filter p added)
     by true e = ap suc e ∙ omega arith
     by false e = e
 
+pub added_mounts_count_in_their_own : AddedMountsCountInTheirOwn
+added_mounts_count_in_their_own world added namespace = count_both (is_in namespace) world.mounts added
+
 pub added_mounts_count : AddedMountsCount
 added_mounts_count world added namespace all =
-    count_added (λ mount. holds_of (nat_eq namespace) mount.namespace) world.mounts added all
+    added_mounts_count_in_their_own world added namespace
+    ∙ ap (λ (list : List (Mount ℕ)). mount_count world namespace + length list)
+    (filter_all (is_in namespace) added (passes (is_in namespace) added all))
+
+pub added_mounts_count_in_no_other : AddedMountsCountInNoOther
+added_mounts_count_in_no_other world added namespace other all differ =
+    added_mounts_count_in_their_own world added other
+    ∙ ap (λ (list : List (Mount ℕ)). mount_count world other + length list)
+    (nothing_passes (is_in other) added
+    (λ mount m. elsewhere mount.namespace (passes (is_in namespace) added all mount m)))
+    ∙ omega arith
+  where
+    elsewhere : (o : Option ℕ) → holds_of (nat_eq namespace) o ≡ true → holds_of (nat_eq other) o ≡ false
+    elsewhere None e = refl
+    elsewhere (Some number) e = ap (nat_eq other) (sym (eqb-true namespace number e)) ∙ differ
 
 no_more : (most few some : ℕ) → nat_lt most few ≡ false → some ≤ few → nat_lt most some ≡ false
 no_more most few some e h = grind (arith, nat_tests)
 
-pub too_many_is_of_one : TooManyIsOfOne
-too_many_is_of_one world after namespace few same listed others =
-    ap (list_any (λ n. nat_lt most_mounts (mount_count after n.number))) same
-    ∙ by (nat_lt most_mounts (mount_count after namespace)) refl
+module _ (world after : World ℕ) where
+  abbrev overfull : ℕ → Bool
+  overfull namespace = nat_lt most_mounts (mount_count after namespace)
+
+  -- a namespace that is there is one of those that are counted
+  counted_there : (number : ℕ) → is_listed nat_eq world number ≡ true → overfull number ≡ true
+      → list_any (λ namespace. overfull namespace.number) world.namespaces ≡ true
+  counted_there number listed e =
+      let t = its_namespace world number listed in
+      any_passes (λ n. overfull n.number) world.namespaces t.0 t.1 (ap overfull (sym t.2) ∙ e)
+
+pub too_many_is_of_some : TooManyIsOfSome
+too_many_is_of_some world after namespaces few same listed others =
+    ap (list_any (λ n. overfull world after n.number)) same
+    ∙ by (list_any (overfull world after) namespaces) refl
   where
-    by : (b : Bool) → nat_lt most_mounts (mount_count after namespace) ≡ b
-        → list_any (λ n. nat_lt most_mounts (mount_count after n.number)) world.namespaces ≡ b
+    by : (b : Bool) → list_any (overfull world after) namespaces ≡ b
+        → list_any (λ n. overfull world after n.number) world.namespaces ≡ b
     by true e =
-        let t = its_namespace world namespace listed in
-        any_passes (λ n. nat_lt most_mounts (mount_count after n.number)) world.namespaces t.0 t.1
-        (ap (λ n. nat_lt most_mounts (mount_count after n)) (sym t.2) ∙ e)
+        let t = one_passes (overfull world after) namespaces e in
+        counted_there world after t.0 (passes (is_listed nat_eq world) namespaces listed t.0 t.1) t.2
     by false e =
-        none_passes (λ n. nat_lt most_mounts (mount_count after n.number)) world.namespaces (λ n m.
+        none_passes (λ n. overfull world after n.number) world.namespaces (λ n m.
         ⊎_elim
-        (λ is. ap (λ k. nat_lt most_mounts (mount_count after k)) (eqb-true n.number namespace is) ∙ e)
+        (λ is. fails (overfull world after) namespaces e n.number (among_numbers n.number namespaces is))
         (λ isnt. no_more most_mounts (mount_count world n.number) (mount_count after n.number)
         (fails (λ k. nat_lt most_mounts (mount_count world k.number)) world.namespaces few n m) (others n.number isnt))
-        (cases_Bool (nat_eq n.number namespace)))
+        (cases_Bool (is_among nat_eq n.number namespaces)))
+
+pub too_many_is_of_one : TooManyIsOfOne
+too_many_is_of_one world after namespace few same listed others =
+    too_many_is_of_some world after (namespace ∷ []) few same (ap (λ b. b && true) listed)
+    (λ other isnt. others other (or_false_left (nat_eq other namespace) false isnt))
+    ∙ or-false (overfull world after namespace)

@@ -1,22 +1,25 @@
 -- What calls that change plain trees let go of.
-use Rattle.std.proofs.Common.{◌≡◌, refl, sym, ap, subst, ◌∙◌, ◌⊎◌, inl, inr, ⊎_elim, ℕ, nat_eq, nat_lt, eq-eqb, Bool, true, false, cond, ◌&&◌, ◌||◌, List, [], ◌∷◌, flat_map, map, true≢false, Option, Some, None, is_some, option_to_list}
+use Rattle.std.proofs.Common.{◌≡◌, refl, sym, ap, subst, ◌∙◌, ◌⊎◌, inl, inr, ⊎_elim, ℕ, nat_eq, nat_lt, Bool, true, false, cond, ◌||◌, List, [], ◌∷◌, flat_map, map, true≢false, Option, Some, None, is_some, option_to_list}
 use Rattle.std.proofs.lemmas.Bool.{or_parts}
 use Rattle.std.specs.Cmp.Lexicographic.{bytes_decides}
 use Rattle.std.specs.List.{list_any}
 use Rattle.vt_spec.proofs.Lists.{among_from_contains}
+use Rattle.vt_spec.proofs.Nodes.{is_some-node_with_bytes}
+use Rattle.vt_spec.proofs.Trees.{is_tree-with_file_bytes, same_part}
 use Rattle.vt_spec.specs.FileTree.{FileTree}
 use Rattle.vt_spec.specs.Language.Changes.{Change, changed}
-use Rattle.vt_spec.specs.Language.Changes.Change.{Make, Move, Remove}
+use Rattle.vt_spec.specs.Language.Changes.Change.{Make, Move, Remove, SetBytes}
 use Rattle.vt_spec.specs.Lists.{Fresh, any_pair, evens, is_among, odds}
 use Rattle.vt_spec.specs.Machine.Detach.{mounts_on, taken_away}
 use Rattle.vt_spec.specs.Machine.Filesystems.{filesystem_changed, with_change, with_files}
-use Rattle.vt_spec.specs.Machine.Mounts.{Location, same_location}
-use Rattle.vt_spec.specs.Machine.Outcome.Descriptors.{inserted, with_descriptor}
+use Rattle.vt_spec.specs.Machine.Mounts.{Location}
+use Rattle.vt_spec.specs.Machine.Outcome.Descriptors.{inserted, overwritten, with_descriptor}
 use Rattle.vt_spec.specs.Machine.Settled.{settled}
-use Rattle.vt_spec.specs.Machine.World.{Descriptor, Filesystem, Overlay, Task, World, all_locations, filesystem_at, filesystem_numbered, files_at, is_overlay, locations_of, mount_at, replaced_if_called, replaced_if_numbered, with_task}
+use Rattle.vt_spec.specs.Machine.World.{Descriptor, Filesystem, Overlay, Task, World, all_locations, filesystem_at, filesystem_numbered, files_at, is_overlay, locations_of, mount_at, node_at, replaced_if_called, replaced_if_numbered, with_task}
 use Rattle.vt_spec.specs.Language.Calls.{Access, same_name}
+use Rattle.vt_spec.specs.Tree.{bytes_in}
 use Rattle.vt_letting_go.specs.Leaving.{is_location_among, only_these_are_left}
-use Rattle.vt_letting_go.specs.FileChanges.{FileChangesLetGo, MadeKeepsAll, MayChange, OpenedNewKeepsAll, RemovedDirectoriesLetGo, ReplacingLetsGo, TakenAndFileChangesLetGo, inodes_lost, names_lost}
+use Rattle.vt_letting_go.specs.FileChanges.{FileChangesLetGo, MadeKeepsAll, MayChange, OpenedNewKeepsAll, RemovedDirectoriesLetGo, ReplacingLetsGo, TakenAndFileChangesLetGo, WrittenPartsKeepAll, inodes_lost, names_lost}
 use Rattle.vt_letting_go.specs.InUse.{HasTrees, IsListedTree, UppersArePlain}
 use Rattle.vt_letting_go.specs.LeavingOverlays.{IsSettled}
 use Rattle.vt_letting_go.specs.MountingOverlays.{used_by_gone_with_layers}
@@ -24,11 +27,29 @@ use Rattle.vt_letting_go.specs.Overlays.{RealsAreThere, let_go_all, let_go_all_i
 use Rattle.vt_letting_go.specs.TreeChanges.{ChangesTree}
 use Rattle.vt_letting_go.specs.TreesOverlays.{in_use_of, with_filesystems, with_lost}
 use Rattle.vt_letting_go.specs.Unmounting.{numbers_of_trees}
-use Rattle.vt_letting_go.proofs.Lists.{Among, all_pass, among-flat_map, among-from_flat_map, among-map, any_passes, fails, or_first, or_second, among-from_map, among_from_all, among_numbers}
+use Rattle.vt_letting_go.proofs.leaving.PlacesLeft.{location_among}
+use Rattle.vt_letting_go.proofs.Lists.{Among, all_pass, among-flat_map, among-from_flat_map, among-map, fails, or_first, or_second, among-from_map, among_from_all, among_numbers}
 use Rattle.vt_letting_go.proofs.mounting.MountingTaken.{hands_on, shows_the_same, taken_is}
 use Rattle.vt_letting_go.proofs.leaving.NamesKept.{changes_keep_names}
+use Rattle.vt_letting_go.proofs.sweeps.InUse.{nothing_goes}
 use Rattle.vt_letting_go.proofs.sweeps.OfWorlds.{found_filesystem}
 use Rattle.vt_letting_go.proofs.leaving.TreesWithOverlays.{all_change, opened_keeps_all, reals_after, taken_and_changed_lets_go, trees_after, unnamed_go_with_overlays, uppers_after}
+
+-- what is at a location is in a tree
+tree_there : (world : World ℕ) (location : Location ℕ) → IsSettled world
+    → any_pair (λ (a b : Filesystem ℕ). nat_eq a.number b.number) world.filesystems ≡ false
+    → is_among nat_eq (mount_at nat_eq world location).filesystem
+    (map (λ filesystem. filesystem.number) world.filesystems)
+    ≡ true
+    → IsListedTree (files_at nat_eq world location)
+tree_there world location settles one is_there =
+    let number : ℕ = (mount_at nat_eq world location).filesystem in
+    let t = among-from_map (λ (f : Filesystem ℕ). f.number) world.filesystems number
+    (among_numbers number (map (λ (f : Filesystem ℕ). f.number) world.filesystems) is_there) in
+    let same : filesystem_numbered nat_eq world number ≡ t.0 = ap (filesystem_numbered nat_eq world) t.2
+    ∙ found_filesystem world.filesystems one t.0 t.1 in
+    subst (λ (f : Filesystem ℕ). IsListedTree f.files) (sym same)
+    (among_from_all (λ (g : Filesystem ℕ). IsListedTree g.files) world.filesystems settles.trees t.0 t.1)
 
 module _ (world : World ℕ) (location : Location ℕ) (change : Change ℕ) (settles : IsSettled world)
     (one : any_pair (λ (a b : Filesystem ℕ). nat_eq a.number b.number) world.filesystems ≡ false)
@@ -51,13 +72,7 @@ module _ (world : World ℕ) (location : Location ℕ) (change : Change ℕ) (se
   swap = replaced_if_numbered nat_eq (with_files (filesystem_numbered nat_eq world number) then_)
 
   listed_tree : IsListedTree tree
-  listed_tree =
-      let t = among-from_map (λ (f : Filesystem ℕ). f.number) world.filesystems number
-      (among_numbers number (map (λ (f : Filesystem ℕ). f.number) world.filesystems) is_there) in
-      let same : filesystem_numbered nat_eq world number ≡ t.0 = ap (filesystem_numbered nat_eq world) t.2
-      ∙ found_filesystem world.filesystems one t.0 t.1 in
-      subst (λ (f : Filesystem ℕ). IsListedTree f.files) (sym same)
-      (among_from_all (λ (g : Filesystem ℕ). IsListedTree g.files) world.filesystems settles.trees t.0 t.1)
+  listed_tree = tree_there world location settles one is_there
 
   changes : ChangesTree tree then_ (names_lost tree change)
   changes = changes_keep_names tree change listed_tree after may
@@ -174,6 +189,23 @@ module _ (world : World ℕ) (location : Location ℕ) (change : Change ℕ) (se
       then_tree : FileTree ℕ
       then_tree = changed nat_eq (files_at nat_eq world location) change
 
+-- Other bytes of a file leave the tree one, with the same numbers.
+rewritten_tree : (files : FileTree ℕ) (file : ℕ) (bytes : List ℕ) → IsListedTree files
+    → IsListedTree (changed nat_eq files (SetBytes file bytes))
+rewritten_tree files file bytes listed = record {
+  tree = is_tree-with_file_bytes files.tree file bytes listed.tree;
+  numbers = λ number. listed.numbers number
+      ∙ sym (same_part files.tree file bytes listed.tree is_some (is_some-node_with_bytes bytes) number);
+}
+
+pub written_parts_keep_all : WrittenPartsKeepAll
+written_parts_keep_all fresh world task file offset [] settles one there plain = nothing_goes world settles.in_use
+written_parts_keep_all fresh world task file offset (byte ∷ bytes) settles one there plain =
+    let written : List ℕ = overwritten offset (byte ∷ bytes) (bytes_in (node_at nat_eq world file)) in
+    keeps_all world file (SetBytes file.node written) settles one there plain
+    (rewritten_tree (files_at nat_eq world file) file.node written (tree_there world file settles one there)) tt refl
+    fresh
+
 pub made_keeps_all : MadeKeepsAll
 made_keeps_all fresh world task directory name node settles one there plain after made free =
     keeps_all world directory (Make directory.node name (evens fresh 0) node) settles one there plain after made
@@ -230,13 +262,6 @@ with_descriptor_keeps task file access location (inr (inr l)) =
     (with_descriptor task file access).descriptors)) (sym from.2)
     (among-map (λ (d : Descriptor ℕ). d.location) (with_descriptor task file access).descriptors from.0
     (inserted_keeps _ task.descriptors from.0 from.1))))
-
-location_among : (list : List (Location ℕ)) (location : Location ℕ) → Among location list
-    → is_location_among list location ≡ true
-location_among list location m =
-    any_passes (same_location nat_eq location) list location m
-    (ap (λ b. b && nat_eq location.node location.node) (eq-eqb location.mount location.mount refl)
-    ∙ eq-eqb location.node location.node refl)
 
 -- a task that goes to other locations leaves no location of another task
 pub replaced_leaves : (world : World ℕ) (task new : Task ℕ) (left : List (Location ℕ))

@@ -1,76 +1,25 @@
 -- Places that are left one by one, each with a sweep, or all at once.
-use Rattle.std.proofs.Common.{◌≡◌, refl, sym, ap, subst, ◌∙◌, ⊎_elim, ℕ, nat_eq, eqb-true, eq-eqb, Bool, true, false, cond, not, ◌||◌, ◌&&◌, List, [], ◌∷◌, filter, map, true≢false, flat_map, ◌++◌, Option, Some, None, is_some, option_map}
+use Rattle.std.proofs.Common.{◌≡◌, refl, sym, ap, subst, ◌∙◌, ⊎_elim, ℕ, nat_eq, eqb-true, eq-eqb, true, false, cond, List, [], ◌∷◌, filter, map, true≢false, ◌++◌, None, is_some}
 use Rattle.std.specs.Prelude.{All, filter_map}
-use Rattle.std.specs.List.{list_all, list_any}
-use Rattle.std.proofs.lemmas.Bool.{and_parts, not-true, or_cases, cases_Bool}
-use Rattle.vt_spec.specs.Lists.{holds_of, is_among}
-use Rattle.vt_spec.specs.Machine.Locked.{of_overlay, overlay_or}
+use Rattle.std.proofs.lemmas.Bool.{and_parts, or_cases}
 use Rattle.vt_spec.specs.Machine.Mounts.{Location, Mount, mount_in, root_of}
 use Rattle.vt_spec.specs.Machine.Receives.{has_members, is_member_of}
-use Rattle.vt_spec.specs.Machine.Settled.{filesystem_lives, has_layer_on, is_located, is_mounted, layers_in, located_in, mount_lives, named_in, objects_of_overlay, only_used, only_used_of, settled, used_in, without_dead_filesystems, without_dead_in, without_dead_mounts}
-use Rattle.vt_spec.specs.Machine.World.{Filesystem, Overlay, Task, World, all_locations, is_overlay, layers_of, mount_at, upper_object, with_mounts}
-use Rattle.vt_spec.specs.Machine.Invariants.{ListsNumbers}
-use Rattle.vt_letting_go.specs.InUse.{HasTrees, IsListedTree, UppersArePlain, has_upper_in, is_inode_used}
-use Rattle.vt_letting_go.specs.Leaving.{MountsStand, OneSweepForSeveral, comes_nowhere, is_location_among, with_tasks}
-use Rattle.vt_letting_go.specs.LeavingOverlays.{OneSweepForSeveralWithOverlays}
+use Rattle.vt_spec.specs.Machine.Settled.{is_located, is_mounted, located_in, mount_lives, settled, without_dead_mounts}
+use Rattle.vt_spec.specs.Machine.World.{Task, World, all_locations, is_overlay, mount_at}
+use Rattle.vt_letting_go.specs.InUse.{UppersArePlain, has_upper_in}
+use Rattle.vt_letting_go.specs.Leaving.{MountsStand, OneSweepForAll, OneSweepForSeveral, comes_nowhere, each_comes_nowhere, with_sweeps, with_tasks}
+use Rattle.vt_letting_go.specs.LeavingOverlays.{OneSweepForAllWithOverlays, OneSweepForSeveralWithOverlays}
+use Rattle.vt_letting_go.specs.OneByOne.{IsPlain}
 use Rattle.vt_letting_go.specs.Overlays.{RealsAreThere}
-use Rattle.vt_letting_go.proofs.sweeps.InUse.{layers_stay, UnusedAreEmpty, after_first, after_second, first_layers, layers-first, layers-second, layers_on, left_by, named-left, no_objects, no_upper_objects, number-first, number-left, number-second, overlay-left, root-left, second_leaves, unused_are_empty, upper-left}
-use Rattle.vt_letting_go.proofs.sweeps.Inodes.{numbers_without}
-use Rattle.vt_letting_go.proofs.Lists.{Among, all_from_among, among-append, among-append_left, among-append_right, among-filter, among-filter_map, among-flat_map, among-from_filter, among-from_filter_map, among-from_flat_map, among-from_map, among-map, among_from_all, among_numbers, any-filter, any-map, any_passes, fails, filter-map, filter_twice, flat_map-map, flat_map-of_map, flat_map_alike, flat_map_none, is_among_numbers, map_alike, map_twice, one_passes, or_first, or_second, passes}
-use Rattle.vt_letting_go.proofs.sweeps.Merged.{HasReals, left_of, reals_without, without_all, without_both}
-use Rattle.vt_letting_go.proofs.leaving.PlacesLeft.{found_in_filter, found_is_there, found_itself, is_it, place_attached}
+use Rattle.vt_letting_go.proofs.Lists.{Among, all_from_among, among-append, among-append_left, among-append_right, among-filter, among-filter_map, among-from_filter, among-from_filter_map, among-from_map, among-map, any_passes, fails, filter_twice, one_passes, or_first, or_second}
+use Rattle.vt_letting_go.proofs.sweeps.Merged.{HasReals}
+use Rattle.vt_letting_go.proofs.leaving.PlacesLeft.{found_in_filter, found_is_there, found_itself, place_attached, was_located}
 use Rattle.vt_letting_go.proofs.leaving.TreesWithOverlays.{no_real}
 use Rattle.vt_spec.proofs.Worlds.{number-mount_in}
+use Rattle.vt_letting_go.proofs.SweptBetween.{SameUses, follows, one_sweep_after_both}
 
--- one of two tests that follows from the other
-pub follows : (a b : Bool) → (a ≡ true → b ≡ true) → a ≡ (b && a)
-follows true b h = sym (ap (λ c. c && true) (h refl))
-follows false true h = refl
-follows false false h = refl
-
--- the real objects of an overlay without fewer inodes
-objects_more : (some more : ℕ → Bool) (number : ℕ) (g : Filesystem ℕ) → ((k : ℕ) → some k ≡ true → more k ≡ true)
-    → (object : ℕ)
-    → Among object (objects_of_overlay nat_eq number (without_all more g))
-    → Among object (objects_of_overlay nat_eq number (without_all some g))
-objects_more some more number g within object = over g.overlay
-  where
-    over : (o : Option (Overlay ℕ))
-        → Among object (overlay_or [] (λ overlay.
-        cond (holds_of (λ layer. nat_eq number layer.filesystem) overlay.upper)
-        (filter_map (λ k. upper_object (overlay.real k)) (filter (λ k. not (more k)) g.files.numbers)) [])
-        (option_map (reals_without more) o))
-        → Among object (overlay_or [] (λ overlay.
-        cond (holds_of (λ layer. nat_eq number layer.filesystem) overlay.upper)
-        (filter_map (λ k. upper_object (overlay.real k)) (filter (λ k. not (some k)) g.files.numbers)) [])
-        (option_map (reals_without some) o))
-    over None m = absurd m
-    over (Some overlay) m = here (holds_of (λ layer. nat_eq number layer.filesystem) overlay.upper) m
-      where
-        left : (k : ℕ) (a : Bool) → some k ≡ a → not (more k) ≡ true → some k ≡ false
-        left k false e stays = e
-        left k true e stays = absurd (true≢false (sym stays ∙ ap not (within k e)))
-
-        here : (b : Bool) → Among object (cond b (filter_map (λ k. upper_object (cond (more k) None (overlay.real k)))
-            (filter (λ k. not (more k)) g.files.numbers)) [])
-            → Among object (cond b (filter_map (λ k. upper_object (cond (some k) None (overlay.real k)))
-            (filter (λ k. not (some k)) g.files.numbers)) [])
-        here false n = absurd n
-        here true n =
-            let from = among-from_filter_map (λ k. upper_object (cond (more k) None (overlay.real k)))
-            (filter (λ k. not (more k)) g.files.numbers) object n in
-            let listed = among-from_filter (λ k. not (more k)) g.files.numbers from.0 from.1 in
-            let stays = left from.0 (some from.0) refl listed.1 in
-            among-filter_map (λ k. upper_object (cond (some k) None (overlay.real k)))
-            (filter (λ k. not (some k)) g.files.numbers) from.0 object
-            (among-filter (λ k. not (some k)) g.files.numbers from.0 listed.0 (ap not stays))
-            (ap (λ b. upper_object (cond b None (overlay.real from.0))) stays
-            ∙ sym (ap (λ b. upper_object (cond b None (overlay.real from.0))) (not-true (more from.0) listed.1))
-            ∙ from.2)
-
-module _ (world : World ℕ) (tasks : List (Task ℕ)) (trees : HasTrees world) (uppers : UppersArePlain world)
-    (reals : RealsAreThere world)
-    (stand : MountsStand world) (nowhere_new : comes_nowhere world tasks ≡ true) where
+module _ (world : World ℕ) (tasks : List (Task ℕ)) (stand : MountsStand world)
+    (nowhere_new : comes_nowhere world tasks ≡ true) where
   abbrev once : World ℕ
   once = with_tasks world tasks
 
@@ -84,17 +33,13 @@ module _ (world : World ℕ) (tasks : List (Task ℕ)) (trees : HasTrees world) 
   last_mounts = filter (mount_lives nat_eq once) world.mounts
 
   -- Mounts
-  was_located : (location : Location ℕ) → Among location (all_locations once) → Among location (all_locations world)
-  was_located location m =
-      is_it (all_locations world) location
-      (passes (is_location_among (all_locations world)) (all_locations once) nowhere_new location m)
-
   lived : (mount : Mount ℕ) → mount_lives nat_eq once mount ≡ true → mount_lives nat_eq world mount ≡ true
   lived mount lives =
       ⊎_elim (λ attached. or_first (is_some mount.namespace) (is_located nat_eq world mount.number) attached)
       (λ located. let t = one_passes (λ l. nat_eq mount.number l.mount) (all_locations once) located in
       or_second (is_some mount.namespace) (is_located nat_eq world mount.number)
-      (any_passes (λ l. nat_eq mount.number l.mount) (all_locations world) t.0 (was_located t.0 t.1) t.2))
+      (any_passes (λ l. nat_eq mount.number l.mount) (all_locations world) t.0
+      (was_located world tasks nowhere_new t.0 t.1) t.2))
       (or_cases (is_some mount.namespace) (is_located nat_eq once mount.number) lives)
 
   same_mounts : filter (mount_lives nat_eq once) first_mounts ≡ last_mounts
@@ -114,137 +59,16 @@ module _ (world : World ℕ) (tasks : List (Task ℕ)) (trees : HasTrees world) 
       let t = one_passes (is_member_of nat_eq group) last_mounts has in
       any_passes (is_member_of nat_eq group) first_mounts t.0 (last_was_first t.0 t.1) t.2
 
-  same_master : (group : ℕ)
-      → cond (has_members nat_eq (filter (mount_lives nat_eq once) first_mounts) group)
-      (cond (has_members nat_eq first_mounts group) (world.master group) None) None
-      ≡ cond (has_members nat_eq last_mounts group) (world.master group) None
-  same_master group =
-      ap (λ mounts. cond (has_members nat_eq mounts group)
-      (cond (has_members nat_eq first_mounts group) (world.master group) None) None) same_mounts
-      ∙ by (has_members nat_eq last_mounts group) refl
-    where
-      by : (b : Bool) → has_members nat_eq last_mounts group ≡ b
-          → cond b (cond (has_members nat_eq first_mounts group) (world.master group) None) None
-          ≡ cond b (world.master group) None
-      by true e = ap (λ c. cond c (world.master group) None) (members_were group e)
-      by false e = refl
+  same_master : (group : ℕ) → has_members nat_eq last_mounts group ≡ true
+      → again.master group ≡ once.master group
+  same_master group has = ap (λ b. cond b (world.master group) None) (members_were group has)
 
   -- Filesystems
-  abbrev first_living : World ℕ
-  first_living = without_dead_filesystems nat_eq (without_dead_mounts nat_eq world)
-
-  abbrev once_living : World ℕ
-  once_living = without_dead_filesystems nat_eq (without_dead_mounts nat_eq once)
-
-  abbrev again_living : World ℕ
-  again_living = without_dead_filesystems nat_eq (without_dead_mounts nat_eq again)
-
   last_mounted_was : (number : ℕ) → is_mounted nat_eq (without_dead_mounts nat_eq once) number ≡ true
       → is_mounted nat_eq (without_dead_mounts nat_eq world) number ≡ true
   last_mounted_was number is =
       let t = one_passes (λ (mount : Mount ℕ). nat_eq number mount.filesystem) last_mounts is in
       any_passes (λ mount. nat_eq number mount.filesystem) first_mounts t.0 (last_was_first t.0 t.1) t.2
-
-  abbrev lives_first : Filesystem ℕ → Bool
-  lives_first f = filesystem_lives nat_eq (without_dead_mounts nat_eq world) f
-
-  abbrev lives_last : Filesystem ℕ → Bool
-  lives_last f = filesystem_lives nat_eq (without_dead_mounts nat_eq once) f
-
-  abbrev layered_by : ℕ → Filesystem ℕ → Bool
-  layered_by number merged = has_layer_on nat_eq number merged
-      && is_mounted nat_eq (without_dead_mounts nat_eq once) merged.number
-
-  lived_first : (f : Filesystem ℕ) → lives_last f ≡ true → lives_first f ≡ true
-  lived_first f lives =
-      ⊎_elim (λ here. or_first (is_mounted nat_eq (without_dead_mounts nat_eq world) f.number) _
-      (last_mounted_was f.number here))
-      (λ layered.
-      let t = one_passes (layered_by f.number) world.filesystems layered in
-      let parts = and_parts (has_layer_on nat_eq f.number t.0)
-      (is_mounted nat_eq (without_dead_mounts nat_eq once) t.0.number) t.2 in
-      or_second (is_mounted nat_eq (without_dead_mounts nat_eq world) f.number) _
-      (any_passes (λ merged. has_layer_on nat_eq f.number merged && is_mounted nat_eq
-      (without_dead_mounts nat_eq world) merged.number) world.filesystems t.0 t.1
-      (ap (λ b. b && is_mounted nat_eq (without_dead_mounts nat_eq world) t.0.number) parts.0
-      ∙ last_mounted_was t.0.number parts.1)))
-      (or_cases (is_mounted nat_eq (without_dead_mounts nat_eq once) f.number) _ lives)
-
-  -- what the first sweep leaves of a filesystem
-  abbrev swept : Filesystem ℕ → Filesystem ℕ
-  swept f = after_second world (after_first world f)
-
-  number-swept : (f : Filesystem ℕ) → (swept f).number ≡ f.number
-  number-swept f = number-second world (after_first world f) ∙ number-first world f
-
-  layers-swept : (f : Filesystem ℕ) → of_overlay [] layers_of (swept f) ≡ of_overlay [] layers_of f
-  layers-swept f = layers-second world (after_first world f) ∙ layers-first world f
-
-  first_sweep : (settled nat_eq world).filesystems ≡ map swept first_living.filesystems
-  first_sweep = map_twice (after_second world) (after_first world) first_living.filesystems
-
-  same_mounted : (number : ℕ) → is_mounted nat_eq (without_dead_mounts nat_eq again) number
-      ≡ is_mounted nat_eq (without_dead_mounts nat_eq once) number
-  same_mounted number = ap (list_any (λ mount. nat_eq number mount.filesystem)) same_mounts
-
-  same_layered : (number : ℕ)
-      → list_any (λ merged. has_layer_on nat_eq number merged
-      && is_mounted nat_eq (without_dead_mounts nat_eq again) merged.number)
-      (settled nat_eq world).filesystems
-      ≡ list_any (layered_by number) world.filesystems
-  same_layered number =
-      ap (list_any (λ merged. has_layer_on nat_eq number merged && is_mounted nat_eq
-      (without_dead_mounts nat_eq again) merged.number)) first_sweep
-      ∙ any-map (λ merged. has_layer_on nat_eq number merged && is_mounted nat_eq
-      (without_dead_mounts nat_eq again) merged.number) {q = layered_by number}
-      swept first_living.filesystems
-      (λ g. ap (λ b. b && is_mounted nat_eq (without_dead_mounts nat_eq again) (swept g).number)
-      (layers_on world number (swept g) ∙ ap (list_any (λ layer. nat_eq number layer.filesystem)) (layers-swept g)
-      ∙ sym (layers_on world number g))
-      ∙ ap (λ b. has_layer_on nat_eq number g && b) (same_mounted (swept g).number
-      ∙ ap (is_mounted nat_eq (without_dead_mounts nat_eq once)) (number-swept g)))
-      ∙ any-filter (layered_by number) lives_first world.filesystems
-      (λ g m dead. none g (layered_by number g) refl dead)
-    where
-      none : (g : Filesystem ℕ) (b : Bool) → layered_by number g ≡ b → lives_first g ≡ false
-          → layered_by number g ≡ false
-      none g false e dead = e
-      none g true e dead =
-          let parts = and_parts (has_layer_on nat_eq number g)
-          (is_mounted nat_eq (without_dead_mounts nat_eq once) g.number) e in
-          absurd (true≢false
-          (sym (or_first (is_mounted nat_eq (without_dead_mounts nat_eq world) g.number) _
-          (last_mounted_was g.number parts.1)) ∙ dead))
-
-  same_lives : (f : Filesystem ℕ) → filesystem_lives nat_eq (without_dead_mounts nat_eq again) (swept f) ≡ lives_last f
-  same_lives f =
-      ap (λ n. is_mounted nat_eq (without_dead_mounts nat_eq again) n
-      || list_any (λ merged. has_layer_on nat_eq n merged
-      && is_mounted nat_eq (without_dead_mounts nat_eq again) merged.number)
-      (settled nat_eq world).filesystems)
-      (number-swept f)
-      ∙ ap (λ b. b || list_any (λ merged. has_layer_on nat_eq f.number merged
-      && is_mounted nat_eq (without_dead_mounts nat_eq again) merged.number) (settled nat_eq world).filesystems)
-      (same_mounted f.number)
-      ∙ ap (λ b. is_mounted nat_eq (without_dead_mounts nat_eq once) f.number || b) (same_layered f.number)
-
-  same_filesystems : again_living.filesystems ≡ map swept once_living.filesystems
-  same_filesystems =
-      ap (filter (filesystem_lives nat_eq (without_dead_mounts nat_eq again))) first_sweep
-      ∙ filter-map (filesystem_lives nat_eq
-      (without_dead_mounts nat_eq again)) {q = lives_last} swept first_living.filesystems same_lives
-      ∙ ap (map swept)
-      (filter_twice lives_last lives_first lives_last
-      (λ f. follows (lives_last f) (lives_first f) (lived_first f)) world.filesystems)
-
-  -- what lives in the end lived before
-  was_living : (f : Filesystem ℕ) → Among f once_living.filesystems → Among f first_living.filesystems
-  was_living f m =
-      let from = among-from_filter lives_last world.filesystems f m in
-      among-filter lives_first world.filesystems f from.0 (lived_first f from.1)
-
-  of_world : (f : Filesystem ℕ) → Among f once_living.filesystems → Among f world.filesystems
-  of_world f m = (among-from_filter lives_last world.filesystems f m).0
 
   -- Inodes: what is at a place in the end was at one before
   found_alike : (number : ℕ) → ((mount : Mount ℕ) → Among mount world.mounts → mount.number ≡ number
@@ -267,33 +91,34 @@ module _ (world : World ℕ) (tasks : List (Task ℕ)) (trees : HasTrees world) 
   abbrev places_in : World ℕ → List (Mount ℕ) → List (Location ℕ)
   places_in other mounts = all_locations other ++ map root_of mounts ++ filter_map (λ mount. mount.mount_point) mounts
 
-  was_at : (f : Filesystem ℕ) (location : Location ℕ) → Among location (places_in world first_mounts)
-      → f.number ≡ (mount_in nat_eq first_mounts location.mount).filesystem
-      → Among location.node (located_in nat_eq first_living f.number)
+  was_at : (f : ℕ) (location : Location ℕ) → Among location (places_in world first_mounts)
+      → f ≡ (mount_in nat_eq first_mounts location.mount).filesystem
+      → Among location.node (located_in nat_eq (without_dead_mounts nat_eq world) f)
   was_at f location m e =
-      among-map (λ l. l.node) (filter (λ l. nat_eq f.number (mount_in nat_eq first_mounts l.mount).filesystem)
+      among-map (λ l. l.node) (filter (λ l. nat_eq f (mount_in nat_eq first_mounts l.mount).filesystem)
       (places_in world first_mounts)) location
-      (among-filter (λ l. nat_eq f.number (mount_in nat_eq first_mounts l.mount).filesystem)
+      (among-filter (λ l. nat_eq f (mount_in nat_eq first_mounts l.mount).filesystem)
       (places_in world first_mounts) location m
-      (eq-eqb f.number (mount_in nat_eq first_mounts location.mount).filesystem e))
+      (eq-eqb f (mount_in nat_eq first_mounts location.mount).filesystem e))
 
-  was_located_in : (f : Filesystem ℕ) (number : ℕ) → Among number (located_in nat_eq once_living f.number)
-      → Among number (located_in nat_eq first_living f.number)
+  was_located_in : (f number : ℕ) → Among number (located_in nat_eq (without_dead_mounts nat_eq once) f)
+      → Among number (located_in nat_eq (without_dead_mounts nat_eq world) f)
   was_located_in f number m =
       let from = among-from_map (λ l. l.node)
-      (filter (λ l. nat_eq f.number (mount_in nat_eq last_mounts l.mount).filesystem)
+      (filter (λ l. nat_eq f (mount_in nat_eq last_mounts l.mount).filesystem)
       (places_in once last_mounts)) number m in
-      let here = among-from_filter (λ l. nat_eq f.number (mount_in nat_eq last_mounts l.mount).filesystem)
+      let here = among-from_filter (λ l. nat_eq f (mount_in nat_eq last_mounts l.mount).filesystem)
       (places_in once last_mounts) from.0 from.1 in
-      let e : f.number ≡ (mount_in nat_eq last_mounts from.0.mount).filesystem = eqb-true f.number
+      let e : f ≡ (mount_in nat_eq last_mounts from.0.mount).filesystem = eqb-true f
       (mount_in nat_eq last_mounts from.0.mount).filesystem here.1 in
-      subst (λ n. Among n (located_in nat_eq first_living f.number)) (sym from.2)
+      subst (λ n. Among n (located_in nat_eq (without_dead_mounts nat_eq world) f)) (sym from.2)
       (⊎_elim
       (λ other. ⊎_elim
       (λ at. was_at f from.0
       (among-append_left (all_locations world ++ map root_of first_mounts)
       (filter_map (λ mount. mount.mount_point) first_mounts) from.0
-      (among-append_left (all_locations world) (map root_of first_mounts) from.0 (was_located from.0 at)))
+      (among-append_left (all_locations world) (map root_of first_mounts) from.0
+      (was_located world tasks nowhere_new from.0 at)))
       (e ∙ ap (λ x. x.filesystem) (found_alike from.0.mount (λ mount n same.
       or_second (is_some mount.namespace) (is_located nat_eq once mount.number)
       (any_passes (λ l. nat_eq mount.number l.mount) (all_locations once) from.0 at
@@ -326,318 +151,48 @@ module _ (world : World ℕ) (tasks : List (Task ℕ)) (trees : HasTrees world) 
       (among-append (all_locations once ++ map root_of last_mounts)
       (filter_map (λ mount. mount.mount_point) last_mounts) from.0 here.0))
 
-  was_layer : (filesystem number : ℕ) → Among number (layers_in nat_eq once_living filesystem)
-      → Among number (layers_in nat_eq first_living filesystem)
-  was_layer = layers_stay once_living first_living (λ f m. (f, was_living f m, refl))
-
-  -- what is used in the end is the same, with a sweep in between and without
-  same_uses : (with_sweep without : List (Filesystem ℕ)) (used : List ℕ) (f : Filesystem ℕ) → UnusedAreEmpty used f
-      → (all : Bool)
-      → ((number : ℕ) → layers_in nat_eq (record again_living { filesystems = with_sweep }) number
-      ≡ layers_in nat_eq (record once_living { filesystems = without }) number)
-      → flat_map (objects_of_overlay nat_eq f.number) with_sweep ≡ flat_map (objects_of_overlay nat_eq f.number) without
-      → used_in nat_eq (record again_living { filesystems = with_sweep }) (left_by used f all)
-      ≡ used_in nat_eq (record once_living { filesystems = without }) f
-  same_uses with_sweep without used f empty all layers objects =
-      λ i. root-left used f all i ∷ (named-left used f empty all i
-      ++ located_in nat_eq (with_mounts once (same_mounts i)) (number-left used f all i)
-      ++ (layers (left_by used f all).number ∙ ap (layers_in nat_eq (record once_living { filesystems = without }))
-      (number-left used f all)) i
-      ++ (ap (λ n. flat_map (objects_of_overlay nat_eq n) with_sweep) (number-left used f all) ∙ objects) i)
-
-  -- and a second sweep takes no less than one alone
-  swept_twice : (used later : List ℕ) (f : Filesystem ℕ) → Among f world.filesystems
-      → ((number : ℕ) → is_among nat_eq number later ≡ true → is_among nat_eq number used ≡ true)
-      → only_used_of nat_eq later (only_used_of nat_eq used f) ≡ only_used_of nat_eq later f
-  swept_twice used later f m within =
-      ap (only_used_of nat_eq later) (left_of used f numbers has)
-      ∙ left_of later (without_all went f) (numbers_without went f numbers) reals_left
-      ∙ without_both went goes goes (λ number.
-      by number (is_among nat_eq number later) refl (is_among nat_eq number used) refl) f
-      ∙ sym (left_of later f numbers has)
-    where
-      numbers : ListsNumbers nat_eq f.files
-      numbers = (among_from_all (λ g. IsListedTree g.files) world.filesystems trees f m).numbers
-
-      has : HasReals f
-      has = among_from_all HasReals world.filesystems reals f m
-
-      went : ℕ → Bool
-      went number = not (is_among nat_eq number used)
-
-      goes : ℕ → Bool
-      goes number = not (is_among nat_eq number later)
-
-      reals_left : HasReals (without_all went f)
-      reals_left number none = over f.overlay (has number) (went number) refl none
-        where
-          over : (o : Option (Overlay ℕ))
-              → (f.files.tree.node number ≡ None → overlay_or None (λ overlay. overlay.real number) o ≡ None)
-              → (b : Bool) → went number ≡ b → cond b None (f.files.tree.node number) ≡ None
-              → overlay_or None (λ overlay. overlay.real number) (option_map (reals_without went) o) ≡ None
-          over None h b e n = refl
-          over (Some overlay) h true e n = ap (λ b. cond b None (overlay.real number)) e
-          over (Some overlay) h false e n = ap (λ b. cond b None (overlay.real number)) e ∙ h n
-
-      by : (number : ℕ) (b : Bool) → is_among nat_eq number later ≡ b → (c : Bool) → is_among nat_eq number used ≡ c
-          → not (is_among nat_eq number later)
-          ≡ (not (is_among nat_eq number used) || not (is_among nat_eq number later))
-      by number b e true f = ap (λ c. not c || not (is_among nat_eq number later)) (sym f)
-      by number false e false f = ap not e ∙ ap (λ c. not c || not (is_among nat_eq number later)) (sym f)
-      by number true e false f = absurd (true≢false (sym (within number e) ∙ f))
-
-  -- what is used in the end was used before
-  used_before : (with_sweep without : World ℕ) (f : Filesystem ℕ)
-      → ((number : ℕ) → Among number (located_in nat_eq without f.number)
-      → Among number (located_in nat_eq with_sweep f.number))
-      → ((number : ℕ) → Among number (layers_in nat_eq without f.number)
-      → Among number (layers_in nat_eq with_sweep f.number))
-      → ((number : ℕ) → Among number (flat_map (objects_of_overlay nat_eq f.number) without.filesystems)
-      → Among number (flat_map (objects_of_overlay nat_eq f.number) with_sweep.filesystems))
-      → (number : ℕ) → is_inode_used without f number ≡ true → is_inode_used with_sweep f number ≡ true
-  used_before with_sweep without f located layers objects number is =
-      is_among_numbers number (used_in nat_eq with_sweep f)
-      (⊎_elim
-      (λ front. among-append_left (names ++ located_in nat_eq with_sweep f.number
-      ++ layers_in nat_eq with_sweep f.number) objects_then number
-      (⊎_elim
-      (λ first. among-append_left (names ++ located_in nat_eq with_sweep f.number)
-      (layers_in nat_eq with_sweep f.number) number
-      (⊎_elim (λ named. among-append_left names (located_in nat_eq with_sweep f.number) number named)
-      (λ at. among-append_right names (located_in nat_eq with_sweep f.number) number (located number at))
-      (among-append names (located_in nat_eq without f.number) number first)))
-      (λ layer. among-append_right (names ++ located_in nat_eq with_sweep f.number)
-      (layers_in nat_eq with_sweep f.number) number
-      (layers number layer))
-      (among-append (names ++ located_in nat_eq without f.number) (layers_in nat_eq without f.number) number front)))
-      (λ object. among-append_right (names ++ located_in nat_eq with_sweep f.number
-      ++ layers_in nat_eq with_sweep f.number) objects_then number (objects number object))
-      (among-append (names ++ located_in nat_eq without f.number ++ layers_in nat_eq without f.number)
-      (flat_map (objects_of_overlay nat_eq f.number) without.filesystems) number
-      (among_numbers number (used_in nat_eq without f) is)))
-    where
-      names : List ℕ
-      names = f.files.tree.root ∷ named_in f.files
-
-      objects_then : List ℕ
-      objects_then = flat_map (objects_of_overlay nat_eq f.number) with_sweep.filesystems
-
-  -- Overlays
-  again_layers : (number : ℕ) → layers_in nat_eq again_living number ≡ layers_in nat_eq once_living number
-  again_layers number =
-      ap (λ layers. map (λ layer. layer.directory) (filter (λ layer. nat_eq number layer.filesystem) layers))
-      (ap (flat_map (of_overlay [] layers_of)) same_filesystems ∙ flat_map-map swept
-      (of_overlay [] layers_of) once_living.filesystems layers-swept)
-
-  tree_of : (f : Filesystem ℕ) → Among f once_living.filesystems → IsListedTree f.files
-  tree_of f m = among_from_all (λ g. IsListedTree g.files) world.filesystems trees f (of_world f m)
-
-  no_upper_in : (f : Filesystem ℕ) → Among f once_living.filesystems → is_overlay f ≡ true → (g : Filesystem ℕ)
-      → Among g once_living.filesystems → has_upper_in f.number g ≡ false
-  no_upper_in f m is g n =
-      among_from_all (λ x. has_upper_in f.number x ≡ false) world.filesystems
-      (among_from_all (λ x. is_overlay x ≡ true → All (λ y. has_upper_in x.number y
-      ≡ false) world.filesystems) world.filesystems uppers f (of_world f m) is)
-      g (of_world g n)
-
-  upper-swept : (number : ℕ) (g : Filesystem ℕ) → has_upper_in number (swept g) ≡ has_upper_in number g
-  upper-swept number g = second (not (is_overlay (after_first world g))) ∙ first (is_overlay g)
-    where
-      second : (b : Bool) → has_upper_in number (only_used nat_eq (without_dead_in nat_eq is_overlay first_living) b
-          (after_first world g)) ≡ has_upper_in number (after_first world g)
-      second true = upper-left (used_in nat_eq (without_dead_in nat_eq is_overlay first_living) (after_first world g))
-          (after_first world g) number _
-      second false = refl
-
-      first : (b : Bool) → has_upper_in number (only_used nat_eq first_living b g) ≡ has_upper_in number g
-      first true = upper-left (used_in nat_eq first_living g) g number _
-      first false = refl
-
-  overlay_alike : (f : Filesystem ℕ) → Among f once_living.filesystems → is_overlay f ≡ true
-      → after_first again (swept f) ≡ after_first once f
-  overlay_alike f m is =
-      ap (λ x. only_used nat_eq again_living (is_overlay x) x) is_left
-      ∙ ap (λ b. only_used nat_eq again_living b left) (overlay-left used f all ∙ is)
-      ∙ ap (λ u. only_used_of nat_eq u left)
-      (same_uses again_living.filesystems once_living.filesystems used f
-      (unused_are_empty first_living f (tree_of f m)) all again_layers
-      (no_objects_again ∙ sym no_objects_once))
-      ∙ swept_twice used (used_in nat_eq once_living f) f (of_world f m)
-      (used_before first_living once_living f (λ n at. was_located_in f n at) (was_layer f.number)
-      (λ n object. absurd (subst (Among n) no_objects_once object)))
-      ∙ sym (ap (λ b. only_used nat_eq once_living b f) is)
-    where
-      used : List ℕ
-      used = used_in nat_eq first_living f
-
-      all : Bool
-      all = list_all (λ number. is_among nat_eq number used) f.files.numbers
-
-      left : Filesystem ℕ
-      left = only_used_of nat_eq used f
-
-      is_left : swept f ≡ left
-      is_left =
-          second_leaves world (after_first world f) (ap (λ b. is_overlay (only_used nat_eq first_living b f)) is
-          ∙ overlay-left used f all ∙ is)
-          ∙ ap (λ b. only_used nat_eq first_living b f) is
-
-      no_objects_once : flat_map (objects_of_overlay nat_eq f.number) once_living.filesystems ≡ []
-      no_objects_once =
-          flat_map_none (objects_of_overlay nat_eq f.number) once_living.filesystems
-          (λ g n. no_upper_objects world f.number g (no_upper_in f m is g n))
-
-      no_objects_again : flat_map (objects_of_overlay nat_eq f.number) again_living.filesystems ≡ []
-      no_objects_again =
-          ap (flat_map (objects_of_overlay nat_eq f.number)) same_filesystems
-          ∙ flat_map_none (objects_of_overlay nat_eq f.number) (map swept once_living.filesystems) (λ x n.
-          let from = among-from_map swept once_living.filesystems x n in
-          no_upper_objects world f.number x (ap (has_upper_in f.number) from.2 ∙ upper-swept f.number from.0
-          ∙ no_upper_in f m is from.0 from.1))
-
-  -- Plain trees
-  plain_swept : (f : Filesystem ℕ) → is_overlay f ≡ false
-      → swept f ≡ only_used_of nat_eq (used_in nat_eq (without_dead_in nat_eq is_overlay first_living) f) f
-  plain_swept f isnt =
-      ap (after_second world) (ap (λ b. only_used nat_eq first_living b f) isnt)
-      ∙ ap (λ b. only_used nat_eq (without_dead_in nat_eq is_overlay first_living) (not b) f) isnt
-
-  -- objects that overlays have in a tree
-  same_objects_of : (number : ℕ) (g : Filesystem ℕ) → Among g once_living.filesystems
-      → objects_of_overlay nat_eq number (after_first again (swept g))
-      ≡ objects_of_overlay nat_eq number (after_first once g)
-  same_objects_of number g m =
-      ⊎_elim
-      (λ is. ap (objects_of_overlay nat_eq number) (overlay_alike g m is))
-      (λ isnt. let left = ap is_overlay (plain_swept g isnt)
-      ∙ overlay-left (used_in nat_eq (without_dead_in nat_eq is_overlay first_living) g) g _ ∙ isnt in
-      ap (λ b. objects_of_overlay nat_eq number (only_used nat_eq again_living b (swept g))) left
-      ∙ no_objects world number (swept g) left
-      ∙ sym (ap (λ b. objects_of_overlay nat_eq number (only_used nat_eq once_living b g)) isnt
-      ∙ no_objects world number g isnt))
-      (cases_Bool (is_overlay g))
-
-  same_objects_in : (number : ℕ)
-      → flat_map (objects_of_overlay nat_eq number) (without_dead_in nat_eq is_overlay again_living).filesystems
-      ≡ flat_map (objects_of_overlay nat_eq number) (without_dead_in nat_eq is_overlay once_living).filesystems
-  same_objects_in number =
-      ap (λ fs. flat_map (objects_of_overlay nat_eq number) (map (after_first again) fs)) same_filesystems
-      ∙ ap (flat_map (objects_of_overlay nat_eq number)) (map_twice (after_first again) swept once_living.filesystems)
-      ∙ flat_map-of_map (objects_of_overlay nat_eq number) (λ g. after_first again (swept g)) once_living.filesystems
-      ∙ flat_map_alike (λ g. objects_of_overlay nat_eq number (after_first again (swept g)))
-      (λ g. objects_of_overlay nat_eq number (after_first once g))
-      once_living.filesystems (same_objects_of number)
-      ∙ sym (flat_map-of_map (objects_of_overlay nat_eq number) (after_first once) once_living.filesystems)
-
-  object_before : (number object : ℕ) (g : Filesystem ℕ) → Among g once_living.filesystems
-      → Among object (objects_of_overlay nat_eq number (after_first once g))
-      → Among object (objects_of_overlay nat_eq number (after_first world g))
-  object_before number object g m n =
-      ⊎_elim
-      (λ is.
-      subst (λ x. Among object (objects_of_overlay nat_eq number x))
-      (sym (ap (λ b. only_used nat_eq first_living b g) is ∙ left_of (used_in nat_eq first_living g) g numbers has))
-      (objects_more (λ k. not (is_among nat_eq k (used_in nat_eq first_living g)))
-      (λ k. not (is_among nat_eq k (used_in nat_eq once_living g))) number g
-      (λ k went. by k (is_among nat_eq k (used_in nat_eq once_living g)) refl is went) object
-      (subst (λ x. Among object (objects_of_overlay nat_eq number x))
-      (ap (λ b. only_used nat_eq once_living b g) is ∙ left_of (used_in nat_eq once_living g) g numbers has) n)))
-      (λ isnt. absurd (subst (Among object)
-      (ap (λ b. objects_of_overlay nat_eq number (only_used nat_eq once_living b g)) isnt
-      ∙ no_objects world number g isnt) n))
-      (cases_Bool (is_overlay g))
-    where
-      numbers : ListsNumbers nat_eq g.files
-      numbers = (tree_of g m).numbers
-
-      has : HasReals g
-      has = among_from_all HasReals world.filesystems reals g (of_world g m)
-
-      by : (k : ℕ) (b : Bool) → is_among nat_eq k (used_in nat_eq once_living g) ≡ b → is_overlay g ≡ true
-          → not (is_among nat_eq k (used_in nat_eq first_living g)) ≡ true
-          → not (is_among nat_eq k (used_in nat_eq once_living g)) ≡ true
-      by k false e is went = ap not e
-      by k true e is went =
-          absurd (true≢false (sym went ∙ ap not
-          (used_before first_living once_living g (λ x at. was_located_in g x at) (was_layer g.number)
-          (λ x o. absurd (subst (Among x)
-          (flat_map_none (objects_of_overlay nat_eq g.number) once_living.filesystems
-          (λ h l. no_upper_objects world g.number h (no_upper_in g m is h l))) o)) k e)))
-
-  plain_alike : (f : Filesystem ℕ) → Among f once_living.filesystems → is_overlay f ≡ false
-      → after_second again (after_first again (swept f)) ≡ after_second once (after_first once f)
-  plain_alike f m isnt =
-      ap (λ x. after_second again (after_first again x)) (plain_swept f isnt)
-      ∙ ap (λ b. after_second again (only_used nat_eq again_living b left)) left_plain
-      ∙ ap (λ b. only_used nat_eq (without_dead_in nat_eq is_overlay again_living) (not b) left) left_plain
-      ∙ ap (λ u. only_used_of nat_eq u left)
-      (same_uses (without_dead_in nat_eq is_overlay again_living).filesystems
-      (without_dead_in nat_eq is_overlay once_living).filesystems used f
-      (unused_are_empty (without_dead_in nat_eq is_overlay first_living) f (tree_of f m)) all
-      (λ n. first_layers again n ∙ again_layers n ∙ sym (first_layers once n)) (same_objects_in f.number))
-      ∙ swept_twice used (used_in nat_eq (without_dead_in nat_eq is_overlay once_living) f) f (of_world f m)
-      (used_before (without_dead_in nat_eq is_overlay first_living) (without_dead_in nat_eq is_overlay once_living) f
-      (λ n at. was_located_in f n at)
-      (λ n layer. subst (Among n) (sym (first_layers world f.number))
-      (was_layer f.number n (subst (Among n) (first_layers once f.number) layer)))
-      (λ n object. let from = among-from_flat_map (objects_of_overlay nat_eq f.number)
-      (without_dead_in nat_eq is_overlay once_living).filesystems n object in
-      let one = among-from_map (after_first once) once_living.filesystems from.0 from.1 in
-      among-flat_map (objects_of_overlay nat_eq f.number) (without_dead_in nat_eq is_overlay first_living).filesystems
-      (after_first world one.0) n
-      (among-map (after_first world) first_living.filesystems one.0 (was_living one.0 one.1))
-      (object_before f.number n one.0 one.1
-      (subst (λ x. Among n (objects_of_overlay nat_eq f.number x)) one.2 from.2))))
-      ∙ sym (ap (λ b. after_second once (only_used nat_eq once_living b f)) isnt
-      ∙ ap (λ b. only_used nat_eq (without_dead_in nat_eq is_overlay once_living) (not b) f) isnt)
-    where
-      used : List ℕ
-      used = used_in nat_eq (without_dead_in nat_eq is_overlay first_living) f
-
-      all : Bool
-      all = list_all (λ number. is_among nat_eq number used) f.files.numbers
-
-      left : Filesystem ℕ
-      left = only_used_of nat_eq used f
-
-      left_plain : is_overlay left ≡ false
-      left_plain = overlay-left used f all ∙ isnt
-
-  overlay_left_so : (f : Filesystem ℕ) → Among f once_living.filesystems → is_overlay f ≡ true
-      → after_second again (after_first again (swept f)) ≡ after_second once (after_first once f)
-  overlay_left_so f m is =
-      ap (after_second again) (overlay_alike f m is)
-      ∙ second_leaves again (after_first once f) over
-      ∙ sym (second_leaves once (after_first once f) over)
-    where
-      over : is_overlay (after_first once f) ≡ true
-      over = ap (λ b. is_overlay (only_used nat_eq once_living b f)) is
-          ∙ overlay-left (used_in nat_eq once_living f) f _ ∙ is
-
-  same_swept : (settled nat_eq again).filesystems ≡ (settled nat_eq once).filesystems
-  same_swept =
-      ap (λ fs. map (after_second again) (map (after_first again) fs)) same_filesystems
-      ∙ ap (map (after_second again)) (map_twice (after_first again) swept once_living.filesystems)
-      ∙ map_twice (after_second again) (λ f. after_first again (swept f)) once_living.filesystems
-      ∙ map_alike (λ f. after_second again (after_first again (swept f)))
-      (λ f. after_second once (after_first once f)) once_living.filesystems
-      (λ f m. ⊎_elim (overlay_left_so f m) (plain_alike f m) (cases_Bool (is_overlay f)))
-      ∙ sym (map_twice (after_second once) (after_first once) once_living.filesystems)
+  same_uses : SameUses world once again
+  same_uses = record {
+    mounts = same_mounts;
+    master = same_master;
+    mounted = last_mounted_was;
+    located = was_located_in;
+  }
 
 pub one_sweep_with_overlays : OneSweepForSeveralWithOverlays
-one_sweep_with_overlays world tasks trees uppers reals stand nowhere_new = λ i. record (with_tasks world tasks) {
-  mounts = same_mounts world tasks trees uppers reals stand nowhere_new i;
-  master = λ group. same_master world tasks trees uppers reals stand nowhere_new group i;
-  filesystems = same_swept world tasks trees uppers reals stand nowhere_new i;
-}
+one_sweep_with_overlays world tasks trees uppers reals stand nowhere_new =
+    one_sweep_after_both world world.mounts (settled nat_eq world).mounts world.master (settled nat_eq world).master
+    world.namespaces tasks trees uppers reals (same_uses world tasks stand nowhere_new)
+
+-- in a world of plain filesystems no layer is in an overlay, and nothing has a real object
+pub plain_uppers : (world : World ℕ) → IsPlain world → UppersArePlain world
+plain_uppers world plain =
+    all_from_among (λ f. is_overlay f ≡ true
+    → All (λ g. has_upper_in f.number g ≡ false) world.filesystems) world.filesystems
+    (λ f m is. absurd (true≢false (sym is ∙ fails is_overlay world.filesystems plain f m)))
+
+pub plain_reals : (world : World ℕ) → IsPlain world → RealsAreThere world
+plain_reals world plain =
+    all_from_among HasReals world.filesystems
+    (λ f m number none. no_real f (fails is_overlay world.filesystems plain f m) number)
 
 -- so it is in a world of plain filesystems
 pub one_sweep_for_several : OneSweepForSeveral
 one_sweep_for_several world tasks plain trees stand nowhere_new =
-    one_sweep_with_overlays world tasks trees
-    (all_from_among (λ f. is_overlay f ≡ true
-    → All (λ g. has_upper_in f.number g ≡ false) world.filesystems) world.filesystems
-    (λ f m is. absurd (true≢false (sym is ∙ fails is_overlay world.filesystems plain f m))))
-    (all_from_among HasReals world.filesystems
-    (λ f m number none. no_real f (fails is_overlay world.filesystems plain f m) number))
-    stand nowhere_new
+    one_sweep_with_overlays world tasks trees (plain_uppers world plain) (plain_reals world plain) stand nowhere_new
+
+-- Any number of changes
+pub one_sweep_for_all_with_overlays : OneSweepForAllWithOverlays
+one_sweep_for_all_with_overlays world [] trees uppers reals stand nowhere_new = refl
+one_sweep_for_all_with_overlays world (tasks ∷ rest) trees uppers reals stand nowhere_new =
+    ap (λ now. with_sweeps with_tasks now rest) (one_sweep_with_overlays world tasks trees uppers reals stand parts.0)
+    ∙ one_sweep_for_all_with_overlays (with_tasks world tasks) rest trees uppers reals
+    (record { one_number = stand.one_number; nowhere = stand.nowhere; on_attached = stand.on_attached }) parts.1
+  where
+    parts : (comes_nowhere world tasks ≡ true) × (each_comes_nowhere (with_tasks world tasks) rest ≡ true)
+    parts = and_parts (comes_nowhere world tasks) (each_comes_nowhere (with_tasks world tasks) rest) nowhere_new
+
+pub one_sweep_for_all : OneSweepForAll
+one_sweep_for_all world changes plain trees stand nowhere_new =
+    one_sweep_for_all_with_overlays world changes trees (plain_uppers world plain) (plain_reals world plain) stand
+    nowhere_new

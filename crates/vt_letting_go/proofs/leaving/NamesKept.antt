@@ -20,7 +20,7 @@ use Rattle.vt_spec.specs.Lists.{is_among}
 use Rattle.vt_spec.specs.Machine.Settled.{named_in}
 use Rattle.vt_spec.specs.Tree.{Content, Entries, Node, entries_in, entry_named, is_directory_node, name_cmp, node_with_bytes, node_with_entry, with_entry}
 use Rattle.vt_spec.specs.Tree.Content.{Directory, Regular, Symlink, Whiteout}
-use Rattle.vt_spec.specs.TreeLaws.{entry_at}
+use Rattle.vt_spec.specs.TreeInvariant.{entry_at}
 use Rattle.vt_letting_go.specs.FileChanges.{ChangesKeepNames, IsMade, IsMoved}
 use Rattle.vt_letting_go.specs.InUse.{IsListedTree}
 use Rattle.vt_letting_go.specs.TreeChanges.{ChangesTree}

@@ -12,9 +12,9 @@ use Rattle.vt_spec.specs.Machine.Locked.{of_overlay, overlay_or}
 use Rattle.vt_spec.specs.Machine.Settled.{filesystem_lives, has_layer_on, is_located, is_mounted, layers_in, located_in, mount_lives, named_in, objects_of_overlay, without_dead_filesystems, without_dead_mounts}
 use Rattle.vt_spec.specs.Machine.World.{Filesystem, Overlay, Task, World, all_locations, is_overlay, layers_of, mount_at}
 use Rattle.vt_letting_go.specs.InUse.{AllInUse, is_inode_used}
-use Rattle.vt_letting_go.specs.Leaving.{LeavingLetsGo, MountsStand, StayingKeepsAll, inodes_of_location, is_location_among, only_these_are_left, stands_on_attached, used_by_locations, with_tasks}
+use Rattle.vt_letting_go.specs.Leaving.{LeavingLetsGo, MountsStand, StayingKeepsAll, comes_nowhere, inodes_of_location, is_location_among, only_these_are_left, stands_on_attached, used_by_locations, with_tasks}
 use Rattle.vt_letting_go.specs.OneByOne.{FilesystemsInUseBut, GroupsInUseBut, InodesInUseBut, IsPlain, Losers, MountsInUseBut, is_inode_among, is_used_or_among}
-use Rattle.vt_letting_go.proofs.sweeps.InUse.{no_objects, used_at}
+use Rattle.vt_letting_go.proofs.sweeps.InUse.{used_at}
 use Rattle.vt_letting_go.proofs.sweeps.Inodes.{all_goes_one_by_one}
 use Rattle.vt_letting_go.proofs.Lists.{Among, all_from_among, all_pass, among-append, among-append_left, among-append_right, among-filter, among-filter_map, among-flat_map, among-from_filter, among-from_filter_map, among-from_map, among-map, among_from_all, among_numbers, any-filter, any_passes, fails, flat_map_none, found_by, is_among_numbers, none_passes, one_passes, or_first, or_second, passes}
 use Rattle.vt_spec.proofs.Found.{is_among_left}
@@ -85,6 +85,16 @@ nowhere_parts mount h e = by (is_some mount.namespace) e (is_some mount.mount_po
     by false f true k g = absurd (true≢false (sym g))
     by false f false k g = (refl, g)
 
+pub its_group : (group : ℕ) (own : Option ℕ) → holds_of (nat_eq group) own ≡ true → own ≡ Some group
+its_group group None e = absurd (true≢false (sym e))
+its_group group (Some one) e = ap Some (sym (eqb-true group one e))
+
+pub placed_is_attached : (mount : Mount ℕ) → is_nowhere_or_attached mount ≡ true → (place : Location ℕ)
+    → mount.mount_point ≡ Some place → is_some mount.namespace ≡ true
+placed_is_attached mount h place p =
+    ⊎_elim (λ is. is) (λ out. absurd (true≢false (sym (ap is_some p) ∙ (nowhere_parts mount h out).0)))
+    (cases_Bool (is_some mount.namespace))
+
 pub private_is_no_member : (group : ℕ) (mount : Mount ℕ) → is_private mount.propagation ≡ true
     → is_member_of nat_eq group mount ≡ false
 private_is_no_member group mount e = by mount.propagation e
@@ -100,6 +110,24 @@ pub is_it : (list : List (Location ℕ)) (location : Location ℕ) → is_locati
 is_it list location e =
     let t = one_passes (same_location nat_eq location) list e in
     subst (λ l. Among l list) (sym (same_location_is location t.0 t.2)) t.1
+
+pub location_among : (list : List (Location ℕ)) (location : Location ℕ) → Among location list
+    → is_location_among list location ≡ true
+location_among list location m =
+    any_passes (same_location nat_eq location) list location m
+    (λ i. eq-eqb location.mount location.mount refl i && eq-eqb location.node location.node refl i)
+
+pub comes_nowhere_itself : (world : World ℕ) → comes_nowhere world world.tasks ≡ true
+comes_nowhere_itself world =
+    all_pass (is_location_among (all_locations world)) (all_locations world) (location_among (all_locations world))
+
+-- where tasks come to no new place, each is at one where a task was
+pub was_located : (world : World ℕ) (tasks : List (Task ℕ)) → comes_nowhere world tasks ≡ true
+    → (location : Location ℕ) → Among location (all_locations (with_tasks world tasks))
+    → Among location (all_locations world)
+was_located world tasks nowhere_new location m =
+    is_it (all_locations world) location
+    (passes (is_location_among (all_locations world)) (all_locations (with_tasks world tasks)) nowhere_new location m)
 
 -- no plain filesystem keeps another
 pub no_layers : (number : ℕ) (other : World ℕ) (filesystems : List (Filesystem ℕ))

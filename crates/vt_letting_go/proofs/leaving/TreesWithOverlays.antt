@@ -33,7 +33,7 @@ use Rattle.vt_letting_go.proofs.sweeps.WithOverlays.{with_overlays_all_goes}
 use Rattle.vt_spec.proofs.Found.{is_among_left, is_among_right}
 
 -- a test of what is changed
-any_changed : {A : Type 0} (change : A → A) (p q : A → Bool) (list : List A)
+pub any_changed : {A : Type 0} (change : A → A) (p q : A → Bool) (list : List A)
     → ((x : A) → Among x list → p (change x) ≡ q x)
     → list_any p (map change list) ≡ list_any q list
 any_changed change p q [] same = refl

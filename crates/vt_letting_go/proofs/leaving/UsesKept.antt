@@ -10,7 +10,7 @@ use Rattle.vt_spec.specs.Machine.Settled.{filesystem_lives, has_layer_on, is_loc
 use Rattle.vt_spec.specs.Machine.World.{Filesystem, World, all_locations, mount_at, with_mounts}
 use Rattle.vt_letting_go.specs.Detaching.{with_changed}
 use Rattle.vt_letting_go.specs.InUse.{AllInUse, GroupsInUse, is_inode_used}
-use Rattle.vt_letting_go.specs.Keeping.{FlagsAreOfOne, FlagsKeepAll, KeepsUses, TypesKeepAll, flags_if}
+use Rattle.vt_letting_go.specs.Keeping.{FlagsAreOfOne, FlagsKeepAll, KeepsUses, SetFlagsKeepAll, TypesKeepAll, flags_if}
 use Rattle.vt_letting_go.proofs.leaving.Detached.{found-map, not_found-map}
 use Rattle.vt_letting_go.proofs.sweeps.InUse.{nothing_goes}
 use Rattle.vt_letting_go.proofs.Lists.{Among, all_from_among, all_pass, among-from_map, among_from_all, any-map, map_alike, map_twice, passes}
@@ -141,3 +141,6 @@ flags_keep_all world here flags one all =
     subst (λ w. settled nat_eq w ≡ w) (sym (flags_are_of_one world here flags one))
     (types_keep_all world (flags_if here.mount flags) world.master all (keeps_flags here.mount flags)
     (λ group none. all.groups group (sym (same_members here.mount group flags world.mounts) ∙ none)))
+
+pub set_flags_keep_all : SetFlagsKeepAll
+set_flags_keep_all fresh world task number flags = flags_keep_all world (record { mount = number; node = 0 }) flags

@@ -1,5 +1,5 @@
 -- What goes after unmounts, one or several after one another.
-use Rattle.std.proofs.Common.{◌≡◌, refl, sym, ap, subst, ◌∙◌, ◌⊎◌, inl, inr, ⊎_elim, ℕ, nat_eq, eqb-true, Bool, true, false, cond, not, ◌&&◌, List, [], ◌∷◌, filter, map, true≢false, Option, Some, None, is_some, option_map}
+use Rattle.std.proofs.Common.{◌≡◌, refl, sym, ap, subst, ◌∙◌, ◌⊎◌, inl, inr, ⊎_elim, ℕ, nat_eq, Bool, true, false, cond, not, ◌&&◌, List, [], ◌∷◌, filter, map, true≢false, Option, Some, None, is_some, option_map}
 use Rattle.std.specs.List.{list_any}
 use Rattle.std.proofs.lemmas.Bool.{false_from_ne_true, or_cases, cases_Bool}
 use Rattle.vt_spec.specs.Lists.{folded, holds_of, is_among}
@@ -20,7 +20,7 @@ use Rattle.vt_letting_go.proofs.Lists.{Among, all_pass, among-filter, among-filt
 use Rattle.vt_letting_go.proofs.mounting.MountingLosers.{Loses, StillAPlace, changed, losers_go}
 use Rattle.vt_letting_go.proofs.mounting.MountingTaken.{is_changed, nowhere_after, same_filesystem, same_namespace, same_namespaces, same_number, same_place, same_root, stays, taking_away_lets_go}
 use Rattle.vt_letting_go.proofs.mounting.MountingTaken
-use Rattle.vt_letting_go.proofs.leaving.PlacesLeft.{found_is_there, found_itself, nowhere_parts, private_is_no_member, place_attached}
+use Rattle.vt_letting_go.proofs.leaving.PlacesLeft.{found_is_there, found_itself, its_group, nowhere_parts, placed_is_attached, private_is_no_member, place_attached}
 use Rattle.std.proofs.lemmas.Bool.{or_parts}
 use Rattle.vt_spec.proofs.Worlds.{number-mount_in}
 
@@ -41,13 +41,9 @@ no_members world after gone in_use stay group among none =
     (among-filter_map (λ x. group_of x.propagation)
     (filter (λ x. is_among nat_eq x.number gone) world.mounts) mount group
     (among-filter (λ x. is_among nat_eq x.number gone) world.mounts mount m went)
-    (its_group (group_of mount.propagation) is))) ∙ among))
+    (its_group group (group_of mount.propagation) is))) ∙ among))
     (λ kept. true≢false (sym (stay mount m kept group is) ∙ none))
     (cases_Bool (is_among nat_eq mount.number gone)))))
-  where
-    its_group : (own : Option ℕ) → holds_of (nat_eq group) own ≡ true → own ≡ Some group
-    its_group None e = absurd (true≢false (sym e))
-    its_group (Some one) e = ap Some (sym (eqb-true group one e))
 
 -- So all other groups have members or no master
 groups_but : (world after : World ℕ) (gone : List ℕ) → GroupsInUse world
@@ -91,7 +87,7 @@ module _ (world : World ℕ) (gone : List ℕ) where
       })).namespace) is
 
   -- one that is in a namespace then does not go
-  does_not_go : (b : Bool) (mount : Mount ℕ) → is_some (change b mount).namespace ≡ true
+  pub does_not_go : (b : Bool) (mount : Mount ℕ) → is_some (change b mount).namespace ≡ true
       → is_going nat_eq gone mount.number ≡ false
   does_not_go b mount e = false_from_ne_true (is_going nat_eq gone mount.number)
       (λ is. true≢false (sym e ∙ outside b mount is))
@@ -285,11 +281,7 @@ module _ (world now : World ℕ) (in_use : AllInUse world) (stand : MountsStand 
   placed_in_one : (mount : Mount ℕ) → Among mount world.mounts → (at : Location ℕ) → mount.mount_point ≡ Some at
       → is_some mount.namespace ≡ true
   placed_in_one mount m at p =
-      ⊎_elim (λ is. is)
-      (λ out. absurd (true≢false
-      (sym (ap is_some p) ∙ (nowhere_parts mount
-      (passes is_nowhere_or_attached world.mounts stand.nowhere mount m) out).0)))
-      (cases_Bool (is_some mount.namespace))
+      placed_is_attached mount (passes is_nowhere_or_attached world.mounts stand.nowhere mount m) at p
 
   stands_in_one : (mount : Mount ℕ) → Among mount world.mounts → (at : Location ℕ) → mount.mount_point ≡ Some at
       → is_some (mount_at nat_eq world at).namespace ≡ true

@@ -8,7 +8,7 @@ use Rattle.vt_spec.specs.Machine.Locked.{of_overlay, overlay_or}
 use Rattle.vt_spec.specs.Machine.Mounts.{Location, Mount}
 use Rattle.vt_spec.specs.Machine.World.{Filesystem, Layer, Overlay, World, all_locations, filesystem_numbered, is_overlay, layers_of, mount_at, mount_numbered, no_filesystem}
 use Rattle.vt_spec.specs.Machine.Invariants.{IsWorld, ListsNumbers, Stands, is_located_well, is_nowhere_or_attached, is_plain_layer}
-use Rattle.vt_spec.specs.TreeLaws.{IsTree}
+use Rattle.vt_spec.specs.TreeInvariant.{IsTree}
 use Rattle.vt_letting_go.specs.InUse.{AllInUse, IsListedTree, has_upper_in}
 use Rattle.vt_letting_go.specs.Leaving.{stands_on_attached}
 use Rattle.vt_letting_go.specs.Overlays.{real_in}

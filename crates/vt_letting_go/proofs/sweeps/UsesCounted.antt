@@ -3,9 +3,10 @@ use Rattle.std.proofs.Common.{◌≡◌, refl, sym, ap, ◌∙◌, ℕ, nat_eq, 
 use Rattle.std.specs.Prelude.{nat_lt}
 use Rattle.std.specs.List.{list_any}
 use Rattle.vt_spec.specs.Machine.Mounts.{Location, Mount}
+use Rattle.vt_spec.specs.Machine.Receives.{is_member_of}
 use Rattle.vt_spec.specs.Machine.Settled.{used_in}
 use Rattle.vt_spec.specs.Machine.World.{all_locations}
-use Rattle.vt_letting_go.specs.Counts.{LocatedWhileCounted, MountedWhileCounted, OneMountLess, OneUseLess, UsedWhileCounted, times}
+use Rattle.vt_letting_go.specs.Counts.{LocatedWhileCounted, MembersWhileCounted, MountedWhileCounted, OneMountLess, OneUseLess, UsedWhileCounted, times}
 use Rattle.vt_spec.proofs.Truths.{as_many_with_none, one_more_is_some}
 use Rattle.std.proofs.Math.Nat.{add_assoc}
 
@@ -34,6 +35,9 @@ mounted_while_counted world number = any_counted (λ mount. nat_eq number mount.
 
 pub used_while_counted : UsedWhileCounted
 used_while_counted world filesystem number = any_counted (nat_eq number) (used_in nat_eq world filesystem)
+
+pub members_while_counted : MembersWhileCounted
+members_while_counted world group = any_counted (is_member_of nat_eq group) world.mounts
 
 pub one_use_less : OneUseLess
 one_use_less world after front back location e f number =

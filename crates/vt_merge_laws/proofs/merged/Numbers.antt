@@ -15,7 +15,7 @@ use Rattle.vt_spec.specs.Machine.World.{Filesystem, Overlay, Real, World, filesy
 use Rattle.vt_spec.specs.Rights.{is_directory}
 use Rattle.vt_spec.specs.Tree.{Content, Entries, Node, entries_in, entries_of, entry_named, is_directory_node, kind_of, name_cmp, parent_in, parent_of}
 use Rattle.vt_spec.specs.Tree.Content.{Directory, Regular, Symlink, Whiteout}
-use Rattle.vt_spec.specs.TreeLaws.{HasName, HasOwnParents, entry_at}
+use Rattle.vt_spec.specs.TreeInvariant.{HasName, HasOwnParents, entry_at}
 use Rattle.vt_spec.proofs.Nodes.{directory_used, same_name}
 use Rattle.vt_spec.proofs.Trees.{led-append}
 use Rattle.vt_merge_laws.specs.MergedTrees.{InodesAreThoseShown, IsMergedTree, IsNamedBy, MergedTreesAreOne, NumbersAreThoseShown, OtherInodesAreHeld, OverlaysAreMergedTrees, content_as, entries_shown, inode_held, inode_shown, layers_shown, node_as, number_shown, parent_shown}

@@ -9,7 +9,7 @@ use Rattle.vt_spec.specs.Machine.Merging.{merged_at, real_object}
 use Rattle.vt_spec.specs.Machine.Outcome.Mounting.{overlay_at, overlay_filesystem}
 use Rattle.vt_spec.specs.Machine.World.{Filesystem, Layer, Overlay, Real, World, filesystem_numbered, open_layer, shown_layers}
 use Rattle.vt_spec.specs.Tree.{Node}
-use Rattle.vt_spec.specs.TreeLaws.{IsTree}
+use Rattle.vt_spec.specs.TreeInvariant.{IsTree}
 use Rattle.vt_layer_laws.proofs.directories.Fit.{new_overlay_is_tree}
 use Rattle.vt_layer_laws.proofs.layers.ShownDirectories.{led_is_there}
 use Rattle.vt_layer_laws.proofs.layers.ShownMounted.{made, made_merged}

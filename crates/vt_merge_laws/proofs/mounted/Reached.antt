@@ -18,7 +18,7 @@ use Rattle.vt_spec.specs.Machine.Outcomes.{Outcome, after, granted, judged}
 use Rattle.vt_spec.specs.Machine.Policy.{filesystems_changed_by}
 use Rattle.vt_spec.specs.Machine.Walk.{Here, walk_end}
 use Rattle.vt_spec.specs.Machine.World.{Layer, Task, World, filesystem_numbered, layers_of}
-use Rattle.vt_spec.specs.TreeLaws.{IsReached}
+use Rattle.vt_spec.specs.TreeInvariant.{IsReached}
 use Rattle.vt_tree_laws.proofs.trees.TreesWalked.{Passed}
 use Rattle.vt_layer_laws.specs.Layers.Mounted.{AreLayers}
 use Rattle.vt_layer_laws.proofs.directories.Later.{plain_is_old, same_filesystem}

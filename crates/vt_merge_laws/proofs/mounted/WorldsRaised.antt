@@ -20,7 +20,7 @@ use Rattle.vt_spec.specs.Machine.Settled.{settled}
 use Rattle.vt_spec.specs.Machine.World.{Filesystem, Layer, Namespace, Overlay, Real, Task, World, filesystem_numbered, is_overlay, layers_of, no_filesystem, shown_layers, task_called}
 use Rattle.vt_spec.specs.Machine.World.Real.{Below, Upper}
 use Rattle.vt_spec.specs.Tree.{is_directory_node}
-use Rattle.vt_spec.specs.TreeLaws.{IsReached}
+use Rattle.vt_spec.specs.TreeInvariant.{IsReached}
 use Rattle.vt_spec.proofs.Lists.{all-map}
 use Rattle.vt_letting_go.proofs.sweeps.InUse.{nothing_goes}
 use Rattle.vt_letting_go.proofs.Lists.{any-map, flat_map-map}

@@ -11,7 +11,7 @@ use Rattle.vt_spec.specs.Machine.Views.{View, cuts, hides, node_led, shown_from,
 use Rattle.vt_spec.specs.Machine.World.{upper_object}
 use Rattle.vt_spec.specs.Machine.World.Real.{Upper}
 use Rattle.vt_spec.specs.Tree.{Node, Tree, is_directory_node}
-use Rattle.vt_spec.specs.TreeLaws.{entry_at, led}
+use Rattle.vt_spec.specs.TreeInvariant.{entry_at, led}
 use Rattle.std.proofs.lemmas.Option.{same_Some}
 use Rattle.vt_spec.proofs.Options.{none_from_not_some, none_is_some}
 use Rattle.vt_layer_laws.specs.Layers.Mounted.{IsAlike}

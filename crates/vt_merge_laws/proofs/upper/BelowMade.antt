@@ -10,7 +10,7 @@ use Rattle.vt_spec.specs.Machine.Views.{cuts, hides}
 use Rattle.vt_spec.specs.Machine.World.{upper_object}
 use Rattle.vt_spec.specs.Machine.World.Real.{Below, Upper}
 use Rattle.vt_spec.specs.Tree.{Node}
-use Rattle.vt_spec.specs.TreeLaws.{IsDirectory}
+use Rattle.vt_spec.specs.TreeInvariant.{IsDirectory}
 use Rattle.vt_spec.proofs.Nodes.{node_other, node_set}
 use Rattle.vt_tree_laws.specs.Trees.{MayAddName, MayMake}
 use Rattle.vt_layer_laws.specs.Layers.ChangesUpper.{StandsInUpper}

@@ -7,7 +7,7 @@ use Rattle.vt_spec.specs.Lists.{Fresh, evens, front_of, odds}
 use Rattle.vt_spec.specs.Machine.CopyUp.{Merge, Stack, copied_up, is_directory_shown, merge_changed, upper_of}
 use Rattle.vt_spec.specs.Machine.Invariants.{number_at_path}
 use Rattle.vt_spec.specs.Machine.Views.{cuts}
-use Rattle.vt_spec.specs.TreeLaws.{IsDirectory, entry_at, led}
+use Rattle.vt_spec.specs.TreeInvariant.{IsDirectory, entry_at, led}
 use Rattle.vt_spec.proofs.Nodes.{directory_used}
 use Rattle.vt_tree_laws.specs.Trees.{MayAddName, MayMake, MayMove, MayRemove}
 use Rattle.vt_layer_laws.specs.Layers.Upper.{IsThere}

@@ -5,7 +5,7 @@ use Rattle.vt_spec.specs.FileTree.{FileTree, a_name, named_parent}
 use Rattle.vt_spec.specs.Lists.{Fresh, chain, folded, front_of, fronts, then_some}
 use Rattle.vt_spec.specs.Machine.CopyUp.{Merge, Stack, copied_content, copied_each, copied_up, copy_named, copy_of, copy_of_node, copy_parent, directories_to, is_in_upper, line_by, line_to, upper_of}
 use Rattle.vt_spec.specs.Machine.Invariants.{ListsNumbers, SameObject, number_at_path, same_content}
-use Rattle.vt_spec.specs.TreeLaws.{IsDirectory, IsTree, entry_at, led}
+use Rattle.vt_spec.specs.TreeInvariant.{IsDirectory, IsTree, entry_at, led}
 use Rattle.vt_layer_laws.proofs.layers.UpperChain.{depth_bound, up_at_root, up_from}
 use Rattle.vt_layer_laws.proofs.layers.UpperLine.{ReachedIn, has_entries, is_reached_in, named_so}
 use Rattle.vt_layer_laws.proofs.layers.UpperShown.{front_of_longer, has_a_name}

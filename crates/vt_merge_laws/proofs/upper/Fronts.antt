@@ -12,7 +12,7 @@ use Rattle.vt_spec.specs.Machine.Invariants.{SameObject, number_at_path}
 use Rattle.vt_spec.specs.Machine.World.{Real, upper_object}
 use Rattle.vt_spec.specs.Machine.World.Real.{Below, Upper}
 use Rattle.vt_spec.specs.Tree.{Node, is_directory_node, node_with_entry}
-use Rattle.vt_spec.specs.TreeLaws.{IsDirectory, IsTree, entry_at, led}
+use Rattle.vt_spec.specs.TreeInvariant.{IsDirectory, IsTree, entry_at, led}
 use Rattle.vt_spec.proofs.Nodes.{directory_used, is_some-node_with_entry, node_other}
 use Rattle.vt_layer_laws.specs.Layers.ChangesUpper.{StandsInUpper}
 use Rattle.vt_layer_laws.specs.Layers.Views.{names_entry, view_in}

@@ -10,7 +10,7 @@ use Rattle.vt_spec.specs.Machine.Layers.{below}
 use Rattle.vt_spec.specs.Machine.World.{upper_object}
 use Rattle.vt_spec.specs.Machine.World.Real.{Upper}
 use Rattle.vt_spec.specs.Tree.{Node, is_directory_node, node_with_bytes}
-use Rattle.vt_spec.specs.TreeLaws.{entry_at}
+use Rattle.vt_spec.specs.TreeInvariant.{entry_at}
 use Rattle.vt_layer_laws.specs.Layers.ChangesUpper.{StandsInUpper}
 use Rattle.vt_layer_laws.proofs.layers.ShownNames.{last_name}
 use Rattle.vt_layer_laws.proofs.layers.UpperLine.{has_entries}

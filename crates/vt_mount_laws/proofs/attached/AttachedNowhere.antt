@@ -9,7 +9,7 @@ use Rattle.vt_spec.specs.Machine.Outcome.Mounting.{moved_tree, new_mount, with_n
 use Rattle.vt_spec.specs.Machine.World.{World, mount_at}
 use Rattle.vt_spec.specs.Machine.Invariants.{is_nowhere_or_attached, is_private}
 use Rattle.vt_mount_laws.specs.Mounts.Attached.{BindsKeepNowhere, MovesKeepNowhere, NewMountsKeepNowhere}
-use Rattle.vt_mount_laws.specs.Mounts.Conditions.{NowhereOrAttached}
+use Rattle.vt_mount_laws.specs.Mounts.Invariants.{NowhereOrAttached}
 use Rattle.vt_mount_laws.proofs.mounts.MountsAttached.{arriving, graft, moved_ones, parts, push, supplied}
 use Rattle.vt_mount_laws.proofs.mounts.MountsFound.{found_in}
 use Rattle.vt_spec.proofs.Worlds.{among-folded_mounts}

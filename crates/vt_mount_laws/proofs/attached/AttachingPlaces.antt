@@ -14,7 +14,7 @@ use Rattle.vt_spec.specs.Machine.World.{World, mount_at, mount_numbered}
 use Rattle.vt_spec.specs.Machine.Invariants.{Stands, share_a_mount_point}
 use Rattle.vt_spec.specs.Machine.Invariants.Stands.{at_root, on_parent}
 use Rattle.vt_mount_laws.specs.Mounts.Attaching.{OneNumberAMount, is_mount, numbers_of}
-use Rattle.vt_mount_laws.specs.Mounts.Conditions.{NowhereOrAttached}
+use Rattle.vt_mount_laws.specs.Mounts.Invariants.{NowhereOrAttached}
 use Rattle.vt_mount_laws.specs.Mounts.Copies.{ServeAsCopies}
 use Rattle.vt_mount_laws.specs.Mounts.Places.{OneMountAPlace}
 use Rattle.vt_mount_laws.specs.Mounts.Standing.{AllStand}

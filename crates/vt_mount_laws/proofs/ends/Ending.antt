@@ -7,7 +7,7 @@ use Rattle.vt_spec.specs.Machine.Mounts.{Location, Mount, mount_tree, stands_on}
 use Rattle.vt_spec.specs.Machine.Namespaces.{namespaces_ended}
 use Rattle.vt_spec.specs.Machine.World.{World, mount_numbered}
 use Rattle.vt_spec.specs.Machine.Invariants.{MountInvariants, Stands}
-use Rattle.vt_mount_laws.specs.Mounts.Conditions.{AreApart, OneMountEachPlace}
+use Rattle.vt_mount_laws.specs.Mounts.Invariants.{AreApart, OneMountEachPlace}
 use Rattle.vt_mount_laws.specs.Mounts.Ending.{EndedNamespacesKeepMounts, PointsKeepMounts, ReplacedKeepsMounts, TreesKeepMounts, UnmountKeepsMounts}
 use Rattle.vt_mount_laws.specs.Mounts.Standing.{AllStand}
 use Rattle.vt_mount_laws.specs.Mounts.Unmounting.{PlacesEnd}

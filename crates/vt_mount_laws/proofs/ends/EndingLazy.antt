@@ -9,7 +9,7 @@ use Rattle.vt_spec.specs.Machine.Mounts.{Location, Mount, stands_on}
 use Rattle.vt_spec.specs.Machine.World.{World, mount_numbered}
 use Rattle.vt_spec.specs.Machine.Invariants.{MountInvariants, is_nowhere_or_attached, is_private}
 use Rattle.vt_mount_laws.specs.Mounts.Attaching.{numbers_of}
-use Rattle.vt_mount_laws.specs.Mounts.Conditions.{NowhereOrAttached}
+use Rattle.vt_mount_laws.specs.Mounts.Invariants.{NowhereOrAttached}
 use Rattle.vt_mount_laws.specs.Mounts.Ending.{LazyUnmountKeepsMounts}
 use Rattle.vt_mount_laws.proofs.ends.Ending.{unmount_keeps_mounts}
 use Rattle.vt_mount_laws.proofs.ends.EndingOrder.{AreDeepestFirst, in_order, is_itself, is_taken_in_turn, lies_in_it, taken_in_turn}

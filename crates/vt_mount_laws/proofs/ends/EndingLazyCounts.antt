@@ -7,7 +7,7 @@ use Rattle.vt_spec.specs.Machine.Detach.{going, is_going, mount_point_left, take
 use Rattle.vt_spec.specs.Lists.{folded}
 use Rattle.vt_spec.specs.Machine.Mounts.{Location, Mount}
 use Rattle.vt_spec.specs.Machine.World.{World, mount_numbered, mounts_of}
-use Rattle.vt_mount_laws.specs.Mounts.Conditions.{OneNumberEach}
+use Rattle.vt_mount_laws.specs.Mounts.Invariants.{OneNumberEach}
 use Rattle.vt_mount_laws.specs.Mounts.Ending.{ByLazyUnmount, HasNoMoreMounts, IsOutOrStays, KeepsRootMounts, LazyUnmountKeepsRootMounts, TakesNoMountsIn, root_mounts_in}
 use Rattle.vt_mount_laws.proofs.ends.EndingCounts.{stays_in, tree_placed, unmount_has_no_more, unmount_keeps_roots, unmount_takes_none_in}
 use Rattle.vt_mount_laws.proofs.ends.EndingOrder.{from_tree, taken_in_turn}

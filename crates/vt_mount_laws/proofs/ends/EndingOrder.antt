@@ -8,7 +8,7 @@ use Rattle.vt_spec.specs.Lists.{folded, is_among}
 use Rattle.vt_spec.specs.Machine.Mounts.{Mount, mount_in, mount_tree, tree_from}
 use Rattle.vt_spec.specs.Machine.World.{World, mount_numbered}
 use Rattle.vt_mount_laws.specs.Mounts.Attaching.{numbers_of}
-use Rattle.vt_mount_laws.specs.Mounts.Conditions.{OneNumberEach}
+use Rattle.vt_mount_laws.specs.Mounts.Invariants.{OneNumberEach}
 use Rattle.vt_mount_laws.specs.Mounts.Standing.{AllStand}
 use Rattle.vt_mount_laws.proofs.mounts.MountsFound.{placed_among}
 use Rattle.vt_mount_laws.proofs.mounts.MountsReplaced.{found_itself}

@@ -2,7 +2,7 @@
 use Rattle.std.proofs.Common.{◌≡◌, refl, sym, ap, subst, ◌∙◌, true, false, zero, suc, nat_eq, ℕ, List, None, Option, Some, eqb-true, filter, is_some, map, not, option_map, true≢false, ◌&&◌}
 use Rattle.vt_spec.specs.Machine.Mounts.{Location, Mount, mount_in}
 use Rattle.vt_spec.proofs.Lists.{Among, among-filter, among-from_filter, among-from_map, among-map, among_from_list_all, among_numbers, chain_ends, chain_goes_on, is_among_numbers, last_of_chain}
-use Rattle.vt_mount_laws.specs.Mounts.Conditions.{EndedNamespacesLeaveOneMountAPlace, OneNumberEach}
+use Rattle.vt_mount_laws.specs.Mounts.Invariants.{EndedNamespacesLeaveOneMountAPlace, OneNumberEach}
 use Rattle.vt_mount_laws.specs.Mounts.Unmounting.{PlacesEnd}
 use Rattle.vt_spec.specs.Machine.World.{World, mount_at, Namespace}
 use Rattle.std.proofs.lemmas.Bool.{and_parts, not-true}

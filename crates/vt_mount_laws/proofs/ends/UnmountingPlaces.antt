@@ -1,7 +1,7 @@
 -- An unmount leaves at most one mount at a place.
 use Rattle.std.proofs.Common.{◌≡◌, refl, sym, ap, subst, ◌∙◌, true, false, zero, suc, Bool, List, None, Option, Some, [], eq-eqb, is_some, length, nat_eq, option_map, true≢false, ⊎_elim, ◌∷◌, ◌⊎◌, ℕ, inl, inr}
 use Rattle.vt_spec.proofs.Lists.{Among, among-filter, among-from_filter_map, among-from_map, among_numbers, chain_ends, chain_goes_on, last_of_chain, none_among, pair-map}
-use Rattle.vt_mount_laws.specs.Mounts.Conditions.{AreApart, OneMountEachPlace, UnmountLeavesOneMountAPlace}
+use Rattle.vt_mount_laws.specs.Mounts.Invariants.{AreApart, OneMountEachPlace, UnmountLeavesOneMountAPlace}
 use Rattle.vt_spec.specs.Machine.Mounts.{Location, children, is_shared, mount_in, stands_at, stands_on, Mount}
 use Rattle.vt_spec.specs.Machine.World.{World, mount_at, mount_numbered}
 use Rattle.vt_spec.specs.Machine.Detach.{after_going, goes_at, going, going_at, going_from, is_going, may_go, only_cover, mount_point_of_parent, mount_point_left, taken_away}

@@ -2,7 +2,7 @@
 use Rattle.std.proofs.Common.{◌≡◌, refl, sym, ap, ◌∙◌, true, false, nat_eq, ℕ, Bool, List, [], eqb-true, is_some, map, ◌&&◌, ◌∷◌, ⊎_elim, ◌++◌}
 use Rattle.vt_spec.specs.Machine.Mounts.{Mount, mount_in, mount_tree, replaced_if_same, same_location, with_mount, numbers_by}
 use Rattle.vt_spec.proofs.Lists.{Among, pair-filter, pair-map, among-append, among-from_map, among_from_list_all, list_all_from_among}
-use Rattle.vt_mount_laws.specs.Mounts.Conditions.{AreApart, KeptByFlags, KeptByInheritance, KeptByLazyUnmount, KeptBySettling, KeptByType, NowhereOrAttached, OneNumberEach, FlagsKeepNowhere, KeptByUnshare}
+use Rattle.vt_mount_laws.specs.Mounts.Invariants.{AreApart, KeptByFlags, KeptByInheritance, KeptByLazyUnmount, KeptBySettling, KeptByType, NowhereOrAttached, OneNumberEach, FlagsKeepNowhere, KeptByUnshare}
 use Rattle.vt_spec.specs.Lists.{any_pair, folded, same_option, evens, odds}
 use Rattle.vt_mount_laws.specs.Mounts.Places.{OneMountAPlace}
 use Rattle.vt_mount_laws.specs.Mounts.Attaching.{OneNumberAMount}

@@ -2,7 +2,7 @@
 use Rattle.std.proofs.Common.{◌≡◌, refl, sym, ap, subst, ◌∙◌, zero, suc, nat_eq, ℕ, None, Option, Some, is_some, length, not, option_map, ◌&&◌}
 use Rattle.vt_spec.specs.Machine.Mounts.{Location, Mount, mount_in}
 use Rattle.vt_spec.proofs.Lists.{Among, among-map, among_from_list_all, chain_ends, chain_goes_on, is_among_numbers, last_of_chain, list_all_from_among}
-use Rattle.vt_mount_laws.specs.Mounts.Conditions.{FlagsKeepPlacesEnding, InheritanceKeepsPlacesEnding, OneNumberEach, TypeKeepsPlacesEnding}
+use Rattle.vt_mount_laws.specs.Mounts.Invariants.{FlagsKeepPlacesEnding, InheritanceKeepsPlacesEnding, OneNumberEach, TypeKeepsPlacesEnding}
 use Rattle.vt_mount_laws.specs.Mounts.Unmounting.{PlacesEnd}
 use Rattle.vt_spec.specs.Machine.World.{World, mount_at, mount_numbered}
 use Rattle.vt_spec.specs.Lists.{chain, is_among, last_or, same_option}

@@ -4,7 +4,7 @@ use Rattle.vt_mount_laws.proofs.mounts.MountsReplaced.{one_number_by_numbers, nu
 use Rattle.std.proofs.Common.{◌≡◌, refl, sym, ap, ◌∙◌, true, false, Bool, List, None, Option, Some, filter, is_some, map, not, option_map, true≢false, ◌&&◌, ◌||◌, ℕ, nat_eq}
 use Rattle.std.specs.List.{list_all}
 use Rattle.vt_spec.specs.Machine.Mounts.Propagation.{Private, Shared, Slave, Unbindable}
-use Rattle.vt_mount_laws.specs.Mounts.Conditions.{KeptByEndedNamespaces, KeptByFlags, KeptByInheritance, KeptByPivot, KeptBySettling, KeptByTakingAway, KeptByType, KeptByUnmount, NowhereOrAttached, OneNumberEach}
+use Rattle.vt_mount_laws.specs.Mounts.Invariants.{KeptByEndedNamespaces, KeptByFlags, KeptByInheritance, KeptByPivot, KeptBySettling, KeptByTakingAway, KeptByType, KeptByUnmount, NowhereOrAttached, OneNumberEach}
 use Rattle.vt_spec.specs.Machine.Mounts.{Location, Propagation, Mount, detached}
 use Rattle.vt_spec.specs.Machine.World.{World, mount_numbered, mount_at}
 use Rattle.vt_spec.specs.Machine.Detach.{after_going, going, is_going, mount_point_left, taken_away}

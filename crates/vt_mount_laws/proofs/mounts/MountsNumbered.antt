@@ -14,7 +14,7 @@ use Rattle.std.proofs.lemmas.Bool.{and_parts, false_from_ne_true, or_from, or_pa
 use Rattle.std.proofs.lemmas.Nat.{div-mul-add}
 use Rattle.std.specs.Prelude.{if◌then◌else◌, slice_get, ◌*◌}
 use Rattle.vt_mount_laws.specs.Mounts.Attaching.{OneNumberAMount, numbers_of}
-use Rattle.vt_mount_laws.specs.Mounts.Conditions.{AttachKeepsNumbers, UnshareKeepsNumbers}
+use Rattle.vt_mount_laws.specs.Mounts.Invariants.{AttachKeepsNumbers, UnshareKeepsNumbers}
 use Rattle.vt_mount_laws.specs.Mounts.Copies.{CopiesKeepNumbers, IsOneOf, ServeAsCopies, ServeAsImages, SuppliesServeAsCopies, SuppliesServeAsImages}
 use Rattle.vt_spec.specs.Machine.Namespaces.{copied_mount}
 use Rattle.vt_mount_laws.proofs.mounts.MountsAttached.{numbers_attached, others}

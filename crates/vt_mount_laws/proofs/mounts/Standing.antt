@@ -14,7 +14,7 @@ use Rattle.vt_spec.specs.Machine.World.{World, mount_at, mount_numbered}
 use Rattle.vt_spec.specs.Machine.Invariants.{Stands, last_parent, stands_in_its_namespace}
 use Rattle.vt_spec.specs.Machine.Invariants.Stands.{at_root, on_parent}
 use Rattle.vt_mount_laws.specs.Mounts.Attaching.{OneNumberAMount, numbers_of}
-use Rattle.vt_mount_laws.specs.Mounts.Conditions.{OneNumberEach}
+use Rattle.vt_mount_laws.specs.Mounts.Invariants.{OneNumberEach}
 use Rattle.vt_mount_laws.specs.Mounts.Standing.{AllStand, BindsTakeEachOnce, StandingIsComputed, TreesHaveEachOnce}
 use Rattle.vt_mount_laws.specs.Mounts.Unmounting.{PlacesEnd}
 use Rattle.vt_mount_laws.proofs.mounts.MountsFound.{placed_among}

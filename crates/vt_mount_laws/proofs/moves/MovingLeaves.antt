@@ -12,7 +12,7 @@ use Rattle.vt_spec.specs.Machine.World.{World, mount_at, mount_numbered}
 use Rattle.vt_spec.specs.Machine.Invariants.{Stands, is_nowhere_or_attached, is_private}
 use Rattle.vt_spec.specs.Machine.Invariants.Stands.{at_root, on_parent}
 use Rattle.vt_mount_laws.specs.Mounts.Attaching.{OneNumberAMount, is_mount, numbers_of}
-use Rattle.vt_mount_laws.specs.Mounts.Conditions.{NowhereOrAttached}
+use Rattle.vt_mount_laws.specs.Mounts.Invariants.{NowhereOrAttached}
 use Rattle.vt_mount_laws.specs.Mounts.Standing.{AllStand}
 use Rattle.vt_mount_laws.specs.Mounts.Places.{OneMountAPlace}
 use Rattle.vt_mount_laws.proofs.attached.AttachingPlaces.{beside, one_place, test, two_of}

@@ -10,7 +10,7 @@ use Rattle.vt_spec.specs.Machine.Receives.{inheriting}
 use Rattle.vt_spec.specs.Machine.Types.{named_mounts, type_after, with_type}
 use Rattle.vt_spec.specs.Machine.World.{World, mount_at, mount_numbered}
 use Rattle.vt_spec.specs.Machine.Invariants.{MountInvariants, is_nowhere_or_attached, is_private}
-use Rattle.vt_mount_laws.specs.Mounts.Conditions.{NowhereOrAttached, OneNumberEach}
+use Rattle.vt_mount_laws.specs.Mounts.Invariants.{NowhereOrAttached, OneNumberEach}
 use Rattle.vt_mount_laws.specs.Mounts.Namespaces.{SetFlagsKeepCounts, SetFlagsKeepMounts, SetTypeKeepsCounts, SetTypeKeepsMounts}
 use Rattle.vt_mount_laws.proofs.GroupsLiving.{all_live, tested_live}
 use Rattle.vt_mount_laws.proofs.Groups.{mounts-regrouped}

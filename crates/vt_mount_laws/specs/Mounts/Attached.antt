@@ -8,7 +8,7 @@ use Rattle.vt_spec.specs.Machine.Outcome.Mounting.{bound_at, mounted, moved_to, 
 use Rattle.vt_spec.specs.Machine.Run.{Serves}
 use Rattle.vt_spec.specs.Machine.World.{Filesystem, World, mount_at}
 use Rattle.vt_mount_laws.specs.Mounts.Attaching.{is_mount}
-use Rattle.vt_mount_laws.specs.Mounts.Conditions.{NowhereOrAttached, OneNumberEach}
+use Rattle.vt_mount_laws.specs.Mounts.Invariants.{NowhereOrAttached, OneNumberEach}
 use Rattle.vt_mount_laws.specs.Mounts.Receivers.{GroupsLive}
 use Rattle.vt_mount_laws.specs.Mounts.Standing.{AllStand}
 

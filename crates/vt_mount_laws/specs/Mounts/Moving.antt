@@ -9,7 +9,7 @@ use Rattle.vt_spec.specs.Machine.Outcome.Mounting.{bound_at, mounted, moved_to, 
 use Rattle.vt_spec.specs.Machine.Run.{Serves}
 use Rattle.vt_spec.specs.Machine.World.{Filesystem, World, mount_at, mounts_of}
 use Rattle.vt_spec.specs.Machine.Invariants.{MountInvariants, is_root_mount}
-use Rattle.vt_mount_laws.specs.Mounts.Conditions.{OneMountEachPlace, OneNumberEach}
+use Rattle.vt_mount_laws.specs.Mounts.Invariants.{OneMountEachPlace, OneNumberEach}
 use Rattle.vt_mount_laws.specs.Mounts.Standing.{AllStand}
 
 -- Root mounts

@@ -12,7 +12,7 @@ use Rattle.vt_spec.specs.Machine.Run.{Serves}
 use Rattle.vt_spec.specs.Machine.Types.{with_type}
 use Rattle.vt_spec.specs.Machine.World.{Task, World, mount_at, mount_numbered, mounts_of}
 use Rattle.vt_spec.specs.Machine.Invariants.{MountInvariants, is_listed, is_root_mount}
-use Rattle.vt_mount_laws.specs.Mounts.Conditions.{OneNumberEach}
+use Rattle.vt_mount_laws.specs.Mounts.Invariants.{OneNumberEach}
 
 -- Where mounts have their invariants, no mount stands over the topmost one over a place.
 abbrev pub TopmostIsFree : Type 0

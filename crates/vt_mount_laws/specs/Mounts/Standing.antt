@@ -9,7 +9,7 @@ use Rattle.vt_spec.specs.Machine.Run.{Serves}
 use Rattle.vt_spec.specs.Machine.World.{Filesystem, World, mount_numbered}
 use Rattle.vt_spec.specs.Machine.Invariants.{Stands}
 use Rattle.vt_mount_laws.specs.Mounts.Attaching.{OneNumberAMount, is_mount}
-use Rattle.vt_mount_laws.specs.Mounts.Conditions.{NowhereOrAttached, OneMountEachPlace, OneNumberEach}
+use Rattle.vt_mount_laws.specs.Mounts.Invariants.{NowhereOrAttached, OneMountEachPlace, OneNumberEach}
 use Rattle.vt_mount_laws.specs.Mounts.Unmounting.{PlacesEnd}
 
 -- each mount stands

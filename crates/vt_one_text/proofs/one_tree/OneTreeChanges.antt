@@ -9,7 +9,7 @@ use Rattle.vt_spec.specs.Language.Calls.{TaskName}
 use Rattle.vt_spec.specs.Inodes.{Inode, Inodes, inode_with_node, node_in, tree_of, uses_in, with_changed}
 use Rattle.vt_spec.specs.OneTree.World.{Task, World, task_called}
 use Rattle.vt_spec.specs.Tree.{Node, Tree, entries_in, is_directory_node, name_cmp, parent_in}
-use Rattle.vt_spec.specs.TreeLaws.{IsDirectory}
+use Rattle.vt_spec.specs.TreeInvariant.{IsDirectory}
 use Rattle.vt_one_text.specs.OneTree.{AreApart, AreInOrder, Beside, IsFit, IsWhole, embedded, opened_in, task_there, times_in, upwards, used_in}
 use Rattle.vt_one_text.proofs.one_tree.OneTreeCounts.{IsCounted, counted_changed}
 use Rattle.vt_one_text.proofs.one_tree.OneTreeEntries.{changed_at, named_by, named_of, one_if}

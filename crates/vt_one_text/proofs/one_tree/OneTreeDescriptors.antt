@@ -8,7 +8,7 @@ use Rattle.vt_spec.specs.Inodes.{Inode, Inodes, tree_of, unpinned, uses_in}
 use Rattle.vt_spec.specs.OneTree.Policy.{without_uses}
 use Rattle.vt_spec.specs.OneTree.World.{Descriptor, Task, World, free_from, inserted, is_called}
 use Rattle.vt_spec.specs.Tree.{Node, Tree, is_directory_node}
-use Rattle.vt_spec.specs.TreeLaws.{IsDirectory}
+use Rattle.vt_spec.specs.TreeInvariant.{IsDirectory}
 use Rattle.vt_one_text.specs.OneTree.{AreApart, AreInOrder, Beside, IsFit, IsWhole, descriptor_there, files_of, location_there, opened_in, task_there, times_in, used_in}
 use Rattle.vt_one_text.proofs.one_tree.OneTreeChanges.{StaysWhole, stays_whole, whole_counted}
 use Rattle.vt_one_text.proofs.one_tree.OneTreeCounts.{IsCounted, counted_unpinned, some_inode}

@@ -26,7 +26,7 @@ use Rattle.vt_spec.specs.OneTree.World.{Task, World}
 use Rattle.vt_spec.specs.PathText.{ends_in_slash, is_absolute, parsed_path, words}
 use Rattle.vt_spec.specs.Rights.{Credentials, execute_right, write_right}
 use Rattle.vt_spec.specs.Tree.{Tree, entries_in, entry_named, parent_in}
-use Rattle.vt_spec.specs.TreeLaws.{IsDirectory, entry_at}
+use Rattle.vt_spec.specs.TreeInvariant.{IsDirectory, entry_at}
 use Rattle.vt_one_text.specs.OneTree.{Beside, IsFit, LinksAgree, RmdirsAgree, Steps, UnlinksAgree, embedded, here_there, location_there, place_there, task_there, times_in}
 use Rattle.vt_one_text.proofs.one_tree.OneTreeChanges.{directory_there, no_entries, uses_parts, used_is_there}
 use Rattle.vt_one_text.proofs.one_tree.OneTreeEntries.{found_target, named_by, named_of, one_if, one_if_some, targets, targets_in-not_filled}

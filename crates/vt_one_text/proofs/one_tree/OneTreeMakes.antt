@@ -17,7 +17,7 @@ use Rattle.vt_spec.specs.OneTree.World.{Task, World, is_called, with_inodes}
 use Rattle.vt_spec.specs.Rights.{is_directory}
 use Rattle.vt_spec.specs.Tree.{Content, Node, Tree, entries_in, entries_of, entry_named, is_directory_node, kind_of, name_cmp, new_directory, node_with_entry, parent_in, parent_of, with_entry}
 use Rattle.vt_spec.specs.Tree.Content.{Directory, Regular, Symlink, Whiteout}
-use Rattle.vt_spec.specs.TreeLaws.{IsDirectory}
+use Rattle.vt_spec.specs.TreeInvariant.{IsDirectory}
 use Rattle.vt_one_text.specs.OneTree.{Beside, IsFit, IsWhole, embedded, location_there, opened_in, task_there, times_in, upwards, used_in}
 use Rattle.vt_one_text.proofs.one_tree.OneTreeChanges.{bare, counted_start, directory_there, uses_parts, whole_counted}
 use Rattle.vt_one_text.proofs.one_tree.OneTreeCounts.{IsCounted, counted_changed, counted_new, some_inode}

@@ -34,7 +34,7 @@ use Rattle.vt_spec.specs.PathText.{is_empty}
 use Rattle.vt_spec.specs.Rights.{Credentials, write_right}
 use Rattle.vt_spec.specs.Tree.{Node, Tree, is_directory_node, new_directory}
 use Rattle.vt_spec.specs.Tree.Content.{Symlink}
-use Rattle.vt_spec.specs.TreeLaws.{IsDirectory, entry_at}
+use Rattle.vt_spec.specs.TreeInvariant.{IsDirectory, entry_at}
 use Rattle.vt_one_text.specs.OneTree.{Beside, IsFit, MkdirsAgree, OpensAgree, Steps, SymlinksAgree, WritesAgree, embedded, here_there, location_there, place_there, task_there}
 use Rattle.vt_one_text.proofs.one_tree.OneTreeJudged.{IsChanged, IsJudged, after_alike, judged_alike, judged_both, judged_finished, judged_when, policy_alike, refused}
 use Rattle.vt_one_text.proofs.one_tree.OneTreeMakes.{made_alike, made_opened}

@@ -11,7 +11,7 @@ use Rattle.vt_spec.specs.Language.Calls.{TaskName}
 use Rattle.vt_spec.specs.Inodes.{Inodes, tree_of, uses_in, with_changed, without_replaced}
 use Rattle.vt_spec.specs.OneTree.World.{Task, World, with_inodes}
 use Rattle.vt_spec.specs.Tree.{Entries, Node, Tree, entries_in, entry_named, is_directory_node, name_cmp, node_with_entry, parent_in, with_entry}
-use Rattle.vt_spec.specs.TreeLaws.{IsDirectory}
+use Rattle.vt_spec.specs.TreeInvariant.{IsDirectory}
 use Rattle.vt_one_text.specs.OneTree.{Beside, IsFit, embedded, opened_in, task_there, times_in, upwards, used_in}
 use Rattle.vt_one_text.proofs.one_tree.OneTreeChanges.{bare, counted_start, directory_there, directory_uses, uses_parts}
 use Rattle.vt_one_text.proofs.one_tree.OneTreeCounts.{apart_one, IsCounted, counted_unpinned, other_if, some_inode, one_if-itself}

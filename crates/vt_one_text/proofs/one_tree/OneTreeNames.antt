@@ -15,7 +15,7 @@ use Rattle.vt_spec.specs.Inodes.{Inodes, tree_of, uses_in, with_changed, with_na
 use Rattle.vt_spec.specs.OneTree.Permits.Permit.{ToChange}
 use Rattle.vt_spec.specs.OneTree.World.{Task, World, with_inodes}
 use Rattle.vt_spec.specs.Tree.{Node, Tree, entries_in, entry_named, is_directory_node, name_cmp, node_with_entry, parent_in, with_entry}
-use Rattle.vt_spec.specs.TreeLaws.{IsDirectory}
+use Rattle.vt_spec.specs.TreeInvariant.{IsDirectory}
 use Rattle.vt_one_text.specs.OneTree.{Beside, IsFit, embedded, location_there, opened_in, task_there, times_in, upwards, used_in}
 use Rattle.vt_one_text.proofs.one_tree.OneTreeChanges.{StaysWhole, bare, counted_start, directory_there, directory_uses, settled_fit, there_once, uses_parts, whole_counted}
 use Rattle.vt_one_text.proofs.one_tree.OneTreeCounts.{IsCounted, counted_changed, counted_pinned, counted_unpinned, other_if, some_inode}

@@ -23,7 +23,7 @@ use Rattle.vt_spec.specs.OneTree.Rules.{is_kind_at, may_not}
 use Rattle.vt_spec.specs.OneTree.Walk.{is_directory_at}
 use Rattle.vt_spec.specs.OneTree.World.{Descriptor, Task, World, descriptor_numbered, granted, is_called, task_called, with_descriptor, with_inodes, with_task, without_descriptor, without_task}
 use Rattle.vt_spec.specs.Tree.{Node, Tree, is_directory_node}
-use Rattle.vt_spec.specs.TreeLaws.{IsDirectory}
+use Rattle.vt_spec.specs.TreeInvariant.{IsDirectory}
 use Rattle.vt_one_text.specs.OneTree.{Beside, ClosesAgree, ExitsAgree, IsFit, IsSameOutcome, descriptor_there, embedded, files_of, location_there, opened_in, task_there, times_in, used_in}
 use Rattle.vt_one_text.proofs.one_tree.OneTreeChanges.{counted_start, directory_there, directory_uses, no_entries, settled_fit, there_once, uses_parts, used_is_there}
 use Rattle.vt_one_text.proofs.one_tree.OneTreeCounts.{IsCounted, counted_pinned, counted_unpinned, other_if, some_inode}

@@ -8,7 +8,7 @@ use Rattle.vt_spec.specs.OneTree.World.{Descriptor, Task, World}
 use Rattle.vt_spec.specs.Rights.{is_directory}
 use Rattle.vt_spec.specs.Tree.{Content, Entries, Tree, entries_in, entries_of, is_directory_node, kind_of, parent_in, parent_of}
 use Rattle.vt_spec.specs.Tree.Content.{Directory, Regular, Symlink, Whiteout}
-use Rattle.vt_spec.specs.TreeLaws.{IsDirectory}
+use Rattle.vt_spec.specs.TreeInvariant.{IsDirectory}
 use Rattle.vt_laws.specs.Renaming.{Renaming}
 use Rattle.vt_one_text.specs.OneTree.{IsFit, files_of, opened_in, times_in}
 use Rattle.vt_one_text.specs.OneTreeNumbers.{renamed_descriptor, renamed_task, renamed_world}

@@ -27,7 +27,7 @@ use Rattle.vt_spec.specs.OneTree.Walk.{Place, is_directory_at, new_walk, old_lea
 use Rattle.vt_spec.specs.OneTree.World.{Task, World, with_inodes}
 use Rattle.vt_spec.specs.Rights.{Credentials, write_right}
 use Rattle.vt_spec.specs.Tree.{Tree, entries_in, entry_named, parent_in}
-use Rattle.vt_spec.specs.TreeLaws.{IsDirectory}
+use Rattle.vt_spec.specs.TreeInvariant.{IsDirectory}
 use Rattle.vt_one_text.specs.OneTree.{Beside, IsFit, RenamesAgree, Steps, embedded, location_there, place_there, task_there, times_in}
 use Rattle.vt_one_text.proofs.one_tree.OneTreeChanges.{no_entries}
 use Rattle.vt_one_text.proofs.one_tree.OneTreeEntries.{one_if, one_if_some, targets_in-not_filled}

@@ -7,7 +7,7 @@ use Rattle.vt_spec.specs.Errors.{denial, Rules, unless, and_then}
 use Rattle.vt_spec.specs.PathText.{parsed_path, words, ends_in_slash, is_absolute}
 use Rattle.vt_spec.specs.Rights.{execute_right}
 use Rattle.vt_spec.specs.Tree.{Tree, entry_named, entries_in, parent_in}
-use Rattle.vt_spec.specs.TreeLaws.{entry_at, IsDirectory}
+use Rattle.vt_spec.specs.TreeInvariant.{entry_at, IsDirectory}
 use Rattle.vt_spec.specs.FileTree.{symlink_text}
 use Rattle.vt_spec.specs.Lists.{last_or}
 use Rattle.vt_spec.specs.Machine.Mounts.{Location, topmost}

@@ -11,7 +11,7 @@ use Rattle.vt_spec.specs.Machine.World.{Filesystem, Layer, Overlay, World, files
 use Rattle.vt_spec.specs.Machine.Invariants.{IsMerged, IsWorld, is_plain_layer}
 use Rattle.vt_spec.specs.Machine.Locked.{lies_or_counts_under, upper_and_work}
 use Rattle.vt_spec.specs.Tree.{is_directory_node}
-use Rattle.vt_spec.specs.TreeLaws.{IsReached}
+use Rattle.vt_spec.specs.TreeInvariant.{IsReached}
 use Rattle.vt_spec.proofs.Lists.{among-append_right}
 use Rattle.vt_spec.proofs.Lists
 use Rattle.vt_spec.proofs.Nodes.{directory_used}
@@ -36,7 +36,7 @@ use Rattle.vt_spec.proofs.Truths.{and_true_right}
 
 -- what is asked well speaks of what is there
 pub spoken : (stack : Stack ℕ) (merge : Merge ℕ) (change : Change ℕ)
-    → Rattle.vt_spec.specs.TreeLaws.IsTree merge.files.tree → IsAskedWell stack merge change
+    → Rattle.vt_spec.specs.TreeInvariant.IsTree merge.files.tree → IsAskedWell stack merge change
     → SpeaksOfWhatIsThere merge.files change
 spoken stack merge (Make d w number node) tree asked =
     directory_used merge.files.tree d asked.0.name_is_free.in_directory

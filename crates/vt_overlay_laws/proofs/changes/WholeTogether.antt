@@ -17,7 +17,7 @@ use Rattle.vt_spec.specs.Machine.Views
 use Rattle.vt_spec.specs.Machine.World.{upper_object}
 use Rattle.vt_spec.specs.Machine.World.Real.{Below, Upper}
 use Rattle.vt_spec.specs.Machine.Invariants.{number_at_path}
-use Rattle.vt_spec.specs.TreeLaws.{IsDirectory, entry_at, led}
+use Rattle.vt_spec.specs.TreeInvariant.{IsDirectory, entry_at, led}
 use Rattle.vt_overlay_laws.specs.WhatIsShown.{IsWhole}
 use Rattle.vt_overlay_laws.specs.WholeChanges.{ChangesKeepShown}
 use Rattle.vt_overlay_laws.proofs.whole.UpperGoes.{Goes, goes_both}

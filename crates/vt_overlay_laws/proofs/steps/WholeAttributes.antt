@@ -13,7 +13,7 @@ use Rattle.vt_spec.specs.Machine.World.Real.{Below, Upper}
 use Rattle.vt_spec.specs.Machine.Invariants.{ListsNumbers, SameObject, number_at_path, same_content}
 use Rattle.vt_spec.specs.Tree.{Content, Node, kind_of, node_with_bytes, with_bytes}
 use Rattle.vt_spec.specs.Tree.Content.{Directory, Regular, Symlink, Whiteout}
-use Rattle.vt_spec.specs.TreeLaws.{IsTree}
+use Rattle.vt_spec.specs.TreeInvariant.{IsTree}
 use Rattle.vt_tree_laws.proofs.trees.ChangesKeepTrees.{changes_keep_numbers, changes_keep_trees}
 use Rattle.vt_layer_laws.specs.Layers.ChangesUpper.{StandsInUpper}
 use Rattle.vt_overlay_laws.specs.WhatIsShown.{AttrKeepsWhole, BytesKeepWhole, IsWhole, inode_behind, layers_under, real_seen}
@@ -180,8 +180,8 @@ module _ (stack : Stack ℕ) (merge : Merge ℕ) (whole : IsWhole stack merge) (
   }
 
   whole_later : IsTree later.files.tree → ListsNumbers nat_eq later.files → IsTree later.upper.tree
-      → Rattle.vt_spec.specs.TreeLaws.IsDirectory later.upper.tree stack.directory
-      → Rattle.vt_spec.specs.TreeLaws.IsReached later.upper.tree stack.directory → IsWhole stack later
+      → Rattle.vt_spec.specs.TreeInvariant.IsDirectory later.upper.tree stack.directory
+      → Rattle.vt_spec.specs.TreeInvariant.IsReached later.upper.tree stack.directory → IsWhole stack later
   whole_later tree numbers upper directory reached = record {
     tree = tree;
     numbers = numbers;
@@ -191,14 +191,14 @@ module _ (stack : Stack ℕ) (merge : Merge ℕ) (whole : IsWhole stack merge) (
   }
     where
       by : (depth : ℕ) (layer : OpenLayer ℕ) → slice_get (layers_under stack later) depth ≡ Some layer
-          → IsTree layer.tree × Rattle.vt_spec.specs.TreeLaws.IsDirectory layer.tree layer.directory
-      by zero layer e = subst (λ l. IsTree l.tree × Rattle.vt_spec.specs.TreeLaws.IsDirectory l.tree l.directory)
+          → IsTree layer.tree × Rattle.vt_spec.specs.TreeInvariant.IsDirectory layer.tree layer.directory
+      by zero layer e = subst (λ l. IsTree l.tree × Rattle.vt_spec.specs.TreeInvariant.IsDirectory l.tree l.directory)
           (same_Some _ layer e) (upper, directory)
       by (suc depth) layer e = whole.layers (suc depth) layer e
 
 -- the upper layer of a whole overlay
 pub top_open : (stack : Stack ℕ) (merge : Merge ℕ) → IsWhole stack merge
-    → IsTree merge.upper.tree × Rattle.vt_spec.specs.TreeLaws.IsDirectory merge.upper.tree stack.directory
+    → IsTree merge.upper.tree × Rattle.vt_spec.specs.TreeInvariant.IsDirectory merge.upper.tree stack.directory
 top_open stack merge whole = whole.layers 0 (record { tree = merge.upper.tree; directory = stack.directory }) refl
 
 pub attr_keeps_whole : AttrKeepsWhole

@@ -16,7 +16,7 @@ use Rattle.vt_spec.specs.Machine.Invariants.{SameObject, number_at_path, same_co
 use Rattle.vt_spec.specs.Rights.{is_directory}
 use Rattle.vt_spec.specs.Tree.{Content, Node, entries_in, entries_of, entry_named, is_directory_node, kind_of, name_cmp, parent_in, parent_of}
 use Rattle.vt_spec.specs.Tree.Content.{Directory, Regular, Symlink, Whiteout}
-use Rattle.vt_spec.specs.TreeLaws.{HasOwnParents, IsDirectory, IsReached, IsTree, entry_at, led}
+use Rattle.vt_spec.specs.TreeInvariant.{HasOwnParents, IsDirectory, IsReached, IsTree, entry_at, led}
 use Rattle.vt_spec.proofs.Nodes.{directory_used, node_other, node_set}
 use Rattle.vt_spec.proofs.Trees.{led-append}
 use Rattle.vt_tree_laws.specs.Trees.{MayMake}

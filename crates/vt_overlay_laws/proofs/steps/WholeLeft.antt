@@ -12,7 +12,7 @@ use Rattle.vt_spec.specs.Machine.World.{Real, upper_object}
 use Rattle.vt_spec.specs.Machine.World.Real.{Below, Upper}
 use Rattle.vt_spec.specs.Machine.Invariants.{number_at_path}
 use Rattle.vt_spec.specs.Tree.{Tree, entry_named, entries_in, is_directory_node}
-use Rattle.vt_spec.specs.TreeLaws.{IsDirectory, IsTree, entry_at, led}
+use Rattle.vt_spec.specs.TreeInvariant.{IsDirectory, IsTree, entry_at, led}
 use Rattle.vt_spec.proofs.Trees.{led-append}
 use Rattle.vt_layer_laws.specs.Layers.Mounted.{IsAlike}
 use Rattle.vt_layer_laws.specs.Layers.Views.{names_entry, view_in}

@@ -16,7 +16,7 @@ use Rattle.vt_spec.specs.Machine.Invariants.{SameObject, number_at_path, same_co
 use Rattle.vt_spec.specs.Rights.{is_directory}
 use Rattle.vt_spec.specs.Tree.{Content, Node, is_directory_node, kind_of, node_with_entry}
 use Rattle.vt_spec.specs.Tree.Content.{Directory, Regular, Symlink, Whiteout}
-use Rattle.vt_spec.specs.TreeLaws.{IsDirectory, IsTree, led}
+use Rattle.vt_spec.specs.TreeInvariant.{IsDirectory, IsTree, led}
 use Rattle.vt_spec.proofs.Nodes.{node_set}
 use Rattle.vt_tree_laws.specs.Trees.{MayMove}
 use Rattle.vt_layer_laws.specs.Layers.ChangesUpper.{StandsInUpper}

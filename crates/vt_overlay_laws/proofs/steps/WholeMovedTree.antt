@@ -9,7 +9,7 @@ use Rattle.vt_spec.specs.Machine.Views.{View}
 use Rattle.vt_spec.specs.Machine.World.Real.{Upper}
 use Rattle.vt_spec.specs.Machine.Invariants.{number_at_path}
 use Rattle.vt_spec.specs.Tree.{entries_in, entry_named, is_directory_node, node_with_entry}
-use Rattle.vt_spec.specs.TreeLaws.{IsDirectory, IsTree, entry_at, led}
+use Rattle.vt_spec.specs.TreeInvariant.{IsDirectory, IsTree, entry_at, led}
 use Rattle.vt_spec.proofs.Nodes.{node_other, node_set}
 use Rattle.vt_tree_laws.specs.Trees.{MayMove}
 use Rattle.vt_layer_laws.specs.Layers.ChangesUpper.{StandsInUpper}

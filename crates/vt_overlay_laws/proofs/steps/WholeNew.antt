@@ -5,7 +5,7 @@ use Rattle.vt_spec.specs.Language.Changes.{changed}
 use Rattle.vt_spec.specs.Language.Changes.Change.{Make}
 use Rattle.vt_spec.specs.Machine.Views.{View, cuts, hides, node_led}
 use Rattle.vt_spec.specs.Tree.{Node, entries_of}
-use Rattle.vt_spec.specs.TreeLaws.{IsDirectory, IsTree, led}
+use Rattle.vt_spec.specs.TreeInvariant.{IsDirectory, IsTree, led}
 use Rattle.vt_layer_laws.specs.Layers.Mounted.{IsAlike}
 use Rattle.vt_layer_laws.specs.Layers.Views.{TakesName, goes_through, names_entry, view_in}
 use Rattle.vt_layer_laws.proofs.layers.ShownDirectories.{led_is_there}

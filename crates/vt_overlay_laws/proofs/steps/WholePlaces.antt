@@ -11,7 +11,7 @@ use Rattle.vt_spec.specs.Machine.Layers.{OpenLayer, Shown, shown_from}
 use Rattle.vt_spec.specs.Machine.Invariants.{ListsNumbers}
 use Rattle.vt_spec.specs.Tree.{Tree, entries_in, is_directory_node}
 use Rattle.vt_spec.proofs.Trees.{led-append}
-use Rattle.vt_spec.specs.TreeLaws.{IsDirectory, IsTree, entry_at, led}
+use Rattle.vt_spec.specs.TreeInvariant.{IsDirectory, IsTree, entry_at, led}
 use Rattle.vt_layer_laws.proofs.layers.ShownDirectories.{AreOpen, ShowsDirectory, append_assoc, last_of, shown_in_directory}
 use Rattle.vt_layer_laws.proofs.layers.ShownNames.{last_name}
 use Rattle.vt_layer_laws.proofs.layers.ShownPaths.{not_empty, one_path}

@@ -10,7 +10,7 @@ use Rattle.vt_spec.specs.Machine.Locked.{of_overlay, overlay_or, upper_and_work}
 use Rattle.vt_spec.specs.Machine.Mounts.{Location}
 use Rattle.vt_spec.specs.Machine.World.{Filesystem, Layer, Overlay, World, filesystem_at, filesystem_numbered, is_overlay, layers_of, mount_at, replaced_if_numbered}
 use Rattle.vt_spec.specs.Tree.{is_directory_node}
-use Rattle.vt_spec.specs.TreeLaws.{HasOwnParents, IsReached, IsTree}
+use Rattle.vt_spec.specs.TreeInvariant.{HasOwnParents, IsReached, IsTree}
 use Rattle.vt_spec.proofs.Lists.{Among, all_from_among, among-append, among-flat_map, among-from_map, among_from_all, among_from_list_all, list_all_from_among}
 use Rattle.std.proofs.lemmas.List.Elements.{All-weaker}
 use Rattle.vt_tree_laws.specs.Trees.{IsFileTree}

@@ -10,7 +10,7 @@ use Rattle.vt_spec.specs.Language.Changes.Change.{AddName, CopyUp, Make, Move, R
 use Rattle.vt_spec.specs.Machine.Invariants.{ListsNumbers}
 use Rattle.vt_spec.specs.Tree.{Content, Node, Tree, entries_in, entry_named, is_directory_node, kind_of, name_cmp, node_with_bytes, parent_in, parent_of, with_entries}
 use Rattle.vt_spec.specs.Tree.Content.{Directory, Regular, Symlink, Whiteout}
-use Rattle.vt_spec.specs.TreeLaws.{HasName, HasOwnParents, IsDirectory, IsReached, IsTree, entry_at}
+use Rattle.vt_spec.specs.TreeInvariant.{HasName, HasOwnParents, IsDirectory, IsReached, IsTree, entry_at}
 use Rattle.vt_spec.proofs.Nodes.{directory_used}
 use Rattle.vt_spec.proofs.Trees.{directory_kept, entry_kept, reached_named, used_differs}
 use Rattle.vt_tree_laws.specs.Trees.{IsProper, MayMake}

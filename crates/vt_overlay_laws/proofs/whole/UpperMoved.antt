@@ -8,7 +8,7 @@ use Rattle.vt_spec.specs.Machine.CopyUp.{Merge, Stack, emptied, hides_directory,
 use Rattle.vt_spec.specs.Machine.World.Real.{Upper}
 use Rattle.vt_spec.specs.Tree.{Content, Node, entries_in, entry_named, is_directory_node}
 use Rattle.vt_spec.specs.Tree.Content.{Directory, Regular, Symlink, Whiteout}
-use Rattle.vt_spec.specs.TreeLaws.{IsDirectory, IsReached, entry_at}
+use Rattle.vt_spec.specs.TreeInvariant.{IsDirectory, IsReached, entry_at}
 use Rattle.vt_spec.proofs.Trees.{led_kept}
 use Rattle.vt_tree_laws.specs.Trees.{MayMove}
 use Rattle.vt_layer_laws.specs.Layers.ChangesUpper.{StandsInUpper}

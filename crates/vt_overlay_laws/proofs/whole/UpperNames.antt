@@ -12,7 +12,7 @@ use Rattle.vt_spec.specs.Language.Changes.{changed, changed_node, node_with_pare
 use Rattle.vt_spec.specs.Language.Changes.Change.{Remove}
 use Rattle.vt_spec.specs.Tree.{Content, Entries, Node, entries_in, entries_of, entry_named, is_directory_node, name_cmp, node_with_entry, with_entries, with_entry}
 use Rattle.vt_spec.specs.Tree.Content.{Directory, Regular, Symlink, Whiteout}
-use Rattle.vt_spec.specs.TreeLaws.{IsDirectory, IsReached, entry_at}
+use Rattle.vt_spec.specs.TreeInvariant.{IsDirectory, IsReached, entry_at}
 use Rattle.vt_spec.proofs.Nodes.{entry_named-with_entry, entry_named-without_entry}
 use Rattle.vt_overlay_laws.proofs.whole.UpperGoes.{Goes, IsGood, change_reaches, goes_by, goes_none}
 use Rattle.vt_spec.proofs.NodeChanges.{entries_in-no_directory, node_with_parent-no_directory, same_name-Equal}

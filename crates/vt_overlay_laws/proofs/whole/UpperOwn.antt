@@ -7,7 +7,7 @@ use Rattle.vt_spec.specs.Machine.CopyUp.{Merge, Stack, copied_up, emptied, hides
 use Rattle.vt_spec.specs.Machine.World.{upper_object}
 use Rattle.vt_spec.specs.Machine.World.Real.{Upper}
 use Rattle.vt_spec.specs.Tree.{Content, Node, entries_of, is_directory_node, node_with_bytes}
-use Rattle.vt_spec.specs.TreeLaws.{led}
+use Rattle.vt_spec.specs.TreeInvariant.{led}
 use Rattle.vt_spec.proofs.Trees.{led-append}
 use Rattle.vt_spec.specs.Tree.Content.{Directory, Regular, Symlink, Whiteout}
 use Rattle.vt_spec.proofs.Nodes.{directory_used, entries-node_with_bytes}

@@ -9,7 +9,7 @@ use Rattle.vt_spec.specs.Machine.World.{upper_object}
 use Rattle.vt_spec.specs.Machine.World.Real.{Upper}
 use Rattle.vt_spec.specs.Machine.Invariants.{number_at_path}
 use Rattle.vt_spec.specs.Tree.{Node, entries_in, entry_named, is_directory_node, node_with_entry}
-use Rattle.vt_spec.specs.TreeLaws.{IsDirectory, IsReached, entry_at}
+use Rattle.vt_spec.specs.TreeInvariant.{IsDirectory, IsReached, entry_at}
 use Rattle.vt_spec.proofs.Nodes.{directory_used}
 use Rattle.vt_spec.proofs.Trees.{led-append}
 use Rattle.vt_tree_laws.specs.Trees.{MayRemove}

@@ -11,7 +11,7 @@ use Rattle.vt_spec.specs.Machine.CopyUp.{Stack, copied_content, emptied, marked,
 use Rattle.vt_spec.specs.Machine.Invariants.{ListsNumbers, has_fit_names, has_fit_text, is_no_larger}
 use Rattle.vt_spec.specs.Tree.{Content, Entries, Node, entries_in, entry_named, name_cmp}
 use Rattle.vt_spec.specs.Tree.Content.{Directory, Regular, Symlink, Whiteout}
-use Rattle.vt_spec.specs.TreeLaws.{entry_at}
+use Rattle.vt_spec.specs.TreeInvariant.{entry_at}
 use Rattle.vt_spec.proofs.Lists.{among_from_list_all, among_numbers}
 use Rattle.vt_spec.proofs.Nodes.{directory_used, same_name}
 use Rattle.vt_tree_laws.specs.Trees.Sizes.{is_fit_name, is_fit_node, is_fit_tree}

@@ -6,7 +6,7 @@ use Rattle.vt_spec.specs.Language.Changes.{changed_node, node_with_mark, node_wi
 use Rattle.vt_spec.specs.Lists.{Fresh}
 use Rattle.vt_spec.specs.Machine.CopyUp.{Stack, emptied, marked, name_left_by, whiteout_of}
 use Rattle.vt_spec.specs.Tree.{Node, entries_in, entries_of, entry_named, is_directory_node, node_with_entry}
-use Rattle.vt_spec.specs.TreeLaws.{entry_at}
+use Rattle.vt_spec.specs.TreeInvariant.{entry_at}
 use Rattle.vt_spec.proofs.Nodes.{is_directory-node_with_entry, node_other, node_set}
 use Rattle.vt_tree_laws.proofs.trees.ChangesNames.{given_told, untaken_told}
 use Rattle.vt_tree_laws.proofs.trees.ChangesNodes.{elsewhere, there}

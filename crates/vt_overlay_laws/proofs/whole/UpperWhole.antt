@@ -6,7 +6,7 @@ use Rattle.vt_spec.specs.Lists.{Fresh, odds}
 use Rattle.vt_spec.specs.Machine.CopyUp.{Merge, Stack, copied_up, linked, made, merge_changed, moved, removed, upper_of}
 use Rattle.vt_spec.specs.Machine.Invariants.{ListsNumbers}
 use Rattle.vt_spec.specs.Machine.Layers.{OpenLayer}
-use Rattle.vt_spec.specs.TreeLaws.{IsDirectory, IsTree}
+use Rattle.vt_spec.specs.TreeInvariant.{IsDirectory, IsTree}
 use Rattle.vt_spec.proofs.Nodes.{directory_used}
 use Rattle.vt_tree_laws.specs.Trees.{IsFileTree, IsProper, MayAddName, MayMake, MayRemove}
 use Rattle.vt_tree_laws.proofs.trees.ChangesKeepTrees.{changes_keep_numbers, changes_keep_own_parents, changes_keep_trees}

@@ -28,7 +28,7 @@ use Rattle.vt_spec.specs.Machine.World.{Filesystem, Task, World, files_at, files
 use Rattle.vt_spec.specs.PathText.{is_empty}
 use Rattle.vt_spec.specs.Tree.{Node, entries_in, entry_named, is_directory_node, kind_of, new_directory}
 use Rattle.vt_spec.specs.Tree.Content.{Symlink, Whiteout}
-use Rattle.vt_spec.specs.TreeLaws.{HasOwnParents, IsTree}
+use Rattle.vt_spec.specs.TreeInvariant.{HasOwnParents, IsTree}
 use Rattle.vt_tree_laws.specs.Trees.{IsFileTree, MayMake}
 use Rattle.vt_tree_laws.proofs.trees.ChangesByLinks.{may_link}
 use Rattle.vt_tree_laws.proofs.trees.ChangesByRemoving.{may_move, old_removable}

@@ -29,7 +29,7 @@ use Rattle.std.proofs.Common.{◌≢◌, ◌||◌}
 use Rattle.std.specs.List.{list_any}
 use Rattle.vt_spec.specs.Language.Changes.{Change}
 use Rattle.vt_spec.specs.Machine.Locked.{is_locked, is_locked_at}
-use Rattle.vt_spec.specs.TreeLaws.{entry_at}
+use Rattle.vt_spec.specs.TreeInvariant.{entry_at}
 use Rattle.vt_tree_laws.proofs.trees.TreesWalked.{not_true}
 use Rattle.vt_overlay_permit_laws.proofs.asked.AskedNames.{through}
 use Rattle.vt_overlay_permit_laws.specs.Unlocked.{SparesLockedIf}

@@ -23,7 +23,7 @@ use Rattle.vt_spec.specs.Machine.Run.{Serves}
 use Rattle.vt_spec.specs.Machine.Settled.{settled}
 use Rattle.vt_spec.specs.Machine.World.{Filesystem, Layer, Overlay, Task, World, filesystem_numbered, is_overlay, no_filesystem, task_called}
 use Rattle.vt_spec.specs.Tree.{is_directory_node}
-use Rattle.vt_spec.specs.TreeLaws.{led}
+use Rattle.vt_spec.specs.TreeInvariant.{led}
 use Rattle.vt_spec.proofs.Lists.{Among, among-from_filter, among_from_contains, any_among, contains_from_among}
 use Rattle.vt_spec.proofs.Nodes.{directory_used}
 use Rattle.vt_laws.specs.Given.{IsFor, makes_a_name}

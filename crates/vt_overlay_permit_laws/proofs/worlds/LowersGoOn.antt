@@ -13,7 +13,7 @@ use Rattle.vt_spec.specs.Machine.Mounts.{Location}
 use Rattle.vt_spec.specs.Machine.Policy.{numbers_raised}
 use Rattle.vt_spec.specs.Machine.Settled.{settled, without_dead_filesystems, without_dead_in, without_dead_mounts}
 use Rattle.vt_spec.specs.Machine.World.{Filesystem, Layer, Overlay, World, filesystem_at, filesystem_numbered, is_overlay, mount_at, no_filesystem, with_filesystem}
-use Rattle.vt_spec.specs.TreeLaws.{led}
+use Rattle.vt_spec.specs.TreeInvariant.{led}
 use Rattle.vt_spec.proofs.Lists.{Among}
 use Rattle.vt_layer_laws.specs.Layers.Locked.{LeadsAsBefore}
 use Rattle.vt_layer_laws.proofs.layers.LowersKept.{kept_both, kept_same}

@@ -11,7 +11,7 @@ use Rattle.vt_spec.specs.Machine.Outcome.Mounting.{plain_filesystem, with_new_fi
 use Rattle.vt_spec.specs.Machine.Run.{Serves}
 use Rattle.vt_spec.specs.Machine.World.{Filesystem, Layer, Overlay, World, filesystem_numbered, is_overlay, layers_of, new_plain, no_filesystem, root_attr}
 use Rattle.vt_spec.specs.Tree.{new_directory}
-use Rattle.vt_spec.specs.TreeLaws.{HasOwnParents, IsReached, IsTree}
+use Rattle.vt_spec.specs.TreeInvariant.{HasOwnParents, IsReached, IsTree}
 use Rattle.vt_spec.proofs.Lists.{Among}
 use Rattle.vt_spec.proofs.Nodes.{directory_used}
 use Rattle.vt_tree_laws.proofs.trees.ChangesByCalls.{new_tree_is}

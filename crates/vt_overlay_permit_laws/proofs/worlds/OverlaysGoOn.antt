@@ -11,7 +11,7 @@ use Rattle.vt_spec.specs.Machine.Locked.{counts_in_layer, is_object_of, is_real_
 use Rattle.vt_spec.specs.Machine.World.{Filesystem, Layer, Overlay, World, filesystem_numbered, is_overlay, layers_of, open_layer, upper_object}
 use Rattle.vt_spec.specs.Machine.World.Real.{Upper}
 use Rattle.vt_spec.specs.Tree.{Node, is_directory_node}
-use Rattle.vt_spec.specs.TreeLaws.{IsReached, IsTree, led}
+use Rattle.vt_spec.specs.TreeInvariant.{IsReached, IsTree, led}
 use Rattle.vt_spec.proofs.Lists.{Among, among-append_left, among-append_right, among-filter, among-flat_map, among-from_filter, among-from_flat_map, among_from_list_all, among_numbers, any_among, any_from_among, list_all_from_among, none_among, none_from_among}
 use Rattle.vt_letting_go.proofs.sweeps.OfWorlds.{found_filesystem}
 use Rattle.vt_tree_laws.proofs.trees.TreesOfWorlds.{numbered_all, numbered_anyhow}

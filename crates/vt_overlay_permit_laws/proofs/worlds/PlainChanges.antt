@@ -11,7 +11,7 @@ use Rattle.vt_spec.specs.Machine.Invariants.{IsWorld, ListsNumbers, OverlayInvar
 use Rattle.vt_spec.specs.Machine.Locked.{is_locked, lies_or_counts_under, live_layers, of_overlay, overlays, upper_and_work}
 use Rattle.vt_spec.specs.Machine.Mounts.{Location}
 use Rattle.vt_spec.specs.Machine.World.{Filesystem, Layer, Overlay, World, files_at, filesystem_at, filesystem_numbered, is_overlay, layers_of, mount_at, replaced_if_numbered, shown_layers, with_filesystem}
-use Rattle.vt_spec.specs.TreeLaws.{HasOwnParents, IsReached, IsTree}
+use Rattle.vt_spec.specs.TreeInvariant.{HasOwnParents, IsReached, IsTree}
 use Rattle.vt_spec.proofs.Lists.{Among, all_from_among, among-append, among-append_left, among-append_right, among_from_all, among_from_list_all, any_from_among, list_all_from_among}
 use Rattle.std.proofs.lemmas.List.Elements.{All-weaker}
 use Rattle.vt_tree_laws.specs.Trees.{IsFileTree, IsProper}

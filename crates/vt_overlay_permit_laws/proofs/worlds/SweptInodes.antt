@@ -13,7 +13,7 @@ use Rattle.vt_spec.specs.Machine.Settled.{layers_in, located_in, named_in, objec
 use Rattle.vt_spec.specs.Machine.World.{Filesystem, Layer, Overlay, Real, World, filesystem_numbered, is_overlay, layers_of, no_filesystem, upper_object}
 use Rattle.vt_spec.specs.Machine.World.Real.{Below, Upper}
 use Rattle.vt_spec.specs.Tree.{Node}
-use Rattle.vt_spec.specs.TreeLaws.{IsReached, IsTree, led}
+use Rattle.vt_spec.specs.TreeInvariant.{IsReached, IsTree, led}
 use Rattle.vt_spec.proofs.Lists.{Among, among-filter, among-filter_map, among-flat_map, among-from_filter, among-map}
 use Rattle.vt_spec.proofs.Nodes.{directory_used}
 use Rattle.vt_tree_laws.specs.Trees.{IsFileTree}

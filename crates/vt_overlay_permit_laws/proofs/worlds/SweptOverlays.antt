@@ -9,7 +9,7 @@ use Rattle.vt_spec.specs.Machine.Invariants.{IsMerged, ListsNumbers, OverlayInva
 use Rattle.vt_spec.specs.Machine.Locked.{of_overlay, overlay_or, upper_and_work}
 use Rattle.vt_spec.specs.Machine.Settled.{filesystem_lives, has_layer_on, is_mounted, without_dead_filesystems}
 use Rattle.vt_spec.specs.Machine.World.{Filesystem, Layer, Overlay, World, filesystem_numbered, is_overlay, layers_of, no_filesystem, shown_layers}
-use Rattle.vt_spec.specs.TreeLaws.{IsReached, IsTree}
+use Rattle.vt_spec.specs.TreeInvariant.{IsReached, IsTree}
 use Rattle.vt_spec.proofs.Lists.{Among, among-append, among-append_left, among-append_right, among-filter, among-from_filter, any_among, any_from_among, pair-filter}
 use Rattle.std.proofs.lemmas.List.Elements.{All-filter}
 use Rattle.vt_letting_go.proofs.Lists.{or_second}
@@ -93,9 +93,9 @@ pub leads_same : (world later : World ℕ) (layer : Layer ℕ)
     → filesystem_numbered nat_eq later layer.filesystem ≡ filesystem_numbered nat_eq world layer.filesystem
     → LeadsAsBefore world later layer
 leads_same world later layer same path = (
-  ap (λ (f : Filesystem ℕ). Rattle.vt_spec.specs.TreeLaws.led f.files.tree layer.directory path) same,
+  ap (λ (f : Filesystem ℕ). Rattle.vt_spec.specs.TreeInvariant.led f.files.tree layer.directory path) same,
   kept_same _ _ (ap (λ (f : Filesystem ℕ). then_some
-      (Rattle.vt_spec.specs.TreeLaws.led f.files.tree layer.directory path) f.files.tree.node) same),
+      (Rattle.vt_spec.specs.TreeInvariant.led f.files.tree layer.directory path) f.files.tree.node) same),
 )
 
 pub shown_among : (overlay : Overlay ℕ) (layer : Layer ℕ) → Among layer (shown_layers overlay)

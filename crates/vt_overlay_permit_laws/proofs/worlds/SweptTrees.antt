@@ -5,7 +5,7 @@ use Rattle.vt_spec.specs.FileTree.{FileTree}
 use Rattle.vt_spec.specs.Lists.{is_among, then_some}
 use Rattle.vt_spec.specs.Machine.Settled.{only_among}
 use Rattle.vt_spec.specs.Tree.{Tree, entries_in, entry_named}
-use Rattle.vt_spec.specs.TreeLaws.{IsReached, entry_at, led}
+use Rattle.vt_spec.specs.TreeInvariant.{IsReached, entry_at, led}
 use Rattle.vt_spec.proofs.Trees.{found}
 use Rattle.vt_tree_laws.specs.Trees.{IsFileTree}
 use Rattle.vt_tree_laws.specs.Trees.Settling.{HoldsTree}

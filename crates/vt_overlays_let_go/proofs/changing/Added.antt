@@ -10,7 +10,7 @@ use Rattle.vt_spec.specs.Machine.CopyUp.{Merge, Stack, copied_up, emptied, hides
 use Rattle.vt_spec.specs.Machine.Layers.{Shown}
 use Rattle.vt_spec.specs.Machine.World.{Real, upper_object}
 use Rattle.vt_spec.specs.Machine.World.Real.{Upper}
-use Rattle.vt_spec.specs.TreeLaws.{HasName, IsTree, entry_at}
+use Rattle.vt_spec.specs.TreeInvariant.{HasName, IsTree, entry_at}
 use Rattle.vt_spec.proofs.Nodes.{directory_used}
 use Rattle.vt_layer_laws.specs.Layers.ChangesUpper.{IsFitToChange}
 use Rattle.vt_layer_laws.proofs.layers.CopyingChanges.{moved_with, object_there, removed_with}

@@ -13,7 +13,7 @@ use Rattle.vt_spec.specs.Machine.World.{Real, upper_object}
 use Rattle.vt_spec.specs.Machine.World.Real.{Upper}
 use Rattle.vt_spec.specs.Machine.Invariants.{ListsNumbers}
 use Rattle.vt_spec.specs.Tree.{Node, entries_in, entries_of, entry_named, node_with_entry}
-use Rattle.vt_spec.specs.TreeLaws.{IsTree, entry_at}
+use Rattle.vt_spec.specs.TreeInvariant.{IsTree, entry_at}
 use Rattle.vt_spec.proofs.Nodes.{directory_used, node_other, node_set}
 use Rattle.vt_layer_laws.proofs.layers.CopyingNames.{name_stays_put, name_stays_without}
 use Rattle.vt_layer_laws.proofs.layers.UpperChain.{depth_bound, up_at_root, up_from}

@@ -8,7 +8,7 @@ use Rattle.vt_spec.specs.Machine.Layers.{OpenLayer, Shown, at_path, cuts, shown,
 use Rattle.vt_spec.specs.Machine.Merging.{real_object}
 use Rattle.vt_spec.specs.Machine.World.{Layer, Overlay, World, filesystem_numbered, open_layer, upper_object}
 use Rattle.vt_spec.specs.Machine.Invariants.{IsWorld}
-use Rattle.vt_spec.specs.TreeLaws.{IsTree, entry_at}
+use Rattle.vt_spec.specs.TreeInvariant.{IsTree, entry_at}
 use Rattle.vt_spec.proofs.Trees.{led-append}
 use Rattle.vt_layer_laws.specs.Layers.Shown.{IsShown}
 use Rattle.vt_layer_laws.proofs.layers.ShownAtPath.{computed}

@@ -10,12 +10,12 @@ use Rattle.vt_spec.specs.Lists.{Fresh, evens, is_among, odds}
 use Rattle.vt_spec.specs.Machine.CopyUp.{Merge, Stack, copied_up, emptied, hides_directory, linked, made, merge_changed, moved, name_left_by, removed, shown_below, upper_directory_named, upper_of, whiteout_of}
 use Rattle.vt_spec.specs.Machine.Filesystems.{stack_of, with_change}
 use Rattle.vt_spec.specs.Machine.Mounts.{Location}
-use Rattle.vt_spec.specs.Machine.Outcome.Descriptors.{opened, with_copy, with_descriptor}
+use Rattle.vt_spec.specs.Machine.Outcome.Descriptors.{opened, overwritten, with_copy, with_descriptor}
 use Rattle.vt_spec.specs.Machine.Settled.{named_in, settled}
-use Rattle.vt_spec.specs.Machine.World.{Filesystem, Layer, Overlay, World, files_at, filesystem_numbered, mount_at, upper_object}
+use Rattle.vt_spec.specs.Machine.World.{Filesystem, Layer, Overlay, World, files_at, filesystem_numbered, mount_at, node_at, upper_object}
 use Rattle.vt_spec.specs.Machine.Invariants.{IsWorld}
-use Rattle.vt_spec.specs.Tree.{Node, entries_in, entry_named, node_with_bytes}
-use Rattle.vt_spec.specs.TreeLaws.{HasName, entry_at}
+use Rattle.vt_spec.specs.Tree.{Node, bytes_in, entries_in, entry_named, node_with_bytes}
+use Rattle.vt_spec.specs.TreeInvariant.{HasName, entry_at}
 use Rattle.vt_spec.proofs.Lists.{among_from_contains}
 use Rattle.vt_spec.proofs.Nodes.{node_other, entries-node_with_bytes}
 use Rattle.vt_layer_laws.specs.Layers.ChangesUpper.{IsFitToChange, copied_for}
@@ -29,7 +29,7 @@ use Rattle.vt_letting_go.proofs.Lists.{Among, all_pass, among-append_left, among
 use Rattle.vt_letting_go.proofs.leaving.NamesKept.{found_entry}
 use Rattle.vt_letting_go.proofs.Trees.{named_among}
 use Rattle.vt_overlays_let_go.specs.OverlayChanges.{CanChange, inodes_lost_with_upper, merge_after, merge_at, unnamed_by}
-use Rattle.vt_overlays_let_go.specs.OverlayNames.{OnlyTheseLoseNames, OpenedCopiesKeepAll, OverlayChangesKeepAll, names_under, under_name, upper_names_lost}
+use Rattle.vt_overlays_let_go.specs.OverlayNames.{OnlyTheseLoseNames, OpenedCopiesKeepAll, OverlayChangesKeepAll, WrittenPartsInOverlaysKeepAll, names_under, under_name, upper_names_lost}
 use Rattle.vt_overlays_let_go.proofs.changing.Copied.{even_distinct, odd_distinct}
 use Rattle.vt_overlays_let_go.proofs.changing.NamesCopied.{Fine, IsFine, line_fine, one_place, put_same, take_same}
 use Rattle.vt_overlays_let_go.proofs.changing.NamesFree.{names_free}
@@ -428,6 +428,14 @@ overlay_changes_keep_all fresh world location change overlay upper conditions ca
     overlay_changes_let_go fresh world location change overlay upper conditions can
     ∙ ap (let_go_all_inodes (with_change nat_eq fresh world location change))
     (nothing_lost fresh world location change overlay upper conditions can none none_above)
+
+pub written_parts_in_overlays_keep_all : WrittenPartsInOverlaysKeepAll
+written_parts_in_overlays_keep_all fresh world task file offset [] overlay upper conditions can =
+    conditions.nothing_unused
+written_parts_in_overlays_keep_all fresh world task file offset (byte ∷ bytes) overlay upper conditions can =
+    overlay_changes_keep_all fresh world file
+    (SetBytes file.node (overwritten offset (byte ∷ bytes) (bytes_in (node_at nat_eq world file)))) overlay upper
+    conditions (can (λ none. cc)) refl refl
 
 pub opened_copies_keep_all : OpenedCopiesKeepAll
 opened_copies_keep_all fresh world task file access overlay upper conditions there on copies can =

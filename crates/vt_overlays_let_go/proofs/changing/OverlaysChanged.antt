@@ -15,7 +15,7 @@ use Rattle.vt_spec.specs.Machine.Settled.{named_in, objects_of_overlay, settled}
 use Rattle.vt_spec.specs.Machine.World.{Filesystem, Layer, Overlay, Real, World, filesystem_at, filesystem_numbered, is_overlay, layers_of, mount_at, no_filesystem, replaced_if_numbered, shown_layers, upper_object}
 use Rattle.vt_spec.specs.Machine.Invariants.{IsWorld, is_plain_layer}
 use Rattle.vt_spec.specs.Tree.{Node, is_directory_node}
-use Rattle.vt_spec.specs.TreeLaws.{HasName}
+use Rattle.vt_spec.specs.TreeInvariant.{HasName}
 use Rattle.vt_layer_laws.specs.Layers.ChangesUpper.{IsFitToChange}
 use Rattle.vt_layer_laws.proofs.layers.LowersWorld.{number_of_filesystem}
 use Rattle.vt_layer_laws.proofs.layers.UpperFit.{overlays_are_fit}

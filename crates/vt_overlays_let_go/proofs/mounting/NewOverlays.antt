@@ -9,7 +9,7 @@ use Rattle.vt_spec.specs.Machine.Outcome.Mounting.{inode_count, overlay_filesyst
 use Rattle.vt_spec.specs.Machine.Settled.{named_in}
 use Rattle.vt_spec.specs.Machine.World.{Filesystem}
 use Rattle.vt_spec.specs.Tree.{Tree}
-use Rattle.vt_spec.specs.TreeLaws.{HasName, entry_at, led}
+use Rattle.vt_spec.specs.TreeInvariant.{HasName, entry_at, led}
 use Rattle.vt_layer_laws.proofs.directories.Fit.{new_overlay_is_tree, new_overlay_lists_numbers}
 use Rattle.vt_layer_laws.proofs.layers.ShownDirectories.{AreOpen, last_of}
 use Rattle.vt_layer_laws.proofs.layers.ShownMerged.{inodes, number}

@@ -20,7 +20,7 @@ use Rattle.vt_spec.specs.Machine.Invariants.{HasLivingGroups, IsWorld, ListsNumb
 use Rattle.vt_spec.specs.Machine.Invariants.Lives.{has_master, has_no_master}
 use Rattle.vt_spec.specs.Tree.{Content, Entries, Node, Tree, entries_in, entry_named, is_directory_node, name_cmp, parent_in}
 use Rattle.vt_spec.specs.Tree.Content.{Directory, Regular, Symlink, Whiteout}
-use Rattle.vt_spec.specs.TreeLaws.{IsTree}
+use Rattle.vt_spec.specs.TreeInvariant.{IsTree}
 use Rattle.vt_spec.proofs.Nodes.{directory_used, same_name}
 use Rattle.vt_tree_laws.proofs.trees.TreesOfWorlds.{number_numbered, numbered_all}
 use Rattle.vt_tree_laws.proofs.trees.TreesTasks.{both}

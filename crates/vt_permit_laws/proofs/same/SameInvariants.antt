@@ -21,7 +21,7 @@ use Rattle.vt_spec.specs.Machine.World.{Descriptor, Filesystem, Namespace, Task,
 use Rattle.vt_spec.specs.Machine.Invariants.{ForksAreCounted, ListsNumbers, MountInvariants, NamespaceInvariants, Stands, TaskInvariants, TreeInvariants, has_fit_names, has_fit_text, has_one_root, is_fit_filesystem, is_listed, is_no_larger, is_within_limits}
 use Rattle.vt_spec.proofs.Lists.{among_from_contains, contains_from_among}
 use Rattle.vt_spec.specs.Tree.{Node, Tree, is_directory_node}
-use Rattle.vt_spec.specs.TreeLaws.{HasOwnParents, IsTree}
+use Rattle.vt_spec.specs.TreeInvariant.{HasOwnParents, IsTree}
 use Rattle.vt_world_laws.specs.Worlds.Kept.{IsWorldButForUse, MountsShow}
 use Rattle.vt_spec.proofs.Worlds.{stands_alike}
 

@@ -1,10 +1,10 @@
--- What the answer to a call tells, and how mounts and groups are listed.
+-- What a call returns, and how mounts and groups are listed (profile).
 use Rattle.std.specs.Prelude.{Bool, List, Option, ℕ}
 use Rattle.vt_spec.specs.declared.attributes.Attr.{Attr}
 use Rattle.vt_spec.specs.declared.attributes.Kind.{Kind}
 use Rattle.vt_spec.specs.Language.Calls.{MountFlags, TaskName}
 
--- what stat(2) tells of an object: its size where it has one, and the mark of a directory of a plain tree
+-- what stat(2) returns for an object: its size where it has one, and the mark of a directory of a plain tree
 pub record StatLine : Type 0 where
   pub kind : Kind
   pub attr : Attr
@@ -32,14 +32,14 @@ pub record MountLine : Type 0 where
   pub flags : MountFlags
   pub kind : TypeLine
 
--- a line of the list of groups: peers and slaves by the place of their namespace and of the mount in it
+-- a line of the list of groups: peers and slaves by the index of their namespace and of the mount in it
 pub record PeerLine : Type 0 where
   pub group : ℕ
   pub master : Option ℕ
   pub peers : List (ℕ × ℕ)
   pub slaves : List (ℕ × ℕ)
 
--- what an answer tells
+-- what a call that is not refused returns
 pub data Answer : Type 0 where
   Done : Answer
   Bytes : (bytes : List ℕ) → Answer

@@ -1,4 +1,4 @@
--- The calls of a task, as a script names them.
+-- The calls of a task, as a script names them: each is the system call named with it, in the profile's spelling.
 use Rattle.std.specs.Prelude.{Bool, List, Option, false, ℕ}
 use Rattle.std.specs.Str.{bytes_eq}
 
@@ -6,6 +6,7 @@ use Rattle.std.specs.Str.{bytes_eq}
 abbrev pub TaskName : Type 0
 TaskName = List ℕ
 
+-- two names of tasks are the same
 abbrev pub same_name : TaskName → TaskName → Bool
 same_name a b = bytes_eq a b
 
@@ -15,6 +16,7 @@ pub record MountFlags : Type 0 where
   pub noexec : Bool
   pub nosymfollow : Bool
 
+-- no flags: a mount that is written to, with `exec` and symlinks
 abbrev pub plain_flags : MountFlags
 plain_flags = record { read_only = false; noexec = false; nosymfollow = false }
 
@@ -54,6 +56,7 @@ pub data TypeWord : Type 0 where
   ToPrivate : TypeWord
   ToUnbindable : TypeWord
 
+-- a call, with the words that the script gives it
 pub data Call : Type 0 where
   -- open(2) with O_DIRECTORY, then getdents(2)
   Ls : (path : List ℕ) → Call

@@ -34,10 +34,11 @@ spaced words = flat_map (λ word. 32 ∷ word) words
 abbrev pub printed_mode : ℕ → List ℕ
 printed_mode mode = (48 + mode / 512 % 8) ∷ (48 + mode / 64 % 8) ∷ (48 + mode / 8 % 8) ∷ (48 + mode % 8) ∷ []
 
--- the words that stat and lstat tell: inode(7)
+-- kind, mode, owner and group of an object
 abbrev pub owner_words : List ℕ → Attr → List (List ℕ)
 owner_words kind attr = kind ∷ printed_mode attr.mode ∷ decimal attr.uid ∷ decimal attr.gid ∷ []
 
+-- the words that stat and lstat answer: inode(7)
 abbrev pub stat_words : Kind → StatLine → List (List ℕ)
 stat_words Dir line = owner_words (codes "dir") line.attr ++ (if line.opaque then codes "opaque" ∷ [] else [])
 stat_words File line = owner_words (codes "file") line.attr ++ (decimal line.size ∷ [])
@@ -48,20 +49,24 @@ stat_words White line = owner_words (codes "white") line.attr
 abbrev pub printed_task : TaskName → List ℕ
 printed_task name = codes "t" ++ flat_map (λ number. 46 ∷ decimal number) name
 
+-- a path from a root, a slash before each name
 abbrev pub printed_path : List (List ℕ) → List ℕ
 printed_path [] = codes "/"
 printed_path (name ∷ names) = flat_map (λ word. 47 ∷ flat_map printed_byte word) (name ∷ names)
 
+-- such a path, or `gone`
 abbrev pub printed_spot : Spot → List ℕ
 printed_spot Gone = codes "gone"
 printed_spot (Reached path) = printed_path path
 
+-- the flags of a mount
 abbrev pub printed_flags : MountFlags → List ℕ
 printed_flags given =
     (if given.read_only then codes "ro" else codes "rw")
     ++ (if given.noexec then codes ",noexec" else [])
     ++ (if given.nosymfollow then codes ",nosymfollow" else [])
 
+-- the propagation type of a mount
 abbrev pub printed_type : TypeLine → List ℕ
 printed_type (SharedLine group None) = codes "shared:" ++ decimal group
 printed_type (SharedLine group (Some master)) = codes "shared:" ++ decimal group ++ codes ",slave:" ++ decimal master
@@ -69,13 +74,16 @@ printed_type (SlaveLine master) = codes "slave:" ++ decimal master
 printed_type PrivateLine = codes "private"
 printed_type UnbindableLine = codes "unbindable"
 
+-- a mount's parent and the path of its mount point there, `-` for a mount without one
 abbrev pub place_words : Option (ℕ × Spot) → List (List ℕ)
 place_words None = codes "-" ∷ codes "-" ∷ []
 place_words (Some place) = decimal place.0 ∷ printed_spot place.1 ∷ []
 
+-- the kind of a filesystem, before its number
 abbrev pub kind_word : Bool → List ℕ
 kind_word overlay = if overlay then codes "overlay:" else codes "plain:"
 
+-- a line of the list of mounts: mountinfo of proc(5), in the profile's form
 abbrev pub mount_line_words : ℕ × MountLine → List (List ℕ)
 mount_line_words line =
     decimal line.0 ∷ place_words line.1.mount_point
@@ -87,14 +95,16 @@ abbrev pub number_or_dash : Option ℕ → List ℕ
 number_or_dash None = codes "-"
 number_or_dash (Some number) = decimal number
 
--- `namespace.k` with commas, or `-` for none
+-- a mount as `namespace.k`
 abbrev pub printed_member : ℕ × ℕ → List ℕ
 printed_member member = decimal member.0 ++ codes "." ++ decimal member.1
 
+-- mounts with commas between, or `-` for none
 abbrev pub printed_members : List (ℕ × ℕ) → List ℕ
 printed_members [] = codes "-"
 printed_members (member ∷ members) = printed_member member ++ flat_map (λ other. 44 ∷ printed_member other) members
 
+-- a line of the list of peer groups
 abbrev pub peer_line_words : PeerLine → List (List ℕ)
 peer_line_words line =
     decimal line.group ∷ number_or_dash line.master ∷ printed_members line.peers ∷ printed_members line.slaves ∷ []
@@ -117,6 +127,7 @@ printed_rows (MountList lines) = map mount_line_words (counted_from 1 lines)
 printed_rows (PeerList lines) = map peer_line_words lines
 printed_rows answer = []
 
+-- words as a line, with the number of the line that they answer
 abbrev pub printed_line : ℕ → List (List ℕ) → List ℕ
 printed_line number words = decimal number ++ spaced words ++ codes "\n"
 
@@ -125,4 +136,5 @@ abbrev pub reply_line : ℕ → Result Answer Deny → List ℕ
 reply_line number (Ok answer) =
     printed_line number (codes "ok" ∷ printed_value answer) ++ flat_map (printed_line number) (printed_rows answer)
 reply_line number (Err deny) =
-    printed_line number (codes "deny" ∷ decimal (number_of deny.errno) ∷ errno_name deny.errno ∷ rule_name deny.rule ∷ [])
+    printed_line number
+    (codes "deny" ∷ decimal (number_of deny.errno) ∷ errno_name deny.errno ∷ rule_name deny.rule ∷ [])

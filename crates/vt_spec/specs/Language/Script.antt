@@ -9,17 +9,18 @@ use Rattle.vt_spec.specs.Language.Calls.CapabilityWord.{Held, These}
 use Rattle.vt_spec.specs.Language.Calls.Creation.{Exclusive, NoCreation, OrCreate}
 use Rattle.vt_spec.specs.Language.Calls.Directive.{AskPeers, AskSealed}
 use Rattle.vt_spec.specs.Language.Calls.TypeWord.{ToPrivate, ToShared, ToSlave, ToUnbindable}
-use Rattle.vt_spec.specs.Language.Limits.{most_groups}
+use Rattle.vt_spec.specs.Language.Limits.{largest_descriptor, most_forks, most_groups, most_named_tasks}
 use Rattle.vt_spec.specs.Lists.{folded, or_else, then_some, when}
 use Rattle.vt_spec.specs.PathText.{is_empty, parts, words_between}
 use Rattle.vt_spec.specs.Rights.{cap_chown, cap_dac_override, cap_dac_read_search, cap_fowner, cap_setgid, cap_setuid, cap_sys_admin, cap_sys_chroot}
 
--- The lines of a script end with a newline; a last line without one counts too.
+-- the lines with one byte more before them; a newline ends a line
 abbrev pub with_line_byte : Bool → ℕ → List (List ℕ) → List (List ℕ)
 with_line_byte true byte lines = [] ∷ lines
 with_line_byte false byte [] = (byte ∷ []) ∷ []
 with_line_byte false byte (line ∷ lines) = (byte ∷ line) ∷ lines
 
+-- The lines of a script end with a newline; a last line without one counts too.
 abbrev pub lines_of : List ℕ → List (List ℕ)
 lines_of [] = []
 lines_of (byte ∷ bytes) = with_line_byte (byte == 10) byte (lines_of bytes)
@@ -28,11 +29,12 @@ lines_of (byte ∷ bytes) = with_line_byte (byte == 10) byte (lines_of bytes)
 abbrev pub raw_tokens : List ℕ → List (List ℕ)
 raw_tokens line = words_between 32 line
 
--- a line of spaces alone, and a comment, have no answer
+-- the tokens of a line of spaces alone, or of a comment
 abbrev pub is_silent_token : List (List ℕ) → Bool
 is_silent_token [] = true
 is_silent_token (token ∷ tokens) = slice_index token 0 == 35
 
+-- a line of spaces alone, and a comment, have no answer
 abbrev pub is_silent : List ℕ → Bool
 is_silent line = is_silent_token (raw_tokens line)
 
@@ -55,14 +57,17 @@ hex_value byte =
     else if nat_le 97 byte && nat_le byte 102 then Some (byte - 87)
     else None
 
+-- the reading after the first digit of an escape
 abbrev pub after_first_digit : Option ℕ → Reading
 after_first_digit None = Failed
 after_first_digit (Some digit) = AfterHigh digit
 
+-- the reading after its second digit
 abbrev pub after_second_digit : Option ℕ → Reading
 after_second_digit None = Failed
 after_second_digit (Some digit) = Between
 
+-- the reading after one byte more
 abbrev pub next_reading : Reading → ℕ → Reading
 next_reading Between byte = if byte == 92 then AfterBackslash else if is_plain byte then Between else Failed
 next_reading AfterBackslash byte = if byte == 120 then AfterX else Failed
@@ -78,6 +83,7 @@ completed AfterX byte = None
 completed (AfterHigh high) byte = option_map (λ low. 16 * high + low) (hex_value byte)
 completed Failed byte = None
 
+-- the text with a byte before it, if one was completed
 abbrev pub with_completed : Option ℕ → Option (List ℕ) → Option (List ℕ)
 with_completed None rest = rest
 with_completed (Some byte) rest = option_map (λ bytes. byte ∷ bytes) rest
@@ -95,20 +101,24 @@ spelled reading (byte ∷ bytes) = with_completed (completed reading byte) (spel
 abbrev pub token_text : List ℕ → Option (List ℕ)
 token_text token = if bytes_eq token (codes "\\e") then Some [] else spelled Between token
 
--- all of them, if each is there
+-- one value more before others, if all exist
 abbrev pub with_first : {A : Type 0} → Option A → Option (List A) → Option (List A)
 with_first None rest = None
 with_first (Some a) None = None
 with_first (Some a) (Some rest) = Some (a ∷ rest)
 
+-- all of them read, if each can be
 abbrev pub each_of : {A B : Type 0} → (A → Option B) → List A → Option (List B)
 each_of read [] = Some []
 each_of read (a ∷ rest) = with_first (read a) (each_of read rest)
 
 -- Numbers
+
+-- all are digits of a base
 abbrev pub digits_below : ℕ → List ℕ → Bool
 digits_below base text = list_all (λ byte. nat_le 48 byte && nat_lt byte (48 + base)) text
 
+-- the value of digits in a base, from a value on
 abbrev pub value_from : ℕ → ℕ → List ℕ → ℕ
 value_from base value [] = value
 value_from base value (byte ∷ bytes) = value_from base (base * value + (byte - 48)) bytes
@@ -124,14 +134,16 @@ number_in base most limit text =
 abbrev pub mode_word : List ℕ → Option ℕ
 mode_word text = number_in 8 4 1023 text
 
--- A task is `t` and any number of `.k`, with k from 1 to 64 without leading zeros.
+-- the number of a child in a task's name: from 1 to 64, without leading zeros
 abbrev pub child_number : List ℕ → Option ℕ
-child_number text = if slice_index text 0 == 48 then None else number_in 10 2 64 text
+child_number text = if slice_index text 0 == 48 then None else number_in 10 2 most_forks text
 
+-- a task is `t` and any number of such numbers
 abbrev pub name_of_parts : List (List ℕ) → Option TaskName
 name_of_parts [] = None
 name_of_parts (first ∷ children) = if bytes_eq first (codes "t") then each_of child_number children else None
 
+-- A task is `t` and any number of `.k`, with k from 1 to 64 without leading zeros.
 abbrev pub task_word : List ℕ → Option TaskName
 task_word text = name_of_parts (parts 46 text)
 
@@ -152,6 +164,7 @@ capability_named text =
     else if bytes_eq text (codes "CAP_SYS_ADMIN") then Some cap_sys_admin
     else None
 
+-- all of these capabilities
 abbrev pub union : List ℕ → ℕ
 union [] = 0
 union (set ∷ sets) = bit_or set (union sets)
@@ -163,15 +176,17 @@ capabilities_word text =
     else if bytes_eq text (codes "*") then Some Held
     else option_map (λ sets. These (union sets)) (each_of capability_named (parts 44 text))
 
--- numbers of at most ten digits
+-- a uid or gid of at most ten digits, at most 2^32 - 2: chown(2) takes 2^32 - 1 for none
 abbrev pub identity_word : List ℕ → Option ℕ
 identity_word text = number_in 10 10 4294967294 text
 
+-- an offset or a length of at most ten digits, at most 2^32 - 1
 abbrev pub offset_word : List ℕ → Option ℕ
 offset_word text = number_in 10 10 4294967295 text
 
+-- the number of a descriptor, of at most ten digits
 abbrev pub descriptor_word : List ℕ → Option ℕ
-descriptor_word text = number_in 10 10 255 text
+descriptor_word text = number_in 10 10 largest_descriptor text
 
 -- `-` for what stays, or an identity
 abbrev pub kept_or_identity : List ℕ → Option (Option ℕ)
@@ -194,9 +209,11 @@ pub data Version : Type 0 where
   One : Version
   Two : Version
 
+-- the flags of a mount
 abbrev pub flags_given : Bool → Bool → Bool → MountFlags
 flags_given read_only noexec nosymfollow = record { read_only = read_only; noexec = noexec; nosymfollow = nosymfollow }
 
+-- the flags that both versions know
 abbrev pub first_flags : List ℕ → Option MountFlags
 first_flags text =
     if bytes_eq text (codes "rw") then Some (flags_given false false false)
@@ -205,6 +222,7 @@ first_flags text =
     else if bytes_eq text (codes "ro,noexec") then Some (flags_given true true false)
     else None
 
+-- the flags that the second version knows too
 abbrev pub second_flags : List ℕ → Option MountFlags
 second_flags text =
     if bytes_eq text (codes "rw,nosymfollow") then Some (flags_given false false true)
@@ -213,10 +231,12 @@ second_flags text =
     else if bytes_eq text (codes "ro,noexec,nosymfollow") then Some (flags_given true true true)
     else None
 
+-- the flags of a mount, in a version of the language
 abbrev pub flags_word : Version → List ℕ → Option MountFlags
 flags_word One text = first_flags text
 flags_word Two text = or_else (first_flags text) (second_flags text)
 
+-- a propagation type
 abbrev pub type_word : List ℕ → Option TypeWord
 type_word text =
     if bytes_eq text (codes "shared") then Some ToShared
@@ -225,6 +245,7 @@ type_word text =
     else if bytes_eq text (codes "unbindable") then Some ToUnbindable
     else None
 
+-- what a file is opened for
 abbrev pub access_word : List ℕ → Option Access
 access_word text =
     if bytes_eq text (codes "r") then Some (record { reads = true; writes = false })
@@ -232,6 +253,7 @@ access_word text =
     else if bytes_eq text (codes "rw") then Some (record { reads = true; writes = true })
     else None
 
+-- whether a directory is marked opaque
 abbrev pub yes_or_no_word : List ℕ → Option Bool
 yes_or_no_word text =
     if bytes_eq text (codes "yes") then Some true
@@ -253,38 +275,50 @@ behind beginning text = when (bytes_eq (take (length beginning) text) beginning)
 abbrev pub single_path : List ℕ → Option (List ℕ)
 single_path text = if list_any (λ byte. byte == 58) text then None else path_word text
 
+-- `lowerdir=` and paths between colons, from the top layer down: overlayfs
 abbrev pub lower_item : List ℕ → Option OptionItem
-lower_item text = then_some (behind (codes "lowerdir=") text) (λ paths. option_map LowerItem (each_of path_word (parts 58 paths)))
+lower_item text =
+    then_some (behind (codes "lowerdir=") text) (λ paths. option_map LowerItem (each_of path_word (parts 58 paths)))
 
+-- `upperdir=` and a path
 abbrev pub upper_item : List ℕ → Option OptionItem
 upper_item text = then_some (behind (codes "upperdir=") text) (λ path. option_map UpperItem (single_path path))
 
+-- `workdir=` and a path
 abbrev pub work_item : List ℕ → Option OptionItem
 work_item text = then_some (behind (codes "workdir=") text) (λ path. option_map WorkItem (single_path path))
 
+-- a feature of overlayfs that is turned off; here it always is (profile)
 abbrev pub off_item : List ℕ → Option OptionItem
 off_item text =
-    when (list_any (bytes_eq text) (codes "index=off" ∷ codes "metacopy=off" ∷ codes "redirect_dir=off" ∷ codes "xino=off" ∷ [])) OffItem
+    when (list_any (bytes_eq text)
+    (codes "index=off" ∷ codes "metacopy=off" ∷ codes "redirect_dir=off" ∷ codes "xino=off" ∷ [])) OffItem
 
+-- one option of an overlay
 abbrev pub option_item : List ℕ → Option OptionItem
 option_item text = or_else (lower_item text) (or_else (upper_item text) (or_else (work_item text) (off_item text)))
 
+-- the options with one more; of a repeated one the last counts
 abbrev pub with_item : OverlayWords → OptionItem → OverlayWords
 with_item words (LowerItem paths) = record words { lowers = paths }
 with_item words (UpperItem path) = record words { upper = Some path }
 with_item words (WorkItem path) = record words { work = Some path }
 with_item words OffItem = words
 
+-- the options of an overlay, if all of them are options
 abbrev pub options_of : List ℕ → Option OverlayWords
 options_of text =
     option_map (folded with_item (record { lowers = []; upper = None; work = None }))
     (each_of option_item (parts 44 text))
 
 -- The words after a call's name: one after the other, and no more
+
+-- a word, then what comes after it
 abbrev pub word_then : {A B : Type 0} → (List ℕ → Option A) → (A → List (List ℕ) → Option B) → List (List ℕ) → Option B
 word_then read next [] = None
 word_then read next (word ∷ rest) = then_some (read word) (λ a. next a rest)
 
+-- the end of the words
 abbrev pub no_more : {B : Type 0} → B → List (List ℕ) → Option B
 no_more b [] = Some b
 no_more b (word ∷ rest) = None
@@ -294,12 +328,15 @@ abbrev pub may_have : {A B : Type 0} → (List ℕ → Option A) → (Option A �
 may_have read b [] = Some (b None)
 may_have read b (word ∷ rest) = then_some (read word) (λ a. no_more (b (Some a)) rest)
 
+-- a call of one path
 abbrev pub path_alone : (List ℕ → Call) → List (List ℕ) → Option Call
 path_alone call = word_then path_word (λ path. no_more (call path))
 
+-- a call of two paths
 abbrev pub two_paths : (List ℕ → List ℕ → Call) → List (List ℕ) → Option Call
 two_paths call = word_then path_word (λ first. word_then path_word (λ second. no_more (call first second)))
 
+-- a mount call's flags; `rw` where they are left out
 abbrev pub flags_or_plain : Version → (MountFlags → Call) → List (List ℕ) → Option Call
 flags_or_plain version call = may_have (flags_word version) (λ given. call (unwrap_or given plain_flags))
 
@@ -309,6 +346,7 @@ chown_call path None None rest = None
 chown_call path None (Some gid) rest = no_more (Chown path None (Some gid)) rest
 chown_call path (Some uid) gid rest = no_more (Chown path (Some uid) gid) rest
 
+-- what `open` does where the name is missing: open(2), O_CREAT and O_EXCL
 abbrev pub creation_words : List (List ℕ) → Option Creation
 creation_words [] = Some NoCreation
 creation_words (word ∷ rest) =
@@ -316,6 +354,7 @@ creation_words (word ∷ rest) =
     else if bytes_eq word (codes "excl") then word_then mode_word (λ mode. no_more (Exclusive mode)) rest
     else None
 
+-- the words of `fork`
 abbrev pub fork_words : List (List ℕ) → Option Call
 fork_words [] = Some (Fork None)
 fork_words (word ∷ rest) =
@@ -327,6 +366,7 @@ fork_words (word ∷ rest) =
       capabilities = capabilities;
     }))))))) (word ∷ rest)
 
+-- the words of `mount`, by the kind of the filesystem
 abbrev pub mount_words : Version → List ℕ → List (List ℕ) → Option Call
 mount_words version kind words =
     if bytes_eq kind (codes "plain") then
@@ -337,10 +377,13 @@ mount_words version kind words =
     else None
 
 -- the words of a call by its name, in a version of the language
+
+-- of the calls that came with the second version
 abbrev pub second_words : Version → List ℕ → List (List ℕ) → Option Call
 second_words One name words = None
 second_words Two name words = if bytes_eq name (codes "pivot_root") then two_paths PivotRoot words else None
 
+-- of these, and the calls on mounts
 abbrev pub mounting_words : Version → List ℕ → List (List ℕ) → Option Call
 mounting_words version name words =
     if bytes_eq name (codes "mount") then word_then bytes_word (λ kind. mount_words version kind) words
@@ -349,12 +392,16 @@ mounting_words version name words =
     else if bytes_eq name (codes "move") then two_paths MoveMount words
     else if bytes_eq name (codes "umount") then path_alone Umount words
     else if bytes_eq name (codes "lazy") then path_alone Lazy words
-    else if bytes_eq name (codes "remount") then word_then path_word (λ path. word_then (flags_word version) (λ given. no_more (Remount path given))) words
-    else if bytes_eq name (codes "type") then word_then path_word (λ path. word_then type_word (λ word. no_more (SetType path word false))) words
-    else if bytes_eq name (codes "rtype") then word_then path_word (λ path. word_then type_word (λ word. no_more (SetType path word true))) words
+    else if bytes_eq name (codes "remount") then
+    word_then path_word (λ path. word_then (flags_word version) (λ given. no_more (Remount path given))) words
+    else if bytes_eq name (codes "type") then
+    word_then path_word (λ path. word_then type_word (λ word. no_more (SetType path word false))) words
+    else if bytes_eq name (codes "rtype") then
+    word_then path_word (λ path. word_then type_word (λ word. no_more (SetType path word true))) words
     else if bytes_eq name (codes "mounts") then no_more ListMounts words
     else second_words version name words
 
+-- of these, and the calls on tasks and namespaces
 abbrev pub task_words : Version → List ℕ → List (List ℕ) → Option Call
 task_words version name words =
     if bytes_eq name (codes "chdir") then path_alone Chdir words
@@ -367,6 +414,7 @@ task_words version name words =
     else if bytes_eq name (codes "setns") then word_then task_word (λ task. no_more (Setns task)) words
     else mounting_words version name words
 
+-- of these, and the calls on open files
 abbrev pub descriptor_words : Version → List ℕ → List (List ℕ) → Option Call
 descriptor_words version name words =
     if bytes_eq name (codes "open") then
@@ -381,13 +429,19 @@ descriptor_words version name words =
     else if bytes_eq name (codes "close") then word_then descriptor_word (λ number. no_more (Close number)) words
     else task_words version name words
 
+-- of these, and the calls that set attributes
 abbrev pub attribute_words : Version → List ℕ → List (List ℕ) → Option Call
 attribute_words version name words =
-    if bytes_eq name (codes "chmod") then word_then path_word (λ path. word_then mode_word (λ mode. no_more (Chmod path mode))) words
-    else if bytes_eq name (codes "chown") then word_then path_word (λ path. word_then kept_or_identity (λ uid. word_then kept_or_identity (λ gid. chown_call path uid gid))) words
-    else if bytes_eq name (codes "opaque") then word_then path_word (λ path. word_then yes_or_no_word (λ mark. no_more (Opaque path mark))) words
+    if bytes_eq name (codes "chmod") then
+    word_then path_word (λ path. word_then mode_word (λ mode. no_more (Chmod path mode))) words
+    else if bytes_eq name (codes "chown") then
+    word_then path_word (λ path.
+    word_then kept_or_identity (λ uid. word_then kept_or_identity (λ gid. chown_call path uid gid))) words
+    else if bytes_eq name (codes "opaque") then
+    word_then path_word (λ path. word_then yes_or_no_word (λ mark. no_more (Opaque path mark))) words
     else descriptor_words version name words
 
+-- of these, and the calls that make, remove and rename
 abbrev pub naming_words : Version → List ℕ → List (List ℕ) → Option Call
 naming_words version name words =
     if bytes_eq name (codes "mkdir") then word_then path_word (λ path. may_have mode_word (Mkdir path)) words
@@ -399,6 +453,7 @@ naming_words version name words =
     else if bytes_eq name (codes "rename") then two_paths Rename words
     else attribute_words version name words
 
+-- of all calls
 abbrev pub call_words : Version → List ℕ → List (List ℕ) → Option Call
 call_words version name words =
     if bytes_eq name (codes "ls") then path_alone Ls words
@@ -406,15 +461,20 @@ call_words version name words =
     else if bytes_eq name (codes "lstat") then path_alone Lstat words
     else if bytes_eq name (codes "readlink") then path_alone Readlink words
     else if bytes_eq name (codes "read") then path_alone Read words
-    else if bytes_eq name (codes "write") then word_then path_word (λ path. word_then bytes_word (λ bytes. no_more (Write path bytes))) words
+    else if bytes_eq name (codes "write") then
+    word_then path_word (λ path. word_then bytes_word (λ bytes. no_more (Write path bytes))) words
     else if bytes_eq name (codes "exec") then path_alone Exec words
     else naming_words version name words
 
 -- Directives stand behind a `!`
+
+-- the tasks of `sealed`, one at least
 abbrev pub some_tasks : List (List ℕ) → Option Directive
 some_tasks names =
-    if nat_le 1 (length names) && nat_le (length names) 64 then option_map AskSealed (each_of task_word names) else None
+    if nat_le 1 (length names) && nat_le (length names) most_named_tasks
+    then option_map AskSealed (each_of task_word names) else None
 
+-- the words of a directive by its name
 abbrev pub directive_words : List ℕ → List (List ℕ) → Option Directive
 directive_words name words =
     if bytes_eq name (codes "peers") then no_more AskPeers words
@@ -450,7 +510,8 @@ files = record {
 abbrev pub mounting_call_names : List (List ℕ)
 mounting_call_names =
     codes "mount" ∷ codes "bind" ∷ codes "rbind" ∷ codes "move" ∷ codes "umount" ∷ codes "lazy" ∷ codes "remount"
-    ∷ codes "type" ∷ codes "rtype" ∷ codes "mounts" ∷ codes "chdir" ∷ codes "chroot" ∷ codes "unshare" ∷ codes "setns" ∷ []
+    ∷ codes "type" ∷ codes "rtype" ∷ codes "mounts" ∷ codes "chdir" ∷ codes "chroot" ∷ codes "unshare"
+    ∷ codes "setns" ∷ []
 
 -- without overlays
 abbrev pub needs_no_layers : Call → Bool
@@ -480,9 +541,11 @@ pub data Request : Type 0 where
   Calling : (task : TaskName) → (call : Call) → Request
   Asking : (directive : Directive) → Request
 
+-- whose line it is, by its first token
 abbrev pub who_of : List ℕ → Option Who
 who_of token = if bytes_eq token (codes "!") then Some Nobody else option_map Someone (task_word token)
 
+-- the call that the words after a task's name ask for
 abbrev pub call_asked : Grammar → TaskName → List (List ℕ) → Option Request
 call_asked grammar task [] = None
 call_asked grammar task (name ∷ words) =
@@ -490,16 +553,19 @@ call_asked grammar task (name ∷ words) =
     option_map (Calling task) (then_some (call_words grammar.version name words) (λ call. when (grammar.has call) call))
     else None
 
+-- the directive that the words after `!` ask for
 abbrev pub directive_asked : Grammar → List (List ℕ) → Option Request
 directive_asked grammar [] = None
 directive_asked grammar (name ∷ words) =
     if grammar.directs name then option_map Asking (directive_words name words) else None
 
+-- what the words after the first token ask for
 abbrev pub asked_by : Grammar → Option Who → List (List ℕ) → Option Request
 asked_by grammar None words = None
 asked_by grammar (Some (Someone task)) words = call_asked grammar task words
 asked_by grammar (Some Nobody) words = directive_asked grammar words
 
+-- what a line's tokens ask for
 abbrev pub request_of_texts : Grammar → List (List ℕ) → Option Request
 request_of_texts grammar [] = None
 request_of_texts grammar (first ∷ words) = asked_by grammar (who_of first) words

@@ -3,9 +3,9 @@ use Rattle.std.specs.Prelude.{◌≡◌, ℕ, nat_eq, false, ◌⊎◌, List, No
 use Rattle.vt_spec.specs.declared.attributes.Attr.{Attr}
 use Rattle.vt_spec.specs.Rights.{is_directory}
 use Rattle.vt_spec.specs.Tree.{Tree, Node, kind_of, new_directory, with_object, with_file_bytes, tree_of_root}
-use Rattle.vt_spec.specs.TreeLaws.{entry_at, IsDirectory, IsReached, IsTree}
+use Rattle.vt_spec.specs.TreeInvariant.{entry_at, IsDirectory, IsReached, IsTree}
 
--- an object that may be put into a directory: an empty directory below it, or no directory
+-- an object that may be put into a directory: an empty directory with that as its parent, or no directory
 abbrev pub IsNewIn : ℕ → Node ℕ → Type 0
 IsNewIn directory node = (node.content ≡ new_directory directory) ⊎ (is_directory (kind_of node.content) ≡ false)
 

@@ -29,7 +29,8 @@ module _ {N : Type 0} (eq : N → N → Bool) where
   with_new_inode fresh world directory name node =
       with_change eq (odds fresh) world directory (Make directory.node name (evens fresh 0) node)
 
-  -- the outcome of a granted call of a task, to which new numbers are handed in for what it makes
+  -- the outcome of a granted call of a task, to which new numbers are handed in for what it makes; each permit's call
+  -- is named in `Permits.antt`
   abbrev pub apply : Fresh N → World N → Task N → Permit N → Outcome N
   apply fresh world task Allowed = granted Done world
   apply fresh world task (ToList directory) =
@@ -89,11 +90,12 @@ module _ {N : Type 0} (eq : N → N → Bool) where
       granted Done (pivoted eq world task.namespace (mount_at eq world task.root) (mount_numbered eq world new) put)
   apply fresh world task ToListMounts = granted (MountList (mount_lines eq world task.namespace)) world
 
-  -- the filesystems that a permit changes, by what stands in the world before the call
+  -- the filesystems that a change at a location changes, if it is made
   abbrev pub changed_if : Bool → World N → Location N → List N
   changed_if true world location = changed_at eq world location
   changed_if false world location = []
 
+  -- the filesystems that a permit changes, by what stands in the world before the call (profile)
   abbrev pub filesystems_changed : World N → Permit N → List N
   filesystems_changed world (ToChange location change) = changed_at eq world location
   filesystems_changed world (ToMake directory name node) = changed_at eq world directory

@@ -48,6 +48,7 @@ module _ {N : Type 0} where
   type_at new None mount = mount.propagation
   type_at new (Some group) mount = type_on_shared (new.image group mount.number) mount.propagation
 
+  -- a mount of the tree, with its type at a destination whose mount is in this group or in none
   abbrev pub twig_of : Copies N → Option N → Mount N → Twig N
   twig_of new group mount = record { origin = mount; propagation = type_at new group mount }
 
@@ -57,6 +58,7 @@ module _ {N : Type 0} where
       if is_shared twig.origin.propagation then None
       else option_map (λ group. (group, master_after twig.origin.propagation)) (group_of twig.propagation)
 
+  -- what is new at the destination: the copies, or nothing where the mounts themselves move
   abbrev pub added_mounts : Bool → List (Mount N) → List (Mount N)
   added_mounts true copied = []
   added_mounts false copied = copied
@@ -73,6 +75,7 @@ module _ {N : Type 0} (eq : N → N → Bool) where
       not (eq place.mount mount.number) && is_some mount.namespace
       && eq (mount_at eq world place).filesystem mount.filesystem && reaches world place.node mount
 
+  -- the receivers of a mount's peer group; a mount that is not shared has none
   abbrev pub receivers_of : World N → Mount N → List (Mount N)
   receivers_of world mount = unwrap_or (option_map (receivers eq world) (group_of mount.propagation)) []
 
@@ -82,7 +85,7 @@ module _ {N : Type 0} (eq : N → N → Bool) where
       mount_at eq world place ∷ filter (takes_part world place) (receivers_of world (mount_at eq world place))
 
   -- Copies at the members of one group form one group, the image of that group: for the destination's group it is the
-  -- group of the mount attached there, for each other group a new one.
+  -- group of the mount attached there, for each other group a new one (profile).
   abbrev pub image : Copies N → Mount N → Twig N → N → N
   image new destination twig group =
       if is_member_of eq group destination
@@ -95,7 +98,7 @@ module _ {N : Type 0} (eq : N → N → Bool) where
   nearest_image world new parts destination twig (Some group) =
       option_map (image new destination twig) (find (has_members eq parts) (groups_up world group))
 
-  -- the type of a copy, by the type of its receiver
+  -- the type of a copy, by the type of its receiver (profile)
   abbrev pub copy_type : World N → Copies N → List (Mount N) → Mount N → Twig N → Propagation N → Propagation N
   copy_type world new parts destination twig (Shared group) = Shared (image new destination twig group)
   copy_type world new parts destination twig (Slave master) =
@@ -107,6 +110,7 @@ module _ {N : Type 0} (eq : N → N → Bool) where
   abbrev pub is_destination : Graft N → N → Bool
   is_destination graft part = eq part graft.destination.mount
 
+  -- the type of a mount of the tree at a part: at the destination, or at a receiver
   abbrev pub type_at_part : World N → Copies N → Graft N → List (Mount N) → Mount N → Twig N → Propagation N
   type_at_part world new graft parts part twig =
       if is_destination graft part.number then twig.propagation
@@ -126,18 +130,23 @@ module _ {N : Type 0} (eq : N → N → Bool) where
   abbrev pub copy_number : Copies N → Graft N → N → N → N
   copy_number new graft part origin = if graft.moves && is_destination graft part then origin else new.copy part origin
 
-  -- The first mount of the tree stands at the destination, each other one on the copy of its parent.
+  -- the mount is the first of the tree
   abbrev pub is_top : Graft N → N → Bool
   is_top graft origin = holds_of (λ twig. eq origin twig.origin.number) (first_of_list graft.twigs)
 
+  -- a mount point on a mount of the tree, on the copy of that mount at a part
   abbrev pub place_on_copy : Copies N → Graft N → N → Location N → Location N
   place_on_copy new graft part place = record { mount = copy_number new graft part place.mount; node = place.node }
 
+  -- the mount point of a copy at a part: the first mount of the tree takes the destination's directory, each other one
+  -- stands on the copy of its parent
   abbrev pub copy_place : Copies N → Graft N → N → Mount N → Location N
   copy_place new graft part origin =
       if is_top graft origin.number then record { mount = part; node = graft.destination.node }
       else unwrap_or (option_map (place_on_copy new graft part) origin.mount_point) graft.destination
 
+  -- the copy of a mount at a part, or at the destination the mount itself that moves: the number, namespace, mount
+  -- point and type that it has there, with the filesystem, root and flags of the mount
   abbrev pub copy_at : World N → Copies N → Graft N → List (Mount N) → Mount N → Twig N → Mount N
   copy_at world new graft parts part twig = record twig.origin {
     number = copy_number new graft part.number twig.origin.number;
@@ -150,31 +159,40 @@ module _ {N : Type 0} (eq : N → N → Bool) where
   abbrev pub copies_at : World N → Copies N → Graft N → List (Mount N) → Mount N → List (Mount N)
   copies_at world new graft parts part = map (copy_at world new graft parts part) graft.twigs
 
-  -- A mount that stood at this location of a receiver moves onto the topmost mount over the root of the copied tree.
+  -- A mount that stood at this location of a receiver moves onto the topmost mount over the root of the copied tree
+  -- (profile).
+
+  -- the root of the topmost of the copies over the first one's root; without copies the location given
   abbrev pub top_of_copies : List (Mount N) → Location N → Location N
   top_of_copies [] place = place
   top_of_copies (first ∷ rest) place = topmost eq (first ∷ rest) (root_of first)
 
+  -- the receiver at which a mount has the destination's directory as its mount point already
   abbrev pub receiver_below : Graft N → List (Mount N) → Mount N → Option (Mount N)
   receiver_below graft parts mount =
       find (λ part. stands_at eq (record { mount = part.number; node = graft.destination.node }) mount) (rest_of parts)
 
+  -- the mount after the attachment, moved if there is such a receiver
   abbrev pub pushed_onto : World N → Copies N → Graft N → List (Mount N) → Mount N → Option (Mount N) → Mount N
   pushed_onto world new graft parts mount None = mount
   pushed_onto world new graft parts mount (Some part) =
       record mount { mount_point = Some (top_of_copies (copies_at world new graft parts part) graft.destination) }
 
+  -- a mount after the attachment: it has another mount point where a copy took its own at a receiver
   abbrev pub pushed_up : World N → Copies N → Graft N → List (Mount N) → Mount N → Mount N
   pushed_up world new graft parts mount = pushed_onto world new graft parts mount (receiver_below graft parts mount)
 
-  -- Mounts that move leave first and keep their order of attachment; the copies of a bind or new mount come last.
+  -- the mounts with those that move in their new state; they keep their order of attachment, and copies of a bind or
+  -- new mount come last
   abbrev pub with_moved_mounts : Bool → List (Mount N) → List (Mount N) → List (Mount N)
   with_moved_mounts true mounts copied = folded (with_mount eq) mounts copied
   with_moved_mounts false mounts copied = mounts
 
+  -- the masters, with that of a new group
   abbrev pub masters_with : (N → Option N) → N × Option N → N → Option N
   masters_with master group = with_master eq master group.0 group.1
 
+  -- all new groups that copies form, each with its master
   abbrev pub all_groups_made : World N → Copies N → Graft N → List (Mount N) → List (N × Option N)
   all_groups_made world new graft parts =
       flat_map (λ part. filter_map (group_made world new graft parts part) graft.twigs) parts
@@ -190,10 +208,12 @@ module _ {N : Type 0} (eq : N → N → Bool) where
     master = folded masters_with world.master (all_groups_made world new graft parts);
   }
 
+  -- the world with the tree attached at its destination and at the receivers that take part: sharedsubtree, "Bind
+  -- semantics" and "Move semantics"
   abbrev pub attached : World N → Copies N → Graft N → World N
   attached world new graft = attached_at world new graft (parts_of world graft.destination)
 
-  -- the graft of these mounts at a destination
+  -- these mounts as a tree that is attached at a destination
   abbrev pub graft_of : World N → Copies N → Location N → Bool → List (Mount N) → Graft N
   graft_of world new place moves mounts = record {
     destination = place;
@@ -201,13 +221,15 @@ module _ {N : Type 0} (eq : N → N → Bool) where
     moves = moves;
   }
 
+  -- the world with these mounts attached, by the new numbers given
   abbrev pub attached_by : World N → Copies N → Location N → Bool → List (Mount N) → World N
   attached_by world new place moves mounts = attached world new (graft_of world new place moves mounts)
 
-  -- new numbers out of a supply, by the index of the part and of the mount that is copied
+  -- the index of the first part that is a member of a group
   abbrev pub index_of_group : List (Mount N) → N → ℕ
   index_of_group parts group = unwrap_or (place_from (is_member_of eq group) 0 parts) 0
 
+  -- the new numbers of an attachment out of a supply, by the index of the part and of the mount that is copied
   abbrev pub copies_from : Fresh N → List (Mount N) → List (Mount N) → Copies N
   copies_from fresh parts mounts = record {
     copy = λ part origin. evens fresh (numbered (length mounts) (index_of eq parts part) (index_of eq mounts origin));
@@ -215,20 +237,23 @@ module _ {N : Type 0} (eq : N → N → Bool) where
         (numbered (length mounts) (index_of_group parts group) (index_of eq mounts origin));
   }
 
+  -- the world with mounts attached at a destination and at its receivers, the mounts themselves where they move, else
+  -- copies: mount(2), sharedsubtree
   abbrev pub attach : World N → Fresh N → Location N → Bool → List (Mount N) → World N
   attach world fresh place moves mounts =
       attached_by world (copies_from fresh (parts_of world place) mounts) place moves mounts
 
-  -- A recursive bind copies each mount at or under the source, with all its descendants; it leaves out unbindable
-  -- mounts and their descendants.
+  -- the children of a mount that are not unbindable: mount_namespaces(7), MS_UNBINDABLE
   abbrev pub bindable_children : List (Mount N) → N → List (Mount N)
   bindable_children mounts number = filter (λ mount. not (is_unbindable mount.propagation)) (children eq mounts number)
 
+  -- a mount and its descendants, without unbindable mounts and their descendants
   abbrev pub bindable_tree : ℕ → List (Mount N) → Mount N → List (Mount N)
   bindable_tree zero mounts mount = mount ∷ []
   bindable_tree (suc depth) mounts mount =
       mount ∷ flat_map (bindable_tree depth mounts) (bindable_children mounts mount.number)
 
+  -- the mount point is the source's directory, or lies under it
   abbrev pub stands_under : World N → Location N → Mount N → Bool
   stands_under world source mount =
       holds_of (λ place. is_directory_under eq (files_at eq world source) source.node place.node) mount.mount_point
@@ -237,6 +262,9 @@ module _ {N : Type 0} (eq : N → N → Bool) where
   abbrev pub bound : World N → Location N → Mount N
   bound world source = record (mount_at eq world source) { root = source.node }
 
+  -- The mounts that a bind copies: the source's mount; with MS_REC also each mount at or under the source, with all its
+  -- descendants, but no unbindable mounts and their descendants: mount(2), sharedsubtree, "Bind semantics" and "Rbind
+  -- semantics".
   abbrev pub bind_tree : World N → Location N → Bool → List (Mount N)
   bind_tree world source false = bound world source ∷ []
   bind_tree world source true =
@@ -244,6 +272,7 @@ module _ {N : Type 0} (eq : N → N → Bool) where
       ∷ flat_map (bindable_tree (length world.mounts) world.mounts)
       (filter (stands_under world source) (bindable_children world.mounts source.mount))
 
+  -- some namespace has more mounts than the limit: ENOSPC of mount(2)
   abbrev pub has_too_many : World N → Bool
   has_too_many world =
       list_any (λ namespace. nat_lt most_mounts (length (mounts_of eq world namespace.number))) world.namespaces

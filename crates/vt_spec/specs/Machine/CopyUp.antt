@@ -32,9 +32,11 @@ module _ {N : Type 0} where
   copied_content parent (Symlink text) = Symlink text
   copied_content parent Whiteout = Whiteout
 
+  -- a new whiteout, which belongs to the mounter: overlayfs, "whiteouts and opaque directories"
   abbrev pub whiteout_of : Credentials → Node N
   whiteout_of mounter = record { attr = record { uid = mounter.uid; gid = mounter.gid; mode = 0 }; content = Whiteout }
 
+  -- what is shown is a directory
   abbrev pub is_directory_shown : List (OpenLayer N) → Option (Shown N) → Bool
   is_directory_shown layers None = false
   is_directory_shown layers (Some seen) =
@@ -44,9 +46,11 @@ module _ {N : Type 0} where
   abbrev pub upper_of : Merge N → N → N
   upper_of merge number = unwrap_or (upper_object (merge.real number)) number
 
+  -- the real object of an inode is in the upper layer
   abbrev pub is_in_upper : Merge N → N → Bool
   is_in_upper merge number = is_some (upper_object (merge.real number))
 
+  -- the upper directory in which a copy gets its name; a copy without a name is its own parent
   abbrev pub copy_parent : Merge N → N → Option (N × List ℕ) → N
   copy_parent merge copy None = copy
   copy_parent merge copy (Some name) = upper_of merge name.0
@@ -58,6 +62,7 @@ module _ {N : Type 0} where
       (λ object. if is_directory_node (merge.files.tree.node object) then upper_object (merge.real object) else None)
 
 module _ {N : Type 0} (eq : N → N → Bool) where
+  -- the real objects, with that of one inode replaced
   abbrev pub with_real : (N → Option (Real N)) → N → Real N → N → Option (Real N)
   with_real real number object other = if eq other number then Some object else real other
 
@@ -65,6 +70,7 @@ module _ {N : Type 0} (eq : N → N → Bool) where
   abbrev pub directories_to : FileTree N → N → List N
   directories_to files directory = reverse (ancestors eq files directory)
 
+  -- the directories down to the directory that has a name, then the object
   abbrev pub line_by : FileTree N → N → Option (N × List ℕ) → List N
   line_by files object None = object ∷ []
   line_by files object (Some name) = directories_to files name.0 ++ (object ∷ [])
@@ -78,6 +84,7 @@ module _ {N : Type 0} (eq : N → N → Bool) where
   copy_named merge copy None upper = upper
   copy_named merge copy (Some name) upper = with_name eq upper (upper_of merge name.0) name.1 copy
 
+  -- an inode copied up: its copy in the upper layer, under its name, is its real object: overlayfs, "upper and lower"
   abbrev pub copy_of_node : Merge N → N → N → Node N → Merge N
   copy_of_node merge object copy node = record merge {
     real = with_real merge.real object (Upper copy);
@@ -90,6 +97,7 @@ module _ {N : Type 0} (eq : N → N → Bool) where
         }));
   }
 
+  -- that, of an inode that exists and is not in the upper layer yet
   abbrev pub copy_of : Merge N → N → N → Option (Node N) → Bool → Merge N
   copy_of merge object copy None in_upper = merge
   copy_of merge object copy (Some node) true = merge
@@ -124,12 +132,14 @@ module _ {N : Type 0} (eq : N → N → Bool) where
       is_directory_shown (record { tree = merge.upper.tree; directory = stack.directory } ∷ stack.lowers)
       (shown_below stack merge directory name)
 
-  -- a name that is removed leaves a whiteout if lower layers still show something there
+  -- what a name that is removed leaves in the upper layer: a whiteout, or nothing
   abbrev pub name_left_by : Bool → Fresh N → Stack N → FileTree N → N → List ℕ → FileTree N
   name_left_by true fresh stack upper directory name =
       with_name eq (with_inode eq upper (fresh 0) (whiteout_of stack.mounter)) directory name (fresh 0)
   name_left_by false fresh stack upper directory name = without_name eq upper directory name
 
+  -- a name that is removed leaves a whiteout if lower layers still show something there: overlayfs, "whiteouts and
+  -- opaque directories"
   abbrev pub name_left : Fresh N → Stack N → Merge N → FileTree N → N → List ℕ → FileTree N
   name_left fresh stack merge upper directory name =
       name_left_by (is_some (shown_below stack merge directory name)) fresh stack upper (upper_of merge directory) name
@@ -146,6 +156,8 @@ module _ {N : Type 0} (eq : N → N → Bool) where
 
   -- each change, after its objects were copied up
 
+  -- a new object in the upper layer, opaque if it is a directory that hides one: mkdir(2), symlink(2), open(2) with
+  -- O_CREAT
   abbrev pub made : Fresh N → Stack N → Merge N → N → List ℕ → N → Node N → Merge N
   made fresh stack merge directory name number node = record {
     files = changed eq merge.files (Make directory name number node);
@@ -156,12 +168,14 @@ module _ {N : Type 0} (eq : N → N → Bool) where
         (upper_of merge directory) name (fresh 0)) (fresh 0);
   }
 
+  -- a further name of an object: link(2)
   abbrev pub linked : Merge N → N → List ℕ → N → Merge N
   linked merge directory name object = record merge {
     files = changed eq merge.files (AddName directory name object);
     upper = with_name eq merge.upper (upper_of merge directory) name (upper_of merge object);
   }
 
+  -- a name is removed: unlink(2), rmdir(2)
   abbrev pub removed : Fresh N → Stack N → Merge N → N → List ℕ → N → Merge N
   removed fresh stack merge directory name object = record merge {
     files = changed eq merge.files (Remove directory name object);
@@ -169,6 +183,7 @@ module _ {N : Type 0} (eq : N → N → Bool) where
         (upper_directory_named merge directory name);
   }
 
+  -- an object gets another name: rename(2)
   abbrev pub moved : Fresh N → Stack N → Merge N → N → List ℕ → N → List ℕ → N → Merge N
   moved fresh stack merge from old to new object = record merge {
     files = changed eq merge.files (Move from old to new object);

@@ -1,4 +1,5 @@
--- A change of a filesystem in the world, and what the mounter of an overlay is asked for it.
+-- A change of a filesystem in the world, and what the mounter of an overlay needs for it (profile; the kernel's
+-- overlayfs document, "permission model").
 use Rattle.std.specs.Prelude.{Bool, List, None, Option, Some, [], false, filter, find, flat_map, if◌then◌else◌, is_some, map, not, option_map, option_to_list, unwrap_or, ℕ, ◌&&◌, ◌++◌, ◌+◌, ◌==◌, ◌||◌, ◌∷◌}
 use Rattle.std.specs.List.{list_any}
 use Rattle.vt_spec.specs.declared.attributes.Attr.{Attr}
@@ -6,6 +7,7 @@ use Rattle.vt_spec.specs.declared.attributes.Kind.TheVariants.{File}
 use Rattle.vt_spec.specs.declared.errors.Rule.TheVariants.{B1, B2}
 use Rattle.vt_spec.specs.Language.Changes.{Change, changed}
 use Rattle.vt_spec.specs.Language.Changes.Change.{AddName, CopyUp, Make, Move, Remove, SetAttr, SetBytes, SetMark}
+use Rattle.vt_spec.specs.Language.Limits.{largest_change}
 use Rattle.vt_spec.specs.Machine.CopyUp.{Merge, Stack, merge_changed}
 use Rattle.vt_spec.specs.Errors.{Rules}
 use Rattle.vt_spec.specs.FileTree.{FileTree, a_name, ancestors, attr_in, is_kind_in, path_down}
@@ -17,9 +19,9 @@ use Rattle.vt_spec.specs.Machine.Rightful.{node_allows}
 use Rattle.vt_spec.specs.Rights.{Credentials, cap_chown, execute_right, has_all, is_member, read_right, write_right}
 use Rattle.vt_spec.specs.Machine.World.{Filesystem, Layer, Overlay, World, files_at, filesystem_at, filesystem_numbered, open_layer, upper_object, with_filesystem}
 
--- a change number stays at the largest one: 2^64 - 1
+-- a change number that is raised by one, and stays at the largest one (profile)
 abbrev pub raised : ℕ → ℕ
-raised number = if number == 18446744073709551615 then number else number + 1
+raised number = if number == largest_change then number else number + 1
 
 -- the capability, or the same owner and a group of his: what a copy's owner takes
 abbrev pub can_give_owner : Credentials → Attr → Bool
@@ -27,8 +29,8 @@ can_give_owner who attr =
     has_all who.capabilities cap_chown || (who.uid == attr.uid && is_member who attr.gid)
 
 module _ {N : Type 0} where
-  -- the objects that a change of an overlay copies where they lie only below: the object itself, if it is one that is
-  -- there
+  -- the objects that a change of an overlay copies up if they are only in lower layers: the object itself, if it exists
+  -- before the change
   abbrev pub object_copied : Change N → List N
   object_copied (Make directory name number node) = []
   object_copied (AddName directory name object) = object ∷ []
@@ -50,29 +52,36 @@ module _ {N : Type 0} where
   directories_changed (SetMark directory opaque) = []
   directories_changed (CopyUp object) = []
 
+  -- the filesystem with another tree
   abbrev pub with_files : Filesystem N → FileTree N → Filesystem N
   with_files filesystem files = record filesystem { files = files }
 
+  -- the real object of an inode is not in the upper layer
   abbrev pub lies_below : Overlay N → N → Bool
   lies_below overlay number = not (is_some (upper_object (overlay.real number)))
 
+  -- the objects that a change copies up: overlayfs, "upper and lower"
   abbrev pub objects_copied : Filesystem N → Overlay N → Change N → List N
   objects_copied filesystem overlay change = filter (lies_below overlay) (object_copied change)
 
+  -- B1: a regular file that the mounter may not read (profile)
   abbrev pub cannot_read_copied : Filesystem N → Overlay N → N → Bool
   cannot_read_copied filesystem overlay number =
       is_kind_in File (filesystem.files.tree.node number)
       && not (node_allows overlay.mounter read_right (filesystem.files.tree.node number))
 
+  -- B1: a directory that the mounter may not write and search (profile)
   abbrev pub cannot_change_directory : Filesystem N → Overlay N → N → Bool
   cannot_change_directory filesystem overlay number =
       not (node_allows overlay.mounter (write_right + execute_right) (filesystem.files.tree.node number))
 
+  -- B2: an object whose owner the mounter may not give to a copy (profile)
   abbrev pub cannot_give_owner : Filesystem N → Overlay N → N → Bool
   cannot_give_owner filesystem overlay number =
       not (can_give_owner overlay.mounter (attr_in (filesystem.files.tree.node number)))
 
 module _ {N : Type 0} (eq : N → N → Bool) where
+  -- the layers of an overlay, as a change needs them
   abbrev pub stack_of : World N → Overlay N → Layer N → Stack N
   stack_of world overlay upper =
       record {
@@ -82,6 +91,7 @@ module _ {N : Type 0} (eq : N → N → Bool) where
         mounter = overlay.mounter;
       }
 
+  -- the merged tree of an overlay, with that of its upper layer
   abbrev pub merge_of : World N → Filesystem N → Overlay N → Layer N → Merge N
   merge_of world filesystem overlay upper =
       record {
@@ -99,12 +109,14 @@ module _ {N : Type 0} (eq : N → N → Bool) where
       (record filesystem { files = merge.files; overlay = Some (record overlay { real = merge.real }) }))
       (with_files (filesystem_numbered eq world upper.filesystem) merge.upper)
 
+  -- the world with a change of an overlay; without an upper layer there is none
   abbrev pub overlay_changed : Fresh N → World N → Filesystem N → Overlay N → Option (Layer N) → Change N → World N
   overlay_changed fresh world filesystem overlay None change = world
   overlay_changed fresh world filesystem overlay (Some upper) change =
       with_merge world filesystem overlay upper
       (merge_changed eq fresh (stack_of world overlay upper) (merge_of world filesystem overlay upper) change)
 
+  -- the world with a change of a filesystem, plain or overlay
   abbrev pub filesystem_changed : Fresh N → World N → Filesystem N → Option (Overlay N) → Change N → World N
   filesystem_changed fresh world filesystem None change =
       with_filesystem eq world (with_files filesystem (changed eq filesystem.files change))
@@ -117,21 +129,24 @@ module _ {N : Type 0} (eq : N → N → Bool) where
       filesystem_changed fresh world (filesystem_at eq world location)
       (filesystem_at eq world location).overlay change
 
-  -- the filesystems whose numbers a change at a location raises: its own, and of an overlay the upper layer's too
-  -- (profile)
+  -- an overlay and its upper layer's filesystem
   abbrev pub numbers_over : World N → Filesystem N → Option (Layer N) → List N
   numbers_over world filesystem None = []
   numbers_over world filesystem (Some upper) =
       filesystem.number ∷ (filesystem_numbered eq world upper.filesystem).number ∷ []
 
+  -- the filesystem that is changed, and of an overlay the upper layer's
   abbrev pub numbers_of_change : World N → Filesystem N → Option (Overlay N) → List N
   numbers_of_change world filesystem None = filesystem.number ∷ []
   numbers_of_change world filesystem (Some overlay) = numbers_over world filesystem overlay.upper
 
+  -- the filesystems whose numbers a change at a location raises: its own, and of an overlay the upper layer's too
+  -- (profile)
   abbrev pub changed_at : World N → Location N → List N
   changed_at world location =
       numbers_of_change world (filesystem_at eq world location) (filesystem_at eq world location).overlay
 
+  -- a filesystem with its change number raised, if it is one of these
   abbrev pub raised_if_changed : List N → Filesystem N → Filesystem N
   raised_if_changed changed filesystem =
       if list_any (λ number. eq number filesystem.number) changed
@@ -160,14 +175,17 @@ module _ {N : Type 0} (eq : N → N → Bool) where
       before_first (λ d. not (lies_below overlay d)) (ancestors eq files directory)
       ++ option_to_list (find (λ d. not (lies_below overlay d)) (ancestors eq files directory))
 
+  -- the directories that the mounter has to be able to write and search
   abbrev pub parents_asked : Filesystem N → Overlay N → Change N → List N
   parents_asked filesystem overlay change =
       flat_map (from_nearest_upper filesystem.files overlay) (directories_asked filesystem overlay change)
 
+  -- the objects that are copied up, missing parents included
   abbrev pub copies : Filesystem N → Overlay N → Change N → List N
   copies filesystem overlay change =
       objects_copied filesystem overlay change ++ filter (lies_below overlay) (parents_asked filesystem overlay change)
 
+  -- B1 and B2 of a change of an overlay (profile)
   abbrev pub overlay_rules : Filesystem N → Change N → Overlay N → Rules
   overlay_rules filesystem change overlay =
       (list_any (cannot_read_copied filesystem overlay) (copies filesystem overlay change), B1)
@@ -180,12 +198,13 @@ module _ {N : Type 0} (eq : N → N → Bool) where
   mounter_rules world location change =
       of_overlay [] (overlay_rules (filesystem_at eq world location) change) (filesystem_at eq world location)
 
-  -- O1: a lower layer that is not cut has a directory under a name: overlayfs, "renaming directories"
+  -- the path of a name in a directory, from the root of its filesystem
   abbrev pub path_of_name : World N → Location N → List ℕ → List (List ℕ)
   path_of_name world directory name =
       unwrap_or (path_down eq (files_at eq world directory) (files_at eq world directory).tree.root directory.node) []
       ++ (name ∷ [])
 
+  -- O1: a lower layer that is not cut has a directory under a name: overlayfs, "renaming directories"
   abbrev pub has_lower_directory_at : World N → Location N → List ℕ → Bool
   has_lower_directory_at world directory name =
       of_overlay false (λ overlay. has_lower_directory

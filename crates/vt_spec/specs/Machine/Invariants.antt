@@ -1,4 +1,4 @@
--- The invariants of a world, which every call keeps.
+-- The invariants of a world, which every call keeps. The records at the end name what they are taken from.
 use Rattle.std.specs.Prelude.{All, Bool, Contains, List, None, Option, Some, [], false, filter, flat_map, is_some, length, map, nat_le, nat_lt, not, option_map, option_to_list, slice_get, true, ℕ, ⊤, ◌&&◌, ◌++◌, ◌+◌, ◌==◌, ◌||◌, ◌≡◌, ◌≤◌, ◌∷◌}
 use Rattle.std.specs.List.{list_all, list_any}
 use Rattle.std.specs.Str.{bytes_eq}
@@ -12,57 +12,60 @@ use Rattle.vt_spec.specs.Machine.Merging.{layer_node, merged_at, real_object}
 use Rattle.vt_spec.specs.Machine.Mounts.{Location, Mount, Propagation, same_location, source_of}
 use Rattle.vt_spec.specs.Machine.Mounts.Propagation.{Private, Shared, Slave, Unbindable}
 use Rattle.vt_spec.specs.Machine.Namespaces.{has_tasks}
-use Rattle.vt_spec.specs.Language.Limits.{deepest_name, largest_file, longest_name, longest_path, most_descriptors, most_forks, most_groups, most_lowers}
+use Rattle.vt_spec.specs.Language.Limits.{deepest_name, largest_file, longest_name, longest_path, most_descriptors, most_forks, most_groups, most_lowers, umask_bound}
 use Rattle.vt_spec.specs.Machine.Policy.{same_bool}
 use Rattle.vt_spec.specs.Machine.Receives.{groups_up, has_members}
 use Rattle.vt_spec.specs.PathText.{is_empty}
 use Rattle.vt_spec.specs.Machine.Settled.{settled}
 use Rattle.vt_spec.specs.Tree.{Content, Node, bytes_in, is_directory_node, names_in}
 use Rattle.vt_spec.specs.Tree.Content.{Directory, Regular, Symlink}
-use Rattle.vt_spec.specs.TreeLaws.{HasOwnParents, IsReached, IsTree, led}
+use Rattle.vt_spec.specs.TreeInvariant.{HasOwnParents, IsReached, IsTree, led}
 use Rattle.vt_spec.specs.Machine.World.{Descriptor, Filesystem, Layer, Namespace, Overlay, Real, Task, World, all_locations, filesystem_numbered, is_directory_at, is_overlay, layers_of, mount_at, mount_numbered, mounts_of, node_at, open_layer, shown_layers}
 use Rattle.vt_spec.specs.Language.Calls.{TaskName, same_name}
 use Rattle.vt_spec.specs.Machine.World.Real.{Below, Upper}
 
 module _ {N : Type 0} where
-  -- A merged inode and its real object have the same owner, mode, kind, and bytes or text; entries of directories
-  -- differ.
+  -- the same kind, and the same bytes or text; entries of directories may differ
   abbrev pub same_content : Content N → Content N → Bool
   same_content (Directory parent entries opaque) (Directory other_parent other_entries other_opaque) = true
   same_content (Regular bytes) (Regular other) = bytes_eq bytes other
   same_content (Symlink text) (Symlink other) = bytes_eq text other
   same_content a b = false
 
+  -- A merged inode and its real object have the same owner, mode, kind, and bytes or text; entries of directories
+  -- differ (overlayfs, "upper and lower").
   abbrev pub SameObject : Option (Node N) → Option (Node N) → Type 0
   SameObject None None = ⊤
   SameObject None (Some other) = ⊥
   SameObject (Some node) None = ⊥
   SameObject (Some node) (Some other) = (node.attr ≡ other.attr) × (same_content node.content other.content ≡ true)
 
+  -- the mount is private: mount_namespaces(7), MS_PRIVATE
   abbrev pub is_private : Propagation N → Bool
   is_private (Shared group) = false
   is_private (Slave master) = false
   is_private Private = true
   is_private Unbindable = false
 
-  -- a mount outside every namespace has no mount point and is private
+  -- a mount outside every namespace has no mount point and is private: umount(2), MNT_DETACH
   abbrev pub is_nowhere_or_attached : Mount N → Bool
-  is_nowhere_or_attached mount = is_some mount.namespace || (not (is_some mount.mount_point) && is_private mount.propagation)
+  is_nowhere_or_attached mount =
+      is_some mount.namespace || (not (is_some mount.mount_point) && is_private mount.propagation)
 
-  -- descriptors stand in the order of their numbers, each once
+  -- descriptors stand in the order of their numbers, each once: open(2)
   abbrev pub are_ascending_from : ℕ → List (Descriptor N) → Bool
   are_ascending_from least [] = true
   are_ascending_from least (descriptor ∷ rest) =
       nat_le least descriptor.number && are_ascending_from (descriptor.number + 1) rest
 
-  -- the limits of a task
+  -- the limits of a task (profile)
   abbrev pub is_within_limits : Task N → Bool
   is_within_limits task =
       nat_le (length task.descriptors) most_descriptors && are_ascending_from 0 task.descriptors
       && list_all (λ descriptor. nat_lt descriptor.number most_descriptors) task.descriptors
       && nat_le task.forks most_forks
       && nat_le (length task.name) deepest_name && nat_le (length task.credentials.groups) most_groups
-      && nat_lt task.umask 512
+      && nat_lt task.umask umask_bound
 
   -- a task has counted its forks: where a task's name goes on from its own, the next number is no more than its count
   -- (profile)
@@ -71,20 +74,23 @@ module _ {N : Type 0} where
       (task other : Task N) (number : ℕ) (rest : TaskName) → Contains world.tasks task → Contains world.tasks other
       → other.name ≡ task.name ++ (number ∷ rest) → number ≤ task.forks
 
+  -- a file has no more bytes than the limit
   abbrev pub is_no_larger : FileTree N → N → Bool
   is_no_larger files number = not (is_kind_in File (files.tree.node number))
       || nat_le (length (bytes_in (files.tree.node number))) largest_file
 
-  -- a name of a directory, and the text of a symlink, are not empty and not too long: path_resolution(7), symlink(2)
+  -- the names of a directory are not empty and not too long: path_resolution(7)
   abbrev pub has_fit_names : FileTree N → N → Bool
   has_fit_names files number =
       list_all (λ name. not (is_empty name) && nat_le (length name) longest_name) (names_in (files.tree.node number))
 
+  -- the text of a symlink is not empty and not too long: symlink(2)
   abbrev pub has_fit_text : FileTree N → N → Bool
   has_fit_text files number =
       list_all (λ text. not (is_empty text) && nat_le (length text) longest_path)
       (option_to_list (symlink_text (files.tree.node number)))
 
+  -- files, names and texts of a filesystem are within their limits
   abbrev pub is_fit_filesystem : Filesystem N → Bool
   is_fit_filesystem filesystem =
       list_all (λ number. is_no_larger filesystem.files number && has_fit_names filesystem.files number
@@ -118,14 +124,16 @@ pub data Lives {N : Type 0} (members : N → Bool) (master : N → Option N) : N
 module _ {N : Type 0} (eq : N → N → Bool) where
   -- Mounts
 
+  -- two mounts have one mount point
   abbrev pub share_a_mount_point : Mount N → Mount N → Bool
   share_a_mount_point a b = is_some a.mount_point && same_option (same_location eq) a.mount_point b.mount_point
 
-  -- as a test: the chain of parents ends at a mount without a mount point, in the same namespace
+  -- the mount at which the chain of parents ends
   abbrev pub last_parent : World N → Mount N → Mount N
   last_parent world mount = last_or mount
-      (chain (length world.mounts) (λ below. option_map (mount_at eq world) below.mount_point) mount)
+      (chain (length world.mounts) (λ child. option_map (mount_at eq world) child.mount_point) mount)
 
+  -- as a test: the chain of parents ends at a mount without a mount point, in the same namespace
   abbrev pub stands_in_its_namespace : World N → Mount N → Bool
   stands_in_its_namespace world mount =
       not (is_some (last_parent world mount).mount_point)
@@ -136,35 +144,39 @@ module _ {N : Type 0} (eq : N → N → Bool) where
   HasLivingGroups world mount =
       (group : N) → source_of mount.propagation ≡ Some group → Lives (has_members eq world.mounts) world.master group
 
-  -- as a test: the masters above a group come to an end, and each group has a member
+  -- the masters up from a group come to an end
   abbrev pub masters_end : World N → N → Bool
   masters_end world group = not (is_some (world.master (last_or group (groups_up world group))))
 
+  -- as a test: the masters up from a mount's group come to an end, and each group has a member
   abbrev pub has_living_groups : World N → Mount N → Bool
   has_living_groups world mount =
       list_all (λ group. list_all (has_members eq world.mounts) (groups_up world group) && masters_end world group)
       (option_to_list (source_of mount.propagation))
 
-  -- the namespace of a mount or a task exists
+  -- the namespace of a mount or a task exists: mount_namespaces(7)
   abbrev pub is_listed : World N → N → Bool
   is_listed world number = is_among eq number (map (λ namespace. namespace.number) world.namespaces)
 
+  -- the mount has no mount point, as the root mount of a namespace
   abbrev pub is_root_mount : Mount N → Bool
   is_root_mount mount = not (is_some mount.mount_point)
 
-  -- a namespace has one root mount
+  -- a namespace has one root mount: mount_namespaces(7)
   abbrev pub has_one_root : World N → Namespace N → Bool
   has_one_root world namespace = length (filter is_root_mount (mounts_of eq world namespace.number)) == 1
 
-  -- the inode of a location, a mount or a layer exists
+  -- the inode of a location, a mount or a layer exists in its filesystem
   abbrev pub is_there : World N → N → N → Bool
   is_there world filesystem number = is_some ((filesystem_numbered eq world filesystem).files.tree.node number)
 
+  -- the mount and the inode of a location exist
   abbrev pub is_located_well : World N → Location N → Bool
   is_located_well world location =
       is_among eq location.mount (map (λ mount. mount.number) world.mounts)
       && is_there world (mount_at eq world location).filesystem location.node
 
+  -- the root and the mount point of a mount are directories that exist: mount(2)
   abbrev pub has_its_root : World N → Mount N → Bool
   has_its_root world mount =
       is_directory_node ((filesystem_numbered eq world mount.filesystem).files.tree.node mount.root)
@@ -180,13 +192,13 @@ module _ {N : Type 0} (eq : N → N → Bool) where
   abbrev pub ListsNumbers : FileTree N → Type 0
   ListsNumbers files = (number : N) → is_among eq number files.numbers ≡ is_some (files.tree.node number)
 
-  -- The merged tree of an overlay has at every path what the layers show, and no whiteout and no mark. Two inodes have
-  -- two real objects; the real object of an inode with a name is the one that is shown there.
+  -- the real object of what the layers show at a path
   abbrev pub real_shown : World N → Overlay N → List (List ℕ) → Option (Real N)
   real_shown world overlay path =
       option_map (λ object. real_object (is_some overlay.upper) object.seen.layer object)
       (merged_at (map (open_layer eq world) (shown_layers overlay)) path)
 
+  -- the inode that the layers show at a path
   abbrev pub node_shown : World N → Overlay N → List (List ℕ) → Option (Node N)
   node_shown world overlay path =
       then_some (shown (map (open_layer eq world) (shown_layers overlay)) path)
@@ -199,6 +211,9 @@ module _ {N : Type 0} (eq : N → N → Bool) where
   real_node world overlay (Below layer path) =
       then_some (slice_get overlay.lowers layer) (λ lower. node_at_path (open_layer eq world lower) path)
 
+  -- The merged tree of an overlay has at every path what the layers show, and no whiteout and no mark. Two inodes have
+  -- two real objects; the real object of an inode with a name is the one that is shown there (overlayfs, "upper and
+  -- lower").
   pub record IsMerged (world : World N) (filesystem : Filesystem N) (overlay : Overlay N) : Type 0 where
     pub shows : (path : List (List ℕ))
         → SameObject (then_some (number_at_path filesystem.files path) filesystem.files.tree.node)
@@ -220,6 +235,7 @@ module _ {N : Type 0} (eq : N → N → Bool) where
   abbrev pub overlap : World N → Layer N → Layer N → Bool
   overlap world a b = overlaps_one_of eq world (b ∷ []) a
 
+  -- the lower layers of live overlays
   abbrev pub live_lowers : World N → List (Layer N)
   live_lowers world = flat_map (of_overlay [] (λ overlay. overlay.lowers)) (overlays world)
 
@@ -229,10 +245,12 @@ module _ {N : Type 0} (eq : N → N → Bool) where
       is_directory_at eq world location
       && list_all (eq namespace) (option_to_list (mount_at eq world location).namespace)
 
+  -- a task's root and working directory are directories, seen in its namespace: path_resolution(7)
   abbrev pub stands_on_directories : World N → Task N → Bool
   stands_on_directories world task =
       is_directory_seen_in world task.namespace task.root && is_directory_seen_in world task.namespace task.directory
 
+  -- a task's descriptors are on regular files
   abbrev pub has_regular_files_open : World N → Task N → Bool
   has_regular_files_open world task =
       list_all (λ descriptor. is_kind_in File (node_at eq world descriptor.location)) task.descriptors

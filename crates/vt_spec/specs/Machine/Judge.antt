@@ -40,13 +40,15 @@ abbrev pub Judgement : Type 0 → Type 0
 Judgement N = Result (Permit N) Deny
 
 module _ {N : Type 0} where
-  -- the change that a new inode is asked for: its number, for which any stands here, is not asked for
+  -- the change as the mounter's rules see it; they do not use the new inode's number
   abbrev pub unnumbered : Place N → Node N → Change N
   unnumbered place node = making place place.parent.node node
 
+  -- the permit for a new inode at a place
   abbrev pub make_permit : Place N → Node N → Permit N
   make_permit place node = ToMake place.parent (name_of place.last) node
 
+  -- the permit for a new, empty file at a place, and a descriptor for it
   abbrev pub open_new_permit : Task N → Place N → Access → ℕ → Permit N
   open_new_permit task place access mode = ToOpenNew place.parent (name_of place.last) (new_file task mode []) access
 
@@ -60,12 +62,13 @@ module _ {N : Type 0} where
       unless (fork_rules task (child_credentials task.credentials words))
       (Ok (ToFork (child_credentials task.credentials words)))
 
-  -- pread(2), close(2)
+  -- pread(2)
   unfoldable pub pread_permit : Task N → ℕ → ℕ → ℕ → Judgement N
   pread_permit task number offset size =
       and_then (descriptor_at task number (λ descriptor. descriptor.reads)) (λ descriptor.
       Ok (ToReadPart descriptor.location offset size))
 
+  -- close(2)
   unfoldable pub close_permit : Task N → ℕ → Judgement N
   close_permit task number =
       and_then (descriptor_at task number (λ descriptor. true)) (λ descriptor. Ok (ToClose number))
@@ -91,29 +94,35 @@ module _ {N : Type 0} where
 module _ {N : Type 0} (eq : N → N → Bool) where
   -- Calls that look
 
+  -- open(2) with O_DIRECTORY, then getdents(2)
   unfoldable pub list_permit : Looks N → Task N → List ℕ → Judgement N
   list_permit looks task path =
       and_then (walk_end (directory_walk eq looks task path)) (λ here.
       unless (list_rules looks task here.location) (Ok (ToList here.location)))
 
+  -- stat(2)
   unfoldable pub stat_permit : Looks N → Task N → List ℕ → Judgement N
   stat_permit looks task path =
       and_then (walk_end (object_walk eq looks task path)) (λ here. Ok (ToStat here.location))
 
+  -- lstat(2)
   unfoldable pub lstat_permit : Looks N → Task N → List ℕ → Judgement N
   lstat_permit looks task path =
       and_then (walk_end (symlink_walk eq looks task path)) (λ here. Ok (ToStat here.location))
 
+  -- readlink(2)
   unfoldable pub readlink_permit : Looks N → Task N → List ℕ → Judgement N
   readlink_permit looks task path =
       and_then (walk_end (symlink_walk eq looks task path)) (λ here.
       unless (readlink_rules looks here.location) (Ok (ToRead here.location)))
 
+  -- open(2) with O_RDONLY, then read(2) to the end
   unfoldable pub read_permit : Looks N → Task N → List ℕ → Judgement N
   read_permit looks task path =
       and_then (walk_end (object_walk eq looks task path)) (λ here.
       unless (read_rules looks task here.location) (Ok (ToRead here.location)))
 
+  -- execve(2), as far as it checks rights
   unfoldable pub exec_permit : Looks N → Task N → List ℕ → Judgement N
   exec_permit looks task path =
       and_then (walk_end (object_walk eq looks task path)) (λ here.
@@ -121,28 +130,33 @@ module _ {N : Type 0} (eq : N → N → Bool) where
 
   -- Calls that make a name, and write
 
+  -- a new inode at a place: mkdir(2), symlink(2)
   abbrev pub made_permit : Looks N → Task N → Place N → Node N → Judgement N
   made_permit looks task place node =
       unless (new_word_rules place ++ make_rules looks task place (unnumbered place node)) (Ok (make_permit place node))
 
+  -- mkdir(2)
   unfoldable pub mkdir_permit : Looks N → Task N → List ℕ → Option ℕ → Judgement N
   mkdir_permit looks task path mode =
       and_then (walk_end (new_walk eq looks task path)) (λ place.
       made_permit looks task place
       (record { attr = new_attr task (unwrap_or mode directory_mode); content = new_directory place.parent.node }))
 
+  -- symlink(2)
   unfoldable pub symlink_permit : Looks N → Task N → List ℕ → List ℕ → Judgement N
   symlink_permit looks task text path =
       unless (symlink_text_rules text)
       (and_then (walk_end (new_leaf_walk eq looks task path)) (λ place.
       made_permit looks task place (record { attr = exact_attr task symlink_mode; content = Symlink text })))
 
+  -- mknod(2) of the character device 0/0: overlayfs, "whiteouts and opaque directories"
   unfoldable pub whiteout_permit : Looks N → Task N → List ℕ → Judgement N
   whiteout_permit looks task path =
       and_then (walk_end (new_leaf_walk eq looks task path)) (λ place.
       unless (whiteout_rules looks task place)
       (Ok (make_permit place (record { attr = exact_attr task 0; content = Whiteout }))))
 
+  -- link(2)
   unfoldable pub hard_link_permit : Looks N → Task N → List ℕ → List ℕ → Judgement N
   hard_link_permit looks task old new =
       and_then (walk_end (symlink_walk eq looks task old)) (λ from.
@@ -151,7 +165,7 @@ module _ {N : Type 0} (eq : N → N → Bool) where
       (unless (hard_link_rules eq looks task from.location place (linking from.location place))
       (Ok (ToChange place.parent (linking from.location place))))))
 
-  -- the whole content of a file that is there, or of a new one
+  -- the whole content of a file that exists, or of a new one
   abbrev pub written_permit : Looks N → Task N → Place N → List ℕ → Option (Location N) → Judgement N
   written_permit looks task place bytes (Some file) =
       unless (rewrite_rules looks task file bytes) (Ok (ToChange file (SetBytes file.node bytes)))
@@ -160,6 +174,7 @@ module _ {N : Type 0} (eq : N → N → Bool) where
       (unless (make_rules looks task place (unnumbered place (new_file task file_mode bytes)))
       (Ok (make_permit place (new_file task file_mode bytes))))
 
+  -- open(2) with O_WRONLY, O_CREAT and O_TRUNC, then write(2)
   unfoldable pub write_permit : Looks N → Task N → List ℕ → List ℕ → Judgement N
   write_permit looks task path bytes =
       and_then (walk_end (file_walk eq looks task path)) (λ place.
@@ -167,6 +182,7 @@ module _ {N : Type 0} (eq : N → N → Bool) where
 
   -- Calls that remove and rename
 
+  -- unlink(2)
   unfoldable pub unlink_permit : Looks N → Task N → List ℕ → Judgement N
   unlink_permit looks task path =
       and_then (walk_end (old_leaf_walk eq looks task path)) (λ place.
@@ -174,6 +190,7 @@ module _ {N : Type 0} (eq : N → N → Bool) where
       (unless (unlink_rules looks task place (object_there place))
       (Ok (ToChange place.parent (removing place (object_there place))))))
 
+  -- rmdir(2)
   unfoldable pub rmdir_permit : Looks N → Task N → List ℕ → Judgement N
   rmdir_permit looks task path =
       and_then (walk_end (old_walk eq looks task path)) (λ place.
@@ -181,12 +198,14 @@ module _ {N : Type 0} (eq : N → N → Bool) where
       (unless (rmdir_rules eq looks task place (object_there place))
       (Ok (ToRemoveDirectory place.parent (name_of place.last) (object_there place)))))
 
+  -- rename(2), by whether both names lead to one object: then nothing is done
   abbrev pub renamed_permit : Bool → Looks N → Task N → Place N → Place N → Location N → Judgement N
   renamed_permit true looks task from to old = unless (same_object_rules eq looks from to) (Ok Allowed)
   renamed_permit false looks task from to old =
       unless (rename_rules eq looks task from to old)
       (Ok (ToRename from.parent (name_of from.last) to.parent (name_of to.last) old to.object))
 
+  -- rename(2)
   unfoldable pub rename_permit : Looks N → Task N → List ℕ → List ℕ → Judgement N
   rename_permit looks task old new =
       and_then (walk_end (old_leaf_walk eq looks task old)) (λ from.
@@ -197,16 +216,19 @@ module _ {N : Type 0} (eq : N → N → Bool) where
 
   -- Calls that change owner, mode and mark
 
+  -- other attributes of an object, by one who is allowed to set them
   abbrev pub attr_permit : Looks N → Location N → Bool → Attr → Judgement N
   attr_permit looks object allowed attr =
       unless (attr_rules looks object allowed attr) (Ok (ToChange object (SetAttr object.node attr)))
 
+  -- chmod(2)
   unfoldable pub chmod_permit : Looks N → Task N → List ℕ → ℕ → Judgement N
   chmod_permit looks task path mode =
       and_then (walk_end (object_walk eq looks task path)) (λ here.
       attr_permit looks here.location (owns task.credentials (attr_at looks here.location))
       (attr_with_mode (attr_at looks here.location) mode))
 
+  -- chown(2)
   unfoldable pub chown_permit : Looks N → Task N → List ℕ → Option ℕ → Option ℕ → Judgement N
   chown_permit looks task path uid gid =
       and_then (walk_end (object_walk eq looks task path)) (λ here.
@@ -214,6 +236,7 @@ module _ {N : Type 0} (eq : N → N → Bool) where
       (may_chown task.credentials (attr_at looks here.location) (attr_with_owner (attr_at looks here.location) uid gid))
       (attr_with_owner (attr_at looks here.location) uid gid))
 
+  -- setxattr(2) of trusted.overlay.opaque: overlayfs, "whiteouts and opaque directories"
   unfoldable pub opaque_permit : Looks N → Task N → List ℕ → Bool → Judgement N
   opaque_permit looks task path mark =
       unless (admin_rules task)
@@ -222,18 +245,22 @@ module _ {N : Type 0} (eq : N → N → Bool) where
 
   -- Calls on open files
 
+  -- open(2) of a file that exists
   abbrev pub open_file_permit : Looks N → Task N → Location N → Access → Judgement N
   open_file_permit looks task file access = unless (open_rules looks task file access) (Ok (ToOpen file access))
 
+  -- open(2) of a new file, with the rules on its directory; rights on the file itself are not checked
   abbrev pub create_file_permit : Looks N → Task N → Place N → Access → ℕ → Judgement N
   create_file_permit looks task place access mode =
       unless (make_rules looks task place (unnumbered place (new_file task mode [])))
       (Ok (open_new_permit task place access mode))
 
+  -- open(2) with O_CREAT, by whether the file exists
   abbrev pub opened_or_created_permit : Looks N → Task N → Place N → Access → ℕ → Option (Location N) → Judgement N
   opened_or_created_permit looks task place access mode (Some file) = open_file_permit looks task file access
   opened_or_created_permit looks task place access mode None = create_file_permit looks task place access mode
 
+  -- open(2), by what it does where the name is missing
   abbrev pub open_by_permit : Looks N → Task N → List ℕ → Access → Creation → Judgement N
   open_by_permit looks task path access NoCreation =
       and_then (walk_end (object_walk eq looks task path)) (λ here. open_file_permit looks task here.location access)
@@ -244,17 +271,20 @@ module _ {N : Type 0} (eq : N → N → Bool) where
       and_then (walk_end (new_walk eq looks task path)) (λ place.
       unless (exclusive_word_rules place) (create_file_permit looks task place access mode))
 
+  -- open(2): EMFILE first (profile)
   unfoldable pub open_permit : Looks N → Task N → List ℕ → Access → Creation → Judgement N
   open_permit looks task path access creation =
       unless (descriptor_rules task) (open_by_permit looks task path access creation)
 
   -- Calls on tasks
 
+  -- chdir(2)
   unfoldable pub chdir_permit : Looks N → Task N → List ℕ → Judgement N
   chdir_permit looks task path =
       and_then (walk_end (directory_walk eq looks task path)) (λ here.
       unless (enter_rules looks task here.location) (Ok (ToSetDirectory here.location)))
 
+  -- chroot(2)
   unfoldable pub chroot_permit : Looks N → Task N → List ℕ → Judgement N
   chroot_permit looks task path =
       unless ((lacks task cap_sys_chroot, K1) ∷ [])
@@ -263,12 +293,14 @@ module _ {N : Type 0} (eq : N → N → Bool) where
 
   -- Mount calls; of what attaches mounts it is given whether it leaves a namespace with too many
 
+  -- mount(2) of a tmpfs
   unfoldable pub mount_plain_permit : Looks N → (Permit N → Bool) → Task N → List ℕ → MountFlags → Judgement N
   mount_plain_permit looks overfills task path flags =
       unless (admin_rules task)
       (and_then (walk_end (destination_walk eq looks task path)) (λ here.
       attach_permit (new_mount_rules eq looks task here.location) overfills (ToMountPlain here.location flags)))
 
+  -- that, with the destination walked; options that are no list of options name no layers: O2
   abbrev pub overlay_permit_by : Looks N → (Permit N → Bool) → Task N → Location N → Option OverlayWords → MountFlags
       → Judgement N
   overlay_permit_by looks overfills task place None flags = Err (denial O2)
@@ -278,6 +310,7 @@ module _ {N : Type 0} (eq : N → N → Bool) where
       (attach_permit (new_mount_rules eq looks task place) overfills
       (ToMountOverlay place (overlay_at looks task places) flags)))
 
+  -- mount(2) of an overlay
   unfoldable pub mount_overlay_permit : Looks N → (Permit N → Bool) → Task N → List ℕ → Option OverlayWords → MountFlags
       → Judgement N
   mount_overlay_permit looks overfills task path options flags =
@@ -285,6 +318,7 @@ module _ {N : Type 0} (eq : N → N → Bool) where
       (and_then (walk_end (destination_walk eq looks task path)) (λ here.
       overlay_permit_by looks overfills task here.location options flags))
 
+  -- mount(2) with MS_BIND, and with MS_REC
   unfoldable pub bind_permit : Looks N → (Permit N → Bool) → Task N → List ℕ → List ℕ → Bool → Judgement N
   bind_permit looks overfills task source path recursive =
       unless (admin_rules task)
@@ -293,6 +327,7 @@ module _ {N : Type 0} (eq : N → N → Bool) where
       attach_permit (bind_rules eq looks task from.location here.location) overfills
       (ToBind from.location here.location recursive))))
 
+  -- mount(2) with MS_MOVE
   unfoldable pub move_permit : Looks N → (Permit N → Bool) → Task N → List ℕ → List ℕ → Judgement N
   move_permit looks overfills task source path =
       unless (admin_rules task)
@@ -301,30 +336,35 @@ module _ {N : Type 0} (eq : N → N → Bool) where
       attach_permit (move_rules eq looks task from.location here.location) overfills
       (ToMove from.location.mount here.location))))
 
+  -- umount(2)
   unfoldable pub umount_permit : Looks N → Task N → List ℕ → Judgement N
   umount_permit looks task path =
       unless (admin_rules task)
       (and_then (walk_end (directory_walk eq looks task path)) (λ here.
       unless (umount_rules eq looks task here.location) (Ok (ToUnmount here.location.mount))))
 
+  -- umount(2) with MNT_DETACH
   unfoldable pub lazy_permit : Looks N → Task N → List ℕ → Judgement N
   lazy_permit looks task path =
       unless (admin_rules task)
       (and_then (walk_end (directory_walk eq looks task path)) (λ here.
       unless (lazy_rules eq looks task here.location) (Ok (ToUnmountLazily here.location.mount))))
 
+  -- mount(2) with MS_REMOUNT and MS_BIND
   unfoldable pub remount_permit : Looks N → Task N → List ℕ → MountFlags → Judgement N
   remount_permit looks task path flags =
       unless (admin_rules task)
       (and_then (walk_end (directory_walk eq looks task path)) (λ here.
       unless (remount_rules eq looks task here.location flags) (Ok (ToSetFlags here.location.mount flags))))
 
+  -- mount(2) with MS_SHARED, MS_SLAVE, MS_PRIVATE or MS_UNBINDABLE, and with MS_REC
   unfoldable pub type_permit : Looks N → Task N → List ℕ → TypeWord → Bool → Judgement N
   type_permit looks task path word recursive =
       unless (admin_rules task)
       (and_then (walk_end (directory_walk eq looks task path)) (λ here.
       unless (type_rules eq looks task here.location) (Ok (ToSetType here.location.mount word recursive))))
 
+  -- pivot_root(2)
   unfoldable pub pivot_permit : Looks N → Task N → List ℕ → List ℕ → Judgement N
   pivot_permit looks task new put =
       unless (admin_rules task)
@@ -332,7 +372,7 @@ module _ {N : Type 0} (eq : N → N → Bool) where
       and_then (walk_end (destination_walk eq looks task put)) (λ here.
       unless (pivot_rules eq looks task root.location here.location) (Ok (ToPivot root.location.mount here.location)))))
 
-  -- the permit of a call, or the first rule that refuses it
+  -- the permit of a call, or the refusal by the first rule that fails: each by its man page, as above
   abbrev pub judge : Looks N → (Permit N → Bool) → Task N → Call → Judgement N
   judge looks overfills task (Ls path) = list_permit looks task path
   judge looks overfills task (Stat path) = stat_permit looks task path

@@ -3,7 +3,7 @@ use Rattle.std.specs.Prelude.{Bool, List, Option, map, ℕ}
 use Rattle.vt_spec.specs.Machine.Views
 pub use Rattle.vt_spec.specs.Machine.Views.{Shown, View, hides}
 use Rattle.vt_spec.specs.Tree.{Entries, Node, Tree}
-use Rattle.vt_spec.specs.TreeLaws.{led}
+use Rattle.vt_spec.specs.TreeInvariant.{led}
 
 -- a layer, as it is looked into: a directory of a plain tree
 pub record OpenLayer (N : Type 0) : Type 0 where
@@ -15,13 +15,17 @@ module _ {N : Type 0} where
   abbrev pub at_path : OpenLayer N → List (List ℕ) → Option N
   at_path layer path = led layer.tree layer.directory path
 
+  -- the view of a layer
   abbrev pub view_of : OpenLayer N → View N
   view_of layer = record { leads = λ path. at_path layer path; node = λ object. layer.tree.node object }
 
+  -- the inode to which a path leads in a layer
   abbrev pub node_at_path : OpenLayer N → List (List ℕ) → Option (Node N)
   node_at_path layer path = Views.node_led (view_of layer) path
 
-  -- what is said of views is said of layers
+  -- Each word from here on is that of views (`Views.antt`), of layers.
+
+  -- the layer cuts lower ones at a path
   abbrev pub cuts : OpenLayer N → List (List ℕ) → Bool
   cuts layer path = Views.cuts (view_of layer) path
 

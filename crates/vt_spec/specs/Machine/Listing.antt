@@ -26,19 +26,24 @@ module _ {N : Type 0} where
   groups_in_type world Private = []
   groups_in_type world Unbindable = []
 
+  -- the groups that a mount's line shows
   abbrev pub groups_shown : World N → Mount N → List N
   groups_shown world mount = groups_in_type world mount.propagation
 
 module _ {N : Type 0} (eq : N → N → Bool) where
+  -- the index of a number in a list, from 1 on
   abbrev pub number_among : List N → N → ℕ
   number_among seen number = unwrap_or (place_from (eq number) 1 seen) 0
 
+  -- the groups of these mounts, each once, as their lines show them from left to right
   abbrev pub groups_seen : World N → List (Mount N) → List N
   groups_seen world mounts = each_once eq (flat_map (groups_shown world) mounts)
 
+  -- the filesystems of these mounts, each once, in their order
   abbrev pub filesystems_seen : List (Mount N) → List N
   filesystems_seen mounts = each_once eq (map (λ mount. mount.filesystem) mounts)
 
+  -- the propagation type of a mount as its line shows it: optional fields in mountinfo, proc(5)
   abbrev pub type_line : World N → List N → Propagation N → TypeLine
   type_line world seen (Shared group) =
       SharedLine (number_among seen group) (option_map (number_among seen) (world.master group))
@@ -46,18 +51,23 @@ module _ {N : Type 0} (eq : N → N → Bool) where
   type_line world seen Private = PrivateLine
   type_line world seen Unbindable = UnbindableLine
 
+  -- the path from the root of the parent to the mount point
   abbrev pub place_spot : World N → Location N → Spot
   place_spot world place =
       spot_of (path_down eq (files_at eq world place) (mount_at eq world place).root place.node)
 
+  -- the path of a mount's root in its filesystem
   abbrev pub root_spot : World N → Mount N → Spot
   root_spot world mount =
       spot_of (path_down eq (filesystem_numbered eq world mount.filesystem).files
       (filesystem_numbered eq world mount.filesystem).files.tree.root mount.root)
 
+  -- a mount's line in the list of its namespace: mountinfo of proc(5)
   abbrev pub mount_line : World N → List (Mount N) → Mount N → MountLine
   mount_line world mounts mount = record {
-    mount_point = option_map (λ place. (number_among (map (λ other. other.number) mounts) place.mount, place_spot world place)) mount.mount_point;
+    mount_point = option_map
+        (λ place. (number_among (map (λ other. other.number) mounts) place.mount, place_spot world place))
+        mount.mount_point;
     overlay = is_overlay (filesystem_numbered eq world mount.filesystem);
     filesystem = number_among (filesystems_seen mounts) mount.filesystem;
     root = root_spot world mount;
@@ -69,20 +79,24 @@ module _ {N : Type 0} (eq : N → N → Bool) where
   abbrev pub mount_lines : World N → N → List MountLine
   mount_lines world namespace = map (mount_line world (mounts_of eq world namespace)) (mounts_of eq world namespace)
 
-  -- The mounts of all namespaces, those in order of creation, each with the place of its namespace and its own in it
+  -- the mounts of one namespace, each with the index of its namespace and its own in it
   abbrev pub attached_in : World N → ℕ × Namespace N → List (ℕ × ℕ × Mount N)
   attached_in world namespace =
       map (λ mount. (namespace.0, mount.0, mount.1)) (counted_from 1 (mounts_of eq world namespace.1.number))
 
+  -- the mounts of all namespaces, those in order of creation
   abbrev pub all_attached : World N → List (ℕ × ℕ × Mount N)
   all_attached world = flat_map (attached_in world) (counted_from 1 world.namespaces)
 
+  -- a slave of a group that is in no group itself
   abbrev pub is_slave_of : N → Mount N → Bool
   is_slave_of group mount = not (is_shared mount.propagation) && holds_of (eq group) (source_of mount.propagation)
 
+  -- the indices of all mounts that pass a test
   abbrev pub places_with : World N → (Mount N → Bool) → List (ℕ × ℕ)
   places_with world test = map (λ mount. (mount.0, mount.1)) (filter (λ mount. test mount.2) (all_attached world))
 
+  -- the line of a peer group: its master, members and slaves (profile)
   abbrev pub peer_line : World N → List N → N → PeerLine
   peer_line world seen group = record {
     group = number_among seen group;
@@ -91,10 +105,12 @@ module _ {N : Type 0} (eq : N → N → Bool) where
     slaves = places_with world (is_slave_of group);
   }
 
+  -- the lines of all peer groups, in the order in which mounts show them
   abbrev pub peer_lines : World N → List PeerLine
   peer_lines world =
       map (peer_line world (groups_seen world (map (λ mount. mount.2) (all_attached world))))
       (groups_seen world (map (λ mount. mount.2) (all_attached world)))
 
+  -- the list of the mounts of the caller's namespace: mountinfo of proc(5)
   unfoldable pub mounts_outcome : World N → Task N → Outcome N
   mounts_outcome world task = granted (MountList (mount_lines world task.namespace)) world

@@ -12,11 +12,12 @@ module _ {N : Type 0} where
   abbrev pub overlays : World N → List (Filesystem N)
   overlays world = filter is_overlay world.filesystems
 
-  -- a value for an overlay, and one for a plain tree
+  -- a value by an overlay, or a given one for a plain tree
   abbrev pub overlay_or : {A : Type 0} → A → (Overlay N → A) → Option (Overlay N) → A
   overlay_or plain said None = plain
   overlay_or plain said (Some overlay) = said overlay
 
+  -- that, of a filesystem
   abbrev pub of_overlay : {A : Type 0} → A → (Overlay N → A) → Filesystem N → A
   of_overlay plain said filesystem = overlay_or plain said filesystem.overlay
 
@@ -24,10 +25,11 @@ module _ {N : Type 0} where
   abbrev pub upper_and_work : Overlay N → List (Layer N)
   upper_and_work overlay = option_to_list overlay.upper ++ option_to_list overlay.work
 
-  -- the layers of live overlays, and those of them that changes write to
+  -- the layers of live overlays
   abbrev pub live_layers : World N → List (Layer N)
   live_layers world = flat_map (of_overlay [] layers_of) (overlays world)
 
+  -- the layers of live overlays that changes write to
   abbrev pub live_upper_and_work : World N → List (Layer N)
   live_upper_and_work world = flat_map (of_overlay [] upper_and_work) (overlays world)
 
@@ -38,6 +40,7 @@ module _ {N : Type 0} (eq : N → N → Bool) where
       eq filesystem layer.filesystem
       && is_under eq (filesystem_numbered eq world filesystem).files layer.directory object
 
+  -- the inode of the upper layer is the real object of this one
   abbrev pub is_real_upper : Overlay N → N → N → Bool
   is_real_upper overlay object number = holds_of (eq object) (upper_object (overlay.real number))
 
@@ -55,6 +58,7 @@ module _ {N : Type 0} (eq : N → N → Bool) where
       holds_of (λ upper. lies_in_layer world upper.filesystem upper.directory layer) overlay.upper
       && is_object_of filesystem object merged overlay) merged
 
+  -- the inode lies in the layer, or counts as lying in it
   abbrev pub lies_or_counts_under : World N → N → N → Layer N → Bool
   lies_or_counts_under world filesystem object layer =
       lies_in_layer world filesystem object layer
@@ -64,6 +68,7 @@ module _ {N : Type 0} (eq : N → N → Bool) where
   abbrev pub is_locked : World N → N → N → Bool
   is_locked world filesystem object = list_any (lies_or_counts_under world filesystem object) (live_layers world)
 
+  -- L1 at a location
   abbrev pub is_locked_at : World N → Location N → Bool
   is_locked_at world location = is_locked world (mount_at eq world location).filesystem location.node
 

@@ -14,6 +14,7 @@ use Rattle.vt_spec.specs.Tree.{Node, is_directory_node}
 use Rattle.vt_spec.specs.Machine.World.{Layer, Overlay, Task, World, filesystem_at, filesystem_numbered, is_removed_at, mount_numbered, node_at, task_called}
 use Rattle.vt_spec.specs.Language.Calls.{TaskName}
 
+-- what walks and rules may see of a world
 pub record Looks (N : Type 0) : Type 0 where
   -- the namespace of the task that has a name: the process of setns(2)
   pub namespace_called : TaskName → Option N
@@ -48,7 +49,7 @@ pub record Looks (N : Type 0) : Type 0 where
   pub overlaps_one_of : List (Layer N) → Layer N → Bool
   pub is_in_use : Overlay N → Bool
 
--- what a world shows
+-- what a world shows to walks and rules
 abbrev pub looks_of : {N : Type 0} → (N → N → Bool) → World N → Looks N
 looks_of eq world = record {
   namespace_called = λ name. option_map (λ task. task.namespace) (task_called world name);
@@ -72,6 +73,7 @@ looks_of eq world = record {
 }
 
 module _ {N : Type 0} where
+  -- the mount through which a location is seen
   abbrev pub mount_at : Looks N → Location N → Mount N
   mount_at looks location = looks.mount location.mount
 
@@ -79,6 +81,7 @@ module _ {N : Type 0} where
   abbrev pub topmost : Looks N → Location N → Location N
   topmost looks location = last_or location (looks.mounts_over location)
 
+  -- a directory is at the location
   abbrev pub is_directory_at : Looks N → Location N → Bool
   is_directory_at looks location = is_directory_node (looks.node location)
 

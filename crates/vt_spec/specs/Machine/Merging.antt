@@ -21,14 +21,17 @@ pub record MergedInode (N : Type 0) : Type 0 where
   pub node : Node N
   pub real : Real N
 
+-- two paths have the same names
 abbrev pub same_path : List (List ℕ) → List (List ℕ) → Bool
 same_path a b = same_list bytes_eq a b
 
+-- the path of the root, which has no names
 abbrev pub is_root_path : List (List ℕ) → Bool
 is_root_path [] = true
 is_root_path (name ∷ rest) = false
 
 module _ {N : Type 0} where
+  -- the object that is shown at a path, if there is one
   abbrev pub merged_at : List (OpenLayer N) → List (List ℕ) → Option (Merged N)
   merged_at layers path = option_map (λ seen. record { path = path; seen = seen }) (shown layers path)
 
@@ -42,24 +45,28 @@ module _ {N : Type 0} where
   real_object true (suc layer) object = Below layer object.path
   real_object false layer object = Below layer object.path
 
+  -- the inode that is shown, in its layer
   abbrev pub layer_node : List (OpenLayer N) → Shown N → Option (Node N)
   layer_node layers seen = then_some (slice_get layers seen.layer) (λ layer. layer.tree.node seen.object)
 
+  -- the inode of this number among these
   abbrev pub inode_of : List (MergedInode N) → N → (N → N → Bool) → Option (MergedInode N)
   inode_of inodes number eq = find (λ inode. eq number inode.number) inodes
 
+  -- the new number of the directory at a path
   abbrev pub number_at : Fresh N → Bool → List (Merged N) → List (List ℕ) → N
   number_at fresh has_upper objects path =
       fresh (unwrap_or (place_from (λ object. same_path path object.path) 0 objects) 0)
 
 module _ {N : Type 0} (eq : N → N → Bool) where
-  -- two paths lead to one inode only where they show one object of the upper layer
+  -- two real objects are one: an inode of the upper layer, or a path of lower ones
   abbrev pub same_real : Real N → Real N → Bool
   same_real (Upper a) (Upper b) = eq a b
   same_real (Upper a) (Below layer path) = false
   same_real (Below layer path) (Upper b) = false
   same_real (Below layer path) (Below other_layer other) = same_path path other
 
+  -- two paths lead to one inode only where they show one object of the upper layer: overlayfs, "non-standard behavior"
   abbrev pub is_one_inode : Bool → Merged N → Merged N → Bool
   is_one_inode has_upper a b =
       same_real (real_object has_upper a.seen.layer a) (real_object has_upper b.seen.layer b)
@@ -84,6 +91,7 @@ module _ {N : Type 0} (eq : N → N → Bool) where
   merged_content fresh has_upper objects path (Symlink text) = Symlink text
   merged_content fresh has_upper objects path Whiteout = Whiteout
 
+  -- an object that is shown as an inode of the merged tree: overlayfs, "upper and lower"
   abbrev pub merged_inode : Fresh N → Bool → List (OpenLayer N) → List (Merged N) → Merged N → Option (MergedInode N)
   merged_inode fresh has_upper layers objects object =
       option_map (λ node. record {
@@ -93,6 +101,7 @@ module _ {N : Type 0} (eq : N → N → Bool) where
       })
       (layer_node layers object.seen)
 
+  -- the inodes of all objects that are shown
   abbrev pub merged_inodes : Fresh N → Bool → List (OpenLayer N) → List (Merged N) → List (MergedInode N)
   merged_inodes fresh has_upper layers objects = filter_map (merged_inode fresh has_upper layers objects) objects
 
@@ -103,5 +112,6 @@ module _ {N : Type 0} (eq : N → N → Bool) where
     numbers = each_once eq (map (λ inode. inode.number) inodes);
   }
 
+  -- the real object of the inode of this number
   abbrev pub real_of : List (MergedInode N) → N → Option (Real N)
   real_of inodes number = option_map (λ inode. inode.real) (inode_of inodes number eq)

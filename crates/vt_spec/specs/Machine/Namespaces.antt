@@ -7,14 +7,18 @@ use Rattle.vt_spec.specs.Machine.Mounts.{Location, Mount, numbers_by, root_of, s
 use Rattle.vt_spec.specs.Machine.World.{Namespace, Task, World, mounts_of, root_mount, with_task}
 
 module _ {N : Type 0} where
+  -- a task in a namespace, with its root and working directory there
   abbrev pub entered_at : Task N → N → Location N → Task N
   entered_at task namespace root = record task { namespace = namespace; root = root; directory = root }
 
   -- Copies of a namespace's mounts; `copy` gives the number of a mount's copy. The copy of a shared mount is a peer of
-  -- it, that of a slave has the same master.
+  -- it, that of a slave has the same master (mount_namespaces(7)).
+
+  -- a location on a mount, on the copy of that mount
   abbrev pub location_on_copy : (N → N) → Location N → Location N
   location_on_copy copy location = record location { mount = copy location.mount }
 
+  -- the copy of a mount in another namespace
   abbrev pub copied_mount : (N → N) → N → Mount N → Mount N
   copied_mount copy namespace mount = record mount {
     number = copy mount.number;
@@ -23,6 +27,7 @@ module _ {N : Type 0} where
   }
 
 module _ {N : Type 0} (eq : N → N → Bool) where
+  -- the location is on one of these mounts
   abbrev pub is_copied : List (Mount N) → Location N → Bool
   is_copied mounts location = list_any (λ mount. eq location.mount mount.number) mounts
 
@@ -30,6 +35,7 @@ module _ {N : Type 0} (eq : N → N → Bool) where
   abbrev pub moved_location : List (Mount N) → (N → N) → Location N → Location N
   moved_location mounts copy location = if is_copied mounts location then location_on_copy copy location else location
 
+  -- a task in its new namespace, with its root and working directory on copies
   abbrev pub unshared_task : List (Mount N) → (N → N) → N → Task N → Task N
   unshared_task mounts copy namespace task = record task {
     namespace = namespace;
@@ -45,19 +51,22 @@ module _ {N : Type 0} (eq : N → N → Bool) where
   })
       (unshared_task (mounts_of eq world task.namespace) copy namespace task)
 
+  -- unshare(2) with CLONE_NEWNS: a new namespace for the task, with a copy of each mount of its old one
   abbrev pub unshared : World N → Fresh N → Task N → World N
   unshared world fresh task =
       unshared_by world (numbers_by eq (odds fresh) (mounts_of eq world task.namespace)) (evens fresh 0) task
 
-  -- a namespace ends with its last task: its mounts are detached, without propagation
+  -- some task is in the namespace
   abbrev pub has_tasks : World N → Namespace N → Bool
   has_tasks world namespace = list_any (λ task. eq namespace.number task.namespace) world.tasks
 
+  -- the mount is in a namespace that has no task
   abbrev pub is_in_ended : World N → Mount N → Bool
   is_in_ended world mount =
       holds_of (λ number. not (list_any
       (λ namespace. eq number namespace.number && has_tasks world namespace) world.namespaces)) mount.namespace
 
+  -- a namespace ends with its last task: its mounts are detached, without propagation: mount_namespaces(7)
   abbrev pub namespaces_ended : World N → World N
   namespaces_ended world =
       record (taken_away eq world (map (λ mount. mount.number) (filter (is_in_ended world) world.mounts))) {
@@ -69,18 +78,20 @@ module _ {N : Type 0} (eq : N → N → Bool) where
   namespace_root world namespace =
       option_map (λ mount. topmost eq world.mounts (root_of mount)) (root_mount eq world namespace)
 
+  -- setns(2): the task has its root and working directory at the root of the namespace
   abbrev pub namespace_entered : World N → Task N → N → World N
   namespace_entered world task namespace =
       with_task world (entered_at task namespace (unwrap_or (namespace_root world namespace) task.root))
 
   -- pivot_root(2): the new mount takes the mount point of the root mount, if any, and the root mount gets a mount point
-  -- under the new one. Nothing propagates.
+  -- under the new one
   abbrev pub pivoted_mount : Mount N → Mount N → Location N → Mount N → Mount N
   pivoted_mount root new put mount =
       if eq mount.number new.number then record mount { mount_point = root.mount_point }
       else if eq mount.number root.number then record mount { mount_point = Some put }
       else mount
 
+  -- a location at the root of the old root mount, at the root of the new one
   abbrev pub pivoted_location : Mount N → Mount N → Location N → Location N
   pivoted_location root new location = if same_location eq location (root_of root) then root_of new else location
 
@@ -91,6 +102,7 @@ module _ {N : Type 0} (eq : N → N → Bool) where
       record task { root = pivoted_location root new task.root; directory = pivoted_location root new task.directory }
       else task
 
+  -- the world after pivot_root(2). Nothing propagates.
   abbrev pub pivoted : World N → N → Mount N → Mount N → Location N → World N
   pivoted world namespace root new put = record world {
     mounts = map (pivoted_mount root new put) world.mounts;

@@ -15,6 +15,7 @@ module _ {N : Type 0} where
   abbrev pub denied : World N → Deny → Outcome N
   denied world deny = record { answer = Err deny; world = world }
 
+  -- a call is answered, and leaves this world
   abbrev pub granted : Answer → World N → Outcome N
   granted answer world = record { answer = Ok answer; world = world }
 

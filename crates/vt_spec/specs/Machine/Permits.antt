@@ -7,6 +7,7 @@ use Rattle.vt_spec.specs.Machine.World.{Overlay}
 use Rattle.vt_spec.specs.Rights.{Credentials}
 use Rattle.vt_spec.specs.Tree.{Node}
 
+-- what a call that no rule refuses may do: each permit names all that it acts on
 pub data Permit (N : Type 0) : Type 0 where
   -- no effect, and the answer `ok`: execve(2), and rename(2) of two names of one object
   Allowed : Permit N

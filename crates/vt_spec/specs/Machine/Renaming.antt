@@ -9,6 +9,9 @@ use Rattle.vt_spec.specs.Machine.World.{Descriptor, Filesystem, Layer, Namespace
 use Rattle.vt_spec.specs.Machine.World.Real.{Below, Upper}
 
 module _ {N M : Type 0} (there : N → M) (back : M → N) where
+  -- Each definition from here on is a value of its name with all of its numbers renamed, and nothing else changed.
+
+  -- a name, and the inode that it leads to
   abbrev pub renamed_entry : List ℕ × N → List ℕ × M
   renamed_entry entry = (entry.0, there entry.1)
 
@@ -99,6 +102,7 @@ module _ {N M : Type 0} (there : N → M) (back : M → N) where
     change = task.change;
   }
 
+  -- a world
   abbrev pub renamed : World N → World M
   renamed world = record {
     mounts = map renamed_mount world.mounts;

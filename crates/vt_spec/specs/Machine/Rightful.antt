@@ -6,6 +6,7 @@ use Rattle.vt_spec.specs.Tree.{Node, kind_of}
 use Rattle.vt_spec.specs.Machine.World.{Overlay}
 
 module _ {N : Type 0} where
+  -- the credentials grant these rights on an inode, if it exists: path_resolution(7), "Permissions"
   abbrev pub node_allows : Credentials → ℕ → Option (Node N) → Bool
   node_allows who wanted None = false
   node_allows who wanted (Some node) = allows who node.attr (kind_of node.content) wanted

@@ -18,6 +18,6 @@ module _ {N : Type 0} where
   abbrev pub new_attr : Task N → ℕ → Attr
   new_attr task mode = record { uid = task.credentials.uid; gid = task.credentials.gid; mode = masked task.umask mode }
 
-  -- a link has mode 0777 and a whiteout mode 0000, whatever the umask: symlink(7), overlayfs
+  -- a symlink has mode 0777 and a whiteout mode 0000, whatever the umask: symlink(7), overlayfs
   abbrev pub exact_attr : Task N → ℕ → Attr
   exact_attr task mode = record { uid = task.credentials.uid; gid = task.credentials.gid; mode = mode }

@@ -39,13 +39,15 @@ module _ {N : Type 0} where
   step_world world Silent = world
   step_world world (Answered outcome) = outcome.world
 
-  -- a number is in use: by a mount, a group, a filesystem, a namespace, or an inode
+  -- the numbers of a mount, and of its group or master
   abbrev pub used_by_mount : Mount N → List N
   used_by_mount mount = mount.number ∷ option_to_list (source_of mount.propagation)
 
+  -- the numbers of a filesystem and of its inodes
   abbrev pub used_by_filesystem : Filesystem N → List N
   used_by_filesystem filesystem = filesystem.number ∷ filesystem.files.numbers
 
+  -- the numbers in use: by a mount, a group, a filesystem, a namespace, or an inode
   abbrev pub numbers_in_use : World N → List N
   numbers_in_use world =
       flat_map used_by_mount world.mounts ++ flat_map used_by_filesystem world.filesystems
@@ -58,17 +60,19 @@ module _ {N : Type 0} (eq : N → N → Bool) where
   requested world (Some (Calling task call)) fresh = policy eq fresh world task call
   requested world (Some (Asking directive)) fresh = directed eq world directive
 
-  -- A line that was refused memory is S5, and counts as no call.
+  -- if an allocation fails, the line answers S5 and has no effect
   abbrev pub spoken_step : Grammar → World N → List ℕ → Option (Fresh N) → Step N
   spoken_step grammar world line None = Answered (denied world (denial S5))
   spoken_step grammar world line (Some fresh) = Answered (requested world (request_of grammar line) fresh)
 
+  -- a line that is too long is S1, and a silent one has no answer
   abbrev pub line_step_by : Bool → Bool → Grammar → World N → List ℕ → Option (Fresh N) → Step N
   line_step_by true silent grammar world line fresh = Answered (denied world (denial S1))
   line_step_by false true grammar world line fresh = Silent
   line_step_by false false grammar world line fresh = spoken_step grammar world line fresh
 
-  -- the step of a line, to which new numbers are handed in for what its call may make, or none where memory was refused
+  -- the step of a line, to which new numbers are handed in for what its call may make, or none where an allocation
+  -- fails
   abbrev pub line_step : Grammar → World N → List ℕ → Option (Fresh N) → Step N
   line_step grammar world line fresh =
       line_step_by (nat_lt longest_line (length line)) (is_silent line) grammar world line fresh
@@ -78,8 +82,8 @@ module _ {N : Type 0} (eq : N → N → Bool) where
     pub unused : (k : ℕ) → is_among eq (fresh k) (numbers_in_use world) ≡ false
     pub apart : (j k : ℕ) → eq (fresh j) (fresh k) ≡ true → j ≡ k
 
-  -- Which text may be written for these lines, of which the refused ones are given from the first line on: each line is
-  -- handed some numbers that are not in use.
+  -- Which text may be written for these lines, where those in which an allocation fails are given from the first line
+  -- on: each line is handed some numbers that are not in use.
   abbrev pub Tells : Grammar → World N → ℕ → List (List ℕ) → List Bool → List ℕ → Type 0
   Tells grammar world number [] refused text = text ≡ []
   Tells grammar world number (line ∷ lines) [] text = ⊥
@@ -93,23 +97,27 @@ module _ {N : Type 0} (eq : N → N → Bool) where
 
 -- The opening world has the first four numbers. All others stand in endless rows, one for each line, along the
 -- diagonals: Cantor's pairing. So no two lines share a number, however many each takes.
+
+-- the opening world, with these numbers
 abbrev pub first_world : World ℕ
 first_world = opening nat_eq (λ place. place)
 
+-- the numbers for the line of this number
 abbrev pub numbers_for : ℕ → Fresh ℕ
 numbers_for line place = 4 + ((line + place) * (line + place + 1)) / 2 + line
 
--- what the line of this number is handed, if it was not refused memory
+-- what the line of this number is handed: numbers, or nothing where an allocation fails
 abbrev pub handed : ℕ → List Bool → Option (Fresh ℕ)
 handed number [] = Some (numbers_for number)
 handed number (true ∷ refused) = None
 handed number (false ∷ refused) = Some (numbers_for number)
 
+-- whether an allocation fails, for the lines after this one
 abbrev pub later : List Bool → List Bool
 later [] = []
 later (line ∷ lines) = lines
 
--- the text of the answers to these lines, of which some were refused memory
+-- the text of the answers to these lines, in some of which an allocation fails
 abbrev pub text_from : Grammar → World ℕ → ℕ → List (List ℕ) → List Bool → List ℕ
 text_from grammar world number [] refused = []
 text_from grammar world number (line ∷ lines) refused =
@@ -117,13 +125,13 @@ text_from grammar world number (line ∷ lines) refused =
     ++ text_from grammar (step_world world (line_step nat_eq grammar world line (handed number refused)))
     (number + 1) lines (later refused)
 
--- the world after these lines, none refused
+-- the world after these lines, where no allocation fails
 abbrev pub world_from : Grammar → World ℕ → ℕ → List (List ℕ) → World ℕ
 world_from grammar world number [] = world
 world_from grammar world number (line ∷ lines) =
     world_from grammar (step_world world (line_step nat_eq grammar world line (handed number []))) (number + 1) lines
 
--- the answers to a script: of its lines, those are refused memory whose place in the list is `true`
+-- the answers to a script: an allocation fails in those of its lines whose place in the list is `true`
 abbrev pub text_of : Grammar → List Bool → List ℕ → List ℕ
 text_of grammar refused script = text_from grammar first_world 1 (lines_of script) refused
 
@@ -138,14 +146,14 @@ machine_text version refused script = text_of (whole version) refused script
 -- what a proof by computation opens
 unfoldable pub everything : Unit {0}
 unfolding digits script_text machine_text request_of sealed list_outcome stat_outcome lstat_outcome readlink_outcome
-    read_outcome exec_outcome mkdir_outcome symlink_outcome whiteout_outcome hard_link_outcome write_outcome unlink_outcome
-    rmdir_outcome rename_outcome chmod_outcome chown_outcome opaque_outcome open_outcome pread_outcome pwrite_outcome
-    close_outcome fork_outcome umask_outcome drop_outcome chdir_outcome chroot_outcome exit_outcome unshare_outcome
-    setns_outcome mount_plain_outcome mount_overlay_outcome bind_outcome move_outcome umount_outcome lazy_outcome
-    remount_outcome type_outcome pivot_outcome mounts_outcome
-    list_permit stat_permit lstat_permit readlink_permit read_permit exec_permit mkdir_permit symlink_permit
-    whiteout_permit hard_link_permit write_permit unlink_permit rmdir_permit rename_permit chmod_permit chown_permit
-    opaque_permit open_permit pread_permit pwrite_permit close_permit fork_permit chdir_permit chroot_permit
-    unshare_permit setns_permit mount_plain_permit mount_overlay_permit bind_permit move_permit umount_permit
-    lazy_permit remount_permit type_permit pivot_permit
+    read_outcome exec_outcome mkdir_outcome symlink_outcome whiteout_outcome hard_link_outcome write_outcome
+    unlink_outcome rmdir_outcome rename_outcome chmod_outcome chown_outcome opaque_outcome open_outcome
+    pread_outcome pwrite_outcome close_outcome fork_outcome umask_outcome drop_outcome chdir_outcome chroot_outcome
+    exit_outcome unshare_outcome setns_outcome mount_plain_outcome mount_overlay_outcome bind_outcome move_outcome
+    umount_outcome lazy_outcome remount_outcome type_outcome pivot_outcome mounts_outcome list_permit stat_permit
+    lstat_permit readlink_permit read_permit exec_permit mkdir_permit symlink_permit whiteout_permit
+    hard_link_permit write_permit unlink_permit rmdir_permit rename_permit chmod_permit chown_permit opaque_permit
+    open_permit pread_permit pwrite_permit close_permit fork_permit chdir_permit chroot_permit unshare_permit
+    setns_permit mount_plain_permit mount_overlay_permit bind_permit move_permit umount_permit lazy_permit
+    remount_permit type_permit pivot_permit
 everything = tt

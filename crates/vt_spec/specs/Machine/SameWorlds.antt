@@ -21,18 +21,21 @@ pub record SameFiles {N : Type 0} (one other : FileTree N) : Type 0 where
   pub tree : one.tree ≡ other.tree
   pub numbers : IsPermutation one.numbers other.numbers
 
+-- the same filesystem but for its change number
 pub record SameFilesystem {N : Type 0} (one other : Filesystem N) : Type 0 where
   pub number : one.number ≡ other.number
   pub files : SameFiles one.files other.files
   pub overlay : one.overlay ≡ other.overlay
 
 module _ {N : Type 0} where
+  -- the same filesystems, in the same order
   abbrev pub SameFilesystems : List (Filesystem N) → List (Filesystem N) → Type 0
   SameFilesystems [] [] = ⊤
   SameFilesystems [] (other ∷ others) = ⊥
   SameFilesystems (one ∷ ones) [] = ⊥
   SameFilesystems (one ∷ ones) (other ∷ others) = SameFilesystem one other × SameFilesystems ones others
 
+-- the same world but for change numbers, and the order of the numbers beside trees
 pub record SameWorlds {N : Type 0} (one other : World N) : Type 0 where
   pub mounts : one.mounts ≡ other.mounts
   pub master : one.master ≡ other.master
@@ -40,8 +43,8 @@ pub record SameWorlds {N : Type 0} (one other : World N) : Type 0 where
   pub namespaces : (without_changes one).namespaces ≡ (without_changes other).namespaces
   pub tasks : (without_changes one).tasks ≡ (without_changes other).tasks
 
--- what lies only below in an overlay has a name in one directory alone, since there are as many such inodes as paths
--- that show them: overlayfs, "non-standard behavior" of hard links
+-- An inode of an overlay that is only in lower layers has a name in one directory alone, since there are as many such
+-- inodes as paths that show them: overlayfs, "non-standard behavior" of hard links
 abbrev pub BelowHasOneName : {N : Type 0} → (N → N → Bool) → World N → Type 0
 BelowHasOneName {N} eq world =
     (number : N) (overlay : Overlay N) → (filesystem_numbered eq world number).overlay ≡ Some overlay

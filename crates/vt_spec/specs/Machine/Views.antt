@@ -1,6 +1,6 @@
 -- What the layers of an overlay show at a path, by the view of each layer: the kernel's overlayfs document, "upper and
--- lower", "whiteouts and opaque directories" and "multiple lower layers". That a middle layer cuts what is below it is
--- the profile's.
+-- lower", "whiteouts and opaque directories" and "multiple lower layers". That a middle layer cuts the layers under it
+-- is the profile's.
 use Rattle.std.specs.Prelude.{Bool, List, None, Option, Some, [], false, filter, flat_map, if◌then◌else◌, is_some, map, not, suc, true, zero, ℕ, ◌&&◌, ◌++◌, ◌+◌, ◌||◌, ◌∷◌}
 use Rattle.std.specs.List.{list_any}
 use Rattle.vt_spec.specs.declared.attributes.Kind.TheVariants.{White}
@@ -21,10 +21,11 @@ pub record Shown (N : Type 0) : Type 0 where
   pub object : N
 
 module _ {N : Type 0} where
+  -- the inode to which a path leads in a layer
   abbrev pub node_led : View N → List (List ℕ) → Option (Node N)
   node_led view path = then_some (view.leads path) view.node
 
-  -- a whiteout, an object that is no directory, and an opaque directory hide what lower layers have there and below
+  -- a whiteout, an object that is no directory, and an opaque directory hide what lower layers have there and under it
   abbrev pub hides : Option (Node N) → Bool
   hides None = false
   hides (Some node) = not (is_directory (kind_of node.content)) || is_opaque_in (Some node)
@@ -38,7 +39,7 @@ module _ {N : Type 0} where
   visible view depth object =
       when (not (is_kind_in White (view.node object))) (record { layer = depth; object = object })
 
-  -- the object that a layer has, or, where it has none and does not cut, what is shown below it
+  -- the object that a layer has, or, where it has none and does not cut, what the layers under it show
   abbrev pub shown_over : View N → ℕ → Option N → Bool → Option (Shown N) → Option (Shown N)
   shown_over view depth (Some object) cut lower = visible view depth object
   shown_over view depth None true lower = None
@@ -50,6 +51,7 @@ module _ {N : Type 0} where
   shown_from depth (view ∷ lower) path =
       shown_over view depth (view.leads path) (cuts view path) (shown_from (depth + 1) lower path)
 
+  -- what the layers show at a path, the highest first
   abbrev pub shown : List (View N) → List (List ℕ) → Option (Shown N)
   shown views path = shown_from 0 views path
 
@@ -74,12 +76,13 @@ module _ {N : Type 0} where
   paths_from (suc depth) views path =
       path ∷ flat_map (λ name. paths_from depth views (path ++ (name ∷ []))) (names_shown views path)
 
-  -- O1: a lower layer that is not cut has a directory there: overlayfs, "renaming directories"
+  -- one of these layers has a directory there, and no higher one of them cuts the path
   abbrev pub lowers_have_directory : List (View N) → List (List ℕ) → Bool
   lowers_have_directory [] path = false
   lowers_have_directory (view ∷ lower) path =
       is_directory_node (node_led view path) || (not (cuts view path) && lowers_have_directory lower path)
 
+  -- O1: a lower layer that is not cut has a directory there: overlayfs, "renaming directories"
   abbrev pub has_lower_directory : List (View N) → List (View N) → List (List ℕ) → Bool
   has_lower_directory uppers lowers path =
       not (list_any (λ upper. cuts upper path) uppers) && lowers_have_directory lowers path

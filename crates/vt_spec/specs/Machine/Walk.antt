@@ -1,4 +1,4 @@
--- Walks in a world: those of `Walking.antt`, over what the world shows.
+-- Walks in a world: each definition is that of its name in `Walking.antt`, over what the world shows.
 use Rattle.std.specs.Prelude.{Bool, List, Option, Result, ℕ}
 use Rattle.vt_spec.specs.declared.errors.Deny.{Deny}
 use Rattle.vt_spec.specs.Errors.{Rules}

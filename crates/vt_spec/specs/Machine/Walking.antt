@@ -16,52 +16,57 @@ use Rattle.vt_spec.specs.Rights.{execute_right}
 use Rattle.vt_spec.specs.Tree.{entries_in, entry_named, parent_in}
 use Rattle.vt_spec.specs.Machine.World.{Task}
 
--- the last word of a path, as a call that names an object takes it
+-- the last word of a path, as a call that names an object takes it: path_resolution(7)
 pub data LastWord : Type 0 where
   NoWord : LastWord
   Dot : LastWord
   DotDot : LastWord
   Named : (name : List ℕ) → LastWord
 
+-- what a word stands for as a last word
 abbrev pub last_word : List ℕ → LastWord
 last_word word =
     if bytes_eq word (codes ".") then Dot
     else if bytes_eq word (codes "..") then DotDot
     else Named word
 
+-- the path has no word: `/`
 abbrev pub is_no_word : LastWord → Bool
 is_no_word NoWord = true
 is_no_word Dot = false
 is_no_word DotDot = false
 is_no_word (Named name) = false
 
+-- the last word is `.`
 abbrev pub is_dot : LastWord → Bool
 is_dot NoWord = false
 is_dot Dot = true
 is_dot DotDot = false
 is_dot (Named name) = false
 
+-- the last word is `..`
 abbrev pub is_dot_dot : LastWord → Bool
 is_dot_dot NoWord = false
 is_dot_dot Dot = false
 is_dot_dot DotDot = true
 is_dot_dot (Named name) = false
 
--- names no entry of a directory
+-- the last word names no entry of a directory
 abbrev pub is_special : LastWord → Bool
 is_special NoWord = true
 is_special Dot = true
 is_special DotDot = true
 is_special (Named name) = false
 
+-- the name that is the last word; empty for the others
 abbrev pub name_of : LastWord → List ℕ
 name_of NoWord = []
 name_of Dot = []
 name_of DotDot = []
 name_of (Named name) = name
 
--- Where a walk stands: the place, the symlinks that it may still follow, and for each word walked, the last one first,
--- the filesystems that it met.
+-- Where a walk stands: the location, the symlinks that it may still follow, and for each word walked, the last one
+-- first, the filesystems that it met.
 pub record Here (N : Type 0) : Type 0 where
   pub location : Location N
   pub left : ℕ
@@ -81,6 +86,7 @@ pub record Place (N : Type 0) : Type 0 where
   pub slash : Bool
   pub steps : List (List N)
 
+-- the last word of a path, whose last word comes first in the list
 abbrev pub final_word : List (List ℕ) → LastWord
 final_word [] = NoWord
 final_word (word ∷ front) = last_word word
@@ -90,6 +96,7 @@ abbrev pub Follow : Type 0 → Type 0
 Follow N = Location N → Here N → List ℕ → Result (Here N) (Stop N)
 
 module _ {N : Type 0} where
+  -- what comes after a walk that may be refused
   abbrev pub then_walk : {A B : Type 0} → Result A (Stop N) → (A → Result B (Stop N)) → Result B (Stop N)
   then_walk (Ok a) next = next a
   then_walk (Err stop) next = Err stop
@@ -99,6 +106,7 @@ module _ {N : Type 0} where
   stopped_by steps (Ok a) = Ok a
   stopped_by steps (Err deny) = Err (record { deny = deny; steps = steps })
 
+  -- the result of a walk, or the refusal by the first rule that fails
   abbrev pub walk_unless : {A : Type 0} → List (List N) → Rules → A → Result A (Stop N)
   walk_unless steps rules a = stopped_by steps (unless rules (Ok a))
 
@@ -112,11 +120,12 @@ module _ {N : Type 0} where
   also_met filesystem [] = []
   also_met filesystem (met ∷ steps) = (filesystem ∷ met) ∷ steps
 
+  -- the word walked last meets more filesystems
   abbrev pub all_met : List N → List (List N) → List (List N)
   all_met filesystems [] = []
   all_met filesystems (met ∷ steps) = (filesystems ++ met) ∷ steps
 
-  -- the start of a path, or of the text of a symlink in a directory
+  -- the start of a path, or of the text of a symlink in a directory: path_resolution(7)
   abbrev pub start_of : Task N → Location N → List ℕ → Location N
   start_of task directory path = if is_absolute path then task.root else directory
 
@@ -125,19 +134,22 @@ module _ {N : Type 0} where
   if_symlink here None follow = Ok here
   if_symlink here (Some text) follow = follow text
 
+  -- where the walk of a path begins: at the task's root or working directory, with all symlinks still to follow
   abbrev pub walk_start : Task N → List ℕ → Here N
   walk_start task path = record { location = start_of task task.directory path; left = most_symlinks; steps = [] }
 
+  -- the text of a path, or W1 or W2 before any word is walked
   abbrev pub path_text : List ℕ → Result (List ℕ) (Stop N)
   path_text path = stopped_by [] (parsed_path path)
 
+  -- where a walk stands at the symlink that a last word names
   abbrev pub symlink_of : Here N → Place N → Here N
   symlink_of here place =
       record { location = unwrap_or place.object place.parent; left = here.left; steps = place.steps }
 
 module _ {N : Type 0} (eq : N → N → Bool) where
-  -- before a word is looked up, the place reached must be a directory that the task, and on an overlay its mounter, may
-  -- search
+  -- before a word is looked up, the location reached must be a directory that the task, and on an overlay its mounter,
+  -- may search: path_resolution(7), "Step 2"
   abbrev pub search_rules : Looks N → Task N → Location N → Rules
   search_rules looks task here =
       (not (is_directory_at looks here), W3)
@@ -151,37 +163,39 @@ module _ {N : Type 0} (eq : N → N → Bool) where
       option_map (λ object. record { mount = here.mount; node = object })
       (entry_named name (entries_in (looks.node here)))
 
-  -- `..` at the root of a mount goes on from the mount's place, but stays at the task's root and where a mount has no
-  -- place
+  -- `..` at a mount's root goes on from its mount point, but stays at the task's root and at the root of a mount
+  -- without a mount point: path_resolution(7), "Mount points"
   abbrev pub hop : Looks N → Task N → Location N → Option (Location N)
   hop looks task here =
       if same_location eq here task.root then None
       else if eq here.node (mount_at looks here).root then (mount_at looks here).mount_point
       else None
 
+  -- a location, then each mount point from which `..` goes on
   abbrev pub hops : Looks N → Task N → Location N → List (Location N)
   hops looks task here = chain looks.mount_count (hop looks task) here
 
-  -- the directory leads nowhere: it is removed, or no longer lies under its mount's root
+  -- W8: the directory is removed, or no longer lies under its mount's root (profile)
   abbrev pub is_lost : Looks N → Location N → Bool
   is_lost looks here =
       looks.is_removed here
       || not (looks.is_under (mount_at looks here).filesystem (mount_at looks here).root here.node)
 
+  -- the parent of a directory, seen through the same mount
   abbrev pub parent_location : Looks N → Location N → Location N
   parent_location looks here = record { mount = here.mount; node = parent_in here.node (looks.node here) }
 
-  -- at the task's root, and at the root of a mount that has no place, `..` stays
+  -- at the task's root, and at the root of a mount without a mount point, `..` stays
   abbrev pub is_top : Looks N → Task N → Location N → Bool
   is_top looks task here = same_location eq here task.root || eq here.node (mount_at looks here).root
 
-  -- from where the hops end: there it stays at a root, else the parent, through every mount over it
+  -- `..` from where the hops end: it stays at a root, else leads to the parent and through every mount over it
   abbrev pub up_from : Looks N → Task N → Location N → Result (Location N) Deny
   up_from looks task here =
       if is_top looks task here then Ok here
       else unless ((is_lost looks here, W8) ∷ []) (Ok (topmost looks (parent_location looks here)))
 
-  -- one step by a word: to a location, a missing name, or W8
+  -- one step by a word: to a location, a missing name (W6), or W8
   abbrev pub stepped : Looks N → Task N → Location N → LastWord → Result (Location N) Deny
   stepped looks task here NoWord = Ok here
   stepped looks task here Dot = Ok here
@@ -189,14 +203,16 @@ module _ {N : Type 0} (eq : N → N → Bool) where
   stepped looks task here (Named name) =
       ok_or (option_map (topmost looks) (entry_location looks here name)) (denial W6)
 
-  -- The filesystems that a step meets: of the mounts that `..` passes, and of those that are entered
+  -- the filesystems of the mounts through which locations are seen
   abbrev pub filesystems_of : Looks N → List (Location N) → List N
   filesystems_of looks locations = map (λ location. (mount_at looks location).filesystem) locations
 
+  -- the parent that `..` leads to, and the roots of the mounts over it; none where it stays
   abbrev pub entered_upward : Looks N → Task N → Location N → List (Location N)
   entered_upward looks task here =
       if is_top looks task here then [] else looks.mounts_over (parent_location looks here)
 
+  -- the filesystems that a step meets: of the mounts that `..` passes, and of those that are entered (profile)
   abbrev pub met_by : Looks N → Task N → Location N → LastWord → List N
   met_by looks task here NoWord = filesystems_of looks (here ∷ [])
   met_by looks task here Dot = filesystems_of looks (here ∷ [])
@@ -205,6 +221,7 @@ module _ {N : Type 0} (eq : N → N → Bool) where
   met_by looks task here (Named name) =
       filesystems_of looks (here ∷ flat_map looks.mounts_over (option_to_list (entry_location looks here name)))
 
+  -- the steps of a walk, with that by one more word
   abbrev pub steps_with : Looks N → Task N → Here N → LastWord → List (List N)
   steps_with looks task here word = met_by looks task here.location word ∷ here.steps
 
@@ -217,21 +234,21 @@ module _ {N : Type 0} (eq : N → N → Bool) where
 
   -- a symlink's text may be walked: W9 before W7 before W2 (profile)
   abbrev pub follow_rules : Looks N → Here N → List ℕ → Rules
-  follow_rules looks link text =
-      ((mount_at looks link.location).flags.nosymfollow, W9)
-      ∷ (link.left == 0, W7)
+  follow_rules looks symlink text =
+      ((mount_at looks symlink.location).flags.nosymfollow, W9)
+      ∷ (symlink.left == 0, W7)
       ∷ (list_any (λ word. nat_lt longest_name (length word)) (words text), W2)
       ∷ []
 
   -- where the walk of a symlink's text begins, in the directory that the symlink stands in
   abbrev pub symlink_start : Looks N → Task N → Location N → Here N → List ℕ → Here N
-  symlink_start looks task directory link text = record {
+  symlink_start looks task directory symlink text = record {
     location = start_of task directory text;
-    left = link.left - 1;
-    steps = if is_absolute text then also_met (mount_at looks task.root).filesystem link.steps else link.steps;
+    left = symlink.left - 1;
+    steps = if is_absolute text then also_met (mount_at looks task.root).filesystem symlink.steps else symlink.steps;
   }
 
-  -- a trailing slash asks for a directory
+  -- a trailing slash asks for a directory: path_resolution(7)
   abbrev pub slash_rules : Looks N → List ℕ → Location N → Rules
   slash_rules looks path here = ((if ends_in_slash path then not (is_directory_at looks here) else false), W3) ∷ []
 
@@ -246,16 +263,18 @@ module _ {N : Type 0} (eq : N → N → Bool) where
   -- A symlink is a walk of its text from its directory or the task's root, with what is left of the symlinks. Symlinks
   -- stand in one another's texts no deeper than there are symlinks to follow.
   abbrev pub symlink_walked : ℕ → Looks N → Task N → Location N → Here N → List ℕ → Result (Here N) (Stop N)
-  symlink_walked zero looks task directory link text = Err (record { deny = denial W7; steps = link.steps })
-  symlink_walked (suc depth) looks task directory link text =
+  symlink_walked zero looks task directory symlink text = Err (record { deny = denial W7; steps = symlink.steps })
+  symlink_walked (suc depth) looks task directory symlink text =
       then_walk
-      (walk_unless link.steps (follow_rules looks link text) (symlink_start looks task directory link text)) (λ start.
+      (walk_unless symlink.steps (follow_rules looks symlink text)
+      (symlink_start looks task directory symlink text)) (λ start.
       then_walk (words_walked looks task (λ inside next inner. symlink_walked depth looks task inside next inner)
       start (reverse (words text))) (λ reached.
       walk_unless reached.steps (slash_rules looks text reached.location) reached))
 
+  -- the text of a symlink walked, with the most symlinks to follow
   abbrev pub followed : Looks N → Task N → Location N → Here N → List ℕ → Result (Here N) (Stop N)
-  followed looks task directory link text = symlink_walked (most_symlinks + 1) looks task directory link text
+  followed looks task directory symlink text = symlink_walked (most_symlinks + 1) looks task directory symlink text
 
   -- every word of the path walked, a final symlink too
   abbrev pub path_walked : Looks N → Task N → List ℕ → Result (Here N) (Stop N)
@@ -280,13 +299,14 @@ module _ {N : Type 0} (eq : N → N → Bool) where
   front_walked looks task follow here [] = Ok here
   front_walked looks task follow here (word ∷ front) = words_walked looks task follow here front
 
-  -- the object that a path leads to, a final symlink itself unless a slash follows: lstat(2)
+  -- the last word walked, without a final symlink followed
   abbrev pub last_walked : Looks N → Task N → Here N → LastWord → Result (Here N) (Stop N)
   last_walked looks task here NoWord = Ok here
   last_walked looks task here Dot = word_walked looks task here Dot
   last_walked looks task here DotDot = word_walked looks task here DotDot
   last_walked looks task here (Named name) = word_walked looks task here (Named name)
 
+  -- that walk, by whether a slash follows the last word
   abbrev pub symlink_walk_by : Bool → Looks N → Task N → List ℕ → Result (Here N) (Stop N)
   symlink_walk_by true looks task path = object_walk looks task path
   symlink_walk_by false looks task path =
@@ -294,6 +314,7 @@ module _ {N : Type 0} (eq : N → N → Bool) where
       then_walk (front_walked looks task (followed looks task) (walk_start task text) (reverse (words text))) (λ here.
       last_walked looks task here (final_word (reverse (words text)))))
 
+  -- the object that a path leads to, a final symlink itself unless a slash follows: lstat(2)
   abbrev pub symlink_walk : Looks N → Task N → List ℕ → Result (Here N) (Stop N)
   symlink_walk looks task path = symlink_walk_by (ends_in_slash path) looks task path
 
@@ -306,16 +327,18 @@ module _ {N : Type 0} (eq : N → N → Bool) where
   object_named looks task here DotDot = and_then (stepped looks task here DotDot) (λ parent. Ok (Some parent))
   object_named looks task here (Named name) = Ok (entry_location looks here name)
 
-  -- what it meets: a name's own directory alone
+  -- the filesystems that the last word of a parent walk meets: of a name its directory's alone (profile)
   abbrev pub met_at : Looks N → Task N → Location N → LastWord → List N
   met_at looks task here NoWord = met_by looks task here NoWord
   met_at looks task here Dot = met_by looks task here Dot
   met_at looks task here DotDot = met_by looks task here DotDot
   met_at looks task here (Named name) = filesystems_of looks (here ∷ [])
 
+  -- the steps of a parent walk, with its last word
   abbrev pub steps_at : Looks N → Task N → Here N → LastWord → List (List N)
   steps_at looks task here word = met_at looks task here.location word ∷ here.steps
 
+  -- where a parent walk ends, by its directory and its last word
   abbrev pub placed : Looks N → Task N → Here N → LastWord → Bool → Result (Place N) (Stop N)
   placed looks task here NoWord slash =
       Ok (record {
@@ -343,11 +366,12 @@ module _ {N : Type 0} (eq : N → N → Bool) where
       then_walk (front_walked looks task (followed looks task) (walk_start task text) (reverse (words text))) (λ here.
       placed looks task here (final_word (reverse (words text))) (ends_in_slash text)))
 
-  -- a name that is to be made, or is there: its parent is no removed directory
+  -- W8: a name that is missing is to be made in a removed directory: mkdir(2), ENOENT
   abbrev pub new_name_rules : Looks N → Place N → Rules
   new_name_rules looks place =
       (not (is_some place.object) && looks.is_removed place.parent, W8) ∷ []
 
+  -- a name that is to be made, or exists: mkdir(2)
   abbrev pub new_walk : Looks N → Task N → List ℕ → Result (Place N) (Stop N)
   new_walk looks task path =
       then_walk (place_walk looks task path) (λ place. walk_unless place.steps (new_name_rules looks place) place)
@@ -358,12 +382,13 @@ module _ {N : Type 0} (eq : N → N → Bool) where
       then_walk (new_walk looks task path) (λ place.
       walk_unless place.steps ((place.slash && not (is_some place.object), W6) ∷ []) place)
 
-  -- a name that must be there
+  -- a name that must exist: rmdir(2), ENOENT
   abbrev pub old_walk : Looks N → Task N → List ℕ → Result (Place N) (Stop N)
   old_walk looks task path =
       then_walk (place_walk looks task path) (λ place.
       walk_unless place.steps ((not (is_some place.object), W6) ∷ []) place)
 
+  -- the object at a place is a directory
   abbrev pub is_directory_there : Looks N → Place N → Bool
   is_directory_there looks place = holds_of (is_directory_at looks) place.object
 
@@ -373,26 +398,30 @@ module _ {N : Type 0} (eq : N → N → Bool) where
       then_walk (old_walk looks task path) (λ place.
       walk_unless place.steps ((place.slash && not (is_directory_there looks place), W3) ∷ []) place)
 
-  -- The place of a file that is opened or made: a final symlink is followed, also to a missing name: open(2) with
-  -- O_CREAT
+  -- the object that a name leads to, and the roots of the mounts over it
   abbrev pub entered_mounts : Looks N → Place N → List (Location N)
   entered_mounts looks place =
       if is_special place.last then [] else flat_map looks.mounts_over (option_to_list place.object)
 
+  -- the place with the mounts over its object entered
   abbrev pub entered : Looks N → Place N → Place N
   entered looks place = record place {
     object = option_map (topmost looks) place.object;
     steps = all_met (filesystems_of looks (entered_mounts looks place)) place.steps;
   }
 
+  -- the text of the symlink at a place, if one is there
   abbrev pub symlink_there : Looks N → Place N → Option (List ℕ)
   symlink_there looks place = then_some place.object (λ object. symlink_text (looks.node object))
 
+  -- what is no symlink is the file; a symlink is followed
   abbrev pub file_or_symlink : Looks N → Place N → Option (List ℕ) → (List ℕ → Result (Place N) (Stop N))
       → Result (Place N) (Stop N)
   file_or_symlink looks place None follow = Ok (entered looks place)
   file_or_symlink looks place (Some text) follow = follow text
 
+  -- the walk to a file that is opened or made, on the path or the text of a final symlink, with the symlinks that may
+  -- stand in one another's texts
   abbrev pub file_walked : ℕ → Looks N → Task N → Here N → List ℕ → Bool → Result (Place N) (Stop N)
   file_walked zero looks task start text slash = Err (record { deny = denial W7; steps = start.steps })
   file_walked (suc depth) looks task start text slash =
@@ -403,6 +432,8 @@ module _ {N : Type 0} (eq : N → N → Bool) where
       (symlink_start looks task here.location (symlink_of here place) inner))
       (λ next. file_walked depth looks task next inner (slash || ends_in_slash text)))))
 
+  -- The place of a file that is opened or made: a final symlink is followed, also to a missing name: open(2) with
+  -- O_CREAT.
   abbrev pub file_walk : Looks N → Task N → List ℕ → Result (Place N) (Stop N)
   file_walk looks task path =
       then_walk (path_text path) (λ text.

@@ -5,11 +5,12 @@ use Rattle.vt_spec.specs.Language.Changes.{Change}
 use Rattle.vt_spec.specs.Rights.{Credentials}
 use Rattle.vt_spec.specs.Tree.{Node}
 
+-- what a call that no rule refuses may do: each permit names all that it acts on
 pub data Permit (N : Type 0) : Type 0 where
-  -- nothing but to say that it is allowed
+  -- no effect, and the answer `ok`: execve(2), rename(2) of two names of one object, pwrite(2) of no bytes
   Allowed : Permit N
-  -- the names of a directory; what stat tells of an object; bytes of a file or a symlink from an offset on, at most so
-  -- many
+  -- the names of a directory; what stat(2) returns for an object; bytes of a file or a symlink, also from an offset on
+  -- and at most so many
   ToList : (directory : N) → Permit N
   ToTell : (object : N) → Permit N
   ToRead : (file : N) → Permit N

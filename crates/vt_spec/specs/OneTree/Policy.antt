@@ -31,53 +31,66 @@ module _ {N : Type 0} where
   abbrev pub new_attr : Task N → ℕ → Attr
   new_attr task mode = record { uid = task.credentials.uid; gid = task.credentials.gid; mode = masked task.umask mode }
 
-  -- a link has mode 0777, whatever the umask: symlink(7)
+  -- a symlink has mode 0777, whatever the umask: symlink(7)
   abbrev pub link_attr : Task N → Attr
   link_attr task = record { uid = task.credentials.uid; gid = task.credentials.gid; mode = symlink_mode }
 
+  -- a new regular file: open(2) with O_CREAT
   abbrev pub new_file : Task N → ℕ → List ℕ → Node N
   new_file task mode bytes = record { attr = new_attr task mode; content = Regular bytes }
 
+  -- the permit for a new inode at a place
   abbrev pub making : Place N → N → Node N → Permit N
   making place number node = ToChange (Make place.parent (name_of place.last) number node)
 
+  -- the object at a place where one exists
   abbrev pub object_there : Place N → N
   object_there place = unwrap_or place.object place.parent
 
   -- Calls that look
+
+  -- open(2) with O_DIRECTORY, then getdents(2)
   unfoldable pub list_permit : Tree N → Task N → List ℕ → Result (Permit N) Deny
   list_permit tree task path =
       and_then (directory_walk tree task.credentials path) (λ here.
       unless (list_rules tree task.credentials here.node) (Ok (ToList here.node)))
 
+  -- stat(2)
   unfoldable pub stat_permit : Tree N → Task N → List ℕ → Result (Permit N) Deny
   stat_permit tree task path = and_then (object_walk tree task.credentials path) (λ here. Ok (ToTell here.node))
 
+  -- lstat(2)
   unfoldable pub lstat_permit : Tree N → Task N → List ℕ → Result (Permit N) Deny
   lstat_permit tree task path = and_then (symlink_walk tree task.credentials path) (λ here. Ok (ToTell here.node))
 
+  -- readlink(2)
   unfoldable pub readlink_permit : Tree N → Task N → List ℕ → Result (Permit N) Deny
   readlink_permit tree task path =
       and_then (symlink_walk tree task.credentials path) (λ here.
       unless (readlink_rules tree here.node) (Ok (ToRead here.node)))
 
+  -- open(2) with O_RDONLY, then read(2) to the end
   unfoldable pub read_permit : Tree N → Task N → List ℕ → Result (Permit N) Deny
   read_permit tree task path =
       and_then (object_walk tree task.credentials path) (λ here.
       unless (read_rules tree task.credentials here.node) (Ok (ToRead here.node)))
 
+  -- execve(2), as far as it checks rights
   unfoldable pub exec_permit : Tree N → Task N → List ℕ → Result (Permit N) Deny
   exec_permit tree task path =
       and_then (object_walk tree task.credentials path) (λ here.
       unless (exec_rules tree task.credentials here.node) (Ok Allowed))
 
   -- Calls that make a name; a number is at hand for what they make
+
+  -- mkdir(2)
   unfoldable pub mkdir_permit : N → Tree N → Task N → List ℕ → Option ℕ → Result (Permit N) Deny
   mkdir_permit number tree task path mode =
       and_then (new_walk tree task.credentials path) (λ place.
       unless (new_rules tree task.credentials place) (Ok (making place number
       (record { attr = new_attr task (unwrap_or mode directory_mode); content = new_directory place.parent }))))
 
+  -- symlink(2)
   unfoldable pub symlink_permit : N → Tree N → Task N → List ℕ → List ℕ → Result (Permit N) Deny
   symlink_permit number tree task text path =
       unless (symlink_text_rules text)
@@ -85,6 +98,7 @@ module _ {N : Type 0} where
       unless (new_rules tree task.credentials place)
       (Ok (making place number (record { attr = link_attr task; content = Symlink text })))))
 
+  -- link(2)
   unfoldable pub hard_link_permit : Tree N → Task N → List ℕ → List ℕ → Result (Permit N) Deny
   hard_link_permit tree task old new =
       and_then (symlink_walk tree task.credentials old) (λ from.
@@ -93,6 +107,8 @@ module _ {N : Type 0} where
       (Ok (ToChange (AddName place.parent (name_of place.last) from.node)))))
 
   -- Calls that write
+
+  -- the whole content of a file that exists, or of a new one
   abbrev pub written : N → Tree N → Task N → Place N → List ℕ → Option N → Result (Permit N) Deny
   written number tree task place bytes (Some file) =
       unless (rewrite_rules tree task.credentials file bytes) (Ok (ToChange (SetBytes file bytes)))
@@ -100,18 +116,22 @@ module _ {N : Type 0} where
       unless (write_new_rules tree task.credentials place bytes)
       (Ok (making place number (new_file task file_mode bytes)))
 
+  -- open(2) with O_WRONLY, O_CREAT and O_TRUNC, then write(2)
   unfoldable pub write_permit : N → Tree N → Task N → List ℕ → List ℕ → Result (Permit N) Deny
   write_permit number tree task path bytes =
       and_then (file_walk tree task.credentials path) (λ place.
       unless (file_word_rules place) (written number tree task place bytes place.object))
 
   -- Calls that remove
+
+  -- unlink(2)
   unfoldable pub unlink_permit : Tree N → Task N → List ℕ → Result (Permit N) Deny
   unlink_permit tree task path =
       and_then (old_leaf_walk tree task.credentials path) (λ place.
       unless (unlink_rules tree task.credentials place (object_there place))
       (Ok (ToChange (Remove place.parent (name_of place.last) (object_there place)))))
 
+  -- rmdir(2)
   unfoldable pub rmdir_permit : Tree N → Task N → List ℕ → Result (Permit N) Deny
   rmdir_permit tree task path =
       and_then (old_walk tree task.credentials path) (λ place.
@@ -119,12 +139,15 @@ module _ {N : Type 0} where
       (Ok (ToChange (Remove place.parent (name_of place.last) (object_there place)))))
 
   -- Calls that set attributes
+
+  -- chmod(2)
   unfoldable pub chmod_permit : Tree N → Task N → List ℕ → ℕ → Result (Permit N) Deny
   chmod_permit tree task path mode =
       and_then (object_walk tree task.credentials path) (λ here.
       unless (chmod_rules tree task.credentials here.node)
       (Ok (ToChange (SetAttr here.node (attr_with_mode (attr_at tree here.node) mode)))))
 
+  -- chown(2)
   unfoldable pub chown_permit : Tree N → Task N → List ℕ → Option ℕ → Option ℕ → Result (Permit N) Deny
   chown_permit tree task path uid gid =
       and_then (object_walk tree task.credentials path) (λ here.
@@ -136,18 +159,23 @@ module _ {N : Type 0} where
       (Ok (ToChange (SetAttr here.node (attr_with_owner (attr_at tree here.node) uid gid)))))
 
   -- Descriptors
+
+  -- open(2) of a file that exists
   abbrev pub open_file : Tree N → Task N → N → Access → Result (Permit N) Deny
   open_file tree task file access = unless (open_rules tree task.credentials file access) (Ok (ToOpen file access))
 
+  -- the permit for a new, empty file at a place, and a descriptor for it
   abbrev pub opening_new : N → Task N → Place N → Access → ℕ → Permit N
   opening_new number task place access mode =
       ToOpenNew place.parent (name_of place.last) number (new_file task mode []) access
 
+  -- open(2) with O_CREAT, by whether the file exists
   abbrev pub opened_or_made : N → Tree N → Task N → Place N → Access → ℕ → Option N → Result (Permit N) Deny
   opened_or_made number tree task place access mode (Some file) = open_file tree task file access
   opened_or_made number tree task place access mode None =
       unless (open_new_rules tree task.credentials place) (Ok (opening_new number task place access mode))
 
+  -- open(2), by what it does where the name is missing
   abbrev pub open_by : N → Tree N → Task N → List ℕ → Access → Creation → Result (Permit N) Deny
   open_by number tree task path access NoCreation =
       and_then (object_walk tree task.credentials path) (λ here. open_file tree task here.node access)
@@ -158,10 +186,12 @@ module _ {N : Type 0} where
       and_then (new_walk tree task.credentials path) (λ place.
       unless (exclusive_rules tree task.credentials place) (Ok (opening_new number task place access mode)))
 
+  -- open(2): EMFILE first (profile)
   unfoldable pub open_permit : N → Tree N → Task N → List ℕ → Access → Creation → Result (Permit N) Deny
   open_permit number tree task path access creation =
       unless (descriptor_rules task) (open_by number tree task path access creation)
 
+  -- pread(2)
   unfoldable pub pread_permit : Task N → ℕ → ℕ → ℕ → Result (Permit N) Deny
   pread_permit task number offset size =
       and_then (descriptor_at task number (λ descriptor. descriptor.reads)) (λ descriptor.
@@ -173,16 +203,20 @@ module _ {N : Type 0} where
   pwriting tree file offset (byte ∷ bytes) =
       ToChange (SetBytes file (overwritten offset (byte ∷ bytes) (bytes_in (tree.node file))))
 
+  -- pwrite(2)
   unfoldable pub pwrite_permit : Tree N → Task N → ℕ → ℕ → List ℕ → Result (Permit N) Deny
   pwrite_permit tree task number offset bytes =
       and_then (descriptor_at task number (λ descriptor. descriptor.writes)) (λ descriptor.
       unless (pwrite_rules offset bytes) (Ok (pwriting tree descriptor.file offset bytes)))
 
+  -- close(2)
   unfoldable pub close_permit : Task N → ℕ → Result (Permit N) Deny
   close_permit task number =
       and_then (descriptor_at task number (λ descriptor. true)) (λ descriptor. Ok (ToClose number))
 
   -- Tasks
+
+  -- fork(2)
   unfoldable pub fork_permit : TaskName → Task N → Option ForkWords → Result (Permit N) Deny
   fork_permit name task words =
       unless (fork_rules name task (child_credentials task.credentials words))
@@ -190,6 +224,7 @@ module _ {N : Type 0} where
 
   -- What is done with a permit
 
+  -- the name of the next child: the task's, and how many children it has then
   abbrev pub child_name : TaskName → Task N → TaskName
   child_name name task = name ++ ((task.forks + 1) ∷ [])
 
@@ -198,6 +233,7 @@ module _ {N : Type 0} where
   child_of task credentials =
       record { credentials = credentials; umask = task.umask; descriptors = []; forks = 0 }
 
+  -- the world with a child, and its parent's count of forks
   abbrev pub with_child : World N → TaskName → Task N → Task N → World N
   with_child world name task child =
       record world {
@@ -205,6 +241,7 @@ module _ {N : Type 0} where
             ++ ((child_name name task, child) ∷ []);
       }
 
+  -- a descriptor on a file, with the least number that is free: open(2)
   abbrev pub descriptor_on : Task N → N → Access → Descriptor N
   descriptor_on task file access =
       record { number = free_number task; file = file; reads = access.reads; writes = access.writes }
@@ -214,12 +251,14 @@ module _ {N : Type 0} where
   with_opened world name task file access = with_task world name (with_descriptor task (descriptor_on task file access))
 
 module _ {N : Type 0} (eq : N → N → Bool) where
+  -- rename(2), by whether both names lead to one object: then nothing is done
   abbrev pub renamed_by : Bool → Inodes N → Task N → Place N → Place N → N → Result (Permit N) Deny
   renamed_by true inodes task from to old = Ok Allowed
   renamed_by false inodes task from to old =
       unless (rename_rules eq inodes task.credentials from to old)
       (Ok (ToChange (Move from.parent (name_of from.last) to.parent (name_of to.last) old)))
 
+  -- rename(2)
   unfoldable pub rename_permit : Inodes N → Task N → List ℕ → List ℕ → Result (Permit N) Deny
   rename_permit inodes task old new =
       and_then (old_leaf_walk (tree_of inodes) task.credentials old) (λ from.
@@ -259,17 +298,19 @@ module _ {N : Type 0} (eq : N → N → Bool) where
   judge number inodes name task Exit = Ok ToExit
   judge number inodes name task call = Err (denial S1)
 
-  -- descriptors end one by one: close(2), _exit(2)
+  -- descriptors are closed one by one: close(2), _exit(2)
   abbrev pub without_uses : Inodes N → List (Descriptor N) → Inodes N
   without_uses inodes [] = inodes
   without_uses inodes (descriptor ∷ rest) = without_uses (unpinned eq inodes descriptor.file) rest
 
+  -- the world without a task's descriptor, if it exists: close(2)
   abbrev pub closed : World N → TaskName → Task N → Option (Descriptor N) → World N
   closed world name task None = world
   closed world name task (Some descriptor) =
       with_inodes (with_task world name (without_descriptor task descriptor.number))
       (unpinned eq world.inodes descriptor.file)
 
+  -- the outcome of a permit: the answer, and the world that the call leaves
   abbrev pub spent : World N → TaskName → Task N → Permit N → Outcome N
   spent world name task Allowed = granted Done world
   spent world name task (ToList directory) = granted (Names (names_in (node_at world directory))) world

@@ -25,12 +25,15 @@ abbrev pub pwrite_rules : ℕ → List ℕ → Rules
 pwrite_rules offset bytes = (not (is_empty bytes) && nat_lt largest_file (offset + length bytes), E6) ∷ []
 
 module _ {N : Type 0} where
+  -- C1: the caller does not have a right: path_resolution(7), "Permissions"
   abbrev pub may_not : Tree N → Credentials → N → ℕ → Bool
   may_not tree who number wanted = not (may tree who number wanted)
 
+  -- the object is of this kind: inode(7)
   abbrev pub is_kind_at : Tree N → N → Kind → Bool
   is_kind_at tree number kind = is_kind_in kind (tree.node number)
 
+  -- owner, group and mode of an object: inode(7)
   abbrev pub attr_at : Tree N → N → Attr
   attr_at tree number = attr_in (tree.node number)
 
@@ -39,16 +42,21 @@ module _ {N : Type 0} where
   is_kept tree who directory object =
       not (may_delete_sticky who (attr_at tree directory) (attr_at tree object))
 
+  -- the directory is not empty
   abbrev pub is_filled : Tree N → N → Bool
   is_filled tree directory = not (is_empty_list (entries_in (tree.node directory)))
 
+  -- K1: the task does not have a capability: capabilities(7)
   abbrev pub lacks : Task N → ℕ → Bool
   lacks task capability = not (has_all task.credentials.capabilities capability)
 
   -- Calls that look
+
+  -- getdents(2) after open(2): EACCES
   abbrev pub list_rules : Tree N → Credentials → N → Rules
   list_rules tree who directory = (may_not tree who directory read_right, C1) ∷ []
 
+  -- open(2) for reading: EISDIR, ENXIO, EACCES
   abbrev pub read_rules : Tree N → Credentials → N → Rules
   read_rules tree who file =
       (is_directory_at tree file, E2)
@@ -56,16 +64,20 @@ module _ {N : Type 0} where
       ∷ (may_not tree who file read_right, C1)
       ∷ []
 
+  -- execve(2): EACCES
   abbrev pub exec_rules : Tree N → Credentials → N → Rules
   exec_rules tree who file =
       (not (is_kind_at tree file File), E8)
       ∷ (may_not tree who file execute_right, C1)
       ∷ []
 
+  -- readlink(2): EINVAL
   abbrev pub readlink_rules : Tree N → N → Rules
   readlink_rules tree object = (not (is_kind_at tree object Symlink), E5) ∷ []
 
   -- Calls that make a name
+
+  -- mkdir(2), symlink(2): EEXIST, EACCES
   abbrev pub new_rules : Tree N → Credentials → Place N → Rules
   new_rules tree who place =
       (is_special place.last, E1)
@@ -73,6 +85,7 @@ module _ {N : Type 0} where
       ∷ (may_not tree who place.parent write_right, C1)
       ∷ []
 
+  -- link(2): EEXIST, EPERM, EACCES
   abbrev pub hard_link_rules : Tree N → Credentials → N → Place N → Rules
   hard_link_rules tree who old place =
       (is_special place.last, E1)
@@ -82,9 +95,12 @@ module _ {N : Type 0} where
       ∷ []
 
   -- Calls that write
+
+  -- a last word that names no file, open(2): EISDIR
   abbrev pub file_word_rules : Place N → Rules
   file_word_rules place = (is_special place.last || place.slash, E2) ∷ []
 
+  -- write(2) after open(2) with O_TRUNC of a file that exists: EISDIR, EFBIG, ENXIO, EACCES
   abbrev pub rewrite_rules : Tree N → Credentials → N → List ℕ → Rules
   rewrite_rules tree who file bytes =
       (is_directory_at tree file, E2)
@@ -93,6 +109,7 @@ module _ {N : Type 0} where
       ∷ (may_not tree who file write_right, C1)
       ∷ []
 
+  -- write(2) after open(2) with O_CREAT of a new file: EFBIG, EACCES
   abbrev pub write_new_rules : Tree N → Credentials → Place N → List ℕ → Rules
   write_new_rules tree who place bytes =
       (nat_lt largest_file (length bytes), E6)
@@ -100,6 +117,8 @@ module _ {N : Type 0} where
       ∷ []
 
   -- Calls that remove
+
+  -- unlink(2): EISDIR, EACCES, EPERM
   abbrev pub unlink_rules : Tree N → Credentials → Place N → N → Rules
   unlink_rules tree who place object =
       (is_special place.last, E2)
@@ -108,6 +127,7 @@ module _ {N : Type 0} where
       ∷ (is_kept tree who place.parent object, C3)
       ∷ []
 
+  -- rmdir(2): EINVAL, ENOTEMPTY, EBUSY, ENOTDIR, EACCES, EPERM
   abbrev pub rmdir_rules : Tree N → Credentials → Place N → N → Rules
   rmdir_rules tree who place object =
       (is_dot_dot place.last, E4)
@@ -120,13 +140,18 @@ module _ {N : Type 0} where
       ∷ []
 
   -- Calls that set attributes
+
+  -- chmod(2): EPERM
   abbrev pub chmod_rules : Tree N → Credentials → N → Rules
   chmod_rules tree who object = (not (owns who (attr_at tree object)), C2) ∷ []
 
   -- Descriptors
+
+  -- open(2): EMFILE
   abbrev pub descriptor_rules : Task N → Rules
   descriptor_rules task = (nat_le most_descriptors (length task.descriptors), S3) ∷ []
 
+  -- open(2) of a file that exists: EISDIR, ENXIO, EACCES
   abbrev pub open_rules : Tree N → Credentials → N → Access → Rules
   open_rules tree who file access =
       (is_directory_at tree file, E2)
@@ -134,9 +159,11 @@ module _ {N : Type 0} where
       ∷ (may_not tree who file (access_rights access), C1)
       ∷ []
 
+  -- open(2) with O_CREAT of a new file: EACCES
   abbrev pub open_new_rules : Tree N → Credentials → Place N → Rules
   open_new_rules tree who place = (may_not tree who place.parent write_right, C1) ∷ []
 
+  -- open(2) with O_CREAT and O_EXCL: EEXIST, EISDIR behind a slash, EACCES
   abbrev pub exclusive_rules : Tree N → Credentials → Place N → Rules
   exclusive_rules tree who place =
       (is_special place.last, E1)
@@ -163,9 +190,11 @@ module _ {N : Type 0} where
       ∷ []
 
 module _ {N : Type 0} (eq : N → N → Bool) where
+  -- a directory gets another parent: rename(2), EACCES
   abbrev pub changes_parent : Tree N → Place N → Place N → N → Bool
   changes_parent tree from to old = is_directory_at tree old && not (eq from.parent to.parent)
 
+  -- the second name leads to the object of the first
   abbrev pub is_one_object : N → Option N → Bool
   is_one_object old new = holds_of (eq old) new
 

@@ -2,7 +2,7 @@
 use Rattle.std.proofs.Common.{eqb-true, ◌≡◌, ◌≢◌, refl, sym, ap, subst, ◌∙◌, ℕ, nat_eq, Bool, true, false, cond, List, ◌||◌, ⊎_elim, Option, Some, None, is_some}
 use Rattle.std.proofs.lemmas.Bool.Decides.{eqb_tells}
 use Rattle.vt_spec.specs.Tree.{Tree, Node, is_directory_node, node_with_bytes, node_with_entry, with_object}
-use Rattle.vt_spec.specs.TreeLaws.{entry_at, IsTree}
+use Rattle.vt_spec.specs.TreeInvariant.{entry_at, IsTree}
 use Rattle.vt_spec.specs.Language.Changes.{changed, changed_node, node_with_attr, node_with_mark, node_with_parent, node_without_entry, with_inode, with_name, without_name, without_parent}
 use Rattle.vt_spec.specs.Language.Changes.Change.{AddName, CopyUp, Make, Move, Remove, SetAttr, SetBytes, SetMark}
 use Rattle.vt_spec.specs.FileTree.{FileTree}

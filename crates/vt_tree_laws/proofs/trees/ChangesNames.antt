@@ -8,7 +8,7 @@ use Rattle.std.specs.Cmp.Lexicographic.{bytes_decides, nat_list_cmp_total}
 use Rattle.std.specs.Ordering.{eq_by_cmp, is_eq}
 use Rattle.std.specs.Cmp.{tied_itself}
 use Rattle.vt_spec.specs.Tree.{name_cmp, entry_named, with_entry, entries_in, node_with_entry}
-use Rattle.vt_spec.specs.TreeLaws.{entry_at, IsDirectory}
+use Rattle.vt_spec.specs.TreeInvariant.{entry_at, IsDirectory}
 use Rattle.vt_spec.specs.Language.Changes.{node_without_entry, with_name, without_entry, without_name}
 use Rattle.vt_spec.specs.FileTree.{FileTree}
 use Rattle.vt_spec.proofs.Nodes.{entries-node_with_entry, entry_named-with_entry, entry_named-without_entry, none_is_not, passes, same_name}

@@ -8,7 +8,7 @@ use Rattle.std.specs.List.{AllByRecursion, IsDistinct}
 use Rattle.vt_spec.specs.Rights.{is_directory}
 use Rattle.vt_spec.specs.Tree.{Content, Node, Tree, entries_in, entries_of, is_directory_node, kind_of, parent_in}
 use Rattle.vt_spec.specs.Tree.Content.{Directory, Regular, Symlink, Whiteout}
-use Rattle.vt_spec.specs.TreeLaws.{entry_at, led, IsDirectory, IsReached, IsTree}
+use Rattle.vt_spec.specs.TreeInvariant.{entry_at, led, IsDirectory, IsReached, IsTree}
 use Rattle.vt_spec.specs.FileTree.{FileTree, has_entry_to, is_directory_under, named_parent, targets_in}
 use Rattle.vt_spec.specs.Lists.{chain, is_among, when}
 use Rattle.vt_spec.proofs.Nodes.{directory_used, none_is_not}

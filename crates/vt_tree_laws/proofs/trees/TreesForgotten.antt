@@ -6,7 +6,7 @@ use Rattle.std.proofs.lemmas.List.Elements.{All-filter, All-map, All-weaker}
 use Rattle.std.proofs.lemmas.Bool.{or_right, cases_Bool}
 use Rattle.std.specs.FinMap.Entries.{is_sorted}
 use Rattle.vt_spec.specs.Tree.{Tree, name_cmp, entry_named, is_directory_node, entries_in, parent_in}
-use Rattle.vt_spec.specs.TreeLaws.{entry_at, IsDirectory, HasName, IsTree}
+use Rattle.vt_spec.specs.TreeInvariant.{entry_at, IsDirectory, HasName, IsTree}
 use Rattle.vt_spec.specs.FileTree.{FileTree, targets_in}
 use Rattle.vt_spec.specs.Lists.{is_among}
 use Rattle.vt_spec.specs.Machine.Settled.{filesystem_lives, layers_in, located_in, named_in, objects_of_overlay, only_among, only_used, only_used_by, only_used_of, used_in, without_dead_filesystems, without_dead_in, without_dead_mounts}

@@ -7,7 +7,7 @@ use Rattle.std.specs.Cmp.Lexicographic.{nat_list_cmp_total}
 use Rattle.std.specs.FinMap.Entries.{below_all, is_sorted}
 use Rattle.std.specs.Ordering.{eq_by_cmp, is_eq, is_lt}
 use Rattle.vt_spec.specs.Tree.{Entries, Tree, entries_in, entry_named, name_cmp, parent_in}
-use Rattle.vt_spec.specs.TreeLaws.{entry_at, IsDirectory, IsReached, IsTree}
+use Rattle.vt_spec.specs.TreeInvariant.{entry_at, IsDirectory, IsReached, IsTree}
 use Rattle.vt_spec.specs.FileTree.{has_entry_to, is_removed, named_parent}
 use Rattle.vt_spec.specs.Lists.{is_among, when}
 use Rattle.vt_spec.proofs.Nodes.{none_is_not, same_name}

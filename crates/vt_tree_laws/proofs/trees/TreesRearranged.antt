@@ -3,7 +3,7 @@
 use Rattle.std.proofs.Common.{◌≡◌, ◌≢◌, sym, ap, subst, ◌∙◌, ℕ, true, List, [], ◌∷◌, ◌⊎◌, inl, inr, ⊎_elim, Option, Some, is_some}
 use Rattle.std.specs.FinMap.Entries.{is_sorted}
 use Rattle.vt_spec.specs.Tree.{Tree, Node, name_cmp, entry_named, is_directory_node, entries_in, parent_in}
-use Rattle.vt_spec.specs.TreeLaws.{entry_at, led, IsDirectory, HasName, IsReached, IsTree}
+use Rattle.vt_spec.specs.TreeInvariant.{entry_at, led, IsDirectory, HasName, IsReached, IsTree}
 use Rattle.vt_spec.proofs.Nodes.{none_is_not}
 use Rattle.vt_spec.proofs.Trees.{found, entry_reached, reached_named, root_reached}
 use Rattle.std.proofs.lemmas.Option.{same_Some}

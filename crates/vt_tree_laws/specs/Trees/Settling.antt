@@ -6,7 +6,7 @@ use Rattle.vt_spec.specs.Lists.{is_among}
 use Rattle.vt_spec.specs.Machine.Mounts.{Location, same_location}
 use Rattle.vt_spec.specs.Machine.Settled.{is_mounted, only_among, only_used, settled, used_in, without_dead_mounts}
 use Rattle.vt_spec.specs.Machine.World.{Filesystem, World, all_locations, filesystem_numbered, node_at}
-use Rattle.vt_spec.specs.TreeLaws.{HasName}
+use Rattle.vt_spec.specs.TreeInvariant.{HasName}
 use Rattle.vt_tree_laws.specs.Trees.{IsFileTree}
 
 -- a list that has the root of a tree, and every inode with a name

@@ -14,7 +14,7 @@ use Rattle.vt_spec.specs.Machine.World.{Namespace, Task, World, mounts_of, witho
 use Rattle.vt_spec.specs.Language.Calls.{same_name}
 use Rattle.vt_spec.specs.Machine.Invariants.{NamespaceInvariants, is_root_mount}
 use Rattle.vt_spec.proofs.Lists.{Among, among-append, among-append_left, among-append_right, among-filter, among-from_filter, among-from_map, among-map, any_among, contains_from_among, is_among_numbers, pair-filter}
-use Rattle.vt_mount_laws.specs.Mounts.Conditions.{OneNumberEach}
+use Rattle.vt_mount_laws.specs.Mounts.Invariants.{OneNumberEach}
 use Rattle.vt_mount_laws.specs.Mounts.Ending.{root_mounts_in}
 use Rattle.vt_mount_laws.proofs.ends.EndingCounts.{ended_namespaces_keep_roots}
 use Rattle.vt_mount_laws.proofs.Groups.{mounts-regrouped}

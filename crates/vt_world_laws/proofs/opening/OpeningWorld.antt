@@ -12,7 +12,7 @@ use Rattle.vt_spec.specs.Machine.World.{Filesystem, World, filesystem_numbered, 
 use Rattle.vt_spec.specs.Machine.Invariants.{ListsNumbers, MountInvariants, NamespaceInvariants, Stands, TaskInvariants, TreeInvariants, is_root_mount}
 use Rattle.vt_spec.specs.Machine.Invariants.Stands.{at_root}
 use Rattle.vt_spec.specs.Tree.{is_directory_node}
-use Rattle.vt_spec.specs.TreeLaws.{HasOwnParents, IsTree}
+use Rattle.vt_spec.specs.TreeInvariant.{HasOwnParents, IsTree}
 use Rattle.vt_letting_go.specs.InUse.{AllInUse, is_inode_used}
 use Rattle.vt_letting_go.proofs.sweeps.InUse.{nothing_goes}
 use Rattle.vt_letting_go.proofs.Lists.{or_first}

@@ -15,7 +15,7 @@ use Rattle.vt_mount_laws.proofs.GroupsLiving.{all_live, tested_live}
 use Rattle.vt_mount_laws.proofs.GroupsKept.{settling_keeps_groups}
 use Rattle.vt_mount_laws.proofs.mounts.MountsApart.{settling_keeps_apart}
 use Rattle.vt_mount_laws.proofs.mounts.MountsKept.{settling_keeps_nowhere}
-use Rattle.vt_mount_laws.specs.Mounts.Conditions.{AreApart}
+use Rattle.vt_mount_laws.specs.Mounts.Invariants.{AreApart}
 use Rattle.vt_world_laws.specs.Worlds.Kept.{IsUnderWay}
 use Rattle.vt_world_laws.proofs.settling.SettledSeen.{attached_lives, found_still, itself, placed_attached}
 use Rattle.vt_mount_laws.proofs.moves.Moving.{placed_there}

@@ -22,7 +22,7 @@ use Rattle.vt_tree_laws.proofs.trees.ChangesByCalls.{without_dead_plain}
 use Rattle.vt_tree_laws.proofs.trees.ChangesOfSizes.{settling_keeps_sizes}
 use Rattle.vt_tree_laws.proofs.trees.TreesForgotten.{settling_keeps_trees}
 use Rattle.std.proofs.lemmas.Option.{same_Some}
-use Rattle.vt_spec.specs.TreeLaws.{HasOwnParents, IsTree}
+use Rattle.vt_spec.specs.TreeInvariant.{HasOwnParents, IsTree}
 use Rattle.vt_spec.specs.Machine.Invariants.Stands.{at_root, on_parent}
 use Rattle.vt_world_laws.specs.Worlds.Kept.{IsPlain, IsUnderWay, IsWorldButForUse, MountsShow, SettlingLeavesAWorld}
 use Rattle.vt_world_laws.proofs.Plain.{uppers_plain}

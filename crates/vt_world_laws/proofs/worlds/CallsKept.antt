@@ -17,7 +17,7 @@ use Rattle.vt_spec.specs.Machine.Run.{Serves, numbers_in_use, used_by_filesystem
 use Rattle.vt_spec.specs.Machine.Settled.{settled}
 use Rattle.vt_spec.specs.Machine.World.{Filesystem, Task, World, task_called}
 use Rattle.vt_spec.specs.Machine.Invariants.{ForksAreCounted, IsWorld, ListsNumbers, MountInvariants, NamespaceInvariants, is_within_limits}
-use Rattle.vt_spec.specs.TreeLaws.{HasOwnParents, IsTree}
+use Rattle.vt_spec.specs.TreeInvariant.{HasOwnParents, IsTree}
 use Rattle.vt_laws.proofs.judged.CallsJudged.{call_is_judged_then_applied}
 use Rattle.vt_laws.proofs.rules.OwnRules.{denial_changes_nothing}
 use Rattle.vt_laws.proofs.denials.Unchanged.{look_changes_nothing}

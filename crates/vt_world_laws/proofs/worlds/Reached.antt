@@ -10,7 +10,7 @@ use Rattle.vt_spec.specs.declared.errors.Rule.TheVariants.{W6, W8}
 use Rattle.vt_spec.specs.Errors.{denial, unless}
 use Rattle.vt_spec.specs.Tree.{Content, Node, entries_in, entry_named, is_directory_node}
 use Rattle.vt_spec.specs.Tree.Content.{Directory, Regular, Symlink, Whiteout}
-use Rattle.vt_spec.specs.TreeLaws.{IsTree}
+use Rattle.vt_spec.specs.TreeInvariant.{IsTree}
 use Rattle.vt_spec.specs.FileTree.{is_kind_in, symlink_text}
 use Rattle.vt_spec.specs.Lists.{is_among, last_or}
 use Rattle.vt_spec.specs.Machine.Mounts.{Location, Mount, child_at, root_of, same_location, stands_at, topmost}

@@ -12,6 +12,6 @@ returns-clause-ok c =
     (λ entries.
     ap (map numbered_peer) entries
     ∙ inserted-numbered propagation_of c.args.mount.count c.args.kind c.args.types.now.entries
-    ∙ put_sourced c.source.result _ (map numbered_peer c.args.types.now.entries) _ c.source.ensures
+    ∙ put_sourced c.source.result _ (map numbered_peer c.args.types.now.entries) _ c.source.ensures.number
     (c.is_none.ensures ∙ ap not c.if-is_none.false))
     c.insert.ensures.entries

@@ -1,5 +1,6 @@
 use Rattle.vt_laws.proofs.same.SameJudged.{plain_has_one_name, same_worlds_are_judged_alike, same_worlds_look_alike}
 use Rattle.vt_laws.proofs.same.SameMany.{same_worlds_judge_alike}
+use Rattle.vt_laws.proofs.same.SameNames.{invariant_worlds_judge_alike, invariant_worlds_look_alike, worlds_have_one_name}
 use Rattle.vt_laws.proofs.same.same_worlds_are_judged_alike.Goals as goal
 
 pub returns-clause-looks : goal.returns-clause-looks
@@ -13,3 +14,12 @@ returns-clause-judgements c = same_worlds_judge_alike
 
 pub returns-clause-plain : goal.returns-clause-plain
 returns-clause-plain c = plain_has_one_name
+
+pub returns-clause-names : goal.returns-clause-names
+returns-clause-names c = worlds_have_one_name
+
+pub returns-clause-invariant_looks : goal.returns-clause-invariant_looks
+returns-clause-invariant_looks c = invariant_worlds_look_alike
+
+pub returns-clause-invariant_judgements : goal.returns-clause-invariant_judgements
+returns-clause-invariant_judgements c = invariant_worlds_judge_alike

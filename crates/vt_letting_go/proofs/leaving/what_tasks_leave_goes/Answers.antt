@@ -1,4 +1,4 @@
-use Rattle.vt_letting_go.proofs.leaving.LeftOneByOne.{one_sweep_for_several}
+use Rattle.vt_letting_go.proofs.leaving.LeftOneByOne.{one_sweep_for_all, one_sweep_for_several}
 use Rattle.vt_letting_go.proofs.leaving.PlacesLeft.{leaving_lets_go, staying_keeps_all}
 use Rattle.vt_letting_go.proofs.leaving.what_tasks_leave_goes.Goals as goal
 
@@ -10,3 +10,6 @@ returns-clause-stayed c = staying_keeps_all
 
 pub returns-clause-several : goal.returns-clause-several
 returns-clause-several c = one_sweep_for_several
+
+pub returns-clause-each : goal.returns-clause-each
+returns-clause-each c = one_sweep_for_all

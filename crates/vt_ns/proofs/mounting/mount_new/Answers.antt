@@ -8,4 +8,4 @@ returns-in-Err-clause-err_filesystems c =
     let made = c.in_ok-add.ensures.ok in
     c.remove.ensures
     ∙ ap (without c.args.filesystem.count) (c.in-Err.ensures.err_filesystems ∙ made.1)
-    ∙ removed_again c.args.filesystems.now made.0 c.args.filesystem.count made.2.counts c.requires.new
+    ∙ removed_again c.args.filesystems.now made.0 c.args.filesystem.count made.2.counts c.requires.above

@@ -13,9 +13,9 @@ returns-clause-ok c world seen are =
       graft = c.args.graft.now;
       destination = c.in-Some.destination.now;
       counts = c.args.counts;
-      indexes = record { ref_ptr = c.args.graft.ref_ptr; now = c.in-Ok.indexes };
+      indexes = c.args.indexes;
     } in
-    c.in-Ok-all_copies.ensures
+    c.in-Ok.ensures
     ∙ copies_planned world c.args.mounts.now c.args.groups.now seen copying
     (first_part c.args.graft.now.parts.now c.in-Some.destination.now c.in-Some.ensures.value _ _ are) are
 
@@ -25,9 +25,9 @@ returns-clause-length c =
       graft = c.args.graft.now;
       destination = c.in-Some.destination.now;
       counts = c.args.counts;
-      indexes = record { ref_ptr = c.args.graft.ref_ptr; now = c.in-Ok.indexes };
+      indexes = c.args.indexes;
     } in
-    sym (length-map c.in-Ok-all_copies.copies.items mount_of) ∙ ap length c.in-Ok-all_copies.ensures
+    sym (length-map c.in-Ok.copies.items mount_of) ∙ ap length c.in-Ok.ensures
     ∙ length-rows (copied (as_kept c.args.mounts.now c.args.groups.now) copying) (tree_seen copying)
     (parts_seen copying)
     ∙ (λ i. length-map c.args.graft.now.parts.now mount_of i * length-map c.args.graft.now.tree.now mount_of i)

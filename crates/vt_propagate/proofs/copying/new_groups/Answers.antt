@@ -9,8 +9,8 @@ returns-clause-ok c world seen are =
       graft = c.args.graft.now;
       destination = c.in-Some.destination.now;
       counts = c.args.counts;
-      indexes = record { ref_ptr = c.args.graft.ref_ptr; now = c.in-Ok.indexes };
+      indexes = c.args.indexes;
     } in
-    c.in-Ok-all_groups.ensures
+    c.in-Ok.ensures
     ∙ groups_planned world c.args.mounts.now c.args.groups.now seen copying
     (first_part c.args.graft.now.parts.now c.in-Some.destination.now c.in-Some.ensures.value _ _ are) are

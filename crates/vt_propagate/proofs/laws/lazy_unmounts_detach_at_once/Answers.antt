@@ -1,9 +1,12 @@
-use Rattle.vt_propagate.proofs.LazyUnmounts.{lazy_unmounts_are_at_once, lazy_unmounts_take_the_tree, seen_lazily, settled_lazily}
+use Rattle.vt_propagate.proofs.LazyUnmounts.{lazy_unmounts_are_at_once, lazy_unmounts_take_the_tree, parts_are_swept_once, seen_lazily, settled_lazily}
 use Rattle.vt_propagate.proofs.TakenTwice.{taken_twice}
 use Rattle.vt_propagate.proofs.laws.lazy_unmounts_detach_at_once.Goals as goal
 
 pub returns-clause-parts : goal.returns-clause-parts
 returns-clause-parts c = taken_twice
+
+pub returns-clause-swept : goal.returns-clause-swept
+returns-clause-swept c = parts_are_swept_once
 
 pub returns-clause-events : goal.returns-clause-events
 returns-clause-events c = lazy_unmounts_are_at_once

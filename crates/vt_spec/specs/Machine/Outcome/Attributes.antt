@@ -1,4 +1,5 @@
 -- Calls that change owner, mode and mark: their rules in a world (`Rules/Attributes.antt`), and what they change.
+-- A definition without a comment is that of its name in `Rules/Attributes.antt`, in a world.
 use Rattle.std.specs.Prelude.{Bool, List, Option, [], unwrap_or, ℕ, ◌&&◌, ◌==◌, ◌||◌, ◌∷◌}
 use Rattle.vt_spec.specs.declared.attributes.Attr.{Attr}
 use Rattle.vt_spec.specs.declared.errors.Rule.TheVariants.{K1}
@@ -20,10 +21,11 @@ use Rattle.vt_spec.specs.Machine.Rules.Attributes
 abbrev pub attr_with_mode : Attr → ℕ → Attr
 attr_with_mode attr mode = record { uid = attr.uid; gid = attr.gid; mode = mode }
 
--- chown(2): the owner alone, to one of his own groups, without CAP_CHOWN
+-- other owner and group, where they are given: chown(2)
 abbrev pub attr_with_owner : Attr → Option ℕ → Option ℕ → Attr
 attr_with_owner attr uid gid = record { uid = unwrap_or uid attr.uid; gid = unwrap_or gid attr.gid; mode = attr.mode }
 
+-- the owner alone, to one of his own groups, without CAP_CHOWN: chown(2), capabilities(7)
 abbrev pub may_chown : Credentials → Attr → Attr → Bool
 may_chown who old new =
     has_all who.capabilities cap_chown
@@ -36,17 +38,20 @@ module _ {N : Type 0} (eq : N → N → Bool) where
   abbrev pub attr_rules : World N → Location N → Bool → Attr → Rules
   attr_rules world = Attributes.attr_rules (looks_of eq world)
 
+  -- an attribute is set, unless a rule refuses it
   abbrev pub attr_set : Fresh N → World N → Location N → Bool → Attr → Outcome N
   attr_set fresh world object allowed attr =
       judged world (attr_rules world object allowed attr)
       (granted Done (with_change eq fresh world object (SetAttr object.node attr)))
 
+  -- chmod(2)
   unfoldable pub chmod_outcome : Fresh N → World N → Task N → List ℕ → ℕ → Outcome N
   chmod_outcome fresh world task path mode =
       after world (walk_end (object_walk eq world task path)) (λ here.
       attr_set fresh world here.location (owns task.credentials (attr_at world here.location))
       (attr_with_mode (attr_at world here.location) mode))
 
+  -- chown(2)
   unfoldable pub chown_outcome : Fresh N → World N → Task N → List ℕ → Option ℕ → Option ℕ → Outcome N
   chown_outcome fresh world task path uid gid =
       after world (walk_end (object_walk eq world task path)) (λ here.
@@ -57,6 +62,7 @@ module _ {N : Type 0} (eq : N → N → Bool) where
   abbrev pub opaque_rules : World N → Location N → Rules
   opaque_rules world = Attributes.opaque_rules (looks_of eq world)
 
+  -- setxattr(2) of trusted.overlay.opaque: overlayfs, "whiteouts and opaque directories"
   unfoldable pub opaque_outcome : Fresh N → World N → Task N → List ℕ → Bool → Outcome N
   opaque_outcome fresh world task path mark =
       judged world ((lacks task cap_sys_admin, K1) ∷ [])

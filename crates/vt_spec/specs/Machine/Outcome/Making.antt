@@ -1,4 +1,5 @@
 -- Calls that make a name, and write: their rules in a world (`Rules/Making.antt`), and what they change.
+-- A definition without a comment is that of its name in `Rules/Making.antt`, in a world.
 use Rattle.std.specs.Prelude.{Bool, List, None, Option, Some, [], length, nat_lt, unwrap_or, ℕ, ◌++◌, ◌∷◌}
 use Rattle.vt_spec.specs.Language.Limits.{largest_file}
 use Rattle.vt_spec.specs.declared.errors.Rule.TheVariants.{E1, E6}
@@ -27,14 +28,16 @@ directory_mode = 511
 abbrev pub file_mode : ℕ
 file_mode = 438
 
--- the mode of a link: symlink(7)
+-- the mode of a symlink: symlink(7)
 abbrev pub symlink_mode : ℕ
 symlink_mode = 511
 
 module _ {N : Type 0} where
+  -- the change by which an object gets a further name: link(2)
   abbrev pub linking : Location N → Place N → Change N
   linking old place = AddName place.parent.node (name_of place.last) old.node
 
+  -- a new regular file: open(2) with O_CREAT
   abbrev pub new_file : Task N → ℕ → List ℕ → Node N
   new_file task mode bytes = record { attr = new_attr task mode; content = Regular bytes }
 
@@ -46,10 +49,12 @@ module _ {N : Type 0} (eq : N → N → Bool) where
   abbrev pub with_new : Fresh N → World N → Place N → Node N → World N
   with_new fresh world place node = with_change eq (odds fresh) world place.parent (making place (evens fresh 0) node)
 
+  -- the rules of a new object at a place
   abbrev pub new_rules : Fresh N → World N → Task N → Place N → Node N → Rules
   new_rules fresh world task place node =
       new_word_rules place ++ make_rules world task place (making place (evens fresh 0) node)
 
+  -- a new object at a place, unless a rule refuses it
   abbrev pub made_at : Fresh N → World N → Task N → Place N → Node N → Outcome N
   made_at fresh world task place node =
       judged world (new_rules fresh world task place node)
@@ -72,6 +77,7 @@ module _ {N : Type 0} (eq : N → N → Bool) where
   abbrev pub whiteout_rules : World N → Task N → Place N → Rules
   whiteout_rules world task = Making.whiteout_rules (looks_of eq world) task
 
+  -- mknod(2) of the character device 0/0: overlayfs, "whiteouts and opaque directories"
   unfoldable pub whiteout_outcome : Fresh N → World N → Task N → List ℕ → Outcome N
   whiteout_outcome fresh world task path =
       after world (walk_end (new_leaf_walk eq world task path)) (λ place.
@@ -81,6 +87,7 @@ module _ {N : Type 0} (eq : N → N → Bool) where
   abbrev pub hard_link_rules : World N → Task N → Location N → Place N → Change N → Rules
   hard_link_rules world task = Making.hard_link_rules eq (looks_of eq world) task
 
+  -- link(2)
   unfoldable pub hard_link_outcome : Fresh N → World N → Task N → List ℕ → List ℕ → Outcome N
   hard_link_outcome fresh world task old new =
       after world (walk_end (symlink_walk eq world task old)) (λ from.
@@ -102,6 +109,7 @@ module _ {N : Type 0} (eq : N → N → Bool) where
       (judged world (make_rules world task place (making place (evens fresh 0) (new_file task file_mode bytes)))
       (granted Done (with_new fresh world place (new_file task file_mode bytes))))
 
+  -- open(2) with O_WRONLY, O_CREAT and O_TRUNC, then write(2)
   unfoldable pub write_outcome : Fresh N → World N → Task N → List ℕ → List ℕ → Outcome N
   write_outcome fresh world task path bytes =
       after world (walk_end (file_walk eq world task path)) (λ place.

@@ -1,4 +1,5 @@
 -- Mount calls: their walks and rules in a world (`Rules/Mounting.antt`), and what they change.
+-- A definition without a comment is that of its name in `Rules/Mounting.antt`, in a world.
 use Rattle.std.specs.Prelude.{Bool, List, None, Option, Result, Some, [], false, is_some, length, map, sum, true, ℕ, ◌++◌, ◌∷◌}
 use Rattle.vt_spec.specs.declared.errors.Deny.{Deny}
 use Rattle.vt_spec.specs.declared.errors.Rule.TheVariants.{O2}
@@ -21,15 +22,24 @@ use Rattle.vt_spec.specs.Machine.Rules.Mounting
 pub use Rattle.vt_spec.specs.Machine.Rules.Mounting.{LayerPlaces, admin_rules, all_places, change_places, has_single_lower, work_walked}
 
 module _ {N : Type 0} where
-  -- A new mount of a filesystem from its root on
+  -- a mount of a filesystem from its root on, before it is attached
   abbrev pub new_mount : N → N → MountFlags → Mount N
   new_mount filesystem root flags =
-      record { number = filesystem; namespace = None; mount_point = None; filesystem = filesystem; root = root; flags = flags; propagation = Private }
+      record {
+        number = filesystem;
+        namespace = None;
+        mount_point = None;
+        filesystem = filesystem;
+        root = root;
+        flags = flags;
+        propagation = Private;
+      }
 
+  -- the world with one filesystem more
   abbrev pub with_new_filesystem : World N → Filesystem N → World N
   with_new_filesystem world filesystem = record world { filesystems = world.filesystems ++ (filesystem ∷ []) }
 
-  -- the merged tree of the layers, with the real objects of its inodes
+  -- how many inodes there are, in all filesystems
   abbrev pub inode_count : World N → ℕ
   inode_count world = sum (map (λ filesystem. length filesystem.files.numbers) world.filesystems)
 
@@ -40,6 +50,7 @@ module _ {N : Type 0} (eq : N → N → Bool) where
   abbrev pub destination_walk : World N → Task N → List ℕ → Result (Here N) (Stop N)
   destination_walk world task = Mounting.destination_walk eq (looks_of eq world) task
 
+  -- the world with a new filesystem, and a mount of it attached at a destination: mount(2)
   abbrev pub mounted : Fresh N → World N → Location N → Filesystem N → MountFlags → World N
   mounted fresh world place filesystem flags =
       attach eq (with_new_filesystem world filesystem) fresh place false
@@ -49,10 +60,11 @@ module _ {N : Type 0} (eq : N → N → Bool) where
   new_mount_rules world task place result =
       Mounting.new_mount_rules eq (looks_of eq world) task place (has_too_many eq result)
 
-  -- mount(2) of a tmpfs
+  -- a new plain filesystem: mount(2) of a tmpfs
   abbrev pub plain_filesystem : Fresh N → Filesystem N
   plain_filesystem fresh = new_plain eq (evens fresh 0) (evens fresh 1)
 
+  -- mount(2) of a tmpfs
   unfoldable pub mount_plain_outcome : Fresh N → World N → Task N → List ℕ → MountFlags → Outcome N
   mount_plain_outcome fresh world task path flags =
       judged world (admin_rules task)
@@ -76,6 +88,7 @@ module _ {N : Type 0} (eq : N → N → Bool) where
   abbrev pub layer_rules : World N → LayerPlaces N → Overlay N → Rules
   layer_rules world = Mounting.layer_rules eq (looks_of eq world)
 
+  -- an overlay as a filesystem of these merged inodes
   abbrev pub overlay_of_inodes : N → N → Overlay N → List (MergedInode N) → Filesystem N
   overlay_of_inodes number root overlay inodes = record {
     number = number;
@@ -84,12 +97,14 @@ module _ {N : Type 0} (eq : N → N → Bool) where
     change = 0;
   }
 
+  -- the filesystem of a new overlay: the merged tree of its layers, with the real objects of its inodes
   abbrev pub overlay_filesystem : Fresh N → World N → Overlay N → Filesystem N
   overlay_filesystem fresh world overlay =
       overlay_of_inodes (evens fresh 0) (odds fresh 0) overlay
       (merged_inodes eq (odds fresh) (is_some overlay.upper) (map (open_layer eq world) (shown_layers overlay))
       (merged_objects (map (open_layer eq world) (shown_layers overlay)) (inode_count world)))
 
+  -- the world with an overlay of layers at these locations mounted
   abbrev pub overlay_mounted : Fresh N → World N → Task N → Location N → LayerPlaces N → MountFlags → World N
   overlay_mounted fresh world task place places flags =
       mounted (odds fresh) world place (overlay_filesystem (evens fresh) world (overlay_at world task places)) flags
@@ -103,6 +118,7 @@ module _ {N : Type 0} (eq : N → N → Bool) where
       (judged world (new_mount_rules world task place (overlay_mounted fresh world task place places flags))
       (granted Done (overlay_mounted fresh world task place places flags))))
 
+  -- mount(2) of an overlay
   unfoldable pub mount_overlay_outcome : Fresh N → World N → Task N → List ℕ → Option OverlayWords → MountFlags
       → Outcome N
   mount_overlay_outcome fresh world task path options flags =
@@ -114,9 +130,11 @@ module _ {N : Type 0} (eq : N → N → Bool) where
   bind_rules world task source place result =
       Mounting.bind_rules eq (looks_of eq world) task source place (has_too_many eq result)
 
+  -- the world with the mounts of a source attached as copies at a destination: mount(2) with MS_BIND
   abbrev pub bound_at : Fresh N → World N → Location N → Location N → Bool → World N
   bound_at fresh world source place recursive = attach eq world fresh place false (bind_tree eq world source recursive)
 
+  -- mount(2) with MS_BIND, and with MS_REC
   unfoldable pub bind_outcome : Fresh N → World N → Task N → List ℕ → List ℕ → Bool → Outcome N
   bind_outcome fresh world task source path recursive =
       judged world (admin_rules task)
@@ -126,7 +144,7 @@ module _ {N : Type 0} (eq : N → N → Bool) where
       (bound_at fresh world from.location here.location recursive))
       (granted Done (bound_at fresh world from.location here.location recursive)))))
 
-  -- mount(2) with MS_MOVE: EINVAL, ELOOP, ENOSPC
+  -- the mount of a source, with its descendants
   abbrev pub moved_tree : World N → Location N → List (Mount N)
   moved_tree world source = mount_tree eq world.mounts (mount_at eq world source)
 
@@ -134,9 +152,11 @@ module _ {N : Type 0} (eq : N → N → Bool) where
   move_rules world task source place result =
       Mounting.move_rules eq (looks_of eq world) task source place (has_too_many eq result)
 
+  -- the world with that tree moved to a destination: mount(2) with MS_MOVE
   abbrev pub moved_to : Fresh N → World N → Location N → Location N → World N
   moved_to fresh world source place = attach eq world fresh place true (moved_tree world source)
 
+  -- mount(2) with MS_MOVE
   unfoldable pub move_outcome : Fresh N → World N → Task N → List ℕ → List ℕ → Outcome N
   move_outcome fresh world task source path =
       judged world (admin_rules task)
@@ -149,6 +169,7 @@ module _ {N : Type 0} (eq : N → N → Bool) where
   abbrev pub umount_rules : World N → Task N → Location N → Rules
   umount_rules world task = Mounting.umount_rules eq (looks_of eq world) task
 
+  -- umount(2)
   unfoldable pub umount_outcome : World N → Task N → List ℕ → Outcome N
   umount_outcome world task path =
       judged world (admin_rules task)
@@ -159,6 +180,7 @@ module _ {N : Type 0} (eq : N → N → Bool) where
   abbrev pub lazy_rules : World N → Task N → Location N → Rules
   lazy_rules world task = Mounting.lazy_rules eq (looks_of eq world) task
 
+  -- umount(2) with MNT_DETACH
   unfoldable pub lazy_outcome : World N → Task N → List ℕ → Outcome N
   lazy_outcome world task path =
       judged world (admin_rules task)
@@ -169,10 +191,12 @@ module _ {N : Type 0} (eq : N → N → Bool) where
   abbrev pub remount_rules : World N → Task N → Location N → MountFlags → Rules
   remount_rules world task = Mounting.remount_rules eq (looks_of eq world) task
 
+  -- the world with other flags of a mount
   abbrev pub with_flags : World N → Location N → MountFlags → World N
   with_flags world here flags = with_mounts world
       (with_mount eq world.mounts (record (mount_at eq world here) { flags = flags }))
 
+  -- mount(2) with MS_REMOUNT and MS_BIND
   unfoldable pub remount_outcome : World N → Task N → List ℕ → MountFlags → Outcome N
   remount_outcome world task path flags =
       judged world (admin_rules task)
@@ -183,6 +207,7 @@ module _ {N : Type 0} (eq : N → N → Bool) where
   abbrev pub type_rules : World N → Task N → Location N → Rules
   type_rules world task = Mounting.type_rules eq (looks_of eq world) task
 
+  -- mount(2) with MS_SHARED, MS_SLAVE, MS_PRIVATE or MS_UNBINDABLE, and with MS_REC
   unfoldable pub type_outcome : Fresh N → World N → Task N → List ℕ → TypeWord → Bool → Outcome N
   type_outcome fresh world task path word recursive =
       judged world (admin_rules task)
@@ -193,6 +218,7 @@ module _ {N : Type 0} (eq : N → N → Bool) where
   abbrev pub pivot_rules : World N → Task N → Location N → Location N → Rules
   pivot_rules world task = Mounting.pivot_rules eq (looks_of eq world) task
 
+  -- pivot_root(2)
   unfoldable pub pivot_outcome : World N → Task N → List ℕ → List ℕ → Outcome N
   pivot_outcome world task new put =
       judged world (admin_rules task)

@@ -1,4 +1,5 @@
 -- Calls that remove and rename: their rules in a world (`Rules/Removing.antt`), and what they change.
+-- A definition without a comment is that of its name in `Rules/Removing.antt`, in a world.
 use Rattle.std.specs.Prelude.{Bool, List, None, Option, Result, Some, [], false, true, ℕ, ◌∷◌}
 use Rattle.vt_spec.specs.declared.errors.Rule.TheVariants.{E2}
 use Rattle.vt_spec.specs.Machine.Detach.{without_mounts_on}
@@ -18,6 +19,7 @@ module _ {N : Type 0} (eq : N → N → Bool) where
   abbrev pub unlink_rules : World N → Task N → Place N → Location N → Rules
   unlink_rules world task = Removing.unlink_rules (looks_of eq world) task
 
+  -- unlink(2)
   unfoldable pub unlink_outcome : Fresh N → World N → Task N → List ℕ → Outcome N
   unlink_outcome fresh world task path =
       after world (walk_end (old_leaf_walk eq world task path)) (λ place.
@@ -31,7 +33,7 @@ module _ {N : Type 0} (eq : N → N → Bool) where
   abbrev pub rmdir_rules : World N → Task N → Place N → Location N → Rules
   rmdir_rules world task = Removing.rmdir_rules eq (looks_of eq world) task
 
-  -- mounts on it in other namespaces go with it: mount_namespaces(7), "restrictions"
+  -- rmdir(2). Mounts on the directory in other namespaces go with it: mount_namespaces(7), "restrictions".
   unfoldable pub rmdir_outcome : Fresh N → World N → Task N → List ℕ → Outcome N
   rmdir_outcome fresh world task path =
       after world (walk_end (old_walk eq world task path)) (λ place.
@@ -55,16 +57,19 @@ module _ {N : Type 0} (eq : N → N → Bool) where
   abbrev pub rename_rules : World N → Task N → Place N → Place N → Location N → Rules
   rename_rules world task = Removing.rename_rules eq (looks_of eq world) task
 
+  -- the world without the mounts on an object that a rename replaces: mount_namespaces(7), "restrictions"
   abbrev pub without_replaced : World N → Option (Location N) → World N
   without_replaced world None = world
   without_replaced world (Some new) = without_mounts_on eq world new
 
+  -- rename(2), by whether both names lead to one object: then nothing is done
   abbrev pub renamed_by : Bool → Fresh N → World N → Task N → Place N → Place N → Location N → Outcome N
   renamed_by true fresh world task from to old = judged world (same_object_rules world from to) (granted Done world)
   renamed_by false fresh world task from to old =
       judged world (rename_rules world task from to old)
       (granted Done (with_change eq fresh (without_replaced world to.object) from.parent (moving from to old)))
 
+  -- rename(2)
   unfoldable pub rename_outcome : Fresh N → World N → Task N → List ℕ → List ℕ → Outcome N
   rename_outcome fresh world task old new =
       after world (walk_end (old_leaf_walk eq world task old)) (λ from.

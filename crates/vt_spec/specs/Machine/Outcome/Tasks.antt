@@ -1,4 +1,5 @@
 -- Calls on tasks and namespaces: their rules in a world (`Rules/Tasks.antt`), and what they change.
+-- A definition without a comment is that of its name in `Rules/Tasks.antt`, in a world.
 use Rattle.std.specs.Prelude.{Bool, List, None, Option, Some, [], map, ok_or, ℕ, ◌%◌, ◌++◌, ◌+◌, ◌||◌, ◌∷◌}
 use Rattle.vt_spec.specs.declared.errors.Rule.TheVariants.{K1, S2}
 use Rattle.vt_spec.specs.Language.Calls.{CapabilityWord, ForkWords, TaskName}
@@ -22,6 +23,7 @@ pub use Rattle.vt_spec.specs.Machine.Rules.Tasks.{fork_rules}
 abbrev pub permission_bits : ℕ → ℕ
 permission_bits mode = mode % 512
 
+-- the capabilities that a word names, of a caller
 abbrev pub capabilities_of : CapabilityWord → Credentials → ℕ
 capabilities_of Held who = who.capabilities
 capabilities_of (These capabilities) who = capabilities
@@ -41,6 +43,7 @@ abbrev pub with_dropped : Credentials → ℕ → Credentials
 with_dropped who dropped = record who { capabilities = without who.capabilities dropped }
 
 module _ {N : Type 0} where
+  -- the name of the next child: the task's, and how many children it has then
   abbrev pub child_name : Task N → TaskName
   child_name task = task.name ++ ((task.forks + 1) ∷ [])
 
@@ -49,6 +52,7 @@ module _ {N : Type 0} where
   child_of task credentials =
       record task { name = child_name task; credentials = credentials; descriptors = []; forks = 0; change = 0 }
 
+  -- the world with a child, and its parent's count of forks
   abbrev pub with_child : World N → Task N → Task N → World N
   with_child world task child =
       record world {
@@ -56,6 +60,7 @@ module _ {N : Type 0} where
             ++ (child ∷ []);
       }
 
+  -- fork(2)
   unfoldable pub fork_outcome : World N → Task N → Option ForkWords → Outcome N
   fork_outcome world task words =
       judged world (fork_rules task (child_credentials task.credentials words))
@@ -66,6 +71,7 @@ module _ {N : Type 0} where
   unfoldable pub umask_outcome : World N → Task N → ℕ → Outcome N
   umask_outcome world task mode = granted Done (with_task world (record task { umask = permission_bits mode }))
 
+  -- capset(2): capabilities are dropped
   unfoldable pub drop_outcome : World N → Task N → CapabilityWord → Outcome N
   drop_outcome world task which =
       granted Done (with_task world (record task {
@@ -76,12 +82,14 @@ module _ {N : Type 0} (eq : N → N → Bool) where
   abbrev pub enter_rules : World N → Task N → Location N → Rules
   enter_rules world task = Tasks.enter_rules (looks_of eq world) task
 
+  -- chdir(2)
   unfoldable pub chdir_outcome : World N → Task N → List ℕ → Outcome N
   chdir_outcome world task path =
       after world (walk_end (directory_walk eq world task path)) (λ here.
       judged world (enter_rules world task here.location)
       (granted Done (with_task world (record task { directory = here.location }))))
 
+  -- chroot(2)
   unfoldable pub chroot_outcome : World N → Task N → List ℕ → Outcome N
   chroot_outcome world task path =
       judged world ((lacks task cap_sys_chroot, K1) ∷ [])

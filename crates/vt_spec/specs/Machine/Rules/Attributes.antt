@@ -10,10 +10,11 @@ use Rattle.vt_spec.specs.declared.attributes.Attr.{Attr}
 use Rattle.vt_spec.specs.declared.errors.Rule.TheVariants.{C2, F1, F2, L1, O4}
 
 module _ {N : Type 0} where
+  -- owner, group and mode of the object: inode(7)
   abbrev pub attr_at : Looks N → Location N → Attr
   attr_at looks object = attr_in (looks.node object)
 
-  -- an attribute is changed, by one who may: EROFS, EPERM
+  -- an attribute is changed, by one who may: EROFS, EPERM of chmod(2), chown(2)
   abbrev pub attr_rules : Looks N → Location N → Bool → Attr → Rules
   attr_rules looks object allowed attr =
       (is_read_only looks object, F1)

@@ -23,13 +23,15 @@ module _ {N : Type 0} where
   abbrev pub has_no_upper : Looks N → Location N → Bool
   has_no_upper looks location = overlay_or false (λ overlay. not (is_some overlay.upper)) (looks.overlay location)
 
-  -- C1 and B1: a right that the caller, or the mounter, does not have
+  -- C1: the caller does not have a right: path_resolution(7), "Permissions"
   abbrev pub may_not : Looks N → Task N → Location N → ℕ → Bool
   may_not looks task location wanted = not (may looks task location wanted)
 
+  -- B1: the mounter of the overlay there does not have a right: overlayfs, "permission model"
   abbrev pub mounter_may_not : Looks N → Location N → ℕ → Bool
   mounter_may_not looks location wanted = not (mounter_may looks location wanted)
 
+  -- the object is of this kind: inode(7)
   abbrev pub kind_at : Looks N → Location N → Kind → Bool
   kind_at looks location kind = is_kind_in kind (looks.node location)
 
@@ -38,24 +40,24 @@ module _ {N : Type 0} where
   is_kept looks task directory object =
       not (may_delete_sticky task.credentials (attr_in (looks.node directory)) (attr_in (looks.node object)))
 
-  -- P1: a mount stands there, in whatever namespace: mount_namespaces(7), "restrictions"
+  -- P1: a mount has this mount point: rename(2), EBUSY; in whatever namespace it is (profile)
   abbrev pub is_point_anywhere : Looks N → Location N → Bool
   is_point_anywhere looks location = list_any (λ mount. is_some mount.namespace) (looks.mounts_on location)
 
-  -- the location is in an overlay
+  -- the location's filesystem is an overlay
   abbrev pub is_overlay_at : Looks N → Location N → Bool
   is_overlay_at looks location = is_some (looks.overlay location)
 
 module _ {N : Type 0} (eq : N → N → Bool) where
-  -- M2: the mount is not in the caller's namespace
+  -- M2: the mount is not in the caller's namespace: EINVAL of mount(2)
   abbrev pub is_elsewhere : Looks N → Task N → Location N → Bool
   is_elsewhere looks task location = not (holds_of (eq task.namespace) (mount_at looks location).namespace)
 
-  -- M7: no root of a mount
+  -- M7: the location is not the root of its mount: EINVAL of umount(2)
   abbrev pub is_no_root : Looks N → Location N → Bool
   is_no_root looks location = not (eq location.node (mount_at looks location).root)
 
-  -- P1: a mount of this namespace stands there
+  -- P1: a mount of this namespace has this mount point: rmdir(2), EBUSY, mount_namespaces(7), "restrictions"
   abbrev pub is_point_in : Looks N → N → Location N → Bool
   is_point_in looks namespace location =
       list_any (λ mount. holds_of (eq namespace) mount.namespace) (looks.mounts_on location)

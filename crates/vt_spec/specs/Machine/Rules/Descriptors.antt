@@ -22,6 +22,7 @@ abbrev pub access_rights : Access → ℕ
 access_rights access = (if access.reads then read_right else 0) + (if access.writes then write_right else 0)
 
 module _ {N : Type 0} where
+  -- the task's descriptor of this number
   abbrev pub descriptor_numbered : Task N → ℕ → Option (Descriptor N)
   descriptor_numbered task number = find (λ descriptor. number == descriptor.number) task.descriptors
 
@@ -29,7 +30,7 @@ module _ {N : Type 0} where
   abbrev pub descriptor_rules : Task N → Rules
   descriptor_rules task = (nat_le most_descriptors (length task.descriptors), S3) ∷ []
 
-  -- O_EXCL: EEXIST, and EISDIR behind a slash
+  -- open(2) with O_EXCL: EEXIST, and EISDIR behind a slash
   abbrev pub exclusive_word_rules : Place N → Rules
   exclusive_word_rules place =
       (is_special place.last, E1)
@@ -41,11 +42,12 @@ module _ {N : Type 0} where
   abbrev pub descriptor_at : Task N → ℕ → (Descriptor N → Bool) → Result (Descriptor N) Deny
   descriptor_at task number fits = ok_or (find fits (option_to_list (descriptor_numbered task number))) (denial S4)
 
-  -- an object that lies only below is copied when it is opened for writing: overlayfs, "upper and lower"
+  -- an object that lies only in lower layers is copied up when it is opened for writing: overlayfs, "upper and lower"
   abbrev pub is_copied_up : Looks N → Location N → Access → Bool
   is_copied_up looks file access =
       access.writes && overlay_or false (λ overlay. lies_below overlay file.node) (looks.overlay file)
 
+  -- B1 and B2 of that copy-up (profile; overlayfs, "permission model")
   abbrev pub copy_rules : Bool → Looks N → Location N → Rules
   copy_rules true looks file = looks.mounter_rules file (CopyUp file.node)
   copy_rules false looks file = []

@@ -14,7 +14,7 @@ use Rattle.vt_spec.specs.Rights.{write_right}
 use Rattle.vt_spec.specs.declared.attributes.Kind.TheVariants.{White}
 use Rattle.vt_spec.specs.declared.errors.Rule.TheVariants.{B1, C1, E1, E2, E6, E7, E9, F1, F2, L1, O4, P2, W1, W2}
 
--- W1 and W2 of a link's text as a whole: symlink(2), ENOENT and ENAMETOOLONG
+-- W1 and W2 of a symlink's text as a whole: symlink(2), ENOENT and ENAMETOOLONG
 abbrev pub symlink_text_rules : List ℕ → Rules
 symlink_text_rules text =
     (is_empty text, W1)
@@ -33,7 +33,8 @@ module _ {N : Type 0} where
   abbrev pub file_word_rules : Place N → Rules
   file_word_rules place = (is_special place.last || place.slash, E2) ∷ []
 
-  -- a name is made in a directory, after the rules on the name itself: EROFS, EACCES
+  -- a name is made in a directory, after the rules on the name itself: mkdir(2), symlink(2), open(2) with O_CREAT:
+  -- EROFS, EACCES
   abbrev pub make_rules : Looks N → Task N → Place N → Change N → Rules
   make_rules looks task place change =
       (is_read_only looks place.parent, F1)
@@ -55,7 +56,7 @@ module _ {N : Type 0} where
       ∷ (is_overlay_at looks place.parent, O4)
       ∷ []
 
-  -- write(2) after open(2) with O_TRUNC of a file that is there: EISDIR, EFBIG, ENXIO, EROFS, EACCES
+  -- write(2) after open(2) with O_TRUNC of a file that exists: EISDIR, EFBIG, ENXIO, EROFS, EACCES
   abbrev pub rewrite_rules : Looks N → Task N → Location N → List ℕ → Rules
   rewrite_rules looks task file bytes =
       (is_directory_at looks file, E2)

@@ -19,19 +19,22 @@ use Rattle.vt_spec.specs.declared.errors.Rule.TheVariants.{K1, M10, M11, M12, M2
 abbrev pub work_walked : OverlayWords → Option (List ℕ)
 work_walked words = if is_some words.upper then words.work else None
 
--- where the layers of an overlay were reached
+-- the locations of an overlay's layers, as their paths were walked
 pub record LayerPlaces (N : Type 0) : Type 0 where
   pub lowers : List (Location N)
   pub upper : Option (Location N)
   pub work : Option (Location N)
 
 module _ {N : Type 0} where
+  -- the locations of all layers
   abbrev pub all_places : LayerPlaces N → List (Location N)
   all_places places = places.lowers ++ option_to_list places.upper ++ option_to_list places.work
 
+  -- the locations of the upper and the work directory
   abbrev pub change_places : LayerPlaces N → List (Location N)
   change_places places = option_to_list places.upper ++ option_to_list places.work
 
+  -- there is exactly one lower layer
   abbrev pub has_single_lower : List (Location N) → Bool
   has_single_lower [] = false
   has_single_lower (lower ∷ []) = true
@@ -41,13 +44,16 @@ module _ {N : Type 0} where
   abbrev pub admin_rules : Task N → Rules
   admin_rules task = (lacks task cap_sys_admin, K1) ∷ []
 
-  -- a destination: the place reached, and then the root of the topmost mount over it
+  -- the root of the topmost mount over the location reached
   abbrev pub at_topmost : Looks N → Here N → Here N
   at_topmost looks here = record here { location = topmost looks here.location }
 
+  -- the directory at a location, as a layer
   abbrev pub layer_at : Looks N → Location N → Layer N
   layer_at looks location = record { filesystem = (mount_at looks location).filesystem; directory = location.node }
 
+  -- a new overlay of these layers, with the task as its mounter, before any inode has a real object: overlayfs,
+  -- "permission model"
   abbrev pub overlay_at : Looks N → Task N → LayerPlaces N → Overlay N
   overlay_at looks task places = record {
     upper = option_map (layer_at looks) places.upper;
@@ -57,17 +63,20 @@ module _ {N : Type 0} where
     real = λ number. None;
   }
 
+  -- O2: the upper and the work directory overlap: overlayfs, "upper and lower"
   abbrev pub upper_overlaps_work : Looks N → Overlay N → Bool
   upper_overlaps_work looks overlay =
       list_any (looks.overlaps_one_of (option_to_list overlay.work)) (option_to_list overlay.upper)
 
+  -- O5: the upper or the work directory overlaps a lower layer: overlayfs, "sharing and copying layers"
   abbrev pub overlap_upward : Looks N → Overlay N → Bool
   overlap_upward looks overlay =
       list_any (looks.overlaps_one_of overlay.lowers) (upper_and_work overlay)
 
+  -- the location's mount has a shared parent: mount(2), MS_MOVE, EINVAL
   abbrev pub has_shared_parent : Looks N → Location N → Bool
   has_shared_parent looks source =
-      holds_of (λ place. is_shared (mount_at looks place).propagation) (mount_at looks source).mount_point
+      holds_of (λ point. is_shared (mount_at looks point).propagation) (mount_at looks source).mount_point
 
 module _ {N : Type 0} (eq : N → N → Bool) where
   -- a source, or a layer: a directory that is not removed (profile)
@@ -76,6 +85,7 @@ module _ {N : Type 0} (eq : N → N → Bool) where
       then_walk (directory_walk eq looks task path) (λ here.
       walk_unless here.steps ((looks.is_removed here.location, W8) ∷ []) here)
 
+  -- a destination: a directory that is not removed, then the root of the topmost mount over it: mount(2)
   abbrev pub destination_walk : Looks N → Task N → List ℕ → Result (Here N) (Stop N)
   destination_walk looks task path =
       then_walk (source_walk looks task path) (λ here.
@@ -88,18 +98,20 @@ module _ {N : Type 0} (eq : N → N → Bool) where
       ∷ (overfull, M9)
       ∷ []
 
-  -- The layers are walked from the top down, then the upper and the work directory.
+  -- the paths walked in their order, until one is refused
   abbrev pub each_walked : Looks N → Task N → List (List ℕ) → Result (List (Location N)) Deny
   each_walked looks task [] = Ok []
   each_walked looks task (path ∷ paths) =
       and_then (walk_end (source_walk looks task path)) (λ here.
       and_then (each_walked looks task paths) (λ rest. Ok (here.location ∷ rest)))
 
+  -- a path walked, if it is given
   abbrev pub walked_if_given : Looks N → Task N → Option (List ℕ) → Result (Option (Location N)) Deny
   walked_if_given looks task None = Ok None
   walked_if_given looks task (Some path) =
       and_then (walk_end (source_walk looks task path)) (λ here. Ok (Some here.location))
 
+  -- the lower layers are walked from the top down, then the upper and the work directory (profile)
   abbrev pub layers_walked : Looks N → Task N → OverlayWords → Result (LayerPlaces N) Deny
   layers_walked looks task words =
       and_then (each_walked looks task words.lowers) (λ lowers.
@@ -107,11 +119,12 @@ module _ {N : Type 0} (eq : N → N → Bool) where
       and_then (walked_if_given looks task (work_walked words)) (λ work.
       Ok (record { lowers = lowers; upper = upper; work = work }))))
 
+  -- O2: the upper and the work directory are in two filesystems: overlayfs, "upper and lower"
   abbrev pub lie_apart : Looks N → Overlay N → Bool
   lie_apart looks overlay =
       any_pair (λ a b. not (eq a.filesystem b.filesystem)) (upper_and_work overlay)
 
-  -- one directory is at or under another
+  -- O5: of two lower layers one is at or under the other
   abbrev pub one_under_another : Looks N → Layer N → Layer N → Bool
   one_under_another looks a b =
       eq a.filesystem b.filesystem
@@ -141,6 +154,7 @@ module _ {N : Type 0} (eq : N → N → Bool) where
       ∷ (overfull, M9)
       ∷ []
 
+  -- mount(2) with MS_MOVE: EINVAL, ELOOP, ENOSPC
   abbrev pub move_rules : Looks N → Task N → Location N → Location N → Bool → Rules
   move_rules looks task source place overfull =
       (is_elsewhere eq looks task source || is_elsewhere eq looks task place, M2)
@@ -188,17 +202,20 @@ module _ {N : Type 0} (eq : N → N → Bool) where
       ∷ (is_no_root eq looks here, M7)
       ∷ []
 
-  -- pivot_root(2): EINVAL, EBUSY. The mount of the caller's root leaves its place to that of the new root.
+  -- a location is at or under a directory, as seen through the mounts on the way up from it
   abbrev pub lies_under_place : Looks N → Location N → Location N → Bool
   lies_under_place looks top here =
-      list_any (λ place. eq top.mount place.mount && looks.is_under (mount_at looks top).filesystem top.node place.node)
-      (chain looks.mount_count (λ place. (mount_at looks place).mount_point) here)
+      list_any (λ location. eq top.mount location.mount
+      && looks.is_under (mount_at looks top).filesystem top.node location.node)
+      (chain looks.mount_count (λ location. (mount_at looks location).mount_point) here)
 
+  -- the location's mount is a descendant of the mount
   abbrev pub is_below_mount : Looks N → N → Location N → Bool
   is_below_mount looks mount here =
-      list_any (λ place. eq mount place.mount)
-      (rest_of (chain looks.mount_count (λ place. (mount_at looks place).mount_point) here))
+      list_any (λ location. eq mount location.mount)
+      (rest_of (chain looks.mount_count (λ location. (mount_at looks location).mount_point) here))
 
+  -- pivot_root(2): EINVAL, EBUSY; the new mount takes the root mount's mount point
   abbrev pub pivot_rules : Looks N → Task N → Location N → Location N → Rules
   pivot_rules looks task new put =
       (list_any (is_elsewhere eq looks task) (task.root ∷ new ∷ put ∷ []), M2)

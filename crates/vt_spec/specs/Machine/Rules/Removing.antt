@@ -15,9 +15,11 @@ use Rattle.vt_spec.specs.Tree.{entries_in}
 use Rattle.vt_spec.specs.declared.errors.Rule.TheVariants.{B1, C1, C3, E2, E3, E4, E5, F1, F2, L1, O1, P1, P2, W3}
 
 module _ {N : Type 0} where
+  -- the change by which a name is removed: unlink(2), rmdir(2)
   abbrev pub removing : Place N → Location N → Change N
   removing place object = Remove place.parent.node (name_of place.last) object.node
 
+  -- the object at a place where one exists
   abbrev pub object_there : Place N → Location N
   object_there place = unwrap_or place.object place.parent
 
@@ -29,10 +31,11 @@ module _ {N : Type 0} where
       ∷ (is_no_word place.last, P1)
       ∷ []
 
-  -- The two places of a rename. A slash behind either asks that the old object is a directory.
+  -- P1: the last word of either path of a rename names no entry: rename(2), EBUSY
   abbrev pub old_word_rules : Place N → Rules
   old_word_rules place = (is_special place.last, P1) ∷ []
 
+  -- the change by which an object gets another name: rename(2)
   abbrev pub moving : Place N → Place N → Location N → Change N
   moving from to old = Move from.parent.node (name_of from.last) to.parent.node (name_of to.last) old.node
 
@@ -48,9 +51,11 @@ module _ {N : Type 0} where
       ∷ (mounter_may_not looks place.parent write_right, B1)
       ∷ looks.mounter_rules place.parent (removing place object)
 
+  -- the directory is not empty
   abbrev pub is_filled : Looks N → Location N → Bool
   is_filled looks directory = not (is_empty_list (entries_in (looks.node directory)))
 
+  -- O1: a directory that a lower layer has at this name too: overlayfs, "renaming directories"
   abbrev pub is_stuck : Looks N → Place N → Location N → Bool
   is_stuck looks from old = is_directory_at looks old && looks.has_lower_directory from.parent (name_of from.last)
 
@@ -69,19 +74,22 @@ module _ {N : Type 0} (eq : N → N → Bool) where
       ∷ (mounter_may_not looks place.parent write_right, B1)
       ∷ looks.mounter_rules place.parent (removing place object)
 
+  -- the second path of a rename: a slash behind it asks that the old object is a directory
   abbrev pub rename_new_walk : Looks N → Task N → List ℕ → Bool → Result (Place N) (Stop N)
   rename_new_walk looks task path old_is_directory =
       then_walk (new_walk eq looks task path) (λ place.
       walk_unless place.steps ((place.slash && not old_is_directory, W3) ∷ []) place)
 
+  -- two locations are in one filesystem
   abbrev pub same_filesystem : Looks N → Location N → Location N → Bool
   same_filesystem looks a b = eq (mount_at looks a).filesystem (mount_at looks b).filesystem
 
+  -- the second location, if there is one, has the object of the first
   abbrev pub is_one_object : Looks N → Location N → Option (Location N) → Bool
   is_one_object looks old None = false
   is_one_object looks old (Some new) = same_filesystem looks old new && eq old.node new.node
 
-  -- both names lead to one object, rename(2): nothing is done
+  -- both names lead to one object: nothing is done: rename(2)
   abbrev pub same_object_rules : Looks N → Place N → Place N → Rules
   same_object_rules looks from to =
       (is_read_only looks from.parent || is_read_only looks to.parent, F1)
@@ -89,6 +97,7 @@ module _ {N : Type 0} (eq : N → N → Bool) where
       ∷ (not (eq from.parent.mount to.parent.mount), P2)
       ∷ []
 
+  -- a directory gets another parent: rename(2), EACCES
   abbrev pub changes_parent : Looks N → Place N → Place N → Location N → Bool
   changes_parent looks from to old = is_directory_at looks old && not (same_location eq from.parent to.parent)
 

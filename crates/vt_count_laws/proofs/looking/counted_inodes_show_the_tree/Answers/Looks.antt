@@ -5,7 +5,7 @@ use Rattle.vt_spec.specs.Lists.{chain, is_among, when}
 use Rattle.vt_spec.specs.Rights.{is_directory}
 use Rattle.vt_spec.specs.Tree.{Content, Node, Tree, entries_in, is_directory_node, kind_of, parent_in, parent_of}
 use Rattle.vt_spec.specs.Tree.Content.{Directory, Regular, Symlink, Whiteout}
-use Rattle.vt_spec.specs.TreeLaws.{HasOwnParents, IsTree}
+use Rattle.vt_spec.specs.TreeInvariant.{HasOwnParents, IsTree}
 use Rattle.vt_count_laws.specs.Looking.{CountedTreeIsTheTree, DirectoriesLieAlike}
 use Rattle.std.proofs.Math.Bool.{or-false}
 use Rattle.std.proofs.lemmas.Bool.{cases_Bool}

@@ -1,28 +1,38 @@
-use Rattle.std.proofs.Common.{inl, refl, sym, ◌∙◌}
-use Rattle.vt_fs.proofs.Entries.{apart_of, at_place_of, tree_nowhere, tree_of_place}
+use Rattle.std.proofs.Common.{Some, None, ap, inl, inr, option_map, refl, sym, ◌∙◌}
+use Rattle.std.specs.Option.{option_copied_mut}
+use Rattle.vt_fs.specs.FilesystemsValue.{entry_of, held, held_with_tree}
+use Rattle.vt_fs.proofs.Entries.{held_apart, tree_of-held, writes}
 use Rattle.vt_fs.proofs.filesystems.Filesystems.get_mut.Goals as goal
 
 pub returns-in-Some : goal.returns-in-Some
 returns-in-Some c =
-    let es = c.self.inside.by_number.entries in
-    let here = sym c.get_index_of.ensures.index ∙ c.in-Some.is in
-    let place = at_place_of es c.args.self.now c.self.view_is c.args.filesystem.count c.in-Some.place c.get_index_of.ensures.unique here in (
-      λ i. inl (c.tree_at.result.ghost_name, λ tree. place tree i),
+    let f = c.args.filesystem.count in
+    let map = c.self.inside.by_number in
+    let found = c.in-Some.found.now in
+    let there = sym c.get_mut.ensures.value ∙ ap option_copied_mut c.in-Some.is in (
+      λ i. inl (
+        c.tree_mut.result.ghost_name,
+        λ tree. writes f (λ one. held_with_tree one tree) (λ entry. record entry { tree = tree }) map _ c.args.self.now
+            found _ c.self.view_is there refl (λ k one. refl) (c.get_mut.follows.holds (held_with_tree found tree)) i,
+      ),
       record {
         writes_back = tt;
-        value = sym c.tree_at.ensures.value
-            ∙ tree_of_place es c.args.self.now c.self.view_is c.args.filesystem.count c.in-Some.place here;
-        apart = apart_of es c.args.self.now c.self.view_is c.get_index_of.ensures.unique;
+        value = ap Some c.tree_mut.ensures.value ∙ tree_of-held f map.entries (Some found) (sym there)
+            ∙ ap (λ fs. option_map (λ entry. entry.tree) (entry_of fs f)) c.self.view_is;
+        apart = held_apart map.entries c.args.self.now c.self.view_is;
       },
     )
 
 pub returns-in-None : goal.returns-in-None
 returns-in-None c =
-    let es = c.self.inside.by_number.entries in (
-      refl,
+    let f = c.args.filesystem.count in
+    let map = c.self.inside.by_number in
+    let absent = sym c.get_mut.ensures.value ∙ ap option_copied_mut c.in-None.is in (
+      λ i. inr ((ap (λ map. held map.entries) c.get_mut.follows.holds-at-none ∙ c.self.view_is) i),
       record {
         writes_back = tt;
-        value = tree_nowhere es c.args.self.now c.self.view_is c.args.filesystem.count (sym c.in-None.ensures.found);
-        apart = apart_of es c.args.self.now c.self.view_is c.get_index_of.ensures.unique;
+        value = tree_of-held f map.entries None (sym absent)
+            ∙ ap (λ fs. option_map (λ entry. entry.tree) (entry_of fs f)) c.self.view_is;
+        apart = held_apart map.entries c.args.self.now c.self.view_is;
       },
     )

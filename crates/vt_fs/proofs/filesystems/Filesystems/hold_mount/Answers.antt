@@ -1,4 +1,4 @@
-use Rattle.std.proofs.Common.{ap, refl, sym, ◌∙◌, arith}
+use Rattle.std.proofs.Common.{◌+◌, ap, refl, sym, ◌∙◌, arith}
 use Rattle.std.specs.Option.{option_copied_mut}
 use Rattle.vt_fs.specs.FilesystemsValue.{held}
 use Rattle.vt_fs.proofs.Entries.{mounts_of-held, writes, writes_none}
@@ -16,8 +16,8 @@ returns-clause-ok c =
     elim c.match-get_mut.branch [
       | in-Some w ↦
           ap (λ inside. held inside.by_number.entries) w.self-inside-is
-          ∙ writes c.args.filesystem.count _ c.self.inside.by_number.entries _ c.args.self.now w.in-Some.found.now _ c.self.view_is c.get_mut.ensures.unique
-          (sym c.get_mut.ensures.value ∙ ap option_copied_mut w.in-Some.is) (c.get_mut.follows.holds _).0 (λ k. refl)
+          ∙ writes c.args.filesystem.count (λ one. record one { mounts = one.mounts + 1 }) _ c.self.inside.by_number _ c.args.self.now w.in-Some.found.now _ c.self.view_is
+          (sym c.get_mut.ensures.value ∙ ap option_copied_mut w.in-Some.is) refl (λ k one. refl) (c.get_mut.follows.holds _)
       | in_default w ↦
           ap (λ inside. held inside.by_number.entries) w.self-inside-is
           ∙ writes_none c.args.filesystem.count _ c.self.inside.by_number.entries _ c.args.self.now c.self.view_is

@@ -10,7 +10,7 @@ use Rattle.vt_group.proofs.groups.Groups.make_slave_of_own.Goals as goal
 pub set_slave-requires : goal.set_slave-requires
 set_slave-requires c =
     group_shared (propagation_in c.args.self.now (counted c.args.mount.count)) (group_number c.in-Some-own_group.group)
-    (ap group_of (sym c.in-Some.ensures) ∙ sym c.in-Some-own_group.ensures)
+    (ap group_of (sym c.in-Some.ensures) ∙ sym c.in-Some-own_group.ensures.number)
 
 pub returns-clause-types : goal.returns-clause-types
 returns-clause-types c other =
@@ -18,4 +18,4 @@ returns-clause-types c other =
     ∙ types-slave c.args.self.now (counted c.args.mount.count) (group_number c.in-Some-own_group.group)
     c.are_ordered.ensures
     (group_shared (propagation_in c.args.self.now (counted c.args.mount.count)) (group_number c.in-Some-own_group.group)
-    (ap group_of (sym c.in-Some.ensures) ∙ sym c.in-Some-own_group.ensures)) other
+    (ap group_of (sym c.in-Some.ensures) ∙ sym c.in-Some-own_group.ensures.number)) other

@@ -11,30 +11,30 @@ pub returns-clause-others : goal.returns-clause-others
 returns-clause-others c other kind apart =
     let old : Index = c.args.self.now in
     let new : Index = record old {
-      names = c.prune.new.self;
-      mounts = c.take_out.new.sets;
+      names = c.prune_left.new.self;
+      mounts = c.take_out-name.new.sets;
       members = c.take_out_of_one.new.sets;
     } in
     listed_still old new other kind
-    (λ group source under. c.prune.ensures.mounts other group
+    (λ group source under. c.prune_left.ensures.mounts other group
     (any_still (λ name. has same_id name other old.mounts) (λ name. has same_id name other new.mounts)
-    (λ at. c.take_out.ensures.others at other apart) (names_of old.names group) under))
+    (λ at. c.take_out-name.ensures.others at other apart) (names_of old.names group) under))
     (λ group is. c.take_out_of_one.ensures.others group other apart)
 
 pub returns-clause-own : goal.returns-clause-own
 returns-clause-own c kind is =
     let old : Index = c.args.self.now in
     let new : Index = record old {
-      names = c.prune.new.self;
-      mounts = c.take_out.new.sets;
+      names = c.prune_left.new.self;
+      mounts = c.take_out-name.new.sets;
       members = c.take_out_of_one.new.sets;
     } in
     let mount = c.args.mount in
     listed_still old new mount kind
-    (λ group source under. c.prune.ensures.mounts mount group
+    (λ group source under. c.prune_left.ensures.mounts mount group
     (stays_under same_id old.names old.mounts new.mounts mount group c.of_any-stays.result.now
     (c.of_any-stays.ensures ∙ ap (names_of_any old.names) (c.source_in-now.ensures
     ∙ ap (λ found. then_some found source_of_kind) is ∙ source_told_kind group kind source))
-    (λ at. c.take_out.ensures.own at mount) under))
+    (λ at. c.take_out-name.ensures.own at mount) under))
     (λ group in_group. c.take_out_of_one.ensures.own group
     (c.group_in-2.ensures ∙ ap (λ found. then_some found group_of_kind) is ∙ in_group))

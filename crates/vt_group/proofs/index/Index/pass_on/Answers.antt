@@ -24,13 +24,11 @@ returns-clause-mounts c mount was kind lower apart handed listed =
     let lost = c.args.lost in
     let heir = c.args.heir in
     let differ = eqb-swapped heir.count lost.count false (sym c.eq.ensures ∙ c.if-eq.false) in
-    let named : is_some (lookup (same_group heir) c.prune.new.self) ≡ true =
-    named_by c.prune.new.self heir (λ name. has same_group name lost old.lowers) (c.prune.ensures.lowers lost heir lower) in
+    let named : is_some (lookup (same_group heir) old.names) ≡ true =
+    named_by old.names heir (λ name. has same_group name lost old.lowers) lower in
     handed_kind lost heir old new mount
-    (λ group apart under. c.inherit.ensures.kept group (λ name. has same_id name mount old.mounts) apart
-    (c.prune.ensures.mounts mount group under))
-    (λ under. c.inherit.ensures.own differ named (λ name. has same_id name mount old.mounts)
-    (c.prune.ensures.mounts mount lost under))
+    (λ group. c.inherit.ensures.kept group (λ name. has same_id name mount old.mounts))
+    (c.inherit.ensures.own differ named (λ name. has same_id name mount old.mounts))
     (λ group among. among) was kind apart handed listed
 
 pub returns-clause-lowers : goal.returns-clause-lowers
@@ -40,11 +38,9 @@ returns-clause-lowers c lower was upper is_lower handed under =
     let lost = c.args.lost in
     let heir = c.args.heir in
     let differ = eqb-swapped heir.count lost.count false (sym c.eq.ensures ∙ c.if-eq.false) in
-    let named : is_some (lookup (same_group heir) c.prune.new.self) ≡ true =
-    named_by c.prune.new.self heir (λ name. has same_group name lost old.lowers) (c.prune.ensures.lowers lost heir is_lower) in
+    let named : is_some (lookup (same_group heir) old.names) ≡ true =
+    named_by old.names heir (λ name. has same_group name lost old.lowers) is_lower in
     handed_group lost heir old new lower
-    (λ group apart under. c.inherit.ensures.kept group (λ name. has same_group name lower old.lowers) apart
-    (c.prune.ensures.lowers lower group under))
-    (λ under. c.inherit.ensures.own differ named (λ name. has same_group name lower old.lowers)
-    (c.prune.ensures.lowers lower lost under))
+    (λ group. c.inherit.ensures.kept group (λ name. has same_group name lower old.lowers))
+    (c.inherit.ensures.own differ named (λ name. has same_group name lower old.lowers))
     was upper handed under

@@ -27,7 +27,7 @@ use Rattle.vt_spec.specs.Machine.World.{Task, World, files_at, is_directory_at, 
 use Rattle.vt_spec.specs.PathText.{ends_in_slash}
 use Rattle.vt_spec.specs.Rights.{is_directory, read_right}
 use Rattle.vt_spec.specs.Tree.{Node, entries_in, entry_named, is_directory_node, names_in}
-use Rattle.vt_spec.specs.TreeLaws.{entry_at}
+use Rattle.vt_spec.specs.TreeInvariant.{entry_at}
 use Rattle.vt_permit_laws.specs.Sees.{MayBeRenamed}
 use Rattle.vt_permit_laws.proofs.sees.SeesNames.{tree_here}
 use Rattle.vt_layer_laws.specs.Layers.Untouched.{IsKept}

@@ -29,7 +29,7 @@ use Rattle.vt_spec.specs.Machine.World.{Task, World, files_at, is_directory_at, 
 use Rattle.vt_spec.specs.Machine.Invariants.{IsWorld}
 use Rattle.vt_spec.specs.Rights.{execute_right}
 use Rattle.vt_spec.specs.Tree.{entries_in, entry_named, is_directory_node}
-use Rattle.vt_spec.specs.TreeLaws.{entry_at}
+use Rattle.vt_spec.specs.TreeInvariant.{entry_at}
 use Rattle.vt_spec.proofs.Nodes.{directory_used}
 use Rattle.vt_call_laws.specs.Inodes.{change_of}
 use Rattle.vt_letting_go.specs.FileChanges.{IsMoved}

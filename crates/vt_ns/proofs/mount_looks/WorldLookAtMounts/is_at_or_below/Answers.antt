@@ -4,8 +4,8 @@ use Rattle.vt_location.specs.Numbers.{counted}
 use Rattle.vt_mount.specs.MountsValue.{mounts_in}
 use Rattle.vt_detach.specs.Held.{IsHeld}
 use Rattle.vt_ns.proofs.Climbing.{meets, met_above, met_from, met_here, met_nowhere}
-use Rattle.vt_detach.proofs.Shown.{counted_eq}
 use Rattle.vt_ns.proofs.mount_looks.WorldLookAtMounts.is_at_or_below.Goals as goal
+use Rattle.vt_location.proofs.NumberLemmas.{counted_test}
 
 pub returns-then-eq : goal.returns-then-eq
 returns-then-eq c =
@@ -24,7 +24,7 @@ returns-in_default c =
     let held = subst IsHeld c.self.view_is c.self.invariant in
     let other : nat_eq c.loop.here.count c.args.top.count ≡ false = sym c.eq.ensures ∙ c.if-eq.false in
     sym (met_nowhere mounts (counted c.args.top.count) (c.len-end.result - c.loop.counter) (counted c.loop.here.count)
-    (counted_eq c.loop.here.count c.args.top.count ∙ other) (sym c.in_default.ensures.point))
+    (counted_test c.loop.here.count c.args.top.count ∙ other) (sym c.in_default.ensures.point))
     ∙ c.loop.invariant.1
     ∙ met_from mounts held.in_world.mounts.one_number (counted c.args.top.count)
     (counted c.args.mount.count) c.len-end.result c.loop.invariant.0
@@ -38,7 +38,7 @@ loop-preserved c =
       c.loop.invariant.0,
       sym (met_above mounts (counted c.args.top.count) (c.len-end.result - (c.loop.counter + 1))
           (counted c.loop.here.count) (location_of c.in-Some.point)
-          (counted_eq c.loop.here.count c.args.top.count ∙ other) (sym c.in-Some.ensures.point))
+          (counted_test c.loop.here.count c.args.top.count ∙ other) (sym c.in-Some.ensures.point))
           ∙ ap (λ n. meets mounts (counted c.args.top.count) n (counted c.loop.here.count)) (sym one)
           ∙ c.loop.invariant.1,
     )
@@ -49,7 +49,7 @@ returns c =
     let held = subst IsHeld c.self.view_is c.self.invariant in
     let last : c.len-end.result - c.loop.counter ≡ 0 = omega (arith, c.loop-test.false) in
     c.eq-2.ensures
-    ∙ sym (counted_eq c.loop.here.count c.args.top.count)
+    ∙ sym (counted_test c.loop.here.count c.args.top.count)
     ∙ ap (λ n. meets mounts (counted c.args.top.count) n (counted c.loop.here.count)) (sym last)
     ∙ c.loop.invariant.1
     ∙ met_from mounts held.in_world.mounts.one_number (counted c.args.top.count)

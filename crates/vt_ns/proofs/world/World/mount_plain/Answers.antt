@@ -14,7 +14,7 @@ use Rattle.vt_detach.specs.Events.{Becomes, Permits}
 use Rattle.vt_detach.specs.WorldValue.{WorldValue, world_of}
 use Rattle.vt_attach.proofs.GraftedDone.{grafted_value}
 use Rattle.vt_attach.proofs.NewBase.{destination_there}
-use Rattle.vt_attach.proofs.NewFilesystems.{next_is_free}
+use Rattle.vt_attach.proofs.NewFilesystems.{next_is_above}
 use Rattle.vt_attach.proofs.NewMounts.{may_mount, new_mount_is_done}
 use Rattle.vt_ns.proofs.BoundEvents.{parts_found, place_mounted}
 use Rattle.vt_ns.proofs.world.World.mount_plain.Goals as goal
@@ -29,8 +29,8 @@ parts-requires c =
     (destination_there (the_view c.self.inside) c.self.invariant c.args.name.now (location_of c.args.place)
     (flags_of c.args.flags) permits)
 
-pub mount_new-requires-clause-new : goal.mount_new-requires-clause-new
-mount_new-requires-clause-new c = next_is_free (the_view c.self.inside) c.self.invariant
+pub mount_new-requires-clause-above : goal.mount_new-requires-clause-above
+mount_new-requires-clause-above c = next_is_above (the_view c.self.inside) c.self.invariant
 
 pub mount_new-requires-clause-may : goal.mount_new-requires-clause-may
 mount_new-requires-clause-may c =

@@ -3,7 +3,7 @@ use Rattle.std.specs.FinMap.Entries.{is_sorted}
 use Rattle.vt_spec.specs.Inodes.{Inodes, with_changed, without_replaced}
 use Rattle.vt_spec.specs.Language.Changes.{node_with_parent, node_without_entry}
 use Rattle.vt_spec.specs.Tree.{entries_in, name_cmp, node_with_entry}
-use Rattle.vt_spec.specs.TreeLaws.{entry_at}
+use Rattle.vt_spec.specs.TreeInvariant.{entry_at}
 use Rattle.vt_tree.specs.Slots.{inodes_in}
 use Rattle.vt_tree.specs.TreeValue.{inodes_of, tree_of}
 use Rattle.vt_tree.proofs.MoveLemmas.{moved, replaced_other}

@@ -6,7 +6,7 @@ use Rattle.std.proofs.lemmas.List.Elements.{All-filter}
 use Rattle.std.proofs.lemmas.List.Folds.{list_any-append}
 use Rattle.std.proofs.lemmas.Bool.{and_parts, or_right}
 use Rattle.vt_spec.specs.Tree.{entries_in, entry_named}
-use Rattle.vt_spec.specs.TreeLaws.{HasName, entry_at}
+use Rattle.vt_spec.specs.TreeInvariant.{HasName, entry_at}
 use Rattle.vt_spec.specs.Lists.{is_among}
 use Rattle.vt_spec.specs.Machine.Mounts.{Location, Mount, mount_in, no_mount, root_of, same_location}
 use Rattle.vt_spec.specs.Machine.Settled.{filesystem_lives, has_layer_on, is_located, is_mounted, located_in, mount_lives, only_used, settled, used_in, without_dead_filesystems, without_dead_in, without_dead_mounts}

@@ -1,0 +1,87 @@
+//! The names that mounts and lower groups were put under.
+use indexmap::IndexMap;
+use std::alloc::{AllocError, Global};
+use std::collections::BTreeMap;
+use std::hash::Hash;
+use std::marker::Model;
+use vt_location::{GroupId, MountId, Propagation};
+
+/// The name that each mount or group was put under, so that it is found there without passing over the other names of
+/// its group. Nothing rests on it: where it does not hold, all names of the group are passed over, and contracts see
+/// nothing of it.
+#[derive(Debug, Drop)]
+pub(crate) struct Places<T: Eq + Hash> {
+    names: IndexMap<T, GroupId>,
+}
+
+impl<T: Eq + Hash> Model for Places<T> {
+    ghost Value = { Unit {0} };
+
+    ghost view = { λ p. tt };
+}
+
+impl<T: Eq + Hash + Copy + Clone + Drop> Places<T> {
+    /// No names. It does not allocate.
+    pub(crate) fn new(alloc: Global) -> Self {
+        Places {
+            names: IndexMap::new(alloc),
+        }
+    }
+
+    /// The name that one was put under.
+    pub(crate) fn of(&self, one: T) -> Option<GroupId> {
+        self.names.get(&one).copied()
+    }
+
+    /// One is put under a name. If it is under another one too, it is first taken out there.
+    pub(crate) fn put(&mut self, one: T, name: GroupId) -> Result<(), AllocError> {
+        if self.names.contains_key(&one) {
+            return Ok(());
+        }
+        self.names.insert(one, name)?;
+        Ok(())
+    }
+
+    /// One was taken out from under a name, and is under that one then, if any. It does not allocate.
+    pub(crate) fn leave(&mut self, one: T, name: GroupId, next: Option<GroupId>) {
+        let Some(next) = next else {
+            self.forget(one);
+            return;
+        };
+        if self.of(one) == Some(name) {
+            // It cannot fail: it has a name.
+            let _ = self.names.insert(one, next);
+        }
+    }
+
+    /// One is under no name any more. It does not allocate.
+    pub(crate) fn forget(&mut self, one: T) {
+        self.names.swap_remove(&one);
+    }
+}
+
+/// The mounts among these that have no type are under no name any more. It does not allocate.
+pub(crate) fn forget_untyped(
+    places: &mut Places<MountId>,
+    mounts: &[MountId],
+    types: &BTreeMap<u64, Propagation>,
+) {
+    for mount in mounts {
+        if !types.contains_key(&mount.count) {
+            places.forget(*mount);
+        }
+    }
+}
+
+/// The groups among these that have no master are under no name any more. It does not allocate.
+pub(crate) fn forget_lower(
+    places: &mut Places<GroupId>,
+    lowers: &[GroupId],
+    above: &BTreeMap<u64, GroupId>,
+) {
+    for lower in lowers {
+        if !above.contains_key(&lower.count) {
+            places.forget(*lower);
+        }
+    }
+}

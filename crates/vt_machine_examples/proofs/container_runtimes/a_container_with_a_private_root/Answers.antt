@@ -1,7 +1,0 @@
-use Rattle.std.specs.Prelude.{refl}
-use Rattle.vt_spec.specs.Machine.Run.{everything}
-use Rattle.vt_machine_examples.proofs.container_runtimes.a_container_with_a_private_root.Goals as goal
-
-pub returns : goal.returns
-unfolding everything
-returns c = refl
