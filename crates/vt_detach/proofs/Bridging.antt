@@ -22,7 +22,7 @@ use Rattle.vt_world_laws.proofs.settling.SettledSeen.{used_number}
 use Rattle.vt_world_laws.proofs.RaisedInUse.{worlds_are_in_use}
 use Rattle.vt_detach.specs.Held.{CountsItsMounts, IsHeld}
 use Rattle.vt_detach.specs.WorldValue.{WorldValue, world_of}
-pub use Rattle.vt_detach.proofs.Showing.{found_filesystem}
+use Rattle.vt_letting_go.proofs.sweeps.OfWorlds.{found_filesystem}
 use Rattle.vt_detach.proofs.Showing.{ShowsAs, shown_has, shown_is_counted, shown_is_same}
 
 -- An entry comes from one of the same filesystem, in which inodes got these uses and lost those.

@@ -39,7 +39,7 @@ use Rattle.vt_detach.specs.Events.{Permits}
 use Rattle.vt_detach.specs.Held.{IsHeld}
 use Rattle.vt_detach.specs.Uses.{inode_of, pinned_in, unpinned_at, unpinned_in}
 use Rattle.vt_detach.specs.WorldValue.{WorldValue, world_of}
-use Rattle.vt_detach.proofs.Bridging.{found_filesystem}
+use Rattle.vt_letting_go.proofs.sweeps.OfWorlds.{found_filesystem}
 use Rattle.vt_detach.proofs.FileEvents.{permit_fits}
 use Rattle.vt_detach.proofs.LocationsSeen.{seen_where_located}
 use Rattle.vt_detach.proofs.LookLemmas.{turned}

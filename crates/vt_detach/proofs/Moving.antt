@@ -22,7 +22,7 @@ use Rattle.vt_tasks.specs.TasksValue.{Tasks}
 use Rattle.vt_detach.specs.Held.{CountsItsUses, IsHeld, writes_of}
 use Rattle.vt_detach.specs.Uses.{Kept, released_use, with_use}
 use Rattle.vt_detach.specs.WorldValue.{WorldValue, world_of}
-use Rattle.vt_detach.proofs.Bridging.{found_filesystem}
+use Rattle.vt_letting_go.proofs.sweeps.OfWorlds.{found_filesystem}
 use Rattle.vt_detach.proofs.Staying.{after}
 
 -- a location, and whether it is a file open for writing

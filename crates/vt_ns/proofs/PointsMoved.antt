@@ -39,7 +39,7 @@ use Rattle.vt_attach.proofs.PointsCounted.{points_count}
 use Rattle.vt_detach.specs.Held.{CountsItsMounts, CountsItsUses, IsHeld}
 use Rattle.vt_detach.specs.Uses.{Kept, kept}
 use Rattle.vt_detach.specs.WorldValue.{WorldValue, world_of}
-use Rattle.vt_detach.proofs.Bridging.{found_filesystem}
+use Rattle.vt_letting_go.proofs.sweeps.OfWorlds.{found_filesystem}
 use Rattle.vt_detach.proofs.DetachingBegins.{filesystem_kept, pair_mapped}
 use Rattle.vt_detach.proofs.DetachingEnds.{point_located}
 use Rattle.vt_detach.proofs.Grouped.{stays_private}
