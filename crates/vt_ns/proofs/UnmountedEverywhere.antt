@@ -1,16 +1,19 @@
 -- Mounts are unmounted, with the mounts at the receivers of their parents: umount(2).
-use Rattle.std.proofs.Common.{◌∷◌, ◌≡◌, refl, sym, ap, subst, ◌∙◌, ℕ, nat_eq, eqb-true, Bool, true, false, true≢false, cond, List, [], map, find, Option, Some, None, option_map, is_some, unwrap_or}
+use Rattle.std.proofs.Common.{◌∷◌, ◌≡◌, refl, sym, ap, subst, ◌∙◌, ℕ, nat_eq, eqb-true, Bool, true, false, true≢false, cond, List, [], map, find, Option, Some, None, option_map, is_some, unwrap_or, length, if◌then◌else◌}
 use Rattle.std.proofs.lemmas.List.{append-nil}
-use Rattle.std.specs.Prelude.{All}
+use Rattle.std.proofs.lemmas.List.Sorted.{list_any-IsPermutation}
 use Rattle.std.specs.List.{list_any}
+use Rattle.std.specs.List.Sorted.{IsPermutation}
+use Rattle.std.specs.Prelude.{All}
 use Rattle.vt_spec.specs.Language.Calls.{TaskName}
+use Rattle.vt_spec.specs.Lists.{chain, last_or}
 use Rattle.vt_spec.specs.Machine.Detach.{after_going, going, is_going, lazily_unmounted, mount_point_left, taken_away, unmounted}
 use Rattle.vt_spec.specs.Machine.Mounts.{Location, Mount, detached, no_mount}
 use Rattle.vt_spec.specs.Machine.Permits.{Permit}
 use Rattle.vt_spec.specs.Machine.Permits.Permit.{ToUnmount, ToUnmountLazily}
 use Rattle.vt_spec.specs.Machine.Receives.{inheriting, lost_a_group, regrouped, regrouped_by}
 use Rattle.vt_spec.specs.Machine.Settled.{without_dead_groups}
-use Rattle.vt_spec.specs.Machine.World.{Task, World, mount_numbered, with_mounts}
+use Rattle.vt_spec.specs.Machine.World.{Task, World, mount_at, mount_numbered, with_mounts}
 use Rattle.vt_fs.specs.FilesystemsValue.{Filesystems}
 use Rattle.vt_group.specs.Grouping.{Grouping, Has, HasGroup, are_rising, numbers_of, peers_of}
 use Rattle.vt_group.specs.Together.{GrowsTo}
@@ -20,7 +23,7 @@ use Rattle.vt_letting_go.proofs.Lists.{all_from_among, among-map, among_from_all
 use Rattle.vt_location.specs.Locations.{location_of}
 use Rattle.vt_location.specs.Numbers.{counted}
 use Rattle.vt_mount.specs.MountsValue.{MountEntry}
-use Rattle.vt_propagate.specs.Falling.{FallsTo, LeavesBy, left_by}
+use Rattle.vt_propagate.specs.Falling.{FallsTo, LeavesBy, left_by, moved_by}
 use Rattle.vt_propagate.specs.LazyUnmounts.{gone_lazily}
 use Rattle.vt_propagate.proofs.LazyUnmounts.{lazy_unmounts_are_at_once}
 use Rattle.vt_attach.specs.Planned.{Point, placed_entry, with_points}
@@ -166,39 +169,92 @@ gone_together value whole name permit task policy is gone points alike regroups 
     go.left go.left_are go.left_small go.taken_small go.between go.files go.moved
     together.entries filesystems together.turn)
 
+-- Which mounts go does not depend on the order in which they are named
+
+goes_alike : (one other : List ℕ) → IsPermutation one other → is_going nat_eq one ≡ is_going nat_eq other
+goes_alike one other same = λ i number. list_any-IsPermutation (nat_eq number) one other same i
+
+-- where a mount stands once those that go are detached
+abbrev left_where : World ℕ → (ℕ → Bool) → Location ℕ → Location ℕ
+left_where world goes place =
+    last_or place (chain (length world.mounts)
+    (λ (at : Location ℕ). if goes at.mount then (mount_at nat_eq world at).mount_point else None) place)
+
+taken_alike : (world : World ℕ) (one other : List ℕ) → IsPermutation one other
+    → taken_away nat_eq world one ≡ taken_away nat_eq world other
+taken_alike world one other same =
+    ap (λ (goes : ℕ → Bool). regrouped nat_eq (with_mounts world
+    (map (λ (mount : Mount ℕ). if goes mount.number then detached mount
+        else record mount { mount_point = option_map (left_where world goes) mount.mount_point }) world.mounts)))
+    (goes_alike one other same)
+
+leaves_alike : (world : World ℕ) (one other : List ℕ) (points : List (ℕ × Location ℕ)) → IsPermutation one other
+    → LeavesBy world one points → LeavesBy world other points
+leaves_alike world one other points same leaves =
+    sym (taken_alike world one other same) ∙ leaves
+    ∙ ap (λ (goes : ℕ → Bool). regrouped nat_eq (with_mounts world
+    (map (λ (mount : Mount ℕ). if goes mount.number then detached mount else moved_by points mount) world.mounts)))
+    (goes_alike one other same)
+
+falls_alike : (world : World ℕ) (one other : List ℕ) (points : List (ℕ × Location ℕ)) → IsPermutation one other
+    → All (FallsTo world one) points → All (FallsTo world other) points
+falls_alike world one other points same =
+    subst (λ (goes : ℕ → Bool). All (λ (point : ℕ × Location ℕ). (goes point.0 ≡ false)
+    × (option_map (left_where world goes) (mount_numbered nat_eq world point.0).mount_point ≡ Some point.1)) points)
+    (goes_alike one other same)
+
+-- the same where they are detached in another order than the one in which they were planned
+gone_in_any_order : (value : WorldValue) → IsHeld value → (name : TaskName) (permit : Permit ℕ) (task : Task ℕ)
+    (policy : World ℕ) → IsApplied value name permit task policy → (planned gone : List ℕ) (points : List Point)
+    → IsPermutation planned gone
+    → without_dead_groups nat_eq policy ≡ without_dead_groups nat_eq (taken_away nat_eq (world_of value) planned)
+    → LeavesBy (world_of value) planned (map point_seen points)
+    → All (FallsTo (world_of value) planned) (map point_seen points)
+    → (mounts : List MountEntry) (groups : Grouping) (filesystems : Filesystems)
+    → GoTogether gone points (kept value.mounts value.filesystems) value.groups (kept mounts filesystems) groups
+    → IsDone value name permit (record (remade value mounts filesystems value.tasks) { groups = groups })
+gone_in_any_order value whole name permit task policy is planned gone points same alike regroups falls =
+    let world = world_of value in
+    gone_together value whole name permit task policy is gone points
+    (alike ∙ ap (without_dead_groups nat_eq) (taken_alike world planned gone same))
+    (leaves_alike world planned gone (map point_seen points) same regroups)
+    (falls_alike world planned gone (map point_seen points) same falls)
+
 pub unmounted_everywhere : (value : WorldValue) → IsHeld value → (name : TaskName) (number : ℕ)
     → Permits value name (ToUnmount number)
-    → (gone : List ℕ) (points : List Point)
-    → gone ≡ going nat_eq (world_of value) (mount_numbered nat_eq (world_of value) number)
-    → LeavesBy (world_of value) gone (map point_seen points)
-    → All (FallsTo (world_of value) gone) (map point_seen points)
+    → (planned gone : List ℕ) (points : List Point) → IsPermutation planned gone
+    → planned ≡ going nat_eq (world_of value) (mount_numbered nat_eq (world_of value) number)
+    → LeavesBy (world_of value) planned (map point_seen points)
+    → All (FallsTo (world_of value) planned) (map point_seen points)
     → (mounts : List MountEntry) (groups : Grouping) (filesystems : Filesystems)
     → GoTogether gone points (kept value.mounts value.filesystems) value.groups (kept mounts filesystems) groups
     → IsDone value name (ToUnmount number) (record (remade value mounts filesystems value.tasks) { groups = groups })
-unmounted_everywhere value whole name number permits gone points gone_is =
+unmounted_everywhere value whole name number permits planned gone points same planned_is =
     let names = (permit_fits value whole name (ToUnmount number) permits).names in
-    gone_together value whole name (ToUnmount number) permits.task (unmounted nat_eq (world_of value) number)
+    gone_in_any_order value whole name (ToUnmount number) permits.task (unmounted nat_eq (world_of value) number)
     (record {
       called = permits.called;
       given = permits.given;
       named = attached_is_named value whole number (ap is_some names.0);
       applied = λ fresh. refl;
     })
-    gone points (ap (λ all. without_dead_groups nat_eq (taken_away nat_eq (world_of value) all)) (sym gone_is))
+    planned gone points same
+    (ap (λ all. without_dead_groups nat_eq (taken_away nat_eq (world_of value) all)) (sym planned_is))
 
 -- a mount and its descendants, with what propagation detaches with each of them: umount(2) with MNT_DETACH
 pub unmounted_lazily : (value : WorldValue) → IsHeld value → (name : TaskName) (number : ℕ)
     → Permits value name (ToUnmountLazily number)
-    → (gone : List ℕ) (points : List Point) → gone ≡ gone_lazily (world_of value) number
-    → LeavesBy (world_of value) gone (map point_seen points)
-    → All (FallsTo (world_of value) gone) (map point_seen points)
+    → (planned gone : List ℕ) (points : List Point) → IsPermutation planned gone
+    → planned ≡ gone_lazily (world_of value) number
+    → LeavesBy (world_of value) planned (map point_seen points)
+    → All (FallsTo (world_of value) planned) (map point_seen points)
     → (mounts : List MountEntry) (groups : Grouping) (filesystems : Filesystems)
     → GoTogether gone points (kept value.mounts value.filesystems) value.groups (kept mounts filesystems) groups
     → IsDone value name (ToUnmountLazily number)
     (record (remade value mounts filesystems value.tasks) { groups = groups })
-unmounted_lazily value whole name number permits gone points gone_is =
+unmounted_lazily value whole name number permits planned gone points same planned_is =
     let names = (permit_fits value whole name (ToUnmountLazily number) permits).names in
-    gone_together value whole name (ToUnmountLazily number) permits.task
+    gone_in_any_order value whole name (ToUnmountLazily number) permits.task
     (lazily_unmounted nat_eq (world_of value) number)
     (record {
       called = permits.called;
@@ -206,6 +262,6 @@ unmounted_lazily value whole name number permits gone points gone_is =
       named = attached_is_named value whole number (ap is_some names.0);
       applied = λ fresh. refl;
     })
-    gone points
+    planned gone points same
     (lazy_unmounts_are_at_once (world_of value) number whole.in_world.mounts
-    ∙ ap (λ all. without_dead_groups nat_eq (taken_away nat_eq (world_of value) all)) (sym gone_is))
+    ∙ ap (λ all. without_dead_groups nat_eq (taken_away nat_eq (world_of value) all)) (sym planned_is))

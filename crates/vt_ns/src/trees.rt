@@ -17,7 +17,7 @@ ghost use Rattle.vt_detach.specs.WorldValue.{world_of};
 use crate::world::World;
 use std::alloc::AllocError;
 use vt_attach::bound::bound_mounts;
-use vt_location::{Location, Mount, MountId, Propagation};
+use vt_location::{Location, Mount, MountId};
 use vt_looks::Look;
 use vt_spec::errors::{Deny, Rule};
 
@@ -130,10 +130,7 @@ impl World {
         ensures { result
             ≡ meant_mounts.is_unbindable (mount_numbered nat_eq (world_of self.now) (counted mount.count)).propagation }
     {
-        match self.mounts.get(mount) {
-            Some(mount) => mount.propagation == Propagation::Unbindable,
-            None => false,
-        }
+        self.mounts.is_unbindable(mount)
     }
 
     // Whether the mount point of a mount is a source or lies under it.

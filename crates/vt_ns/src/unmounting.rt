@@ -1,5 +1,6 @@
 //! Events in which mounts leave their namespaces: umount(2).
 ghost use Rattle.std.specs.Prelude.{◌≡◌, ◌&&◌, IfErr, OnErr, OnOk, map, nat_eq, not, true};
+ghost use Rattle.std.specs.List.Sorted.{IsPermutation};
 ghost use Rattle.vt_location.specs.MountValue.{propagation_of};
 ghost use Rattle.vt_location.specs.Numbers.{counted};
 ghost use Rattle.vt_mount.specs.MountsValue.{mounts_in};
@@ -67,7 +68,8 @@ impl World {
         ensures memory { IfErr result (λ deny. deny ≡ denial S5) }
         ensures err { OnErr result (self.new ≡ self.old) }
     {
-        let plan = vt_propagate::unmount(self.alloc, &self.mounts, &self.groups, mount)?;
+        let mut plan = vt_propagate::unmount(self.alloc, &self.mounts, &self.groups, mount)?;
+        newest_first(&mut plan);
         let mounts = &mut self.mounts;
         let groups = &mut self.groups;
         take_away(self.alloc, mounts, groups, &mut self.filesystems, &plan)?;
@@ -120,7 +122,9 @@ impl World {
         ensures memory { IfErr result (λ deny. deny ≡ denial S5) }
         ensures err { OnErr result (self.new ≡ self.old) }
     {
-        let plan = vt_propagate::unmount_lazily(self.alloc, &self.mounts, &self.groups, mount)?;
+        let mut plan =
+            vt_propagate::unmount_lazily(self.alloc, &self.mounts, &self.groups, mount)?;
+        newest_first(&mut plan);
         let mounts = &mut self.mounts;
         let groups = &mut self.groups;
         take_away(self.alloc, mounts, groups, &mut self.filesystems, &plan)?;
@@ -152,6 +156,14 @@ fn take_away(
     attach_planned(alloc, mounts, groups, filesystems, &moved)?;
     detach_together(mounts, groups, filesystems, &plan.gone);
     Ok(())
+}
+
+// The order in which mounts are detached, so that each list of mounts is shortened from its end.
+fn newest_first(plan: &mut Detachment)
+    ensures gone { IsPermutation plan.old.gone.items plan.new.gone.items }
+    ensures points { plan.new.points.items ≡ plan.old.points.items }
+{
+    plan.gone.sort_unstable_by_key(|id| u64::MAX - id.count);
 }
 
 // Whether none of these mounts is in a peer group.

@@ -1,4 +1,6 @@
 use Rattle.std.proofs.Common.{map, refl, subst, sym, List, ℕ}
+use Rattle.std.proofs.lemmas.List.Sorted.{IsPermutation-map}
+use Rattle.vt_location.specs.declared.numbers.MountId.{MountId as MountNumber}
 use Rattle.vt_location.specs.Numbers.{counted}
 use Rattle.vt_propagate.specs.Seen.{IsSeen}
 use Rattle.vt_spec.specs.Machine.Permits.Permit.{ToUnmountLazily}
@@ -7,6 +9,9 @@ use Rattle.vt_ns.specs.contracts.world.World.{the_view}
 use Rattle.vt_detach.specs.Events.{Becomes, Permits}
 use Rattle.vt_detach.specs.WorldValue.{WorldValue, entries_of, world_of}
 use Rattle.vt_detach.proofs.Staying.{IsDone}
+use Rattle.vt_detach.specs.Uses.{kept}
+use Rattle.vt_attach.specs.Planned.{Point}
+use Rattle.vt_ns.specs.Unmounting.{GoTogether}
 use Rattle.vt_ns.proofs.UnmountedEverywhere.{unmounted_lazily}
 use Rattle.vt_ns.proofs.world.World.unmount_lazily_everywhere.Goals as goal
 
@@ -27,13 +32,20 @@ done c =
     let world : World ℕ = world_of value in
     let seen : IsSeen world c.self.inside.mounts c.self.inside.groups =
     record { mounts = refl; groups = c.self.invariant.groups; living = c.self.invariant.in_world.mounts.groups } in
-    let gone : List ℕ = map (λ id. counted id.count) c.in_ok-plan.plan.gone.items in
+    let planned : List ℕ = map (λ id. counted id.count) c.in_ok-plan.plan.gone.items in
+    let gone : List ℕ = map (λ id. counted id.count) c.newest_first.new.plan.gone.items in
     unmounted_lazily value c.self.invariant c.args.name.now (counted c.args.mount.count)
     (subst (λ one. Permits one c.args.name.now (ToUnmountLazily (counted c.args.mount.count)))
     (sym c.self.view_is) c.requires)
-    gone c.in_ok-plan.plan.points.items (c.in_ok-plan.ensures.gone world seen c.self.invariant.in_world.mounts) (c.in_ok-plan.ensures.left world refl)
+    planned gone c.in_ok-plan.plan.points.items
+    (IsPermutation-map (λ (id : MountNumber). counted id.count)
+    c.in_ok-plan.plan.gone.items c.newest_first.new.plan.gone.items c.newest_first.ensures.gone)
+    (c.in_ok-plan.ensures.gone world seen c.self.invariant.in_world.mounts) (c.in_ok-plan.ensures.left world refl)
     (c.in_ok-plan.ensures.each world refl)
-    c.take_away.new.mounts c.take_away.new.groups c.take_away.new.filesystems c.in_ok-take_away.ensures.ok
+    c.take_away.new.mounts c.take_away.new.groups c.take_away.new.filesystems
+    (subst (λ (points : List Point). GoTogether gone points (kept c.self.inside.mounts c.self.inside.filesystems)
+    c.self.inside.groups (kept c.take_away.new.mounts c.take_away.new.filesystems) c.take_away.new.groups)
+    c.newest_first.ensures.points c.in_ok-take_away.ensures.ok)
 
 pub invariant_of-self-2 : goal.invariant_of-self-2
 invariant_of-self-2 c = (done c).held
