@@ -344,7 +344,7 @@ impl Index {
         self.part(lost, heir, None);
     }
 
-    // A group has ended that has an heir, whose all is that was below it.
+    // A group has ended that has an heir, to which all that was below it passes.
     fn pass_on(&mut self, lost: GroupId, heir: GroupId)
         ensures mounts { (mount : MountNumber) (was kind : TypeKept) → is_lower self.old lost heir ≡ true
             → was ≢ SharedIn lost → kind_handed lost (Some heir) was ≡ Some kind

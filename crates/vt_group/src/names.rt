@@ -121,14 +121,14 @@ impl Names {
         ensures lowers { (lower at : GroupNumber) → is_under same_group self.old lowers.now lower at ≡ true
             → is_under same_group self.new lowers.now lower at ≡ true }
     {
-        if self.keeps_names(group, name, mounts, lowers) {
+        if self.notes_unused(group, name, mounts, lowers) {
             return;
         }
         self.prune(group, mounts, lowers);
     }
 
-    // Whether the names of a group stay, once one was taken out from under this name.
-    fn keeps_names(
+    // Notes that one was taken out from under a name of a group. Returns whether the names of the group stay.
+    fn notes_unused(
         &mut self,
         group: GroupId,
         name: Option<GroupId>,

@@ -33,7 +33,7 @@ impl<T: Eq + Hash + Copy + Clone + Drop> Places<T> {
         self.names.get(&one).copied()
     }
 
-    /// One is put under a name. If it is under another one too, it is first taken out there.
+    /// One is put under a name. If it is under another name too, that name is kept: it is taken out there first.
     pub(crate) fn put(&mut self, one: T, name: GroupId) -> Result<(), AllocError> {
         if self.names.contains_key(&one) {
             return Ok(());

@@ -31,8 +31,8 @@ impl Unused {
         Ok(())
     }
 
-    /// One of so many names of a group fell out of use. Whether half of them may have, so that it is worth a pass over
-    /// them: the counting begins anew then. It does not allocate.
+    /// Counts that one of this many names of a group fell out of use. Returns whether at least half may have, so that a
+    /// pass over them is worth it; counting then restarts. It does not allocate.
     pub(crate) fn add(&mut self, group: GroupId, names: usize) -> bool {
         let Some(count) = self.counts.get_mut(&group) else {
             return true;

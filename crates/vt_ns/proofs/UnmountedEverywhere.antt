@@ -185,7 +185,7 @@ taken_alike : (world : World ℕ) (one other : List ℕ) → IsPermutation one o
 taken_alike world one other same =
     ap (λ (goes : ℕ → Bool). regrouped nat_eq (with_mounts world
     (map (λ (mount : Mount ℕ). if goes mount.number then detached mount
-        else record mount { mount_point = option_map (left_where world goes) mount.mount_point }) world.mounts)))
+    else record mount { mount_point = option_map (left_where world goes) mount.mount_point }) world.mounts)))
     (goes_alike one other same)
 
 leaves_alike : (world : World ℕ) (one other : List ℕ) (points : List (ℕ × Location ℕ)) → IsPermutation one other

@@ -122,8 +122,7 @@ impl World {
         ensures memory { IfErr result (λ deny. deny ≡ denial S5) }
         ensures err { OnErr result (self.new ≡ self.old) }
     {
-        let mut plan =
-            vt_propagate::unmount_lazily(self.alloc, &self.mounts, &self.groups, mount)?;
+        let mut plan = vt_propagate::unmount_lazily(self.alloc, &self.mounts, &self.groups, mount)?;
         newest_first(&mut plan);
         let mounts = &mut self.mounts;
         let groups = &mut self.groups;

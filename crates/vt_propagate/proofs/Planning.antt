@@ -19,8 +19,8 @@ use Rattle.vt_location.specs.MountValue.{mount_of}
 use Rattle.vt_location.specs.declared.mounts.Mount.{Mount as Kept}
 use Rattle.vt_mount.specs.MountsValue.{MountEntry, mounts_in}
 use Rattle.vt_propagate.specs.declared.numbering.Copying.{Copying}
-use Rattle.vt_propagate.specs.Copying.{above_of, as_kept, copied, counts_from, graft_seen, heir_of, image_seen, made, nearest_part}
-use Rattle.vt_propagate.specs.Copying.{parts_seen, supply, tree_seen, twig, type_by_heir}
+use Rattle.vt_propagate.specs.Copying.{above_of, as_kept, copied, counts_from, graft_seen, nearest_master_of, image_seen, made, nearest_part}
+use Rattle.vt_propagate.specs.Copying.{parts_seen, supply, tree_seen, twig, type_by_master}
 use Rattle.vt_propagate.specs.Planned.{planned_copies, planned_groups}
 use Rattle.vt_propagate.specs.Seen.{IsSeen}
 use Rattle.vt_propagate.proofs.Found.{numbered}
@@ -62,13 +62,13 @@ module _ (world : World ℕ) (copying : Copying) (origin : Mount ℕ) where
       nearest_image nat_eq world (supply copying) (parts_seen copying) (mount_of copying.destination)
       (twig copying origin) master
 
-  type_by_heir-heir_of : (kind : Propagation ℕ) → type_by_heir copying (heir_of world copying kind) origin kind
+  type_by_master-nearest_master_of : (kind : Propagation ℕ) → type_by_master copying (nearest_master_of world copying kind) origin kind
       ≡ copy_type nat_eq world (supply copying) (parts_seen copying) (mount_of copying.destination)
       (twig copying origin) kind
-  type_by_heir-heir_of (Shared group) = refl
-  type_by_heir-heir_of (Slave master) = refl
-  type_by_heir-heir_of Private = refl
-  type_by_heir-heir_of Unbindable = refl
+  type_by_master-nearest_master_of (Shared group) = refl
+  type_by_master-nearest_master_of (Slave master) = refl
+  type_by_master-nearest_master_of Private = refl
+  type_by_master-nearest_master_of Unbindable = refl
 
   -- the group is that of the destination's mount, or not
   abbrev formed_if : Bool → ℕ → Option ℕ → Option (ℕ × Option ℕ)
@@ -212,7 +212,7 @@ module _ (world : World ℕ) (kept : List MountEntry) (grouping : Grouping) (see
           mount_point = Some (copy_place nat_eq (supply copying) (graft_seen copying) part.number origin);
           propagation =
               if is_destination nat_eq (graft_seen copying) part.number then (twig copying origin).propagation
-              else (type_by_heir-heir_of (as_kept kept grouping) copying origin part.propagation
+              else (type_by_master-nearest_master_of (as_kept kept grouping) copying origin part.propagation
               ∙ type_alike (supply copying) (parts_seen copying) (mount_of copying.destination)
               (twig copying origin) part.propagation life) i;
         })

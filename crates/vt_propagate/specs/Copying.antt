@@ -72,12 +72,12 @@ abbrev pub nearest_part : World ℕ → Copying → Option ℕ → Option ℕ
 nearest_part world copying None = None
 nearest_part world copying (Some group) = find (has_members nat_eq (parts_seen copying)) (groups_up world group)
 
--- the heir of a receiver of this type: of a slave, the nearest group with a part, from its master up
-abbrev pub heir_of : World ℕ → Copying → Propagation ℕ → Option ℕ
-heir_of world copying (Shared group) = None
-heir_of world copying (Slave master) = nearest_part world copying (Some master)
-heir_of world copying Private = None
-heir_of world copying Unbindable = None
+-- the nearest master of a receiver of this type: of a slave, the nearest group with a part, from its master up
+abbrev pub nearest_master_of : World ℕ → Copying → Propagation ℕ → Option ℕ
+nearest_master_of world copying (Shared group) = None
+nearest_master_of world copying (Slave master) = nearest_part world copying (Some master)
+nearest_master_of world copying Private = None
+nearest_master_of world copying Unbindable = None
 
 -- the group above the new ones at a part of this type: the nearest with a part, from the master of its group up
 abbrev pub above_of : World ℕ → Copying → Propagation ℕ → Option ℕ
@@ -88,27 +88,27 @@ above_of world copying (Slave master) = None
 above_of world copying Private = None
 above_of world copying Unbindable = None
 
--- the type of the copy of a mount at a receiver of this type, with its heir
-abbrev pub type_by_heir : Copying → Option ℕ → Mount ℕ → Propagation ℕ → Propagation ℕ
-type_by_heir copying heir origin (Shared group) = Shared (image_seen copying origin group)
-type_by_heir copying heir origin (Slave master) = slave_of_heir (option_map (image_seen copying origin) heir)
-type_by_heir copying heir origin Private = Private
-type_by_heir copying heir origin Unbindable = Unbindable
+-- the type of the copy of a mount at a receiver of this type, with its nearest master
+abbrev pub type_by_master : Copying → Option ℕ → Mount ℕ → Propagation ℕ → Propagation ℕ
+type_by_master copying nearest origin (Shared group) = Shared (image_seen copying origin group)
+type_by_master copying nearest origin (Slave master) = slave_of_heir (option_map (image_seen copying origin) nearest)
+type_by_master copying nearest origin Private = Private
+type_by_master copying nearest origin Unbindable = Unbindable
 
--- a copy at a part with this heir
+-- a copy at a part with this nearest master
 abbrev pub copied_by : Copying → Option ℕ → Mount ℕ → Mount ℕ → Mount ℕ
-copied_by copying heir part origin = record origin {
+copied_by copying nearest part origin = record origin {
   number = copy_number nat_eq (supply copying) (graft_seen copying) part.number origin.number;
   namespace = part.namespace;
   mount_point = Some (copy_place nat_eq (supply copying) (graft_seen copying) part.number origin);
   propagation =
       if is_destination nat_eq (graft_seen copying) part.number then (twig copying origin).propagation
-      else type_by_heir copying heir origin part.propagation;
+      else type_by_master copying nearest origin part.propagation;
 }
 
 -- a copy at a part
 abbrev pub copied : World ℕ → Copying → Mount ℕ → Mount ℕ → Mount ℕ
-copied world copying part origin = copied_by copying (heir_of world copying part.propagation) part origin
+copied world copying part origin = copied_by copying (nearest_master_of world copying part.propagation) part origin
 
 -- the new group of a copy at a part with this group above, if it forms one
 abbrev pub made_by : Copying → Option ℕ → Mount ℕ → Mount ℕ → Option (ℕ × Option ℕ)

@@ -149,25 +149,25 @@ impl<'a> Copying<'a> {
         ensures { OnOk result (map mount_of copies.new.items ≡ map mount_of copies.old.items
             ++ map (copied (as_kept mounts.now groups.now) self.now (mount_of part.now)) (tree_seen self.now)) }
     {
-        let heir = self.heir(mounts, groups, part.propagation);
+        let master = self.nearest_master(mounts, groups, part.propagation);
         for origin in self.graft.tree {
-            copies.push(self.copy(part, heir, origin))?;
+            copies.push(self.copy(part, master, origin))?;
         }
         Ok(())
     }
 
-    // The copy of a mount at a part with this heir.
-    fn copy(&self, part: &Mount, heir: Option<GroupId>, origin: &Mount) -> Mount
+    // The copy of a mount at a part with this nearest master.
+    fn copy(&self, part: &Mount, master: Option<GroupId>, origin: &Mount) -> Mount
         requires ready { IsReady self.now }
         requires parts { 0 < length self.now.graft.parts.now }
         requires tree { 0 < length self.now.graft.tree.now }
         ensures { mount_of result
-            ≡ copied_by self.now (option_map group_number heir) (mount_of part.now) (mount_of origin.now) }
+            ≡ copied_by self.now (option_map group_number master) (mount_of part.now) (mount_of origin.now) }
     {
         let propagation = if part.number == self.graft.place.mount {
             self.type_at(origin)
         } else {
-            self.copy_type(heir, origin, part.propagation)
+            self.copy_type(master, origin, part.propagation)
         };
         Mount {
             number: self.copy_number(part.number, origin.number),

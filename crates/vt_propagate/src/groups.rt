@@ -5,8 +5,8 @@ ghost use Rattle.vt_spec.specs.Machine.Receives.{groups_up, has_members};
 ghost use Rattle.vt_group.specs.Steps.{group_number};
 ghost use Rattle.vt_location.specs.MountValue.{mount_of, propagation_of};
 ghost use Rattle.vt_location.specs.Numbers.{counted};
-ghost use Rattle.vt_propagate.specs.Copying.{IsReady, above_of, as_kept, heir_of, image_seen, parts_seen, supply, twig};
-ghost use Rattle.vt_propagate.specs.Copying.{type_by_heir};
+ghost use Rattle.vt_propagate.specs.Copying.{IsReady, above_of, as_kept, nearest_master_of, image_seen, parts_seen, supply, twig};
+ghost use Rattle.vt_propagate.specs.Copying.{type_by_master};
 
 use crate::numbering::{Copying, is_member};
 use vt_group::Groups;
@@ -60,10 +60,10 @@ impl<'a> Copying<'a> {
         Some(self.image(origin, group?))
     }
 
-    /// The type of the copy of a mount at a receiver of this type, which has this heir.
+    /// The type of the copy of a mount at a receiver of this type, which has this nearest master.
     pub(crate) fn copy_type(
         &self,
-        heir: Option<GroupId>,
+        nearest: Option<GroupId>,
         origin: &Mount,
         receiver: Propagation,
     ) -> Propagation
@@ -71,11 +71,11 @@ impl<'a> Copying<'a> {
         requires parts { 0 < length self.now.graft.parts.now }
         requires tree { 0 < length self.now.graft.tree.now }
         ensures { propagation_of result
-            ≡ type_by_heir self.now (option_map group_number heir) (mount_of origin.now) (propagation_of receiver) }
+            ≡ type_by_master self.now (option_map group_number nearest) (mount_of origin.now) (propagation_of receiver) }
     {
         match receiver {
             Propagation::Shared(group) => Propagation::Shared(self.image(origin, group)),
-            Propagation::Slave(_) => match self.image_of(origin, heir) {
+            Propagation::Slave(_) => match self.image_of(origin, nearest) {
                 Some(image) => Propagation::Slave(image),
                 None => Propagation::Private,
             },
@@ -84,8 +84,8 @@ impl<'a> Copying<'a> {
         }
     }
 
-    /// The heir of a receiver of this type: of a slave, the nearest group that has a part, from its master up.
-    pub(crate) fn heir(
+    /// The nearest master of a receiver of this type: of a slave, the nearest group that has a part, from its master up.
+    pub(crate) fn nearest_master(
         &self,
         mounts: &Mounts,
         groups: &Groups,
@@ -93,7 +93,7 @@ impl<'a> Copying<'a> {
     ) -> Option<GroupId>
         requires { IsReady self.now }
         ensures { option_map group_number result
-            ≡ heir_of (as_kept mounts.now groups.now) self.now (propagation_of receiver) }
+            ≡ nearest_master_of (as_kept mounts.now groups.now) self.now (propagation_of receiver) }
     {
         match receiver {
             Propagation::Slave(master) => self.nearest(mounts, groups, master),

@@ -65,7 +65,7 @@ pub(crate) fn receivers_of(
 }
 
 // A mount, and those of its receivers that take part. Most receivers have the root of the mount itself: whether that
-// shows the destination is asked once.
+// shows the destination is checked once.
 fn with_receivers<R: Reach>(
     alloc: Global,
     mounts: &Mounts,
