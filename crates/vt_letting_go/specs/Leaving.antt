@@ -73,8 +73,8 @@ StayingKeepsAll =
 abbrev pub comes_nowhere : World ℕ → List (Task ℕ) → Bool
 comes_nowhere world tasks = list_all (is_location_among (all_locations world)) (all_locations (with_tasks world tasks))
 
--- Where tasks only leave places, a sweep in between changes nothing: places may be left one by one, each with a sweep,
--- or all at once, with one.
+-- Where tasks only leave locations, a sweep before that makes no difference after the sweep that follows: locations may
+-- be left one by one, each with a sweep, or all at once, with one.
 abbrev pub OneSweepForSeveral : Type 0
 OneSweepForSeveral =
     (world : World ℕ) (tasks : List (Task ℕ)) → IsPlain world → HasTrees world → MountsStand world

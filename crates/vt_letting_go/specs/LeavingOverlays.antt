@@ -55,7 +55,7 @@ StayingKeepsOverlays =
     (world : World ℕ) (tasks : List (Task ℕ)) → IsSettled world → only_these_are_left world tasks [] ≡ true
     → settled nat_eq (with_tasks world tasks) ≡ with_tasks world tasks
 
--- Where tasks only leave places, a sweep in between changes nothing.
+-- Where tasks only leave locations, a sweep before that makes no difference after the sweep that follows.
 abbrev pub OneSweepForSeveralWithOverlays : Type 0
 OneSweepForSeveralWithOverlays =
     (world : World ℕ) (tasks : List (Task ℕ)) → HasTrees world → UppersArePlain world → RealsAreThere world

@@ -55,7 +55,8 @@ OneSweepForAllMountsWithOverlays =
 
 -- The ends of namespaces
 
--- Where tasks only leave places, and namespaces end that have no task then, a sweep in between changes nothing.
+-- Where tasks only leave locations, and namespaces end that have no task then, a sweep before that makes no difference
+-- after the sweep that follows.
 abbrev pub OneSweepForEnds : Type 0
 OneSweepForEnds =
     (world : World ℕ) (tasks : List (Task ℕ)) → IsPlain world → HasTrees world → MountInvariants nat_eq world

@@ -1,4 +1,4 @@
--- What a world is by its conditions.
+-- What a world has by its invariants.
 use Rattle.std.specs.Prelude.{nat_eq, ℕ}
 use Rattle.vt_spec.specs.Machine.World.{World}
 use Rattle.vt_spec.specs.Machine.Invariants.{IsWorld}
@@ -9,7 +9,7 @@ use Rattle.vt_letting_go.specs.LeavingOverlays.{IsSettled}
 use Rattle.vt_letting_go.specs.OneByOne.{IsPlain}
 use Rattle.vt_letting_go.specs.Overlays.{RealsAreThere}
 
--- The conditions of a world have what the laws of the sweep ask of its trees, its mounts and its overlays.
+-- The invariants of a world have what the laws of the sweep ask of its trees, its mounts and its overlays.
 abbrev pub WorldsHaveTrees : Type 0
 WorldsHaveTrees = (world : World ℕ) → IsWorld nat_eq world → HasTrees world
 

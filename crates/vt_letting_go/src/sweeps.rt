@@ -58,7 +58,7 @@ pub fn things_are_looked_up()
     ensures group { GroupIsLookedUp }
 {}
 
-/// The conditions of a world have what the laws of the sweep ask.
+/// The invariants of a world have what the laws of the sweep ask.
 pub fn worlds_are_fit_to_be_swept()
     ensures trees { WorldsHaveTrees }
     ensures mounts { MountsOfWorldsStand }

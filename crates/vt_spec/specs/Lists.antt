@@ -7,7 +7,7 @@ abbrev pub then_some : {A B : Type 0} → Option A → (A → Option B) → Opti
 then_some None next = None
 then_some (Some a) next = next a
 
--- the first of two that is there
+-- the first value that exists
 abbrev pub or_else : {A : Type 0} → Option A → Option A → Option A
 or_else (Some a) other = Some a
 or_else None other = other
@@ -67,7 +67,7 @@ abbrev pub any_pair : {A : Type 0} → (A → A → Bool) → List A → Bool
 any_pair test [] = false
 any_pair test (a ∷ rest) = list_any (test a) rest || any_pair test rest
 
--- without those that were there before
+-- the list without repetitions
 abbrev pub each_once : {A : Type 0} → (A → A → Bool) → List A → List A
 each_once eq [] = []
 each_once eq (a ∷ rest) = a ∷ filter (λ b. not (eq a b)) (each_once eq rest)

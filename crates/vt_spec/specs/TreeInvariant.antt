@@ -1,4 +1,4 @@
--- The conditions of a tree: path_resolution(7), and link(2) on directories.
+-- The invariants of a tree: path_resolution(7), and link(2) on directories.
 use Rattle.std.specs.Prelude.{◌≡◌, ◌≢◌, ℕ, true, List, [], ◌∷◌, Option, Some, option_and_then, is_some}
 use Rattle.std.specs.FinMap.Entries.{is_sorted}
 use Rattle.vt_spec.specs.Tree.{Tree, name_cmp, entry_named, entries_in, parent_in, is_directory_node}
@@ -30,7 +30,7 @@ module _ {N : Type 0} where
   HasOwnParents tree = (number : N) → IsDirectory tree number → ¬ (HasName tree number)
       → parent_in number (tree.node number) ≡ number
 
-  -- the conditions of a tree
+  -- the invariants of a tree
   pub record IsTree (tree : Tree N) : Type 0 where
     -- the root is a directory, its own parent, and no entry leads to it
     pub root_directory : IsDirectory tree tree.root

@@ -76,7 +76,7 @@ ChangesKeepOwnParents =
     → IsTree files.tree → HasOwnParents files.tree → IsProper files.tree change
     → HasOwnParents (changed nat_eq files change).tree
 
--- The conditions of a filesystem's tree: it is a tree, with the numbers of its inodes beside it.
+-- The invariants of a filesystem's tree: it is a tree, with the numbers of its inodes beside it.
 pub record IsFileTree (files : FileTree ℕ) : Type 0 where
   pub tree : IsTree files.tree
   pub numbers : ListsNumbers nat_eq files

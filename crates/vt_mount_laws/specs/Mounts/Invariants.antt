@@ -1,4 +1,4 @@
--- Conditions of a world that changes of mounts keep: mount_namespaces(7), sharedsubtree.
+-- Invariants of a world that changes of mounts keep: mount_namespaces(7), sharedsubtree.
 use Rattle.std.specs.List.{list_all}
 use Rattle.std.specs.Prelude.{Bool, List, false, true, ℕ, nat_eq, ◌≡◌}
 use Rattle.vt_spec.specs.Machine.Attach.{attach}
@@ -19,7 +19,7 @@ use Rattle.vt_mount_laws.specs.Mounts.Places.{OneMountAPlace}
 use Rattle.vt_mount_laws.specs.Mounts.Receivers.{GroupsLive}
 use Rattle.vt_mount_laws.specs.Mounts.Unmounting.{PlacesEnd}
 
--- The conditions
+-- The invariants
 
 -- each mount has a number of its own
 abbrev pub OneNumberEach : World ℕ → Type 0
@@ -38,55 +38,55 @@ pub record AreApart (world : World ℕ) : Type 0 where
 abbrev pub NowhereOrAttached : World ℕ → Type 0
 NowhereOrAttached world = list_all is_nowhere_or_attached world.mounts ≡ true
 
--- The changes, each of which keeps a condition
+-- The changes, each of which keeps an invariant
 
 -- an unmount: umount(2)
 abbrev pub KeptByUnmount : (World ℕ → Type 0) → Type 0
-KeptByUnmount Condition = (world : World ℕ) (one : ℕ) → Condition world → Condition (unmounted nat_eq world one)
+KeptByUnmount Invariant = (world : World ℕ) (one : ℕ) → Invariant world → Invariant (unmounted nat_eq world one)
 
 -- a lazy unmount: umount(2) with MNT_DETACH
 abbrev pub KeptByLazyUnmount : (World ℕ → Type 0) → Type 0
-KeptByLazyUnmount Condition = (world : World ℕ) (one : ℕ) → Condition world
-    → Condition (lazily_unmounted nat_eq world one)
+KeptByLazyUnmount Invariant = (world : World ℕ) (one : ℕ) → Invariant world
+    → Invariant (lazily_unmounted nat_eq world one)
 
 -- the end of any mounts: of those of an unmount, of those on a removed directory, of those of a namespace that ends
 abbrev pub KeptByTakingAway : (World ℕ → Type 0) → Type 0
-KeptByTakingAway Condition = (world : World ℕ) (gone : List ℕ) → Condition world
-    → Condition (taken_away nat_eq world gone)
+KeptByTakingAway Invariant = (world : World ℕ) (gone : List ℕ) → Invariant world
+    → Invariant (taken_away nat_eq world gone)
 
 -- a namespace's end
 abbrev pub KeptByEndedNamespaces : (World ℕ → Type 0) → Type 0
-KeptByEndedNamespaces Condition = (world : World ℕ) → Condition world → Condition (namespaces_ended nat_eq world)
+KeptByEndedNamespaces Invariant = (world : World ℕ) → Invariant world → Invariant (namespaces_ended nat_eq world)
 
 -- the inheritance of groups without members
 abbrev pub KeptByInheritance : (World ℕ → Type 0) → Type 0
-KeptByInheritance Condition = (world : World ℕ) → Condition world → Condition (regrouped nat_eq world)
+KeptByInheritance Invariant = (world : World ℕ) → Invariant world → Invariant (regrouped nat_eq world)
 
 -- a change of type, of one mount or of a tree
 abbrev pub KeptByType : (World ℕ → Type 0) → Type 0
-KeptByType Condition =
-    (world : World ℕ) (fresh : Fresh ℕ) (one : ℕ) (word : TypeWord) (recursive : Bool) → Condition world
-    → Condition (with_type nat_eq fresh world one word recursive)
+KeptByType Invariant =
+    (world : World ℕ) (fresh : Fresh ℕ) (one : ℕ) (word : TypeWord) (recursive : Bool) → Invariant world
+    → Invariant (with_type nat_eq fresh world one word recursive)
 
 -- a change of flags
 abbrev pub KeptByFlags : (World ℕ → Type 0) → Type 0
-KeptByFlags Condition = (world : World ℕ) (here : Location ℕ) (flags : MountFlags) → Condition world
-    → Condition (with_flags nat_eq world here flags)
+KeptByFlags Invariant = (world : World ℕ) (here : Location ℕ) (flags : MountFlags) → Invariant world
+    → Invariant (with_flags nat_eq world here flags)
 
 -- a pivot of the root: pivot_root(2)
 abbrev pub KeptByPivot : (World ℕ → Type 0) → Type 0
-KeptByPivot Condition =
-    (world : World ℕ) (namespace : ℕ) (root new : Mount ℕ) (put : Location ℕ) → Condition world
-    → Condition (pivoted nat_eq world namespace root new put)
+KeptByPivot Invariant =
+    (world : World ℕ) (namespace : ℕ) (root new : Mount ℕ) (put : Location ℕ) → Invariant world
+    → Invariant (pivoted nat_eq world namespace root new put)
 
 -- a copy of a namespace: unshare(2)
 abbrev pub KeptByUnshare : (World ℕ → Type 0) → Type 0
-KeptByUnshare Condition = (world : World ℕ) (fresh : Fresh ℕ) (task : Task ℕ) → Condition world
-    → Condition (unshared nat_eq world fresh task)
+KeptByUnshare Invariant = (world : World ℕ) (fresh : Fresh ℕ) (task : Task ℕ) → Invariant world
+    → Invariant (unshared nat_eq world fresh task)
 
 -- the end of what nothing uses
 abbrev pub KeptBySettling : (World ℕ → Type 0) → Type 0
-KeptBySettling Condition = (world : World ℕ) → Condition world → Condition (settled nat_eq world)
+KeptBySettling Invariant = (world : World ℕ) → Invariant world → Invariant (settled nat_eq world)
 
 -- Mounts outside every namespace
 

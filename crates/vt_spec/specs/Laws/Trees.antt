@@ -1,4 +1,4 @@
--- Laws of trees: each change keeps the conditions of a tree.
+-- Laws of trees: each change keeps the invariants of a tree.
 use Rattle.std.specs.Prelude.{◌≡◌, ℕ, nat_eq, false, ◌⊎◌, List, None}
 use Rattle.vt_spec.specs.declared.attributes.Attr.{Attr}
 use Rattle.vt_spec.specs.Rights.{is_directory}

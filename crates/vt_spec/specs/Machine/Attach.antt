@@ -43,7 +43,8 @@ module _ {N : Type 0} where
   type_on_shared new Private = Shared new
   type_on_shared new Unbindable = Shared new
 
-  -- at a destination that is not shared a mount keeps its type; at a shared one it joins the group made for it there
+  -- At a destination that is not shared a mount keeps its type. At a shared one a shared mount keeps its group, and any
+  -- other joins the group made for it there.
   abbrev pub type_at : Copies N → Option N → Mount N → Propagation N
   type_at new None mount = mount.propagation
   type_at new (Some group) mount = type_on_shared (new.image group mount.number) mount.propagation

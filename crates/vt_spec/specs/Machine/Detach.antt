@@ -38,8 +38,6 @@ module _ {N : Type 0} (eq : N → N → Bool) where
       then_some (child_at eq world.mounts (record { mount = receiver.number; node = node }))
       (λ child. when (may_go world child) child)
 
-  -- The numbers of the mounts that one unmount event detaches
-
   -- The numbers of the mounts that one unmount event detaches: where the parent is shared, the mount with the same
   -- mount point at each receiver of the parent's group; else the mount alone (sharedsubtree, "Unmount semantics").
   abbrev pub going_from : World N → Mount N → Location N → Bool → List N

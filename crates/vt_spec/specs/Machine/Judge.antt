@@ -52,7 +52,7 @@ module _ {N : Type 0} where
   abbrev pub open_new_permit : Task N → Place N → Access → ℕ → Permit N
   open_new_permit task place access mode = ToOpenNew place.parent (name_of place.last) (new_file task mode []) access
 
-  -- what attaches mounts is granted if no namespace gets too many: ENOSPC of mount(2)
+  -- the permit of a call that attaches mounts; M9 fails if `overfills` holds of it: ENOSPC of mount(2)
   abbrev pub attach_permit : (Bool → Rules) → (Permit N → Bool) → Permit N → Judgement N
   attach_permit rules overfills permit = unless (rules (overfills permit)) (Ok permit)
 
@@ -291,7 +291,7 @@ module _ {N : Type 0} (eq : N → N → Bool) where
       (and_then (walk_end (directory_walk eq looks task path)) (λ here.
       unless (enter_rules looks task here.location) (Ok (ToSetRoot here.location))))
 
-  -- Mount calls; of what attaches mounts it is given whether it leaves a namespace with too many
+  -- Mount calls. `overfills` says whether a permit would leave a namespace with over 4,096 mounts.
 
   -- mount(2) of a tmpfs
   unfoldable pub mount_plain_permit : Looks N → (Permit N → Bool) → Task N → List ℕ → MountFlags → Judgement N
@@ -300,7 +300,7 @@ module _ {N : Type 0} (eq : N → N → Bool) where
       (and_then (walk_end (destination_walk eq looks task path)) (λ here.
       attach_permit (new_mount_rules eq looks task here.location) overfills (ToMountPlain here.location flags)))
 
-  -- that, with the destination walked; options that are no list of options name no layers: O2
+  -- mount(2) of an overlay at a destination; ill-formed options are O2
   abbrev pub overlay_permit_by : Looks N → (Permit N → Bool) → Task N → Location N → Option OverlayWords → MountFlags
       → Judgement N
   overlay_permit_by looks overfills task place None flags = Err (denial O2)

@@ -65,7 +65,8 @@ pub data Permit (N : Type 0) : Type 0 where
   ToUnmountLazily : (mount : N) → Permit N
   -- other flags of a mount: mount(2) with MS_REMOUNT and MS_BIND
   ToSetFlags : (mount : N) → (flags : MountFlags) → Permit N
-  -- another propagation type of a mount, or of its descendants too: mount(2) with MS_SHARED and its kin, and MS_REC
+  -- another propagation type of a mount, or of its descendants too: mount(2) with MS_SHARED, MS_SLAVE,
+  -- MS_PRIVATE or MS_UNBINDABLE, and MS_REC
   ToSetType : (mount : N) → (word : TypeWord) → (recursive : Bool) → Permit N
   -- a mount becomes the root mount, and the old root mount gets a mount point under it: pivot_root(2)
   ToPivot : (new : N) → (put : Location N) → Permit N

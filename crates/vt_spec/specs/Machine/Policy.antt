@@ -142,7 +142,7 @@ module _ {N : Type 0} (eq : N → N → Bool) where
     change = raised after_call.change;
   }
 
-  -- the last step: a call that changed the world leaves nothing that nothing uses, and raises change numbers
+  -- after a call that changed the world, what nothing uses is removed and change numbers are raised
   abbrev pub finished_by : Bool → World N → TaskName → List N → Outcome N → Outcome N
   finished_by true before name changed outcome = outcome
   finished_by false before name changed outcome =
@@ -153,7 +153,7 @@ module _ {N : Type 0} (eq : N → N → Bool) where
   finished before name call changed outcome =
       finished_by (only_looks call || not (is_ok outcome.answer)) before name changed outcome
 
-  -- the policy: a call of a task that is not there is refused, and changes nothing
+  -- the policy; S2 if no task has this name
   abbrev pub policy : Fresh N → World N → TaskName → Call → Outcome N
   policy fresh world name call =
       after world (ok_or (task_called world name) (denial S2)) (λ task.

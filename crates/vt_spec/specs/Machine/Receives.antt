@@ -57,11 +57,11 @@ module _ {N : Type 0} (eq : N → N → Bool) where
   inherited world Private = Private
   inherited world Unbindable = Unbindable
 
-  -- a mount with its type after that
+  -- the mount with its type after regrouping
   abbrev pub inheriting : World N → Mount N → Mount N
   inheriting world mount = record mount { propagation = inherited world mount.propagation }
 
-  -- there is a group, and it has no member
+  -- a group is given, and it has no member
   abbrev pub is_lost_group : World N → Option N → Bool
   is_lost_group world group = holds_of (λ number. not (has_members world.mounts number)) group
 
@@ -71,7 +71,7 @@ module _ {N : Type 0} (eq : N → N → Bool) where
       is_lost_group world (source_of mount.propagation)
       || is_lost_group world (then_some (source_of mount.propagation) world.master)
 
-  -- that world, if some mount lost a group; else the world as it is
+  -- the regrouped world if some mount lost a group, else the world unchanged
   abbrev pub regrouped_by : Bool → World N → World N
   regrouped_by false world = world
   regrouped_by true world = record world {

@@ -54,7 +54,7 @@ module _ {N : Type 0} where
       ++ map (λ namespace. namespace.number) world.namespaces
 
 module _ {N : Type 0} (eq : N → N → Bool) where
-  -- a request is the policy's, or a directive; a line that is none is S1
+  -- a call goes to the policy and a directive to `directed`; any other line is S1
   abbrev pub requested : World N → Option Request → Fresh N → Outcome N
   requested world None fresh = denied world (denial S1)
   requested world (Some (Calling task call)) fresh = policy eq fresh world task call
@@ -77,7 +77,7 @@ module _ {N : Type 0} (eq : N → N → Bool) where
   line_step grammar world line fresh =
       line_step_by (nat_lt longest_line (length line)) (is_silent line) grammar world line fresh
 
-  -- a supply serves where its numbers are not in use, and each is another one
+  -- a supply may serve a line if none of its numbers is in use and no two are equal
   pub record Serves (world : World N) (fresh : Fresh N) : Type 0 where
     pub unused : (k : ℕ) → is_among eq (fresh k) (numbers_in_use world) ≡ false
     pub apart : (j k : ℕ) → eq (fresh j) (fresh k) ≡ true → j ≡ k

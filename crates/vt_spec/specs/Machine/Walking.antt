@@ -294,7 +294,7 @@ module _ {N : Type 0} (eq : N → N → Bool) where
       then_walk (path_walked looks task path) (λ here.
       walk_unless here.steps ((not (is_directory_at looks here.location), W3) ∷ []) here)
 
-  -- all words but the last walked, and that one at hand
+  -- the walk of all words but the last
   abbrev pub front_walked : Looks N → Task N → Follow N → Here N → List (List ℕ) → Result (Here N) (Stop N)
   front_walked looks task follow here [] = Ok here
   front_walked looks task follow here (word ∷ front) = words_walked looks task follow here front
@@ -306,7 +306,7 @@ module _ {N : Type 0} (eq : N → N → Bool) where
   last_walked looks task here DotDot = word_walked looks task here DotDot
   last_walked looks task here (Named name) = word_walked looks task here (Named name)
 
-  -- that walk, by whether a slash follows the last word
+  -- the two cases of `symlink_walk`: whether a slash follows the last word
   abbrev pub symlink_walk_by : Bool → Looks N → Task N → List ℕ → Result (Here N) (Stop N)
   symlink_walk_by true looks task path = object_walk looks task path
   symlink_walk_by false looks task path =
@@ -376,7 +376,7 @@ module _ {N : Type 0} (eq : N → N → Bool) where
   new_walk looks task path =
       then_walk (place_walk looks task path) (λ place. walk_unless place.steps (new_name_rules looks place) place)
 
-  -- as that, but a slash behind a missing name is refused: symlink(2), mknod(2), link(2)
+  -- as `new_walk`; a slash behind a missing name is W6: symlink(2), mknod(2), link(2)
   abbrev pub new_leaf_walk : Looks N → Task N → List ℕ → Result (Place N) (Stop N)
   new_leaf_walk looks task path =
       then_walk (new_walk looks task path) (λ place.
@@ -392,7 +392,7 @@ module _ {N : Type 0} (eq : N → N → Bool) where
   abbrev pub is_directory_there : Looks N → Place N → Bool
   is_directory_there looks place = holds_of (is_directory_at looks) place.object
 
-  -- as that, and a slash asks for a directory: unlink(2), rename(2)
+  -- as `old_walk`; a slash behind what is no directory is W3: unlink(2), rename(2)
   abbrev pub old_leaf_walk : Looks N → Task N → List ℕ → Result (Place N) (Stop N)
   old_leaf_walk looks task path =
       then_walk (old_walk looks task path) (λ place.

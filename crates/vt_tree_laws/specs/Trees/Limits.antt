@@ -3,6 +3,7 @@ use Rattle.std.specs.Prelude.{Bool, Some, length, nat_eq, nat_le, true, ℕ, ◌
 use Rattle.std.specs.List.{list_all}
 use Rattle.vt_spec.specs.Language.Calls.{Call, TaskName}
 use Rattle.vt_spec.specs.Language.Calls.Call.{Fork}
+use Rattle.vt_spec.specs.Language.Limits.{most_groups}
 use Rattle.vt_spec.specs.Lists.{Fresh}
 use Rattle.vt_spec.specs.Machine.Policy.{policy}
 use Rattle.vt_spec.specs.Machine.World.{World, opening}
@@ -14,7 +15,7 @@ HasSmallTasks world = list_all is_within_limits world.tasks ≡ true
 
 -- the groups that a fork names for the child are at most 32, as its line has them: NGROUPS_MAX of setgroups(2)
 abbrev pub names_few_groups : Call → Bool
-names_few_groups (Fork (Some words)) = nat_le (length words.groups) 32
+names_few_groups (Fork (Some words)) = nat_le (length words.groups) most_groups
 names_few_groups call = true
 
 -- So it is in the opening world.
