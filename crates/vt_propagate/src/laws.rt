@@ -1,4 +1,6 @@
 //! Laws of mounts and groups that change together. Each function is a theorem of the definitions, and does nothing.
+ghost use Rattle.vt_propagate.specs.EndsInTurn.{EndedGoInTurn, NamespacesEndDeepestFirst, NamespacesEndInTurn};
+ghost use Rattle.vt_propagate.specs.EndsInTurn.{OneByOneAreSweptOnce, TurnsAreSeenSwept};
 ghost use Rattle.vt_propagate.specs.Laws.{DetachingIsSeen, RetypingIsSeen, SharingIsSeen, SlavesAreSeen};
 ghost use Rattle.vt_propagate.specs.LazyUnmounts.{LazyUnmountsAreAtOnce, LazyUnmountsAreSeen, LazyUnmountsSettleAlike};
 ghost use Rattle.vt_propagate.specs.LazyUnmounts.{LazyUnmountsTakeTheTree, PartsAreSweptOnce, PartsGoAtOnce};
@@ -24,4 +26,17 @@ pub fn lazy_unmounts_detach_at_once()
     ensures tree { LazyUnmountsTakeTheTree }
     ensures seen { LazyUnmountsAreSeen }
     ensures settled { LazyUnmountsSettleAlike }
+{}
+
+/// Mounts are detached one after the other, with a sweep after each, and none of them has a child when its turn comes:
+/// the world is left from which all are detached at once and that is swept then. So it is with the mounts of namespaces
+/// without tasks: what is left, once these namespaces are no longer listed, is what their end and one sweep leave.
+///
+/// There is such an order: the deepest first. That a mount has no child may be seen in the worlds that are swept.
+pub fn namespaces_end_mount_by_mount()
+    ensures alone { OneByOneAreSweptOnce }
+    ensures ended { NamespacesEndInTurn }
+    ensures order { EndedGoInTurn }
+    ensures deepest { NamespacesEndDeepestFirst }
+    ensures turns { TurnsAreSeenSwept }
 {}
