@@ -1,15 +1,16 @@
 -- Namespaces that end: their mounts are detached one after the other, with a sweep after each, or all at once.
 use Rattle.std.proofs.Common.{◌≡◌, refl, sym, ap, subst, ◌∙◌, ℕ, zero, suc, nat_eq, Bool, true, false, true≢false, not, ◌&&◌, ◌||◌, List, [], ◌∷◌, ◌++◌, filter, flat_map, map, Option, None, Some, is_some, option_map, length}
+use Rattle.std.specs.List.{list_any}
 use Rattle.std.proofs.lemmas.Bool.{or_parts}
 use Rattle.std.specs.Prelude.{if◌then◌else◌}
 use Rattle.vt_spec.specs.Lists.{chain, holds_of, is_among, last_or}
-use Rattle.vt_spec.specs.Machine.Detach.{has_child, taken_away}
+use Rattle.vt_spec.specs.Machine.Detach.{after_going, has_child, taken_away}
 use Rattle.vt_spec.specs.Machine.Invariants.{MountInvariants, is_nowhere_or_attached, is_private}
-use Rattle.vt_spec.specs.Machine.Mounts.{Location, Mount, detached, mount_tree, stands_on, tree_from}
+use Rattle.vt_spec.specs.Machine.Mounts.{Location, Mount, detached, stands_on, tree_from}
 use Rattle.vt_spec.specs.Machine.Namespaces.{has_tasks}
-use Rattle.vt_spec.specs.Machine.Receives.{regrouped}
+use Rattle.vt_spec.specs.Machine.Receives.{lost_a_group, regrouped, regrouped_by}
 use Rattle.vt_spec.specs.Machine.Settled.{is_located, mount_lives, settled}
-use Rattle.vt_spec.specs.Machine.World.{World, mount_at, mount_numbered, with_mounts}
+use Rattle.vt_spec.specs.Machine.World.{Namespace, World, mount_at, mount_numbered, with_mounts}
 use Rattle.vt_spec.proofs.Lists.{among_from_list_all, filter_none}
 use Rattle.vt_spec.proofs.Worlds.{filesystems-taken_away}
 use Rattle.vt_letting_go.specs.InUse.{HasTrees, UppersArePlain}
@@ -22,7 +23,7 @@ use Rattle.vt_letting_go.proofs.mounting.MountsSwept.{mounts_stand}
 use Rattle.vt_letting_go.proofs.mounting.TakenInTurn.{one_sweep_for_mounts_with_overlays}
 use Rattle.vt_mount_laws.proofs.ends.Ending.{trees_keep_mounts}
 use Rattle.vt_mount_laws.proofs.mounts.MountsFound.{number_found}
-use Rattle.vt_propagate.specs.EndsInTurn.{GoInTurn, GoInTurnSwept, NamespacesEndInTurn, OneByOneAreSweptOnce, TurnsAreSeenSwept, without_one}
+use Rattle.vt_propagate.specs.EndsInTurn.{GoInTurn, GoInTurnSwept, NamespacesEndInTurn, OneByOneAreSweptOnce, TurnsAreSeenSwept, UnlistedNamespacesEndInTurn, with_namespaces, without_one}
 use Rattle.vt_propagate.proofs.LazyUnmounts.{parts_are_swept_once}
 
 -- A mount without a child is the whole of its tree
@@ -102,6 +103,35 @@ namespaces_end_in_turn world numbers trees uppers reals kept turns are =
     ap (λ (now : World ℕ). record now { namespaces = filter (has_tasks nat_eq world) world.namespaces })
     (one_by_one_are_swept_once world numbers trees uppers reals kept turns
     ∙ ap (settled nat_eq) (taken_in_any_order world numbers (ended_mounts world) are))
+
+-- Namespaces that are taken off the list first
+
+namespaces_do_not_count : (world : World ℕ) (namespaces : List (Namespace ℕ)) (gone : List ℕ)
+    → taken_away nat_eq (with_namespaces world namespaces) gone
+    ≡ with_namespaces (taken_away nat_eq world gone) namespaces
+namespaces_do_not_count world namespaces gone = by (list_any (lost_a_group nat_eq middle) middle.mounts)
+  where
+    middle : World ℕ
+    middle = with_mounts world (map (after_going nat_eq world gone) world.mounts)
+
+    by : (b : Bool) → regrouped_by nat_eq b (with_namespaces middle namespaces)
+        ≡ with_namespaces (regrouped_by nat_eq b middle) namespaces
+    by true = refl
+    by false = refl
+
+sweeps_do_not_count : (namespaces : List (Namespace ℕ)) (numbers : List ℕ) (now : World ℕ)
+    → with_sweeps without_one (with_namespaces now namespaces) numbers
+    ≡ with_namespaces (with_sweeps without_one now numbers) namespaces
+sweeps_do_not_count namespaces [] now = refl
+sweeps_do_not_count namespaces (number ∷ rest) now =
+    ap (λ w. with_sweeps without_one (settled nat_eq w) rest)
+    (namespaces_do_not_count now namespaces (number ∷ []))
+    ∙ sweeps_do_not_count namespaces rest (settled nat_eq (without_one now number))
+
+pub unlisted_namespaces_end_in_turn : UnlistedNamespacesEndInTurn
+unlisted_namespaces_end_in_turn world numbers trees uppers reals kept turns are =
+    sweeps_do_not_count (filter (has_tasks nat_eq world) world.namespaces) numbers (settled nat_eq world)
+    ∙ namespaces_end_in_turn world numbers trees uppers reals kept turns are
 
 -- Children in a world that is swept
 

@@ -1,6 +1,6 @@
 -- Of the mounts of namespaces that end, the deepest first: nothing stands on a mount any more when its turn comes.
-use Rattle.std.proofs.Common.{◌≡◌, refl, sym, ap, subst, ◌∙◌, ◌≤◌, ◌⊎◌, arith, ℕ, suc, nat_eq, Bool, true, false, true≢false, eqb-true, is_some, List, [], ◌∷◌, filter, map, Option, None, Some, inl, inr, ⊎_elim}
-use Rattle.std.proofs.lemmas.Bool.{cases_Bool, false_from_ne_true}
+use Rattle.std.proofs.Common.{◌≡◌, refl, sym, ap, subst, ◌∙◌, ◌≤◌, ◌⊎◌, arith, ℕ, suc, nat_eq, Bool, true, false, true≢false, eqb-true, is_some, List, [], ◌∷◌, filter, Option, None, Some, inl, inr, ⊎_elim}
+use Rattle.std.proofs.lemmas.Bool.{false_from_ne_true}
 use Rattle.vt_spec.specs.Lists.{holds_of, is_among}
 use Rattle.vt_spec.specs.Machine.Detach.{deepest_first, depth_of, has_child, is_going}
 use Rattle.vt_spec.specs.Machine.Invariants.{MountInvariants}

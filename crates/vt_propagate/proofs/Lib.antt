@@ -16,6 +16,7 @@ pub mod TakenTwice
 pub mod LazyUnmounts
 pub mod EndsInTurn
 pub mod EndsOrder
+pub mod ExitsAtOnce
 pub mod LazyOrder
 pub mod ReceiversLeft
 pub mod Over

@@ -6,7 +6,7 @@ use Rattle.vt_spec.specs.Machine.Detach.{deepest_first, has_child, taken_away}
 use Rattle.vt_spec.specs.Machine.Invariants.{MountInvariants}
 use Rattle.vt_spec.specs.Machine.Namespaces.{has_tasks, is_in_ended, namespaces_ended}
 use Rattle.vt_spec.specs.Machine.Settled.{settled}
-use Rattle.vt_spec.specs.Machine.World.{World}
+use Rattle.vt_spec.specs.Machine.World.{Namespace, World}
 use Rattle.vt_letting_go.specs.InUse.{HasTrees, UppersArePlain}
 use Rattle.vt_letting_go.specs.Leaving.{with_sweeps}
 use Rattle.vt_letting_go.specs.Mounting.{ended_mounts}
@@ -43,6 +43,20 @@ NamespacesEndInTurn =
     → record (with_sweeps without_one (settled nat_eq world) numbers) {
       namespaces = filter (has_tasks nat_eq world) world.namespaces;
     } ≡ settled nat_eq (namespaces_ended nat_eq world)
+
+-- the world with these namespaces listed
+abbrev pub with_namespaces : World ℕ → List (Namespace ℕ) → World ℕ
+with_namespaces world namespaces = record world { namespaces = namespaces }
+
+-- Namespaces without tasks are taken off the list first, and then their mounts are detached one by one, none of which
+-- has a child when its turn comes, with a sweep after each: what is left is what their end and one sweep leave.
+abbrev pub UnlistedNamespacesEndInTurn : Type 0
+UnlistedNamespacesEndInTurn =
+    (world : World ℕ) (numbers : List ℕ) → HasTrees world → UppersArePlain world → RealsAreThere world
+    → MountInvariants nat_eq world → GoInTurn world numbers → AreEnded world numbers
+    → with_sweeps without_one
+    (settled nat_eq (with_namespaces world (filter (has_tasks nat_eq world) world.namespaces))) numbers
+    ≡ settled nat_eq (namespaces_ended nat_eq world)
 
 -- the mounts of namespaces without tasks, the deepest first
 abbrev pub ended_in_turn : World ℕ → List ℕ

@@ -1,4 +1,4 @@
-use Rattle.vt_propagate.proofs.EndsInTurn.{namespaces_end_in_turn, one_by_one_are_swept_once, turns_are_seen_swept}
+use Rattle.vt_propagate.proofs.EndsInTurn.{namespaces_end_in_turn, one_by_one_are_swept_once, turns_are_seen_swept, unlisted_namespaces_end_in_turn}
 use Rattle.vt_propagate.proofs.EndsOrder.{ended_go_in_turn, namespaces_end_deepest_first}
 use Rattle.vt_propagate.proofs.laws.namespaces_end_mount_by_mount.Goals as goal
 
@@ -7,6 +7,9 @@ returns-clause-alone c = one_by_one_are_swept_once
 
 pub returns-clause-ended : goal.returns-clause-ended
 returns-clause-ended c = namespaces_end_in_turn
+
+pub returns-clause-unlisted : goal.returns-clause-unlisted
+returns-clause-unlisted c = unlisted_namespaces_end_in_turn
 
 pub returns-clause-order : goal.returns-clause-order
 returns-clause-order c = ended_go_in_turn
