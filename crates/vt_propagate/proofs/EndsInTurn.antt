@@ -48,9 +48,11 @@ alone_keeps_mounts world number kept childless =
 
 -- One by one
 
+-- a list of each number alone
 abbrev each_alone : List ℕ → List (List ℕ)
 each_alone numbers = map (λ number. number ∷ []) numbers
 
+-- the invariants of mounts hold on the way
 turns_keep : (world : World ℕ) (numbers : List ℕ) → MountInvariants nat_eq world → GoInTurn world numbers
     → KeepsMounts (taken_away nat_eq) world (each_alone numbers)
 turns_keep world [] kept turns = kept
@@ -59,6 +61,7 @@ turns_keep world (number ∷ rest) kept turns = (
   turns_keep (without_one world number) rest (alone_keeps_mounts world number kept turns.0) turns.1,
 )
 
+-- mounts that go one by one are parts that go, of one mount each
 swept_as_parts : (now : World ℕ) (numbers : List ℕ)
     → with_sweeps without_one now numbers ≡ with_sweeps (taken_away nat_eq) now (each_alone numbers)
 swept_as_parts now [] = refl
@@ -77,6 +80,7 @@ one_by_one_are_swept_once world numbers trees uppers reals kept turns =
 -- Which mounts go is told by a test, so that their order does not count
 
 module _ (world : World ℕ) (goes : ℕ → Bool) where
+  -- where a place falls to, as the test says which mounts go
   abbrev falls_by : Location ℕ → Option (Location ℕ)
   falls_by place = if goes place.mount then (mount_at nat_eq world place).mount_point else None
 
@@ -106,6 +110,7 @@ namespaces_end_in_turn world numbers trees uppers reals kept turns are =
 
 -- Namespaces that are taken off the list first
 
+-- which namespaces are listed makes no difference to mounts that are detached
 namespaces_do_not_count : (world : World ℕ) (namespaces : List (Namespace ℕ)) (gone : List ℕ)
     → taken_away nat_eq (with_namespaces world namespaces) gone
     ≡ with_namespaces (taken_away nat_eq world gone) namespaces
@@ -119,6 +124,7 @@ namespaces_do_not_count world namespaces gone = by (list_any (lost_a_group nat_e
     by true = refl
     by false = refl
 
+-- nor to sweeps after each
 sweeps_do_not_count : (namespaces : List (Namespace ℕ)) (numbers : List ℕ) (now : World ℕ)
     → with_sweeps without_one (with_namespaces now namespaces) numbers
     ≡ with_namespaces (with_sweeps without_one now numbers) namespaces

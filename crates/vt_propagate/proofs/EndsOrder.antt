@@ -37,9 +37,11 @@ module _ (start : World ℕ) (at_first : MountInvariants nat_eq start) where
   abbrev rank_of : ℕ → ℕ
   rank_of number = rank start at_first.one_number at_first.standing number
 
+  -- the mounts that end
   abbrev gone : List ℕ
   gone = ended_mounts start
 
+  -- the same, the deepest first
   abbrev sorted : List (Mount ℕ)
   sorted = deepest_first nat_eq start (filter (is_in_ended nat_eq start) start.mounts)
 
@@ -115,6 +117,7 @@ module _ (start : World ℕ) (at_first : MountInvariants nat_eq start) where
             none_on_it x m place e
             (eqb-true one place.mount (sym (ap (holds_of (λ p. nat_eq one p.mount)) e) ∙ on))
 
+    -- and when it is detached alone, the rest is left
     next_left : AreLeft (without_one world one) left
     next_left = record {
       kept = alone_keeps_mounts world one are.kept has_none;
@@ -138,6 +141,7 @@ module _ (start : World ℕ) (at_first : MountInvariants nat_eq start) where
       itself = λ x m. are.itself x (inr m);
     }
 
+  -- so all go in turn
   left_in_turn : (left : List (Mount ℕ)) (world : World ℕ) → AreLeft world left → GoInTurn world (numbers_of left)
   left_in_turn [] world are = tt
   left_in_turn (mount ∷ left) world are = (
@@ -145,6 +149,7 @@ module _ (start : World ℕ) (at_first : MountInvariants nat_eq start) where
     left_in_turn left (without_one world mount.number) (next_left world mount left are),
   )
 
+  -- what is sorted is what ends
   from_sorted : (x : Mount ℕ) → Among x sorted → Among x (filter (is_in_ended nat_eq start) start.mounts)
   from_sorted x m =
       ⊎_elim (λ none. absurd none) (λ there. there)

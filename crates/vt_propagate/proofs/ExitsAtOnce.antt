@@ -89,6 +89,7 @@ ended_is_found world kept number =
 module _ (world : World ℕ) (tasks : List (Task ℕ)) (kept : MountInvariants nat_eq world)
     (fewer : (namespace : Namespace ℕ) → list_any (λ (t : Task ℕ). nat_eq namespace.number t.namespace) tasks ≡ true
     → has_tasks nat_eq world namespace ≡ true) where
+  -- the mounts that go where namespaces end at first, the namespaces that are left, and the world then
   abbrev first : List ℕ
   first = ended_mounts world
 
@@ -116,6 +117,7 @@ module _ (world : World ℕ) (tasks : List (Task ℕ)) (kept : MountInvariants n
       by true f = absurd (true≢false (sym (fewer namespace f) ∙ e))
       by false f = f
 
+  -- the same namespaces are left
   same_listed : filter has_one listed ≡ filter has_one world.namespaces
   same_listed =
       filter_twice has_one (has_tasks nat_eq world) has_one (λ namespace.
@@ -129,6 +131,7 @@ module _ (world : World ℕ) (tasks : List (Task ℕ)) (kept : MountInvariants n
   abbrev is_live_in : (Namespace ℕ → Bool) → List (Namespace ℕ) → ℕ → Bool
   is_live_in has namespaces number = list_any (λ (n : Namespace ℕ). nat_eq number n.number && has n) namespaces
 
+  -- a namespace that has ended has no task then
   live_then : (number : ℕ) → is_live_in has_one listed number ≡ is_live_in has_one world.namespaces number
   live_then number =
       any-filter (λ (n : Namespace ℕ). nat_eq number n.number && has_one n) (has_tasks nat_eq world) world.namespaces
@@ -165,6 +168,7 @@ module _ (world : World ℕ) (tasks : List (Task ℕ)) (kept : MountInvariants n
   ends_alike None = refl
   ends_alike (Some number) = ap not (live_then number)
 
+  -- and the same mounts go, first and then, as go at once
   same_gone : (kept_then : MountInvariants nat_eq ended_before) (kept_first : MountInvariants nat_eq not_ended)
       (number : ℕ)
       → is_among nat_eq number (first ++ ended_mounts ended_before) ≡ is_among nat_eq number (ended_mounts not_ended)
@@ -222,6 +226,7 @@ others_keep_mounts world tasks namespaces kept = record {
   groups = kept.groups;
 }
 
+-- nor do they care for a task that ends, with its namespace or not
 ended_task_keeps_mounts : (world : World ℕ) (name : TaskName) → MountInvariants nat_eq world
     → MountInvariants nat_eq (ended_task world name)
 ended_task_keeps_mounts world name kept =
@@ -234,6 +239,7 @@ each_keeps_mounts world [] kept = kept
 each_keeps_mounts world (name ∷ names) kept =
     (kept, each_keeps_mounts (ended_task world name) names (ended_task_keeps_mounts world name kept))
 
+-- tasks without those of a name
 abbrev less : List (Task ℕ) → TaskName → List (Task ℕ)
 less tasks name = filter (λ (task : Task ℕ). not (same_name name task.name)) tasks
 
@@ -243,6 +249,7 @@ tasks_left : (world : World ℕ) (names : List TaskName)
 tasks_left world [] = refl
 tasks_left world (name ∷ names) = tasks_left (without_task world name) names
 
+-- each of which was there
 left_are_fewer : (names : List TaskName) (tasks : List (Task ℕ)) (task : Task ℕ) → Among task (folded less tasks names)
     → Among task tasks
 left_are_fewer [] tasks task m = m
@@ -250,6 +257,7 @@ left_are_fewer (name ∷ names) tasks task m =
     (among-from_filter (λ (t : Task ℕ). not (same_name name t.name)) tasks task
     (left_are_fewer names (less tasks name) task m)).0
 
+-- so that a test which one of them passes was passed before
 has_fewer : (test : Task ℕ → Bool) (tasks : List (Task ℕ)) (names : List TaskName)
     → list_any test (folded less tasks names) ≡ true → list_any test tasks ≡ true
 has_fewer test tasks names e = by (list_any test tasks) refl
@@ -284,6 +292,7 @@ tasks_then world names kept =
     tasks : List (Task ℕ)
     tasks = folded less world.tasks names
 
+-- one after the other or at once, after the first
 all_end_alike : (names : List TaskName) (world : World ℕ) → MountInvariants nat_eq world
     → settled nat_eq (folded ended_task (namespaces_ended nat_eq world) names)
     ≡ settled nat_eq (namespaces_ended nat_eq (without_tasks world names))
