@@ -1,10 +1,11 @@
-//! What later calls see of earlier ones, and which calls end an inode, in a world without overlays; and what the list
-//! of mounts tells after an unshare, and what an unmount undoes, in every world.
+//! What later calls see of earlier ones, and which calls let something go, in a world without overlays; and what the
+//! list of mounts tells after an unshare, what an unmount undoes, and what an exit leaves, in every world.
 //!
 //! Each public function is a theorem of the written policy, and does nothing.
 #![tactic(auto)]
 
 pub mod ends;
+pub mod exits;
 pub mod later;
 pub mod tables;
 pub mod undone;

@@ -179,7 +179,7 @@ seen_lazily world number kept grouping invariants seen =
     (lazy_unmount_keeps_mounts world number invariants).groups seen
 
 -- a world settles to the same where groups without members ended before
-settled_without_groups : (world : World ℕ) → settled nat_eq (without_dead_groups nat_eq world) ≡ settled nat_eq world
+pub settled_without_groups : (world : World ℕ) → settled nat_eq (without_dead_groups nat_eq world) ≡ settled nat_eq world
 settled_without_groups world = λ i. record (settled nat_eq world) { master = λ group. same group i }
   where
     living : List (Mount ℕ)

@@ -14,6 +14,9 @@ pub mod Moved
 pub mod Places
 pub mod TakenTwice
 pub mod LazyUnmounts
+pub mod EndsInTurn
+pub mod EndsOrder
+pub mod ExitsAtOnce
 pub mod LazyOrder
 pub mod ReceiversLeft
 pub mod Over

@@ -87,13 +87,13 @@ module _ (world : World ℕ) where
   abbrev all_inserted : List (Mount ℕ) → List (Mount ℕ) → List (Mount ℕ)
   all_inserted sorted mounts = folded (λ list mount. insert mount list) sorted mounts
 
-  all_in_order : (mounts sorted : List (Mount ℕ)) → AreDeepestFirst sorted
+  pub all_in_order : (mounts sorted : List (Mount ℕ)) → AreDeepestFirst sorted
       → AreDeepestFirst (all_inserted sorted mounts)
   all_in_order [] sorted order = order
   all_in_order (mount ∷ mounts) sorted order =
       all_in_order mounts (insert mount sorted) (inserted_in_order mount sorted order)
 
-  among_all_inserted : (mounts sorted : List (Mount ℕ)) (x : Mount ℕ) → Among x (all_inserted sorted mounts)
+  pub among_all_inserted : (mounts sorted : List (Mount ℕ)) (x : Mount ℕ) → Among x (all_inserted sorted mounts)
       → Among x sorted ⊎ Among x mounts
   among_all_inserted [] sorted x m = inl m
   among_all_inserted (mount ∷ mounts) sorted x m =
@@ -102,7 +102,7 @@ module _ (world : World ℕ) where
       (λ later. inr (inr later))
       (among_all_inserted mounts (insert mount sorted) x m)
 
-  all_inserted_among : (mounts sorted : List (Mount ℕ)) (x : Mount ℕ) → Among x sorted ⊎ Among x mounts
+  pub all_inserted_among : (mounts sorted : List (Mount ℕ)) (x : Mount ℕ) → Among x sorted ⊎ Among x mounts
       → Among x (all_inserted sorted mounts)
   all_inserted_among [] sorted x m = ⊎_elim (λ l. l) (λ none. absurd none) m
   all_inserted_among (mount ∷ mounts) sorted x m =

@@ -1,0 +1,2 @@
+-- What the proofs of src/ends.rt use.
+pub mod OtherCalls
