@@ -4,3 +4,4 @@ pub mod Ends
 pub mod LaterNames
 pub mod Tables
 pub mod Undone
+pub mod LastUse

@@ -5,6 +5,7 @@
 #![tactic(auto)]
 
 pub mod ends;
+pub mod last_use;
 pub mod later;
 pub mod tables;
 pub mod undone;

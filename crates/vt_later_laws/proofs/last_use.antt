@@ -1,0 +1,3 @@
+-- What the proofs of src/last_use.rt use.
+pub mod OneLess
+pub mod MountsAndFilesystems
