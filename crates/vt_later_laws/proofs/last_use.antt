@@ -1,3 +1,5 @@
 -- What the proofs of src/last_use.rt use.
 pub mod OneLess
 pub mod MountsAndFilesystems
+pub mod Groups
+pub mod Namespaces

@@ -1,15 +1,21 @@
 -- Each thing goes with its last use: close(2), umount(2) with MNT_DETACH, path_resolution(7), mount_namespaces(7). In
 -- each statement all is in use in the world before, and one use is taken away; the sweep of things of that kind takes
 -- that thing if the use was its last, and nothing else.
-use Rattle.std.specs.Prelude.{List, false, if◌then◌else◌, is_some, nat_eq, nat_lt, ℕ, ◌++◌, ◌||◌, ◌∷◌, ◌≡◌}
+use Rattle.std.specs.Prelude.{List, None, false, if◌then◌else◌, is_some, nat_eq, nat_lt, ℕ, ◌++◌, ◌||◌, ◌∷◌, ◌≡◌}
 use Rattle.vt_spec.specs.Lists.{any_pair}
-use Rattle.vt_spec.specs.Machine.Mounts.{Location, Mount}
-use Rattle.vt_spec.specs.Machine.Settled.{without_dead_filesystems, without_dead_mounts}
-use Rattle.vt_spec.specs.Machine.World.{Task, World, all_locations, mount_at}
-use Rattle.vt_letting_go.specs.Counts.{mount_uses, mounts_showing}
+use Rattle.vt_spec.specs.Machine.Invariants.{MountInvariants, NamespaceInvariants}
+use Rattle.vt_spec.specs.Machine.Mounts.{Location, Mount, source_of}
+use Rattle.vt_spec.specs.Machine.Mounts.Propagation.{Shared}
+use Rattle.vt_spec.specs.Machine.Namespaces.{namespaces_ended}
+use Rattle.vt_spec.specs.Machine.Receives.{regrouped}
+use Rattle.vt_spec.specs.Machine.Settled.{without_dead_filesystems, without_dead_groups, without_dead_mounts}
+use Rattle.vt_spec.specs.Machine.World.{Task, World, all_locations, mount_at, with_mounts}
+use Rattle.vt_letting_go.specs.Counts.{member_count, mount_uses, mounts_showing, times}
+use Rattle.vt_letting_go.specs.Ends.{without_namespace}
+use Rattle.vt_letting_go.specs.Groups.{hand_on}
 use Rattle.vt_letting_go.specs.InUse.{AllInUse}
 use Rattle.vt_letting_go.specs.Leaving.{with_tasks}
-use Rattle.vt_letting_go.specs.OneByOne.{IsPlain, without_filesystem, without_mount}
+use Rattle.vt_letting_go.specs.OneByOne.{IsPlain, without_filesystem, without_master, without_mount}
 
 -- Tasks leave one location: its mount goes, unless it is in a namespace or another location is on it.
 abbrev pub MountGoesWithItsLastUse : Type 0
@@ -29,3 +35,36 @@ FilesystemGoesWithItsLastUse =
     → world.mounts ≡ front ++ (mount ∷ back) → after.mounts ≡ front ++ back
     → without_dead_filesystems nat_eq after
     ≡ (if nat_lt 1 (mounts_showing world mount.filesystem) then after else without_filesystem after mount.filesystem)
+
+-- how many tasks are in a namespace
+abbrev pub task_count : World ℕ → ℕ → ℕ
+task_count world namespace = times (λ task. nat_eq namespace task.namespace) world.tasks
+
+-- One task ends: its namespace ends with its mounts, unless another task is in it.
+abbrev pub NamespaceEndsWithItsLastTask : Type 0
+NamespaceEndsWithItsLastTask =
+    (world : World ℕ) (front back : List (Task ℕ)) (task : Task ℕ)
+    → MountInvariants nat_eq world → NamespaceInvariants nat_eq world → world.tasks ≡ front ++ (task ∷ back)
+    → namespaces_ended nat_eq (with_tasks world (front ++ back))
+    ≡ (if nat_lt 1 (task_count world task.namespace) then with_tasks world (front ++ back)
+    else without_namespace (with_tasks world (front ++ back)) task.namespace)
+
+-- One mount leaves its group and gets no master: the group hands its slaves on, unless it has another member.
+abbrev pub GroupIsHandedOnWithItsLastMember : Type 0
+GroupIsHandedOnWithItsLastMember =
+    (world : World ℕ) (front back : List (Mount ℕ)) (old new : Mount ℕ) (group : ℕ)
+    → AllInUse world → MountInvariants nat_eq world → world.mounts ≡ front ++ (old ∷ back)
+    → old.propagation ≡ Shared group → source_of new.propagation ≡ None
+    → regrouped nat_eq (with_mounts world (front ++ (new ∷ back)))
+    ≡ (if nat_lt 1 (member_count world group) then with_mounts world (front ++ (new ∷ back))
+    else hand_on (with_mounts world (front ++ (new ∷ back))) group)
+
+-- In the sweep, the group loses its master, unless it has another member.
+abbrev pub GroupGoesWithItsLastMember : Type 0
+GroupGoesWithItsLastMember =
+    (world : World ℕ) (front back : List (Mount ℕ)) (old new : Mount ℕ) (group : ℕ)
+    → AllInUse world → world.mounts ≡ front ++ (old ∷ back)
+    → old.propagation ≡ Shared group → source_of new.propagation ≡ None
+    → without_dead_groups nat_eq (with_mounts world (front ++ (new ∷ back)))
+    ≡ (if nat_lt 1 (member_count world group) then with_mounts world (front ++ (new ∷ back))
+    else without_master (with_mounts world (front ++ (new ∷ back))) group)

@@ -1,12 +1,20 @@
 //! Each thing goes with its last use.
-ghost use Rattle.vt_later_laws.specs.LastUse.{FilesystemGoesWithItsLastUse, MountGoesWithItsLastUse};
+ghost use Rattle.vt_later_laws.specs.LastUse.{FilesystemGoesWithItsLastUse, GroupGoesWithItsLastMember, GroupIsHandedOnWithItsLastMember, MountGoesWithItsLastUse, NamespaceEndsWithItsLastTask};
+
+use vt_letting_go::ends::a_group_ends_with_its_last_member;
 
 /// Where all is in use and one use is taken away, the thing that it was a use of goes just if the use was its last, and
 /// nothing else of its kind goes.
 ///
 /// A mount goes with the last location on it, if it is in no namespace; a filesystem goes with the last mount that shows
-/// it, in a world without overlays.
+/// it, in a world without overlays; a namespace ends with its last task; a peer group ends with its last member, which
+/// hands its slaves on to its master.
 pub fn each_thing_goes_with_its_last_use()
     ensures mount { MountGoesWithItsLastUse }
     ensures filesystem { FilesystemGoesWithItsLastUse }
-{}
+    ensures namespace { NamespaceEndsWithItsLastTask }
+    ensures group { GroupIsHandedOnWithItsLastMember }
+    ensures master { GroupGoesWithItsLastMember }
+{
+    a_group_ends_with_its_last_member();
+}

@@ -1,4 +1,6 @@
+use Rattle.vt_later_laws.proofs.last_use.Groups.{group_goes_with_its_last_member, group_is_handed_on_with_its_last_member}
 use Rattle.vt_later_laws.proofs.last_use.MountsAndFilesystems.{filesystem_goes_with_its_last_use, mount_goes_with_its_last_use}
+use Rattle.vt_later_laws.proofs.last_use.Namespaces.{namespace_ends_with_its_last_task}
 use Rattle.vt_later_laws.proofs.last_use.each_thing_goes_with_its_last_use.Goals as goal
 
 pub returns-clause-mount : goal.returns-clause-mount
@@ -6,3 +8,12 @@ returns-clause-mount c = mount_goes_with_its_last_use
 
 pub returns-clause-filesystem : goal.returns-clause-filesystem
 returns-clause-filesystem c = filesystem_goes_with_its_last_use
+
+pub returns-clause-namespace : goal.returns-clause-namespace
+returns-clause-namespace c = namespace_ends_with_its_last_task
+
+pub returns-clause-group : goal.returns-clause-group
+returns-clause-group c = group_is_handed_on_with_its_last_member c.a_group_ends_with_its_last_member.ensures.one
+
+pub returns-clause-master : goal.returns-clause-master
+returns-clause-master c = group_goes_with_its_last_member
