@@ -3,3 +3,4 @@ pub mod OneLess
 pub mod MountsAndFilesystems
 pub mod Groups
 pub mod Namespaces
+pub mod InodesLeft

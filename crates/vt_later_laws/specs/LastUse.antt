@@ -1,21 +1,23 @@
 -- Each thing goes with its last use: close(2), umount(2) with MNT_DETACH, path_resolution(7), mount_namespaces(7). In
 -- each statement all is in use in the world before, and one use is taken away; the sweep of things of that kind takes
 -- that thing if the use was its last, and nothing else.
-use Rattle.std.specs.Prelude.{List, None, false, if◌then◌else◌, is_some, nat_eq, nat_lt, ℕ, ◌++◌, ◌||◌, ◌∷◌, ◌≡◌}
+use Rattle.std.specs.Prelude.{List, None, [], false, if◌then◌else◌, is_some, map, nat_eq, nat_lt, true, ℕ, ◌+◌, ◌++◌, ◌||◌, ◌∷◌, ◌≡◌}
 use Rattle.vt_spec.specs.Lists.{any_pair}
 use Rattle.vt_spec.specs.Machine.Invariants.{MountInvariants, NamespaceInvariants}
 use Rattle.vt_spec.specs.Machine.Mounts.{Location, Mount, source_of}
 use Rattle.vt_spec.specs.Machine.Mounts.Propagation.{Shared}
 use Rattle.vt_spec.specs.Machine.Namespaces.{namespaces_ended}
 use Rattle.vt_spec.specs.Machine.Receives.{regrouped}
-use Rattle.vt_spec.specs.Machine.Settled.{without_dead_filesystems, without_dead_groups, without_dead_mounts}
-use Rattle.vt_spec.specs.Machine.World.{Task, World, all_locations, mount_at, with_mounts}
-use Rattle.vt_letting_go.specs.Counts.{member_count, mount_uses, mounts_showing, times}
+use Rattle.vt_spec.specs.Machine.Settled.{without_dead_filesystems, without_dead_groups, without_dead_inodes, without_dead_mounts}
+use Rattle.vt_spec.specs.Machine.World.{Filesystem, Task, World, all_locations, filesystem_numbered, is_overlay, mount_at, with_mounts}
+use Rattle.vt_letting_go.specs.Counts.{inode_uses, member_count, mount_uses, mounts_showing, times}
 use Rattle.vt_letting_go.specs.Ends.{without_namespace}
 use Rattle.vt_letting_go.specs.Groups.{hand_on}
-use Rattle.vt_letting_go.specs.InUse.{AllInUse}
+use Rattle.vt_letting_go.specs.InUse.{AllInUse, HasTrees, UppersArePlain}
 use Rattle.vt_letting_go.specs.Leaving.{with_tasks}
-use Rattle.vt_letting_go.specs.OneByOne.{IsPlain, without_filesystem, without_master, without_mount}
+use Rattle.vt_letting_go.specs.OneByOne.{Inode, IsPlain, without_filesystem, without_inode_at, without_master, without_mount}
+use Rattle.vt_letting_go.specs.Overlays.{RealsAreThere, let_go_plain, uppers_of, without_inode_of}
+use Rattle.vt_count_laws.specs.Using.{Exchanges, is_inode}
 
 -- Tasks leave one location: its mount goes, unless it is in a namespace or another location is on it.
 abbrev pub MountGoesWithItsLastUse : Type 0
@@ -68,3 +70,62 @@ GroupGoesWithItsLastMember =
     → without_dead_groups nat_eq (with_mounts world (front ++ (new ∷ back)))
     ≡ (if nat_lt 1 (member_count world group) then with_mounts world (front ++ (new ∷ back))
     else without_master (with_mounts world (front ++ (new ∷ back))) group)
+
+-- From one world to the next this inode has one use less, and every other inode as many; each filesystem has the same
+-- inodes.
+pub record LosesOneUse (inode : Inode) (world after : World ℕ) : Type 0 where
+  pub numbers : (filesystem : ℕ)
+      → (filesystem_numbered nat_eq after filesystem).files.numbers
+      ≡ (filesystem_numbered nat_eq world filesystem).files.numbers
+  pub uses : (filesystem number : ℕ)
+      → inode_uses world (filesystem_numbered nat_eq world filesystem) number
+      ≡ inode_uses after (filesystem_numbered nat_eq after filesystem) number
+      + (if is_inode filesystem number inode then 1 else 0)
+
+-- So it is where a location, a root of a mount or a mount point is taken away, which are exchanges of that one use.
+abbrev pub ExchangeOfOneLosesOneUse : Type 0
+ExchangeOfOneLosesOneUse =
+    (world after : World ℕ) (inode : Inode)
+    → ((filesystem : ℕ) → Exchanges [] (inode ∷ []) filesystem world after) → LosesOneUse inode world after
+
+-- One use of an inode is taken away, in a world of plain filesystems: the inode goes, unless it has another use.
+abbrev pub InodeGoesWithItsLastUse : Type 0
+InodeGoesWithItsLastUse =
+    (world after : World ℕ) (inode : Inode) → AllInUse world → LosesOneUse inode world after
+    → IsPlain after → HasTrees after
+    → any_pair (λ (a b : Filesystem ℕ). nat_eq a.number b.number) after.filesystems ≡ false
+    → without_dead_inodes nat_eq after
+    ≡ (if nat_lt 1 (inode_uses world (filesystem_numbered nat_eq world inode.0) inode.1) then after
+    else without_inode_at after inode)
+
+-- So it is of an inode of a plain tree in a world with overlays.
+abbrev pub InodeBesideOverlaysGoesWithItsLastUse : Type 0
+InodeBesideOverlaysGoesWithItsLastUse =
+    (world after : World ℕ) (inode : Inode) → AllInUse world → LosesOneUse inode world after
+    → is_overlay (filesystem_numbered nat_eq after inode.0) ≡ false
+    → HasTrees after → UppersArePlain after → RealsAreThere after
+    → any_pair (λ (a b : Filesystem ℕ). nat_eq a.number b.number) after.filesystems ≡ false
+    → without_dead_inodes nat_eq after
+    ≡ (if nat_lt 1 (inode_uses world (filesystem_numbered nat_eq world inode.0) inode.1) then after
+    else without_inode_at after inode)
+
+-- a filesystem without the inode, if it has that number; the inode of an overlay has no real object then
+abbrev pub without_inode_of_any : Inode → Filesystem ℕ → Filesystem ℕ
+without_inode_of_any inode filesystem =
+    if nat_eq filesystem.number inode.0 then without_inode_of inode.1 filesystem else filesystem
+
+-- the world without an inode of an overlay
+abbrev pub without_merged_inode : World ℕ → Inode → World ℕ
+without_merged_inode world inode = record world { filesystems = map (without_inode_of_any inode) world.filesystems }
+
+-- An inode of an overlay goes, unless it has another use; then the upper inode that was its real object, if it had one,
+-- is looked at.
+abbrev pub InodeOfOverlayGoesWithItsLastUse : Type 0
+InodeOfOverlayGoesWithItsLastUse =
+    (world after : World ℕ) (inode : Inode) → AllInUse world → LosesOneUse inode world after
+    → is_overlay (filesystem_numbered nat_eq after inode.0) ≡ true
+    → HasTrees after → UppersArePlain after → RealsAreThere after
+    → any_pair (λ (a b : Filesystem ℕ). nat_eq a.number b.number) after.filesystems ≡ false
+    → without_dead_inodes nat_eq after
+    ≡ (if nat_lt 1 (inode_uses world (filesystem_numbered nat_eq world inode.0) inode.1) then after
+    else let_go_plain (without_merged_inode after inode) (uppers_of after (inode ∷ [])))

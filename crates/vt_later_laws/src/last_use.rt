@@ -1,5 +1,5 @@
 //! Each thing goes with its last use.
-ghost use Rattle.vt_later_laws.specs.LastUse.{FilesystemGoesWithItsLastUse, GroupGoesWithItsLastMember, GroupIsHandedOnWithItsLastMember, MountGoesWithItsLastUse, NamespaceEndsWithItsLastTask};
+ghost use Rattle.vt_later_laws.specs.LastUse.{ExchangeOfOneLosesOneUse, FilesystemGoesWithItsLastUse, GroupGoesWithItsLastMember, GroupIsHandedOnWithItsLastMember, InodeBesideOverlaysGoesWithItsLastUse, InodeGoesWithItsLastUse, InodeOfOverlayGoesWithItsLastUse, MountGoesWithItsLastUse, NamespaceEndsWithItsLastTask};
 
 use vt_letting_go::ends::a_group_ends_with_its_last_member;
 
@@ -12,6 +12,10 @@ use vt_letting_go::ends::a_group_ends_with_its_last_member;
 pub fn each_thing_goes_with_its_last_use()
     ensures mount { MountGoesWithItsLastUse }
     ensures filesystem { FilesystemGoesWithItsLastUse }
+    ensures exchange { ExchangeOfOneLosesOneUse }
+    ensures inode { InodeGoesWithItsLastUse }
+    ensures beside_overlays { InodeBesideOverlaysGoesWithItsLastUse }
+    ensures of_overlay { InodeOfOverlayGoesWithItsLastUse }
     ensures namespace { NamespaceEndsWithItsLastTask }
     ensures group { GroupIsHandedOnWithItsLastMember }
     ensures master { GroupGoesWithItsLastMember }

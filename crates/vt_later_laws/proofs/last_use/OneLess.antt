@@ -9,7 +9,7 @@ use Rattle.vt_letting_go.specs.Counts.{times}
 use Rattle.vt_spec.proofs.Truths.{as_many_with_none, one_more_is_some, same_truth}
 
 -- where one of them goes, some are left just where there was more than one
-some_left : (before after : ℕ) → before ≡ after + 1 → nat_lt 0 after ≡ nat_lt 1 before
+pub some_left : (before after : ℕ) → before ≡ after + 1 → nat_lt 0 after ≡ nat_lt 1 before
 some_left before after e = same_truth (nat_lt 0 after) (nat_lt 1 before) (there before after e) (back before after e)
   where
     there : (before after : ℕ) → before ≡ after + 1 → nat_lt 0 after ≡ true → nat_lt 1 before ≡ true

@@ -1,4 +1,5 @@
 use Rattle.vt_later_laws.proofs.last_use.Groups.{group_goes_with_its_last_member, group_is_handed_on_with_its_last_member}
+use Rattle.vt_later_laws.proofs.last_use.InodesLeft.{exchange_of_one_loses_one_use, inode_beside_overlays_goes_with_its_last_use, inode_goes_with_its_last_use, inode_of_overlay_goes_with_its_last_use}
 use Rattle.vt_later_laws.proofs.last_use.MountsAndFilesystems.{filesystem_goes_with_its_last_use, mount_goes_with_its_last_use}
 use Rattle.vt_later_laws.proofs.last_use.Namespaces.{namespace_ends_with_its_last_task}
 use Rattle.vt_later_laws.proofs.last_use.each_thing_goes_with_its_last_use.Goals as goal
@@ -8,6 +9,18 @@ returns-clause-mount c = mount_goes_with_its_last_use
 
 pub returns-clause-filesystem : goal.returns-clause-filesystem
 returns-clause-filesystem c = filesystem_goes_with_its_last_use
+
+pub returns-clause-exchange : goal.returns-clause-exchange
+returns-clause-exchange c = exchange_of_one_loses_one_use
+
+pub returns-clause-inode : goal.returns-clause-inode
+returns-clause-inode c = inode_goes_with_its_last_use
+
+pub returns-clause-beside_overlays : goal.returns-clause-beside_overlays
+returns-clause-beside_overlays c = inode_beside_overlays_goes_with_its_last_use
+
+pub returns-clause-of_overlay : goal.returns-clause-of_overlay
+returns-clause-of_overlay c = inode_of_overlay_goes_with_its_last_use
 
 pub returns-clause-namespace : goal.returns-clause-namespace
 returns-clause-namespace c = namespace_ends_with_its_last_task
