@@ -4,3 +4,4 @@ pub mod MountsAndFilesystems
 pub mod Groups
 pub mod Namespaces
 pub mod InodesLeft
+pub mod UppersLeft

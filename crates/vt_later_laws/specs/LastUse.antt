@@ -1,7 +1,7 @@
 -- Each thing goes with its last use: close(2), umount(2) with MNT_DETACH, path_resolution(7), mount_namespaces(7). In
 -- each statement all is in use in the world before, and one use is taken away; the sweep of things of that kind takes
 -- that thing if the use was its last, and nothing else.
-use Rattle.std.specs.Prelude.{List, None, [], false, if◌then◌else◌, is_some, map, nat_eq, nat_lt, true, ℕ, ◌+◌, ◌++◌, ◌||◌, ◌∷◌, ◌≡◌}
+use Rattle.std.specs.Prelude.{List, None, Some, [], false, if◌then◌else◌, is_some, map, nat_eq, nat_lt, true, ℕ, ◌+◌, ◌++◌, ◌||◌, ◌∷◌, ◌≡◌}
 use Rattle.vt_spec.specs.Lists.{any_pair}
 use Rattle.vt_spec.specs.Machine.Invariants.{MountInvariants, NamespaceInvariants}
 use Rattle.vt_spec.specs.Machine.Mounts.{Location, Mount, source_of}
@@ -9,7 +9,8 @@ use Rattle.vt_spec.specs.Machine.Mounts.Propagation.{Shared}
 use Rattle.vt_spec.specs.Machine.Namespaces.{namespaces_ended}
 use Rattle.vt_spec.specs.Machine.Receives.{regrouped}
 use Rattle.vt_spec.specs.Machine.Settled.{without_dead_filesystems, without_dead_groups, without_dead_inodes, without_dead_mounts}
-use Rattle.vt_spec.specs.Machine.World.{Filesystem, Task, World, all_locations, filesystem_numbered, is_overlay, mount_at, with_mounts}
+use Rattle.vt_spec.specs.Machine.World.{Filesystem, Layer, Overlay, Task, World, all_locations, filesystem_numbered, is_overlay, mount_at, upper_object, with_mounts}
+use Rattle.vt_spec.specs.Machine.World.Real.{Upper}
 use Rattle.vt_letting_go.specs.Counts.{inode_uses, member_count, mount_uses, mounts_showing, times}
 use Rattle.vt_letting_go.specs.Ends.{without_namespace}
 use Rattle.vt_letting_go.specs.Groups.{hand_on}
@@ -129,3 +130,31 @@ InodeOfOverlayGoesWithItsLastUse =
     → without_dead_inodes nat_eq after
     ≡ (if nat_lt 1 (inode_uses world (filesystem_numbered nat_eq world inode.0) inode.1) then after
     else let_go_plain (without_merged_inode after inode) (uppers_of after (inode ∷ [])))
+
+-- Where its real object was no upper inode, nothing else goes.
+abbrev pub InodeOverLowersGoesAlone : Type 0
+InodeOverLowersGoesAlone =
+    (world after : World ℕ) (inode : Inode) (overlay : Overlay ℕ) → AllInUse world → LosesOneUse inode world after
+    → (filesystem_numbered nat_eq after inode.0).overlay ≡ Some overlay → upper_object (overlay.real inode.1) ≡ None
+    → HasTrees after → UppersArePlain after → RealsAreThere after
+    → any_pair (λ (a b : Filesystem ℕ). nat_eq a.number b.number) after.filesystems ≡ false
+    → without_dead_inodes nat_eq after
+    ≡ (if nat_lt 1 (inode_uses world (filesystem_numbered nat_eq world inode.0) inode.1) then after
+    else without_merged_inode after inode)
+
+-- Where it was an upper inode, that goes with it, unless it has another use. The number of the inode of the overlay
+-- stands once beside the tree.
+abbrev pub UpperInodeGoesWithItsLastUse : Type 0
+UpperInodeGoesWithItsLastUse =
+    (world after : World ℕ) (inode : Inode) (overlay : Overlay ℕ) (layer : Layer ℕ) (object : ℕ)
+    → AllInUse world → LosesOneUse inode world after
+    → (filesystem_numbered nat_eq after inode.0).overlay ≡ Some overlay → overlay.upper ≡ Some layer
+    → overlay.real inode.1 ≡ Some (Upper object)
+    → times (nat_eq inode.1) (filesystem_numbered nat_eq after inode.0).files.numbers ≡ 1
+    → HasTrees after → UppersArePlain after → RealsAreThere after
+    → any_pair (λ (a b : Filesystem ℕ). nat_eq a.number b.number) after.filesystems ≡ false
+    → without_dead_inodes nat_eq after
+    ≡ (if nat_lt 1 (inode_uses world (filesystem_numbered nat_eq world inode.0) inode.1) then after
+    else if nat_lt 1 (inode_uses world (filesystem_numbered nat_eq world layer.filesystem) object)
+    then without_merged_inode after inode
+    else without_inode_at (without_merged_inode after inode) (layer.filesystem, object))

@@ -1,5 +1,5 @@
 -- An inode goes with its last use.
-use Rattle.std.proofs.Common.{◌≡◌, refl, sym, ap, subst, ◌∙◌, ℕ, nat_eq, eqb-true, eq-eqb, Bool, true, false, true≢false, cond, not, ◌||◌, ◌&&◌, ◌+◌, List, [], ◌∷◌, ◌++◌, find, map, Option, Some, None, is_some, option_map, unwrap_or, arith}
+use Rattle.std.proofs.Common.{◌≡◌, refl, sym, ap, subst, ◌∙◌, ℕ, nat_eq, eqb-true, eq-eqb, Bool, true, false, true≢false, cond, not, ◌||◌, ◌&&◌, ◌+◌, [], ◌∷◌, ◌++◌, find, map, Option, Some, None, is_some, option_map, unwrap_or, arith}
 use Rattle.std.specs.Prelude.{nat_lt}
 use Rattle.std.specs.List.{list_all}
 use Rattle.std.proofs.Math.Bool.{and-false, and-true}
@@ -9,7 +9,7 @@ use Rattle.vt_spec.specs.Machine.Locked.{of_overlay, overlay_or}
 use Rattle.vt_spec.specs.Machine.Settled.{without_dead_in, without_dead_inodes}
 use Rattle.vt_spec.specs.Machine.World.{Filesystem, Overlay, World, filesystem_numbered, is_overlay, no_filesystem}
 use Rattle.vt_letting_go.specs.Counts.{inode_uses}
-use Rattle.vt_letting_go.specs.InUse.{AllInUse, HasTrees, InodesInUse, UppersArePlain, is_inode_used}
+use Rattle.vt_letting_go.specs.InUse.{HasTrees, InodesInUse, UppersArePlain, is_inode_used}
 use Rattle.vt_letting_go.specs.OneByOne.{Inode, InodesInUseBut, is_used_or_among, let_go_inode, let_go_inode_of, without_inode, without_inode_at}
 use Rattle.vt_letting_go.specs.Overlays.{RealsAreThere, is_plain, let_go_in, let_go_in_of, let_go_plain, uppers_in, uppers_of, uppers_of_inode, uppers_of_inode_in, without_inode_of, without_real}
 use Rattle.vt_letting_go.proofs.Lists.{Among, all_from_among, all_pass, among-from_map, among_from_all, flat_map_none, found_by, found_in, map_alike, map_same, passes}
@@ -77,7 +77,7 @@ module _ (world after : World ℕ) (inode : Inode) (in_use : InodesInUse world) 
       alike : (a b : ℕ) → a ≡ b + 0 → a ≡ b
       alike a b e = omega arith
 
-  found_after : (filesystem : Filesystem ℕ) → Among filesystem after.filesystems
+  pub found_after : (filesystem : Filesystem ℕ) → Among filesystem after.filesystems
       → filesystem_numbered nat_eq after filesystem.number ≡ filesystem
   found_after filesystem m =
       found_by (λ (x : Filesystem ℕ). x.number) (no_filesystem filesystem.number) after.filesystems one filesystem m
@@ -122,7 +122,7 @@ module _ (world after : World ℕ) (inode : Inode) (in_use : InodesInUse world) 
       by f m number n false e = others_used f m number n e
 
   -- the filesystem of its number
-  its_kind : (b : Bool) → is_overlay (filesystem_numbered nat_eq after inode.0) ≡ b → (filesystem : Filesystem ℕ)
+  pub its_kind : (b : Bool) → is_overlay (filesystem_numbered nat_eq after inode.0) ≡ b → (filesystem : Filesystem ℕ)
       → Among filesystem after.filesystems → nat_eq filesystem.number inode.0 ≡ true → is_overlay filesystem ≡ b
   its_kind b kind filesystem m e =
       ap is_overlay (sym (found_after filesystem m))
@@ -256,7 +256,7 @@ module _ (world after : World ℕ) (inode : Inode) (in_use : InodesInUse world) 
             (cond b (without_inode_of inode.1 f) f).number inode.0) e
             ∙ ap (λ b. is_plain f && b) e ∙ and-false (is_plain f))
 
-    of_overlay_left : HasTrees after → UppersArePlain after → RealsAreThere after → (more : Bool)
+    pub of_overlay_left : HasTrees after → UppersArePlain after → RealsAreThere after → (more : Bool)
         → nat_lt 1 (inode_uses world (filesystem_numbered nat_eq world inode.0) inode.1) ≡ more
         → without_dead_inodes nat_eq after
         ≡ cond more after (let_go_plain (without_merged_inode after inode) (uppers_of after (inode ∷ [])))
