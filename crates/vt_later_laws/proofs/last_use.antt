@@ -5,3 +5,4 @@ pub mod Groups
 pub mod Namespaces
 pub mod InodesLeft
 pub mod UppersLeft
+pub mod LocationsLeft

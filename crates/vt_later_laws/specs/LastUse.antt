@@ -3,19 +3,20 @@
 -- that thing if the use was its last, and nothing else.
 use Rattle.std.specs.Prelude.{List, None, Some, [], false, if◌then◌else◌, is_some, map, nat_eq, nat_lt, true, ℕ, ◌+◌, ◌++◌, ◌||◌, ◌∷◌, ◌≡◌}
 use Rattle.vt_spec.specs.Lists.{any_pair}
-use Rattle.vt_spec.specs.Machine.Invariants.{MountInvariants, NamespaceInvariants}
+use Rattle.vt_spec.specs.Machine.Invariants.{IsWorld, MountInvariants, NamespaceInvariants}
 use Rattle.vt_spec.specs.Machine.Mounts.{Location, Mount, source_of}
 use Rattle.vt_spec.specs.Machine.Mounts.Propagation.{Shared}
 use Rattle.vt_spec.specs.Machine.Namespaces.{namespaces_ended}
 use Rattle.vt_spec.specs.Machine.Receives.{regrouped}
-use Rattle.vt_spec.specs.Machine.Settled.{without_dead_filesystems, without_dead_groups, without_dead_inodes, without_dead_mounts}
-use Rattle.vt_spec.specs.Machine.World.{Filesystem, Layer, Overlay, Task, World, all_locations, filesystem_numbered, is_overlay, mount_at, upper_object, with_mounts}
+use Rattle.vt_spec.specs.Machine.Settled.{settled, without_dead_filesystems, without_dead_groups, without_dead_inodes, without_dead_mounts}
+use Rattle.vt_spec.specs.Machine.World.{Filesystem, Layer, Overlay, Task, World, all_locations, filesystem_at, filesystem_numbered, is_overlay, mount_at, upper_object, with_mounts}
 use Rattle.vt_spec.specs.Machine.World.Real.{Upper}
 use Rattle.vt_letting_go.specs.Counts.{inode_uses, member_count, mount_uses, mounts_showing, times}
 use Rattle.vt_letting_go.specs.Ends.{without_namespace}
 use Rattle.vt_letting_go.specs.Groups.{hand_on}
 use Rattle.vt_letting_go.specs.InUse.{AllInUse, HasTrees, UppersArePlain}
 use Rattle.vt_letting_go.specs.Leaving.{with_tasks}
+use Rattle.vt_letting_go.specs.Mounting.{inode_at}
 use Rattle.vt_letting_go.specs.OneByOne.{Inode, IsPlain, without_filesystem, without_inode_at, without_master, without_mount}
 use Rattle.vt_letting_go.specs.Overlays.{RealsAreThere, let_go_plain, uppers_of, without_inode_of}
 use Rattle.vt_count_laws.specs.Using.{Exchanges, is_inode}
@@ -158,3 +159,15 @@ UpperInodeGoesWithItsLastUse =
     else if nat_lt 1 (inode_uses world (filesystem_numbered nat_eq world layer.filesystem) object)
     then without_merged_inode after inode
     else without_inode_at (without_merged_inode after inode) (layer.filesystem, object))
+
+-- The whole sweep, where tasks leave one location in a plain tree, and its mount stays: the inode there goes, unless it
+-- has another use, and nothing else.
+abbrev pub LocationTakesItsInode : Type 0
+LocationTakesItsInode =
+    (world : World ℕ) (tasks : List (Task ℕ)) (front back : List (Location ℕ)) (location : Location ℕ)
+    → IsWorld nat_eq world → is_overlay (filesystem_at nat_eq world location) ≡ false
+    → all_locations world ≡ front ++ (location ∷ back) → all_locations (with_tasks world tasks) ≡ front ++ back
+    → (is_some (mount_at nat_eq world location).namespace || nat_lt 1 (mount_uses world location.mount)) ≡ true
+    → settled nat_eq (with_tasks world tasks)
+    ≡ (if nat_lt 1 (inode_uses world (filesystem_at nat_eq world location) location.node) then with_tasks world tasks
+    else without_inode_at (with_tasks world tasks) (inode_at world location))

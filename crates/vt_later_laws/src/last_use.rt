@@ -1,5 +1,5 @@
 //! Each thing goes with its last use.
-ghost use Rattle.vt_later_laws.specs.LastUse.{ExchangeOfOneLosesOneUse, FilesystemGoesWithItsLastUse, GroupGoesWithItsLastMember, GroupIsHandedOnWithItsLastMember, InodeBesideOverlaysGoesWithItsLastUse, InodeGoesWithItsLastUse, InodeOfOverlayGoesWithItsLastUse, InodeOverLowersGoesAlone, MountGoesWithItsLastUse, NamespaceEndsWithItsLastTask, UpperInodeGoesWithItsLastUse};
+ghost use Rattle.vt_later_laws.specs.LastUse.{ExchangeOfOneLosesOneUse, FilesystemGoesWithItsLastUse, GroupGoesWithItsLastMember, GroupIsHandedOnWithItsLastMember, InodeBesideOverlaysGoesWithItsLastUse, InodeGoesWithItsLastUse, InodeOfOverlayGoesWithItsLastUse, InodeOverLowersGoesAlone, LocationTakesItsInode, MountGoesWithItsLastUse, NamespaceEndsWithItsLastTask, UpperInodeGoesWithItsLastUse};
 
 use vt_letting_go::ends::a_group_ends_with_its_last_member;
 
@@ -18,6 +18,7 @@ pub fn each_thing_goes_with_its_last_use()
     ensures of_overlay { InodeOfOverlayGoesWithItsLastUse }
     ensures over_lowers { InodeOverLowersGoesAlone }
     ensures upper { UpperInodeGoesWithItsLastUse }
+    ensures location { LocationTakesItsInode }
     ensures namespace { NamespaceEndsWithItsLastTask }
     ensures group { GroupIsHandedOnWithItsLastMember }
     ensures master { GroupGoesWithItsLastMember }
