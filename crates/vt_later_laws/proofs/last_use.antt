@@ -1,6 +1,7 @@
 -- What the proofs of src/last_use.rt use.
 pub mod OneLess
 pub mod MountsAndFilesystems
+pub mod OverlaysUnmounted
 pub mod Groups
 pub mod Namespaces
 pub mod InodesLeft

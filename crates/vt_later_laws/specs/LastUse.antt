@@ -1,15 +1,16 @@
 -- Each thing goes with its last use: close(2), umount(2) with MNT_DETACH, path_resolution(7), mount_namespaces(7). In
 -- each statement all is in use in the world before, and one use is taken away; the sweep of things of that kind takes
 -- that thing if the use was its last, and nothing else.
-use Rattle.std.specs.Prelude.{List, None, Some, [], false, if◌then◌else◌, is_some, map, nat_eq, nat_lt, true, ℕ, ◌+◌, ◌++◌, ◌||◌, ◌∷◌, ◌≡◌}
+use Rattle.std.specs.Prelude.{Bool, List, None, Some, [], false, if◌then◌else◌, is_some, map, nat_eq, nat_lt, true, ℕ, ◌&&◌, ◌+◌, ◌++◌, ◌||◌, ◌∷◌, ◌≡◌}
+use Rattle.std.specs.List.{list_any}
 use Rattle.vt_spec.specs.Lists.{any_pair}
 use Rattle.vt_spec.specs.Machine.Invariants.{IsWorld, MountInvariants, NamespaceInvariants}
 use Rattle.vt_spec.specs.Machine.Mounts.{Location, Mount, source_of}
 use Rattle.vt_spec.specs.Machine.Mounts.Propagation.{Shared}
 use Rattle.vt_spec.specs.Machine.Namespaces.{namespaces_ended}
 use Rattle.vt_spec.specs.Machine.Receives.{regrouped}
-use Rattle.vt_spec.specs.Machine.Settled.{settled, without_dead_filesystems, without_dead_groups, without_dead_inodes, without_dead_mounts}
-use Rattle.vt_spec.specs.Machine.World.{Filesystem, Layer, Overlay, Task, World, all_locations, filesystem_at, filesystem_numbered, is_overlay, mount_at, upper_object, with_mounts}
+use Rattle.vt_spec.specs.Machine.Settled.{has_layer_on, is_mounted, settled, without_dead_filesystems, without_dead_groups, without_dead_inodes, without_dead_mounts}
+use Rattle.vt_spec.specs.Machine.World.{Filesystem, Layer, Overlay, Task, World, all_locations, filesystem_at, filesystem_numbered, is_overlay, layers_of, mount_at, upper_object, with_mounts}
 use Rattle.vt_spec.specs.Machine.World.Real.{Upper}
 use Rattle.vt_letting_go.specs.Counts.{inode_uses, member_count, mount_uses, mounts_showing, times}
 use Rattle.vt_letting_go.specs.Ends.{without_namespace}
@@ -17,7 +18,7 @@ use Rattle.vt_letting_go.specs.Groups.{hand_on}
 use Rattle.vt_letting_go.specs.InUse.{AllInUse, HasTrees, UppersArePlain}
 use Rattle.vt_letting_go.specs.Leaving.{with_tasks}
 use Rattle.vt_letting_go.specs.Mounting.{inode_at}
-use Rattle.vt_letting_go.specs.OneByOne.{Inode, IsPlain, without_filesystem, without_inode_at, without_master, without_mount}
+use Rattle.vt_letting_go.specs.OneByOne.{Inode, IsPlain, let_go_filesystems, without_filesystem, without_inode_at, without_master, without_mount}
 use Rattle.vt_letting_go.specs.Overlays.{RealsAreThere, let_go_plain, uppers_of, without_inode_of}
 use Rattle.vt_count_laws.specs.Using.{Exchanges, is_inode}
 
@@ -39,6 +40,39 @@ FilesystemGoesWithItsLastUse =
     → world.mounts ≡ front ++ (mount ∷ back) → after.mounts ≡ front ++ back
     → without_dead_filesystems nat_eq after
     ≡ (if nat_lt 1 (mounts_showing world mount.filesystem) then after else without_filesystem after mount.filesystem)
+
+-- a mounted overlay has a layer in the filesystem
+abbrev pub is_layered : World ℕ → ℕ → Bool
+is_layered world number =
+    list_any (λ merged. has_layer_on nat_eq number merged && is_mounted nat_eq world merged.number) world.filesystems
+
+-- In a world with overlays, where the mount shows a plain filesystem: that goes, unless another mount shows it, or a
+-- mounted overlay has a layer in it.
+abbrev pub FilesystemBesideOverlaysGoesWithItsLastUse : Type 0
+FilesystemBesideOverlaysGoesWithItsLastUse =
+    (world after : World ℕ) (front back : List (Mount ℕ)) (mount : Mount ℕ) → AllInUse world
+    → any_pair (λ (a b : Filesystem ℕ). nat_eq a.number b.number) world.filesystems ≡ false
+    → is_overlay (filesystem_numbered nat_eq world mount.filesystem) ≡ false
+    → after.filesystems ≡ world.filesystems
+    → world.mounts ≡ front ++ (mount ∷ back) → after.mounts ≡ front ++ back
+    → without_dead_filesystems nat_eq after
+    ≡ (if nat_lt 1 (mounts_showing world mount.filesystem) || is_layered world mount.filesystem then after
+    else without_filesystem after mount.filesystem)
+
+-- Where it shows an overlay in which no other has a layer: that goes, unless another mount shows it; then the
+-- filesystems of its layers are looked at.
+abbrev pub OverlayGoesWithItsLastUse : Type 0
+OverlayGoesWithItsLastUse =
+    (world after : World ℕ) (front back : List (Mount ℕ)) (mount : Mount ℕ) (overlay : Overlay ℕ) → AllInUse world
+    → any_pair (λ (a b : Filesystem ℕ). nat_eq a.number b.number) world.filesystems ≡ false
+    → (filesystem_numbered nat_eq world mount.filesystem).overlay ≡ Some overlay
+    → list_any (has_layer_on nat_eq mount.filesystem) world.filesystems ≡ false
+    → after.filesystems ≡ world.filesystems
+    → world.mounts ≡ front ++ (mount ∷ back) → after.mounts ≡ front ++ back
+    → without_dead_filesystems nat_eq after
+    ≡ (if nat_lt 1 (mounts_showing world mount.filesystem) then after
+    else let_go_filesystems (without_filesystem after mount.filesystem)
+    (map (λ layer. layer.filesystem) (layers_of overlay)))
 
 -- how many tasks are in a namespace
 abbrev pub task_count : World ℕ → ℕ → ℕ

@@ -1,5 +1,5 @@
 //! Each thing goes with its last use.
-ghost use Rattle.vt_later_laws.specs.LastUse.{ExchangeOfOneLosesOneUse, FilesystemGoesWithItsLastUse, GroupGoesWithItsLastMember, GroupIsHandedOnWithItsLastMember, InodeBesideOverlaysGoesWithItsLastUse, InodeGoesWithItsLastUse, InodeOfOverlayGoesWithItsLastUse, InodeOverLowersGoesAlone, LocationTakesItsInode, MountGoesWithItsLastUse, NamespaceEndsWithItsLastTask, UpperInodeGoesWithItsLastUse};
+ghost use Rattle.vt_later_laws.specs.LastUse.{ExchangeOfOneLosesOneUse, FilesystemBesideOverlaysGoesWithItsLastUse, FilesystemGoesWithItsLastUse, GroupGoesWithItsLastMember, GroupIsHandedOnWithItsLastMember, InodeBesideOverlaysGoesWithItsLastUse, InodeGoesWithItsLastUse, InodeOfOverlayGoesWithItsLastUse, InodeOverLowersGoesAlone, LocationTakesItsInode, MountGoesWithItsLastUse, NamespaceEndsWithItsLastTask, OverlayGoesWithItsLastUse, UpperInodeGoesWithItsLastUse};
 
 use vt_letting_go::ends::a_group_ends_with_its_last_member;
 
@@ -12,6 +12,8 @@ use vt_letting_go::ends::a_group_ends_with_its_last_member;
 pub fn each_thing_goes_with_its_last_use()
     ensures mount { MountGoesWithItsLastUse }
     ensures filesystem { FilesystemGoesWithItsLastUse }
+    ensures filesystem_beside_overlays { FilesystemBesideOverlaysGoesWithItsLastUse }
+    ensures overlay { OverlayGoesWithItsLastUse }
     ensures exchange { ExchangeOfOneLosesOneUse }
     ensures inode { InodeGoesWithItsLastUse }
     ensures beside_overlays { InodeBesideOverlaysGoesWithItsLastUse }

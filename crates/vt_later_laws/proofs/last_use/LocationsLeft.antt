@@ -1,11 +1,9 @@
 -- The whole sweep, where one location is left.
-use Rattle.std.proofs.Common.{◌≡◌, refl, ap, ◌∙◌, ℕ, nat_eq, Bool, true, false, cond, ◌||◌, List, [], ◌∷◌, ◌++◌, is_some}
+use Rattle.std.proofs.Common.{◌≡◌, refl, ap, ◌∙◌, ℕ, nat_eq, Bool, true, false, cond, [], ◌∷◌}
 use Rattle.std.specs.Prelude.{nat_lt}
-use Rattle.vt_spec.specs.Machine.Invariants.{IsWorld}
-use Rattle.vt_spec.specs.Machine.Mounts.{Location}
-use Rattle.vt_spec.specs.Machine.Settled.{settled, without_dead_filesystems, without_dead_groups, without_dead_inodes, without_dead_mounts}
-use Rattle.vt_spec.specs.Machine.World.{Task, World, all_locations, filesystem_at, is_overlay, mount_at}
-use Rattle.vt_letting_go.specs.Counts.{inode_uses, mount_uses}
+use Rattle.vt_spec.specs.Machine.Settled.{without_dead_filesystems, without_dead_groups, without_dead_inodes}
+use Rattle.vt_spec.specs.Machine.World.{World, filesystem_at}
+use Rattle.vt_letting_go.specs.Counts.{inode_uses}
 use Rattle.vt_letting_go.specs.InUse.{AllInUse}
 use Rattle.vt_letting_go.specs.Leaving.{with_tasks}
 use Rattle.vt_letting_go.specs.Mounting.{inode_at}

@@ -63,10 +63,9 @@ mount_goes_with_its_last_use world tasks front back location in_use one before l
     (located_still world tasks front back location before left)
 
 module _ (world after : World ℕ) (front back : List (Mount ℕ)) (mount : Mount ℕ)
-    (before : world.mounts ≡ front ++ (mount ∷ back)) (left : after.mounts ≡ front ++ back) (plain : IsPlain world)
-    (same : after.filesystems ≡ world.filesystems) where
+    (before : world.mounts ≡ front ++ (mount ∷ back)) (left : after.mounts ≡ front ++ back) where
   -- other filesystems are mounted as before
-  mounted_as_before : (number : ℕ) → nat_eq number mount.filesystem ≡ false
+  pub mounted_as_before : (number : ℕ) → nat_eq number mount.filesystem ≡ false
       → is_mounted nat_eq after number ≡ is_mounted nat_eq world number
   mounted_as_before number differs =
       ap (list_any (λ (m : Mount ℕ). nat_eq number m.filesystem)) left
@@ -74,48 +73,49 @@ module _ (world after : World ℕ) (front back : List (Mount ℕ)) (mount : Moun
       ∙ ap (list_any (λ (m : Mount ℕ). nat_eq number m.filesystem)) (sym before)
 
   -- its own filesystem is mounted if it was more than once
-  mounted_still : is_mounted nat_eq after mount.filesystem ≡ nat_lt 1 (mounts_showing world mount.filesystem)
+  pub mounted_still : is_mounted nat_eq after mount.filesystem ≡ nat_lt 1 (mounts_showing world mount.filesystem)
   mounted_still =
       ap (list_any (λ (m : Mount ℕ). nat_eq mount.filesystem m.filesystem)) left
       ∙ some_without_it (λ (m : Mount ℕ). nat_eq mount.filesystem m.filesystem) mount
       (eq-eqb mount.filesystem mount.filesystem refl) front back
       ∙ ap (λ list. nat_lt 1 (times (λ (m : Mount ℕ). nat_eq mount.filesystem m.filesystem) list)) (sym before)
 
-  -- a plain filesystem is in use just while it is mounted
-  lives_mounted : (other : World ℕ) → other.filesystems ≡ world.filesystems → (filesystem : Filesystem ℕ)
-      → filesystem_lives nat_eq other filesystem ≡ is_mounted nat_eq other filesystem.number
-  lives_mounted other alike filesystem =
-      ap (λ b. is_mounted nat_eq other filesystem.number || b)
-      (no_layers filesystem.number other other.filesystems (ap (list_any is_overlay) alike ∙ plain))
-      ∙ or-false (is_mounted nat_eq other filesystem.number)
+  module _ (plain : IsPlain world) (same : after.filesystems ≡ world.filesystems) where
+    -- a plain filesystem is in use just while it is mounted
+    lives_mounted : (other : World ℕ) → other.filesystems ≡ world.filesystems → (filesystem : Filesystem ℕ)
+        → filesystem_lives nat_eq other filesystem ≡ is_mounted nat_eq other filesystem.number
+    lives_mounted other alike filesystem =
+        ap (λ b. is_mounted nat_eq other filesystem.number || b)
+        (no_layers filesystem.number other other.filesystems (ap (list_any is_overlay) alike ∙ plain))
+        ∙ or-false (is_mounted nat_eq other filesystem.number)
 
-  other_filesystems : FilesystemsInUse world → FilesystemsInUseBut (mount.filesystem ∷ []) after
-  other_filesystems in_use =
-      ap (list_all (λ filesystem. is_among nat_eq filesystem.number (mount.filesystem ∷ [])
-      || filesystem_lives nat_eq after filesystem)) same
-      ∙ all_pass (λ filesystem. is_among nat_eq filesystem.number (mount.filesystem ∷ [])
-      || filesystem_lives nat_eq after filesystem) world.filesystems
-      (λ filesystem m. by filesystem (nat_eq filesystem.number mount.filesystem) refl
-      (passes (filesystem_lives nat_eq world) world.filesystems in_use filesystem m))
-    where
-      by : (filesystem : Filesystem ℕ) (b : Bool) → nat_eq filesystem.number mount.filesystem ≡ b
-          → filesystem_lives nat_eq world filesystem ≡ true
-          → ((b || false) || filesystem_lives nat_eq after filesystem) ≡ true
-      by filesystem true is lives = refl
-      by filesystem false differs lives =
-          lives_mounted after same filesystem ∙ mounted_as_before filesystem.number differs
-          ∙ sym (lives_mounted world refl filesystem) ∙ lives
+    other_filesystems : FilesystemsInUse world → FilesystemsInUseBut (mount.filesystem ∷ []) after
+    other_filesystems in_use =
+        ap (list_all (λ filesystem. is_among nat_eq filesystem.number (mount.filesystem ∷ [])
+        || filesystem_lives nat_eq after filesystem)) same
+        ∙ all_pass (λ filesystem. is_among nat_eq filesystem.number (mount.filesystem ∷ [])
+        || filesystem_lives nat_eq after filesystem) world.filesystems
+        (λ filesystem m. by filesystem (nat_eq filesystem.number mount.filesystem) refl
+        (passes (filesystem_lives nat_eq world) world.filesystems in_use filesystem m))
+      where
+        by : (filesystem : Filesystem ℕ) (b : Bool) → nat_eq filesystem.number mount.filesystem ≡ b
+            → filesystem_lives nat_eq world filesystem ≡ true
+            → ((b || false) || filesystem_lives nat_eq after filesystem) ≡ true
+        by filesystem true is lives = refl
+        by filesystem false differs lives =
+            lives_mounted after same filesystem ∙ mounted_as_before filesystem.number differs
+            ∙ sym (lives_mounted world refl filesystem) ∙ lives
 
-  filesystem_left : FilesystemsInUse world
-      → without_dead_filesystems nat_eq after
-      ≡ cond (nat_lt 1 (mounts_showing world mount.filesystem)) after (without_filesystem after mount.filesystem)
-  filesystem_left in_use =
-      filesystems_go_one_by_one after (mount.filesystem ∷ []) (other_filesystems in_use)
-      ∙ filesystem_is_looked_up after mount.filesystem
-      ∙ ap (λ b. cond b after (without_filesystem after mount.filesystem))
-      (ap (λ b. is_mounted nat_eq after mount.filesystem || b)
-      (no_layers mount.filesystem after after.filesystems (ap (list_any is_overlay) same ∙ plain))
-      ∙ or-false (is_mounted nat_eq after mount.filesystem) ∙ mounted_still)
+    filesystem_left : FilesystemsInUse world
+        → without_dead_filesystems nat_eq after
+        ≡ cond (nat_lt 1 (mounts_showing world mount.filesystem)) after (without_filesystem after mount.filesystem)
+    filesystem_left in_use =
+        filesystems_go_one_by_one after (mount.filesystem ∷ []) (other_filesystems in_use)
+        ∙ filesystem_is_looked_up after mount.filesystem
+        ∙ ap (λ b. cond b after (without_filesystem after mount.filesystem))
+        (ap (λ b. is_mounted nat_eq after mount.filesystem || b)
+        (no_layers mount.filesystem after after.filesystems (ap (list_any is_overlay) same ∙ plain))
+        ∙ or-false (is_mounted nat_eq after mount.filesystem) ∙ mounted_still)
 
 pub filesystem_goes_with_its_last_use : FilesystemGoesWithItsLastUse
 filesystem_goes_with_its_last_use world after front back mount in_use plain same before left =

@@ -3,6 +3,7 @@ use Rattle.vt_later_laws.proofs.last_use.InodesLeft.{exchange_of_one_loses_one_u
 use Rattle.vt_later_laws.proofs.last_use.LocationsLeft.{location_takes_its_inode}
 use Rattle.vt_later_laws.proofs.last_use.MountsAndFilesystems.{filesystem_goes_with_its_last_use, mount_goes_with_its_last_use}
 use Rattle.vt_later_laws.proofs.last_use.Namespaces.{namespace_ends_with_its_last_task}
+use Rattle.vt_later_laws.proofs.last_use.OverlaysUnmounted.{filesystem_beside_overlays_goes_with_its_last_use, overlay_goes_with_its_last_use}
 use Rattle.vt_later_laws.proofs.last_use.UppersLeft.{inode_over_lowers_goes_alone, upper_inode_goes_with_its_last_use}
 use Rattle.vt_later_laws.proofs.last_use.each_thing_goes_with_its_last_use.Goals as goal
 
@@ -11,6 +12,12 @@ returns-clause-mount c = mount_goes_with_its_last_use
 
 pub returns-clause-filesystem : goal.returns-clause-filesystem
 returns-clause-filesystem c = filesystem_goes_with_its_last_use
+
+pub returns-clause-filesystem_beside_overlays : goal.returns-clause-filesystem_beside_overlays
+returns-clause-filesystem_beside_overlays c = filesystem_beside_overlays_goes_with_its_last_use
+
+pub returns-clause-overlay : goal.returns-clause-overlay
+returns-clause-overlay c = overlay_goes_with_its_last_use
 
 pub returns-clause-exchange : goal.returns-clause-exchange
 returns-clause-exchange c = exchange_of_one_loses_one_use
