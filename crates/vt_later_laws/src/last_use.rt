@@ -4,11 +4,13 @@ ghost use Rattle.vt_later_laws.specs.LastUse.{ExchangeOfOneLosesOneUse, Filesyst
 use vt_letting_go::ends::a_group_ends_with_its_last_member;
 
 /// Where all is in use and one use is taken away, the thing that it was a use of goes just if the use was its last, and
-/// nothing else of its kind goes.
+/// nothing else of its kind goes. The counts are those of the world before.
 ///
-/// A mount goes with the last location on it, if it is in no namespace; a filesystem goes with the last mount that shows
-/// it, in a world without overlays; a namespace ends with its last task; a peer group ends with its last member, which
-/// hands its slaves on to its master.
+/// A mount goes with the last location on it, if it is in no namespace; a filesystem with the last mount that shows it,
+/// if no mounted overlay has a layer in it; an inode with the last name, location, mount or mount point that uses it. An
+/// overlay may take the filesystems of its layers with it, and an inode of an overlay the upper inode that was its real
+/// object. A namespace ends with its last task. A peer group ends with its last member, and hands its slaves on to its
+/// master.
 pub fn each_thing_goes_with_its_last_use()
     ensures mount { MountGoesWithItsLastUse }
     ensures filesystem { FilesystemGoesWithItsLastUse }
@@ -16,10 +18,10 @@ pub fn each_thing_goes_with_its_last_use()
     ensures overlay { OverlayGoesWithItsLastUse }
     ensures exchange { ExchangeOfOneLosesOneUse }
     ensures inode { InodeGoesWithItsLastUse }
-    ensures beside_overlays { InodeBesideOverlaysGoesWithItsLastUse }
-    ensures of_overlay { InodeOfOverlayGoesWithItsLastUse }
-    ensures over_lowers { InodeOverLowersGoesAlone }
-    ensures upper { UpperInodeGoesWithItsLastUse }
+    ensures inode_beside_overlays { InodeBesideOverlaysGoesWithItsLastUse }
+    ensures inode_of_overlay { InodeOfOverlayGoesWithItsLastUse }
+    ensures inode_over_lowers { InodeOverLowersGoesAlone }
+    ensures upper_inode { UpperInodeGoesWithItsLastUse }
     ensures location { LocationTakesItsInode }
     ensures namespace { NamespaceEndsWithItsLastTask }
     ensures group { GroupIsHandedOnWithItsLastMember }

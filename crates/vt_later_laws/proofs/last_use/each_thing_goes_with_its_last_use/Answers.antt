@@ -25,17 +25,17 @@ returns-clause-exchange c = exchange_of_one_loses_one_use
 pub returns-clause-inode : goal.returns-clause-inode
 returns-clause-inode c = inode_goes_with_its_last_use
 
-pub returns-clause-beside_overlays : goal.returns-clause-beside_overlays
-returns-clause-beside_overlays c = inode_beside_overlays_goes_with_its_last_use
+pub returns-clause-inode_beside_overlays : goal.returns-clause-inode_beside_overlays
+returns-clause-inode_beside_overlays c = inode_beside_overlays_goes_with_its_last_use
 
-pub returns-clause-of_overlay : goal.returns-clause-of_overlay
-returns-clause-of_overlay c = inode_of_overlay_goes_with_its_last_use
+pub returns-clause-inode_of_overlay : goal.returns-clause-inode_of_overlay
+returns-clause-inode_of_overlay c = inode_of_overlay_goes_with_its_last_use
 
-pub returns-clause-over_lowers : goal.returns-clause-over_lowers
-returns-clause-over_lowers c = inode_over_lowers_goes_alone
+pub returns-clause-inode_over_lowers : goal.returns-clause-inode_over_lowers
+returns-clause-inode_over_lowers c = inode_over_lowers_goes_alone
 
-pub returns-clause-upper : goal.returns-clause-upper
-returns-clause-upper c = upper_inode_goes_with_its_last_use
+pub returns-clause-upper_inode : goal.returns-clause-upper_inode
+returns-clause-upper_inode c = upper_inode_goes_with_its_last_use
 
 pub returns-clause-location : goal.returns-clause-location
 returns-clause-location c = location_takes_its_inode
