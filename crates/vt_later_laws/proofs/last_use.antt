@@ -7,3 +7,4 @@ pub mod Namespaces
 pub mod InodesLeft
 pub mod UppersLeft
 pub mod LocationsLeft
+pub mod LastLocations

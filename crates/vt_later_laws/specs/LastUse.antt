@@ -205,3 +205,16 @@ LocationTakesItsInode =
     → settled nat_eq (with_tasks world tasks)
     ≡ (if nat_lt 1 (inode_uses world (filesystem_at nat_eq world location) location.node) then with_tasks world tasks
     else without_inode_at (with_tasks world tasks) (inode_at world location))
+
+-- The whole sweep, where tasks leave the last location on a mount in no namespace, and no other mount shows its
+-- filesystem: the mount and the filesystem go, and nothing else.
+abbrev pub LocationTakesItsFilesystem : Type 0
+LocationTakesItsFilesystem =
+    (world : World ℕ) (tasks : List (Task ℕ)) (front back : List (Location ℕ)) (location : Location ℕ)
+    → IsWorld nat_eq world → IsPlain world
+    → all_locations world ≡ front ++ (location ∷ back) → all_locations (with_tasks world tasks) ≡ front ++ back
+    → (is_some (mount_at nat_eq world location).namespace || nat_lt 1 (mount_uses world location.mount)) ≡ false
+    → nat_lt 1 (mounts_showing world (mount_at nat_eq world location).filesystem) ≡ false
+    → settled nat_eq (with_tasks world tasks)
+    ≡ without_filesystem (without_mount (with_tasks world tasks) location.mount)
+    (mount_at nat_eq world location).filesystem

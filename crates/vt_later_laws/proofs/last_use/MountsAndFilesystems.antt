@@ -33,7 +33,7 @@ module _ (world : World ℕ) (tasks : List (Task ℕ)) (front back : List (Locat
       ∙ ap (list_any (λ (l : Location ℕ). nat_eq number l.mount)) (sym before)
 
   -- its own mount is located if it was more than once
-  located_still : is_located nat_eq after location.mount ≡ nat_lt 1 (mount_uses world location.mount)
+  pub located_still : is_located nat_eq after location.mount ≡ nat_lt 1 (mount_uses world location.mount)
   located_still =
       ap (list_any (λ (l : Location ℕ). nat_eq location.mount l.mount)) left
       ∙ some_without_it (λ (l : Location ℕ). nat_eq location.mount l.mount) location

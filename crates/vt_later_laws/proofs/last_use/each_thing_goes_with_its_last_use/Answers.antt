@@ -1,5 +1,6 @@
 use Rattle.vt_later_laws.proofs.last_use.Groups.{group_goes_with_its_last_member, group_is_handed_on_with_its_last_member}
 use Rattle.vt_later_laws.proofs.last_use.InodesLeft.{exchange_of_one_loses_one_use, inode_beside_overlays_goes_with_its_last_use, inode_goes_with_its_last_use, inode_of_overlay_goes_with_its_last_use}
+use Rattle.vt_later_laws.proofs.last_use.LastLocations.{location_takes_its_filesystem}
 use Rattle.vt_later_laws.proofs.last_use.LocationsLeft.{location_takes_its_inode}
 use Rattle.vt_later_laws.proofs.last_use.MountsAndFilesystems.{filesystem_goes_with_its_last_use, mount_goes_with_its_last_use}
 use Rattle.vt_later_laws.proofs.last_use.Namespaces.{namespace_ends_with_its_last_task}
@@ -39,6 +40,9 @@ returns-clause-upper_inode c = upper_inode_goes_with_its_last_use
 
 pub returns-clause-location : goal.returns-clause-location
 returns-clause-location c = location_takes_its_inode
+
+pub returns-clause-last_location : goal.returns-clause-last_location
+returns-clause-last_location c = location_takes_its_filesystem
 
 pub returns-clause-namespace : goal.returns-clause-namespace
 returns-clause-namespace c = namespace_ends_with_its_last_task
