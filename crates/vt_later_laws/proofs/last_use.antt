@@ -8,3 +8,4 @@ pub mod InodesLeft
 pub mod UppersLeft
 pub mod LocationsLeft
 pub mod LastLocations
+pub mod CallsOfTasks

@@ -1,16 +1,18 @@
 -- Each thing goes with its last use: close(2), umount(2) with MNT_DETACH, path_resolution(7), mount_namespaces(7). In
 -- each statement all is in use in the world before, and one use is taken away; the sweep of things of that kind takes
 -- that thing if the use was its last, and nothing else.
-use Rattle.std.specs.Prelude.{Bool, List, None, Some, [], false, if◌then◌else◌, is_some, map, nat_eq, nat_lt, true, ℕ, ◌&&◌, ◌+◌, ◌++◌, ◌||◌, ◌∷◌, ◌≡◌}
+use Rattle.std.specs.Prelude.{Bool, Contains, List, None, Some, [], false, if◌then◌else◌, is_some, map, nat_eq, nat_lt, true, ℕ, ◌&&◌, ◌+◌, ◌++◌, ◌||◌, ◌∷◌, ◌≡◌}
 use Rattle.std.specs.List.{list_any}
-use Rattle.vt_spec.specs.Lists.{any_pair}
+use Rattle.vt_spec.specs.Lists.{Fresh, any_pair}
+use Rattle.vt_spec.specs.Machine.Apply.{apply}
 use Rattle.vt_spec.specs.Machine.Invariants.{IsWorld, MountInvariants, NamespaceInvariants}
 use Rattle.vt_spec.specs.Machine.Mounts.{Location, Mount, source_of}
 use Rattle.vt_spec.specs.Machine.Mounts.Propagation.{Shared}
 use Rattle.vt_spec.specs.Machine.Namespaces.{namespaces_ended}
+use Rattle.vt_spec.specs.Machine.Permits.Permit.{ToClose, ToExit}
 use Rattle.vt_spec.specs.Machine.Receives.{regrouped}
 use Rattle.vt_spec.specs.Machine.Settled.{has_layer_on, is_mounted, settled, without_dead_filesystems, without_dead_groups, without_dead_inodes, without_dead_mounts}
-use Rattle.vt_spec.specs.Machine.World.{Filesystem, Layer, Overlay, Task, World, all_locations, filesystem_at, filesystem_numbered, is_overlay, layers_of, mount_at, upper_object, with_mounts}
+use Rattle.vt_spec.specs.Machine.World.{Descriptor, Filesystem, Layer, Overlay, Task, World, all_locations, filesystem_at, filesystem_numbered, is_overlay, layers_of, mount_at, upper_object, with_mounts, without_task}
 use Rattle.vt_spec.specs.Machine.World.Real.{Upper}
 use Rattle.vt_letting_go.specs.Counts.{inode_uses, member_count, mount_uses, mounts_showing, times}
 use Rattle.vt_letting_go.specs.Ends.{without_namespace}
@@ -86,6 +88,14 @@ NamespaceEndsWithItsLastTask =
     → namespaces_ended nat_eq (with_tasks world (front ++ back))
     ≡ (if nat_lt 1 (task_count world task.namespace) then with_tasks world (front ++ back)
     else without_namespace (with_tasks world (front ++ back)) task.namespace)
+
+-- So at the end of a task, before the sweep: _exit(2).
+abbrev pub ExitEndsItsNamespace : Type 0
+ExitEndsItsNamespace =
+    (fresh : Fresh ℕ) (world : World ℕ) (task : Task ℕ) → IsWorld nat_eq world → Contains world.tasks task
+    → (apply nat_eq fresh world task ToExit).world
+    ≡ (if nat_lt 1 (task_count world task.namespace) then without_task world task.name
+    else without_namespace (without_task world task.name) task.namespace)
 
 -- One mount leaves its group and gets no master: the group hands its slaves on, unless it has another member.
 abbrev pub GroupIsHandedOnWithItsLastMember : Type 0
@@ -205,6 +215,20 @@ LocationTakesItsInode =
     → settled nat_eq (with_tasks world tasks)
     ≡ (if nat_lt 1 (inode_uses world (filesystem_at nat_eq world location) location.node) then with_tasks world tasks
     else without_inode_at (with_tasks world tasks) (inode_at world location))
+
+-- So with the file of a descriptor that is closed: close(2), unlink(2) on a file that is still open.
+abbrev pub CloseTakesItsInode : Type 0
+CloseTakesItsInode =
+    (fresh : Fresh ℕ) (world : World ℕ) (task : Task ℕ) (descriptor : Descriptor ℕ)
+    → IsWorld nat_eq world → Contains world.tasks task → Contains task.descriptors descriptor
+    → is_overlay (filesystem_at nat_eq world descriptor.location) ≡ false
+    → (is_some (mount_at nat_eq world descriptor.location).namespace
+    || nat_lt 1 (mount_uses world descriptor.location.mount)) ≡ true
+    → settled nat_eq (apply nat_eq fresh world task (ToClose descriptor.number)).world
+    ≡ (if nat_lt 1 (inode_uses world (filesystem_at nat_eq world descriptor.location) descriptor.location.node)
+    then (apply nat_eq fresh world task (ToClose descriptor.number)).world
+    else without_inode_at (apply nat_eq fresh world task (ToClose descriptor.number)).world
+    (inode_at world descriptor.location))
 
 -- The whole sweep, where tasks leave the last location on a mount in no namespace, and no other mount shows its
 -- filesystem: the mount and the filesystem go, and nothing else.

@@ -1,5 +1,5 @@
 //! Each thing goes with its last use.
-ghost use Rattle.vt_later_laws.specs.LastUse.{ExchangeOfOneLosesOneUse, FilesystemBesideOverlaysGoesWithItsLastUse, FilesystemGoesWithItsLastUse, GroupGoesWithItsLastMember, GroupIsHandedOnWithItsLastMember, InodeBesideOverlaysGoesWithItsLastUse, InodeGoesWithItsLastUse, InodeOfOverlayGoesWithItsLastUse, InodeOverLowersGoesAlone, LocationTakesItsFilesystem, LocationTakesItsInode, MountGoesWithItsLastUse, NamespaceEndsWithItsLastTask, OverlayGoesWithItsLastUse, UpperInodeGoesWithItsLastUse};
+ghost use Rattle.vt_later_laws.specs.LastUse.{CloseTakesItsInode, ExchangeOfOneLosesOneUse, ExitEndsItsNamespace, FilesystemBesideOverlaysGoesWithItsLastUse, FilesystemGoesWithItsLastUse, GroupGoesWithItsLastMember, GroupIsHandedOnWithItsLastMember, InodeBesideOverlaysGoesWithItsLastUse, InodeGoesWithItsLastUse, InodeOfOverlayGoesWithItsLastUse, InodeOverLowersGoesAlone, LocationTakesItsFilesystem, LocationTakesItsInode, MountGoesWithItsLastUse, NamespaceEndsWithItsLastTask, OverlayGoesWithItsLastUse, UpperInodeGoesWithItsLastUse};
 
 use vt_letting_go::ends::a_group_ends_with_its_last_member;
 
@@ -23,8 +23,10 @@ pub fn each_thing_goes_with_its_last_use()
     ensures inode_over_lowers { InodeOverLowersGoesAlone }
     ensures upper_inode { UpperInodeGoesWithItsLastUse }
     ensures location { LocationTakesItsInode }
+    ensures close { CloseTakesItsInode }
     ensures last_location { LocationTakesItsFilesystem }
     ensures namespace { NamespaceEndsWithItsLastTask }
+    ensures exit { ExitEndsItsNamespace }
     ensures group { GroupIsHandedOnWithItsLastMember }
     ensures master { GroupGoesWithItsLastMember }
 {

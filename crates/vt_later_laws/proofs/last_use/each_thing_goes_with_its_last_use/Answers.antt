@@ -1,3 +1,4 @@
+use Rattle.vt_later_laws.proofs.last_use.CallsOfTasks.{close_takes_its_inode, exit_ends_its_namespace}
 use Rattle.vt_later_laws.proofs.last_use.Groups.{group_goes_with_its_last_member, group_is_handed_on_with_its_last_member}
 use Rattle.vt_later_laws.proofs.last_use.InodesLeft.{exchange_of_one_loses_one_use, inode_beside_overlays_goes_with_its_last_use, inode_goes_with_its_last_use, inode_of_overlay_goes_with_its_last_use}
 use Rattle.vt_later_laws.proofs.last_use.LastLocations.{location_takes_its_filesystem}
@@ -41,11 +42,17 @@ returns-clause-upper_inode c = upper_inode_goes_with_its_last_use
 pub returns-clause-location : goal.returns-clause-location
 returns-clause-location c = location_takes_its_inode
 
+pub returns-clause-close : goal.returns-clause-close
+returns-clause-close c = close_takes_its_inode
+
 pub returns-clause-last_location : goal.returns-clause-last_location
 returns-clause-last_location c = location_takes_its_filesystem
 
 pub returns-clause-namespace : goal.returns-clause-namespace
 returns-clause-namespace c = namespace_ends_with_its_last_task
+
+pub returns-clause-exit : goal.returns-clause-exit
+returns-clause-exit c = exit_ends_its_namespace
 
 pub returns-clause-group : goal.returns-clause-group
 returns-clause-group c = group_is_handed_on_with_its_last_member c.a_group_ends_with_its_last_member.ensures.one
