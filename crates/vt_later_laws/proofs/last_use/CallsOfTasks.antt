@@ -1,7 +1,6 @@
 -- A task that ends takes its namespace with it, and a descriptor that is closed its inode.
-use Rattle.std.proofs.Common.{◌≡◌, refl, sym, ap, subst, append_assoc, ◌∙◌, ⊎_elim, ℕ, nat_eq, eqb-true, eq-eqb, Bool, true, false, true≢false, cond, not, ◌+◌, ◌||◌, List, [], ◌∷◌, ◌++◌, filter, flat_map, map, arith}
+use Rattle.std.proofs.Common.{◌≡◌, refl, sym, ap, subst, append_assoc, ◌∙◌, ⊎_elim, ℕ, nat_eq, eq-eqb, Bool, true, false, true≢false, cond, ◌+◌, ◌||◌, List, [], ◌∷◌, ◌++◌, flat_map, map, arith}
 use Rattle.std.specs.Prelude.{Contains, nat_le, nat_lt, ◌==◌}
-use Rattle.std.specs.List.{list_any}
 use Rattle.std.proofs.lemmas.Bool.{and_parts}
 use Rattle.std.proofs.lemmas.Bool.Decides.{nat_tests}
 use Rattle.std.proofs.lemmas.Grind.{flat_map-append}
@@ -12,7 +11,7 @@ use Rattle.vt_spec.specs.Machine.Invariants.{IsWorld, are_ascending_from, is_wit
 use Rattle.vt_spec.specs.Machine.Mounts.{Location}
 use Rattle.vt_spec.specs.Machine.Namespaces.{namespaces_ended}
 use Rattle.vt_spec.specs.Machine.Outcome.Descriptors.{without_descriptor}
-use Rattle.vt_spec.specs.Machine.World.{Descriptor, Task, World, all_locations, locations_of, replaced_if_called, with_task}
+use Rattle.vt_spec.specs.Machine.World.{Descriptor, Task, World, locations_of, replaced_if_called, with_task}
 use Rattle.vt_spec.proofs.Lists.{among_from_contains}
 use Rattle.vt_spec.proofs.Worlds.{same_name_itself, same_task_name}
 use Rattle.vt_letting_go.specs.Ends.{without_namespace}

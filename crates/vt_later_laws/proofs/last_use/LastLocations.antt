@@ -1,22 +1,22 @@
 -- The whole sweep, where the last location on a mount is left, and its filesystem goes.
 use Rattle.std.proofs.Common.{◌≡◌, refl, sym, ap, subst, ◌∙◌, inl, inr, ⊎_elim, ℕ, nat_eq, eqb-true, eq-eqb, Bool, true, false, true≢false, cond, not, ◌||◌, ◌&&◌, ◌+◌, List, [], ◌∷◌, ◌++◌, filter, find, map, Some, is_some, unwrap_or, arith}
 use Rattle.std.specs.Prelude.{nat_lt}
-use Rattle.std.specs.List.{list_all, list_any}
+use Rattle.std.specs.List.{list_all}
 use Rattle.std.proofs.lemmas.Bool.{or_parts}
-use Rattle.vt_spec.specs.Lists.{any_pair, is_among}
+use Rattle.vt_spec.specs.Lists.{is_among}
 use Rattle.vt_spec.specs.Machine.Invariants.{IsWorld, is_nowhere_or_attached}
 use Rattle.vt_spec.specs.Machine.Mounts.{Location, Mount, mount_in}
 use Rattle.vt_spec.specs.Machine.Receives.{is_member_of}
 use Rattle.vt_spec.specs.Machine.Settled.{settled, without_dead_filesystems, without_dead_groups, without_dead_in, without_dead_inodes, without_dead_mounts}
 use Rattle.vt_spec.specs.Machine.World.{Filesystem, Task, World, all_locations, filesystem_numbered, is_overlay, mount_at, no_filesystem}
-use Rattle.vt_spec.proofs.Found.{filter_all}
+use Rattle.vt_spec.proofs.Found.{filter_alike}
 use Rattle.vt_letting_go.specs.Counts.{inode_uses, mount_uses, mounts_showing}
 use Rattle.vt_letting_go.specs.InUse.{AllInUse, GroupsInUse, InodesInUse, is_inode_used}
 use Rattle.vt_letting_go.specs.Keeping.{LocationsStand}
 use Rattle.vt_letting_go.specs.Leaving.{MountsStand, with_tasks}
 use Rattle.vt_letting_go.specs.Mounting.{inode_at, root_inode}
 use Rattle.vt_letting_go.specs.OneByOne.{IsPlain, is_mount_used, without_filesystem, without_mount}
-use Rattle.vt_letting_go.proofs.Lists.{Among, all_from_among, all_pass, among-append, among-append_left, among-append_right, among-from_filter, among-from_map, among_from_all, among_numbers, any-filter, fails, filter_here, filter_skip, found_by, passes}
+use Rattle.vt_letting_go.proofs.Lists.{Among, all_from_among, all_pass, among-append, among-append_left, among-append_right, among-from_filter, among-from_map, among_from_all, among_numbers, any-filter, fails, found_by, passes}
 use Rattle.vt_letting_go.proofs.leaving.PlacesLeft.{found_itself, nowhere_parts, private_is_no_member}
 use Rattle.vt_letting_go.proofs.sweeps.InUse.{groups_stay, inodes_stay}
 use Rattle.vt_letting_go.proofs.sweeps.OfWorlds.{all_in_use, locations_of_worlds_stand, mounts_of_worlds_stand}
@@ -27,41 +27,8 @@ use Rattle.vt_count_laws.proofs.Listed.{turned}
 use Rattle.vt_count_laws.proofs.using.MountRoots.{mounts_leave_their_roots}
 use Rattle.vt_count_laws.proofs.using.Places.{exchanges_follow, locations_are_uses, others_use_nothing}
 use Rattle.vt_later_laws.specs.LastUse.{LocationTakesItsFilesystem}
+use Rattle.vt_later_laws.proofs.last_use.OneLess.{IsSplit, split_around}
 use Rattle.vt_later_laws.proofs.last_use.MountsAndFilesystems.{filesystem_goes_with_its_last_use, located_still, mount_goes_with_its_last_use}
-
--- a list of mounts without one of it
-taken_one : (mounts : List (Mount ℕ)) → any_pair (λ (a b : Mount ℕ). nat_eq a.number b.number) mounts ≡ false
-    → (it : Mount ℕ) → Among it mounts
-    → (front : List (Mount ℕ)) × (back : List (Mount ℕ)) × (mounts ≡ front ++ (it ∷ back))
-    × (filter (λ mount. not (nat_eq mount.number it.number)) mounts ≡ front ++ back)
-taken_one [] one it m = absurd m
-taken_one (first ∷ rest) one it m =
-    ⊎_elim
-    (λ same. (
-      [],
-      rest,
-      ap (λ f. f ∷ rest) (sym same),
-      filter_skip (λ mount. not (nat_eq mount.number it.number)) first rest
-          (ap (λ (x : Mount ℕ). not (nat_eq x.number it.number)) (sym same)
-          ∙ ap not (turned it.number it.number true (eq-eqb it.number it.number refl)))
-          ∙ filter_all (λ mount. not (nat_eq mount.number it.number)) rest
-          (λ mount n. ap not (turned it.number mount.number false
-          (ap (λ (x : Mount ℕ). nat_eq x.number mount.number) same
-          ∙ fails (λ (b : Mount ℕ). nat_eq first.number b.number) rest parts.0 mount n))),
-    ))
-    (λ later. let next = taken_one rest parts.1 it later in (
-      first ∷ next.0,
-      next.1,
-      ap (λ l. first ∷ l) next.2,
-      filter_here (λ mount. not (nat_eq mount.number it.number)) first rest
-          (ap not (fails (λ (b : Mount ℕ). nat_eq first.number b.number) rest parts.0 it later))
-          ∙ ap (λ l. first ∷ l) next.3,
-    )) m
-  where
-    parts : (list_any (λ (b : Mount ℕ). nat_eq first.number b.number) rest ≡ false)
-        × (any_pair (λ (a b : Mount ℕ). nat_eq a.number b.number) rest ≡ false)
-    parts = or_parts (list_any (λ (b : Mount ℕ). nat_eq first.number b.number) rest)
-        (any_pair (λ (a b : Mount ℕ). nat_eq a.number b.number) rest) one
 
 -- what is found of the filesystems without another one
 found_beside : (filesystems : List (Filesystem ℕ)) (k gone : ℕ) → nat_eq k gone ≡ false
@@ -130,9 +97,10 @@ module _ (world : World ℕ) (tasks : List (Task ℕ)) (front back : List (Locat
       ∙ found_itself world.mounts stand.one_number from.0 from.1 in
       (subst (λ m. Among m world.mounts) (sym found) from.1, ap (λ m. m.number) found ∙ sym from.2)
 
-  split : (ahead : List (Mount ℕ)) × (behind : List (Mount ℕ)) × (world.mounts ≡ ahead ++ (its ∷ behind))
-      × (filter (λ mount. not (nat_eq mount.number its.number)) world.mounts ≡ ahead ++ behind)
-  split = taken_one world.mounts stand.one_number its its_there.0
+  split : IsSplit (λ (a b : Mount ℕ). nat_eq a.number b.number) world.mounts its
+  split =
+      split_around (λ (a b : Mount ℕ). nat_eq a.number b.number) (λ m. eq-eqb m.number m.number refl)
+      (λ a b. turned a.number b.number false) world.mounts stand.one_number its its_there.0
 
   mount_goes : without_dead_mounts nat_eq after ≡ unmounted
   mount_goes =
@@ -141,8 +109,11 @@ module _ (world : World ℕ) (tasks : List (Task ℕ)) (front back : List (Locat
 
   filesystem_goes : without_dead_filesystems nat_eq unmounted ≡ freed
   filesystem_goes =
-      filesystem_goes_with_its_last_use world unmounted split.0 split.1 its in_use plain refl split.2
-      (ap (λ n. filter (λ mount. not (nat_eq mount.number n)) world.mounts) (sym its_there.1) ∙ split.3)
+      filesystem_goes_with_its_last_use world unmounted split.front split.back its in_use plain refl split.whole
+      (filter_alike (λ mount. not (nat_eq mount.number location.mount)) (λ mount. not (nat_eq its.number mount.number))
+      world.mounts (λ mount m. ap (λ n. not (nat_eq mount.number n)) (sym its_there.1)
+      ∙ ap not (turned its.number mount.number (nat_eq its.number mount.number) refl))
+      ∙ split.left)
       ∙ ap (λ b. cond b unmounted freed) last
 
   -- Inodes of other filesystems are used as before

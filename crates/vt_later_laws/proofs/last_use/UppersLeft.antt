@@ -19,7 +19,7 @@ use Rattle.vt_letting_go.proofs.sweeps.UsesCounted.{used_while_counted}
 use Rattle.vt_count_laws.proofs.Listed.{turned}
 use Rattle.vt_later_laws.specs.LastUse.{InodeOverLowersGoesAlone, LosesOneUse, UpperInodeGoesWithItsLastUse, without_inode_of_any, without_merged_inode}
 use Rattle.vt_later_laws.proofs.last_use.InodesLeft.{found_after, its_kind, of_overlay_left}
-use Rattle.vt_later_laws.proofs.last_use.OneLess.{some_left}
+use Rattle.vt_later_laws.proofs.last_use.OneLess.{IsSplit, some_left, split_around}
 
 -- no other has the number of the first
 others_differ : (first : Filesystem ℕ) (rest : List (Filesystem ℕ))
@@ -46,37 +46,6 @@ given_by_one give (first ∷ rest) one it m none =
     (λ later. ap (λ l. l ++ flat_map give rest)
     (none first (fails (λ (b : Filesystem ℕ). nat_eq first.number b.number) rest parts.0 it later))
     ∙ given_by_one give rest parts.1 it later none) m
-  where
-    parts : (list_any (λ (b : Filesystem ℕ). nat_eq first.number b.number) rest ≡ false)
-        × (any_pair (λ (a b : Filesystem ℕ). nat_eq a.number b.number) rest ≡ false)
-    parts = others_differ first rest one
-
--- where one filesystem alone is changed
-changed_one : (change : Filesystem ℕ → Filesystem ℕ) (filesystems : List (Filesystem ℕ))
-    → any_pair (λ (a b : Filesystem ℕ). nat_eq a.number b.number) filesystems ≡ false
-    → (it : Filesystem ℕ) → Among it filesystems → ((f : Filesystem ℕ) → nat_eq f.number it.number ≡ false
-    → change f ≡ f)
-    → (front : List (Filesystem ℕ)) × (back : List (Filesystem ℕ)) × (filesystems ≡ front ++ (it ∷ back))
-    × (map change filesystems ≡ front ++ (change it ∷ back))
-changed_one change [] one it m stays = absurd m
-changed_one change (first ∷ rest) one it m stays =
-    ⊎_elim
-    (λ same. (
-      [],
-      rest,
-      ap (λ f. f ∷ rest) (sym same),
-      (λ i. change (sym same i) ∷ map_same change rest
-          (λ f n. stays f (turned it.number f.number false
-          (ap (λ (x : Filesystem ℕ). nat_eq x.number f.number) same
-          ∙ fails (λ (b : Filesystem ℕ). nat_eq first.number b.number) rest parts.0 f n))) i),
-    ))
-    (λ later. let next = changed_one change rest parts.1 it later stays in (
-      first ∷ next.0,
-      next.1,
-      ap (λ l. first ∷ l) next.2,
-      (λ i.
-          stays first (fails (λ (b : Filesystem ℕ). nat_eq first.number b.number) rest parts.0 it later) i ∷ next.3 i),
-    )) m
   where
     parts : (list_any (λ (b : Filesystem ℕ). nat_eq first.number b.number) rest ≡ false)
         × (any_pair (λ (a b : Filesystem ℕ). nat_eq a.number b.number) rest ≡ false)
@@ -172,11 +141,11 @@ module _ (after : World ℕ) (inode : Inode) (overlay : Overlay ℕ)
           ≡ nat_lt 1 (inode_uses world (filesystem_numbered nat_eq world layer.filesystem) object)
       upper_used f m e =
           ap (λ filesystems. is_inode_used (record after { filesystems = filesystems }) f object)
-          (split.3 ∙ ap (λ b. split.0 ++ (cond b (without_inode_of inode.1 merged) merged ∷ split.1))
+          (changed ∙ ap (λ b. split.front ++ (cond b (without_inode_of inode.1 merged) merged ∷ split.back))
           (sym (its_number merged.number) ∙ eq-eqb merged.number merged.number refl))
           ∙ used_while_counted (record after { filesystems = last }) f object
           ∙ some_left (inode_uses after f object) (inode_uses (record after { filesystems = last }) f object)
-          (one_upper_use_less after split.0 split.1 merged overlay layer inode.1 object split.2 is upper real once
+          (one_upper_use_less after split.front split.back merged overlay layer inode.1 object split.whole is upper real once
           f object
           ∙ ap (λ b. inode_uses (record after { filesystems = last }) f object + cond b 1 0)
           (λ i. e i && eq-eqb object object refl i))
@@ -188,15 +157,19 @@ module _ (after : World ℕ) (inode : Inode) (overlay : Overlay ℕ)
           + cond (b && nat_eq object inode.1) 1 0)
           (ap (λ k. nat_eq k inode.0) (sym (eqb-true f.number layer.filesystem e)) ∙ apart f m e))))
         where
-          split : (front : List (Filesystem ℕ)) × (back : List (Filesystem ℕ))
-              × (after.filesystems ≡ front ++ (merged ∷ back))
-              × (map (without_inode_of_any inode) after.filesystems
-              ≡ front ++ (without_inode_of_any inode merged ∷ back))
-          split = changed_one (without_inode_of_any inode) after.filesystems one merged there.0
-              (λ g differs. ap (λ b. cond b (without_inode_of inode.1 g) g) (sym (its_number g.number) ∙ differs))
+          split : IsSplit (λ (a b : Filesystem ℕ). nat_eq a.number b.number) after.filesystems merged
+          split =
+              split_around (λ (a b : Filesystem ℕ). nat_eq a.number b.number) (λ g. eq-eqb g.number g.number refl)
+              (λ a b. turned a.number b.number false) after.filesystems one merged there.0
+
+          changed : map (without_inode_of_any inode) after.filesystems
+              ≡ split.front ++ (without_inode_of_any inode merged ∷ split.back)
+          changed = split.changed (without_inode_of_any inode)
+              (λ g differs. ap (λ b. cond b (without_inode_of inode.1 g) g)
+              (sym (its_number g.number) ∙ turned merged.number g.number false differs))
 
           last : List (Filesystem ℕ)
-          last = split.0 ++ (without_inode_of inode.1 merged ∷ split.1)
+          last = split.front ++ (without_inode_of inode.1 merged ∷ split.back)
 
           found : filesystem_numbered nat_eq after layer.filesystem ≡ f
           found = ap (filesystem_numbered nat_eq after) (sym (eqb-true f.number layer.filesystem e))
