@@ -242,3 +242,16 @@ LocationTakesItsFilesystem =
     → settled nat_eq (with_tasks world tasks)
     ≡ without_filesystem (without_mount (with_tasks world tasks) location.mount)
     (mount_at nat_eq world location).filesystem
+
+-- So with the last descriptor on a mount that was unmounted lazily: umount(2) with MNT_DETACH.
+abbrev pub CloseTakesItsFilesystem : Type 0
+CloseTakesItsFilesystem =
+    (fresh : Fresh ℕ) (world : World ℕ) (task : Task ℕ) (descriptor : Descriptor ℕ)
+    → IsWorld nat_eq world → IsPlain world → Contains world.tasks task → Contains task.descriptors descriptor
+    → (is_some (mount_at nat_eq world descriptor.location).namespace
+    || nat_lt 1 (mount_uses world descriptor.location.mount)) ≡ false
+    → nat_lt 1 (mounts_showing world (mount_at nat_eq world descriptor.location).filesystem) ≡ false
+    → settled nat_eq (apply nat_eq fresh world task (ToClose descriptor.number)).world
+    ≡ without_filesystem
+    (without_mount (apply nat_eq fresh world task (ToClose descriptor.number)).world descriptor.location.mount)
+    (mount_at nat_eq world descriptor.location).filesystem

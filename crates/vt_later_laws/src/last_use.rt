@@ -1,5 +1,5 @@
 //! Each thing goes with its last use.
-ghost use Rattle.vt_later_laws.specs.LastUse.{CloseTakesItsInode, ExchangeOfOneLosesOneUse, ExitEndsItsNamespace, FilesystemBesideOverlaysGoesWithItsLastUse, FilesystemGoesWithItsLastUse, GroupGoesWithItsLastMember, GroupIsHandedOnWithItsLastMember, InodeBesideOverlaysGoesWithItsLastUse, InodeGoesWithItsLastUse, InodeOfOverlayGoesWithItsLastUse, InodeOverLowersGoesAlone, LocationTakesItsFilesystem, LocationTakesItsInode, MountGoesWithItsLastUse, NamespaceEndsWithItsLastTask, OverlayGoesWithItsLastUse, UpperInodeGoesWithItsLastUse};
+ghost use Rattle.vt_later_laws.specs.LastUse.{CloseTakesItsFilesystem, CloseTakesItsInode, ExchangeOfOneLosesOneUse, ExitEndsItsNamespace, FilesystemBesideOverlaysGoesWithItsLastUse, FilesystemGoesWithItsLastUse, GroupGoesWithItsLastMember, GroupIsHandedOnWithItsLastMember, InodeBesideOverlaysGoesWithItsLastUse, InodeGoesWithItsLastUse, InodeOfOverlayGoesWithItsLastUse, InodeOverLowersGoesAlone, LocationTakesItsFilesystem, LocationTakesItsInode, MountGoesWithItsLastUse, NamespaceEndsWithItsLastTask, OverlayGoesWithItsLastUse, UpperInodeGoesWithItsLastUse};
 
 use vt_letting_go::ends::a_group_ends_with_its_last_member;
 
@@ -10,7 +10,8 @@ use vt_letting_go::ends::a_group_ends_with_its_last_member;
 /// if no mounted overlay has a layer in it; an inode with the last name, location, mount or mount point that uses it. An
 /// overlay may take the filesystems of its layers with it, and an inode of an overlay the upper inode that was its real
 /// object. A namespace ends with its last task. A peer group ends with its last member, and hands its slaves on to its
-/// master. After a close(2) the sweep takes the inode alone, if the mount stays.
+/// master. After a close(2) the sweep takes the inode alone, if the mount stays; if
+/// it does not, and no other mount shows the filesystem, it takes the mount and the filesystem.
 pub fn each_thing_goes_with_its_last_use()
     ensures mount { MountGoesWithItsLastUse }
     ensures filesystem { FilesystemGoesWithItsLastUse }
@@ -25,6 +26,7 @@ pub fn each_thing_goes_with_its_last_use()
     ensures location { LocationTakesItsInode }
     ensures close { CloseTakesItsInode }
     ensures last_location { LocationTakesItsFilesystem }
+    ensures last_close { CloseTakesItsFilesystem }
     ensures namespace { NamespaceEndsWithItsLastTask }
     ensures exit { ExitEndsItsNamespace }
     ensures group { GroupIsHandedOnWithItsLastMember }

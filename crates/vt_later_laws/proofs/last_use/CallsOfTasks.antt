@@ -11,15 +11,16 @@ use Rattle.vt_spec.specs.Machine.Invariants.{IsWorld, are_ascending_from, is_wit
 use Rattle.vt_spec.specs.Machine.Mounts.{Location}
 use Rattle.vt_spec.specs.Machine.Namespaces.{namespaces_ended}
 use Rattle.vt_spec.specs.Machine.Outcome.Descriptors.{without_descriptor}
-use Rattle.vt_spec.specs.Machine.World.{Descriptor, Task, World, locations_of, replaced_if_called, with_task}
+use Rattle.vt_spec.specs.Machine.World.{Descriptor, Task, World, all_locations, locations_of, replaced_if_called, with_task}
 use Rattle.vt_spec.proofs.Lists.{among_from_contains}
 use Rattle.vt_spec.proofs.Worlds.{same_name_itself, same_task_name}
 use Rattle.vt_letting_go.specs.Ends.{without_namespace}
 use Rattle.vt_letting_go.specs.Leaving.{with_tasks}
 use Rattle.vt_letting_go.proofs.Lists.{Among, none_passes, passes}
 use Rattle.vt_count_laws.proofs.Listed.{turned}
-use Rattle.vt_later_laws.specs.LastUse.{CloseTakesItsInode, ExitEndsItsNamespace, task_count}
+use Rattle.vt_later_laws.specs.LastUse.{CloseTakesItsFilesystem, CloseTakesItsInode, ExitEndsItsNamespace, task_count}
 use Rattle.vt_later_laws.proofs.Opened.{descriptors_in_order}
+use Rattle.vt_later_laws.proofs.last_use.LastLocations.{location_takes_its_filesystem}
 use Rattle.vt_later_laws.proofs.last_use.LocationsLeft.{location_takes_its_inode}
 use Rattle.vt_later_laws.proofs.last_use.Namespaces.{namespace_ends_with_its_last_task}
 use Rattle.vt_later_laws.proofs.last_use.OneLess.{IsSplit, split_around}
@@ -86,53 +87,70 @@ no_two least (first ∷ rest) order =
     apart : (a b : ℕ) → nat_le (a + 1) b ≡ true → nat_eq a b ≡ false
     apart a b e = grind (arith, nat_tests)
 
+-- A descriptor is closed: the locations before and after
+module _ (world : World ℕ) (whole : IsWorld nat_eq world) (task : Task ℕ) (there : Contains world.tasks task)
+    (descriptor : Descriptor ℕ) (is_open : Contains task.descriptors descriptor) where
+  abbrev closed : Task ℕ
+  closed = without_descriptor task descriptor.number
+
+  abbrev at : Descriptor ℕ → Location ℕ
+  at d = d.location
+
+  split : IsSplit called_alike world.tasks task
+  split = around_task world whole task there
+
+  of : IsSplit numbered_alike task.descriptors descriptor
+  of =
+      split_around numbered_alike (λ d. eq-eqb d.number d.number refl) (λ a b. turned a.number b.number false)
+      task.descriptors
+      (no_two 0 task.descriptors (descriptors_in_order task
+      (passes is_within_limits world.tasks whole.tasks.small_tasks task
+      (among_from_contains world.tasks task there))))
+      descriptor (among_from_contains task.descriptors descriptor is_open)
+
+  abbrev own : List (Descriptor ℕ) → List (Location ℕ)
+  own list = task.root ∷ task.directory ∷ map at list
+
+  abbrev ahead : List (Location ℕ)
+  ahead = flat_map locations_of split.front ++ own of.front
+
+  abbrev behind : List (Location ℕ)
+  behind = map at of.back ++ flat_map locations_of split.back
+
+  -- the locations of all tasks, by those of this one
+  spread : (other : Task ℕ) (list : List (Descriptor ℕ)) → locations_of other ≡ own (of.front ++ list)
+      → flat_map locations_of (split.front ++ (other ∷ split.back))
+      ≡ ahead ++ (map at list ++ flat_map locations_of split.back)
+  spread other list e =
+      flat_map-append locations_of split.front (other ∷ split.back)
+      ∙ ap (λ l. flat_map locations_of split.front ++ (l ++ flat_map locations_of split.back))
+      (e ∙ ap (λ l. task.root ∷ task.directory ∷ l) (map-append at of.front list))
+      ∙ regrouped (flat_map locations_of split.front) (own of.front) (map at list) (flat_map locations_of split.back)
+    where
+      regrouped : (a b c d : List (Location ℕ)) → a ++ ((b ++ c) ++ d) ≡ (a ++ b) ++ (c ++ d)
+      regrouped a b c d = ap (λ l. a ++ l) (append_assoc b c d) ∙ sym (append_assoc a b (c ++ d))
+
+  located_before : all_locations world ≡ ahead ++ (descriptor.location ∷ behind)
+  located_before =
+      ap (flat_map locations_of) split.whole ∙ spread task (descriptor ∷ of.back) (ap own of.whole)
+
+  located_after : all_locations (with_task world closed) ≡ ahead ++ behind
+  located_after =
+      ap (flat_map locations_of) (split.changed (replaced_if_called closed)
+      (λ other differs. ap (λ b. cond b closed other) differs))
+      ∙ ap (λ b. flat_map locations_of (split.front ++ (cond b closed task ∷ split.back))) (same_name_itself task.name)
+      ∙ spread closed of.back (ap own of.left)
+
 pub close_takes_its_inode : CloseTakesItsInode
 close_takes_its_inode fresh world task descriptor whole there is_open plain stays =
-    location_takes_its_inode world (with_task world closed).tasks (before ++ own of.front) (map at of.back ++ behind)
-    descriptor.location whole plain
-    (ap (flat_map locations_of) split.whole ∙ spread task
-    ∙ ap (λ list. before ++ ((task.root ∷ task.directory ∷ map at list) ++ behind)) of.whole
-    ∙ ap (λ list. before ++ ((task.root ∷ task.directory ∷ list) ++ behind))
-    (map-append at of.front (descriptor ∷ of.back))
-    ∙ regrouped before (own of.front) (descriptor.location ∷ map at of.back) behind)
-    (ap (flat_map locations_of) (split.changed (replaced_if_called closed)
-    (λ other differs. ap (λ b. cond b closed other) differs))
-    ∙ ap (λ b. flat_map locations_of (split.front ++ (cond b closed task ∷ split.back))) (same_name_itself task.name)
-    ∙ spread closed
-    ∙ ap (λ list. before ++ ((task.root ∷ task.directory ∷ map at list) ++ behind)) of.left
-    ∙ ap (λ list. before ++ ((task.root ∷ task.directory ∷ list) ++ behind)) (map-append at of.front of.back)
-    ∙ regrouped before (own of.front) (map at of.back) behind)
-    stays
-  where
-    closed : Task ℕ
-    closed = without_descriptor task descriptor.number
+    location_takes_its_inode world (with_task world (without_descriptor task descriptor.number)).tasks
+    (ahead world whole task there descriptor is_open) (behind world whole task there descriptor is_open)
+    descriptor.location whole plain (located_before world whole task there descriptor is_open)
+    (located_after world whole task there descriptor is_open) stays
 
-    at : Descriptor ℕ → Location ℕ
-    at d = d.location
-
-    split : IsSplit called_alike world.tasks task
-    split = around_task world whole task there
-
-    of : IsSplit numbered_alike task.descriptors descriptor
-    of = split_around numbered_alike (λ d. eq-eqb d.number d.number refl) (λ a b. turned a.number b.number false)
-        task.descriptors
-        (no_two 0 task.descriptors (descriptors_in_order task
-        (passes is_within_limits world.tasks whole.tasks.small_tasks task
-        (among_from_contains world.tasks task there))))
-        descriptor (among_from_contains task.descriptors descriptor is_open)
-
-    before : List (Location ℕ)
-    before = flat_map locations_of split.front
-
-    behind : List (Location ℕ)
-    behind = flat_map locations_of split.back
-
-    own : List (Descriptor ℕ) → List (Location ℕ)
-    own list = task.root ∷ task.directory ∷ map at list
-
-    spread : (other : Task ℕ) → flat_map locations_of (split.front ++ (other ∷ split.back))
-        ≡ before ++ (locations_of other ++ behind)
-    spread other = flat_map-append locations_of split.front (other ∷ split.back)
-
-    regrouped : (a b c d : List (Location ℕ)) → a ++ ((b ++ c) ++ d) ≡ (a ++ b) ++ (c ++ d)
-    regrouped a b c d = ap (λ l. a ++ l) (append_assoc b c d) ∙ sym (append_assoc a b (c ++ d))
+pub close_takes_its_filesystem : CloseTakesItsFilesystem
+close_takes_its_filesystem fresh world task descriptor whole plain there is_open goes last =
+    location_takes_its_filesystem world (with_task world (without_descriptor task descriptor.number)).tasks
+    (ahead world whole task there descriptor is_open) (behind world whole task there descriptor is_open)
+    descriptor.location whole plain (located_before world whole task there descriptor is_open)
+    (located_after world whole task there descriptor is_open) goes last

@@ -1,4 +1,4 @@
-use Rattle.vt_later_laws.proofs.last_use.CallsOfTasks.{close_takes_its_inode, exit_ends_its_namespace}
+use Rattle.vt_later_laws.proofs.last_use.CallsOfTasks.{close_takes_its_filesystem, close_takes_its_inode, exit_ends_its_namespace}
 use Rattle.vt_later_laws.proofs.last_use.Groups.{group_goes_with_its_last_member, group_is_handed_on_with_its_last_member}
 use Rattle.vt_later_laws.proofs.last_use.InodesLeft.{exchange_of_one_loses_one_use, inode_beside_overlays_goes_with_its_last_use, inode_goes_with_its_last_use, inode_of_overlay_goes_with_its_last_use}
 use Rattle.vt_later_laws.proofs.last_use.LastLocations.{location_takes_its_filesystem}
@@ -47,6 +47,9 @@ returns-clause-close c = close_takes_its_inode
 
 pub returns-clause-last_location : goal.returns-clause-last_location
 returns-clause-last_location c = location_takes_its_filesystem
+
+pub returns-clause-last_close : goal.returns-clause-last_close
+returns-clause-last_close c = close_takes_its_filesystem
 
 pub returns-clause-namespace : goal.returns-clause-namespace
 returns-clause-namespace c = namespace_ends_with_its_last_task
