@@ -10,8 +10,10 @@ use vt_letting_go::ends::a_group_ends_with_its_last_member;
 /// if no mounted overlay has a layer in it; an inode with the last name, location, mount or mount point that uses it. An
 /// overlay may take the filesystems of its layers with it, and an inode of an overlay the upper inode that was its real
 /// object. A namespace ends with its last task. A peer group ends with its last member, and hands its slaves on to its
-/// master. After a close(2) the sweep takes the inode alone, if the mount stays; if
-/// it does not, and no other mount shows the filesystem, it takes the mount and the filesystem.
+/// master.
+///
+/// After a close(2) the whole sweep takes the inode at the most, if the mount stays. If the mount goes, and no other one
+/// shows its filesystem, it takes these two.
 pub fn each_thing_goes_with_its_last_use()
     ensures mount { MountGoesWithItsLastUse }
     ensures filesystem { FilesystemGoesWithItsLastUse }
