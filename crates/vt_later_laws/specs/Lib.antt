@@ -5,3 +5,4 @@ pub mod Exits
 pub mod LaterNames
 pub mod Tables
 pub mod Undone
+pub mod LastUse
