@@ -94,7 +94,8 @@ by_one mount all =
     pinned_both None = refl
     pinned_both (Some point) = map_twice (pinned_one (inode_of point.node)) (pinned_one (inode_of mount.root)) all
 
-folded_after : (test : ℕ) (front back : List Inode) (inodes : Inodes ℕ)
+-- uses of one list, and then of another, are those of both
+pub folded_after : (test : ℕ) (front back : List Inode) (inodes : Inodes ℕ)
     → folded (pinned_if test) (folded (pinned_if test) inodes front) back
     ≡ folded (pinned_if test) inodes (front ++ back)
 folded_after test [] back inodes = refl

@@ -34,7 +34,7 @@ use Rattle.vt_call_laws.specs.Inodes.{change_of}
 use Rattle.vt_tree_laws.specs.Trees.{IsFileTree}
 use Rattle.vt_tree_laws.specs.Trees.Calls.{mounts_overlay}
 use Rattle.vt_tree_laws.specs.Trees.Limits.{names_few_groups}
-use Rattle.vt_tree_laws.proofs.trees.ChangesNodes.{there}
+use Rattle.vt_tree_laws.proofs.trees.ChangesNodes.{changed_node_there as there}
 use Rattle.vt_tree_laws.proofs.trees.TreesOfWorlds.{numbered_all}
 use Rattle.vt_tree_laws.proofs.trees.TreesWalked.{Ends}
 use Rattle.vt_world_laws.specs.Worlds.Kept.{IsPlain}

@@ -4,7 +4,8 @@ use Rattle.std.specs.Prelude.{All}
 use Rattle.std.proofs.lemmas.List.Elements.{All-cons, All-head, All-tail}
 use Rattle.std.proofs.lemmas.List.Sorted.{IsPermutation-refl, IsPermutation-sym, IsPermutation-trans}
 use Rattle.vt_run_laws.proofs.Each.{Each, each_back, each_onward, each_to_one, each_told}
-use Rattle.vt_run_laws.specs.Answered.{IsPlain, SameWorldsArePlainAlike, SamenessIsAnEquivalence}
+use Rattle.vt_laws.specs.Plain.{IsPlain}
+use Rattle.vt_run_laws.specs.Answered.{SameWorldsArePlainAlike, SamenessIsAnEquivalence}
 use Rattle.vt_spec.proofs.Options.{none_from_not_some}
 use Rattle.vt_spec.specs.FileTree.{FileTree}
 use Rattle.vt_spec.specs.Machine.SameWorlds.{SameFiles, SameFilesystem, SameFilesystems, SameWorlds}

@@ -6,7 +6,7 @@ use Rattle.vt_call_laws.proofs.effects.EffectsRights.{ruled}
 use Rattle.vt_laws.proofs.given.GivenPermits.{given, permits_are_for_their_calls}
 use Rattle.vt_call_laws.proofs.inodes.InodesRemain.{only_unused_inodes_end}
 use Rattle.vt_laws.specs.Given.{IsFor}
-use Rattle.vt_call_laws.specs.Inodes.{change_of, inode_in, mounts_overlay}
+use Rattle.vt_call_laws.specs.Inodes.{change_of, inode_in}
 use Rattle.vt_laws.proofs.rules.OwnRules.{denial_changes_nothing}
 use Rattle.vt_laws.proofs.denials.Unchanged.{look_changes_nothing}
 use Rattle.vt_letting_go.proofs.mounting.AttachedSwept.{binds_keep_all, new_mounts_of_trees_keep_all}
@@ -32,7 +32,7 @@ use Rattle.vt_spec.specs.declared.errors.Deny.{Deny}
 use Rattle.vt_spec.specs.FileTree.{FileTree, is_kind_in}
 use Rattle.vt_spec.specs.Language.Answers.{Answer}
 use Rattle.vt_spec.specs.Language.Calls.{Access, Call, ForkWords, TaskName, same_name}
-use Rattle.vt_spec.specs.Language.Calls.Call.{Chdir, Chroot, Close, Exit, Fork, Lazy, MountOverlay, MoveMount, PivotRoot, Rename, Rmdir, Setns, Umount, Unlink, Unshare}
+use Rattle.vt_spec.specs.Language.Calls.Call.{Chdir, Chroot, Close, Exit, Fork, Lazy, MoveMount, PivotRoot, Rename, Rmdir, Setns, Umount, Unlink, Unshare}
 use Rattle.vt_spec.specs.Language.Changes.{Change, changed}
 use Rattle.vt_spec.specs.Language.Changes.Change.{AddName, CopyUp, Make, Move, Remove, SetAttr, SetBytes, SetMark}
 use Rattle.vt_spec.specs.Lists.{Fresh, evens, is_among, odds}
@@ -55,7 +55,7 @@ use Rattle.vt_spec.specs.Machine.World.{Filesystem, Task, World, files_at, files
 use Rattle.vt_spec.specs.Tree.{Node, bytes_in}
 use Rattle.vt_spec.specs.TreeInvariant.{entry_at}
 use Rattle.vt_tree_laws.specs.Trees.{IsFileTree}
-use Rattle.vt_tree_laws.specs.Trees.Calls
+use Rattle.vt_tree_laws.specs.Trees.Calls.{mounts_overlay}
 use Rattle.vt_tree_laws.specs.Trees.Limits.{names_few_groups}
 use Rattle.vt_tree_laws.proofs.trees.ChangesKeepTrees.{changes_keep_numbers, changes_keep_trees}
 use Rattle.vt_tree_laws.proofs.trees.TreesOfWorlds.{numbered}
@@ -73,11 +73,6 @@ use Rattle.vt_later_laws.specs.Ends.{OnlyTheseEndInodes, takes_uses}
 use Rattle.std.proofs.Math.Bool.{and-false}
 use Rattle.vt_spec.proofs.Found.{found_among}
 use Rattle.vt_spec.proofs.NodeChanges.{file_is_there}
-
--- both words for the mount of an overlay
-one_word : (call : Call) → mounts_overlay call ≡ false → Calls.mounts_overlay call ≡ false
-one_word (MountOverlay path options flags) e = e
-one_word call e = refl
 
 -- groups that are let go of leave filesystems
 groups_leave : (groups : List ℕ) (world : World ℕ) → (let_go_groups world groups).filesystems ≡ world.filesystems
@@ -299,12 +294,12 @@ module _ (world : World ℕ) (fresh : Fresh ℕ) (name : TaskName) (call : Call)
   few_keeps few =
       permit_keeps world fresh did.task is plain serves called_so call only did.permit given_so
       (permits_are_for_their_calls fresh world did.task call did.permit did.judged) plainly
-      (permits_fit world fresh did.task call did.permit is plain serves called_so (one_word call plainly)
+      (permits_fit world fresh did.task call did.permit is plain serves called_so plainly
       did.judged).names
       (given_permits_are_seen_to world fresh did.task did.permit is plain given_so)
     where
       given_so : IsGiven fresh world did.task did.permit
-      given_so = given_of world fresh name call answer serves (one_word call plainly) few did
+      given_so = given_of world fresh name call answer serves plainly few did
 
   call_keeps : KeepsSo did.permit
   call_keeps =
