@@ -197,7 +197,9 @@ module _ (fresh : Fresh ℕ) (world : World ℕ) (location : Location ℕ) (inod
       by (Some overlay) e = cc
 
   pub after_is : after_change fresh world location change ≡ done
-  after_is = ap (settled nat_eq) raw_is ∙ Swept.settled_is world number files in_use plain filesystem_there new_tallied.once
+  after_is =
+      ap (settled nat_eq) raw_is
+      ∙ Swept.settled_is world number files in_use plain filesystem_there new_tallied.once
 
   found : filesystem_numbered nat_eq done number ≡ with_files old left
   found = Swept.found_done world number files in_use plain filesystem_there new_tallied.once

@@ -181,7 +181,9 @@ module _ (files : FileTree ℕ) (r : ℕ) (conditions : IsTree files.tree)
       by Whiteout = refl
 
   pub bare_there : entries_in (bare.tree.node r) ≡ []
-  bare_there = ap entries_in (changed_node_there files r node_without_entries) ∙ entries-node_without_entries (files.tree.node r)
+  bare_there =
+      ap entries_in (changed_node_there files r node_without_entries)
+      ∙ entries-node_without_entries (files.tree.node r)
 
   pub bare_elsewhere : (d : ℕ) → d ≢ r → bare.tree.node d ≡ files.tree.node d
   bare_elsewhere d differ = elsewhere files r node_without_entries d differ

@@ -52,7 +52,7 @@ use Rattle.vt_later_laws.proofs.MadeSeen.{Never, made_leads, maker, new_stepped,
 use Rattle.vt_later_laws.proofs.Opened.{walk_ended}
 use Rattle.vt_later_laws.proofs.Readers.{MayLook, all_stands, caller, leads, named_last, own_name, raised_credentials, raised_stands, seen_at, uncovered}
 use Rattle.vt_later_laws.proofs.Stays.{called_own}
-use Rattle.vt_later_laws.proofs.Steps.{passing, same_ok}
+use Rattle.vt_spec.proofs.Refusals.{passing, same_ok}
 use Rattle.vt_later_laws.proofs.Ways.{EndsAt, LeadsToo, both_walked, start_known, walk_passed, walk_passing}
 use Rattle.vt_later_laws.proofs.WaysChanges.{TreeStays, rights_with_bytes, ways_with_bytes}
 use Rattle.vt_later_laws.proofs.later.later_calls_see_it_at_the_path.Answers.WaysFiles.{IsFilePlace, file_place, file_too, followed_to}
