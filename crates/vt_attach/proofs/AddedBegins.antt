@@ -29,11 +29,12 @@ use Rattle.vt_mount.specs.MountsValue.{MountEntry, mounts_in}
 use Rattle.vt_tasks.specs.TasksValue.{Tasks}
 use Rattle.vt_world_laws.proofs.RaisedInUse.{worlds_are_in_use}
 use Rattle.vt_letting_go.proofs.sweeps.UpperUses.{times_append}
+use Rattle.vt_mount_laws.specs.Mounts.Attaching.{OneNumberAMount}
+use Rattle.vt_letting_go.specs.Attaching.{inodes_of_mount_point}
 use Rattle.vt_detach.specs.Held.{CountsItsMounts, IsHeld, writes_of}
 use Rattle.vt_detach.specs.Uses.{Kept, is_unused}
 use Rattle.vt_detach.specs.WorldValue.{WorldValue, world_of}
-use Rattle.vt_detach.proofs.LostUses.{OneNumber}
-use Rattle.vt_detach.proofs.Midway.{IsShown, Midway, NoneUnused, Reached, gone_if, gone_number, inodes_of_point, point_left, points_left}
+use Rattle.vt_detach.proofs.Midway.{IsShown, Midway, NoneUnused, Reached, gone_if, gone_number, point_left, points_left}
 use Rattle.vt_detach.proofs.MidwayBegins as Begins
 use Rattle.vt_detach.proofs.Moving.{Moves}
 use Rattle.vt_detach.proofs.Staying.{world_is_plain}
@@ -69,7 +70,7 @@ pub record IsAdded (value : WorldValue) (added : List (Mount ℕ)) (tasks : Task
   pub there : list_all (λ location.
       is_among nat_eq location.mount (map (λ mount. mount.number) (with_added value added tasks).mounts)) more ≡ true
   pub writes : (mount : ℕ) → writes_of mount tasks ≡ writes_of mount value.tasks
-  pub one_number : OneNumber (with_added value added tasks).mounts
+  pub one_number : OneNumberAMount (with_added value added tasks).mounts
   pub attached : (mount : Mount ℕ) → Among mount added → is_some mount.namespace ≡ true
   pub stays : (mount : Mount ℕ) → Among mount added → goes mount ≡ false
   -- a mount point of theirs is on a mount that stays
@@ -302,7 +303,7 @@ module _ (value : WorldValue) (whole : IsHeld value) (added : List (Mount ℕ)) 
       same_inode x m (Some place) e = λ i. ((same_parent x m place e i).filesystem, place.node) ∷ []
 
       by : (x : Mount ℕ) → Among x base.mounts → (b : Bool) → goes x ≡ b
-          → cond b (inodes_of_point base x) [] ≡ cond b (inodes_of_point world x) []
+          → cond b (inodes_of_mount_point base x) [] ≡ cond b (inodes_of_mount_point world x) []
       by x m false e = refl
       by x m true e =
           ⊎_elim

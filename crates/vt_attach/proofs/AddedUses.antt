@@ -22,18 +22,15 @@ use Rattle.vt_location.specs.Locations.{location_of}
 use Rattle.vt_location.specs.MountValue.{mount_of}
 use Rattle.vt_location.specs.Numbers.{counted}
 use Rattle.vt_letting_go.proofs.sweeps.UpperUses.{times_append}
+use Rattle.vt_detach.proofs.Detached.{inodes_of_point}
 use Rattle.vt_detach.specs.Uses.{inode_of, mounted_if, pinned_at, pinned_in, shown_by}
 use Rattle.vt_detach.proofs.Shown.{counted_eq_back}
 use Rattle.vt_location.proofs.NumberLemmas.{counted_test}
 
--- the inodes that a mount uses, and those that mounts use
-abbrev pub point_inodes : Option Location → List Inode
-point_inodes None = []
-point_inodes (Some point) = inode_of point.node ∷ []
-
+-- the inodes that mounts use
 abbrev pub gained_by : List Mount → List Inode
 gained_by [] = []
-gained_by (mount ∷ rest) = inode_of mount.root ∷ (point_inodes mount.mount_point ++ gained_by rest)
+gained_by (mount ∷ rest) = inode_of mount.root ∷ (inodes_of_point mount.mount_point ++ gained_by rest)
 
 -- A filesystem once mounts are attached: the uses of its inodes, and how many more mounts show it
 
@@ -48,7 +45,7 @@ with_mounts_on new one = record one {
 
 abbrev with_mount_on : Mount → Shown → Shown
 with_mount_on mount one = record one {
-  inodes = folded (pinned_if (counted one.count)) one.inodes (inode_of mount.root ∷ point_inodes mount.mount_point);
+  inodes = folded (pinned_if (counted one.count)) one.inodes (inode_of mount.root ∷ inodes_of_point mount.mount_point);
   mounts = one.mounts + (if nat_eq (counted one.count) (counted mount.root.filesystem.count) then 1 else 0);
 }
 
@@ -83,18 +80,19 @@ by_one mount all =
     pinned_so : Shown → Shown
     pinned_so one = record one {
       inodes = folded (pinned_if (counted one.count)) one.inodes
-          (inode_of mount.root ∷ point_inodes mount.mount_point);
+          (inode_of mount.root ∷ inodes_of_point mount.mount_point);
     }
 
     pinned_both : (point : Option Location) → pinned_at point (pinned_in (inode_of mount.root) all)
         ≡ map (λ (one : Shown). record one {
           inodes = folded (pinned_if (counted one.count)) one.inodes
-              (inode_of mount.root ∷ point_inodes point);
+              (inode_of mount.root ∷ inodes_of_point point);
         }) all
     pinned_both None = refl
     pinned_both (Some point) = map_twice (pinned_one (inode_of point.node)) (pinned_one (inode_of mount.root)) all
 
-folded_after : (test : ℕ) (front back : List Inode) (inodes : Inodes ℕ)
+-- uses of one list, and then of another, are those of both
+pub folded_after : (test : ℕ) (front back : List Inode) (inodes : Inodes ℕ)
     → folded (pinned_if test) (folded (pinned_if test) inodes front) back
     ≡ folded (pinned_if test) inodes (front ++ back)
 folded_after test [] back inodes = refl
@@ -121,7 +119,7 @@ shown_by_all (mount ∷ new) all =
         let b = if nat_eq (counted one.count) (counted mount.root.filesystem.count) then 1 else 0 in
         let sum : one.mounts + b + showing one.count new ≡ one.mounts + (b + showing one.count new) = omega arith in
         λ i. record one {
-          inodes = folded_after (counted one.count) (inode_of mount.root ∷ point_inodes mount.mount_point)
+          inodes = folded_after (counted one.count) (inode_of mount.root ∷ inodes_of_point mount.mount_point)
               (gained_by new) one.inodes i;
           mounts = sum i;
         }
@@ -157,7 +155,7 @@ module _ (after : World ℕ) where
           → (if test (inode_at after (root_of (mount_of mount))) then 1 else 0) + times test
           (map (inode_at after) (map root_of (map mount_of new)))
           + times test (map (inode_at after) (cons_option (option_map location_of o) (points_of new)))
-          ≡ (if test (inode_of mount.root) then 1 else 0) + times test (point_inodes o ++ gained_by new)
+          ≡ (if test (inode_of mount.root) then 1 else 0) + times test (inodes_of_point o ++ gained_by new)
       by None e rest = omega (arith, rest, root_same)
       by (Some point) e rest =
           let point_same : ◌≡◌ {A = ℕ} (if test (inode_at after (location_of point)) then 1 else 0)

@@ -22,9 +22,10 @@ use Rattle.vt_location.specs.Numbers.{counted}
 use Rattle.vt_location.proofs.NumberLemmas.{inode_same, slot_of}
 use Rattle.vt_world_laws.specs.Worlds.Kept.{IsUnderWay}
 use Rattle.vt_world_laws.proofs.worlds.Roots.{directory_there}
+use Rattle.vt_detach.proofs.Detached.{inodes_of_point}
 use Rattle.vt_detach.specs.Held.{HasOwnInodes}
 use Rattle.vt_attach.specs.Room.{has_small_slots, point_is_small}
-use Rattle.vt_attach.proofs.AddedUses.{IsFoundIn, gained_by, point_inodes}
+use Rattle.vt_attach.proofs.AddedUses.{IsFoundIn, gained_by}
 use Rattle.vt_detach.proofs.FilesSeen.{seen_in}
 use Rattle.vt_letting_go.proofs.sweeps.OfWorlds.{found_filesystem}
 
@@ -104,7 +105,7 @@ module _ (after : World ℕ) (is_world : IsUnderWay after) (front : List (meant.
     where
       point_there : (mount : Mount) → Among mount new → (o : Option Location) → mount.mount_point ≡ o
           → list_all (λ (inode : Inode). not (nat_eq (counted entry.count) inode.0)
-          || is_some ((inodes_seen entry).inode inode.1)) (point_inodes o) ≡ true
+          || is_some ((inodes_seen entry).inode inode.1)) (inodes_of_point o) ≡ true
       point_there mount n None is = refl
       point_there mount n (Some point) is =
           let directory : is_directory_at nat_eq after (location_of point) ≡ true =
@@ -128,6 +129,6 @@ module _ (after : World ℕ) (is_world : IsUnderWay after) (front : List (meant.
           there_in entry m mount.root (roots mount (within mount (inl refl))).0 i
           && both (λ (inode : Inode). not (nat_eq (counted entry.count) inode.0)
           || is_some ((inodes_seen entry).inode inode.1))
-          (point_inodes mount.mount_point) (gained_by rest)
+          (inodes_of_point mount.mount_point) (gained_by rest)
           (point_there mount (within mount (inl refl)) mount.mount_point refl)
           (each rest (λ other n. within other (inr n))) i

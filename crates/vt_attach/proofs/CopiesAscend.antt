@@ -11,7 +11,7 @@ use Rattle.vt_location.specs.Locations.{location_of}
 use Rattle.vt_location.specs.MountValue.{mount_of}
 use Rattle.vt_location.specs.Numbers.{counted}
 use Rattle.vt_mount.specs.MountsValue.{are_ascending}
-use Rattle.vt_mount_laws.proofs.mounts.MountsNumbered.{parts_apart}
+use Rattle.vt_mount_laws.proofs.mounts.MountsNumbered.{parts_apart, same_number}
 use Rattle.vt_permit_laws.proofs.taken.TakenAttached.{index_bound}
 use Rattle.vt_propagate.specs.declared.copying.Counts.{Counts}
 use Rattle.vt_propagate.specs.declared.copying.Graft.{Graft}
@@ -22,9 +22,6 @@ use Rattle.vt_spec.specs.Machine.Attach.{copies_at, copy_at, is_destination, par
 use Rattle.vt_spec.specs.Machine.Mounts.{Mount, group_of, index_of}
 use Rattle.vt_spec.specs.Machine.World.{World, mount_at}
 use Rattle.vt_attach.proofs.EnteringLemmas.{ascending_joined}
-
-abbrev same_number : Mount ℕ → Mount ℕ → Bool
-same_number a b = nat_eq a.number b.number
 
 pub differs : (first : Mount ℕ) (rest : List (Mount ℕ)) → EachOnce (first ∷ rest) → (mount : Mount ℕ) → Among mount rest
     → nat_eq mount.number first.number ≡ false

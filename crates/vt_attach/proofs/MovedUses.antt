@@ -15,12 +15,12 @@ use Rattle.vt_mount.specs.MountsValue.{MountEntry, changed, held, mounts_in, rel
 use Rattle.vt_tasks.specs.Counts.{locations_in, one_if}
 use Rattle.vt_tasks.specs.TasksValue.{Tasks}
 use Rattle.vt_letting_go.proofs.sweeps.UpperUses.{times_append}
+use Rattle.vt_mount_laws.specs.Mounts.Attaching.{OneNumberAMount}
 use Rattle.vt_attach.specs.Copying.{with_use_moved}
 use Rattle.vt_detach.specs.Held.{CountsItsUses, IsHeld, writes_of, writes_on}
 use Rattle.vt_detach.specs.Uses.{unused_entry}
 use Rattle.vt_detach.specs.WorldValue.{WorldValue, world_of}
 use Rattle.vt_attach.proofs.AddedBegins.{IsAdded}
-use Rattle.vt_detach.proofs.LostUses.{OneNumber}
 use Rattle.vt_detach.proofs.Moving.{swap_eq}
 
 -- One use goes from a mount to another
@@ -96,7 +96,7 @@ entry_is_moved from to was some = by (nat_eq from to) refl
 
 -- Mounts that nothing is on
 
-apart_from : (xs ys : List (Mount ℕ)) → OneNumber (xs ++ ys) → (x y : Mount ℕ) → Among x xs → Among y ys
+apart_from : (xs ys : List (Mount ℕ)) → OneNumberAMount (xs ++ ys) → (x y : Mount ℕ) → Among x xs → Among y ys
     → nat_eq y.number x.number ≡ false
 apart_from [] ys one x y m n = absurd m
 apart_from (first ∷ xs) ys one x y m n =

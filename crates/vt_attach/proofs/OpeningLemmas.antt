@@ -1,5 +1,5 @@
 -- The opening world is held.
-use Rattle.std.proofs.Common.{◌≡◌, refl, sym, ap, subst, ◌∙◌, true≢false, ℕ, ◌+◌, ◌*◌, nat_eq, eq-eqb, eqb-true, Bool, true, false, cond, ◌||◌, List, [], ◌∷◌, ◌++◌, length, map, Some, None, is_some, arith}
+use Rattle.std.proofs.Common.{◌≡◌, refl, sym, ap, subst, ◌∙◌, true≢false, ℕ, ◌+◌, ◌*◌, nat_eq, eq-eqb, eqb-true, Bool, true, false, cond, List, [], ◌∷◌, ◌++◌, map, Some, None, is_some, arith}
 use Rattle.std.specs.Prelude.{All, if◌then◌else◌}
 use Rattle.std.proofs.lemmas.List.Elements.{All-cons, All-nil}
 use Rattle.vt_spec.specs.declared.attributes.Attr.{Attr}
@@ -33,6 +33,7 @@ use Rattle.vt_location.proofs.NumberLemmas.{is_inode}
 use Rattle.vt_run_laws.specs.Handed.{is_counted_before}
 use Rattle.vt_world_laws.proofs.opening.OpeningWorld.{opening_is_a_world}
 use Rattle.vt_fs.specs.FilesystemsValue.{ChangesInodes, FilesystemEntry, Filesystems, IsNew, Shown, filesystem_seen, inodes_seen, numbers_seen, shown, shown_entry, shown_with, with_changed}
+use Rattle.vt_fs.proofs.NewFilesystem.{only_one}
 use Rattle.vt_fs.proofs.Numbers.{numbers_counted, numbers_listed}
 use Rattle.vt_mount.specs.MountsValue.{MountEntry, mounts_in}
 use Rattle.vt_tasks.specs.TasksValue.{first_task_at}
@@ -125,15 +126,6 @@ is_first (x ∷ []) is =
   where
     same : shown_entry x ≡ record { count = 2; inodes = one_counted (inode_number 2 0) 4; mounts = 1 }
     same = cc
-
-only_one : (n : ℕ) (list : List ℕ) → length list ≡ 1 → is_among nat_eq n list ≡ true → list ≡ n ∷ []
-only_one n [] one among = absurd (true≢false (sym among))
-only_one n (a ∷ []) one among = by (nat_eq n a) refl among
-  where
-    by : (b : Bool) → nat_eq n a ≡ b → (b || false) ≡ true → a ∷ [] ≡ n ∷ []
-    by true e among = λ i. sym (eqb-true n a e) i ∷ []
-    by false e among = absurd (true≢false (sym among))
-only_one n (a ∷ b ∷ rest) one among = absurd cc
 
 module _ (entry : FilesystemEntry) (counts : entry.count ≡ 2)
     (inodes : inodes_seen entry ≡ one_counted (inode_number 2 0) 4) where

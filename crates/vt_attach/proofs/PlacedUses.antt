@@ -13,6 +13,7 @@ use Rattle.vt_location.specs.declared.locations.Location.{Location}
 use Rattle.vt_location.specs.Locations.{location_of}
 use Rattle.vt_location.specs.Numbers.{counted}
 use Rattle.vt_mount.specs.MountsValue.{MountEntry, changed, entry_numbered, mounts_in}
+use Rattle.vt_mount_laws.proofs.mounts.MountsNumbered.{same_number}
 use Rattle.vt_mount_laws.proofs.mounts.MountsReplaced.{one_number_by_numbers}
 use Rattle.vt_spec.specs.Lists.{any_pair}
 use Rattle.vt_spec.specs.Machine.Mounts as meant
@@ -21,9 +22,6 @@ use Rattle.vt_spec.specs.Machine.World.{World, with_mounts}
 use Rattle.vt_attach.specs.Planned.{Point, left_at, moved_to, placed_entry, points_left, points_taken, taken_at, with_points}
 use Rattle.vt_attach.specs.PlannedUses.{PointsAreUses}
 use Rattle.vt_attach.proofs.PlannedMoves.{number_stays}
-
-abbrev same_number : Mount ℕ → Mount ℕ → Bool
-same_number a b = nat_eq a.number b.number
 
 -- A mount among the others, or none of this number
 

@@ -7,11 +7,10 @@ use Rattle.vt_letting_go.proofs.Lists.{map_alike, map_twice}
 use Rattle.vt_location.specs.declared.locations.Location.{Location}
 use Rattle.vt_location.specs.declared.mounts.Mount.{Mount}
 use Rattle.vt_location.specs.Numbers.{counted}
-use Rattle.vt_spec.specs.Inodes.{Inodes}
 use Rattle.vt_spec.specs.Lists.{folded}
 use Rattle.vt_attach.specs.Planned.{pinned_by, unpinned_by}
 use Rattle.vt_detach.specs.Uses.{inode_of, shown_by}
-use Rattle.vt_attach.proofs.AddedUses.{gained_by, showing, shown_by_all, with_mounts_on}
+use Rattle.vt_attach.proofs.AddedUses.{folded_after, gained_by, showing, shown_by_all, with_mounts_on}
 
 abbrev pub inodes_of_points : List Location → List Inode
 inodes_of_points points = map (λ (point : Location). inode_of point.node) points
@@ -61,12 +60,6 @@ all_unpinned (point ∷ rest) all =
           (inodes_of_points rest);
     })
     (λ (one : Shown). record one { inodes = unpinned_if (counted one.count) one.inodes (inode_of point.node) }) all
-
-folded_after : (test : ℕ) (front back : List Inode) (inodes : Inodes ℕ)
-    → folded (pinned_if test) (folded (pinned_if test) inodes front) back
-    ≡ folded (pinned_if test) inodes (front ++ back)
-folded_after test [] back inodes = refl
-folded_after test (inode ∷ front) back inodes = folded_after test front back (pinned_if test inodes inode)
 
 -- all that a planned attachment does to filesystems
 pub planned_shown : (taken left : List Location) (copies : List Mount) (all : List Shown)

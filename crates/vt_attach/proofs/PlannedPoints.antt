@@ -11,6 +11,7 @@ use Rattle.vt_letting_go.proofs.Lists.{Among, among-append, among-map, any-map, 
 use Rattle.vt_location.specs.declared.locations.Location.{Location}
 use Rattle.vt_location.specs.Locations.{location_of}
 use Rattle.vt_location.specs.Numbers.{counted}
+use Rattle.vt_mount.proofs.ComingLemmas.{found-front}
 use Rattle.vt_mount.specs.MountsValue.{MountEntry, changed, entry_numbered, mounts_in}
 use Rattle.vt_propagate.specs.Falling.{moved_by}
 use Rattle.vt_propagate.specs.Pushing.{MovesOnce}
@@ -104,26 +105,12 @@ left_is (point ∷ rest) entries once =
 
 -- with more mounts behind those that move
 
-entry_first : (number : ℕ) (front back : List MountEntry) → is_some (entry_numbered front number) ≡ true
-    → entry_numbered (front ++ back) number ≡ entry_numbered front number
-entry_first number [] back some = absurd (true≢false (sym some))
-entry_first number (entry ∷ front) back some = by (nat_eq number entry.mount.number) some
-    (entry_first number front back)
-  where
-    by : (b : Bool) → is_some (cond b (Some entry) (entry_numbered front number)) ≡ true
-        → (is_some (entry_numbered front number) ≡ true
-        → entry_numbered (front ++ back) number ≡ entry_numbered front number)
-        → cond b (Some entry) (entry_numbered (front ++ back) number)
-        ≡ cond b (Some entry) (entry_numbered front number)
-    by true some later = refl
-    by false some later = later some
-
 taken_first : (points : List Point) (front back : List MountEntry) → Here points front
     → taken_now points (front ++ back) ≡ taken_now points front
 taken_first [] front back here = refl
 taken_first (point ∷ rest) front back here = λ i.
     taken_first rest front back (λ other m. here other (inr m)) i
-    ++ cond (is_some (entry_first (number_at point) front back (here point (inl refl)) i)) (point.place ∷ []) []
+    ++ cond (is_some (found-front (number_at point) front back (here point (inl refl)) i)) (point.place ∷ []) []
 
 left_first : (points : List Point) (front back : List MountEntry) → Here points front
     → left_now points (front ++ back) ≡ left_now points front
@@ -131,7 +118,7 @@ left_first [] front back here = refl
 left_first (point ∷ rest) front back here = λ i.
     left_first rest front back (λ other m. here other (inr m)) i
     ++ option_to_list (option_and_then (λ (entry : MountEntry). entry.mount.mount_point)
-    (entry_first (number_at point) front back (here point (inl refl)) i))
+    (found-front (number_at point) front back (here point (inl refl)) i))
 
 -- Where they come from
 

@@ -29,11 +29,12 @@ use Rattle.vt_location.specs.Numbers.{counted}
 use Rattle.vt_location.proofs.NumberLemmas.{inode_same, slot_of}
 use Rattle.vt_mount_laws.proofs.namespaces.Unsharing.{parent_of}
 use Rattle.vt_world_laws.proofs.worlds.Roots.{directory_there}
+use Rattle.vt_detach.proofs.Detached.{inodes_of_point}
 use Rattle.vt_detach.specs.Held.{IsHeld}
 use Rattle.vt_attach.specs.Room.{has_small_slots, point_is_small}
 use Rattle.vt_detach.specs.WorldValue.{WorldValue, world_of}
 use Rattle.vt_attach.proofs.AddedBegins.{nothing_moves, with_added}
-use Rattle.vt_attach.proofs.AddedUses.{IsFoundIn, gained_by, gained_uses, point_inodes}
+use Rattle.vt_attach.proofs.AddedUses.{IsFoundIn, gained_by, gained_uses}
 use Rattle.vt_detach.proofs.FilesSeen.{seen_in}
 use Rattle.vt_detach.proofs.MidwayBegins.{point_is_located}
 use Rattle.vt_attach.proofs.UnsharedTasks.{added, copied, copy, copy_is, from_spec, new_namespace, one_number, tasks_moved, to_spec}
@@ -195,7 +196,7 @@ module _ (value : WorldValue) (whole : IsHeld value) (name : TaskName) (task : T
           && both xs ys parts.1 b i
 
       points : (mount : Mount) → Among mount copies → (o : Option Location) → mount.mount_point ≡ o
-          → list_all test (point_inodes o) ≡ true
+          → list_all test (inodes_of_point o) ≡ true
       points mount n None e = refl
       points mount n (Some point) e = λ i. there_in was m point.node (point_of_copy mount n point e).there i && true
 
@@ -204,6 +205,6 @@ module _ (value : WorldValue) (whole : IsHeld value) (name : TaskName) (task : T
       each [] within = refl
       each (mount ∷ rest) within = λ i.
           there_in was m mount.root (root_there mount (within mount (inl refl))) i
-          && both (point_inodes mount.mount_point) (gained_by rest)
+          && both (inodes_of_point mount.mount_point) (gained_by rest)
           (points mount (within mount (inl refl)) mount.mount_point refl)
           (each rest (λ other n. within other (inr n))) i

@@ -20,6 +20,7 @@ use Rattle.vt_mount_laws.proofs.namespaces.Unsharing.{parent_of}
 use Rattle.vt_tasks.specs.Counts.{locations_in}
 use Rattle.vt_tasks.specs.TasksValue.{Tasks, replaced}
 use Rattle.vt_world_laws.proofs.worlds.Roots.{found_copy}
+use Rattle.vt_mount_laws.specs.Mounts.Attaching.{OneNumberAMount}
 use Rattle.vt_detach.specs.Held.{IsHeld, writes_of_task}
 use Rattle.vt_detach.specs.WorldValue.{WorldValue, world_of}
 use Rattle.vt_attach.proofs.AddedBegins.{IsAdded, with_added}
@@ -71,7 +72,7 @@ module _ (value : WorldValue) (whole : IsHeld value) (name : TaskName) (task : T
   abbrev split : IsSplit task moved_task value.tasks tasks_moved
   split = replaced_split name value.tasks task moved_task whole.in_world.tasks.one_task found refl
 
-  pub one_number : Rattle.vt_detach.proofs.LostUses.OneNumber base.mounts
+  pub one_number : OneNumberAMount base.mounts
   one_number = unshare_keeps_numbers world fresh task serves whole.in_world.mounts.one_number
 
   in_copied : (mount : Mount ℕ) → Among mount copied

@@ -27,7 +27,7 @@ use Rattle.vt_detach.specs.Uses.{kept, unused_entry, with_attached}
 use Rattle.vt_detach.specs.WorldValue.{NamespaceEntry, WorldValue, entries_of, entry_of, namespace_of, world_of}
 use Rattle.vt_attach.proofs.AttachedCounts.{lower_numbers}
 use Rattle.vt_attach.proofs.EnteringLemmas.{ascending_joined}
-use Rattle.vt_detach.proofs.NamespaceEntries.{same_namespace}
+use Rattle.vt_mount.specs.Indexes.{same_namespace}
 
 -- Places in an ascending list
 

@@ -1,7 +1,7 @@
 -- A right stands behind each effect: what a call tells its task may read, and what it changes its task may write, or
 -- owns.
 use Rattle.std.specs.Prelude.{Bool, List, Ok, Some, drop, false, nat_eq, take, true, ℕ, ◌==◌, ◌||◌, ◌≡◌, ◌⊎◌}
-use Rattle.vt_call_laws.specs.Inodes.{HasNoOverlays, IsNotHanded, inode_in, mounts_overlay, owner_of}
+use Rattle.vt_call_laws.specs.Inodes.{HasNoOverlays, IsNotHanded, inode_in, owner_of}
 use Rattle.vt_spec.specs.declared.attributes.Kind.TheVariants.{Symlink}
 use Rattle.vt_spec.specs.FileTree.{is_kind_in, opaque_of}
 use Rattle.vt_spec.specs.Language.Answers.Answer.{Bytes, Names, Opened}
@@ -20,6 +20,7 @@ use Rattle.vt_spec.specs.Machine.Walk.{Here, directory_walk, object_walk, symlin
 use Rattle.vt_spec.specs.Machine.World.{Descriptor, Task, World, mount_at, node_at, task_called}
 use Rattle.vt_spec.specs.Rights.{cap_chown, cap_sys_admin, execute_right, has_all, owns, read_right, write_right}
 use Rattle.vt_spec.specs.Tree.{Node, bytes_in, bytes_of, entries_of, entry_named, names_in}
+use Rattle.vt_tree_laws.specs.Trees.Calls.{mounts_overlay}
 
 -- the task has the wanted rights on an inode of a filesystem: path_resolution(7), "Permissions"
 abbrev pub MayDo : World ℕ → Task ℕ → ℕ → ℕ → ℕ → Type 0

@@ -5,7 +5,7 @@ use Rattle.std.specs.Str.{bytes_eq}
 use Rattle.vt_laws.specs.Given.{may_create}
 use Rattle.vt_spec.specs.Machine.Apply.{apply}
 use Rattle.vt_spec.specs.Language.Calls.{Call, TaskName}
-use Rattle.vt_spec.specs.Language.Calls.Call.{Chmod, Chown, LinkTo, MakeWhiteout, Mkdir, MountOverlay, Opaque, OpenFile, Pwrite, Rename, Rmdir, SymlinkAt, Unlink, Write}
+use Rattle.vt_spec.specs.Language.Calls.Call.{Chmod, Chown, LinkTo, MakeWhiteout, Mkdir, Opaque, OpenFile, Pwrite, Rename, Rmdir, SymlinkAt, Unlink, Write}
 use Rattle.vt_spec.specs.Language.Changes.{Change}
 use Rattle.vt_spec.specs.Language.Changes.Change.{AddName, CopyUp, Make, Move, Remove, SetAttr, SetBytes, SetMark}
 use Rattle.vt_spec.specs.FileTree.{FileTree, symlink_text, opaque_of}
@@ -18,6 +18,7 @@ use Rattle.vt_spec.specs.Machine.Permits.Permit.{ToChange, ToMake, ToMountPlain,
 use Rattle.vt_spec.specs.Machine.Policy.{policy}
 use Rattle.vt_spec.specs.Machine.World.{Task, World, files_at, filesystem_numbered, is_overlay, mount_at, node_at, task_called}
 use Rattle.vt_spec.specs.Tree.{Node, bytes_in, bytes_of, entries_in, entries_of, entry_named, kind_of}
+use Rattle.vt_tree_laws.specs.Trees.Calls.{mounts_overlay}
 
 -- the inode of a filesystem in a world
 abbrev pub inode_in : World ℕ → ℕ → ℕ → Option (Node ℕ)
@@ -25,11 +26,6 @@ inode_in world filesystem number = (filesystem_numbered nat_eq world filesystem)
 
 abbrev pub HasNoOverlays : World ℕ → Type 0
 HasNoOverlays world = All (λ filesystem. is_overlay filesystem ≡ false) world.filesystems
-
--- mount(2) of an overlay, after which there is one
-abbrev pub mounts_overlay : Call → Bool
-mounts_overlay (MountOverlay path options flags) = true
-mounts_overlay call = false
 
 -- What a permit names
 

@@ -1,14 +1,11 @@
 -- The inodes of a filesystem in a world, each with the count of its uses: inode(7), "Hard link count", and unlink(2) on
 -- a file that is still open.
-use Rattle.std.specs.Prelude.{All, false, length, nat_eq, ℕ, ◌≡◌}
+use Rattle.std.specs.Prelude.{false, length, nat_eq, ℕ, ◌≡◌}
 use Rattle.vt_spec.specs.Lists.{any_pair}
-use Rattle.vt_spec.specs.Machine.World.{Filesystem, World, is_overlay}
+use Rattle.vt_spec.specs.Machine.World.{Filesystem, World}
 use Rattle.vt_spec.specs.Inodes.{Inodes, node_in, uses_in}
 use Rattle.vt_letting_go.specs.Counts.{inode_uses}
-
--- no filesystem is an overlay
-abbrev pub IsPlain : World ℕ → Type 0
-IsPlain world = All (λ filesystem. is_overlay filesystem ≡ false) world.filesystems
+pub use Rattle.vt_laws.specs.Plain.{IsPlain}
 
 -- Counted inodes are those of a filesystem in a world: the same root, the same nodes, each with the count of its uses.
 -- No number stands twice beside the tree.

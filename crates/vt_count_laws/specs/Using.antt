@@ -4,7 +4,6 @@ use Rattle.std.specs.List.{list_all}
 use Rattle.vt_spec.specs.Lists.{Fresh, any_pair, folded, is_among}
 use Rattle.vt_spec.specs.Machine.Mounts.{Location, Mount, root_of}
 use Rattle.vt_spec.specs.Machine.World.{World, all_locations, filesystem_numbered, mount_at, new_plain, opening, root_attr}
-use Rattle.vt_spec.specs.Machine.Invariants.{IsWorld}
 use Rattle.vt_spec.specs.Inodes as Trees
 use Rattle.vt_spec.specs.Inodes.{Inodes, one_directory, pinned, unpinned}
 use Rattle.vt_spec.specs.Tree.{new_directory}
@@ -119,9 +118,6 @@ abbrev pub PlacesStand : Type 0
 PlacesStand =
     (world : World ℕ) → MountsStand world → LocationsStand world
     → list_all (is_on world.mounts) (all_locations world ++ places_of world.mounts) ≡ true
-
-abbrev pub LocationsOfWorldsStand : Type 0
-LocationsOfWorldsStand = (world : World ℕ) → IsWorld nat_eq world → LocationsStand world
 
 -- A mount that nothing uses takes one use of its root with it.
 abbrev pub MountsLeaveTheirRoots : Type 0

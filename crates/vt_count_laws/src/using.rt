@@ -1,6 +1,7 @@
 //! Locations and mounts that come and go, with the counts of inodes.
 ghost use Rattle.vt_count_laws.specs.Sweeping.{SameWorldsCountAlike, UsesAreSwept};
-ghost use Rattle.vt_count_laws.specs.Using.{ExchangesFollow, ExchangesTurn, LocationsAreUses, LocationsOfWorldsStand, MountIsPlaced, MountsAreUses, MountsLeaveTheirRoots, NewTreeIsCounted, OpeningIsCounted, OthersUseNothing, PlacesStand, UsesAreExchanged};
+ghost use Rattle.vt_count_laws.specs.Using.{ExchangesFollow, ExchangesTurn, LocationsAreUses, MountIsPlaced, MountsAreUses, MountsLeaveTheirRoots, NewTreeIsCounted, OpeningIsCounted, OthersUseNothing, PlacesStand, UsesAreExchanged};
+ghost use Rattle.vt_letting_go.specs.Worlds.{LocationsOfWorldsStand};
 
 /// Where inodes get some uses and lose some, those that are left with none go, and the others have the new counts. The
 /// sweep at the end of a call does the same, once mounts and filesystems without a use are gone.

@@ -27,7 +27,7 @@ use Rattle.vt_tasks.specs.declared.task.Task.{Task as Held}
 use Rattle.vt_tasks.specs.TaskValue.{task_of}
 use Rattle.vt_tasks.specs.TasksValue.{AreNamedApart, Tasks, called, without_called}
 use Rattle.vt_tasks.proofs.GivenOnce.{name-of-called, same_names}
-use Rattle.vt_tasks.proofs.LocationLemmas.{total-without}
+use Rattle.vt_tasks.proofs.LocationLemmas.{total-without, without-nobody}
 use Rattle.vt_detach.specs.Events.{Permits}
 use Rattle.vt_detach.specs.Held.{CountsWhatIsInIt, IsHeld, writes_of_task, writes_on}
 use Rattle.vt_detach.specs.NamespacesLeft.{MountsAreLeft, has_slot, namespace_entry, with_one_task_less, without_file}
@@ -51,13 +51,6 @@ pub record GoesOne (task : Task ℕ) (tasks after : Tasks) : Type 0 where
   pub was : tasks ≡ front ++ (task ∷ back)
   pub is : after ≡ front ++ back
 
-without_nobody : (name : TaskName) (tasks : Tasks) → list_any (λ task. same_name name task.name) tasks ≡ false
-    → without_called name tasks ≡ tasks
-without_nobody name [] none = refl
-without_nobody name (task ∷ tasks) none =
-    let parts = or_parts (same_name name task.name) _ none in
-    λ i. cond (not (parts.0 i)) (task ∷ without_nobody name tasks parts.1 i) (without_nobody name tasks parts.1 i)
-
 pub one_goes_out : (name : TaskName) (tasks : Tasks) (task : Task ℕ) → AreNamedApart tasks
     → called name tasks ≡ Some task
     → GoesOne task tasks (without_called name tasks)
@@ -74,7 +67,7 @@ one_goes_out name (first ∷ tasks) task apart found =
       front = [];
       back = tasks;
       was = ap (λ one. one ∷ tasks) (same_Some first task here);
-      is = without_nobody name tasks
+      is = without-nobody name tasks
           (ap (λ own. list_any (λ (other : Task ℕ). same_name own other.name) tasks) (same_names name first.name e)
           ∙ others);
     }

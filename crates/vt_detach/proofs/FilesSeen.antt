@@ -1,13 +1,13 @@
 -- The filesystem that a location of the code's world is in, by what is kept of it.
 use Rattle.std.proofs.Common.{◌≡◌, refl, sym, ap, ◌∙◌, ⊎_elim, inl, inr, true≢false, ℕ, ◌<◌, ◌%◌, nat_eq, eq-eqb, eqb-true, Bool, true, false, cond, ◌||◌, ◌&&◌, List, [], ◌∷◌, ◌++◌, map, flat_map, Some, is_some, unwrap_or, arith}
-use Rattle.std.specs.Prelude.{All, find, nat_lt, option_to_list, ◌/◌}
+use Rattle.std.specs.Prelude.{All, nat_lt, option_to_list, ◌/◌}
 use Rattle.std.proofs.lemmas.Bool.{and_parts, or_parts}
 use Rattle.std.proofs.lemmas.List.Elements.{All-head, All-tail}
 use Rattle.std.specs.List.{list_any}
 use Rattle.vt_spec.specs.Lists.{any_pair, is_among}
 use Rattle.vt_spec.specs.Machine.Mounts.{Mount, source_of}
 use Rattle.vt_spec.specs.Machine.Run.{used_by_filesystem, used_by_mount}
-use Rattle.vt_spec.specs.Machine.World.{Filesystem, Namespace, filesystem_at, filesystem_numbered, is_overlay, mount_at, no_filesystem, node_at}
+use Rattle.vt_spec.specs.Machine.World.{Filesystem, Namespace, filesystem_at, filesystem_numbered, is_overlay, mount_at, node_at}
 use Rattle.vt_spec.specs.Machine.Invariants.{is_located_well}
 use Rattle.vt_spec.specs.Inodes.{node_in}
 use Rattle.vt_spec.specs.TreeInvariant.{IsTree}
@@ -23,6 +23,7 @@ use Rattle.vt_location.proofs.NumberLemmas.{counted_same, counted_test, inode_sa
 use Rattle.vt_run_laws.specs.Handed.{is_counted_before}
 use Rattle.vt_detach.specs.Held.{HasOwnInodes, IsHeld}
 use Rattle.vt_detach.specs.WorldValue.{WorldValue, world_of}
+use Rattle.vt_detach.proofs.FilesystemsFound.{found as filesystem_found, found_if}
 use Rattle.vt_fs.proofs.Numbers.{found_by_number}
 use Rattle.vt_permit_laws.proofs.in_use.InUseServes.{leaves_two}
 
@@ -69,18 +70,6 @@ pub record IsSeenIn (fs : Filesystems) (number inode : ℕ) : Type 0 where
   pub found : entry_of fs entry.count ≡ Some entry
   pub number_is : number ≡ counted entry.count
   pub own : is_inode_of entry.count inode ≡ true
-
-abbrev filesystem_found : Filesystems → ℕ → Filesystem ℕ
-filesystem_found fs number =
-    unwrap_or (find (λ (filesystem : Filesystem ℕ). nat_eq number filesystem.number) (filesystems_seen fs))
-    (no_filesystem number)
-
-abbrev found_if : Bool → FilesystemEntry → Filesystems → ℕ → Filesystem ℕ
-found_if b x fs number =
-    unwrap_or
-    (cond b (Some (filesystem_seen x))
-    (find (λ (filesystem : Filesystem ℕ). nat_eq number filesystem.number) (filesystems_seen fs)))
-    (no_filesystem number)
 
 pub seen_in : (fs : Filesystems) → All HasOwnInodes fs → (number inode : ℕ)
     → is_some ((filesystem_found fs number).files.tree.node inode) ≡ true → IsSeenIn fs number inode

@@ -18,7 +18,7 @@ found fs number =
     (no_filesystem number)
 
 -- what is told of a filesystem that is found first, or further on
-abbrev found_if : Bool → FilesystemEntry → Filesystems → ℕ → Filesystem ℕ
+abbrev pub found_if : Bool → FilesystemEntry → Filesystems → ℕ → Filesystem ℕ
 found_if b x fs number =
     unwrap_or
     (cond b (Some (filesystem_seen x))

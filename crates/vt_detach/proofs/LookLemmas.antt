@@ -25,6 +25,7 @@ use Rattle.vt_fs.specs.FilesystemsValue.{entry_at, files_at, filesystem_seen, fi
 use Rattle.vt_fs.specs.Laws.{ParentsAreNamed}
 use Rattle.vt_fs.proofs.Numbers.{found_by_number, inode_of_one}
 use Rattle.vt_mount.specs.MountsValue.{mounts_in, stands_over}
+pub use Rattle.vt_spec.proofs.Truths.{nat_eq_turned as turned}
 use Rattle.vt_detach.specs.Held.{IsHeld}
 use Rattle.vt_detach.specs.Looking.{is_seen}
 use Rattle.vt_detach.specs.WorldValue.{WorldValue, world_of}
@@ -43,15 +44,6 @@ and_true false = refl
 either_false : (a b : Bool) → (a && b) ≡ false → (P : Type 0) → (a ≡ false → P) → (a ≡ true → b ≡ false → P) → P
 either_false true b e P first second = second refl e
 either_false false b e P first second = first refl
-
-pub turned : (a b : ℕ) → nat_eq a b ≡ nat_eq b a
-turned a b = by (nat_eq a b) (nat_eq b a) refl refl
-  where
-    by : (x y : Bool) → nat_eq a b ≡ x → nat_eq b a ≡ y → x ≡ y
-    by true true e f = refl
-    by false false e f = refl
-    by true false e f = sym (eq-eqb b a (sym (eqb-true a b e))) ∙ f
-    by false true e f = sym e ∙ eq-eqb a b (sym (eqb-true b a f))
 
 -- a list is filtered by a test that is another one, or none at all
 any_filtered : {A : Type 0} (seen : Bool) (on over test : A → Bool) (xs : List A)

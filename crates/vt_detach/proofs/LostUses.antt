@@ -14,6 +14,7 @@ use Rattle.vt_letting_go.specs.OneByOne.{Inode}
 use Rattle.vt_letting_go.proofs.Lists.{Among, among-from_filter, among-map, fails, map_alike, map_twice, none_passes}
 use Rattle.vt_location.specs.Numbers.{counted}
 use Rattle.vt_mount.specs.MountsValue.{MountEntry, changed, entry_numbered, mounts_in}
+use Rattle.vt_mount_laws.specs.Mounts.Attaching.{OneNumberAMount}
 use Rattle.vt_detach.specs.Uses.{mounts_shown}
 
 pub folded_append : {A B : Type 0} (f : A → B → A) (z : A) (xs ys : List B)
@@ -100,24 +101,22 @@ shown_by_rule f counts (first ∷ rest) each one m same =
 
 -- Mounts by their numbers
 
-abbrev pub OneNumber : List (Mount ℕ) → Type 0
-OneNumber mounts = any_pair (λ (a b : Mount ℕ). nat_eq a.number b.number) mounts ≡ false
-
-pub one_number_less : (p : Mount ℕ → Bool) (mounts : List (Mount ℕ)) → OneNumber mounts → OneNumber (filter p mounts)
+pub one_number_less : (p : Mount ℕ → Bool) (mounts : List (Mount ℕ)) → OneNumberAMount mounts
+    → OneNumberAMount (filter p mounts)
 one_number_less p [] one = refl
 one_number_less p (x ∷ xs) one =
     let parts = or_parts (list_any (λ b. nat_eq x.number b.number) xs)
     (any_pair (λ (a b : Mount ℕ). nat_eq a.number b.number) xs) one in
     by (p x) parts.0 (one_number_less p xs parts.1)
   where
-    by : (b : Bool) → list_any (λ b. nat_eq x.number b.number) xs ≡ false → OneNumber (filter p xs)
-        → OneNumber (cond b (x ∷ filter p xs) (filter p xs))
+    by : (b : Bool) → list_any (λ b. nat_eq x.number b.number) xs ≡ false → OneNumberAMount (filter p xs)
+        → OneNumberAMount (cond b (x ∷ filter p xs) (filter p xs))
     by true others later =
         (λ i. none_passes (λ b. nat_eq x.number b.number) (filter p xs)
         (λ y m. fails (λ b. nat_eq x.number b.number) xs others y (among-from_filter p xs y m).0) i || later i)
     by false others later = later
 
-pub entry_itself : (entries : List MountEntry) → OneNumber (mounts_in entries) → (entry : MountEntry)
+pub entry_itself : (entries : List MountEntry) → OneNumberAMount (mounts_in entries) → (entry : MountEntry)
     → Among entry entries
     → entry_numbered entries entry.mount.number ≡ Some entry
 entry_itself [] one entry m = absurd m

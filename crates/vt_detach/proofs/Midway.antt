@@ -25,24 +25,23 @@ use Rattle.vt_location.specs.Locations.{location_of, number_of}
 use Rattle.vt_location.specs.Numbers.{counted}
 use Rattle.vt_mount.specs.MountsValue.{MountEntry, changed, entry_numbered, mounts_in, released}
 use Rattle.vt_letting_go.proofs.sweeps.UpperUses.{times_append}
+use Rattle.vt_mount_laws.specs.Mounts.Attaching.{OneNumberAMount}
+use Rattle.vt_letting_go.specs.Attaching.{inodes_of_mount_point}
 use Rattle.vt_detach.specs.Held.{IsHeld, writes_of}
 use Rattle.vt_detach.specs.Uses as meant
 use Rattle.vt_detach.specs.Uses.{Kept, detached_entry, inode_of, is_unused, let_go_entry, let_go_filesystem, mounts_shown, released_if, released_in, unpinned_at, unpinned_in, without_filesystem}
 use Rattle.vt_detach.specs.WorldValue.{WorldValue, world_of}
 use Rattle.vt_detach.proofs.LocationsSeen.{seen_where_located}
-use Rattle.vt_detach.proofs.LostUses.{OneNumber, entry_found_at, entry_itself, folded_append, lost_alike, mounts_unchanged}
+use Rattle.vt_detach.proofs.LostUses.{entry_found_at, entry_itself, folded_append, lost_alike, mounts_unchanged}
 use Rattle.vt_detach.proofs.Moving.{Use, inodes_of_uses, is_use_on, lose, release_if, released_counts, writes_on_mount}
 
 -- a mount that is still to be detached, as it is afterwards
 abbrev pub gone_if : (Mount ℕ → Bool) → Mount ℕ → Mount ℕ
 gone_if goes mount = cond (goes mount) (detached mount) mount
 
-abbrev pub inodes_of_point : World ℕ → Mount ℕ → List Inode
-inodes_of_point world mount = map (inode_at world) (option_to_list mount.mount_point)
-
 -- the inodes of the mount points that are still to be left
 abbrev pub point_left : World ℕ → (Mount ℕ → Bool) → Mount ℕ → List Inode
-point_left world goes mount = cond (goes mount) (inodes_of_point world mount) []
+point_left world goes mount = cond (goes mount) (inodes_of_mount_point world mount) []
 
 abbrev pub points_left : World ℕ → (Mount ℕ → Bool) → List MountEntry → List Inode
 points_left world goes entries = flat_map (point_left world goes) (mounts_in entries)
@@ -101,8 +100,8 @@ gone_number goes mount = by (goes mount)
     by true = refl
     by false = refl
 
-pub one_number_kept : (goes : Mount ℕ → Bool) (mounts : List (Mount ℕ)) → OneNumber (map (gone_if goes) mounts)
-    → OneNumber mounts
+pub one_number_kept : (goes : Mount ℕ → Bool) (mounts : List (Mount ℕ)) → OneNumberAMount (map (gone_if goes) mounts)
+    → OneNumberAMount mounts
 one_number_kept goes mounts one = sym (same mounts) ∙ one
   where
     same_one : (x : Mount ℕ) (xs : List (Mount ℕ))
@@ -258,10 +257,10 @@ module _ (value : WorldValue) (whole : IsHeld value) (start : World ℕ) (gained
       by false e = refl
 
   -- the points of the entries are those of the others, and of this one
-  points_are : (number : ℕ) (entries : List MountEntry) → OneNumber (mounts_in entries) → (entry : MountEntry)
+  points_are : (number : ℕ) (entries : List MountEntry) → OneNumberAMount (mounts_in entries) → (entry : MountEntry)
       → entry_numbered entries number ≡ Some entry → goes entry.mount ≡ true → (test : Inode → Bool)
       → times test (points_left world goes entries)
-      ≡ times test (inodes_of_point world entry.mount) + times test
+      ≡ times test (inodes_of_mount_point world entry.mount) + times test
       (points_left world goes (changed number detached_entry entries))
   points_are number [] one entry e going test = absurd cc
   points_are number (x ∷ xs) one entry e going test =
@@ -273,19 +272,19 @@ module _ (value : WorldValue) (whole : IsHeld value) (start : World ℕ) (gained
           → nat_eq number x.mount.number ≡ b
           → cond b (Some x) (entry_numbered xs number) ≡ Some entry
           → (entry_numbered xs number ≡ Some entry → times test (points_left world goes xs)
-          ≡ times test (inodes_of_point world entry.mount) + times test
+          ≡ times test (inodes_of_mount_point world entry.mount) + times test
           (points_left world goes (changed number detached_entry xs)))
           → times test (point_left world goes x.mount ++ points_left world goes xs)
-          ≡ times test (inodes_of_point world entry.mount)
+          ≡ times test (inodes_of_mount_point world entry.mount)
           + times test (point_left world goes (cond b (detached_entry x) x).mount
           ++ points_left world goes (changed number detached_entry xs))
       by others true t h next =
           let same : x ≡ entry = same_Some x entry h in
-          let here : point_left world goes x.mount ≡ inodes_of_point world entry.mount =
-          (λ i. cond (goes (same i).mount) (inodes_of_point world (same i).mount) [])
-          ∙ ap (λ b. cond b (inodes_of_point world entry.mount) []) going in
+          let here : point_left world goes x.mount ≡ inodes_of_mount_point world entry.mount =
+          (λ i. cond (goes (same i).mount) (inodes_of_mount_point world (same i).mount) [])
+          ∙ ap (λ b. cond b (inodes_of_mount_point world entry.mount) []) going in
           let gone : point_left world goes (detached x.mount)
-          ≡ [] = ap (λ b. cond b (inodes_of_point world (detached x.mount)) []) (not_going_detached x.mount) in
+          ≡ [] = ap (λ b. cond b (inodes_of_mount_point world (detached x.mount)) []) (not_going_detached x.mount) in
           let still : changed number detached_entry xs ≡ xs = map_same
           (λ (y : MountEntry). cond (nat_eq number y.mount.number) (detached_entry y) y) xs
           (λ y m. ap (λ b. cond b (detached_entry y) y)
@@ -293,8 +292,8 @@ module _ (value : WorldValue) (whole : IsHeld value) (start : World ℕ) (gained
           ∙ fails (λ b. nat_eq x.mount.number b.number) (mounts_in xs) others y.mount
           (among-map (λ (one : MountEntry). one.mount) xs y m))) in
           (λ i. times test (here i ++ points_left world goes xs))
-          ∙ times_append test (inodes_of_point world entry.mount) (points_left world goes xs)
-          ∙ (λ i. times test (inodes_of_point world entry.mount) + times test
+          ∙ times_append test (inodes_of_mount_point world entry.mount) (points_left world goes xs)
+          ∙ (λ i. times test (inodes_of_mount_point world entry.mount) + times test
           (sym gone i ++ points_left world goes (sym still i)))
       by others false t h next =
           let later = next h in
@@ -307,7 +306,7 @@ module _ (value : WorldValue) (whole : IsHeld value) (start : World ℕ) (gained
       (mid : Midway value start gained goes left now k lost)
       (number : ℕ) (point : Option Place) (entry : MountEntry) (going : IsGoing k number point entry) where
     abbrev lost_here : List Inode
-    lost_here = inodes_of_point world entry.mount
+    lost_here = inodes_of_mount_point world entry.mount
 
     abbrev taken : Kept
     taken = meant.detached_use number point k
@@ -315,8 +314,8 @@ module _ (value : WorldValue) (whole : IsHeld value) (start : World ℕ) (gained
     abbrev take : MountEntry → MountEntry
     take was = cond (nat_eq number was.mount.number) (detached_entry was) was
 
-    one_number : OneNumber (mounts_in k.mounts)
-    one_number = one_number_kept goes (mounts_in k.mounts) (subst OneNumber mid.mounts mid.stand.one_number)
+    one_number : OneNumberAMount (mounts_in k.mounts)
+    one_number = one_number_kept goes (mounts_in k.mounts) (subst OneNumberAMount mid.mounts mid.stand.one_number)
 
     is_entry : (was : MountEntry) → Among was k.mounts → nat_eq number was.mount.number ≡ true → was ≡ entry
     is_entry was m e =

@@ -30,11 +30,14 @@ use Rattle.vt_mount.specs.MountsValue.{MountEntry, mounts_in}
 use Rattle.vt_tasks.specs.TasksValue.{Tasks}
 use Rattle.vt_world_laws.proofs.RaisedInUse.{worlds_are_in_use}
 use Rattle.vt_world_laws.proofs.worlds.Roots.{directory_there}
+use Rattle.vt_mount_laws.specs.Mounts.Attaching.{OneNumberAMount}
+use Rattle.vt_letting_go.specs.Attaching.{inodes_of_mount_point}
+use Rattle.vt_fs.proofs.TreesLookedAt.{or_nothing}
 use Rattle.vt_detach.specs.Held.{CountsItsMounts, CountsItsUses, IsHeld, writes_of}
 use Rattle.vt_detach.specs.Uses.{Kept, is_unused, kept}
 use Rattle.vt_detach.specs.WorldValue.{WorldValue, world_of}
-use Rattle.vt_detach.proofs.LostUses.{OneNumber, positive}
-use Rattle.vt_detach.proofs.Midway.{IsShown, Midway, NoneUnused, Reached, gone_if, gone_number, inodes_of_point, point_left, points_left}
+use Rattle.vt_detach.proofs.LostUses.{positive}
+use Rattle.vt_detach.proofs.Midway.{IsShown, Midway, NoneUnused, Reached, gone_if, gone_number, point_left, points_left}
 use Rattle.vt_detach.proofs.Moving.{Moves, Use, filesystems_gained, gain, gained_there, held_counts, hold_if, inodes_of_uses, is_use_on, locations, mounts_gained, same_moved_mounts, times_mapped, uses_moved, writes_on_mount}
 use Rattle.vt_detach.proofs.Staying.{after, world_is_plain}
 
@@ -116,7 +119,7 @@ module _ (goes : Mount ℕ → Bool)
               place.node,
             ) ∷ []
 
-        by : (b : Bool) → Exchanges [] (cond b (inodes_of_point world x) []) k before
+        by : (b : Bool) → Exchanges [] (cond b (inodes_of_mount_point world x) []) k before
             (over (map (gone_if goes) front ++ (cond b (detached x) x ∷ rest)))
         by true =
             subst (λ lost. Exchanges [] lost k before (over (map (gone_if goes) front ++ (detached x ∷ rest))))
@@ -156,7 +159,7 @@ module _ (goes : Mount ℕ → Bool)
 
 -- A mount that stays has a parent in its namespace
 
-pub parent_inside : (world : World ℕ) → OneNumber world.mounts
+pub parent_inside : (world : World ℕ) → OneNumberAMount world.mounts
     → ((mount : Mount ℕ) → Among mount world.mounts → Stands nat_eq world mount.number)
     → (mount : Mount ℕ) → Among mount world.mounts → (place : Location ℕ) → mount.mount_point ≡ Some place
     → mount.namespace ≡ (mount_numbered nat_eq world place.mount).namespace
@@ -283,7 +286,7 @@ module _ (value : WorldValue) (whole : IsHeld value) (tasks : Tasks) (more less 
       ∙ map_alike (λ (x : Mount ℕ). (gone_if goes x).number) (λ (x : Mount ℕ). x.number) world.mounts
       (λ x m. gone_number goes x)
 
-  one_number_ended : (mounts : List (Mount ℕ)) → OneNumber mounts → OneNumber (map (gone_if goes) mounts)
+  one_number_ended : (mounts : List (Mount ℕ)) → OneNumberAMount mounts → OneNumberAMount (map (gone_if goes) mounts)
   one_number_ended mounts one = same mounts ∙ one
     where
       same_one : (x : Mount ℕ) (xs : List (Mount ℕ))
@@ -380,16 +383,12 @@ module _ (value : WorldValue) (whole : IsHeld value) (tasks : Tasks) (more less 
       (CountsItsMounts world) value.filesystems whole.filesystems was m).mounts
       ∙ sym (positive (mounts_showing world (counted was.count)))
       ∙ sym (mounted_while_counted world (counted was.count))
-      ∙ sym (or_none (is_mounted nat_eq world (counted was.count)))
+      ∙ sym (or_nothing (is_mounted nat_eq world (counted was.count)))
       ∙ sym (ap (λ b. is_mounted nat_eq world (counted was.count) || b)
       (no_layers (counted was.count) world world.filesystems (plain_of world (world_is_plain value))))
       ∙ passes (filesystem_lives nat_eq world) world.filesystems (worlds_are_in_use world whole.in_world).filesystems
       (filesystem_seen was) (among-map filesystem_seen value.filesystems was m))
     where
-      or_none : (b : Bool) → (b || false) ≡ b
-      or_none true = refl
-      or_none false = refl
-
       turned : (b : Bool) → not b ≡ true → b ≡ false
       turned true e = absurd (true≢false (sym e))
       turned false e = refl

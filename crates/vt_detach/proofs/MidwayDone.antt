@@ -21,6 +21,8 @@ use Rattle.vt_letting_go.proofs.sweeps.UsesCounted.{located_while_counted, mount
 use Rattle.vt_location.specs.declared.locations.Location.{Location as Place}
 use Rattle.vt_location.specs.Numbers.{counted}
 use Rattle.vt_mount.specs.MountsValue.{MountEntry, mounts_in}
+use Rattle.vt_letting_go.specs.Attaching.{inodes_of_mount_point}
+use Rattle.vt_fs.proofs.TreesLookedAt.{or_nothing}
 use Rattle.vt_detach.specs.Held.{CountsItsUses, CountsWhatIsInIt, IsHeld, writes_of}
 use Rattle.vt_detach.specs.NamespacesLeft.{AreDetached, Detached}
 use Rattle.vt_detach.specs.Uses.{Kept, kept, without_attachment, without_use}
@@ -73,10 +75,6 @@ module _ (value : WorldValue) (whole : IsHeld value) (start : World ℕ) (gained
 
 -- When nothing is left to do, code has what the sweep leaves
 
-or_none : (b : Bool) → (b || false) ≡ b
-or_none true = refl
-or_none false = refl
-
 module _ (value : WorldValue) (start : World ℕ) (gained : List Inode) (goes : Mount ℕ → Bool) (k : Kept)
     (at : Reached value start gained goes [] k)
     (all_gone : (entry : MountEntry) → Among entry k.mounts → goes entry.mount ≡ false)
@@ -106,7 +104,7 @@ module _ (value : WorldValue) (start : World ℕ) (gained : List Inode) (goes : 
       ap (λ points. at.lost ++ points)
       (flat_map_none (point_left (world_of value) goes) (mounts_in k.mounts)
       (λ x m. let from = among-from_map (λ (e : MountEntry). e.mount) k.mounts x m in
-      ap (λ b. cond b (Rattle.vt_detach.proofs.Midway.inodes_of_point (world_of value) x) [])
+      ap (λ b. cond b (inodes_of_mount_point (world_of value) x) [])
       (ap goes from.2 ∙ all_gone from.0 from.1)))
       ∙ append-nil at.lost
 
@@ -141,7 +139,7 @@ module _ (value : WorldValue) (start : World ℕ) (gained : List Inode) (goes : 
       (among-map (λ (x : Filesystem ℕ). x.number) now.filesystems f m)) in
       let is = mid.shown from.0 from.1 in
       ap (λ b. is_mounted nat_eq now f.number || b) (no_layers f.number now now.filesystems (plain_of now mid.plain))
-      ∙ or_none (is_mounted nat_eq now f.number)
+      ∙ or_nothing (is_mounted nat_eq now f.number)
       ∙ mounted_while_counted now f.number
       ∙ positive (mounts_showing now f.number)
       ∙ ap (λ n. not (nat_eq n 0)) (ap (mounts_showing now) from.2 ∙ sym is.mounts)

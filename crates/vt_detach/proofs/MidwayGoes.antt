@@ -30,11 +30,14 @@ use Rattle.vt_letting_go.proofs.sweeps.UsesCounted.{located_while_counted, mount
 use Rattle.vt_location.specs.Numbers.{counted}
 use Rattle.vt_mount.specs.MountsValue.{MountEntry, entry_numbered, mounts_in, without}
 use Rattle.vt_letting_go.proofs.sweeps.UpperUses.{times_append}
+use Rattle.vt_mount_laws.specs.Mounts.Attaching.{OneNumberAMount}
+use Rattle.vt_letting_go.specs.Attaching.{inodes_of_mount_point}
+use Rattle.vt_fs.proofs.TreesLookedAt.{or_nothing}
 use Rattle.vt_detach.specs.Held.{IsHeld}
 use Rattle.vt_detach.specs.Uses as meant
 use Rattle.vt_detach.specs.Uses.{Kept, is_unused, let_go_entry, mounts_shown, released_if}
 use Rattle.vt_detach.specs.WorldValue.{WorldValue, world_of}
-use Rattle.vt_detach.proofs.LostUses.{OneNumber, entry_found_at, entry_itself, filter_less, flat_map_less, folded_append, found_unless, lost_alike, one_number_less, shown_by_rule}
+use Rattle.vt_detach.proofs.LostUses.{entry_found_at, entry_itself, filter_less, flat_map_less, folded_append, found_unless, lost_alike, one_number_less, shown_by_rule}
 use Rattle.vt_detach.proofs.Midway.{IsShown, Midway, NoneUnused, Reached, UnusedOnly, gone_if, gone_number, one_number_kept, point_left, points_left, unused_parts}
 use Rattle.vt_detach.proofs.Moving.{Use, inodes_of_uses, swap_eq}
 
@@ -61,14 +64,10 @@ module _ (now : World ℕ) (number : ℕ) (stays : ℕ → Bool) (plain : IsPlai
   abbrev showing : List (Mount ℕ) → ℕ → Bool
   showing mounts f = list_any (λ (mount : Mount ℕ). nat_eq f mount.filesystem) mounts
 
-  or_none : (b : Bool) → (b || false) ≡ b
-  or_none true = refl
-  or_none false = refl
-
   lives_is : (v : World ℕ) → IsPlain v → (f : Filesystem ℕ) → filesystem_lives nat_eq v f ≡ is_mounted nat_eq v f.number
   lives_is v is f =
       ap (λ b. is_mounted nat_eq v f.number || b) (no_layers f.number v v.filesystems (plain_of v is))
-      ∙ or_none (is_mounted nat_eq v f.number)
+      ∙ or_nothing (is_mounted nat_eq v f.number)
 
   plain_second : IsPlain second
   plain_second =
@@ -113,8 +112,8 @@ module _ (value : WorldValue) (whole : IsHeld value) (start : World ℕ) (gained
   abbrev world : World ℕ
   world = world_of value
 
-  one_number : OneNumber (mounts_in k.mounts)
-  one_number = one_number_kept goes (mounts_in k.mounts) (subst OneNumber mid.mounts mid.stand.one_number)
+  one_number : OneNumberAMount (mounts_in k.mounts)
+  one_number = one_number_kept goes (mounts_in k.mounts) (subst OneNumberAMount mid.mounts mid.stand.one_number)
 
   module _ (entry : MountEntry) (found : entry_numbered k.mounts number ≡ Some entry)
       (unused : is_unused entry ≡ true) where
@@ -396,7 +395,7 @@ module _ (value : WorldValue) (whole : IsHeld value) (start : World ℕ) (gained
         let from = among-from_map (λ (e : MountEntry). e.mount) k.mounts x m in
         let same : from.0.mount.number ≡ number = ap (λ (y : Mount ℕ). y.number) (sym from.2)
         ∙ sym (eqb-true number x.number (turned (nat_eq number x.number) gone)) in
-        ap (λ b. cond b (Rattle.vt_detach.proofs.Midway.inodes_of_point world x) [])
+        ap (λ b. cond b (inodes_of_mount_point world x) [])
         (ap goes (from.2 ∙ ap (λ (e : MountEntry). e.mount) (is_entry from.0 from.1 same)) ∙ not_going))
       where
         turned : (b : Bool) → not b ≡ false → b ≡ true

@@ -1,13 +1,13 @@
 -- A mount moves, with all that is below it: mount(2) with MS_MOVE. Only the mount point of the first mount changes.
-use Rattle.std.proofs.Common.{◌≡◌, ◌<◌, refl, sym, ap, subst, ◌∙◌, inl, inr, ℕ, suc, zero, nat_eq, eqb-true, eq-eqb, Bool, true, false, true≢false, cond, not, ◌||◌, ◌&&◌, List, [], ◌∷◌, ◌++◌, map, length, Option, Some, None, option_map, is_some, unwrap_or}
-use Rattle.std.specs.Prelude.{filter_map, find, flat_map, option_to_list}
+use Rattle.std.proofs.Common.{◌≡◌, ◌<◌, refl, sym, ap, subst, ◌∙◌, inl, inr, ℕ, nat_eq, eqb-true, eq-eqb, Bool, true, false, true≢false, cond, not, ◌||◌, ◌&&◌, List, [], ◌∷◌, ◌++◌, map, length, Option, Some, None, option_map, is_some, unwrap_or}
+use Rattle.std.specs.Prelude.{filter_map, find, option_to_list}
 use Rattle.std.specs.List.{cons_option, list_all, list_any}
 use Rattle.std.proofs.lemmas.Bool.{and_parts, or_parts}
 use Rattle.std.proofs.lemmas.List.{append-nil}
 use Rattle.vt_spec.specs.Language.Calls.{TaskName}
 use Rattle.vt_spec.specs.Lists.{Fresh, any_pair, folded}
 use Rattle.vt_spec.specs.Machine.Attach.{Copies, Twig, attach, copies_from, masters_with, twig_master}
-use Rattle.vt_spec.specs.Machine.Mounts.{Location, Mount, Propagation, children, group_of, is_shared, mount_tree, no_mount, replaced_if_same, tree_from, with_mount}
+use Rattle.vt_spec.specs.Machine.Mounts.{Location, Mount, Propagation, group_of, is_shared, mount_tree, no_mount, replaced_if_same, with_mount}
 use Rattle.vt_spec.specs.Machine.Mounts.Propagation.{Private, Shared, Slave, Unbindable}
 use Rattle.vt_spec.specs.Machine.Permits.Permit.{ToMove}
 use Rattle.vt_spec.specs.Machine.World.{Filesystem, World, filesystem_numbered, is_directory_at, mount_at, mount_numbered, node_at}
@@ -30,6 +30,7 @@ use Rattle.vt_location.specs.Numbers.{counted}
 use Rattle.vt_mount.specs.MountsValue.{changed, mounts_in}
 use Rattle.vt_mount_laws.proofs.mounts.MountsFound.{number_found}
 use Rattle.vt_mount_laws.proofs.mounts.MountsReplaced.{found_itself, numbers-with_mount, one_number_by_numbers}
+use Rattle.vt_mount_laws.proofs.moves.Moving.{tree_top}
 use Rattle.vt_mount_laws.proofs.moves.MovingRoots.{tree_placed}
 use Rattle.vt_mount_laws.proofs.mounts.Standing.{trees_have_each_once}
 use Rattle.vt_permit_laws.proofs.taken.TakenAttached.{at_destination, copy_by, group_by, twigs}
@@ -63,11 +64,6 @@ places_keep place = record {
   filesystem = λ mount. refl;
   root = λ mount. refl;
 }
-
-tree_begins : (fuel : ℕ) (mounts : List (Mount ℕ)) (top : Mount ℕ)
-    → (rest : List (Mount ℕ)) × (tree_from nat_eq fuel mounts top ≡ top ∷ rest)
-tree_begins zero mounts top = ([], refl)
-tree_begins (suc fuel) mounts top = (flat_map (tree_from nat_eq fuel mounts) (children nat_eq mounts top.number), refl)
 
 -- Mounts that are put in their own places
 
@@ -225,7 +221,7 @@ module _ (value : WorldValue) (held : IsHeld value) (number namespace : ℕ) (pl
       (mount_tree nat_eq (mounts_in value.mounts) (mount_numbered nat_eq (world_of value) number))
       ≡ next_of value held number (placed_at place) (places_keep place)
   tree_moved fresh alone =
-      let begins = tree_begins (length mounts) mounts top in
+      let begins = tree_top (length mounts) mounts top in
       let new = copies_from nat_eq fresh (mount_at nat_eq world place ∷ []) (top ∷ begins.0) in
       ap (λ list. attach nat_eq world fresh place true list) begins.1
       ∙ at_destination world place (top ∷ begins.0) alone true fresh

@@ -1,5 +1,5 @@
 -- Locations that tasks come to and leave: what code counts then.
-use Rattle.std.proofs.Common.{◌≡◌, refl, sym, ap, subst, ◌∙◌, ⊎_elim, ℕ, ◌+◌, ◌-◌, nat_eq, eqb-true, eq-eqb, Bool, true, false, true≢false, ne_eqb, cond, not, ◌&&◌, ◌||◌, List, [], ◌∷◌, ◌++◌, map, Option, Some, None, is_some, arith}
+use Rattle.std.proofs.Common.{◌≡◌, refl, sym, ap, subst, ◌∙◌, ⊎_elim, ℕ, ◌+◌, ◌-◌, nat_eq, eqb-true, eq-eqb, Bool, true, false, cond, not, ◌&&◌, ◌||◌, List, [], ◌∷◌, ◌++◌, map, Option, Some, None, is_some, arith}
 use Rattle.std.specs.List.{list_all}
 use Rattle.std.proofs.lemmas.Bool.{and_parts}
 use Rattle.vt_spec.specs.Lists.{folded}
@@ -19,6 +19,7 @@ use Rattle.vt_letting_go.proofs.Lists.{Among, all_pass, among-append, among-appe
 use Rattle.vt_location.specs.Numbers.{counted}
 use Rattle.vt_mount.specs.MountsValue.{MountEntry, held, mounts_in, released}
 use Rattle.vt_tasks.specs.TasksValue.{Tasks}
+pub use Rattle.vt_spec.proofs.Truths.{nat_eq_turned as swap_eq}
 use Rattle.vt_detach.specs.Held.{CountsItsUses, IsHeld, writes_of}
 use Rattle.vt_detach.specs.Uses.{Kept, released_use, with_use}
 use Rattle.vt_detach.specs.WorldValue.{WorldValue, world_of}
@@ -71,13 +72,6 @@ mounts_lost world [] k = map_itself k.mounts
 mounts_lost world (held_use ∷ uses) k =
     mounts_lost world uses (lose world k held_use)
     ∙ map_twice (λ entry. folded release_if entry uses) (λ entry. release_if entry held_use) k.mounts
-
-pub swap_eq : (a b : ℕ) → nat_eq a b ≡ nat_eq b a
-swap_eq a b = by (nat_eq a b) refl
-  where
-    by : (t : Bool) → nat_eq a b ≡ t → t ≡ nat_eq b a
-    by true e = sym (eq-eqb b a (sym (eqb-true a b e)))
-    by false e = sym (ne_eqb b a (λ same. true≢false (sym (eq-eqb a b (sym same)) ∙ e)))
 
 -- an entry with more uses, and with less
 pub record HasMore (more : List Use) (entry new : MountEntry) : Type 0 where

@@ -5,6 +5,7 @@ use Rattle.std.specs.Map.{keys_of, lookup, remove_entry, set_value}
 use Rattle.std.proofs.lemmas.Map.Keys.{IsDistinct-head, IsDistinct-tail}
 use Rattle.std.proofs.lemmas.Option.{same_Some}
 use Rattle.vt_location.specs.declared.numbers.NamespaceId.{NamespaceId}
+pub use Rattle.vt_mount.specs.Indexes.{same_namespace}
 use Rattle.vt_detach.specs.declared.namespaces.Namespace.{Namespace}
 use Rattle.vt_detach.specs.WorldValue.{NamespaceEntry, entries_of, entry_of}
 
@@ -31,9 +32,6 @@ entry_found count (e ∷ es) o is = by (nat_eq count e.0.count) refl is (entry_f
         (λ i. Some (record { count = sym (eqb-true count e.0.count here) i; tasks = e.1.tasks }))
         ∙ ap (option_map (λ (one : Namespace). record { count = count; tasks = one.tasks })) found
     by false here found later = later found
-
-abbrev pub same_namespace : NamespaceId → NamespaceId → Bool
-same_namespace a b = nat_eq a.count b.count
 
 -- the entries of the others stay
 others_stay : (count : ℕ) (change : NamespaceEntry → NamespaceEntry) (first : NamespaceId) (es : Entries)

@@ -7,18 +7,19 @@ use Rattle.vt_spec.specs.Machine.World.{World}
 use Rattle.vt_letting_go.specs.OneByOne.{Inode}
 use Rattle.vt_letting_go.proofs.Lists.{among-from_map}
 use Rattle.vt_mount.specs.MountsValue.{MountEntry, entry_numbered, mounts_in, released}
+use Rattle.vt_mount_laws.specs.Mounts.Attaching.{OneNumberAMount}
 use Rattle.vt_detach.specs.Held.{IsHeld}
 use Rattle.vt_detach.specs.Uses.{Kept, is_unused, let_go_entry, let_go_mount, without_mount}
 use Rattle.vt_detach.specs.WorldValue.{WorldValue, world_of}
 use Rattle.vt_detach.proofs.Going.{map_filtered}
-use Rattle.vt_detach.proofs.LostUses.{OneNumber, entry_itself, filter_less, mounts_unchanged}
+use Rattle.vt_detach.proofs.LostUses.{entry_itself, filter_less, mounts_unchanged}
 use Rattle.vt_detach.proofs.Midway.{Reached, one_number_kept, unused_parts}
 use Rattle.vt_detach.proofs.MidwayDone.{leave_use, leaves_one}
 use Rattle.vt_detach.proofs.Moving.{Use, lose}
 
 module _ (p : Mount ℕ → Bool) (nowhere : (mount : Mount ℕ) → is_some mount.namespace ≡ false → p mount ≡ false) where
   -- one mount is looked at
-  inside_kept : (number : ℕ) (k : Kept) → OneNumber (mounts_in k.mounts)
+  inside_kept : (number : ℕ) (k : Kept) → OneNumberAMount (mounts_in k.mounts)
       → filter p (mounts_in (let_go_mount number k).mounts) ≡ filter p (mounts_in k.mounts)
   inside_kept number k one = by (entry_numbered k.mounts number) refl
     where
@@ -60,6 +61,6 @@ module _ (p : Mount ℕ → Bool) (nowhere : (mount : Mount ℕ) → is_some mou
         inside_stays left (leave_use (world_of value) k u)
         (leaves_one value whole start gained goes attached u left k at)
         ∙ inside_kept u.location.mount (lose (world_of value) k u)
-        (subst OneNumber (sym same)
-        (one_number_kept goes (mounts_in k.mounts) (subst OneNumber at.midway.mounts at.midway.stand.one_number)))
+        (subst OneNumberAMount (sym same)
+        (one_number_kept goes (mounts_in k.mounts) (subst OneNumberAMount at.midway.mounts at.midway.stand.one_number)))
         ∙ ap (filter p) same

@@ -16,16 +16,17 @@ use Rattle.vt_letting_go.proofs.Lists.{Among, all_from_among, among-from_filter,
 use Rattle.vt_letting_go.proofs.leaving.PlacesLeft.{found_itself}
 use Rattle.vt_location.specs.Numbers.{counted}
 use Rattle.vt_tasks.specs.TasksValue.{Tasks}
+use Rattle.vt_mount_laws.specs.Mounts.Attaching.{OneNumberAMount}
 use Rattle.vt_detach.specs.Held.{CountsWhatIsInIt}
 use Rattle.vt_detach.specs.NamespacesLeft.{entries_left, has_one_task, left_if, namespace_entry, one_task_less, with_one_task_less}
 use Rattle.vt_detach.specs.WorldValue.{NamespaceEntry, namespace_of}
-use Rattle.vt_detach.proofs.LostUses.{OneNumber, positive}
+use Rattle.vt_detach.proofs.LostUses.{positive}
 use Rattle.vt_detach.proofs.Midway.{gone_if}
 use Rattle.vt_location.proofs.NumberLemmas.{counted_test}
 
 -- Mounts that are taken away, and no mount that stays is on them
 
-module _ (world : World ℕ) (one : OneNumber world.mounts) (goes : Mount ℕ → Bool)
+module _ (world : World ℕ) (one : OneNumberAMount world.mounts) (goes : Mount ℕ → Bool)
     (stays : (mount : Mount ℕ) → Among mount world.mounts → goes mount ≡ false → (place : Location ℕ)
     → mount.mount_point ≡ Some place
     → goes (mount_at nat_eq world place) ≡ false) where

@@ -8,8 +8,8 @@ use Rattle.vt_spec.specs.Machine.World.{Task, locations_of}
 use Rattle.vt_letting_go.specs.Counts.{times}
 use Rattle.vt_tasks.specs.Counts.{locations_in, one_if}
 use Rattle.vt_tasks.specs.TasksValue.{AreNamedApart, Tasks, called, replaced}
-use Rattle.vt_tasks.proofs.GivenOnce.{name-of-called, same_names}
-use Rattle.vt_tasks.proofs.LocationLemmas.{total, total-replaced}
+use Rattle.vt_tasks.proofs.GivenOnce.{name-of-called}
+use Rattle.vt_tasks.proofs.LocationLemmas.{nobody-behind, put-nobody, total, total-replaced}
 use Rattle.vt_tasks.proofs.TasksLemmas.{put}
 use Rattle.vt_detach.specs.Held.{writes_of, writes_of_task}
 
@@ -19,20 +19,6 @@ pub record IsSplit (task new : Task ℕ) (tasks after : Tasks) : Type 0 where
   pub back : Tasks
   pub was : tasks ≡ front ++ (task ∷ back)
   pub is : after ≡ front ++ (new ∷ back)
-
-put_nobody : (name : TaskName) (new : Task ℕ) (tasks : Tasks)
-    → list_any (λ task. same_name name task.name) tasks ≡ false → put name new tasks ≡ tasks
-put_nobody name new [] none = refl
-put_nobody name new (task ∷ tasks) none =
-    let parts = or_parts (same_name name task.name) _ none in
-    λ i. cond (parts.0 i) new task ∷ put_nobody name new tasks parts.1 i
-
-nobody_behind : (name : TaskName) (first : Task ℕ) (tasks : Tasks) → AreNamedApart (first ∷ tasks)
-    → same_name name first.name ≡ true
-    → list_any (λ task. same_name name task.name) tasks ≡ false
-nobody_behind name first tasks apart is =
-    ap (λ own. list_any (λ (task : Task ℕ). same_name own task.name) tasks) (same_names name first.name is)
-    ∙ (or_parts (list_any (λ (task : Task ℕ). same_name first.name task.name) tasks) _ apart).0
 
 put_split : (name : TaskName) (tasks : Tasks) (task new : Task ℕ) → AreNamedApart tasks → called name tasks ≡ Some task
     → IsSplit task new tasks (put name new tasks)
@@ -49,7 +35,7 @@ put_split name (first ∷ tasks) task new apart found =
       front = [];
       back = tasks;
       was = ap (λ one. one ∷ tasks) (let same : first ≡ task = cc in same);
-      is = ap (λ others. new ∷ others) (put_nobody name new tasks (nobody_behind name first tasks apart is));
+      is = ap (λ others. new ∷ others) (put-nobody name new tasks (nobody-behind name first tasks apart is));
     }
     by false is here rest = let later = rest here in record {
       front = first ∷ later.front;

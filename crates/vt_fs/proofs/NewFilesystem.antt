@@ -10,7 +10,7 @@ use Rattle.vt_fs.specs.FilesystemsValue.{FilesystemEntry, filesystem_seen, inode
 use Rattle.vt_fs.proofs.Numbers.{numbers_counted, numbers_listed}
 
 -- a list of one number that has this one
-only_one : (n : ℕ) (list : List ℕ) → length list ≡ 1 → is_among nat_eq n list ≡ true → list ≡ n ∷ []
+pub only_one : (n : ℕ) (list : List ℕ) → length list ≡ 1 → is_among nat_eq n list ≡ true → list ≡ n ∷ []
 only_one n [] one among = absurd (true≢false (sym among))
 only_one n (a ∷ []) one among = by (nat_eq n a) refl among
   where

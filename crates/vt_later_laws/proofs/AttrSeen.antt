@@ -34,7 +34,7 @@ use Rattle.vt_call_laws.specs.Inodes.{change_of}
 use Rattle.vt_tree_laws.specs.Trees.{IsFileTree}
 use Rattle.vt_tree_laws.specs.Trees.Calls.{mounts_overlay}
 use Rattle.vt_tree_laws.specs.Trees.Limits.{names_few_groups}
-use Rattle.vt_tree_laws.proofs.trees.ChangesNodes.{there}
+use Rattle.vt_tree_laws.proofs.trees.ChangesNodes.{changed_node_there as there}
 use Rattle.vt_tree_laws.proofs.trees.TreesOfWorlds.{numbered_all}
 use Rattle.vt_tree_laws.proofs.trees.TreesWalked.{Ends}
 use Rattle.vt_world_laws.specs.Worlds.Kept.{IsPlain}
@@ -50,7 +50,7 @@ use Rattle.vt_later_laws.proofs.MadeSeen.{Never}
 use Rattle.vt_later_laws.proofs.Opened.{walk_ended}
 use Rattle.vt_later_laws.proofs.Readers.{KnownToo, all_stands, caller, leads_all, leads_or_hides, own_name, raised_stands, seen_there}
 use Rattle.vt_later_laws.proofs.Stays.{called_own}
-use Rattle.vt_later_laws.proofs.Steps.{passing, same_ok}
+use Rattle.vt_spec.proofs.Refusals.{passing, same_ok}
 use Rattle.vt_later_laws.proofs.Ways.{Ends as EndsToo, LeadsToo}
 use Rattle.vt_later_laws.proofs.WaysChanges.{TreeStays, ways_with_attr}
 use Rattle.vt_later_laws.proofs.WaysPlaces.{object_too}

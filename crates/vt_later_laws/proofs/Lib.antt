@@ -1,4 +1,3 @@
-pub mod Steps
 pub mod Changed
 pub mod Granted
 pub mod Stays

@@ -52,7 +52,7 @@ use Rattle.vt_later_laws.proofs.Looked.{list_of, read_all, readlink_of}
 use Rattle.vt_later_laws.proofs.Opened.{walk_ended}
 use Rattle.vt_later_laws.proofs.OpenedNew.{given_of, made_node}
 use Rattle.vt_later_laws.proofs.Readers.{KnownToo, MayLook, all_stands, caller, leads, own_name, raised_credentials, raised_stands, seen_at, seen_there, stepped_by, uncovered}
-use Rattle.vt_later_laws.proofs.Steps.{passing, same_ok}
+use Rattle.vt_spec.proofs.Refusals.{passing, same_ok}
 use Rattle.vt_later_laws.proofs.Ways.{EndsAt, LeadsToo, both_walked, walk_passing}
 use Rattle.vt_later_laws.proofs.WaysChanges.{RightsStay, TreeStays, made_entry, rights_made, ways_made}
 use Rattle.vt_later_laws.proofs.WaysPlaces.{EndsThere, directory_named_too, named_place, symlink_named_too}

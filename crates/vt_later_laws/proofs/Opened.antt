@@ -24,7 +24,7 @@ use Rattle.vt_spec.specs.Machine.World.{Descriptor, Task, World, mount_at, repla
 use Rattle.vt_spec.specs.Machine.Invariants.{are_ascending_from, is_within_limits}
 use Rattle.vt_world_laws.specs.Worlds.Kept.{IsPlain}
 use Rattle.vt_world_laws.proofs.Plain.{plain_numbered}
-use Rattle.vt_later_laws.proofs.Steps.{passing, same_ok}
+use Rattle.vt_spec.proofs.Refusals.{passing, same_ok}
 use Rattle.std.proofs.Math.Bool.{and-false}
 use Rattle.vt_spec.proofs.Descriptors.{free_above}
 use Rattle.vt_spec.proofs.Options.{and_then-Ok}

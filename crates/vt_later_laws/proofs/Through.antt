@@ -35,7 +35,7 @@ use Rattle.vt_tree_laws.proofs.trees.TreesOfWorlds.{numbered}
 use Rattle.vt_later_laws.specs.Later.{IsOneInode, PwriteThenPread}
 use Rattle.vt_later_laws.proofs.Granted.{IsPermitted, permitted}
 use Rattle.vt_later_laws.proofs.Stays.{still_called, still_seen}
-use Rattle.vt_later_laws.proofs.Steps.{passing, same_ok}
+use Rattle.vt_spec.proofs.Refusals.{passing, same_ok}
 use Rattle.vt_spec.proofs.Found.{found_among}
 use Rattle.vt_spec.proofs.Options.{and_then-Ok}
 

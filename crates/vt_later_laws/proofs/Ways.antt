@@ -10,7 +10,7 @@ use Rattle.vt_spec.specs.Machine.Walking.{Follow, Here, LastWord, Stop, follow_r
 use Rattle.vt_spec.specs.Machine.World.{Task}
 use Rattle.vt_spec.specs.PathText.{ends_in_slash, is_absolute, words}
 use Rattle.vt_spec.specs.Rights.{execute_right}
-use Rattle.vt_later_laws.proofs.Steps.{AllPass, passed, passing, same_ok}
+use Rattle.vt_spec.proofs.Refusals.{AllPass, passed, passing, same_ok}
 use Rattle.std.proofs.lemmas.Bool.{not-false}
 use Rattle.vt_spec.proofs.Options.{and_then-Ok}
 

@@ -19,7 +19,7 @@ use Rattle.vt_spec.specs.Tree.{Content, Node, Tree, entries_in, entries_of, entr
 use Rattle.vt_spec.specs.Tree.Content.{Directory, Regular, Symlink, Whiteout}
 use Rattle.vt_spec.specs.TreeInvariant.{IsDirectory, entry_at}
 use Rattle.vt_spec.proofs.Nodes.{entries-node_with_bytes, entries-node_with_entry, entry_named-with_entry, entry_named-without_entry, is_directory-node_with_bytes, is_directory-node_with_entry, none_is_not, parent-node_with_bytes, parent-node_with_entry, same_name}
-use Rattle.vt_tree_laws.proofs.trees.ChangesNodes.{attr_keeps_place, elsewhere, part_stays, there}
+use Rattle.vt_tree_laws.proofs.trees.ChangesNodes.{attr_keeps_place, changed_node_there as there, elsewhere, part_stays}
 use Rattle.vt_spec.proofs.NodeChanges.{directory_from_entry, entries-node_without_entry, is_directory-node_without_entry, node_with_parent-no_directory, parent-node_without_entry}
 
 -- What was there is of its kind, and a directory has its parent, a symlink its text. A name leads where it led, or is

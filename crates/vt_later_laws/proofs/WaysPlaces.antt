@@ -11,7 +11,7 @@ use Rattle.vt_spec.specs.Machine.Walking.{Here, LastWord, Place, Stop, directory
 use Rattle.vt_spec.specs.Machine.Walking.LastWord.{Dot, DotDot, Named, NoWord}
 use Rattle.vt_spec.specs.Machine.World.{Task}
 use Rattle.vt_spec.specs.PathText.{ends_in_slash, parsed_path, path_rules, words}
-use Rattle.vt_later_laws.proofs.Steps.{AllPass, passed, passing, same_ok}
+use Rattle.vt_spec.proofs.Refusals.{AllPass, passed, passing, same_ok}
 use Rattle.vt_later_laws.proofs.Ways.{EndsAt, Ends, LeadsToo, Stops, at, both_walked, not_stopped, same_end, search_too, slash_too, start_known, start_same, then_too, walk_passed, walk_passing, word_gave, word_too, words_lead}
 use Rattle.vt_spec.proofs.Options.{and_then-Ok}
 

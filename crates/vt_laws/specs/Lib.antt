@@ -3,6 +3,7 @@ pub mod Denials
 pub mod Given
 pub mod Judged
 pub mod Numbers
+pub mod Plain
 pub mod Renaming
 pub mod RuleOrder
 pub mod RuleRanks

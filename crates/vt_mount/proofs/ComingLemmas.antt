@@ -54,7 +54,7 @@ points-there number (point ∷ rest) entries =
     ∙ points-there number rest entries
 
 -- one that is found in front
-found-front : (number : ℕ) (front back : List MountEntry) → is_some (entry_numbered front number) ≡ true
+pub found-front : (number : ℕ) (front back : List MountEntry) → is_some (entry_numbered front number) ≡ true
     → entry_numbered (front ++ back) number ≡ entry_numbered front number
 found-front number [] back some = absurd cc
 found-front number (entry ∷ front) back some =

@@ -11,6 +11,7 @@ use Rattle.vt_location.specs.Numbers.{counted}
 use Rattle.vt_mount.specs.declared.mounted.Mounted.{Mounted}
 use Rattle.vt_mount.specs.Listed.{same_id}
 use Rattle.vt_mount.specs.MountsValue.{MountEntry, changed, entries_of, entry_numbered, entry_of, in_order, mount_kept, mounts_in, without}
+use Rattle.vt_mount.proofs.IndexLemmas.{same_mount_id}
 use Rattle.vt_mount.proofs.OrderLemmas.{change_kept, found, found-in_order, in_order-changed, in_order-last, in_order-removed, is_above, length-in_order, tied, without_kept}
 use Rattle.vt_location.proofs.NumberLemmas.{counted_test}
 use Rattle.vt_spec.proofs.Truths.{and_true_left, and_true_right}
@@ -22,9 +23,6 @@ less_count a b = by (nat_lt a b) (ltb-true a b) (ltb-false a b)
     by : (t : Bool) → (t ≡ true → a < b) → (t ≡ false → b ≤ a) → nat_lt (counted a) (counted b) ≡ t
     by true less more = lt-ltb (counted a) (counted b) (omega (arith, less refl))
     by false less more = le-ltb (counted a) (counted b) (omega (arith, more refl))
-
-same : (a b : MountId) → same_id a b ≡ true → a ≡ b
-same a b is = ap (λ n. record { count = n }) (eqb-true a.count b.count is)
 
 abbrev pub entries : List (MountId × Mounted) → List MountEntry
 entries kept = map entry_of kept
@@ -58,7 +56,7 @@ pub found-mount : (number : MountId) (kept : List (MountId × Mounted))
 found-mount number [] = refl
 found-mount number (one ∷ kept) =
     (λ i. cond (counted_test number.count one.0.count i) (Some (mount_under one.0 one.1)) (found-mount number kept i))
-    ∙ by (same_id number one.0) (same number one.0)
+    ∙ by (same_id number one.0) (same_mount_id number one.0)
     ∙ ap (λ b. option_map (mount_under number) (cond b (Some one.1) (found number kept))) (sym (tied number one.0))
   where
     by : (b : Bool) → (b ≡ true → number ≡ one.0)
@@ -73,7 +71,7 @@ found-entry : (number : MountId) (kept : List (MountId × Mounted))
 found-entry number [] = refl
 found-entry number (one ∷ kept) =
     (λ i. cond (counted_test number.count one.0.count i) (Some (entry_of one)) (found-entry number kept i))
-    ∙ by (same_id number one.0) (same number one.0)
+    ∙ by (same_id number one.0) (same_mount_id number one.0)
     ∙ ap (λ b. option_map (λ one. entry_of (number, one)) (cond b (Some one.1) (found number kept)))
     (sym (tied number one.0))
   where

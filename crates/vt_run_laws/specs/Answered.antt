@@ -1,18 +1,15 @@
 -- Worlds that are the same but for change numbers, and for the order of the numbers that stand beside trees, are
 -- answered alike.
-use Rattle.std.specs.Prelude.{All, false, nat_eq, ℕ, ◌≡◌}
+use Rattle.std.specs.Prelude.{false, nat_eq, ℕ, ◌≡◌}
+use Rattle.vt_laws.specs.Plain.{IsPlain}
 use Rattle.vt_spec.specs.Language.Calls.{Call, Directive, TaskName}
 use Rattle.vt_spec.specs.Lists.{Fresh}
 use Rattle.vt_spec.specs.Machine.Outcomes.{Outcome}
 use Rattle.vt_spec.specs.Machine.Policy.{policy}
 use Rattle.vt_spec.specs.Machine.SameWorlds.{SameWorlds}
 use Rattle.vt_spec.specs.Machine.Sealed.{directed}
-use Rattle.vt_spec.specs.Machine.World.{World, is_overlay}
+use Rattle.vt_spec.specs.Machine.World.{World}
 use Rattle.vt_tree_laws.specs.Trees.Calls.{mounts_overlay}
-
--- no filesystem is an overlay
-abbrev pub IsPlain : World ℕ → Type 0
-IsPlain world = All (λ filesystem. is_overlay filesystem ≡ false) world.filesystems
 
 -- To be the same in that sense is an equivalence,
 pub record SamenessIsAnEquivalence : Type 0 where

@@ -3,11 +3,12 @@
 use Rattle.std.specs.Prelude.{Bool, List, if◌then◌else◌, nat_eq, nat_le, nat_lt, not, ℕ, ◌%◌, ◌&&◌, ◌*◌, ◌+◌, ◌-◌, ◌/◌, ◌==◌, ◌||◌, ◌≡◌}
 use Rattle.vt_laws.specs.Numbers.{Allotment, KeepsTo, Lot, WorldNamed}
 use Rattle.vt_laws.specs.Numbers.Lot.{Kept, LeftOver, New}
-use Rattle.vt_run_laws.specs.Runs.{HasNoOverlays, OpensInHand, ServesInHand, TellsAlike}
+use Rattle.vt_run_laws.specs.Runs.{OpensInHand, ServesInHand, TellsAlike}
 use Rattle.vt_spec.specs.Language.Script.{Grammar, lines_of}
 use Rattle.vt_spec.specs.Lists.{Fresh}
 use Rattle.vt_spec.specs.Machine.Run.{text_of}
 use Rattle.vt_spec.specs.Machine.World.{World, opening}
+use Rattle.vt_tree_laws.specs.Trees.Calls.{HasNoOverlays}
 
 -- numbers `4·c + 3` are never given out
 abbrev pub never_given : Fresh ℕ

@@ -1,15 +1,14 @@
 -- A run that keeps its world but for change numbers and the order of numbers beside trees, and gives numbers out again,
 -- has the one text of its script.
-use Rattle.std.specs.Prelude.{All, Bool, List, None, Option, Some, [], false, nat_eq, true, ℕ, ◌++◌, ◌+◌, ◌<◌, ◌∷◌, ◌≡◌}
+use Rattle.std.specs.Prelude.{Bool, List, None, Some, [], false, nat_eq, true, ℕ, ◌++◌, ◌+◌, ◌<◌, ◌∷◌, ◌≡◌}
 use Rattle.vt_laws.specs.Numbers.{Allotment, ServesWithRoom, is_in_hand}
 use Rattle.vt_spec.specs.Language.Calls.{Call}
-use Rattle.vt_spec.specs.Language.Script.{Grammar, Request, lines_of, request_of}
-use Rattle.vt_spec.specs.Language.Script.Request.{Asking, Calling}
+use Rattle.vt_spec.specs.Language.Script.{Grammar, lines_of}
 use Rattle.vt_spec.specs.Lists.{Fresh}
 use Rattle.vt_spec.specs.Machine.Run.{line_step, step_text, step_world, text_of}
 use Rattle.vt_spec.specs.Machine.SameWorlds.{SameWorlds}
 use Rattle.vt_spec.specs.Machine.World.{World, opening}
-use Rattle.vt_tree_laws.specs.Trees.Calls.{mounts_overlay}
+use Rattle.vt_tree_laws.specs.Trees.Calls.{HasNoOverlays, mounts_overlay}
 
 -- An allotment of the numbers in hand, none of which is left over: so the same numbers are in hand after the line.
 pub record ServesInHand (in_hand : ℕ → Bool) (world : World ℕ) (allotment : Allotment) : Type 0 where
@@ -43,15 +42,6 @@ pub record LeavesEndless (in_hand : ℕ → Bool) : Type 0 where
 pub record OpensInHand (in_hand : ℕ → Bool) (fresh : Fresh ℕ) : Type 0 where
   pub given : (k : ℕ) → k < 4 → in_hand (fresh k) ≡ true
   pub apart : (j k : ℕ) → j < 4 → k < 4 → fresh j ≡ fresh k → j ≡ k
-
--- a line asks for the mount of an overlay
-abbrev pub asks_for_overlay : Option Request → Bool
-asks_for_overlay None = false
-asks_for_overlay (Some (Calling task call)) = mounts_overlay call
-asks_for_overlay (Some (Asking directive)) = false
-
-abbrev pub HasNoOverlays : Grammar → List (List ℕ) → Type 0
-HasNoOverlays grammar lines = All (λ line. asks_for_overlay (request_of grammar line) ≡ false) lines
 
 -- No line does, where the grammar has no such call.
 abbrev pub GrammarsKeepOverlaysOut : Type 0

@@ -79,13 +79,19 @@ pub zero_or_some : (n : ℕ) → (n ≡ 0) ⊎ (1 ≤ n)
 zero_or_some Rattle.std.proofs.Common.zero = inl refl
 zero_or_some (Rattle.std.proofs.Common.suc n) = inr (omega arith)
 
+-- the two numbers of a test may be turned
+pub nat_eq_turned : (a b : ℕ) → nat_eq a b ≡ nat_eq b a
+nat_eq_turned a b = by (nat_eq a b) (nat_eq b a) refl refl
+  where
+    by : (x y : Bool) → nat_eq a b ≡ x → nat_eq b a ≡ y → x ≡ y
+    by true true e f = refl
+    by false false e f = refl
+    by true false e f = sym (eq-eqb b a (sym (eqb-true a b e))) ∙ f
+    by false true e f = sym e ∙ eq-eqb a b (sym (eqb-true b a f))
+
 -- numbers that differ differ both ways
 pub nat_eq_false_turned : (a b : ℕ) → nat_eq a b ≡ false → nat_eq b a ≡ false
-nat_eq_false_turned a b e = by (nat_eq b a) refl
-  where
-    by : (t : Bool) → nat_eq b a ≡ t → t ≡ false
-    by true t = absurd (true≢false (sym (eq-eqb a b (sym (eqb-true b a t))) ∙ e))
-    by false t = refl
+nat_eq_false_turned a b e = nat_eq_turned b a ∙ e
 
 -- a number is itself
 pub nat_eq_itself : (n : ℕ) → nat_eq n n ≡ true

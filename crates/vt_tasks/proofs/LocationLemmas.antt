@@ -17,16 +17,16 @@ use Rattle.vt_tasks.specs.TasksValue.{AreNamedApart, Tasks, called, forked_once,
 use Rattle.vt_spec.proofs.Truths.{and_true_left, and_true_right, as_many_with_none, one_more_is_some}
 use Rattle.vt_spec.proofs.Worlds.{same_task_name}
 
--- Where no task has a name
-
-put-nobody : (name : TaskName) (new : Task ℕ) (tasks : Tasks)
+-- Where no task has a name, none is replaced,
+pub put-nobody : (name : TaskName) (new : Task ℕ) (tasks : Tasks)
     → list_any (λ task. same_name name task.name) tasks ≡ false → put name new tasks ≡ tasks
 put-nobody name new [] none = refl
 put-nobody name new (task ∷ tasks) none =
     let parts = or_parts (same_name name task.name) _ none in
     λ i. cond (parts.0 i) new task ∷ put-nobody name new tasks parts.1 i
 
-without-nobody : (name : TaskName) (tasks : Tasks) → list_any (λ task. same_name name task.name) tasks ≡ false
+-- and none is taken out
+pub without-nobody : (name : TaskName) (tasks : Tasks) → list_any (λ task. same_name name task.name) tasks ≡ false
     → without_called name tasks ≡ tasks
 without-nobody name [] none = refl
 without-nobody name (task ∷ tasks) none =
@@ -35,7 +35,7 @@ without-nobody name (task ∷ tasks) none =
     ∙ ap (λ rest. task ∷ rest) (without-nobody name tasks parts.1)
 
 -- behind a task with a name, no task has that name
-nobody-behind : (name : TaskName) (first : Task ℕ) (tasks : Tasks) → AreNamedApart (first ∷ tasks)
+pub nobody-behind : (name : TaskName) (first : Task ℕ) (tasks : Tasks) → AreNamedApart (first ∷ tasks)
     → same_name name first.name ≡ true
     → list_any (λ task. same_name name task.name) tasks ≡ false
 nobody-behind name first tasks apart is =

@@ -43,7 +43,8 @@ module _ where
   not_longer [] y zs e = some_cons y zs e
   not_longer (x ∷ xs) y zs e = not_longer xs y zs (ap rest_of e)
 
-abbrev AreNamedApart : List (Task ℕ) → Type 0
+-- no two tasks have one name
+abbrev pub AreNamedApart : List (Task ℕ) → Type 0
 AreNamedApart tasks = any_pair (λ (a b : Task ℕ). same_name a.name b.name) tasks ≡ false
 
 mapped_apart : (f : Task ℕ → Task ℕ) → ((task : Task ℕ) → (f task).name ≡ task.name) → (tasks : List (Task ℕ))

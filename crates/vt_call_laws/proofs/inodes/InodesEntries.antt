@@ -5,10 +5,10 @@ use Rattle.std.specs.Ordering.{eq_by_cmp}
 use Rattle.std.specs.Str.{bytes_eq}
 use Rattle.vt_laws.proofs.given.GivenPermits.{permits_are_for_their_calls}
 use Rattle.vt_call_laws.proofs.inodes.InodesLeft.{LeftBy, MadeBy, inode_left}
-use Rattle.vt_call_laws.proofs.inodes.InodesParts.{KeptByParents, KeptIn, Stays, at_node, here, itself, kept_at, made_kept, moved_kept, removed_kept}
+use Rattle.vt_call_laws.proofs.inodes.InodesParts.{KeptByParents, KeptIn, Stays, at_node, change_holds_if_kept, itself, kept_at, made_kept, moved_kept, removed_kept}
 use Rattle.vt_call_laws.proofs.inodes.InodesSettled.{inode_after_call}
 use Rattle.vt_laws.specs.Given.{IsFor}
-use Rattle.vt_call_laws.specs.Inodes.{HasNoOverlays, IsNotHanded, OtherEntriesStay, change_of, entries_named_by, inode_in, is_own_entry, mounts_overlay, same_entry}
+use Rattle.vt_call_laws.specs.Inodes.{HasNoOverlays, IsNotHanded, OtherEntriesStay, change_of, entries_named_by, inode_in, is_own_entry, same_entry}
 use Rattle.vt_spec.specs.declared.attributes.Attr.{Attr}
 use Rattle.vt_spec.specs.Language.Calls.{Call}
 use Rattle.vt_spec.specs.Language.Changes.{Change, changed, content_with_mark, content_with_parent, node_with_attr, node_with_mark, node_without_entry, with_name, without_entry, without_name}
@@ -25,6 +25,7 @@ use Rattle.vt_spec.specs.Tree.{Content, Node, entries_of, entry_named, name_cmp,
 use Rattle.vt_spec.specs.Tree.Content.{Directory, Regular, Symlink, Whiteout}
 use Rattle.vt_spec.proofs.Nodes.{entry_named-with_entry, entry_named-without_entry, same_name}
 use Rattle.std.proofs.lemmas.Bool.{or_parts}
+use Rattle.vt_tree_laws.specs.Trees.Calls.{mounts_overlay}
 
 module _ (entry : List ℕ) where
   -- the number that the name leads to
@@ -184,7 +185,7 @@ module _ (entry : List ℕ) where
       made_kept_by None new apart = tt
       made_kept_by (Some made) new apart =
           λ same.
-          here Led other fresh world plain filesystem handed made.0 made.1
+          change_holds_if_kept Led other fresh world plain filesystem handed made.0 made.1
           (kept (files_at nat_eq world made.0) made.1 new
           (ap (λ b. b && is_among same_entry (other, entry) (entries_named_by made.1))
           (sym (eq-eqb filesystem (mount_at nat_eq world made.0).filesystem same)) ∙ apart)) same

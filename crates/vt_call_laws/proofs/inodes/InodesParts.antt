@@ -4,7 +4,7 @@ use Rattle.vt_laws.proofs.given.GivenPermits.{permits_are_for_their_calls}
 use Rattle.vt_call_laws.proofs.inodes.InodesLeft.{ChangeHolds, LeftBy, MadeBy, inode_left}
 use Rattle.vt_call_laws.proofs.inodes.InodesSettled.{inode_after_call}
 use Rattle.vt_laws.specs.Given.{IsFor, IsForAttr, makes_a_name}
-use Rattle.vt_call_laws.specs.Inodes.{HasNoOverlays, IsNotHanded, StaysIfThere, change_of, changes_names, inode_in, mounts_overlay, sets_mark, sets_mode, sets_owner, writes_bytes}
+use Rattle.vt_call_laws.specs.Inodes.{HasNoOverlays, IsNotHanded, StaysIfThere, change_of, changes_names, inode_in, sets_mark, sets_mode, sets_owner, writes_bytes}
 use Rattle.vt_spec.specs.declared.attributes.Attr.{Attr}
 use Rattle.vt_spec.specs.Language.Calls.{Call, TaskName}
 use Rattle.vt_spec.specs.Language.Calls.Call.{MakeWhiteout, Mkdir, SymlinkAt, Write}
@@ -20,6 +20,7 @@ use Rattle.vt_spec.specs.Machine.Permits.Permit.{ToChange, ToMake, ToMountOverla
 use Rattle.vt_spec.specs.Machine.Policy.{policy}
 use Rattle.vt_spec.specs.Machine.World.{Task, World, files_at}
 use Rattle.vt_spec.specs.Tree.{Node, entries_in, entry_named, node_with_bytes, node_with_entry}
+use Rattle.vt_tree_laws.specs.Trees.Calls.{mounts_overlay}
 
 -- what makes a name changes entries
 makes_changes : (call : Call) → makes_a_name call ≡ true → changes_names call ≡ true
@@ -159,11 +160,11 @@ module _ {A : Type 0} (part : Node ℕ → A) where
       abbrev Left : Permit ℕ → Type 0
       Left = LeftBy (Stays Was) filesystem other fresh world plain (itself Was)
 
-      -- in the filesystem of a location
-      pub here : (location : Location ℕ) (change : Change ℕ)
+      -- in the filesystem of a location a change holds if it keeps the inode
+      pub change_holds_if_kept : (location : Location ℕ) (change : Change ℕ)
           → KeptIn (files_at nat_eq world location) (changed nat_eq (files_at nat_eq world location) change)
           → ChangeHolds (Stays Was) filesystem other world location change
-      here location change kept same =
+      change_holds_if_kept location change kept same =
           subst (λ n. Stays (inode_in world n other)
           ((changed nat_eq (files_at nat_eq world location) change).tree.node other))
           (sym same) kept
@@ -175,7 +176,7 @@ module _ {A : Type 0} (part : Node ℕ → A) where
         made : changes_names call ≡ true → (directory : Location ℕ) (name : List ℕ) (node : Node ℕ)
             → ChangeHolds (Stays Was) filesystem other world directory (Make directory.node name (evens fresh 0) node)
         made is directory name node =
-            here directory (Make directory.node name (evens fresh 0) node)
+            change_holds_if_kept directory (Make directory.node name (evens fresh 0) node)
             (made_kept (files_at nat_eq world directory) directory.node name (evens fresh 0) node (handed 0)
             (named_kept (names is) directory.node name (evens fresh 0)))
 
@@ -183,7 +184,7 @@ module _ {A : Type 0} (part : Node ℕ → A) where
             → IsForAttr (looks_of nat_eq world) call location attr
             → ChangeHolds (Stays Was) filesystem other world location (SetAttr object attr)
         set location object attr at for =
-            here location (SetAttr object attr)
+            change_holds_if_kept location (SetAttr object attr)
             (at_node (files_at nat_eq world location) object (node_with_attr attr) (λ same. by for))
           where
             there : Option (Node ℕ)
@@ -207,39 +208,39 @@ module _ {A : Type 0} (part : Node ℕ → A) where
             (change_of fresh world (ToWritePart file offset bytes))
         part_written file offset [] is = tt
         part_written file offset (byte ∷ bytes) is =
-            here file (SetBytes file.node _)
+            change_holds_if_kept file (SetBytes file.node _)
             (kept_at (files_at nat_eq world file) file.node (node_with_bytes _) (bytes_kept is _))
 
         left_kept : (permit : Permit ℕ) → IsFor (looks_of nat_eq world) task call permit → Left permit
         left_kept (ToChange location (Make directory name number node)) for = absurd for
         left_kept (ToChange location (AddName directory name object)) for =
-            here location (AddName directory name object)
+            change_holds_if_kept location (AddName directory name object)
             (named_kept (names (ap changes_names for.2)) directory name object (files_at nat_eq world location))
         left_kept (ToChange location (Remove directory name object)) for =
             let kept = names (ap changes_names for.1) in
-            here location (Remove directory name object)
+            change_holds_if_kept location (Remove directory name object)
             (removed_kept kept.2 (files_at nat_eq world location) directory name object
             (unnamed_kept kept directory name (files_at nat_eq world location)))
         left_kept (ToChange location (Move from old to new object)) for = absurd for
         left_kept (ToChange location (SetBytes file bytes)) for =
-            here location (SetBytes file bytes)
+            change_holds_if_kept location (SetBytes file bytes)
             (kept_at (files_at nat_eq world location) file (node_with_bytes bytes)
             (bytes_kept (ap writes_bytes for.1) bytes))
         left_kept (ToChange location (SetAttr object attr)) for = set location object attr for.0 for.1
         left_kept (ToChange location (SetMark directory opaque)) for =
-            here location (SetMark directory opaque)
+            change_holds_if_kept location (SetMark directory opaque)
             (kept_at (files_at nat_eq world location) directory (node_with_mark opaque)
             (marks (ap sets_mark for.1) opaque))
         left_kept (ToChange location (CopyUp object)) for = absurd for
         left_kept (ToMake directory name node) for = made (makes_changes call for) directory name node
         left_kept (ToRemoveDirectory parent name directory) for =
             let kept = names (ap changes_names for.1) in
-            here parent (Remove parent.node name directory.node)
+            change_holds_if_kept parent (Remove parent.node name directory.node)
             (removed_kept kept.2 (files_at nat_eq world parent) parent.node name directory.node
             (unnamed_kept kept parent.node name (files_at nat_eq world parent)))
         left_kept (ToRename from old to new object replaced) for =
             let kept = names (ap changes_names for.2) in
-            here from (Move from.node old to.node new object.node)
+            change_holds_if_kept from (Move from.node old to.node new object.node)
             (moved_kept kept.2 (files_at nat_eq world from) from.node old to.node new object.node
             (unnamed_kept kept from.node old) (named_kept kept to.node new object.node))
         left_kept (ToOpenNew directory name node access) for =

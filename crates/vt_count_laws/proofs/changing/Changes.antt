@@ -159,11 +159,11 @@ module _ (fresh : Fresh ℕ) (world : World ℕ) (location : Location ℕ) (inod
   pub plain : LettingGo.IsPlain world
   plain = plain_of world is.plain
 
-  pub there : is_among nat_eq number (map (λ f. f.number) world.filesystems) ≡ true
-  there = there_if_counted world number inodes is.counted
+  pub filesystem_there : is_among nat_eq number (map (λ f. f.number) world.filesystems) ≡ true
+  filesystem_there = there_if_counted world number inodes is.counted
 
   old_there : Among old world.filesystems
-  old_there = found_is world.filesystems number there
+  old_there = found_is world.filesystems number filesystem_there
 
   tree : IsListedTree old.files
   tree = among_from_all (λ f. IsListedTree f.files) world.filesystems
@@ -179,10 +179,10 @@ module _ (fresh : Fresh ℕ) (world : World ℕ) (location : Location ℕ) (inod
   new_tallied = tallied (base_of world old) old.files inodes is.counted.root start change is.fits is.links
 
   abbrev pub done : World ℕ
-  done = Swept.done world number files in_use plain there
+  done = Swept.done world number files in_use plain filesystem_there
 
   abbrev pub left : FileTree ℕ
-  left = Swept.swept world number files in_use plain there
+  left = Swept.swept world number files in_use plain filesystem_there
 
   -- before the sweep
   pub raw_is : with_change nat_eq fresh world location change ≡ with_tree world number files
@@ -197,10 +197,12 @@ module _ (fresh : Fresh ℕ) (world : World ℕ) (location : Location ℕ) (inod
       by (Some overlay) e = cc
 
   pub after_is : after_change fresh world location change ≡ done
-  after_is = ap (settled nat_eq) raw_is ∙ Swept.settled_is world number files in_use plain there new_tallied.once
+  after_is =
+      ap (settled nat_eq) raw_is
+      ∙ Swept.settled_is world number files in_use plain filesystem_there new_tallied.once
 
   found : filesystem_numbered nat_eq done number ≡ with_files old left
-  found = Swept.found_done world number files in_use plain there new_tallied.once
+  found = Swept.found_done world number files in_use plain filesystem_there new_tallied.once
 
   mounts_same : (after : World ℕ) → after ≡ done
       → filesystem_at nat_eq after location ≡ filesystem_numbered nat_eq after number
@@ -213,13 +215,13 @@ module _ (fresh : Fresh ℕ) (world : World ℕ) (location : Location ℕ) (inod
 
   pub counted_then : IsCounted done (with_files old left) (changed nat_eq inodes change)
   counted_then =
-      Swept.counted_done world number files in_use plain there (changed nat_eq inodes change)
+      Swept.counted_done world number files in_use plain filesystem_there (changed nat_eq inodes change)
       (root_is (base_of world old) old.files inodes is.counted.root start change)
       (root_of_files (base_of world old) old.files inodes is.counted.root start change) new_tallied
 
   pub left_times : (n : ℕ) → times_in n left.numbers ≡ cond (is_some ((changed nat_eq inodes change).inode n)) 1 0
   left_times =
-      Swept.times_left world number files in_use plain there (changed nat_eq inodes change)
+      Swept.times_left world number files in_use plain filesystem_there (changed nat_eq inodes change)
       (root_is (base_of world old) old.files inodes is.counted.root start change)
       (root_of_files (base_of world old) old.files inodes is.counted.root start change) new_tallied
 
@@ -235,7 +237,7 @@ module _ (fresh : Fresh ℕ) (world : World ℕ) (location : Location ℕ) (inod
       (filesystem_numbered nat_eq (after_change fresh world location change) other) counts
   others other counts apart counted =
       subst (λ w. IsCounted w (filesystem_numbered nat_eq w other) counts) (sym after_is)
-      (Swept.others_stay world number files in_use plain there other counts apart counted)
+      (Swept.others_stay world number files in_use plain filesystem_there other counts apart counted)
 
 pub only_files_change : OnlyFilesChange
 only_files_change fresh world location inodes change is = only_files fresh world location inodes change is

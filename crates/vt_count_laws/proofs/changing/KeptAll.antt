@@ -92,7 +92,7 @@ names_keep_all fresh world location inodes change is keeps =
     plain = After.plain fresh world location inodes change is
 
     there : is_among nat_eq number (Rattle.std.specs.Prelude.map (λ f. f.number) world.filesystems) ≡ true
-    there = After.there fresh world location inodes change is
+    there = After.filesystem_there fresh world location inodes change is
 
     before : FileTree ℕ
     before = (After.old fresh world location inodes change is).files

@@ -2,31 +2,24 @@
 use Rattle.std.proofs.Common.{◌≡◌, refl, sym, ap, subst, ◌∙◌, ⊎_elim, inl, ℕ, nat_eq, eqb-true, Bool, true, false, true≢false, cond, not, ◌||◌, List, [], ◌∷◌, ◌++◌, map, filter, find, Option, Some, None, is_some, unwrap_or}
 use Rattle.std.specs.Prelude.{filter_map}
 use Rattle.std.specs.List.{cons_option, list_all, list_any}
-use Rattle.std.proofs.lemmas.Bool.{and_parts, or_parts}
+use Rattle.std.proofs.lemmas.Bool.{or_parts}
 use Rattle.vt_spec.specs.Lists.{any_pair, is_among}
 use Rattle.vt_spec.specs.Machine.Mounts.{Location, Mount, mount_in, no_mount, root_of}
 use Rattle.vt_spec.specs.Machine.Settled.{is_located}
 use Rattle.vt_spec.specs.Machine.World.{World, all_locations, mount_at, mount_numbered}
-use Rattle.vt_spec.specs.Machine.Invariants.{is_located_well, is_nowhere_or_attached, is_there}
+use Rattle.vt_spec.specs.Machine.Invariants.{is_nowhere_or_attached}
 use Rattle.vt_letting_go.specs.Leaving.{MountsStand}
 use Rattle.vt_letting_go.specs.Mounting.{inode_at, root_inode}
 use Rattle.vt_letting_go.specs.OneByOne.{is_mount_used, without_mount}
 use Rattle.vt_letting_go.proofs.Lists.{Among, all_pass, among-append, among-append_left, among-append_right, among-from_filter_map, among-from_map, among-map, among_numbers, fails, is_among_numbers, passes}
 use Rattle.vt_letting_go.proofs.leaving.PlacesLeft.{found_itself, nowhere_parts, place_attached}
-use Rattle.vt_count_laws.specs.Using.{LocationsOfWorldsStand, MountsLeaveTheirRoots, PlacesStand, is_on, places_of}
+pub use Rattle.vt_letting_go.proofs.sweeps.OfWorlds.{locations_of_worlds_stand}
+use Rattle.vt_count_laws.specs.Using.{MountsLeaveTheirRoots, PlacesStand, is_on, places_of}
 use Rattle.vt_count_laws.specs.Using.{Exchanges}
 use Rattle.vt_count_laws.proofs.using.Exchanged.{exchanges_turn}
 use Rattle.vt_count_laws.proofs.Listed.{turned}
 use Rattle.vt_count_laws.proofs.using.Places.{mounts_are_uses}
 use Rattle.vt_spec.proofs.Found.{filter_all}
-
-pub locations_of_worlds_stand : LocationsOfWorldsStand
-locations_of_worlds_stand world is =
-    all_pass (λ location. is_among nat_eq location.mount (map (λ mount. mount.number) world.mounts))
-    (all_locations world)
-    (λ location m. (and_parts (is_among nat_eq location.mount (map (λ mount. mount.number) world.mounts))
-    (is_there nat_eq world (mount_at nat_eq world location).filesystem location.node)
-    (passes (is_located_well nat_eq world) (all_locations world) is.tasks.locations_live location m)).0)
 
 -- a mount in a namespace is there
 attached_is : (mounts : List (Mount ℕ)) (number : ℕ) → is_some (mount_in nat_eq mounts number).namespace ≡ true

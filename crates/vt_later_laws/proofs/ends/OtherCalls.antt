@@ -5,7 +5,7 @@ use Rattle.std.specs.Prelude.{Contains}
 use Rattle.vt_call_laws.proofs.effects.EffectsRights.{ruled}
 use Rattle.vt_laws.proofs.given.GivenPermits.{given, permits_are_for_their_calls}
 use Rattle.vt_laws.specs.Given.{IsFor}
-use Rattle.vt_call_laws.specs.Inodes.{change_of, mounts_overlay}
+use Rattle.vt_call_laws.specs.Inodes.{change_of}
 use Rattle.vt_letting_go.proofs.mounting.AttachedSwept.{binds_keep_all, new_mounts_of_trees_keep_all}
 use Rattle.vt_letting_go.proofs.leaving.FilesChanged.{file_changes_let_go, opened_new_keeps_all}
 use Rattle.vt_letting_go.proofs.sweeps.OfWorlds.{locations_of_worlds_stand, mounts_of_worlds_stand, worlds_are_settled}
@@ -50,7 +50,7 @@ use Rattle.vt_spec.specs.Machine.World.{Filesystem, Task, World, files_at, files
 use Rattle.vt_spec.specs.Tree.{Node, bytes_in}
 use Rattle.vt_spec.specs.TreeInvariant.{entry_at}
 use Rattle.vt_tree_laws.specs.Trees.{IsFileTree}
-use Rattle.vt_tree_laws.specs.Trees.Calls
+use Rattle.vt_tree_laws.specs.Trees.Calls.{mounts_overlay}
 use Rattle.vt_tree_laws.specs.Trees.Limits.{names_few_groups}
 use Rattle.vt_tree_laws.proofs.trees.ChangesKeepTrees.{changes_keep_numbers, changes_keep_trees}
 use Rattle.vt_world_laws.proofs.worlds.FitPermitsNamed.{permits_fit}
@@ -68,10 +68,6 @@ use Rattle.vt_laws.proofs.judged.CallsJudged.{call_is_judged_then_applied}
 use Rattle.vt_spec.specs.Machine.Outcomes.{Outcome, after}
 
 -- both words for the mount of an overlay
-one_word : (call : Call) → mounts_overlay call ≡ false → Calls.mounts_overlay call ≡ false
-one_word (MountOverlay path options flags) e = e
-one_word call e = refl
-
 -- the sweep takes nothing,
 abbrev KeepsAll : World ℕ → Type 0
 KeepsAll left = settled nat_eq left ≡ left
@@ -313,8 +309,8 @@ module _ (world : World ℕ) (fresh : Fresh ℕ) (task : Task ℕ) (call : Call)
       (permits_fit world fresh task call permit is plain serves called no_overlay judged).names
       (given_permits_are_seen_to world fresh task permit is plain given_so)
     where
-      no_overlay : Calls.mounts_overlay call ≡ false
-      no_overlay = one_word call plainly
+      no_overlay : mounts_overlay call ≡ false
+      no_overlay = plainly
 
       given_so : IsGiven fresh world task permit
       given_so = record {

@@ -62,7 +62,7 @@ use Rattle.vt_later_laws.proofs.Opened.{called_replaced, walk_ended}
 use Rattle.vt_later_laws.proofs.OpenedNew.{given_of}
 use Rattle.vt_later_laws.proofs.Readers.{MayLook, all_stands, named_last, own_name, raised_credentials, raised_stands}
 use Rattle.vt_later_laws.proofs.Stays.{called_own, still_called}
-use Rattle.vt_later_laws.proofs.Steps.{AllPass, passed, passing, same_ok}
+use Rattle.vt_spec.proofs.Refusals.{AllPass, passed, passing, same_ok}
 use Rattle.vt_later_laws.proofs.Ways.{LeadsToo, Stops, at, search_too}
 use Rattle.vt_later_laws.proofs.WaysChanges.{RightsStay, TreeStays, made_entry, rights_made, ways_made}
 use Rattle.vt_later_laws.proofs.WaysPlaces.{NamedPlace, front_too, named_place, through}

@@ -21,7 +21,7 @@ use Rattle.vt_world_laws.specs.Worlds.Kept.{IsPlain}
 use Rattle.vt_world_laws.proofs.Plain.{plain_numbered}
 use Rattle.vt_world_laws.proofs.worlds.Reached.{IsFound, IsFoundDirectory, IsOn, directory_found, step_found}
 use Rattle.vt_world_laws.proofs.worlds.ReachedWalks.{own_directory_found, root_found}
-use Rattle.vt_later_laws.proofs.Steps.{same_ok}
+use Rattle.vt_spec.proofs.Refusals.{same_ok}
 use Rattle.vt_later_laws.proofs.Ways.{LeadsToo}
 use Rattle.vt_later_laws.proofs.later.WaysMounts.{SeenAlike, top_known}
 use Rattle.vt_later_laws.proofs.WaysStay.{StandsAs, node_in, tree_in}

@@ -15,7 +15,7 @@ use Rattle.vt_spec.specs.Tree.Content.{Directory, Regular, Symlink, Whiteout}
 use Rattle.vt_spec.specs.TreeInvariant.{entry_at}
 use Rattle.vt_spec.proofs.Nodes.{entry_named-without_entry}
 use Rattle.vt_tree_laws.specs.Trees.{MayRemove}
-use Rattle.vt_tree_laws.proofs.trees.ChangesNodes.{elsewhere, own_parent-node_with_parent, part_stays, there}
+use Rattle.vt_tree_laws.proofs.trees.ChangesNodes.{changed_node_there as there, elsewhere, own_parent-node_with_parent, part_stays}
 use Rattle.vt_later_laws.proofs.WaysChanges.{RightsStay, allows_without, link_without}
 use Rattle.vt_spec.proofs.NodeChanges.{entries-node_with_parent, entries-node_without_entry, is_directory-node_with_parent, is_directory-node_without_entry, parent-node_without_entry}
 

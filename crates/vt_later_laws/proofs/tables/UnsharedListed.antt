@@ -43,7 +43,7 @@ use Rattle.vt_world_laws.proofs.kept.NamespacesListed.{IsListedIn, listed_in, nu
 use Rattle.vt_world_laws.proofs.kept.NamespacesTasks.{called_there}
 use Rattle.vt_later_laws.specs.Tables.{UnshareGivesANamespace, UnshareThenMounts}
 use Rattle.vt_later_laws.proofs.Granted.{IsPermitted, permitted}
-use Rattle.vt_later_laws.proofs.Steps.{passing, same_ok}
+use Rattle.vt_spec.proofs.Refusals.{passing, same_ok}
 use Rattle.vt_later_laws.proofs.tables.UnsharedLeft
 use Rattle.vt_spec.proofs.Worlds.{same_task_name}
 

@@ -48,10 +48,10 @@ module _ {A : Type 0} (change : A → ℕ) (bare step : A → A) (same : (a : A)
 abbrev bare_filesystem : Filesystem ℕ → Filesystem ℕ
 bare_filesystem filesystem = record filesystem { change = 0 }
 
-abbrev bare_namespace : Namespace ℕ → Namespace ℕ
+abbrev pub bare_namespace : Namespace ℕ → Namespace ℕ
 bare_namespace namespace = record namespace { change = 0 }
 
-abbrev bare_task : Task ℕ → Task ℕ
+abbrev pub bare_task : Task ℕ → Task ℕ
 bare_task task = record task { change = 0 }
 
 filesystem_same : (changed : List ℕ) (filesystem : Filesystem ℕ)

@@ -11,14 +11,10 @@ use Rattle.vt_spec.specs.Machine.Locked.{is_locked, is_locked_at}
 use Rattle.vt_spec.specs.Machine.Mounts.{Location}
 use Rattle.vt_spec.specs.Machine.Outcomes.{Outcome, after, judged}
 use Rattle.vt_spec.specs.Machine.World.{World, filesystem_at, filesystem_numbered, mount_at, no_filesystem}
+use Rattle.vt_spec.proofs.Refusals.{AllPass}
 use Rattle.vt_layer_laws.specs.Layers.Untouched.{HasNoUpperLayer, IsKept, inode_in, inodes_changed}
 use Rattle.vt_layer_laws.proofs.layers.LowersKept.{kept_itself, kept_same, others_stay}
 use Rattle.vt_layer_laws.proofs.layers.LowersWorld.{filesystem_there, number_of_filesystem, others_elsewhere}
-
--- no rule of a table fails
-abbrev pub AllPass : Rules → Type 0
-AllPass [] = Unit {0}
-AllPass ((fails, rule) ∷ rows) = (fails ≡ false) × AllPass rows
 
 -- what holds of the world of each refusal, and of the one that is granted, holds of the world that the call leaves
 module _ {N : Type 0} (P : World N → Type 0) (world : World N) (refused : P world) where

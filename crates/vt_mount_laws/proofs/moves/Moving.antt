@@ -25,7 +25,7 @@ use Rattle.vt_spec.proofs.Truths.{nat_eq_false_turned, or_false_alone}
 use Rattle.vt_spec.proofs.Worlds.{number-mount_in, found_or_none, tree_among}
 
 -- a tree begins with its top
-tree_top : (fuel : ℕ) (mounts : List (Mount ℕ)) (top : Mount ℕ)
+pub tree_top : (fuel : ℕ) (mounts : List (Mount ℕ)) (top : Mount ℕ)
     → (rest : List (Mount ℕ)) × (tree_from nat_eq fuel mounts top ≡ top ∷ rest)
 tree_top zero mounts top = ([], refl)
 tree_top (suc fuel) mounts top =

@@ -15,7 +15,7 @@ use Rattle.vt_spec.proofs.Nodes.{directory_used}
 use Rattle.vt_spec.proofs.Trees.{directory_kept, entry_kept, reached_named, used_differs}
 use Rattle.vt_tree_laws.specs.Trees.{IsProper, MayMake}
 use Rattle.vt_tree_laws.proofs.trees.ChangesKeepTrees.{bytes_keep_place, changes_keep_numbers, changes_keep_own_parents, changes_keep_trees, made_alike, numbers_stay}
-use Rattle.vt_tree_laws.proofs.trees.ChangesNodes.{KeepsPlace, attr_keeps_place, elsewhere, mark_keeps_place, part_stays, there}
+use Rattle.vt_tree_laws.proofs.trees.ChangesNodes.{KeepsPlace, attr_keeps_place, changed_node_there, elsewhere, mark_keeps_place, part_stays}
 use Rattle.vt_tree_laws.proofs.trees.ChangesOfNames.{Nobody, Nowhere, linked_rearranged, removed_rearranged, still_rearranged}
 use Rattle.vt_tree_laws.proofs.trees.ChangesOfPlace.{moved_rearranged}
 use Rattle.vt_tree_laws.proofs.trees.TreesRearranged.{IsRearranged, is_tree-rearranged, own_parent-rearranged}
@@ -181,7 +181,9 @@ module _ (files : FileTree ℕ) (r : ℕ) (conditions : IsTree files.tree)
       by Whiteout = refl
 
   pub bare_there : entries_in (bare.tree.node r) ≡ []
-  bare_there = ap entries_in (there files r node_without_entries) ∙ entries-node_without_entries (files.tree.node r)
+  bare_there =
+      ap entries_in (changed_node_there files r node_without_entries)
+      ∙ entries-node_without_entries (files.tree.node r)
 
   pub bare_elsewhere : (d : ℕ) → d ≢ r → bare.tree.node d ≡ files.tree.node d
   bare_elsewhere d differ = elsewhere files r node_without_entries d differ

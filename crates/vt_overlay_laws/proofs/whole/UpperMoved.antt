@@ -56,7 +56,7 @@ moved_twice files from old to new object r named =
     once = without_parent nat_eq files (Some r)
 
     there : (without_parent nat_eq files (Some r)).tree.node r ≡ node_with_parent r (files.tree.node r)
-    there = Rattle.vt_tree_laws.proofs.trees.ChangesNodes.there files r (node_with_parent r)
+    there = Rattle.vt_tree_laws.proofs.trees.ChangesNodes.changed_node_there files r (node_with_parent r)
 
     still : entry_at (without_parent nat_eq files (Some r)).tree to new ≡ Some r
     still =

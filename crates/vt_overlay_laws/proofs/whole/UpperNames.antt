@@ -109,7 +109,7 @@ module _ (files : FileTree ℕ) (d : ℕ) (w : List ℕ)
   free = without_name nat_eq files d w
 
   there : free.tree.node d ≡ node_without_entry w (files.tree.node d)
-  there = Rattle.vt_tree_laws.proofs.trees.ChangesNodes.there files d (node_without_entry w)
+  there = Rattle.vt_tree_laws.proofs.trees.ChangesNodes.changed_node_there files d (node_without_entry w)
 
   elsewhere : (k : ℕ) → k ≢ d → free.tree.node k ≡ files.tree.node k
   elsewhere k differ = Rattle.vt_tree_laws.proofs.trees.ChangesNodes.elsewhere files d (node_without_entry w) k differ
@@ -154,7 +154,7 @@ pub without_name_free : (files : FileTree ℕ) (d : ℕ) (w : List ℕ)
     → entry_at (without_name nat_eq files d w).tree d w ≡ None
 without_name_free files d w =
     ap (entry_named w)
-    (ap entries_in (Rattle.vt_tree_laws.proofs.trees.ChangesNodes.there files d (node_without_entry w))
+    (ap entries_in (Rattle.vt_tree_laws.proofs.trees.ChangesNodes.changed_node_there files d (node_without_entry w))
     ∙ Rattle.vt_spec.proofs.NodeChanges.entries-node_without_entry w (files.tree.node d))
     ∙ entry_named-without_entry w w (entries_in (files.tree.node d))
     ∙ ap (λ b. cond (not b) (entry_named w (entries_in (files.tree.node d))) None) ((bytes_decides w w).1 refl)

@@ -9,7 +9,7 @@ use Rattle.vt_spec.specs.Tree.{Node, entries_in, entries_of, entry_named, is_dir
 use Rattle.vt_spec.specs.TreeInvariant.{entry_at}
 use Rattle.vt_spec.proofs.Nodes.{is_directory-node_with_entry, node_other, node_set}
 use Rattle.vt_tree_laws.proofs.trees.ChangesNames.{given_told, untaken_told}
-use Rattle.vt_tree_laws.proofs.trees.ChangesNodes.{elsewhere, there}
+use Rattle.vt_tree_laws.proofs.trees.ChangesNodes.{changed_node_there, elsewhere}
 use Rattle.vt_layer_laws.proofs.views.Entries.{entries_stay}
 use Rattle.vt_spec.proofs.NodeChanges.{entries-node_with_mark, entries-node_with_parent, entries-node_without_entries, entries_in-no_directory}
 use Rattle.vt_spec.proofs.Options.{none_is_some}
@@ -53,7 +53,7 @@ told_name P files d w k p x n y e = by (is_directory_node (files.tree.node d)) r
         here t =
             none_is_some y (sym (ap (λ m. entry_at (with_name nat_eq files d w k).tree m n) t.1
             ∙ ap (entry_named n) (entries_in-no_directory ((with_name nat_eq files d w k).tree.node d)
-            (ap is_directory_node (there files d (node_with_entry w k))
+            (ap is_directory_node (changed_node_there files d (node_with_entry w k))
             ∙ is_directory-node_with_entry w k (files.tree.node d) ∙ is))) ∙ e)
 
         other : (nat_eq x d ≡ false) × (x ≢ d) → (entry_at files.tree x n ≡ Some y) ⊎ P y
@@ -85,7 +85,7 @@ told_bare P files r x n y e = ⊎_elim here other (eqb_tells x r)
     here : (nat_eq x r ≡ true) × (x ≡ r) → (entry_at files.tree x n ≡ Some y) ⊎ P y
     here t =
         none_is_some y (sym (ap (λ m. entry_at (changed_node nat_eq files r node_without_entries).tree m n) t.1
-        ∙ ap (λ o. entry_named n (entries_in o)) (there files r node_without_entries)
+        ∙ ap (λ o. entry_named n (entries_in o)) (changed_node_there files r node_without_entries)
         ∙ ap (entry_named n) (entries-node_without_entries (files.tree.node r))) ∙ e)
 
     other : (nat_eq x r ≡ false) × (x ≢ r) → (entry_at files.tree x n ≡ Some y) ⊎ P y

@@ -1,5 +1,5 @@
 -- What is in use is the same in worlds that are the same.
-use Rattle.std.proofs.Common.{◌≡◌, sym, ap, subst, ◌∙◌, ℕ, nat_eq, Bool, true, false, ◌&&◌, ◌||◌, List, [], ◌∷◌, ◌++◌, map, filter, filter_map, flat_map, is_some, if◌then◌else◌}
+use Rattle.std.proofs.Common.{◌≡◌, sym, ap, subst, ◌∙◌, ℕ, nat_eq, Bool, true, false, ◌&&◌, ◌||◌, List, [], ◌∷◌, ◌++◌, map, filter, filter_map, flat_map, is_some}
 use Rattle.std.specs.List.{list_all, list_any}
 use Rattle.std.specs.List.Sorted.{IsPermutation}
 use Rattle.std.proofs.lemmas.List.Sorted.{IsPermutation-append_left, IsPermutation-cons, list_any-IsPermutation}
@@ -9,26 +9,19 @@ use Rattle.vt_permit_laws.proofs.same.EachHas.{each_all, each_holds}
 use Rattle.vt_permit_laws.proofs.same.SameInvariants.{alike_under_way}
 use Rattle.vt_permit_laws.specs.Same.{SameWorldsAreWorlds}
 use Rattle.vt_run_laws.proofs.answered.AlikeChanges.{locations_same}
-use Rattle.vt_run_laws.proofs.answered.AlikeSettled.{overlay_same}
+use Rattle.vt_run_laws.proofs.answered.AlikeSettled.{objects_by, overlay_same}
 use Rattle.vt_run_laws.proofs.answered.AlikeWorlds.{Alike, AlikeFilesystem, alike_from_same, mounts_of_one, plain_from_alike, with_mounts_of}
 use Rattle.vt_run_laws.proofs.Each.{each_any, each_flat}
 use Rattle.vt_run_laws.proofs.Permuted.{IsPermutation-flat_map, list_all-IsPermutation}
 use Rattle.vt_spec.specs.FileTree.{targets_in}
-use Rattle.vt_spec.specs.Lists.{holds_of}
 use Rattle.vt_spec.specs.Machine.Locked.{of_overlay, overlay_or}
 use Rattle.vt_spec.specs.Machine.Mounts.{Location, Mount, mount_in, root_of}
 use Rattle.vt_spec.specs.Machine.Settled.{filesystem_lives, has_layer_on, layers_in, located_in, objects_of_overlay, used_in}
-use Rattle.vt_spec.specs.Machine.World.{Filesystem, Overlay, World, layers_of, upper_object}
+use Rattle.vt_spec.specs.Machine.World.{Filesystem, World, layers_of}
 use Rattle.vt_spec.specs.Machine.Invariants.{IsWorld}
 use Rattle.vt_world_laws.proofs.RaisedInUse.{unsettled_of, world_of}
 use Rattle.vt_world_laws.specs.Worlds.Kept.{IsPlain}
 use Rattle.vt_letting_go.proofs.sweeps.OfWorlds.{all_in_use}
-
--- the upper inodes that are real objects of an overlay
-abbrev objects_by : ℕ → Filesystem ℕ → Overlay ℕ → List ℕ
-objects_by filesystem merged overlay =
-    if holds_of (λ layer. nat_eq filesystem layer.filesystem) overlay.upper
-    then filter_map (λ number. upper_object (overlay.real number)) merged.files.numbers else []
 
 -- Two worlds with the very same mounts
 module _ (one second : World ℕ) (same : Alike one (with_mounts_of one second)) where

@@ -5,7 +5,8 @@ use Rattle.vt_letting_go.proofs.Lists.{Among, among_numbers, is_among_numbers, m
 use Rattle.vt_laws.specs.Numbers.{KeepsTo}
 use Rattle.vt_laws.specs.Renaming.{Renaming}
 use Rattle.vt_permit_laws.specs.Same.{SameWorldsKeepToNumbers}
-use Rattle.vt_run_laws.proofs.answered.AlikeWorlds.{Alike, AlikeFilesystem, SameNamespace, SameTask, alike_from_same, bare_task}
+use Rattle.vt_laws.proofs.judged.NumbersRaised.{bare_task}
+use Rattle.vt_run_laws.proofs.answered.AlikeWorlds.{Alike, AlikeFilesystem, SameNamespace, SameTask, alike_from_same}
 use Rattle.vt_run_laws.proofs.Each.{Each}
 use Rattle.vt_spec.specs.Machine.Renaming.{renamed, renamed_filesystem, renamed_mount, renamed_namespace, renamed_node, renamed_overlay, renamed_task}
 use Rattle.vt_spec.specs.Machine.World.{Filesystem, Namespace, Task, World}

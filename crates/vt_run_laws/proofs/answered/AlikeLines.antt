@@ -4,7 +4,7 @@ use Rattle.vt_run_laws.proofs.answered.AlikeAnswered.{policy_alike}
 use Rattle.vt_run_laws.proofs.answered.AlikeApplied.{OutcomesAlike}
 use Rattle.vt_run_laws.proofs.answered.AlikeDirected.{directed_alike}
 use Rattle.vt_run_laws.proofs.answered.AlikeWorlds.{Alike}
-use Rattle.vt_run_laws.specs.Runs.{asks_for_overlay}
+use Rattle.vt_tree_laws.specs.Trees.Calls.{asks_for_overlay}
 use Rattle.vt_spec.specs.Language.Limits.{longest_line}
 use Rattle.vt_spec.specs.Language.Printed.{reply_line}
 use Rattle.vt_spec.specs.Language.Script.{Grammar, Request, is_silent, request_of}

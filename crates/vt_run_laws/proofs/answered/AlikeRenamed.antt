@@ -1,8 +1,9 @@
 -- Worlds that are the same stay the same when their numbers are renamed.
 use Rattle.std.proofs.Common.{ap, ℕ, List, [], ◌∷◌, map, option_map}
 use Rattle.std.proofs.lemmas.List.Sorted.{IsPermutation-map}
+use Rattle.vt_laws.proofs.judged.NumbersRaised.{bare_namespace, bare_task}
 use Rattle.vt_laws.specs.Renaming.{Renaming}
-use Rattle.vt_run_laws.proofs.answered.AlikeWorlds.{SameNamespace, SameTask, bare_namespace, bare_task}
+use Rattle.vt_run_laws.proofs.answered.AlikeWorlds.{SameNamespace, SameTask}
 use Rattle.vt_run_laws.proofs.Each.{each_map, each_to_one, each_told}
 use Rattle.vt_spec.specs.Machine.Renaming.{renamed, renamed_filesystem, renamed_mount, renamed_namespace, renamed_node, renamed_overlay, renamed_task}
 use Rattle.vt_spec.specs.Machine.SameWorlds.{SameFilesystems, SameWorlds}

@@ -25,7 +25,7 @@ pub overlay_same : (a b : Filesystem ℕ) → AlikeFilesystem a b → a.overlay 
 overlay_same a b alike = alike.plain ∙ sym alike.plain_too
 
 -- the upper inodes that are real objects of an overlay
-abbrev objects_by : ℕ → Filesystem ℕ → Overlay ℕ → List ℕ
+abbrev pub objects_by : ℕ → Filesystem ℕ → Overlay ℕ → List ℕ
 objects_by filesystem merged overlay =
     if holds_of (λ layer. nat_eq filesystem layer.filesystem) overlay.upper
     then filter_map (λ number. upper_object (overlay.real number)) merged.files.numbers else []

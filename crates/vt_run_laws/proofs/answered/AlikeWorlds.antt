@@ -4,17 +4,13 @@ use Rattle.std.specs.Prelude.{All}
 use Rattle.std.proofs.lemmas.List.Elements.{All-cons, All-head, All-tail}
 use Rattle.std.proofs.lemmas.List.Sorted.{IsPermutation-refl, IsPermutation-sym, IsPermutation-trans}
 use Rattle.vt_run_laws.proofs.Each.{Each, each_back, each_onward, each_to_one, each_told}
-use Rattle.vt_run_laws.specs.Answered.{IsPlain, SameWorldsArePlainAlike, SamenessIsAnEquivalence}
+use Rattle.vt_laws.proofs.judged.NumbersRaised.{bare_namespace, bare_task}
+use Rattle.vt_laws.specs.Plain.{IsPlain}
+use Rattle.vt_run_laws.specs.Answered.{SameWorldsArePlainAlike, SamenessIsAnEquivalence}
 use Rattle.vt_spec.proofs.Options.{none_from_not_some}
 use Rattle.vt_spec.specs.FileTree.{FileTree}
 use Rattle.vt_spec.specs.Machine.SameWorlds.{SameFiles, SameFilesystem, SameFilesystems, SameWorlds}
 use Rattle.vt_spec.specs.Machine.World.{Filesystem, Namespace, Task, World, is_overlay}
-
-abbrev pub bare_task : Task ℕ → Task ℕ
-bare_task task = record task { change = 0 }
-
-abbrev pub bare_namespace : Namespace ℕ → Namespace ℕ
-bare_namespace namespace = record namespace { change = 0 }
 
 abbrev pub SameTask : Task ℕ → Task ℕ → Type 0
 SameTask one other = bare_task one ≡ bare_task other

@@ -1,6 +1,6 @@
 -- The change number of a task is not looked at.
 use Rattle.std.proofs.Common.{◌≡◌, refl, ℕ, nat_eq, Bool, true, false, List, [], ◌∷◌, Option, Some, None, Ok}
-use Rattle.vt_run_laws.proofs.answered.AlikeWorlds.{bare_task}
+use Rattle.vt_laws.proofs.judged.NumbersRaised.{bare_task}
 use Rattle.vt_spec.specs.declared.errors.Rule.TheVariants.{E1}
 use Rattle.vt_spec.specs.Errors.{and_then, unless}
 use Rattle.vt_spec.specs.Language.Calls.{Access, Call, Creation, ForkWords, MountFlags, OverlayWords, TaskName, TypeWord}

@@ -1,14 +1,14 @@
 -- A grammar without the mount of an overlay asks for none.
 use Rattle.std.proofs.Common.{◌≡◌, refl, ℕ, Bool, true, false, cond, List, [], ◌∷◌, Option, Some, None, option_map, arith}
 use Rattle.std.proofs.lemmas.List.Elements.{All-cons}
-use Rattle.vt_run_laws.specs.Runs.{GrammarsKeepOverlaysOut, HasNoOverlays, asks_for_overlay}
+use Rattle.vt_run_laws.specs.Runs.{GrammarsKeepOverlaysOut}
 use Rattle.vt_spec.specs.Language.Calls.Call.{MountOverlay}
 use Rattle.vt_spec.specs.Language.Calls.{Call, Directive, TaskName}
 use Rattle.vt_spec.specs.Language.Script.{Grammar, Who, asked_by, call_asked, call_words, directive_asked, directive_words, each_of, propagation, raw_tokens, request_of, request_of_texts, token_text, who_of}
 use Rattle.vt_spec.specs.Language.Script.Request.{Asking, Calling}
 use Rattle.vt_spec.specs.Language.Script.Who.{Nobody, Someone}
 use Rattle.vt_spec.specs.Lists.{then_some, when}
-use Rattle.vt_tree_laws.specs.Trees.Calls.{mounts_overlay}
+use Rattle.vt_tree_laws.specs.Trees.Calls.{HasNoOverlays, asks_for_overlay, mounts_overlay}
 
 module _ (grammar : Grammar) (out : (call : Call) → grammar.has call ≡ true → mounts_overlay call ≡ false) where
   call_plain : (task : TaskName) (words : Option Call)

@@ -16,14 +16,15 @@ use Rattle.vt_run_laws.proofs.answered.AlikeLines.{line_step_alike}
 use Rattle.vt_run_laws.proofs.answered.AlikeRenamed.{same_renamed}
 use Rattle.vt_run_laws.proofs.answered.AlikeWorlds.{Alike, alike_back, alike_from_same, alike_onward, plain_from_alike, sameness_is_an_equivalence}
 use Rattle.vt_run_laws.proofs.runs.Seats.{Start, started}
-use Rattle.vt_run_laws.specs.Answered.{IsPlain}
-use Rattle.vt_run_laws.specs.Runs.{RunsHaveOneText, TellsAlike, asks_for_overlay}
+use Rattle.vt_laws.specs.Plain.{IsPlain}
+use Rattle.vt_run_laws.specs.Runs.{RunsHaveOneText, TellsAlike}
 use Rattle.vt_spec.specs.Language.Script.{Grammar, lines_of, request_of}
 use Rattle.vt_spec.specs.Lists.{Fresh}
 use Rattle.vt_spec.specs.Machine.Renaming.{renamed}
 use Rattle.vt_spec.specs.Machine.Run.{first_world, line_step, step_world}
 use Rattle.vt_spec.specs.Machine.SameWorlds.{SameWorlds}
 use Rattle.vt_spec.specs.Machine.World.{Filesystem, World, is_overlay, new_plain, opening}
+use Rattle.vt_tree_laws.specs.Trees.Calls.{asks_for_overlay}
 
 -- A line that is handed some supply, and the same line in the renamed world that is handed the next row
 module _ (m : ℕ) (renaming : Renaming ℕ ℕ) (in_hand : ℕ → Bool) (world : World ℕ)

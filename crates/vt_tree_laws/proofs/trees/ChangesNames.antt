@@ -12,7 +12,7 @@ use Rattle.vt_spec.specs.TreeInvariant.{entry_at, IsDirectory}
 use Rattle.vt_spec.specs.Language.Changes.{node_without_entry, with_name, without_entry, without_name}
 use Rattle.vt_spec.specs.FileTree.{FileTree}
 use Rattle.vt_spec.proofs.Nodes.{entries-node_with_entry, entry_named-with_entry, entry_named-without_entry, none_is_not, passes, same_name}
-use Rattle.vt_tree_laws.proofs.trees.ChangesNodes.{elsewhere, there}
+use Rattle.vt_tree_laws.proofs.trees.ChangesNodes.{changed_node_there, elsewhere}
 use Rattle.vt_spec.proofs.NodeChanges.{entries-node_without_entry}
 
 -- A name taken away
@@ -20,7 +20,7 @@ module _ (files : FileTree ℕ) (directory : ℕ) (name : List ℕ) where
   entries_there : entries_in ((without_name nat_eq files directory name).tree.node directory) ≡ without_entry name
       (entries_in (files.tree.node directory))
   entries_there =
-      ap entries_in (there files directory (node_without_entry name))
+      ap entries_in (changed_node_there files directory (node_without_entry name))
       ∙ entries-node_without_entry name (files.tree.node directory)
 
   entries_elsewhere : (other : ℕ) → other ≢ directory
@@ -94,7 +94,7 @@ module _ (files : FileTree ℕ) (directory : ℕ) (name : List ℕ) (number : �
   given_there : entries_in ((with_name nat_eq files directory name number).tree.node directory) ≡ with_entry name number
       (entries_in (files.tree.node directory))
   given_there =
-      ap entries_in (there files directory (node_with_entry name number))
+      ap entries_in (changed_node_there files directory (node_with_entry name number))
       ∙ entries-node_with_entry name number (files.tree.node directory) in_directory
 
   pub given_elsewhere : (other : ℕ) → other ≢ directory

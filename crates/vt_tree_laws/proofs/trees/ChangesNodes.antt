@@ -24,9 +24,9 @@ part_stays files number change part same other =
     part_kept part files.tree number (change (files.tree.node number)) (same (files.tree.node number)) other
 
 -- the changed inode itself, and the others
-pub there : (files : FileTree ℕ) (number : ℕ) (change : Option (Node ℕ) → Option (Node ℕ))
+pub changed_node_there : (files : FileTree ℕ) (number : ℕ) (change : Option (Node ℕ) → Option (Node ℕ))
     → (changed_node nat_eq files number change).tree.node number ≡ change (files.tree.node number)
-there files number change = node_set files.tree number (change (files.tree.node number))
+changed_node_there files number change = node_set files.tree number (change (files.tree.node number))
 
 pub elsewhere : (files : FileTree ℕ) (number : ℕ) (change : Option (Node ℕ) → Option (Node ℕ)) (other : ℕ)
     → other ≢ number

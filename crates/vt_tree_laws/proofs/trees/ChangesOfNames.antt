@@ -9,7 +9,7 @@ use Rattle.vt_spec.specs.Language.Changes.{changed_node, node_with_parent, node_
 use Rattle.vt_spec.specs.FileTree.{FileTree}
 use Rattle.vt_spec.proofs.Nodes.{is_directory-node_with_entry, is_some-node_with_entry, none_is_not, parent-node_with_entry}
 use Rattle.vt_tree_laws.specs.Trees.{MayAddName, MayRemove}
-use Rattle.vt_tree_laws.proofs.trees.ChangesNodes.{KeepsPlace, elsewhere, own_parent-node_with_parent, part_stays, there}
+use Rattle.vt_tree_laws.proofs.trees.ChangesNodes.{KeepsPlace, changed_node_there, elsewhere, own_parent-node_with_parent, part_stays}
 use Rattle.vt_tree_laws.proofs.trees.ChangesNames.{given_elsewhere, given_in_order, given_kept, given_told, untaken_empty, untaken_in_order, untaken_kept, untaken_told}
 use Rattle.vt_tree_laws.proofs.trees.TreesRearranged.{IsRearranged, Vanishes}
 use Rattle.vt_spec.proofs.NodeChanges.{entries-node_with_parent, is_directory-node_with_parent, is_directory-node_without_entry, is_some-node_with_parent, is_some-node_without_entry, parent-node_without_entry}
@@ -155,7 +155,7 @@ module _ (files : FileTree ℕ) (directory : ℕ) (name : List ℕ) (object : �
 
   removed_own : parent_in object (removed.tree.node object) ≡ object
   removed_own =
-      ap (parent_in object) (there untaken object (node_with_parent object))
+      ap (parent_in object) (changed_node_there untaken object (node_with_parent object))
       ∙ own_parent-node_with_parent object (untaken.tree.node object)
 
   removed_parent : (k : ℕ) → k ≢ object → parent_in k (removed.tree.node k) ≡ parent_in k (files.tree.node k)
@@ -221,7 +221,7 @@ module _ (files : FileTree ℕ) where
   unparented_own None k e = none_is_not None k refl e
   unparented_own (Some object) k e =
       subst (λ m. parent_in m ((without_parent nat_eq files (Some object)).tree.node m) ≡ m) (same_Some object k e)
-      (ap (parent_in object) (there files object (node_with_parent object))
+      (ap (parent_in object) (changed_node_there files object (node_with_parent object))
       ∙ own_parent-node_with_parent object (files.tree.node object))
 
   pub unparented_parent : (o : Option ℕ) (k : ℕ) → o ≢ Some k

@@ -10,7 +10,7 @@ use Rattle.vt_spec.specs.FileTree.{FileTree}
 use Rattle.vt_spec.proofs.Nodes.{is_directory-node_with_entry, is_some-node_with_entry, parent-node_with_entry}
 use Rattle.vt_spec.proofs.Trees.{entry_reached, led-append, root_reached}
 use Rattle.vt_tree_laws.specs.Trees.{MayMove}
-use Rattle.vt_tree_laws.proofs.trees.ChangesNodes.{elsewhere, part_stays, there}
+use Rattle.vt_tree_laws.proofs.trees.ChangesNodes.{changed_node_there, elsewhere, part_stays}
 use Rattle.vt_tree_laws.proofs.trees.ChangesNames.{given_elsewhere, given_entry, given_in_order, given_kept, given_told, untaken_empty, untaken_in_order, untaken_kept, untaken_told}
 use Rattle.vt_tree_laws.proofs.trees.ChangesOfNames.{decided_some, not_root, only_name, unparented_kind, unparented_own, unparented_parent, unparented_used}
 use Rattle.vt_tree_laws.proofs.trees.TreesRearranged.{IsRearranged, Vanishes, led_closed, no_entries}
@@ -148,7 +148,7 @@ module _ (files : FileTree ℕ) (from : ℕ) (old : List ℕ) (to : ℕ) (new : 
   -- parents
   moved_object_parent : IsDirectory files.tree object → parent_in object (moved.tree.node object) ≡ to
   moved_object_parent is =
-      ap (parent_in object) (there given object (node_with_parent to))
+      ap (parent_in object) (changed_node_there given object (node_with_parent to))
       ∙ parent-node_with_parent to object (given.tree.node object)
       (part_stays untaken to (node_with_entry new object) is_directory_node
       (is_directory-node_with_entry new object) object

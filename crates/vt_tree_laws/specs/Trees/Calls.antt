@@ -1,7 +1,9 @@
 -- Calls on files, in worlds of plain filesystems.
-use Rattle.std.specs.Prelude.{All, Bool, None, Some, false, nat_eq, true, ℕ, ◌≡◌}
+use Rattle.std.specs.Prelude.{All, Bool, List, None, Option, Some, false, nat_eq, true, ℕ, ◌≡◌}
 use Rattle.vt_spec.specs.Language.Calls.{Call, TaskName}
 use Rattle.vt_spec.specs.Language.Calls.Call.{MountOverlay}
+use Rattle.vt_spec.specs.Language.Script.{Grammar, Request, request_of}
+use Rattle.vt_spec.specs.Language.Script.Request.{Asking, Calling}
 use Rattle.vt_spec.specs.Lists.{Fresh}
 use Rattle.vt_spec.specs.Machine.Mounts.{Location, root_of}
 use Rattle.vt_spec.specs.Machine.Policy.{policy}
@@ -31,6 +33,16 @@ AreNew fresh world = All (λ filesystem. (k : ℕ) → filesystem.files.tree.nod
 abbrev pub mounts_overlay : Call → Bool
 mounts_overlay (MountOverlay path options flags) = true
 mounts_overlay call = false
+
+-- a line asks for the mount of an overlay
+abbrev pub asks_for_overlay : Option Request → Bool
+asks_for_overlay None = false
+asks_for_overlay (Some (Calling task call)) = mounts_overlay call
+asks_for_overlay (Some (Asking directive)) = false
+
+-- and no line of a script does
+abbrev pub HasNoOverlays : Grammar → List (List ℕ) → Type 0
+HasNoOverlays grammar lines = All (λ line. asks_for_overlay (request_of grammar line) ≡ false) lines
 
 -- The opening world has trees.
 abbrev pub OpeningHasTrees : Type 0

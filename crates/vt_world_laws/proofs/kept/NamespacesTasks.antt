@@ -11,9 +11,7 @@ use Rattle.vt_spec.specs.Machine.World.{Namespace, Task, World, replaced_if_call
 use Rattle.vt_spec.specs.Language.Calls.{TaskName, same_name}
 use Rattle.vt_spec.proofs.Lists.{Among, among-append, among-append_left, among-from_map, none_among}
 use Rattle.vt_world_laws.proofs.kept.NamespacesListed.{IsListedIn, TasksStay, mapped_tasks_stay}
-
-abbrev AreNamedApart : List (Task ℕ) → Type 0
-AreNamedApart tasks = any_pair (λ (a b : Task ℕ). same_name a.name b.name) tasks ≡ false
+use Rattle.vt_world_laws.proofs.TasksNamed.{AreNamedApart}
 
 -- a task that is called is there
 pub called_there : (tasks : List (Task ℕ)) (name : TaskName) (task : Task ℕ)

@@ -9,7 +9,8 @@ use Rattle.vt_spec.specs.Language.Limits.{longest_line}
 use Rattle.vt_spec.specs.Language.Script.Request.{Asking, Calling}
 use Rattle.vt_spec.specs.Machine.World.{World, opening}
 use Rattle.vt_laws.proofs.denials.Unchanged.{directive_changes_nothing, refused_memory_changes_nothing}
-use Rattle.vt_world_laws.specs.Worlds.Calls.{HasNoOverlays, LeadsTo, ScriptsLeadToWorlds, asks_for_overlay}
+use Rattle.vt_tree_laws.specs.Trees.Calls.{HasNoOverlays, asks_for_overlay}
+use Rattle.vt_world_laws.specs.Worlds.Calls.{LeadsTo, ScriptsLeadToWorlds}
 use Rattle.vt_world_laws.proofs.worlds.CallsKept.{Kept, calls_keep_worlds}
 use Rattle.vt_world_laws.proofs.opening.OpeningWorld.{opening_is_a_world}
 use Rattle.vt_world_laws.proofs.worlds.WordsFew.{lines_name_few, request_names_few}

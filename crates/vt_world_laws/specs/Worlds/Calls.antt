@@ -1,16 +1,15 @@
 -- Every call and every script without overlays keeps the invariants of a world.
-use Rattle.std.specs.Prelude.{All, Bool, List, None, Ok, Option, Some, [], false, nat_eq, true, ℕ, ◌≡◌, ◌∷◌}
+use Rattle.std.specs.Prelude.{Bool, List, None, Ok, Some, [], false, nat_eq, true, ℕ, ◌≡◌, ◌∷◌}
 use Rattle.vt_spec.specs.Language.Calls.{Call, TaskName}
 use Rattle.vt_spec.specs.Machine.Judge.{judge_in}
 use Rattle.vt_spec.specs.Lists.{Fresh}
 use Rattle.vt_spec.specs.Machine.Permits.{Permit}
 use Rattle.vt_spec.specs.Machine.Policy.{policy}
 use Rattle.vt_spec.specs.Machine.Run.{Serves, line_step, step_world}
-use Rattle.vt_spec.specs.Language.Script.{Grammar, Request, request_of}
-use Rattle.vt_spec.specs.Language.Script.Request.{Asking, Calling}
+use Rattle.vt_spec.specs.Language.Script.{Grammar}
 use Rattle.vt_spec.specs.Machine.World.{Task, World, opening, task_called}
 use Rattle.vt_spec.specs.Machine.Invariants.{IsWorld}
-use Rattle.vt_tree_laws.specs.Trees.Calls.{mounts_overlay}
+use Rattle.vt_tree_laws.specs.Trees.Calls.{HasNoOverlays, mounts_overlay}
 use Rattle.vt_tree_laws.specs.Trees.Limits.{names_few_groups}
 use Rattle.vt_world_laws.specs.Worlds.Kept.{IsPlain}
 use Rattle.vt_world_laws.specs.Worlds.Permits.{IsFitPermit}
@@ -53,15 +52,6 @@ LeadsTo grammar world (line ∷ lines) (true ∷ refused) left =
 LeadsTo grammar world (line ∷ lines) (false ∷ refused) left =
     (fresh : Fresh ℕ) × Serves nat_eq world fresh
     × LeadsTo grammar (step_world world (line_step nat_eq grammar world line (Some fresh))) lines refused left
-
--- a line asks for the mount of an overlay
-abbrev pub asks_for_overlay : Option Request → Bool
-asks_for_overlay None = false
-asks_for_overlay (Some (Calling task call)) = mounts_overlay call
-asks_for_overlay (Some (Asking directive)) = false
-
-abbrev pub HasNoOverlays : Grammar → List (List ℕ) → Type 0
-HasNoOverlays grammar lines = All (λ line. asks_for_overlay (request_of grammar line) ≡ false) lines
 
 -- Every world that a script without overlays leads to has the invariants.
 abbrev pub ScriptsLeadToWorlds : Type 0

@@ -1,19 +1,16 @@
 -- The invariants of a world while a call is under way: after its permit is applied, and before what nothing uses is
 -- gone.
-use Rattle.std.specs.Prelude.{All, Some, false, nat_eq, true, ℕ, ◌≡◌}
+use Rattle.std.specs.Prelude.{Some, nat_eq, true, ℕ, ◌≡◌}
 use Rattle.std.specs.List.{list_all}
+pub use Rattle.vt_laws.specs.Plain.{IsPlain}
 use Rattle.vt_spec.specs.Machine.Apply.{apply}
 use Rattle.vt_spec.specs.Lists.{Fresh}
 use Rattle.vt_spec.specs.Machine.Permits.{Permit}
 use Rattle.vt_spec.specs.Machine.Run.{Serves}
 use Rattle.vt_spec.specs.Machine.Settled.{settled}
-use Rattle.vt_spec.specs.Machine.World.{Task, World, is_overlay, task_called}
+use Rattle.vt_spec.specs.Machine.World.{Task, World, task_called}
 use Rattle.vt_spec.specs.Machine.Invariants.{IsWorld, MountInvariants, NamespaceInvariants, TaskInvariants, TreeInvariants, has_its_root}
 use Rattle.vt_world_laws.specs.Worlds.Permits.{IsFitPermit}
-
--- no filesystem is an overlay
-abbrev pub IsPlain : World ℕ → Type 0
-IsPlain world = All (λ filesystem. is_overlay filesystem ≡ false) world.filesystems
 
 -- what mounts show, and where they stand, is there
 abbrev pub MountsShow : World ℕ → Type 0

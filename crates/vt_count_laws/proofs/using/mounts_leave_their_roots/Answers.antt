@@ -1,8 +1,9 @@
 use Rattle.vt_count_laws.proofs.using.MountRoots as Roots
 use Rattle.vt_count_laws.proofs.using.mounts_leave_their_roots.Goals as goal
+use Rattle.vt_letting_go.proofs.sweeps.OfWorlds.{locations_of_worlds_stand}
 
 pub returns-clause-locations : goal.returns-clause-locations
-returns-clause-locations c = Roots.locations_of_worlds_stand
+returns-clause-locations c = locations_of_worlds_stand
 
 pub returns-clause-places : goal.returns-clause-places
 returns-clause-places c = Roots.places_stand

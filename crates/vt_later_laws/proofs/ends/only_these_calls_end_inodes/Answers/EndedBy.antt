@@ -1,7 +1,8 @@
 -- Only calls that take a use away end an inode.
 use Rattle.std.proofs.Common.{◌≡◌, refl, sym, ap, subst, ◌∙◌, ℕ, nat_eq, Bool, true, false, Some, is_some, Result, Ok, Err}
 use Rattle.vt_call_laws.proofs.inodes.InodesRemain.{only_unused_inodes_end}
-use Rattle.vt_call_laws.specs.Inodes.{inode_in, mounts_overlay}
+use Rattle.vt_call_laws.specs.Inodes.{inode_in}
+use Rattle.vt_tree_laws.specs.Trees.Calls.{mounts_overlay}
 use Rattle.vt_laws.proofs.rules.OwnRules.{denial_changes_nothing}
 use Rattle.vt_laws.proofs.denials.Unchanged.{look_changes_nothing}
 use Rattle.vt_spec.specs.declared.errors.Deny.{Deny}

@@ -41,7 +41,7 @@ use Rattle.vt_later_laws.proofs.MadeSeen.{Never, surely}
 use Rattle.vt_later_laws.proofs.Opened.{walk_ended}
 use Rattle.vt_later_laws.proofs.Readers.{own_name, stepped_by}
 use Rattle.vt_later_laws.proofs.Stays.{called_own}
-use Rattle.vt_later_laws.proofs.Steps.{passing, same_ok}
+use Rattle.vt_spec.proofs.Refusals.{passing, same_ok}
 use Rattle.vt_later_laws.proofs.later.later_calls_see_it_at_the_path.Answers.RenamedSeen.{itself_leads}
 use Rattle.vt_later_laws.proofs.later.later_calls_see_it_at_the_path.Answers.Unlinked.{Missing, old_parts}
 use Rattle.vt_later_laws.proofs.Ways.{both_walked, same_end, walk_passing}

@@ -42,7 +42,7 @@ use Rattle.vt_later_laws.proofs.MadeSeen.{Never, new_leaf_parts, no_slash_there,
 use Rattle.vt_later_laws.proofs.Opened.{walk_ended}
 use Rattle.vt_later_laws.proofs.OpenedNew.{given_of}
 use Rattle.vt_later_laws.proofs.Readers.{MayLook, all_stands, caller, leads, own_name, raised_credentials, raised_stands, seen_at, seen_there, stepped_by, uncovered}
-use Rattle.vt_later_laws.proofs.Steps.{passing, same_ok}
+use Rattle.vt_spec.proofs.Refusals.{passing, same_ok}
 use Rattle.vt_later_laws.proofs.WaysChanges.{RightsStay, TreeStays, name_leads, named_other, rights_named, ways_named}
 use Rattle.vt_later_laws.proofs.WaysPlaces.{named_place, symlink_named_too}
 use Rattle.vt_later_laws.proofs.WaysStay.{StandsAs}

@@ -31,7 +31,7 @@ use Rattle.vt_later_laws.proofs.Granted.{IsPermitted, permitted}
 use Rattle.vt_later_laws.proofs.Looked.{lstat_refused, search_all}
 use Rattle.vt_later_laws.proofs.Readers.{MayLook, all_stands, own_name, raised_credentials, raised_stands, stepped_by}
 use Rattle.vt_later_laws.proofs.later.RemovalFits.{Fits, IsOutside, fits_ways}
-use Rattle.vt_later_laws.proofs.Steps.{passing, same_ok}
+use Rattle.vt_spec.proofs.Refusals.{passing, same_ok}
 use Rattle.vt_later_laws.proofs.later.later_calls_see_it_at_the_path.Answers.Unlinked.{Missing, old_parts}
 use Rattle.vt_later_laws.proofs.Ways.{LeadsToo}
 use Rattle.vt_later_laws.proofs.later.WaysLeft.{Known, node_here, ways_lead}

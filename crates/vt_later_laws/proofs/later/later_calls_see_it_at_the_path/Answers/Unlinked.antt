@@ -34,7 +34,7 @@ use Rattle.vt_later_laws.proofs.Looked.{lstat_refused}
 use Rattle.vt_later_laws.proofs.Opened.{walk_ended}
 use Rattle.vt_later_laws.proofs.OpenedNew.{given_of}
 use Rattle.vt_later_laws.proofs.Readers.{MayLook, all_stands, caller, leads, own_name, raised_credentials, raised_stands, seen_there, stepped_by}
-use Rattle.vt_later_laws.proofs.Steps.{passing, same_ok}
+use Rattle.vt_spec.proofs.Refusals.{passing, same_ok}
 use Rattle.vt_later_laws.proofs.Ways.{both_walked, walk_passing}
 use Rattle.vt_later_laws.proofs.WaysChanges.{name_missing, rights_removed, ways_removed}
 use Rattle.vt_later_laws.proofs.WaysPlaces.{named_place, symlink_missing}

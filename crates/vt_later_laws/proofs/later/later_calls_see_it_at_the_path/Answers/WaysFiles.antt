@@ -15,7 +15,7 @@ use Rattle.vt_spec.specs.Machine.Walking.LastWord.{Dot, DotDot, Named, NoWord}
 use Rattle.vt_spec.specs.Machine.World.{Task}
 use Rattle.vt_spec.specs.PathText.{ends_in_slash, is_absolute, words}
 use Rattle.vt_world_laws.proofs.worlds.Reached.{directory_no_link}
-use Rattle.vt_later_laws.proofs.Steps.{AllPass, passing, same_ok}
+use Rattle.vt_spec.proofs.Refusals.{AllPass, passing, same_ok}
 use Rattle.vt_later_laws.proofs.Ways.{LeadsToo, at, both_walked, not_stopped, positive, same_end, start_known, start_same, walk_passed, walk_passing, word_too, words_lead}
 use Rattle.vt_later_laws.proofs.WaysPlaces.{EndsThere, last_too, placed_at, through}
 use Rattle.vt_spec.proofs.Options.{and_then-Ok}

@@ -37,7 +37,7 @@ use Rattle.vt_spec.specs.Tree.{Content, Node, is_directory_node, kind_of, node_w
 use Rattle.vt_spec.specs.Tree.Content.{Directory, Regular, Symlink, Whiteout}
 use Rattle.vt_call_laws.specs.Inodes.{change_of}
 use Rattle.vt_tree_laws.specs.Trees.{IsFileTree}
-use Rattle.vt_tree_laws.proofs.trees.ChangesNodes.{there}
+use Rattle.vt_tree_laws.proofs.trees.ChangesNodes.{changed_node_there as there}
 use Rattle.vt_tree_laws.proofs.trees.TreesWalked.{Ends}
 use Rattle.vt_world_laws.specs.Worlds.Kept.{IsPlain}
 use Rattle.vt_world_laws.proofs.worlds.Reached.{others_are_files}
@@ -52,7 +52,7 @@ use Rattle.vt_later_laws.proofs.MadeSeen.{Never, made_leads, maker, new_stepped,
 use Rattle.vt_later_laws.proofs.Opened.{walk_ended}
 use Rattle.vt_later_laws.proofs.Readers.{MayLook, all_stands, caller, leads, named_last, own_name, raised_credentials, raised_stands, seen_at, uncovered}
 use Rattle.vt_later_laws.proofs.Stays.{called_own}
-use Rattle.vt_later_laws.proofs.Steps.{passing, same_ok}
+use Rattle.vt_spec.proofs.Refusals.{passing, same_ok}
 use Rattle.vt_later_laws.proofs.Ways.{EndsAt, LeadsToo, both_walked, start_known, walk_passed, walk_passing}
 use Rattle.vt_later_laws.proofs.WaysChanges.{TreeStays, rights_with_bytes, ways_with_bytes}
 use Rattle.vt_later_laws.proofs.later.later_calls_see_it_at_the_path.Answers.WaysFiles.{IsFilePlace, file_place, file_too, followed_to}
