@@ -7,13 +7,13 @@ use vt_letting_go::ends::a_group_ends_with_its_last_member;
 /// nothing else of its kind goes. The counts are those of the world before.
 ///
 /// A mount goes with the last location on it, if it is in no namespace; a filesystem with the last mount that shows it,
-/// if no mounted overlay has a layer in it; an inode with the last name, location, mount or mount point that uses it. An
-/// overlay may take the filesystems of its layers with it, and an inode of an overlay the upper inode that was its real
-/// object. A namespace ends with its last task. A peer group ends with its last member, and hands its slaves on to its
-/// master.
+/// if no mounted overlay has a layer in it; an inode with the last name, location, mount or mount point that uses it.
+/// An overlay may take the filesystems of its layers with it, and an inode of an overlay the upper inode that was its
+/// real object. A namespace ends with its last task. A peer group ends with its last member, and hands its slaves on to
+/// its master.
 ///
-/// After a close(2) the whole sweep takes the inode at the most, if the mount stays. If the mount goes, and no other one
-/// shows its filesystem, it takes these two.
+/// After a close(2) the whole sweep takes the inode at the most, if the mount stays. If the mount goes, and no other
+/// one shows its filesystem, it takes these two.
 pub fn each_thing_goes_with_its_last_use()
     ensures mount { MountGoesWithItsLastUse }
     ensures filesystem { FilesystemGoesWithItsLastUse }

@@ -25,8 +25,8 @@ pub fn the_least_rule_answers()
 /// Each table of rules is in the policy's order: those asked before the walks, those of walks, and those asked after
 /// them.
 ///
-/// A symlink's own rules are in the other order, the special last words of rmdir and of an exclusive open come before the
-/// table that begins with a lesser rule, and a slash behind a missing name is asked last.
+/// A symlink's own rules are in the other order, the special last words of rmdir and of an exclusive open come before
+/// the table that begins with a lesser rule, and a slash behind a missing name is asked last.
 pub fn tables_are_in_order()
     ensures first { FirstTablesInOrder }
     ensures last { LastTablesInOrder }

@@ -5,8 +5,8 @@ ghost use Rattle.vt_laws.specs.Same.{PlainHasOneName, SameInvariantWorldsJudgeAl
 /// (`SameWorlds`), look alike, and each call is judged alike in both.
 ///
 /// What lies only below in an overlay has a name in one directory alone there (`BelowHasOneName`): else the mounter
-/// would be asked for the directory that comes first. So it has in every world that has the invariants, with overlays or
-/// without, and in every world of plain filesystems.
+/// would be asked for the directory that comes first. So it has in every world that has the invariants, with overlays
+/// or without, and in every world of plain filesystems.
 pub fn same_worlds_are_judged_alike()
     ensures looks { SameWorldsLookAlike }
     ensures calls { SameWorldsAreJudgedAlike }

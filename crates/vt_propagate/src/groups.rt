@@ -84,7 +84,8 @@ impl<'a> Copying<'a> {
         }
     }
 
-    /// The nearest master of a receiver of this type: of a slave, the nearest group that has a part, from its master up.
+    /// The nearest master of a receiver of this type: of a slave, the nearest group that has a part, from its master
+    /// up.
     pub(crate) fn nearest_master(
         &self,
         mounts: &Mounts,

@@ -19,8 +19,8 @@ pub fn what_is_seen_stays_the_world()
 /// mount of the tree, leaves the world from which all that the events detach was taken at once: it is seen so, and
 /// settles so. The whole tree is among what they detach. Masters of groups without members do not count.
 ///
-/// With a sweep after each part the same world is left as with one after all, where what a sweep needs holds on the way:
-/// trees, real objects, no upper layer in an overlay, and the invariants of mounts.
+/// With a sweep after each part the same world is left as with one after all, where what a sweep needs holds on the
+/// way: trees, real objects, no upper layer in an overlay, and the invariants of mounts.
 pub fn lazy_unmounts_detach_at_once()
     ensures parts { PartsGoAtOnce }
     ensures swept { PartsAreSweptOnce }

@@ -9,8 +9,8 @@ pub fn what_is_left_is_a_world()
 {}
 
 /// In a world with the invariants of mounts, with trees, real objects and no upper layer in an overlay, tasks end one
-/// after the other, or the events of a lazy unmount come, with a sweep after each or with one at the end: the same world
-/// is left.
+/// after the other, or the events of a lazy unmount come, with a sweep after each or with one at the end: the same
+/// world is left.
 pub fn one_sweep_serves_for_several()
     ensures exits { ExitsAreSweptOnce }
     ensures lazy { LazyUnmountsAreSweptOnce }

@@ -481,8 +481,8 @@ directive_words name words =
     else if bytes_eq name (codes "sealed") then some_tasks words
     else None
 
--- Which calls and directives a grammar has: a call by its name and its words, since of the calls by one name it may have
--- some and not others, a directive by its name. A line with anything else is not of the grammar.
+-- Which calls and directives a grammar has: a call by its name and its words, since of the calls by one name it may
+-- have some and not others, a directive by its name. A line with anything else is not of the grammar.
 pub record Grammar : Type 0 where
   pub version : Version
   pub knows : List ℕ → Bool
