@@ -4,7 +4,7 @@ use Rattle.vt_location.specs.MountValue.{mount_of}
 use Rattle.vt_propagate.specs.Copying.{as_kept, copied, parts_seen, tree_seen}
 use Rattle.vt_propagate.proofs.Attached.{length-rows}
 use Rattle.vt_propagate.specs.declared.numbering.Copying.{Copying}
-use Rattle.vt_propagate.proofs.Planning.{copies_planned, first_part}
+use Rattle.vt_propagate.proofs.copying.Planning.{copies_planned, first_part}
 use Rattle.vt_propagate.proofs.copying.copies.Goals as goal
 
 pub returns-clause-ok : goal.returns-clause-ok

@@ -1,6 +1,6 @@
 use Rattle.std.proofs.Common.{◌∙◌}
 use Rattle.vt_propagate.specs.declared.numbering.Copying.{Copying}
-use Rattle.vt_propagate.proofs.Planning.{first_part, groups_planned}
+use Rattle.vt_propagate.proofs.copying.Planning.{first_part, groups_planned}
 use Rattle.vt_propagate.proofs.copying.new_groups.Goals as goal
 
 pub returns-clause-ok : goal.returns-clause-ok

@@ -3,7 +3,7 @@ use Rattle.vt_location.specs.Locations.{location_of}
 use Rattle.vt_location.specs.MountValue.{mount_of}
 use Rattle.vt_location.specs.Numbers.{counted}
 use Rattle.vt_mount.specs.MountsValue.{mounts_in}
-use Rattle.vt_propagate.proofs.Fallen.{left_none, left_some}
+use Rattle.vt_propagate.proofs.falling.Fallen.{left_none, left_some}
 use Rattle.vt_propagate.proofs.Found.{counts}
 use Rattle.vt_propagate.proofs.falling.point_left.Goals as goal
 

@@ -2,7 +2,7 @@ use Rattle.std.proofs.Common.{ap, subst, sym, ◌∙◌}
 use Rattle.std.specs.Prelude.{All}
 use Rattle.vt_mount.specs.MountsValue.{are_ascending}
 use Rattle.vt_propagate.specs.Falling.{FallsTo, LeavesBy, all_points_left}
-use Rattle.vt_propagate.proofs.Fallen.{each_falls, leaves}
+use Rattle.vt_propagate.proofs.falling.Fallen.{each_falls, leaves}
 use Rattle.vt_propagate.proofs.Found.{counts}
 use Rattle.vt_propagate.proofs.falling.points_left.Goals as goal
 

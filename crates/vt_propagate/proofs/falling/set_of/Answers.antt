@@ -1,6 +1,6 @@
 use Rattle.std.proofs.Common.{ap, cond, get_or, nat_eq, true, ◌∙◌}
 use Rattle.vt_location.specs.declared.numbers.MountId.{MountId}
-use Rattle.vt_propagate.proofs.GoneSets.{going_more}
+use Rattle.vt_propagate.proofs.falling.GoneSets.{going_more}
 use Rattle.vt_propagate.proofs.falling.set_of.Goals as goal
 
 pub loop-id-preserved : goal.loop-id-preserved

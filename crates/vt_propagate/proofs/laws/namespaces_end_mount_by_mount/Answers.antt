@@ -1,5 +1,5 @@
-use Rattle.vt_propagate.proofs.EndsInTurn.{namespaces_end_in_turn, one_by_one_are_swept_once, turns_are_seen_swept, unlisted_namespaces_end_in_turn}
-use Rattle.vt_propagate.proofs.EndsOrder.{ended_go_in_turn, namespaces_end_deepest_first}
+use Rattle.vt_propagate.proofs.laws.EndsInTurn.{namespaces_end_in_turn, one_by_one_are_swept_once, turns_are_seen_swept, unlisted_namespaces_end_in_turn}
+use Rattle.vt_propagate.proofs.laws.EndsOrder.{ended_go_in_turn, namespaces_end_deepest_first}
 use Rattle.vt_propagate.proofs.laws.namespaces_end_mount_by_mount.Goals as goal
 
 pub returns-clause-alone : goal.returns-clause-alone

@@ -3,7 +3,7 @@ use Rattle.vt_location.specs.Numbers.{counted}
 use Rattle.vt_location.specs.declared.numbers.MountId.{MountId}
 use Rattle.vt_propagate.specs.Through.{going_then_if_there}
 use Rattle.vt_propagate.proofs.Found.{counts}
-use Rattle.vt_propagate.proofs.LazySteps.{IsTaken, taken_first, taken_last, taken_step}
+use Rattle.vt_propagate.proofs.lazily.LazySteps.{IsTaken, taken_first, taken_last, taken_step}
 use Rattle.vt_propagate.proofs.lazily.all_gone.Goals as goal
 
 abbrev none : MountId

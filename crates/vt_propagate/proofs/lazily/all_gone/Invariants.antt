@@ -5,7 +5,7 @@ use Rattle.vt_propagate.specs.Falling.{HasJust}
 use Rattle.vt_propagate.specs.LazyUnmounts.{lazy_events}
 use Rattle.vt_propagate.specs.Seen.{IsSeen}
 use Rattle.vt_propagate.proofs.Found.{counts, numbers}
-use Rattle.vt_propagate.proofs.LazySteps.{IsTaken}
+use Rattle.vt_propagate.proofs.lazily.LazySteps.{IsTaken}
 use Rattle.vt_propagate.proofs.lazily.all_gone.Given as goal
 
 -- the set is of the list, and the events that are left follow from what is gone

@@ -1,6 +1,6 @@
 use Rattle.std.proofs.Common.{ap, reverse, ◌∙◌}
 use Rattle.vt_propagate.proofs.Found.{counts}
-use Rattle.vt_propagate.proofs.LazyOrder.{counts-reverse}
+use Rattle.vt_propagate.proofs.lazily.LazyOrder.{counts-reverse}
 use Rattle.vt_propagate.proofs.lazily.deepest_first.Goals as goal
 
 pub returns-clause-ok : goal.returns-clause-ok

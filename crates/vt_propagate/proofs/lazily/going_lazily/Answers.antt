@@ -3,7 +3,7 @@ use Rattle.std.proofs.lemmas.Result.{IfOk-weaker}
 use Rattle.vt_location.specs.Numbers.{counted}
 use Rattle.vt_propagate.specs.LazyEvents.{levels_from}
 use Rattle.vt_propagate.proofs.Found.{counts}
-use Rattle.vt_propagate.proofs.LazyOrder.{lazy_levels}
+use Rattle.vt_propagate.proofs.lazily.LazyOrder.{lazy_levels}
 use Rattle.vt_propagate.proofs.lazily.going_lazily.Goals as goal
 
 pub returns-clause-ok : goal.returns-clause-ok

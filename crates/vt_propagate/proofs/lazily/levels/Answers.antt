@@ -5,7 +5,7 @@ use Rattle.vt_location.specs.declared.numbers.MountId.{MountId}
 use Rattle.vt_mount.specs.MountsValue.{mounts_in}
 use Rattle.vt_propagate.specs.LazyEvents.{children_of, levels_from}
 use Rattle.vt_propagate.proofs.Found.{counts}
-use Rattle.vt_propagate.proofs.LazyOrder.{next_level, no_next, none_counted}
+use Rattle.vt_propagate.proofs.lazily.LazyOrder.{next_level, no_next, none_counted}
 use Rattle.vt_propagate.proofs.lazily.levels.Goals as goal
 
 pub returns-then-is_empty : goal.returns-then-is_empty

@@ -5,7 +5,7 @@ use Rattle.vt_location.specs.MountValue.{mount_of}
 use Rattle.vt_mount.specs.MountsValue.{are_ascending, mounts_in}
 use Rattle.vt_propagate.specs.Pushing.{MovesOnce, PushesBy, leaver, pushes_from}
 use Rattle.vt_propagate.proofs.Pushed.{all_pushed, leaver_stays}
-use Rattle.vt_propagate.proofs.PushedOnce.{pushed_once}
+use Rattle.vt_propagate.proofs.pushing.PushedOnce.{pushed_once}
 use Rattle.vt_propagate.proofs.pushing.pushes.Goals as goal
 
 pub returns-clause-ok : goal.returns-clause-ok

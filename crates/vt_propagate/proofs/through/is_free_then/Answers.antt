@@ -3,7 +3,7 @@ use Rattle.vt_location.specs.MountValue.{mount_of}
 use Rattle.vt_location.specs.Numbers.{counted}
 use Rattle.vt_mount.specs.MountsValue.{mounts_in}
 use Rattle.vt_propagate.proofs.Found.{counts}
-use Rattle.vt_propagate.proofs.LookedThrough.{all_rest, free_if_all, one_does_not}
+use Rattle.vt_propagate.proofs.through.LookedThrough.{all_rest, free_if_all, one_does_not}
 use Rattle.vt_propagate.proofs.through.is_free_then.Goals as goal
 
 pub returns-then-not-rests_on_root : goal.returns-then-not-rests_on_root

@@ -5,7 +5,7 @@ use Rattle.vt_location.specs.Numbers.{counted}
 use Rattle.vt_mount.specs.MountsValue.{mounts_in}
 use Rattle.vt_propagate.specs.Through.{over_from}
 use Rattle.vt_propagate.proofs.Found.{counts}
-use Rattle.vt_propagate.proofs.LookedThrough.{over_lost, over_next}
+use Rattle.vt_propagate.proofs.through.LookedThrough.{over_lost, over_next}
 use Rattle.vt_propagate.proofs.through.standing_over.Goals as goal
 
 pub returns-in_err-get : goal.returns-in_err-get

@@ -9,7 +9,7 @@ use Rattle.vt_group.proofs.Adding.{grown_has}
 use Rattle.vt_group.proofs.Answering.{listed_ok, unlisted}
 use Rattle.vt_group.proofs.Coming.{FoundListed, FoundLower, all_listed, all_lower, each_joined_still}
 use Rattle.vt_group.proofs.EndedTypes.{rising_numbers}
-use Rattle.vt_group.proofs.GrownMaps.{found_listed, found_lower, lists_found, lists_kept, lists_unlisted, same_map}
+use Rattle.vt_group.proofs.groups.GrownMaps.{found_listed, found_lower, lists_found, lists_kept, lists_unlisted, same_map}
 use Rattle.vt_group.proofs.Mastering.{masters_put}
 use Rattle.vt_group.proofs.groups.Groups.add.Goals as goal
 use Rattle.vt_group.proofs.groups.Groups.add.Goals.{then-is_err-via-then-is_err, then-is_err-via-else-is_err+then-is_err-2, then-is_err-via-else-is_err+else-is_err-2+then-is_err-3}

@@ -1,4 +1,4 @@
-use Rattle.vt_group.proofs.Found.{inserted_there}
+use Rattle.vt_group.proofs.groups.Found.{inserted_there}
 use Rattle.vt_group.proofs.groups.Groups.add_lower.Goals as goal
 
 pub returns-in_ok-insert-clause-there : goal.returns-in_ok-insert-clause-there

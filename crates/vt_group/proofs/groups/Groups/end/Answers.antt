@@ -13,13 +13,13 @@ use Rattle.vt_group.specs.Indexed.{group_at, has_source, is_lower, mount_at}
 use Rattle.vt_group.specs.Sets.{same_group}
 use Rattle.vt_group.specs.Steps.{group_number, handed, handed_entry, handed_peer, handed_type, numbered_master}
 use Rattle.vt_group.proofs.CountLemmas.{lookup-numbered}
-use Rattle.vt_group.proofs.Ending.{entries_ended, held_not, none_or, not_removed, removed_at, was_handed}
+use Rattle.vt_group.proofs.groups.Ending.{entries_ended, held_not, none_or, not_removed, removed_at, was_handed}
 use Rattle.vt_group.proofs.EndedTypes.{lookup-changed, rising_numbers, type-ended}
 use Rattle.vt_group.proofs.Handed.{group_seen, kind_seen, left_at, unhanded_group, unhanded_kind}
 use Rattle.vt_group.proofs.Regrouping.{keys}
 use Rattle.vt_group.proofs.IndexLemmas.{relative_of_source}
 use Rattle.vt_group.proofs.Invariant.{at_nat}
-use Rattle.vt_group.proofs.Members.{member_found}
+use Rattle.vt_group.proofs.groups.Members.{member_found}
 use Rattle.vt_group.proofs.Answering.{shown-type}
 use Rattle.vt_group.proofs.SetsLemmas.{same_id}
 use Rattle.vt_group.proofs.groups.Groups.end.Goals as goal

@@ -5,7 +5,7 @@ use Rattle.std.specs.List.{list_any}
 use Rattle.vt_location.specs.declared.numbers.MountId.{MountId}
 use Rattle.vt_location.specs.Numbers.{counted}
 use Rattle.vt_spec.specs.Machine.Mounts.{group_of}
-use Rattle.vt_group.proofs.Members.{is_another, lone-told}
+use Rattle.vt_group.proofs.groups.Members.{is_another, lone-told}
 use Rattle.vt_group.proofs.groups.Groups.ends_with.Goals as goal
 
 pub loop-other-preserved : goal.loop-other-preserved

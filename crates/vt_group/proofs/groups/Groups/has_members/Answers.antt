@@ -5,7 +5,7 @@ use Rattle.std.specs.List.{list_any}
 use Rattle.vt_location.specs.declared.numbers.MountId.{MountId}
 use Rattle.vt_location.specs.Numbers.{counted}
 use Rattle.vt_group.specs.Leaving.{is_member_of}
-use Rattle.vt_group.proofs.Members.{peers-told}
+use Rattle.vt_group.proofs.groups.Members.{peers-told}
 use Rattle.vt_group.proofs.groups.Groups.has_members.Goals as goal
 
 pub loop-mount-preserved : goal.loop-mount-preserved

@@ -11,7 +11,7 @@ use Rattle.vt_spec.specs.Machine.Receives.{regrouped}
 use Rattle.vt_group.specs.Grouping.{Grouping, Has, are_rising, propagation_in, with_propagation}
 use Rattle.vt_group.specs.Leaving.{lost_group, type_once_ended}
 use Rattle.vt_group.proofs.EndedTypes.{rising_numbers}
-use Rattle.vt_group.proofs.LeavingTypes.{types-left}
+use Rattle.vt_group.proofs.groups.LeavingTypes.{types-left}
 use Rattle.vt_group.proofs.Regrouping.{keys}
 use Rattle.vt_location.specs.Numbers.{counted}
 use Rattle.vt_location.specs.MountValue.{propagation_of}

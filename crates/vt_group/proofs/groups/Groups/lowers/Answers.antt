@@ -5,7 +5,7 @@ use Rattle.vt_group.specs.Indexed.{group_at}
 use Rattle.vt_group.specs.Receiving.{is_in}
 use Rattle.vt_group.specs.Steps.{group_number, numbered_master}
 use Rattle.vt_group.proofs.Coming.{kept_master}
-use Rattle.vt_group.proofs.Found.{groups_among}
+use Rattle.vt_group.proofs.groups.Found.{groups_among}
 use Rattle.vt_group.proofs.Listing.{found_count}
 use Rattle.vt_group.proofs.groups.Groups.lowers.Goals as goal
 

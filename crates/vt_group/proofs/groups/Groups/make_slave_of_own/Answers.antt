@@ -4,7 +4,7 @@ use Rattle.vt_location.specs.Numbers.{counted}
 use Rattle.vt_group.specs.Grouping.{propagation_in}
 use Rattle.vt_group.specs.Steps.{group_number}
 use Rattle.vt_group.proofs.Changes.{group_shared}
-use Rattle.vt_group.proofs.LeavingTypes.{types-slave}
+use Rattle.vt_group.proofs.groups.LeavingTypes.{types-slave}
 use Rattle.vt_group.proofs.groups.Groups.make_slave_of_own.Goals as goal
 
 pub set_slave-requires : goal.set_slave-requires

@@ -3,7 +3,7 @@ use Rattle.vt_location.specs.Numbers.{counted}
 use Rattle.vt_group.proofs.Answering.{nothing-behind}
 use Rattle.vt_group.proofs.Receiving.{receivers_found}
 use Rattle.vt_group.proofs.Regrouping.{keys}
-use Rattle.vt_group.proofs.Relatives.{keys_counted, picked_keys}
+use Rattle.vt_group.proofs.groups.Relatives.{keys_counted, picked_keys}
 use Rattle.vt_group.proofs.groups.Groups.receivers.Goals as goal
 
 pub returns-clause-ok : goal.returns-clause-ok

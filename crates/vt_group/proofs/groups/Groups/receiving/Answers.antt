@@ -10,9 +10,9 @@ use Rattle.vt_group.specs.Grouping.{propagation_in}
 use Rattle.vt_group.specs.Receiving.{is_in, kind_from, peer_from, type_from}
 use Rattle.vt_group.specs.Steps.{group_number}
 use Rattle.vt_group.proofs.CountLemmas.{lookup-numbered}
-use Rattle.vt_group.proofs.Ending.{entries_ended}
-use Rattle.vt_group.proofs.Found.{each_more, few_found, in_at, in_longer, known_more, lower_more, reaches_more, taken_more}
-use Rattle.vt_group.proofs.Relatives.{received}
+use Rattle.vt_group.proofs.groups.Ending.{entries_ended}
+use Rattle.vt_group.proofs.groups.Found.{each_more, few_found, in_at, in_longer, known_more, lower_more, reaches_more, taken_more}
+use Rattle.vt_group.proofs.groups.Relatives.{received}
 use Rattle.vt_group.proofs.groups.Groups.receiving.Goals as goal
 
 pub loop-next-smaller : goal.loop-next-smaller

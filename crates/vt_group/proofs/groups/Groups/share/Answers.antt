@@ -12,7 +12,7 @@ use Rattle.vt_group.specs.Together.{all_added, new_group, pair_of, shared_group,
 use Rattle.vt_group.proofs.Answering.{listed_ok, shown-type, unlisted}
 use Rattle.vt_group.proofs.Coming.{FoundListed, FoundLower, all_shared_listed, all_shared_lower}
 use Rattle.vt_group.proofs.EndedTypes.{rising_numbers}
-use Rattle.vt_group.proofs.GrownMaps.{found_listed, found_lower, lists_found, lists_kept, lists_unlisted, same_map}
+use Rattle.vt_group.proofs.groups.GrownMaps.{found_listed, found_lower, lists_found, lists_kept, lists_unlisted, same_map}
 use Rattle.vt_group.proofs.Mastering.{masters_put}
 use Rattle.vt_group.proofs.Sharing.{shared_has}
 use Rattle.vt_group.proofs.groups.Groups.share.Goals as goal

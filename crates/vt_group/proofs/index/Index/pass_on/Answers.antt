@@ -3,7 +3,7 @@ use Rattle.std.specs.Map.{lookup}
 use Rattle.vt_group.specs.declared.index.Index.{Index}
 use Rattle.vt_group.specs.Indexed.{is_relative}
 use Rattle.vt_group.specs.Sets.{has, same_group, same_id}
-use Rattle.vt_group.proofs.Inheriting.{handed_group, handed_kind, named_by}
+use Rattle.vt_group.proofs.index.Inheriting.{handed_group, handed_kind, named_by}
 use Rattle.vt_group.proofs.SetsLemmas.{same_id as same_number}
 use Rattle.vt_group.proofs.Together.{eqb-swapped}
 use Rattle.vt_group.proofs.index.Index.pass_on.Goals as goal

@@ -1,7 +1,7 @@
 use Rattle.std.proofs.Common.{arith, ap}
 use Rattle.vt_group.specs.Names.{count_names}
 use Rattle.vt_group.specs.Sets.{same_group}
-use Rattle.vt_group.proofs.NamesLemmas.{count_taken}
+use Rattle.vt_group.proofs.names.NamesLemmas.{count_taken}
 use Rattle.vt_group.proofs.names.Names.forget.Goals as goal
 
 pub invariant_of-self : goal.invariant_of-self

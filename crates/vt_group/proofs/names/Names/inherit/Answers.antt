@@ -4,7 +4,7 @@ use Rattle.std.specs.Option.{option_copied_mut}
 use Rattle.std.specs.Prelude.{unwrap_or}
 use Rattle.vt_group.specs.Names.{count_names, names_of}
 use Rattle.vt_group.specs.Sets.{same_group}
-use Rattle.vt_group.proofs.NamesLemmas.{all_of_both, any_of_first, any_of_second, count_taken, count_written, no_more, one_has, one_keeps, others_keep}
+use Rattle.vt_group.proofs.names.NamesLemmas.{all_of_both, any_of_first, any_of_second, count_taken, count_written, no_more, one_has, one_keeps, others_keep}
 use Rattle.vt_group.proofs.names.Names.inherit.Goals as goal
 
 pub invariant_of-self-in-Some-get_mut : goal.invariant_of-self-in-Some-get_mut

@@ -2,7 +2,7 @@ use Rattle.std.proofs.Common.{ap, arith, is_some, sym, ◌∙◌}
 use Rattle.std.specs.Option.{option_copied_mut}
 use Rattle.vt_group.specs.Names.{count_names}
 use Rattle.vt_group.specs.Sets.{has, same_group, same_id}
-use Rattle.vt_group.proofs.NamesLemmas.{count_written, empty_keeps, nil_from_none, shorter_keeps}
+use Rattle.vt_group.proofs.names.NamesLemmas.{count_written, empty_keeps, nil_from_none, shorter_keeps}
 use Rattle.vt_group.proofs.names.Names.prune.Goals as goal
 
 pub invariant_of-self-then-is_empty : goal.invariant_of-self-then-is_empty

@@ -2,7 +2,7 @@ use Rattle.std.proofs.Common.{arith, ap, cond, length, ◌∙◌, Some}
 use Rattle.std.specs.Map.{lookup}
 use Rattle.vt_group.specs.Names.{count_names, names_of}
 use Rattle.vt_group.specs.Sets.{same_group}
-use Rattle.vt_group.proofs.NamesLemmas.{count_inserted, none_kept, one_keeps}
+use Rattle.vt_group.proofs.names.NamesLemmas.{count_inserted, none_kept, one_keeps}
 use Rattle.vt_group.proofs.names.Names.start.Goals as goal
 
 pub invariant_of-self-2 : goal.invariant_of-self-2

@@ -4,7 +4,7 @@ use Rattle.std.specs.List.{list_any}
 use Rattle.vt_spec.specs.Machine.Mounts.{stands_on}
 use Rattle.vt_location.specs.Numbers.{counted}
 use Rattle.vt_mount.specs.MountsValue.{mounts_in}
-use Rattle.vt_ns.proofs.LooksKept.{bare_top}
+use Rattle.vt_ns.proofs.looking.LooksKept.{bare_top}
 use Rattle.vt_ns.proofs.looking.WorldLook.ground.Goals as goal
 use Rattle.vt_detach.specs.WorldValue.{WorldValue}
 

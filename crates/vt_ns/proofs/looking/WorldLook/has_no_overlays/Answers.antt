@@ -1,4 +1,4 @@
-use Rattle.vt_ns.proofs.LooksKept.{has_no_overlays}
+use Rattle.vt_ns.proofs.looking.LooksKept.{has_no_overlays}
 use Rattle.vt_ns.proofs.looking.WorldLook.has_no_overlays.Goals as goal
 
 pub returns : goal.returns

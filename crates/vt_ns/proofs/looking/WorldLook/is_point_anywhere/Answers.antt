@@ -1,5 +1,5 @@
 use Rattle.std.proofs.Common.{◌∙◌, arith, is_some, sym}
-use Rattle.vt_ns.proofs.LooksKept.{no_points, points_seen}
+use Rattle.vt_ns.proofs.looking.LooksKept.{no_points, points_seen}
 use Rattle.vt_ns.proofs.looking.WorldLook.is_point_anywhere.Goals as goal
 use Rattle.vt_ns.specs.contracts.world.World.{the_view}
 

@@ -1,7 +1,7 @@
 use Rattle.std.proofs.Common.{◌∙◌, arith, nat_eq, sym}
 use Rattle.vt_spec.specs.Lists.{holds_of}
 use Rattle.vt_location.specs.Numbers.{counted}
-use Rattle.vt_ns.proofs.LooksKept.{no_points, points_seen}
+use Rattle.vt_ns.proofs.looking.LooksKept.{no_points, points_seen}
 use Rattle.vt_ns.proofs.looking.WorldLook.is_point_in.Goals as goal
 use Rattle.vt_ns.specs.contracts.world.World.{the_view}
 

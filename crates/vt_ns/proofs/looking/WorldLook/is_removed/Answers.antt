@@ -1,6 +1,6 @@
 use Rattle.std.proofs.Common.{◌∙◌, ap, arith, not, sym}
 use Rattle.vt_detach.proofs.LookLemmas.{parents_named_at}
-use Rattle.vt_ns.proofs.LooksKept.{removed_is, removed_unseen}
+use Rattle.vt_ns.proofs.looking.LooksKept.{removed_is, removed_unseen}
 use Rattle.vt_ns.proofs.looking.WorldLook.is_removed.Goals as goal
 use Rattle.vt_ns.specs.contracts.world.World.{the_view}
 

@@ -1,6 +1,6 @@
 use Rattle.std.proofs.Common.{◌∙◌, ◌&&◌, ap, arith, nat_eq, sym}
 use Rattle.vt_detach.proofs.LookLemmas.{parents_named_at}
-use Rattle.vt_ns.proofs.LooksKept.{under_apart, under_is}
+use Rattle.vt_ns.proofs.looking.LooksKept.{under_apart, under_is}
 use Rattle.vt_ns.proofs.looking.WorldLook.is_under.Goals as goal
 use Rattle.vt_ns.proofs.looking.WorldLook.is_under.Goals.{else-is_seen-via-else-is_seen, else-is_seen-via-then-is_seen+else-eq}
 use Rattle.vt_ns.specs.contracts.world.World.{the_view}

@@ -1,6 +1,6 @@
 use Rattle.std.proofs.Common.{◌∙◌, arith, sym}
 use Rattle.vt_detach.proofs.LookLemmas.{parents_named_at}
-use Rattle.vt_ns.proofs.LooksKept.{under_root, under_root_apart, under_root_missing}
+use Rattle.vt_ns.proofs.looking.LooksKept.{under_root, under_root_apart, under_root_missing}
 use Rattle.vt_ns.proofs.looking.WorldLook.is_under_root.Goals as goal
 use Rattle.vt_ns.specs.contracts.world.World.{the_view}
 

@@ -1,5 +1,5 @@
 use Rattle.std.proofs.Common.{false, true, ◌∙◌, sym, arith}
-use Rattle.vt_ns.proofs.LooksKept.{no_node, node_is, seen_on}
+use Rattle.vt_ns.proofs.looking.LooksKept.{no_node, node_is, seen_on}
 use Rattle.vt_ns.proofs.looking.WorldLook.node_on.Goals as goal
 use Rattle.vt_ns.specs.contracts.world.World.{the_view}
 

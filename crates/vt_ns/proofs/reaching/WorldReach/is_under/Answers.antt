@@ -4,7 +4,7 @@ use Rattle.vt_detach.specs.Held.{IsHeld}
 use Rattle.vt_location.specs.Locations.{number_of}
 use Rattle.vt_location.specs.Numbers.{counted}
 use Rattle.vt_ns.specs.LyingUnder.{lies_under}
-use Rattle.vt_ns.proofs.LyingUnder.{lies_apart, lies_so}
+use Rattle.vt_ns.proofs.reaching.LyingUnder.{lies_apart, lies_so}
 use Rattle.vt_ns.proofs.reaching.WorldReach.is_under.Goals as goal
 use Rattle.vt_ns.specs.contracts.world.World.{the_view}
 

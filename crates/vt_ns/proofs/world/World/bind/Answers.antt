@@ -11,7 +11,7 @@ use Rattle.vt_detach.specs.Events.{Becomes, Permits}
 use Rattle.vt_detach.specs.WorldValue.{WorldValue, world_of}
 use Rattle.vt_attach.proofs.Binding.{bind_is_done, may_bind, source_there}
 use Rattle.vt_attach.proofs.GraftedDone.{grafted_value}
-use Rattle.vt_ns.proofs.BoundEvents.{bind_place_there, parts_found, place_mounted}
+use Rattle.vt_ns.proofs.world.BoundEvents.{bind_place_there, parts_found, place_mounted}
 use Rattle.vt_ns.proofs.world.World.bind.Goals as goal
 
 pub mounts_bound-requires : goal.mounts_bound-requires

@@ -6,8 +6,8 @@ use Rattle.vt_detach.specs.Events.{Becomes, Permits}
 use Rattle.vt_detach.specs.Uses.{with_location}
 use Rattle.vt_detach.specs.WorldValue.{entries_of}
 use Rattle.vt_ns.proofs.CountingLemmas.{room_left}
-use Rattle.vt_ns.proofs.ForkedTasks.{may_fork, task_is_forked}
-use Rattle.vt_ns.proofs.RemainingTasks.{remade_in}
+use Rattle.vt_ns.proofs.world.ForkedTasks.{may_fork, task_is_forked}
+use Rattle.vt_ns.proofs.world.RemainingTasks.{remade_in}
 use Rattle.vt_ns.proofs.world.World.fork.Goals as goal
 
 pub fork-requires : goal.fork-requires

@@ -6,7 +6,7 @@ use Rattle.vt_ns.specs.contracts.world.World.{the_view}
 use Rattle.vt_detach.specs.Events.{Becomes, Permits}
 use Rattle.vt_detach.proofs.ChangedFiles.{with_filesystems}
 use Rattle.vt_detach.proofs.FileEvents.{change_fits}
-use Rattle.vt_ns.proofs.FileAnswers.{linked_in, link_is_answered}
+use Rattle.vt_ns.proofs.world.FileAnswers.{linked_in, link_is_answered}
 use Rattle.vt_ns.proofs.world.World.link.Goals as goal
 
 pub link-requires-clause-one_filesystem : goal.link-requires-clause-one_filesystem

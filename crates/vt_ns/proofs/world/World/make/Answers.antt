@@ -5,7 +5,7 @@ use Rattle.vt_spec.specs.Machine.Permits.Permit.{ToMake}
 use Rattle.vt_ns.specs.contracts.world.World.{the_view}
 use Rattle.vt_detach.specs.Events.{Becomes, Permits}
 use Rattle.vt_detach.proofs.ChangedFiles.{with_filesystems}
-use Rattle.vt_ns.proofs.FileMaking.{make_fits, make_is_done, new_in_directory}
+use Rattle.vt_ns.proofs.world.FileMaking.{make_fits, make_is_done, new_in_directory}
 use Rattle.vt_ns.proofs.world.World.make.Goals as goal
 
 pub create-requires-clause-directory : goal.create-requires-clause-directory

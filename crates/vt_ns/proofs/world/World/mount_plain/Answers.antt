@@ -16,7 +16,7 @@ use Rattle.vt_attach.proofs.GraftedDone.{grafted_value}
 use Rattle.vt_attach.proofs.NewBase.{destination_there}
 use Rattle.vt_attach.proofs.NewFilesystems.{next_is_above}
 use Rattle.vt_attach.proofs.NewMounts.{may_mount, new_mount_is_done}
-use Rattle.vt_ns.proofs.BoundEvents.{parts_found, place_mounted}
+use Rattle.vt_ns.proofs.world.BoundEvents.{parts_found, place_mounted}
 use Rattle.vt_ns.proofs.world.World.mount_plain.Goals as goal
 
 pub parts-requires : goal.parts-requires

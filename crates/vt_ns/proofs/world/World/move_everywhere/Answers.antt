@@ -14,8 +14,8 @@ use Rattle.vt_detach.specs.Events.{Becomes, Permits}
 use Rattle.vt_detach.specs.WorldValue.{WorldValue, world_of}
 use Rattle.vt_attach.proofs.GraftedDone.{grafted_value}
 use Rattle.vt_attach.proofs.MovedDone.{may_move, move_is_done}
-use Rattle.vt_ns.proofs.BoundEvents.{parts_found, place_mounted}
-use Rattle.vt_ns.proofs.MovedEvents.{move_place_there, moved_there}
+use Rattle.vt_ns.proofs.world.BoundEvents.{parts_found, place_mounted}
+use Rattle.vt_ns.proofs.world.MovedEvents.{move_place_there, moved_there}
 use Rattle.vt_ns.proofs.world.World.move_everywhere.Goals as goal
 
 pub mounts_below-requires : goal.mounts_below-requires

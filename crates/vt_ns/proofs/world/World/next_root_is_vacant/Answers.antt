@@ -1,7 +1,7 @@
 use Rattle.std.proofs.Common.{subst}
 use Rattle.vt_ns.specs.contracts.world.World.{the_view}
 use Rattle.vt_ns.specs.Vacancy.{NextRootIsVacant}
-use Rattle.vt_ns.proofs.VacantNumbers.{root_is_vacant}
+use Rattle.vt_ns.proofs.world.VacantNumbers.{root_is_vacant}
 use Rattle.vt_ns.proofs.world.World.next_root_is_vacant.Goals as goal
 
 pub returns : goal.returns

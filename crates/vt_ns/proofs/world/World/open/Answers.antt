@@ -5,7 +5,7 @@ use Rattle.vt_spec.specs.Machine.Permits.Permit.{ToOpen}
 use Rattle.vt_ns.specs.contracts.world.World.{the_view}
 use Rattle.vt_detach.specs.Events.{Becomes, Permits}
 use Rattle.vt_detach.specs.Uses.{kept, with_location}
-use Rattle.vt_ns.proofs.FilesOpened.{file_is_opened, may_open_more, nothing_copied}
+use Rattle.vt_ns.proofs.world.FilesOpened.{file_is_opened, may_open_more, nothing_copied}
 use Rattle.vt_detach.proofs.Remaining.{remade}
 use Rattle.vt_ns.proofs.world.World.open.Goals as goal
 

@@ -12,7 +12,7 @@ use Rattle.vt_request.specs.Requests.{access_of}
 use Rattle.vt_ns.specs.contracts.world.World.{the_view}
 use Rattle.vt_detach.specs.Events.{Becomes, Permits}
 use Rattle.vt_detach.proofs.ChangedFiles.{with_filesystems}
-use Rattle.vt_ns.proofs.OpeningNew.{has_next, make_fits, may_open_one, new_in_directory, new_opens, next_is_numbered, used_once}
+use Rattle.vt_ns.proofs.world.OpeningNew.{has_next, make_fits, may_open_one, new_in_directory, new_opens, next_is_numbered, used_once}
 use Rattle.vt_detach.proofs.Remaining.{remade}
 use Rattle.vt_detach.proofs.Shown.{pins}
 use Rattle.vt_ns.proofs.world.World.open_new.Goals as goal

@@ -9,7 +9,7 @@ use Rattle.vt_spec.specs.Machine.Mounts.{children}
 use Rattle.vt_detach.specs.Held.{IsHeld}
 use Rattle.vt_ns.specs.Trees.{bindable_to_come}
 use Rattle.vt_detach.specs.WorldValue.{WorldValue}
-use Rattle.vt_ns.proofs.BoundTrees.{bindable, bindable_kids, branch_of, next-deep, next-flat}
+use Rattle.vt_ns.proofs.world.BoundTrees.{bindable, bindable_kids, branch_of, next-deep, next-flat}
 use Rattle.vt_ns.proofs.world.World.push_bindable.Goals as goal
 use Rattle.vt_spec.proofs.Options.{OnOk_then}
 

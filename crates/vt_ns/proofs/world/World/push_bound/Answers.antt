@@ -14,7 +14,7 @@ use Rattle.vt_spec.specs.Machine.Mounts.{children, mount_in}
 use Rattle.vt_detach.specs.Held.{IsHeld}
 use Rattle.vt_ns.specs.Trees.{bindable_to_come}
 use Rattle.vt_detach.specs.WorldValue.{WorldValue, world_of}
-use Rattle.vt_ns.proofs.BoundTrees.{bindable, bound_kids, branch_of, chosen-come}
+use Rattle.vt_ns.proofs.world.BoundTrees.{bindable, bound_kids, branch_of, chosen-come}
 use Rattle.vt_ns.proofs.world.World.push_bound.Goals as goal
 use Rattle.vt_spec.proofs.Options.{OnOk_then}
 

@@ -6,7 +6,7 @@ use Rattle.vt_spec.specs.Tree.{bytes_in}
 use Rattle.vt_ns.specs.contracts.world.World.{the_view}
 use Rattle.vt_detach.specs.Events.{Permits}
 use Rattle.vt_detach.specs.WorldValue.{world_of}
-use Rattle.vt_ns.proofs.FilesRead.{read_node}
+use Rattle.vt_ns.proofs.world.FilesRead.{read_node}
 use Rattle.vt_ns.proofs.world.World.read_part.Goals as goal
 
 pub returns-clause-ok : goal.returns-clause-ok

@@ -11,7 +11,7 @@ use Rattle.vt_ns.specs.contracts.world.World.{the_view}
 use Rattle.vt_ns.specs.Retyped.{IsRetyped}
 use Rattle.vt_detach.specs.Events.{Becomes, Permits}
 use Rattle.vt_detach.specs.WorldValue.{world_of}
-use Rattle.vt_ns.proofs.TypesDone.{types_done}
+use Rattle.vt_ns.proofs.world.TypesDone.{types_done}
 use Rattle.vt_ns.proofs.world.World.set_type.Goals as goal
 
 pub invariant_of-self-then-recursive : goal.invariant_of-self-then-recursive

@@ -4,7 +4,7 @@ use Rattle.vt_fs.specs.FilesystemsValue.{filesystems_seen}
 use Rattle.vt_group.specs.Grouping.{master_in}
 use Rattle.vt_mount.specs.MountsValue.{mounts_in}
 use Rattle.vt_ns.specs.contracts.world.World.{the_view}
-use Rattle.vt_ns.proofs.ListedWorlds.{named_once}
+use Rattle.vt_ns.proofs.world.ListedWorlds.{named_once}
 use Rattle.vt_ns.proofs.world.World.table.Goals as goal
 
 pub returns-clause-shown : goal.returns-clause-shown

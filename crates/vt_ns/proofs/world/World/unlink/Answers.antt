@@ -6,7 +6,7 @@ use Rattle.vt_ns.specs.contracts.world.World.{the_view}
 use Rattle.vt_detach.specs.Events.{Becomes, Permits}
 use Rattle.vt_detach.proofs.ChangedFiles.{with_filesystems}
 use Rattle.vt_detach.proofs.FileEvents.{change_fits}
-use Rattle.vt_ns.proofs.FileAnswers.{unlinked_in, unlink_is_done}
+use Rattle.vt_ns.proofs.world.FileAnswers.{unlinked_in, unlink_is_done}
 use Rattle.vt_ns.proofs.world.World.unlink.Goals as goal
 
 pub unlink-requires-clause-one_filesystem : goal.unlink-requires-clause-one_filesystem

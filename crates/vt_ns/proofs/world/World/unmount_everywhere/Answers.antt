@@ -12,7 +12,7 @@ use Rattle.vt_detach.proofs.Staying.{IsDone}
 use Rattle.vt_detach.specs.Uses.{kept}
 use Rattle.vt_attach.specs.Planned.{Point}
 use Rattle.vt_ns.specs.Unmounting.{GoTogether}
-use Rattle.vt_ns.proofs.UnmountedEverywhere.{unmounted_everywhere}
+use Rattle.vt_ns.proofs.world.UnmountedEverywhere.{unmounted_everywhere}
 use Rattle.vt_ns.proofs.world.World.unmount_everywhere.Goals as goal
 
 abbrev after : (c : goal.After-drop-plan-3) → WorldValue

@@ -6,7 +6,7 @@ use Rattle.vt_ns.specs.contracts.world.World.{the_view}
 use Rattle.vt_detach.specs.Events.{Becomes, Permits}
 use Rattle.vt_detach.proofs.ChangedFiles.{with_filesystems}
 use Rattle.vt_detach.proofs.FileEvents.{change_fits}
-use Rattle.vt_ns.proofs.FileAnswers.{write_is_done}
+use Rattle.vt_ns.proofs.world.FileAnswers.{write_is_done}
 use Rattle.vt_ns.proofs.world.World.write.Goals as goal
 
 pub write-requires-clause-file : goal.write-requires-clause-file

@@ -4,7 +4,7 @@ use Rattle.vt_spec.specs.Machine.Permits.Permit.{ToWritePart}
 use Rattle.vt_ns.specs.contracts.world.World.{the_view}
 use Rattle.vt_detach.specs.Events.{Becomes, Permits}
 use Rattle.vt_detach.proofs.ChangedFiles.{with_filesystems}
-use Rattle.vt_ns.proofs.FileParts.{no_bytes, nothing_is_written, some_bytes, write_part_fits, write_part_is_answered}
+use Rattle.vt_ns.proofs.world.FileParts.{no_bytes, nothing_is_written, some_bytes, write_part_fits, write_part_is_answered}
 use Rattle.vt_ns.proofs.world.World.write_part.Goals as goal
 
 pub returns-then-is_empty-clause-ok : goal.returns-then-is_empty-clause-ok

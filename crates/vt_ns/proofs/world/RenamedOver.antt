@@ -36,14 +36,14 @@ use Rattle.vt_detach.specs.Held.{IsHeld}
 use Rattle.vt_detach.specs.Uses.{kept}
 use Rattle.vt_detach.specs.WorldValue.{WorldValue, world_of}
 use Rattle.vt_detach.proofs.ChangedFiles.{ChangesFiles}
-use Rattle.vt_ns.proofs.ChangedWithMounts.{changed_then_detached, nothing_goes}
+use Rattle.vt_ns.proofs.world.ChangedWithMounts.{changed_then_detached, nothing_goes}
 use Rattle.vt_detach.proofs.DetachingBegins.{HasChildrenOf, detached_world}
 use Rattle.vt_detach.proofs.DetachingEnds.{taken_regroups}
 use Rattle.vt_detach.proofs.FileEvents.{IsSmall}
-use Rattle.vt_ns.proofs.FileRenaming as Renaming
+use Rattle.vt_ns.proofs.world.FileRenaming as Renaming
 use Rattle.vt_detach.proofs.FilesSeen.{inodes_named}
 use Rattle.vt_detach.proofs.LazilyUnmounted.{trees_have_children, trees_numbers}
-use Rattle.vt_ns.proofs.MountsOn.{none_on, one_on, tops_on, trees_collected}
+use Rattle.vt_ns.proofs.world.MountsOn.{none_on, one_on, tops_on, trees_collected}
 use Rattle.vt_detach.proofs.Moving.{map_itself}
 use Rattle.vt_detach.proofs.Remaining.{remade}
 use Rattle.vt_detach.proofs.Staying.{IsDone}

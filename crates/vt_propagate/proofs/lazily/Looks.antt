@@ -24,7 +24,7 @@ use Rattle.vt_mount_laws.proofs.ends.Unmounting.{detached_by_number, kept_by_num
 use Rattle.vt_propagate.specs.Going.{group_at}
 use Rattle.vt_propagate.specs.Through.{free_at_then, free_on_then, going_by, going_then, group_at_then, is_free_by_number, is_free_then, rests_on_root, standing_over}
 use Rattle.vt_propagate.proofs.Found.{numbers}
-use Rattle.vt_propagate.proofs.Over.{Over, found_over_place, over_falls, over_first, over_found}
+use Rattle.vt_propagate.proofs.lazily.Over.{Over, found_over_place, over_falls, over_first, over_found}
 
 -- A world that is left where these mounts are gone. What stands at a place then stood over it; who receives from a
 -- group that keeps a member did before.

@@ -63,8 +63,8 @@ use Rattle.vt_detach.proofs.Grouped.{left_has}
 use Rattle.vt_group.specs.Grouping.{Has}
 use Rattle.vt_detach.proofs.ChangedFiles.{ChangesFiles, change_is_held, change_is_swept, inodes_after, is_change, partner, with_filesystems}
 use Rattle.vt_detach.proofs.FileEvents.{IsSmall, permit_fits}
-use Rattle.vt_ns.proofs.FileMaking.{new_in_slot, new_is_named}
-use Rattle.vt_ns.proofs.FilesOpened.{inserted_goes, opened_moves, opened_stays, opened_tasks}
+use Rattle.vt_ns.proofs.world.FileMaking.{new_in_slot, new_is_named}
+use Rattle.vt_ns.proofs.world.FilesOpened.{inserted_goes, opened_moves, opened_stays, opened_tasks}
 use Rattle.vt_detach.proofs.FilesSeen.{IsLocated, files_are_plain, inodes_named, located, located_filesystem, located_inodes, one_entry}
 use Rattle.vt_detach.proofs.Finishing.{swept_held}
 use Rattle.vt_detach.proofs.LocationsSeen.{seen_where_located}

@@ -13,7 +13,7 @@ use Rattle.vt_detach.specs.Events.{Permits, supply_of}
 use Rattle.vt_detach.specs.Held.{IsHeld}
 use Rattle.vt_detach.specs.WorldValue.{WorldValue, world_of}
 use Rattle.vt_detach.proofs.FileEvents.{IsSmall}
-use Rattle.vt_ns.proofs.FileParts.{open_there}
+use Rattle.vt_ns.proofs.world.FileParts.{open_there}
 use Rattle.vt_detach.proofs.FilesSeen.{files_are_plain, looked_node}
 
 pub listed_node : (value : WorldValue) → IsHeld value → (name : TaskName) (directory : Location) → IsSmall directory

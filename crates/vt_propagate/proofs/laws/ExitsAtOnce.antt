@@ -23,7 +23,7 @@ use Rattle.vt_mount_laws.proofs.mounts.MountsFound.{number_found}
 use Rattle.vt_mount_laws.proofs.mounts.MountsReplaced.{found_itself}
 use Rattle.vt_propagate.specs.EndsInTurn.{with_namespaces}
 use Rattle.vt_propagate.specs.ExitsAtOnce.{ExitsAreAtOnce, without_tasks}
-use Rattle.vt_propagate.proofs.EndsInTurn.{taken_in_any_order}
+use Rattle.vt_propagate.proofs.laws.EndsInTurn.{taken_in_any_order}
 use Rattle.vt_propagate.proofs.LazyUnmounts.{settled_without_groups}
 use Rattle.vt_propagate.proofs.TakenTwice.{taken_twice}
 

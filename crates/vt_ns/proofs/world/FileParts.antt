@@ -30,7 +30,7 @@ use Rattle.vt_detach.specs.Events.{Becomes, Permits, supply_of}
 use Rattle.vt_detach.specs.Held.{IsHeld}
 use Rattle.vt_detach.specs.WorldValue.{WorldValue, world_of}
 use Rattle.vt_detach.proofs.ChangedFiles.{files_are_changed, with_filesystems}
-use Rattle.vt_ns.proofs.FileAnswers.{IsAnswered, answered, if_ok}
+use Rattle.vt_ns.proofs.world.FileAnswers.{IsAnswered, answered, if_ok}
 use Rattle.vt_detach.proofs.FileEvents.{IsSmall}
 use Rattle.vt_detach.proofs.FilesSeen.{IsLocated, files_are_plain, located, located_filesystem, located_inodes}
 

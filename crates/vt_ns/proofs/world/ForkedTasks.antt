@@ -40,7 +40,7 @@ use Rattle.vt_detach.proofs.FilesSeen.{files_are_plain}
 use Rattle.vt_detach.proofs.LocationsSeen.{seen_where_located}
 use Rattle.vt_detach.proofs.Moving.{Moves, only_left, swap_eq}
 use Rattle.vt_detach.proofs.Places.{standing}
-use Rattle.vt_ns.proofs.RemainingTasks.{CountsTasks, remade_in, remains_done_in}
+use Rattle.vt_ns.proofs.world.RemainingTasks.{CountsTasks, remade_in, remains_done_in}
 use Rattle.vt_detach.proofs.Splits.{IsSplit, locations_around, locations_stay, replaced_split, times_replaced, writes_replaced}
 use Rattle.vt_detach.proofs.Staying.{IsDone, after}
 

@@ -52,7 +52,7 @@ use Rattle.vt_detach.proofs.TypedEvents.{counts_typed, swept_typed, typed_value}
 use Rattle.vt_detach.proofs.TypedWorlds.{settled_without_groups, typed_world}
 use Rattle.vt_detach.proofs.UnmountedLazily.{all_detached}
 use Rattle.vt_mount_laws.proofs.mounts.MountsFound.{placed_among}
-use Rattle.vt_ns.proofs.PointsMoved.{MayMove, gained, looked_up, lost, moved_is_kept, moved_world}
+use Rattle.vt_ns.proofs.world.PointsMoved.{MayMove, gained, looked_up, lost, moved_is_kept, moved_world}
 
 -- a mount with a mount point is in a namespace
 placed_is_attached : (mount : Mount ℕ) → is_nowhere_or_attached mount ≡ true → is_some mount.mount_point ≡ true

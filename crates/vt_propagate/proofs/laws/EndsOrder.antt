@@ -20,7 +20,7 @@ use Rattle.vt_mount_laws.proofs.mounts.MountsFound.{number_found, placed_among}
 use Rattle.vt_mount_laws.proofs.mounts.MountsReplaced.{found_itself}
 use Rattle.vt_mount_laws.proofs.mounts.Standing.{depth_by_rank, rank, rank_child, standing_is_computed}
 use Rattle.vt_propagate.specs.EndsInTurn.{AreEnded, EndedGoInTurn, GoInTurn, NamespacesEndDeepestFirst, ended_in_turn, without_one}
-use Rattle.vt_propagate.proofs.EndsInTurn.{alone_keeps_mounts, namespaces_end_in_turn}
+use Rattle.vt_propagate.proofs.laws.EndsInTurn.{alone_keeps_mounts, namespaces_end_in_turn}
 
 -- where a mount without a child is detached alone, nothing falls
 none_falls : (world : World ℕ) (one : ℕ) → has_child nat_eq world one ≡ false → (number : ℕ) (place : Location ℕ)

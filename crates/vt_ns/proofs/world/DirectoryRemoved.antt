@@ -31,14 +31,14 @@ use Rattle.vt_detach.specs.Held.{IsHeld}
 use Rattle.vt_detach.specs.Uses.{kept}
 use Rattle.vt_detach.specs.WorldValue.{WorldValue, world_of}
 use Rattle.vt_detach.proofs.ChangedFiles.{ChangesFiles, IsFilesEvent, with_filesystems}
-use Rattle.vt_ns.proofs.ChangedWithMounts.{changed_then_detached, nothing_goes}
+use Rattle.vt_ns.proofs.world.ChangedWithMounts.{changed_then_detached, nothing_goes}
 use Rattle.vt_detach.proofs.DetachingBegins.{HasChildrenOf, detached_world}
 use Rattle.vt_detach.proofs.DetachingEnds.{taken_regroups}
 use Rattle.vt_detach.proofs.FileEvents.{IsSmall, permit_fits}
-use Rattle.vt_ns.proofs.FileRemoving.{removal_is_done}
+use Rattle.vt_ns.proofs.world.FileRemoving.{removal_is_done}
 use Rattle.vt_detach.proofs.FilesSeen.{IsLocated, files_are_plain, inodes_named, located, located_filesystem}
 use Rattle.vt_detach.proofs.LazilyUnmounted.{trees_have_children, trees_numbers}
-use Rattle.vt_ns.proofs.MountsOn.{none_on, one_on, tops_on, trees_collected}
+use Rattle.vt_ns.proofs.world.MountsOn.{none_on, one_on, tops_on, trees_collected}
 use Rattle.vt_detach.proofs.Remaining.{remade}
 use Rattle.vt_detach.proofs.Staying.{IsDone}
 

@@ -44,7 +44,7 @@ use Rattle.vt_detach.proofs.Remaining.{remade}
 use Rattle.vt_detach.proofs.Staying.{IsDone}
 use Rattle.vt_detach.proofs.UnmountedAlone.{attached_is_named}
 use Rattle.vt_ns.specs.Unmounting.{GoTogether}
-use Rattle.vt_ns.proofs.UnmountedWorlds.{moved_then_detached}
+use Rattle.vt_ns.proofs.world.UnmountedWorlds.{moved_then_detached}
 
 -- groups that end leave mounts where they are
 pub regrouped_places : (world : World ℕ) (number : ℕ)

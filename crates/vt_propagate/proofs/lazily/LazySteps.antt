@@ -26,10 +26,10 @@ use Rattle.vt_propagate.specs.LazyUnmounts.{going_if_there, gone_by, gone_lazily
 use Rattle.vt_propagate.specs.Through.{going_then, going_then_if_there}
 use Rattle.vt_propagate.proofs.Found.{counts, numbers}
 use Rattle.vt_propagate.proofs.LazyUnmounts.{nothing_taken}
-use Rattle.vt_propagate.proofs.Looks.{IsLeft, covers, going_is_seen, gone_then, kept_then, on_its_parent, root_then}
-use Rattle.vt_propagate.proofs.Over.{Over, over_further, over_more}
-use Rattle.vt_propagate.proofs.Over.Over.{here}
-use Rattle.vt_propagate.proofs.ReceiversLeft.{receivers_left}
+use Rattle.vt_propagate.proofs.lazily.Looks.{IsLeft, covers, going_is_seen, gone_then, kept_then, on_its_parent, root_then}
+use Rattle.vt_propagate.proofs.lazily.Over.{Over, over_further, over_more}
+use Rattle.vt_propagate.proofs.lazily.Over.Over.{here}
+use Rattle.vt_propagate.proofs.lazily.ReceiversLeft.{receivers_left}
 use Rattle.vt_propagate.proofs.TakenTwice.{taken_twice}
 
 -- Lists

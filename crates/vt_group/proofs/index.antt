@@ -1,0 +1,2 @@
+-- What the proofs of src/index.rt use.
+pub mod Inheriting

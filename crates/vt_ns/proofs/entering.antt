@@ -1,0 +1,2 @@
+-- What the proofs of src/entering.rt use.
+pub mod RootMounts

@@ -1,0 +1,2 @@
+-- What the proofs of src/looking.rt use.
+pub mod LooksKept

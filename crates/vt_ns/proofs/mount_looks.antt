@@ -1,0 +1,2 @@
+-- What the proofs of src/mount_looks.rt use.
+pub mod Climbing

@@ -1,0 +1,2 @@
+-- What the proofs of src/reaching.rt use.
+pub mod LyingUnder

@@ -1,0 +1,25 @@
+-- What the proofs of the methods of `World` use.
+pub mod BoundEvents
+pub mod BoundTrees
+pub mod ChangedWithMounts
+pub mod DirectoryRemoved
+pub mod FileAnswers
+pub mod FileMaking
+pub mod FileParts
+pub mod FileRemoving
+pub mod FileRenaming
+pub mod FilesOpened
+pub mod FilesRead
+pub mod ForkedTasks
+pub mod ListedWorlds
+pub mod LookingAlone
+pub mod MountsOn
+pub mod MovedEvents
+pub mod OpeningNew
+pub mod PointsMoved
+pub mod RemainingTasks
+pub mod RenamedOver
+pub mod TypesDone
+pub mod UnmountedEverywhere
+pub mod UnmountedWorlds
+pub mod VacantNumbers

@@ -1,0 +1,2 @@
+-- What the proofs of src/copying.rt use.
+pub mod Planning

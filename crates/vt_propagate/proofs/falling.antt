@@ -1,0 +1,3 @@
+-- What the proofs of src/falling.rt use.
+pub mod Fallen
+pub mod GoneSets

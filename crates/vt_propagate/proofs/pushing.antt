@@ -1,0 +1,2 @@
+-- What the proofs of src/pushing.rt use.
+pub mod PushedOnce

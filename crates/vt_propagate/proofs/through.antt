@@ -1,0 +1,2 @@
+-- What the proofs of src/through.rt use.
+pub mod LookedThrough
