@@ -1,0 +1,112 @@
+-- What a new mount leaves at a destination that is not shared: one mount more, and the filesystem that it shows.
+use Rattle.std.proofs.Common.{◌≡◌, refl, ap, ◌∙◌, ℕ, nat_eq, eq-eqb, Bool, true, false, List, [], ◌∷◌, ◌++◌, None, Some, filter, flat_map, map, option_map}
+use Rattle.std.proofs.lemmas.List.{append-nil}
+use Rattle.std.specs.Prelude.{if◌then◌else◌, unwrap_or}
+use Rattle.vt_spec.specs.Language.Calls.{MountFlags}
+use Rattle.vt_spec.specs.Lists.{Fresh, odds}
+use Rattle.vt_spec.specs.Machine.Apply.{apply}
+use Rattle.vt_spec.specs.Machine.Attach.{Copies, Graft, copies_at, copies_from, copy_place, copy_type, graft_of, pushed_up, receivers_of, takes_part, twig_of, type_at, type_at_part}
+use Rattle.vt_spec.specs.Machine.Mounts.{Location, Mount, group_of}
+use Rattle.vt_spec.specs.Machine.Mounts.Propagation.{Private}
+use Rattle.vt_spec.specs.Machine.Outcome.Mounting.{new_mount, plain_filesystem, with_new_filesystem}
+use Rattle.vt_spec.specs.Machine.Permits.Permit.{ToMountPlain}
+use Rattle.vt_spec.specs.Machine.Receives.{receivers}
+use Rattle.vt_spec.specs.Machine.World.{Filesystem, Task, World, mount_at}
+use Rattle.vt_spec.proofs.Worlds.{number-mount_in}
+
+module _ (fresh : Fresh ℕ) (world : World ℕ) (place : Location ℕ) (flags : MountFlags) where
+  -- the filesystem that is mounted
+  abbrev pub added_filesystem : Filesystem ℕ
+  added_filesystem = plain_filesystem nat_eq fresh
+
+  abbrev larger : World ℕ
+  larger = with_new_filesystem world added_filesystem
+
+  abbrev destination : Mount ℕ
+  destination = mount_at nat_eq world place
+
+  abbrev origin : Mount ℕ
+  origin = new_mount added_filesystem.number added_filesystem.files.tree.root flags
+
+  -- the number that the new mount gets, where the destination is the only part
+  abbrev new_number : ℕ
+  new_number = (copies_from nat_eq (odds fresh) (destination ∷ []) (origin ∷ [])).copy destination.number origin.number
+
+  -- the new mount
+  abbrev pub added_mount : Mount ℕ
+  added_mount = record {
+    number = new_number;
+    namespace = destination.namespace;
+    mount_point = Some place;
+    filesystem = added_filesystem.number;
+    root = added_filesystem.files.tree.root;
+    flags = flags;
+    propagation = Private;
+  }
+
+  abbrev mounts_with : List (Mount ℕ) → List (Mount ℕ)
+  mounts_with others =
+      let parts = destination ∷ others in
+      let new = copies_from nat_eq (odds fresh) parts (origin ∷ []) in
+      let graft = graft_of nat_eq larger new place false (origin ∷ []) in
+      map (pushed_up nat_eq larger new graft parts) world.mounts ++ copies_at nat_eq larger new graft parts destination
+      ++ flat_map (copies_at nat_eq larger new graft parts) others
+
+  -- the mounts at the destination, whatever the parts
+  abbrev mounts_with_copies : List (Mount ℕ) → List (Mount ℕ)
+  mounts_with_copies parts =
+      let new = copies_from nat_eq (odds fresh) parts (origin ∷ []) in
+      let graft = graft_of nat_eq larger new place false (origin ∷ []) in
+      map (pushed_up nat_eq larger new graft parts) world.mounts ++ copies_at nat_eq larger new graft parts destination
+
+  abbrev alone_graft : Graft ℕ
+  alone_graft =
+      graft_of nat_eq larger (copies_from nat_eq (odds fresh) (destination ∷ []) (origin ∷ [])) place false (origin ∷ [])
+
+  -- a mount that is not shared has no receivers
+  no_receivers : group_of destination.propagation ≡ None
+      → filter (takes_part nat_eq larger place) (receivers_of nat_eq larger destination) ≡ []
+  no_receivers unshared =
+      ap (λ group. filter (takes_part nat_eq larger place)
+      (unwrap_or (option_map (receivers nat_eq larger) group) [])) unshared
+
+  nothing_is_pushed : (list : List (Mount ℕ))
+      → map (pushed_up nat_eq larger (copies_from nat_eq (odds fresh) (destination ∷ []) (origin ∷ [])) alone_graft
+      (destination ∷ [])) list ≡ list
+  nothing_is_pushed [] = refl
+  nothing_is_pushed (mount ∷ list) = ap (λ rest. mount ∷ rest) (nothing_is_pushed list)
+
+  -- numbers of the new mount
+  abbrev alone_copies : Copies ℕ
+  alone_copies = copies_from nat_eq (odds fresh) (destination ∷ []) (origin ∷ [])
+
+  point_is_destination : copy_place nat_eq alone_copies alone_graft destination.number origin ≡ place
+  point_is_destination =
+      ap (λ top. if top then (record { mount = destination.number; node = place.node }) else place)
+      (eq-eqb added_filesystem.number added_filesystem.number refl)
+      ∙ (λ i. record { mount = number-mount_in world.mounts place.mount i; node = place.node })
+
+  type_is_private : destination.propagation ≡ Private
+      → type_at_part nat_eq larger alone_copies alone_graft (destination ∷ []) destination
+      (twig_of alone_copies (group_of destination.propagation) origin) ≡ Private
+  type_is_private private = by (nat_eq destination.number place.mount)
+    where
+      by : (b : Bool)
+          → (if b then type_at alone_copies (group_of destination.propagation) origin
+          else copy_type nat_eq larger alone_copies (destination ∷ []) destination
+          (twig_of alone_copies (group_of destination.propagation) origin) destination.propagation) ≡ Private
+      by true = ap (λ kind. type_at alone_copies (group_of kind) origin) private
+      by false =
+          ap (copy_type nat_eq larger alone_copies (destination ∷ []) destination
+          (twig_of alone_copies (group_of destination.propagation) origin)) private
+
+  -- on a private mount one mount comes, the last one
+  pub mounts-new_mount : destination.propagation ≡ Private → (task : Task ℕ)
+      → (apply nat_eq fresh world task (ToMountPlain place flags)).world.mounts ≡ world.mounts ++ (added_mount ∷ [])
+  mounts-new_mount private task =
+      ap mounts_with (no_receivers (ap group_of private))
+      ∙ append-nil (mounts_with_copies (destination ∷ []))
+      ∙ (λ i. nothing_is_pushed world.mounts i ++ (record added_mount {
+        mount_point = Some (point_is_destination i);
+        propagation = type_is_private private i;
+      }) ∷ [])

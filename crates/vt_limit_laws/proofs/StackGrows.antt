@@ -1,0 +1,283 @@
+-- A stack of mounts with one mount more.
+use Rattle.std.proofs.Common.{◌≡◌, refl, sym, ap, subst, ◌∙◌, inl, true≢false, ℕ, suc, nat_eq, nat_lt, eq-eqb, Bool, true, false, cond, not, ◌||◌, ◌&&◌, ◌<◌, ◌≤◌, List, [], ◌∷◌, ◌++◌, Option, None, Some, Ok, find, is_some, map, arith}
+use Rattle.std.specs.Prelude.{unwrap_or}
+use Rattle.std.specs.Option.{option_or}
+use Rattle.std.proofs.lemmas.Bool.Decides.{nat_tests}
+use Rattle.std.proofs.lemmas.List.Folds.{find-append}
+use Rattle.vt_spec.specs.declared.errors.Rule.TheVariants.{M9}
+use Rattle.vt_spec.specs.Errors.{denial, unless}
+use Rattle.vt_spec.specs.Language.Answers.Answer.{Done}
+use Rattle.vt_spec.specs.Language.Calls.{MountFlags, TaskName, same_name}
+use Rattle.vt_spec.specs.Language.Calls.Call.{MountPlain}
+use Rattle.vt_spec.specs.Language.Limits.{most_mounts}
+use Rattle.vt_spec.specs.Lists.{Fresh}
+use Rattle.vt_spec.specs.Machine.Filesystems.{raised_if_changed}
+use Rattle.vt_spec.specs.Machine.Invariants.{IsWorld}
+use Rattle.vt_spec.specs.Machine.Mounts.{Location, Mount, child_at, mount_in, root_of, stands_at, topmost}
+use Rattle.vt_spec.specs.Machine.Outcomes.{denied, granted}
+use Rattle.vt_spec.specs.Machine.Permits.Permit.{ToMountPlain}
+use Rattle.vt_spec.specs.Machine.Policy.{numbers_raised, policy, raised_task}
+use Rattle.vt_spec.specs.Machine.Filesystems.{raised}
+use Rattle.vt_spec.specs.Machine.Rightful.{node_allows}
+use Rattle.vt_spec.specs.Machine.Run.{Serves}
+use Rattle.vt_spec.specs.Machine.Settled.{settled}
+use Rattle.vt_spec.specs.Machine.World.{Filesystem, Task, World, filesystem_numbered, is_directory_at, is_removed_at, mount_at, mount_numbered, no_filesystem, node_at, root_attr, task_called}
+use Rattle.vt_spec.specs.Rights.{execute_right}
+use Rattle.vt_spec.specs.Tree.{entries_in, entry_named, is_directory_node, new_directory}
+use Rattle.vt_spec.specs.FileTree.{is_removed, named_parent}
+use Rattle.vt_spec.proofs.Found.{found_passes}
+use Rattle.vt_spec.proofs.Lists.{Among, among-append_right, among_numbers}
+use Rattle.vt_spec.proofs.Truths.{nat_eq_false_turned}
+use Rattle.vt_spec.proofs.Worlds.{number-mount_in, same_task_name}
+use Rattle.vt_mount_laws.specs.Mounts.Attaching.{is_mount, numbers_of}
+use Rattle.vt_mount_laws.proofs.mounts.MountsFound.{found_in}
+use Rattle.vt_mount_laws.proofs.mounts.MountsNumbered.{is_one_of, number_is_old}
+use Rattle.vt_mount_laws.proofs.mounts.MountsPlaces.{same_location_itself, stands_there}
+use Rattle.vt_mount_laws.proofs.mounts.MountsReplaced.{found-append, found_itself}
+use Rattle.vt_mount_laws.proofs.namespaces.Topmost.{topmost_is_free}
+use Rattle.vt_letting_go.proofs.leaving.PlacesLeft.{found_is_there, place_attached}
+use Rattle.vt_letting_go.proofs.mounting.AttachedSwept.{new_mounts_of_trees_keep_all}
+use Rattle.vt_letting_go.proofs.sweeps.OfWorlds.{all_in_use, found_filesystem, locations_of_worlds_stand, mounts_of_worlds_stand}
+use Rattle.vt_world_laws.specs.Worlds.Kept.{IsPlain}
+use Rattle.vt_world_laws.proofs.Plain.{plain_numbered}
+use Rattle.vt_world_laws.proofs.worlds.CallsKept.{calls_keep_worlds}
+use Rattle.vt_world_laws.proofs.worlds.ReachedWalks.{root_found}
+use Rattle.vt_later_laws.proofs.Granted.{called_raised}
+use Rattle.vt_limit_laws.proofs.AddedMount.{added_filesystem, added_mount}
+use Rattle.vt_limit_laws.proofs.OneWordWalks.{HasOneWord}
+use Rattle.vt_limit_laws.proofs.Outcomes.{policy_by_judgement, refused_call}
+use Rattle.vt_limit_laws.proofs.StackedMounts.{IsStack, judged_by_room, mounted_world, mounts_after, one_more_mount}
+use Rattle.vt_limit_laws.proofs.TopmostGrows.{topmost_is_new, topmost_of_free}
+
+-- a filesystem with a directory is found where another comes last
+pub filesystem_stays : (world : World ℕ) (added : Filesystem ℕ) (number node : ℕ)
+    → is_directory_node ((filesystem_numbered nat_eq world number).files.tree.node node) ≡ true
+    → filesystem_numbered nat_eq (record world { filesystems = world.filesystems ++ (added ∷ []) }) number
+    ≡ filesystem_numbered nat_eq world number
+filesystem_stays world added number node directory = by (find has_number world.filesystems) refl
+  where
+    has_number : Filesystem ℕ → Bool
+    has_number filesystem = nat_eq number filesystem.number
+
+    by : (found : Option (Filesystem ℕ)) → find has_number world.filesystems ≡ found
+        → unwrap_or (find has_number (world.filesystems ++ (added ∷ []))) (no_filesystem number)
+        ≡ unwrap_or (find has_number world.filesystems) (no_filesystem number)
+    by None e =
+        absurd (true≢false (sym directory
+        ∙ ap (λ found. is_directory_node ((unwrap_or found (no_filesystem number)).files.tree.node node)) e))
+    by (Some filesystem) e =
+        ap (λ found. unwrap_or found (no_filesystem number))
+        (find-append has_number world.filesystems (added ∷ [])
+        ∙ ap (λ found. option_or found (find has_number (added ∷ []))) e ∙ sym e)
+
+-- where no filesystem changed, all keep their change numbers
+filesystems_not_raised : (filesystems : List (Filesystem ℕ)) → map (raised_if_changed nat_eq []) filesystems ≡ filesystems
+filesystems_not_raised [] = refl
+filesystems_not_raised (filesystem ∷ rest) = ap (λ others. filesystem ∷ others) (filesystems_not_raised rest)
+
+-- of a task whose change number is raised nothing else changes
+raised_task_is : (name : TaskName) (task : Task ℕ)
+    → (change : ℕ) × (raised_task name task ≡ record task { change = change })
+raised_task_is name task = by (same_name name task.name)
+  where
+    by : (b : Bool) → (change : ℕ)
+        × ((cond b (record task { change = raised task.change }) task) ≡ record task { change = change })
+    by true = (raised task.change, refl)
+    by false = (task.change, refl)
+
+module _ (world : World ℕ) (name : TaskName) (path word : List ℕ) (one : HasOneWord path word) (count : ℕ)
+    (stack : IsStack world name word count) (fresh : Fresh ℕ) (flags : MountFlags) where
+  -- a full namespace refuses one more mount
+  pub full_stack_refuses : most_mounts ≤ count
+      → policy nat_eq fresh world name (MountPlain path flags) ≡ denied world (denial M9)
+  full_stack_refuses full =
+      refused_call world fresh name stack.task (MountPlain path flags) stack.called (denial M9)
+      (judged_by_room world name path word one count stack fresh flags
+      ∙ ap (λ b. unless ((b, M9) ∷ []) (Ok (ToMountPlain stack.top flags))) over)
+    where
+      over : nat_lt most_mounts (suc count) ≡ true
+      over = grind (arith, nat_tests)
+
+  module _ (serves : Serves nat_eq world fresh) (room : count < most_mounts) where
+    abbrev task : Task ℕ
+    task = stack.task
+
+    abbrev new : Mount ℕ
+    new = added_mount fresh world stack.top flags
+
+    abbrev added : Filesystem ℕ
+    added = added_filesystem fresh world stack.top flags
+
+    abbrev mounted : World ℕ
+    mounted = mounted_world world name path word one count stack fresh flags
+
+    -- the world after the call
+    abbrev pub stacked_world : World ℕ
+    stacked_world = numbers_raised nat_eq world name [] (mounted_world world name path word one count stack fresh flags)
+
+    nothing_goes : settled nat_eq mounted ≡ mounted
+    nothing_goes =
+        new_mounts_of_trees_keep_all fresh world stack.task stack.top flags (all_in_use world stack.is)
+        (mounts_of_worlds_stand world stack.is) (locations_of_worlds_stand world stack.is)
+        (ap is_some stack.inside)
+
+    -- the call is granted
+    pub stack_grows : policy nat_eq fresh world name (MountPlain path flags) ≡ granted Done stacked_world
+    stack_grows =
+        policy_by_judgement world fresh name stack.task (MountPlain path flags) stack.called
+        (Ok (ToMountPlain stack.top flags))
+        (judged_by_room world name path word one count stack fresh flags
+        ∙ ap (λ b. unless ((b, M9) ∷ []) (Ok (ToMountPlain stack.top flags))) below)
+        ∙ ap (λ left. granted Done (numbers_raised nat_eq world name [] left)) nothing_goes
+      where
+        below : nat_lt most_mounts (suc count) ≡ false
+        below = grind (arith, nat_tests)
+
+    kept : IsWorld nat_eq stacked_world × IsPlain stacked_world
+    kept =
+        subst (λ (left : World ℕ). IsWorld nat_eq left × IsPlain left) (ap (λ outcome. outcome.world) stack_grows)
+        (calls_keep_worlds world fresh name (MountPlain path flags) stack.is stack.plain serves refl refl)
+
+    -- Mounts
+    mounts_are : stacked_world.mounts ≡ world.mounts ++ (new ∷ [])
+    mounts_are = mounts_after world name path word one count stack fresh flags
+
+    number_is_new : (number : ℕ) → Among number (numbers_of world.mounts) → nat_eq number new.number ≡ false
+    number_is_new number m = number_is_old world fresh serves number m _
+
+    -- a mount of the world has another number than the new one
+    other_number : (number : ℕ) → is_mount world number ≡ true → nat_eq number new.number ≡ false
+    other_number number is = number_is_new number (among_numbers (numbers_of world.mounts) number is)
+
+    -- a mount in a namespace is one of the world
+    attached_is_mount : (number : ℕ) → is_some (mount_numbered nat_eq world number).namespace ≡ true
+        → is_mount world number ≡ true
+    attached_is_mount number attached =
+        subst (λ n. is_mount world n ≡ true) (number-mount_in world.mounts number)
+        (is_one_of world.mounts (mount_numbered nat_eq world number) (found_is_there world.mounts number attached))
+
+    new_is_there : Among new stacked_world.mounts
+    new_is_there = subst (Among new) (sym mounts_are) (among-append_right world.mounts (new ∷ []) new (inl refl))
+
+    new_is_found : mount_numbered nat_eq stacked_world new.number ≡ new
+    new_is_found = found_itself stacked_world.mounts kept.0.mounts.one_number new new_is_there
+
+    -- Filesystems
+    filesystems_are : stacked_world.filesystems ≡ world.filesystems ++ (added ∷ [])
+    filesystems_are = filesystems_not_raised (world.filesystems ++ (added ∷ []))
+
+    added_is_found : filesystem_numbered nat_eq stacked_world added.number ≡ added
+    added_is_found =
+        found_filesystem stacked_world.filesystems kept.0.files.one_filesystem added
+        (subst (Among added) (sym filesystems_are) (among-append_right world.filesystems (added ∷ []) added (inl refl)))
+
+    new_node : node_at nat_eq stacked_world (root_of new) ≡ added.files.tree.node new.root
+    new_node =
+        ap (λ (mount : Mount ℕ). (filesystem_numbered nat_eq stacked_world mount.filesystem).files.tree.node new.root)
+        new_is_found
+        ∙ ap (λ (filesystem : Filesystem ℕ). filesystem.files.tree.node new.root) added_is_found
+
+    -- the topmost mount
+    top_is_free : child_at nat_eq world.mounts stack.top ≡ None
+    top_is_free =
+        ap (child_at nat_eq world.mounts) (sym stack.way.leads) ∙ topmost_is_free world _ stack.is.mounts
+
+    nothing_on_new : child_at nat_eq world.mounts (root_of new) ≡ None
+    nothing_on_new = by (child_at nat_eq world.mounts (root_of new)) refl
+      where
+        by : (found : Option (Mount ℕ)) → child_at nat_eq world.mounts (root_of new) ≡ found
+            → child_at nat_eq world.mounts (root_of new) ≡ None
+        by None e = e
+        by (Some child) e =
+            let found = found_in (stands_at nat_eq (root_of new)) world.mounts child e in
+            let attached = place_attached world (mounts_of_worlds_stand world stack.is) child found.0 (root_of new)
+            (stands_there (root_of new) child found.1) in
+            absurd (true≢false (sym (eq-eqb new.number new.number refl)
+            ∙ other_number new.number (attached_is_mount new.number attached)))
+
+    new_stands_apart : stands_at nat_eq (root_of new) new ≡ false
+    new_stands_apart =
+        ap (λ b. b && nat_eq new.root stack.top.node)
+        (nat_eq_false_turned stack.top.mount new.number
+        (other_number stack.top.mount (attached_is_mount stack.top.mount (ap is_some stack.inside))))
+
+    place : Location ℕ
+    place = record { mount = stack.task.root.mount; node = stack.object }
+
+    new_is_topmost : topmost nat_eq stacked_world.mounts (record { mount = stack.task.root.mount; node = stack.object })
+        ≡ root_of new
+    new_is_topmost =
+        ap (λ mounts. topmost nat_eq mounts (record { mount = stack.task.root.mount; node = stack.object })) mounts_are
+        ∙ topmost_is_new world.mounts new stack.top _ stack.way.leads top_is_free (same_location_itself stack.top)
+        nothing_on_new new_stands_apart
+
+    new_is_free : topmost nat_eq stacked_world.mounts (root_of new) ≡ root_of new
+    new_is_free =
+        topmost_of_free stacked_world.mounts (root_of new)
+        (ap (child_at nat_eq stacked_world.mounts) (sym new_is_topmost) ∙ topmost_is_free stacked_world _ kept.0.mounts)
+
+    -- the task
+    called_by_its_name : task_called world stack.task.name ≡ Some stack.task
+    called_by_its_name =
+        ap (task_called world)
+        (sym (same_task_name name stack.task.name (found_passes _ world.tasks stack.task stack.called)))
+        ∙ stack.called
+
+    root_mount_stays : mount_at nat_eq stacked_world stack.task.root ≡ mount_at nat_eq world stack.task.root
+    root_mount_stays =
+        ap (λ mounts. mount_in nat_eq mounts stack.task.root.mount) mounts_are
+        ∙ found-append world.mounts (new ∷ []) stack.task.root.mount
+        (root_found world stack.is stack.task called_by_its_name).0.0
+
+    root_stays : node_at nat_eq stacked_world stack.task.root ≡ node_at nat_eq world stack.task.root
+    root_stays =
+        ap (λ (mount : Mount ℕ).
+        (filesystem_numbered nat_eq stacked_world mount.filesystem).files.tree.node stack.task.root.node) root_mount_stays
+        ∙ ap (λ filesystems. (filesystem_numbered nat_eq (record world { filesystems = filesystems })
+        (mount_at nat_eq world stack.task.root).filesystem).files.tree.node stack.task.root.node) filesystems_are
+        ∙ ap (λ (filesystem : Filesystem ℕ). filesystem.files.tree.node stack.task.root.node)
+        (filesystem_stays world added (mount_at nat_eq world stack.task.root).filesystem stack.task.root.node
+        stack.way.root)
+
+    -- the stack has the new mount on its top
+    pub grown_stack : IsStack stacked_world name word (suc count)
+    grown_stack = by (raised_task_is name stack.task)
+      where
+        is_directory : is_directory_at nat_eq stacked_world (root_of new) ≡ true
+        is_directory =
+            ap is_directory_node new_node
+            ∙ ap (λ b. is_directory_node
+            (cond b (Some (record { attr = root_attr; content = new_directory new.root })) None))
+            (eq-eqb new.root new.root refl)
+
+        is_not_removed : is_removed_at nat_eq stacked_world (root_of new) ≡ false
+        is_not_removed =
+            ap (λ (mount : Mount ℕ). is_removed nat_eq
+            (filesystem_numbered nat_eq stacked_world mount.filesystem).files.tree new.root) new_is_found
+            ∙ ap (λ (filesystem : Filesystem ℕ). is_removed nat_eq filesystem.files.tree new.root) added_is_found
+            ∙ ap (λ b. not (b || is_some (named_parent nat_eq added.files.tree new.root))) (eq-eqb new.root new.root refl)
+
+        by : (change : ℕ) × (raised_task name stack.task ≡ record stack.task { change = change })
+            → IsStack stacked_world name word (suc count)
+        by task_is = record {
+          is = kept.0;
+          plain = kept.1;
+          task = record stack.task { change = task_is.0 };
+          called = called_raised name name stack.task world.tasks stack.called ∙ ap (λ task. Some task) task_is.1;
+          admin = stack.admin;
+          object = stack.object;
+          top = root_of new;
+          way = record {
+            root = ap is_directory_node root_stays ∙ stack.way.root;
+            plain = plain_numbered stacked_world kept.1 _;
+            searches = ap (node_allows stack.task.credentials execute_right) root_stays ∙ stack.way.searches;
+            entry = ap (λ node. entry_named word (entries_in node)) root_stays ∙ stack.way.entry;
+            leads = new_is_topmost;
+            ends = new_is_free;
+            directory = is_directory;
+            stays = is_not_removed;
+          };
+          private = ap (λ (mount : Mount ℕ). mount.propagation) new_is_found;
+          inside = ap (λ (mount : Mount ℕ). mount.namespace) new_is_found ∙ stack.inside;
+          counted = one_more_mount world name path word one count stack fresh flags;
+        }

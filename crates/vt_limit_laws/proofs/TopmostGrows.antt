@@ -1,0 +1,83 @@
+-- The topmost mount over a place once one more mount is stacked there.
+use Rattle.std.proofs.Common.{◌≡◌, refl, sym, ap, ◌∙◌, ℕ, zero, suc, nat_eq, Bool, true, false, cond, List, [], ◌∷◌, ◌++◌, Option, None, Some, find, length, option_map, arith}
+use Rattle.std.proofs.lemmas.List.{length-append}
+use Rattle.std.proofs.lemmas.List.Folds.{find-append}
+use Rattle.std.specs.Option.{option_or}
+use Rattle.vt_spec.specs.Lists.{chain, last_or}
+use Rattle.vt_spec.specs.Machine.Mounts.{Location, Mount, child_at, root_of, stands_at, topmost}
+use Rattle.vt_spec.proofs.Lists.{chain_ends, chain_goes_on}
+use Rattle.vt_spec.proofs.Options.{none_is_some}
+
+-- a chain that ended goes on by one step
+module _ {A : Type 0} (step grown : A → Option A) (end next : A)
+    (kept : (a b : A) → step a ≡ Some b → grown a ≡ Some b) (ended : grown end ≡ Some next)
+    (ends : grown next ≡ None) where
+  one_more_step : (n : ℕ) (a d : A) → a ≡ end → last_or d (chain (suc n) grown a) ≡ next
+  one_more_step zero a d is =
+      ap (last_or d) (chain_goes_on grown zero a next (ap grown is ∙ ended))
+  one_more_step (suc n) a d is =
+      ap (last_or d)
+      (chain_goes_on grown (suc n) a next (ap grown is ∙ ended) ∙ ap (λ rest. a ∷ rest) (chain_ends grown n next ends))
+
+  pub chain_grows : (n : ℕ) (a d e : A) → last_or d (chain n step a) ≡ end → last_or e (chain (suc n) grown a) ≡ next
+  chain_grows zero a d e is = one_more_step zero a e is
+  chain_grows (suc n) a d e is = by (step a) refl (chain_grows n)
+    where
+      by : (o : Option A) → step a ≡ o
+          → ((b f g : A) → last_or f (chain n step b) ≡ end → last_or g (chain (suc n) grown b) ≡ next)
+          → last_or e (chain (suc (suc n)) grown a) ≡ next
+      by None found later =
+          one_more_step (suc n) a e (sym (ap (last_or d) (chain_ends step n a found)) ∙ is)
+      by (Some b) found later =
+          ap (last_or e) (chain_goes_on grown (suc n) a b (kept a b found))
+          ∙ later b a a (sym (ap (last_or d) (chain_goes_on step n a b found)) ∙ is)
+
+module _ (mounts : List (Mount ℕ)) (new : Mount ℕ) (top : Location ℕ) where
+  abbrev step_up : List (Mount ℕ) → Location ℕ → Option (Location ℕ)
+  step_up list here = option_map root_of (child_at nat_eq list here)
+
+  -- a child that there was is found first
+  child_stays : (here : Location ℕ) (child : Mount ℕ) → child_at nat_eq mounts here ≡ Some child
+      → child_at nat_eq (mounts ++ (new ∷ [])) here ≡ Some child
+  child_stays here child is =
+      find-append (stands_at nat_eq here) mounts (new ∷ [])
+      ∙ ap (λ found. option_or found (find (stands_at nat_eq here) (new ∷ []))) is
+
+  -- where no child was, the new mount is one if it stands there
+  child_alone : (here : Location ℕ) (stands : Bool) → child_at nat_eq mounts here ≡ None
+      → stands_at nat_eq here new ≡ stands
+      → child_at nat_eq (mounts ++ (new ∷ [])) here ≡ cond stands (Some new) None
+  child_alone here stands none is =
+      find-append (stands_at nat_eq here) mounts (new ∷ [])
+      ∙ ap (λ found. option_or found (find (stands_at nat_eq here) (new ∷ []))) none
+      ∙ ap (λ b. cond b (Some new) None) is
+
+  -- a mount on the root of the topmost one is the topmost
+  pub topmost_is_new : (place : Location ℕ) → topmost nat_eq mounts place ≡ top → child_at nat_eq mounts top ≡ None
+      → stands_at nat_eq top new ≡ true → child_at nat_eq mounts (root_of new) ≡ None
+      → stands_at nat_eq (root_of new) new ≡ false → topmost nat_eq (mounts ++ (new ∷ [])) place ≡ root_of new
+  topmost_is_new place is free stands nothing apart =
+      let counted = length-append mounts (new ∷ []) in
+      let longer : length (mounts ++ (new ∷ [])) ≡ suc (length mounts) = omega arith in
+      ap (λ n. last_or place (chain n (step_up (mounts ++ (new ∷ []))) place)) longer
+      ∙ chain_grows (step_up mounts) (step_up (mounts ++ (new ∷ []))) top (root_of new) kept
+      (ap (option_map root_of) (child_alone top true free stands))
+      (ap (option_map root_of) (child_alone (root_of new) false nothing apart)) (length mounts) place place place is
+    where
+      kept : (a b : Location ℕ) → step_up mounts a ≡ Some b → step_up (mounts ++ (new ∷ [])) a ≡ Some b
+      kept a b e = by (child_at nat_eq mounts a) refl e
+        where
+          by : (o : Option (Mount ℕ)) → child_at nat_eq mounts a ≡ o → option_map root_of o ≡ Some b
+              → step_up (mounts ++ (new ∷ [])) a ≡ Some b
+          by None found is = none_is_some b is
+          by (Some child) found is = ap (option_map root_of) (child_stays a child found) ∙ is
+
+-- the topmost mount over a free place is that place
+pub topmost_of_free : (mounts : List (Mount ℕ)) (place : Location ℕ) → child_at nat_eq mounts place ≡ None
+    → topmost nat_eq mounts place ≡ place
+topmost_of_free mounts place free = by (length mounts)
+  where
+    by : (n : ℕ) → last_or place (chain n (λ here. option_map root_of (child_at nat_eq mounts here)) place) ≡ place
+    by zero = refl
+    by (suc n) = ap (last_or place)
+        (chain_ends (λ here. option_map root_of (child_at nat_eq mounts here)) n place (ap (option_map root_of) free))

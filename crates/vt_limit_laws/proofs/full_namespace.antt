@@ -1,0 +1,2 @@
+-- What the proofs of src/full_namespace.rt use.
+pub mod FilledNamespace

@@ -1,0 +1,11 @@
+//! Worked examples of full namespaces, by induction over their lines.
+ghost use Rattle.vt_limit_laws.specs.FullNamespaces.{FillsItsNamespace, FullNamespaceRefuses, LastOfManyMountsIsRefused};
+
+/// Mounts are stacked on one directory, each on the one before. A namespace holds at most 4,096 mounts, its root mount
+/// among them: each mount within that number is granted, and any further one is refused by M9, ENOSPC of mount(2), and
+/// changes nothing.
+pub fn a_namespace_is_filled_line_by_line()
+    ensures within { FillsItsNamespace }
+    ensures beyond { FullNamespaceRefuses }
+    ensures last { LastOfManyMountsIsRefused }
+{}
