@@ -21,14 +21,13 @@ use Rattle.vt_spec.specs.Machine.Filesystems.{raised}
 use Rattle.vt_spec.specs.Machine.Rightful.{node_allows}
 use Rattle.vt_spec.specs.Machine.Run.{Serves}
 use Rattle.vt_spec.specs.Machine.Settled.{settled}
-use Rattle.vt_spec.specs.Machine.World.{Filesystem, Task, World, filesystem_numbered, is_directory_at, is_removed_at, mount_at, mount_numbered, no_filesystem, node_at, root_attr, task_called}
+use Rattle.vt_spec.specs.Machine.World.{Filesystem, Task, World, filesystem_numbered, is_directory_at, is_removed_at, mount_at, mount_numbered, no_filesystem, node_at, root_attr}
 use Rattle.vt_spec.specs.Rights.{execute_right}
 use Rattle.vt_spec.specs.Tree.{entries_in, entry_named, is_directory_node, new_directory}
 use Rattle.vt_spec.specs.FileTree.{is_removed, named_parent}
-use Rattle.vt_spec.proofs.Found.{found_passes}
 use Rattle.vt_spec.proofs.Lists.{Among, among-append_right, among_numbers}
 use Rattle.vt_spec.proofs.Truths.{nat_eq_false_turned}
-use Rattle.vt_spec.proofs.Worlds.{number-mount_in, same_task_name}
+use Rattle.vt_spec.proofs.Worlds.{number-mount_in}
 use Rattle.vt_mount_laws.specs.Mounts.Attaching.{is_mount, numbers_of}
 use Rattle.vt_mount_laws.proofs.mounts.MountsFound.{found_in}
 use Rattle.vt_mount_laws.proofs.mounts.MountsNumbered.{is_one_of, number_is_old}
@@ -45,7 +44,7 @@ use Rattle.vt_world_laws.proofs.worlds.ReachedWalks.{root_found}
 use Rattle.vt_later_laws.proofs.Granted.{called_raised}
 use Rattle.vt_limit_laws.proofs.AddedMount.{added_filesystem, added_mount}
 use Rattle.vt_limit_laws.proofs.OneWordWalks.{HasOneWord}
-use Rattle.vt_limit_laws.proofs.Outcomes.{policy_by_judgement, refused_call}
+use Rattle.vt_limit_laws.proofs.Outcomes.{called_by_its_name, policy_by_judgement, refused_call}
 use Rattle.vt_limit_laws.proofs.StackedMounts.{IsStack, judged_by_room, mounted_world, mounts_after, one_more_mount}
 use Rattle.vt_limit_laws.proofs.TopmostGrows.{topmost_is_new, topmost_of_free}
 
@@ -216,18 +215,12 @@ module _ (world : World ℕ) (name : TaskName) (path word : List ℕ) (one : Has
         topmost_of_free stacked_world.mounts (root_of new)
         (ap (child_at nat_eq stacked_world.mounts) (sym new_is_topmost) ∙ topmost_is_free stacked_world _ kept.0.mounts)
 
-    -- the task
-    called_by_its_name : task_called world stack.task.name ≡ Some stack.task
-    called_by_its_name =
-        ap (task_called world)
-        (sym (same_task_name name stack.task.name (found_passes _ world.tasks stack.task stack.called)))
-        ∙ stack.called
-
+    -- the task's root
     root_mount_stays : mount_at nat_eq stacked_world stack.task.root ≡ mount_at nat_eq world stack.task.root
     root_mount_stays =
         ap (λ mounts. mount_in nat_eq mounts stack.task.root.mount) mounts_are
         ∙ found-append world.mounts (new ∷ []) stack.task.root.mount
-        (root_found world stack.is stack.task called_by_its_name).0.0
+        (root_found world stack.is stack.task (called_by_its_name world name stack.task stack.called)).0.0
 
     root_stays : node_at nat_eq stacked_world stack.task.root ≡ node_at nat_eq world stack.task.root
     root_stays =

@@ -1,1 +1,2 @@
 pub mod FullNamespaces
+pub mod Room

@@ -1,3 +1,4 @@
+pub mod Counting
 pub mod Groups
 pub mod GroupsKept
 pub mod GroupsLiving

@@ -1,0 +1,3 @@
+-- What the proofs of src/room.rt use.
+pub mod Counted
+pub mod Refused
