@@ -1,6 +1,6 @@
 -- Laws of tasks: what they are after a call.
 use Rattle.std.specs.Prelude.{Bool, Contains, List, None, Ok, Option, Some, false, nat_eq, true, ℕ, ◌≡◌, ◌≢◌, ◌⊎◌}
-use Rattle.vt_spec.specs.Language.Calls.{Access, Call, CapabilityWord, Creation, ForkWords, TaskName}
+use Rattle.vt_spec.specs.Language.Calls.{Access, Call, CapabilityWord, Creation, ForkWords, TaskName, opens_for_reading, opens_for_writing}
 use Rattle.vt_spec.specs.Language.Calls.Call.{Chdir, Chroot, Drop, Exit, Fork, OpenFile, PivotRoot, Setns, Umask, Unshare}
 use Rattle.vt_spec.specs.Machine.Judge.{judge_in}
 use Rattle.vt_spec.specs.Lists.{Fresh}
@@ -35,7 +35,7 @@ MayGive caller child =
 abbrev pub Opens : Call → Descriptor ℕ → Type 0
 Opens call descriptor =
     (path : List ℕ) × (access : Access) × (creation : Creation) × (call ≡ OpenFile path access creation)
-    × (descriptor.reads ≡ access.reads) × (descriptor.writes ≡ access.writes)
+    × (descriptor.reads ≡ opens_for_reading access) × (descriptor.writes ≡ opens_for_writing access)
 
 module _ (fresh : Fresh ℕ) (world : World ℕ) (name : TaskName) (call : Call) where
   -- the task as it is after the call

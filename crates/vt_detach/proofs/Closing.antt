@@ -3,7 +3,7 @@ use Rattle.std.proofs.Common.{◌≡◌, ◌<◌, refl, sym, ap, subst, ◌∙�
 use Rattle.std.specs.Option.{option_and_then}
 use Rattle.std.proofs.lemmas.Bool.{and_parts, eqb-true, leb-true}
 use Rattle.std.proofs.lemmas.List.{map-append}
-use Rattle.vt_spec.specs.Language.Calls.{TaskName}
+use Rattle.vt_spec.specs.Language.Calls.{TaskName, opens_for_writing}
 use Rattle.vt_spec.specs.Machine.Mounts as meant
 use Rattle.vt_spec.specs.Machine.Outcome.Descriptors.{without_descriptor}
 use Rattle.vt_spec.specs.Machine.Permits.Permit.{ToClose}
@@ -146,7 +146,7 @@ pub file_is_closed : (value : WorldValue) (name : TaskName) (number : ℕ) (clos
     → Some (numbered number closed)
     ≡ option_and_then (λ task. descriptor_numbered task number) (called name value.tasks)
     → tasks ≡ changed_called name (λ task. without_descriptor task number) value.tasks
-    → kept mounts filesystems ≡ without_location closed.location (access_of closed.access).writes
+    → kept mounts filesystems ≡ without_location closed.location (opens_for_writing (access_of closed.access))
     (kept value.mounts value.filesystems)
     → IsDone value name (ToClose number) (remade value mounts filesystems tasks)
 file_is_closed value name number closed mounts filesystems tasks whole permits few rising was is is_kept =
@@ -170,7 +170,7 @@ file_is_closed value name number closed mounts filesystems tasks whole permits f
     (is_kept ∙ (λ i. let_go_mount (counted closed.location.mount.count)
     (released_use (counted closed.location.mount.count)
     (sym (seen_where_located value whole closed.location few well) i, number_of closed.location.node)
-    (access_of closed.access).writes (kept value.mounts value.filesystems))))
+    (opens_for_writing (access_of closed.access)) (kept value.mounts value.filesystems))))
     name (ToClose number) task (record { called = permits.called; given = permits.given; named = refl; applied = λ fresh. refl })
     (same_tasks value whole name task permits.called number (numbered number closed) goes))
 

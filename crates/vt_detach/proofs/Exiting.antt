@@ -5,7 +5,7 @@ use Rattle.std.specs.List.{list_all, list_any}
 use Rattle.std.proofs.lemmas.Bool.{and_parts, ltb-true, or_parts}
 use Rattle.std.proofs.lemmas.Option.{same_Some}
 use Rattle.std.proofs.lemmas.Grind.{flat_map-append}
-use Rattle.vt_spec.specs.Language.Calls.{TaskName, same_name}
+use Rattle.vt_spec.specs.Language.Calls.{TaskName, opens_for_writing, same_name}
 use Rattle.vt_spec.specs.Lists.{folded}
 use Rattle.vt_spec.specs.Machine.Mounts as meant
 use Rattle.vt_spec.specs.Machine.Namespaces.{has_tasks, namespaces_ended}
@@ -159,7 +159,8 @@ left_so value whole at writes k few well =
 pub files_left_so : (value : WorldValue) → IsHeld value
     → (files : List OpenFile) (descriptors : List (Descriptor ℕ)) (k : Kept)
     → map (λ (file : OpenFile). location_of file.location) files ≡ map (λ (d : Descriptor ℕ). d.location) descriptors
-    → map (λ (file : OpenFile). (access_of file.access).writes) files ≡ map (λ (d : Descriptor ℕ). d.writes) descriptors
+    → map (λ (file : OpenFile). opens_for_writing (access_of file.access)) files
+    ≡ map (λ (d : Descriptor ℕ). d.writes) descriptors
     → list_all has_slot files ≡ true
     → ((location : meant.Location ℕ) → Among location (map place descriptors)
     → is_located_well nat_eq (world_of value) location ≡ true)
@@ -171,12 +172,12 @@ files_left_so value whole (file ∷ files) (d ∷ ds) k places writes slots well
     let at : location_of file.location ≡ d.location = cc in
     let rest : map (λ (file : OpenFile). location_of file.location) files
     ≡ map (λ (d : Descriptor ℕ). d.location) ds = cc in
-    let write : (access_of file.access).writes ≡ d.writes = cc in
-    let later : map (λ (file : OpenFile). (access_of file.access).writes) files
+    let write : opens_for_writing (access_of file.access) ≡ d.writes = cc in
+    let later : map (λ (file : OpenFile). opens_for_writing (access_of file.access)) files
     ≡ map (λ (d : Descriptor ℕ). d.writes) ds = cc in
     let few = and_parts (has_slot file) (list_all has_slot files) slots in
     let here : without_file k file ≡ leave_use (world_of value) k (used_by d) =
-    left_so value whole file.location (access_of file.access).writes k
+    left_so value whole file.location (opens_for_writing (access_of file.access)) k
     (ltb-true file.location.node.slot 18446744073709551616 few.0)
     (ap (is_located_well nat_eq (world_of value)) at ∙ well d.location (inl refl))
     ∙ (λ i. leave_use (world_of value) k (record { location = at i; writes = write i })) in
@@ -191,7 +192,7 @@ pub record LeavesAll (old : Kept) (task : Held) (files : List OpenFile) (left : 
   pub slots : list_all has_slot files ≡ true
   pub places : map (λ (file : OpenFile). location_of file.location) files
       ≡ map (λ (d : Descriptor ℕ). d.location) (task_of task).descriptors
-  pub writes : map (λ (file : OpenFile). (access_of file.access).writes) files
+  pub writes : map (λ (file : OpenFile). opens_for_writing (access_of file.access)) files
       ≡ map (λ (d : Descriptor ℕ). d.writes) (task_of task).descriptors
   pub is : left ≡ fold without_file (without_location task.directory false (without_location task.root false old)) files
 

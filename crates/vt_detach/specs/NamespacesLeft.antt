@@ -7,6 +7,7 @@ use Rattle.vt_location.specs.Locations.{location_of}
 use Rattle.vt_group.specs.Grouping.{Grouping}
 use Rattle.vt_group.specs.Together.{TakesAway}
 use Rattle.vt_mount.specs.MountsValue.{MountEntry, entry_numbered, mounts_in}
+use Rattle.vt_spec.specs.Language.Calls.{opens_for_writing}
 use Rattle.vt_spec.specs.Lists.{holds_of}
 use Rattle.vt_request.specs.Requests.{access_of}
 use Rattle.vt_tasks.specs.declared.descriptors.OpenFile.{OpenFile}
@@ -93,7 +94,7 @@ MountsAreLeft namespace (Some entry) old before new now = EndsIf (has_one_task e
 
 -- one use less for an open file
 abbrev pub without_file : Kept → OpenFile → Kept
-without_file k file = without_location file.location (access_of file.access).writes k
+without_file k file = without_location file.location (opens_for_writing (access_of file.access)) k
 
 abbrev pub has_slot : OpenFile → Bool
 has_slot file = nat_lt file.location.node.slot 18446744073709551616

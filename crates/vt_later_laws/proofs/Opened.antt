@@ -5,7 +5,7 @@ use Rattle.std.proofs.lemmas.Slice.Eq.{bytes_eq-Decides}
 use Rattle.std.specs.Prelude.{nat_le}
 use Rattle.vt_spec.specs.declared.errors.Deny.{Deny}
 use Rattle.vt_spec.specs.Machine.Apply.{apply}
-use Rattle.vt_spec.specs.Language.Calls.{Access, TaskName, same_name}
+use Rattle.vt_spec.specs.Language.Calls.{Access, TaskName, opens_for_writing, same_name}
 use Rattle.vt_spec.specs.Language.Calls.Creation.{NoCreation}
 use Rattle.vt_spec.specs.Machine.Judge.{open_permit}
 use Rattle.vt_spec.specs.Lists.{Fresh}
@@ -134,8 +134,8 @@ pub open_spent : (fresh : Fresh ℕ) (world : World ℕ) (plain : IsPlain world)
     (access : Access) → apply nat_eq fresh world task (ToOpen file access) ≡ opened world task file access
 open_spent fresh world plain task file access =
     ap (λ b. opened (with_copy nat_eq b fresh world file) task file access)
-    (ap (λ o. access.writes && overlay_or false (λ overlay. lies_below overlay file.node) o)
-    (plain_numbered world plain (mount_at nat_eq world file).filesystem) ∙ and-false access.writes)
+    (ap (λ o. opens_for_writing access && overlay_or false (λ overlay. lies_below overlay file.node) o)
+    (plain_numbered world plain (mount_at nat_eq world file).filesystem) ∙ and-false (opens_for_writing access))
 
 pub opened_number : (a b : ℕ) → Path (Result Answer Deny) (Ok (Opened a)) (Ok (Opened b)) → b ≡ a
 opened_number a b e = sym (ap of_answer e)

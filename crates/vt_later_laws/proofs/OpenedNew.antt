@@ -4,7 +4,7 @@ use Rattle.std.proofs.lemmas.Option.{same_Some}
 use Rattle.vt_spec.specs.FileTree.{FileTree}
 use Rattle.vt_spec.specs.Language.Answers.{Answer}
 use Rattle.vt_spec.specs.Language.Answers.Answer.{Bytes, Opened}
-use Rattle.vt_spec.specs.Language.Calls.{Access, Call, Creation, TaskName, same_name}
+use Rattle.vt_spec.specs.Language.Calls.{Access, Call, Creation, TaskName, opens_for_reading, opens_for_writing, same_name}
 use Rattle.vt_spec.specs.Language.Calls.Call.{OpenFile}
 use Rattle.vt_spec.specs.Language.Calls.Creation.{Exclusive, NoCreation, OrCreate}
 use Rattle.vt_spec.specs.Language.Changes.{changed, with_inode}
@@ -70,7 +70,12 @@ module _ (world : World ℕ) (fresh : Fresh ℕ) (name : TaskName) (task : Task 
 
   abbrev new_descriptor : Descriptor ℕ
   new_descriptor =
-      record { number = free_number task; location = file; reads = access.reads; writes = access.writes }
+      record {
+        number = free_number task;
+        location = file;
+        reads = opens_for_reading access;
+        writes = opens_for_writing access;
+      }
 
   spent : (apply nat_eq fresh world did.task did.permit).world ≡ with_task base new_task
   spent = ap (λ (o : Outcome ℕ). o.world) outcome
@@ -108,10 +113,20 @@ module _ (world : World ℕ) (fresh : Fresh ℕ) (name : TaskName) (task : Task 
   opens_file = (is_free, (raised_task name new_task, still, numbered_so))
     where
       numbered_so : descriptor_numbered (raised_task name new_task) number
-          ≡ Some (record { number = number; location = file; reads = access.reads; writes = access.writes })
+          ≡ Some (record {
+            number = number;
+            location = file;
+            reads = opens_for_reading access;
+            writes = opens_for_writing access;
+          })
       numbered_so =
           subst (λ n. descriptor_numbered (raised_task name new_task) number
-          ≡ Some (record { number = n; location = file; reads = access.reads; writes = access.writes })) (sym is_free)
+          ≡ Some (record {
+            number = n;
+            location = file;
+            reads = opens_for_reading access;
+            writes = opens_for_writing access;
+          })) (sym is_free)
           still_found
 
   pub reads_by : ReadsBy world fresh name call access number (bytes_in (node_at nat_eq base file))

@@ -1,6 +1,6 @@
 -- What later calls see of an earlier one, in a world that has the invariants, and no overlay.
 use Rattle.std.specs.Prelude.{List, None, Ok, Some, [], drop, length, nat_eq, take, true, ℕ, ◌≡◌}
-use Rattle.vt_spec.specs.Language.Calls.{Access, Call, TaskName}
+use Rattle.vt_spec.specs.Language.Calls.{Access, Call, TaskName, opens_for_reading, opens_for_writing}
 use Rattle.vt_spec.specs.Language.Calls.Call.{OpenFile, Pread, Pwrite}
 use Rattle.vt_spec.specs.Language.Calls.Creation.{Exclusive, NoCreation, OrCreate}
 use Rattle.vt_spec.specs.Lists.{Fresh}
@@ -50,12 +50,12 @@ abbrev pub OpensFile : World ℕ → Fresh ℕ → TaskName → Task ℕ → Cal
 OpensFile world fresh name task call file access number =
     (number ≡ free_number task)
     × HasDescriptor (policy nat_eq fresh world name call).world name
-    (record { number = number; location = file; reads = access.reads; writes = access.writes })
+    (record { number = number; location = file; reads = opens_for_reading access; writes = opens_for_writing access })
 
 -- pread tells these bytes by it
 abbrev pub ReadsBy : World ℕ → Fresh ℕ → TaskName → Call → Access → ℕ → List ℕ → Type 0
 ReadsBy world fresh name call access number bytes =
-    access.reads ≡ true → (offset size : ℕ)
+    opens_for_reading access ≡ true → (offset size : ℕ)
     → IsAnswered (policy nat_eq fresh world name call).world name (Pread number offset size)
     (Bytes (take size (drop offset bytes)))
 

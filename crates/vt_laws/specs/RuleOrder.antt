@@ -6,7 +6,7 @@ use Rattle.vt_spec.specs.declared.errors.Deny.{Deny}
 use Rattle.vt_spec.specs.declared.errors.Rule.{Rule}
 use Rattle.vt_spec.specs.declared.errors.Rule.TheVariants.{B1, B2, C1, C2, C3, E1, E2, E3, E4, E5, E6, E7, E8, E9, F1, F2, F3, K1, L1, M10, M11, M12, M2, M3, M4, M5, M6, M7, M8, M9, O1, O2, O3, O4, O5, P1, P2, S1, S2, S3, S4, S5, S6, W1, W2, W3, W4, W5, W6, W7, W8, W9}
 use Rattle.vt_spec.specs.Errors.{Rules, denial}
-use Rattle.vt_spec.specs.Language.Calls.{Call, Creation, TaskName}
+use Rattle.vt_spec.specs.Language.Calls.{Call, Creation, TaskName, opens_for_writing}
 use Rattle.vt_spec.specs.Language.Calls.Call.{Bind, Chdir, Chmod, Chown, Chroot, Close, Drop, Exec, Exit, Fork, Lazy, LinkTo, ListMounts, Ls, Lstat, MakeWhiteout, Mkdir, MountOverlay, MountPlain, MoveMount, Opaque, OpenFile, PivotRoot, Pread, Pwrite, Read, Readlink, Remount, Rename, Rmdir, SetType, Setns, Stat, SymlinkAt, Umask, Umount, Unlink, Unshare, Write}
 use Rattle.vt_spec.specs.Language.Calls.Creation.{Exclusive, NoCreation, OrCreate}
 use Rattle.vt_spec.specs.Lists.{Fresh}
@@ -68,7 +68,7 @@ own_rules (Rename old new) = E2 ∷ E3 ∷ E4 ∷ E5 ∷ F1 ∷ F2 ∷ L1 ∷ P1
 own_rules (Chmod path mode) = F1 ∷ F2 ∷ L1 ∷ C2 ∷ B1 ∷ B2 ∷ []
 own_rules (Chown path uid gid) = F1 ∷ F2 ∷ L1 ∷ C2 ∷ B1 ∷ B2 ∷ []
 own_rules (Opaque path mark) = K1 ∷ F1 ∷ F2 ∷ L1 ∷ O4 ∷ []
-own_rules (OpenFile path access creation) = own_rules_of_open creation access.writes
+own_rules (OpenFile path access creation) = own_rules_of_open creation (opens_for_writing access)
 own_rules (Pread descriptor offset size) = S4 ∷ []
 own_rules (Pwrite descriptor offset bytes) = S4 ∷ E6 ∷ L1 ∷ []
 own_rules (Close descriptor) = S4 ∷ []

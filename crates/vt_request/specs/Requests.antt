@@ -2,7 +2,7 @@
 use Rattle.vt_spec.specs.Language.Calls as spec
 use Rattle.vt_cred.specs.Caps.{capability_bits}
 use Rattle.vt_cred.specs.MountFlags.{flags_of}
-use Rattle.std.specs.Prelude.{false, option_map, true}
+use Rattle.std.specs.Prelude.{option_map}
 use Rattle.vt_request.specs.declared.request.CapsWord.{CapsWord}
 use Rattle.vt_request.specs.declared.request.CapsWord.TheVariants.{Held, Named}
 use Rattle.vt_request.specs.declared.request.Access.{Access}
@@ -24,9 +24,9 @@ capabilities_of (Named caps) = spec.CapabilityWord.These (capability_bits caps)
 
 -- what a file is opened for
 abbrev pub access_of : Access → spec.Access
-access_of Read = record { reads = true; writes = false }
-access_of Write = record { reads = false; writes = true }
-access_of ReadWrite = record { reads = true; writes = true }
+access_of Read = spec.Access.ReadOnly
+access_of Write = spec.Access.WriteOnly
+access_of ReadWrite = spec.Access.ReadWrite
 
 -- what is done where the name is missing
 abbrev pub creation_of : Creation → spec.Creation

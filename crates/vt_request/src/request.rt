@@ -25,17 +25,18 @@ pub enum Access {
 impl Access {
     ghost use Rattle.std.specs.Prelude.{◌≡◌};
     ghost use Rattle.vt_request.specs.Requests.{access_of};
+    ghost use Rattle.vt_spec.specs.Language.Calls.{opens_for_reading, opens_for_writing};
 
     /// Whether the file may be read.
     pub fn reads(self) -> bool
-        ensures { result ≡ (access_of self).reads }
+        ensures { result ≡ opens_for_reading (access_of self) }
     {
         self != Access::Write
     }
 
     /// Whether the file may be written.
     pub fn writes(self) -> bool
-        ensures { result ≡ (access_of self).writes }
+        ensures { result ≡ opens_for_writing (access_of self) }
     {
         self != Access::Read
     }

@@ -4,7 +4,7 @@ use Rattle.std.specs.Prelude.{find, nat_lt}
 use Rattle.std.specs.List.{list_any}
 use Rattle.std.proofs.lemmas.Bool.{eqb-true, leb-true, or_parts}
 use Rattle.std.proofs.lemmas.List.Concat.{flat_map-cons}
-use Rattle.vt_spec.specs.Language.Calls.{TaskName, same_name}
+use Rattle.vt_spec.specs.Language.Calls.{TaskName, opens_for_reading, opens_for_writing, same_name}
 use Rattle.vt_spec.specs.Machine.Mounts.{Location}
 use Rattle.vt_spec.specs.Machine.Outcome.Descriptors.{free_number, inserted, with_descriptor, without_descriptor}
 use Rattle.vt_spec.specs.Machine.Outcome.Tasks.{child_of}
@@ -274,7 +274,13 @@ pub opened_uses : OpenedUses
 opened_uses test name tasks task file access apart found =
     so _ _ (one_if (test task.root)) (one_if (test task.directory)) (files test task.descriptors) _ (one_if (test file))
     (replaced_uses test name tasks task (with_descriptor task file access) apart found refl)
-    (files-inserted test (record { number = free_number task; location = file; reads = access.reads; writes = access.writes }) task.descriptors)
+    (files-inserted test
+    (record {
+      number = free_number task;
+      location = file;
+      reads = opens_for_reading access;
+      writes = opens_for_writing access;
+    }) task.descriptors)
   where
     so : (a b r d p q f : ℕ) → a + (r + (d + p)) ≡ b + (r + (d + q)) → q ≡ p + f → a ≡ b + f
     so a b r d p q f is files = omega (arith, is, files)

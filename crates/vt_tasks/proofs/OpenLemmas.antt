@@ -7,6 +7,7 @@ use Rattle.indexmap.proofs.CallerLemmas.{insert_entry-new}
 use Rattle.indexmap.proofs.MapLemmas.{absent_from_lookup, or_len-absent}
 use Rattle.std.proofs.lemmas.Bool.{eqb-true, eqb-false, leb-true, le-leb, and_from}
 use Rattle.std.specs.Map.{keys_of, lookup, remove_entry, values_of}
+use Rattle.vt_spec.specs.Language.Calls.{opens_for_writing}
 use Rattle.vt_spec.specs.Machine.Outcome.Descriptors.{free_from, inserted}
 use Rattle.vt_spec.specs.Machine.World.{Descriptor}
 use Rattle.vt_tasks.specs.declared.descriptors.OpenFile.{OpenFile}
@@ -290,9 +291,9 @@ files-opened [] = refl
 files-opened (x ∷ es) = ap (λ fs. location_of x.1.location ∷ fs) (files-opened es)
 
 pub writes-opened : (es : List (ℕ × OpenFile))
-    → map (λ held. (access_of held.access).writes) (values_of es) ≡ map (λ d. d.writes) (opened es)
+    → map (λ held. opens_for_writing (access_of held.access)) (values_of es) ≡ map (λ d. d.writes) (opened es)
 writes-opened [] = refl
-writes-opened (x ∷ es) = ap (λ fs. (access_of x.1.access).writes ∷ fs) (writes-opened es)
+writes-opened (x ∷ es) = ap (λ fs. opens_for_writing (access_of x.1.access) ∷ fs) (writes-opened es)
 
 -- A new number that is put before a place stands there
 pub entries-inserted : {S : Type 0} (m : IndexMap ℕ OpenFile S) (free place : ℕ) (held : OpenFile)

@@ -1,5 +1,6 @@
 -- What contracts see of a task's open files.
 use Rattle.std.specs.Prelude.{Bool, List, [], ℕ, true, ◌&&◌, ◌∷◌, ◌+◌, nat_le}
+use Rattle.vt_spec.specs.Language.Calls.{opens_for_reading, opens_for_writing}
 use Rattle.vt_spec.specs.Machine.World.{Descriptor}
 use Rattle.vt_location.specs.Locations.{location_of}
 use Rattle.vt_request.specs.Requests.{access_of}
@@ -10,9 +11,8 @@ abbrev pub numbered : ℕ → OpenFile → Descriptor ℕ
 numbered number held = record {
   number = number;
   location = location_of held.location;
-  reads =
-      (access_of held.access).reads;
-  writes = (access_of held.access).writes;
+  reads = opens_for_reading (access_of held.access);
+  writes = opens_for_writing (access_of held.access);
 }
 
 abbrev pub descriptor_of : ℕ × OpenFile → Descriptor ℕ

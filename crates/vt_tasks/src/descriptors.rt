@@ -1,5 +1,6 @@
 //! The open files of a task, by their numbers.
 ghost use Rattle.std.specs.Prelude.{◌≡◌, ◌<◌, ◌≤◌, ◌==◌, [], length, map, find, filter, not, option_map, Some, IfOk, IfErr, OnErr};
+ghost use Rattle.vt_spec.specs.Language.Calls.{opens_for_writing};
 ghost use Rattle.vt_spec.specs.Machine.Outcome.Descriptors.{free_from, inserted};
 ghost use Rattle.vt_spec.specs.declared.errors.Rule.TheVariants.{S5};
 ghost use Rattle.vt_spec.specs.Errors.{denial};
@@ -115,7 +116,7 @@ impl Descriptors {
     pub fn files(&self) -> &[OpenFile]
         ensures locations { map (λ held. location_of held.location) result.now
             ≡ map (λ descriptor. descriptor.location) self.now }
-        ensures writes { map (λ held. (access_of held.access).writes) result.now
+        ensures writes { map (λ held. opens_for_writing (access_of held.access)) result.now
             ≡ map (λ descriptor. descriptor.writes) self.now }
     {
         self.by_number.values().as_slice()

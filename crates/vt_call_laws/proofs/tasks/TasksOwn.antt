@@ -9,7 +9,7 @@ use Rattle.vt_call_laws.proofs.tasks.TasksFound.{Found, called, find_appended, f
 use Rattle.vt_call_laws.proofs.tasks.TasksLeft.{alone, entered, left_tasks, tasks_after_call, with_new}
 use Rattle.vt_laws.specs.Given.{IsFor, NoneFails}
 use Rattle.vt_call_laws.specs.Tasks.{IsForked, IsNoMore, MayGive, Opens, Pivots, moves_directory, moves_namespace, moves_root, task_after}
-use Rattle.vt_spec.specs.Language.Calls.{Access, Call, CapabilityWord, Creation, ForkWords, TaskName, same_name}
+use Rattle.vt_spec.specs.Language.Calls.{Access, Call, CapabilityWord, Creation, ForkWords, TaskName, opens_for_reading, opens_for_writing, same_name}
 use Rattle.vt_spec.specs.Language.Calls.Call.{Drop, Exit, Fork, OpenFile, PivotRoot, Umask}
 use Rattle.vt_spec.specs.Machine.Filesystems.{raised}
 use Rattle.vt_spec.specs.Machine.Judge.{judge_in}
@@ -249,8 +249,8 @@ module _ (fresh : Fresh ℕ) (world : World ℕ) (name : TaskName) (call : Call)
         (among_inserted (record {
           number = free_number task;
           location = file;
-          reads = access.reads;
-          writes = access.writes;
+          reads = opens_for_reading access;
+          writes = opens_for_writing access;
         }) held task.descriptors among)
 
     -- what becomes of a task by each permit

@@ -26,7 +26,7 @@ use Rattle.vt_spec.proofs.Lists.{contains_from_among}
 use Rattle.vt_spec.proofs.Nodes.{directory_used}
 use Rattle.vt_spec.specs.declared.attributes.Kind.TheVariants.{File}
 use Rattle.vt_spec.specs.FileTree.{FileTree, is_kind_in}
-use Rattle.vt_spec.specs.Language.Calls.{Access, Call, ForkWords, same_name}
+use Rattle.vt_spec.specs.Language.Calls.{Access, Call, ForkWords, opens_for_writing, same_name}
 use Rattle.vt_spec.specs.Language.Calls.Call.{Chdir, Chroot, Close, Exit, Fork, Lazy, MountOverlay, MoveMount, PivotRoot, Rename, Rmdir, SetType, Setns, Umount, Unlink, Unshare}
 use Rattle.vt_spec.specs.Language.Changes.{Change, changed}
 use Rattle.vt_spec.specs.Language.Changes.Change.{AddName, CopyUp, Make, Move, Remove, SetAttr, SetBytes, SetMark}
@@ -150,8 +150,8 @@ module _ (world : World ℕ) (fresh : Fresh ℕ) (task : Task ℕ) (is : IsWorld
 
   not_copied : (file : Location ℕ) (access : Access) → is_copied_up nat_eq world file access ≡ false
   not_copied file access =
-      ap (λ o. access.writes && overlay_or false (λ overlay. lies_below overlay file.node) o)
-      (plain_numbered world plain (mount_at nat_eq world file).filesystem) ∙ and-false access.writes
+      ap (λ o. opens_for_writing access && overlay_or false (λ overlay. lies_below overlay file.node) o)
+      (plain_numbered world plain (mount_at nat_eq world file).filesystem) ∙ and-false (opens_for_writing access)
 
   attached : (place : Location ℕ) → IsDestination world task place → is_attached world place.mount ≡ true
   attached place at = ap is_some at.own

@@ -10,6 +10,7 @@ use Rattle.vt_spec.specs.declared.errors.Rule.{Rule}
 use Rattle.vt_spec.specs.declared.errors.Rule.TheVariants.{B1, B2, E1, E2, E6, K1, S2, S4}
 use Rattle.vt_spec.specs.Errors.{denial}
 use Rattle.vt_spec.specs.Language.Calls.{Access, Call, Creation, MountFlags, OverlayWords, TaskName}
+use Rattle.vt_spec.specs.Language.Calls.Access.{ReadOnly, ReadWrite, WriteOnly}
 use Rattle.vt_spec.specs.Language.Calls.Call.{Bind, Chdir, Chmod, Chown, Chroot, Close, Drop, Exec, Exit, Fork, Lazy, LinkTo, ListMounts, Ls, Lstat, MakeWhiteout, Mkdir, MountOverlay, MountPlain, MoveMount, Opaque, OpenFile, PivotRoot, Pread, Pwrite, Read, Readlink, Remount, Rename, Rmdir, SetType, Setns, Stat, SymlinkAt, Umask, Umount, Unlink, Unshare, Write}
 use Rattle.vt_spec.specs.Language.Calls.Creation.{Exclusive, NoCreation, OrCreate}
 use Rattle.vt_spec.specs.Language.Changes.{Change}
@@ -146,38 +147,41 @@ module _ {N : Type 0} (eq : N → N → Bool) where
       judged_own own world (make_rules eq world task place change) _
       (mounter_own own refl refl eq world place.parent change) tt
 
-  open_own : (fresh : Fresh N) (world : World N) (task : Task N) (path : List ℕ) (reads writes : Bool)
-      (creation : Creation)
-      → DeniesOwn (rules_of (OpenFile path (record { reads = reads; writes = writes }) creation)) world
-      (open_outcome eq fresh world task path (record { reads = reads; writes = writes }) creation)
+  -- open(2) without O_CREAT is refused by the rules of one for writing
+  open_there_own : (fresh : Fresh N) (world : World N) (task : Task N) (path : List ℕ) (access : Access)
+      → DeniesOwn (rules_of (OpenFile path WriteOnly NoCreation)) world
+      (open_outcome eq fresh world task path access NoCreation)
   unfolding open_outcome
-  open_own fresh world task path reads false NoCreation =
-      let call = OpenFile path (record { reads = reads; writes = false }) NoCreation in
+  open_there_own fresh world task path access =
+      let call = OpenFile path WriteOnly NoCreation in
       judged_own (rules_of call) world (descriptor_rules task) _ refl
       (walk_own (rules_of call) world (walks_of call refl) (object_walk eq world task path) _
       (object_walks eq world task path) (λ here.
-      judged_own (rules_of call) world
-      (open_rules eq world task here.location (record { reads = reads; writes = false })) _ refl tt))
-  open_own fresh world task path reads true NoCreation =
-      let call = OpenFile path (record { reads = reads; writes = true }) NoCreation in
+      judged_own (rules_of call) world (open_rules eq world task here.location access) _
+      (copy_own (rules_of call) refl refl eq (is_copied_up eq world here.location access) world here.location) tt))
+
+  open_own : (fresh : Fresh N) (world : World N) (task : Task N) (path : List ℕ) (access : Access)
+      (creation : Creation)
+      → DeniesOwn (rules_of (OpenFile path access creation)) world
+      (open_outcome eq fresh world task path access creation)
+  unfolding open_outcome
+  open_own fresh world task path ReadOnly NoCreation =
+      let call = OpenFile path ReadOnly NoCreation in
       judged_own (rules_of call) world (descriptor_rules task) _ refl
       (walk_own (rules_of call) world (walks_of call refl) (object_walk eq world task path) _
       (object_walks eq world task path) (λ here.
-      judged_own (rules_of call) world
-      (open_rules eq world task here.location (record { reads = reads; writes = true })) _
-      (copy_own (rules_of call) refl refl eq
-      (is_copied_up eq world here.location (record { reads = reads; writes = true })) world
-      here.location) tt))
-  open_own fresh world task path reads writes (OrCreate mode) =
-      let access : Access = record { reads = reads; writes = writes } in
+      judged_own (rules_of call) world (open_rules eq world task here.location ReadOnly) _ refl tt))
+  open_own fresh world task path WriteOnly NoCreation = open_there_own fresh world task path WriteOnly
+  open_own fresh world task path ReadWrite NoCreation = open_there_own fresh world task path ReadWrite
+  open_own fresh world task path access (OrCreate mode) =
       let call = OpenFile path access (OrCreate mode) in
       judged_own (rules_of call) world (descriptor_rules task) _ refl
       (walk_own (rules_of call) world (walks_of call refl) (file_walk eq world task path) _
       (file_walks eq world task path) (λ place.
       judged_own (rules_of call) world (file_word_rules place) _ refl
       (opened_own fresh world task path access mode place place.object)))
-  open_own fresh world task path reads writes (Exclusive mode) =
-      let call = OpenFile path (record { reads = reads; writes = writes }) (Exclusive mode) in
+  open_own fresh world task path access (Exclusive mode) =
+      let call = OpenFile path access (Exclusive mode) in
       judged_own (rules_of call) world (descriptor_rules task) _ refl
       (walk_own (rules_of call) world (walks_of call refl) (new_walk eq world task path) _
       (new_walks eq world task path) (λ place.
@@ -319,8 +323,7 @@ module _ {N : Type 0} (eq : N → N → Bool) where
       (directory_walks eq world task path)
       (λ here.
       judged_own own world (opaque_rules eq world here.location) _ refl tt))
-  call_own fresh world task (OpenFile path access creation) =
-      open_own fresh world task path access.reads access.writes creation
+  call_own fresh world task (OpenFile path access creation) = open_own fresh world task path access creation
   call_own fresh world task (Pread number offset size) =
       let own = rules_of (Pread number offset size) in
       after_own own world (descriptor_at task number (λ descriptor. descriptor.reads)) _ (found_own own S4 _ refl)

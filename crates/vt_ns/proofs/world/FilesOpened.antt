@@ -4,7 +4,7 @@ use Rattle.std.proofs.Math.Bool.{and-false}
 use Rattle.std.specs.Prelude.{nat_lt}
 use Rattle.std.proofs.lemmas.Bool.{leb-false}
 use Rattle.std.proofs.lemmas.List.{map-append}
-use Rattle.vt_spec.specs.Language.Calls.{TaskName}
+use Rattle.vt_spec.specs.Language.Calls.{TaskName, opens_for_reading, opens_for_writing}
 use Rattle.vt_spec.specs.Language.Calls as spoken
 use Rattle.vt_spec.specs.Machine.Mounts as meant
 use Rattle.vt_spec.specs.Machine.Outcome.Descriptors.{free_number, inserted, is_copied_up, with_copy, with_descriptor}
@@ -117,7 +117,7 @@ pub file_is_opened : (value : WorldValue) (name : TaskName) (opened : OpenFile) 
     → is_copied_up nat_eq (world_of value) (location_of opened.location) (access_of opened.access) ≡ false
     → opened.location.node.slot < 18446744073709551616
     → tasks ≡ changed_called name (with_open opened) value.tasks
-    → kept mounts filesystems ≡ with_location opened.location (access_of opened.access).writes
+    → kept mounts filesystems ≡ with_location opened.location (opens_for_writing (access_of opened.access))
     (kept value.mounts value.filesystems)
     → IsDone value name (ToOpen (location_of opened.location) (access_of opened.access))
     (remade value mounts filesystems tasks)
@@ -127,7 +127,12 @@ file_is_opened value name opened mounts filesystems tasks whole permits uncopied
     let access = access_of opened.access in
     let well : is_located_well nat_eq (world_of value) file
     ≡ true = (permit_fits value whole name (ToOpen file access) permits).names.reached.there in
-    let descriptor : Descriptor ℕ = record { number = free_number task; location = file; reads = access.reads; writes = access.writes } in
+    let descriptor : Descriptor ℕ = record {
+      number = free_number task;
+      location = file;
+      reads = opens_for_reading access;
+      writes = opens_for_writing access;
+    } in
     let opens = with_descriptor task file access in
     subst (λ all. IsDone value name (ToOpen file access) (remade value mounts filesystems all))
     (sym (is ∙ ap (changed_by (with_open opened) value.tasks) permits.called))
@@ -135,7 +140,7 @@ file_is_opened value name opened mounts filesystems tasks whole permits uncopied
     (opened_moves value whole name task permits.called descriptor well) mounts filesystems
     (is_kept ∙ (λ i. with_use (counted opened.location.mount.count)
     (sym (seen_where_located value whole opened.location few well) i, number_of opened.location.node)
-    access.writes (kept value.mounts value.filesystems)))
+    (opens_for_writing access) (kept value.mounts value.filesystems)))
     (opened_stays value whole name task permits.called descriptor well) name (ToOpen file access) task
     (record {
       called = permits.called;
@@ -149,9 +154,10 @@ file_is_opened value name opened mounts filesystems tasks whole permits uncopied
 pub nothing_copied : (value : WorldValue) (file : meant.Location ℕ) (access : spoken.Access)
     → is_copied_up nat_eq (world_of value) file access ≡ false
 nothing_copied value file access =
-    ap (λ (o : Option (Overlay ℕ)). access.writes && overlay_or false (λ overlay. lies_below overlay file.node) o)
+    ap (λ (o : Option (Overlay ℕ)). opens_for_writing access
+    && overlay_or false (λ overlay. lies_below overlay file.node) o)
     (no_overlay value.filesystems (mount_at nat_eq (world_of value) file).filesystem)
-    ∙ and-false access.writes
+    ∙ and-false (opens_for_writing access)
   where
     no_overlay : (entries : Filesystems) (number : ℕ)
         → (unwrap_or (find (λ f. nat_eq number f.number) (filesystems_seen entries)) (no_filesystem number)).overlay

@@ -3,7 +3,7 @@ use Rattle.std.proofs.Common.{◌≡◌, refl, sym, ap, subst, ◌∙◌, inl, i
 use Rattle.std.specs.List.{list_all}
 use Rattle.std.proofs.lemmas.Bool.{leb-false}
 use Rattle.std.proofs.lemmas.Option.{same_Some}
-use Rattle.vt_spec.specs.Language.Calls.{TaskName}
+use Rattle.vt_spec.specs.Language.Calls.{TaskName, opens_for_reading, opens_for_writing}
 use Rattle.vt_spec.specs.Language.Calls as spoken
 use Rattle.vt_spec.specs.Language.Changes.{Change}
 use Rattle.vt_spec.specs.Language.Changes.Change.{Make}
@@ -295,7 +295,12 @@ module _ (value : WorldValue) (held : IsHeld value) (name : TaskName) (directory
     file = record { mount = directory.mount; node = made }
 
     abbrev descriptor : Descriptor ℕ
-    descriptor = record { number = free_number permits.task; location = location_of file; reads = access.reads; writes = access.writes }
+    descriptor = record {
+      number = free_number permits.task;
+      location = location_of file;
+      reads = opens_for_reading access;
+      writes = opens_for_writing access;
+    }
 
     abbrev opens : Task ℕ
     opens = with_descriptor permits.task (location_of file) access
@@ -372,17 +377,19 @@ module _ (value : WorldValue) (held : IsHeld value) (name : TaskName) (directory
 
     -- a use of its mount and of its inode
     module _ (mounts : List MountEntry) (filesystems : Filesystems)
-        (is_kept : kept mounts filesystems ≡ with_location file access.writes (kept value.mounts made_in)) where
+        (is_kept : kept mounts filesystems
+        ≡ with_location file (opens_for_writing access) (kept value.mounts made_in)) where
       abbrev new : WorldValue
       new = remade mid mounts filesystems tasks
 
       moved : kept mounts filesystems
-          ≡ with_use (counted directory.mount.count) (inode_at (world_of mid) (location_of file)) access.writes
+          ≡ with_use (counted directory.mount.count) (inode_at (world_of mid) (location_of file))
+          (opens_for_writing access)
           (kept value.mounts made_in)
       moved =
           is_kept ∙ (λ i. with_use (counted directory.mount.count)
           (sym (seen_where_located mid mid_held file small_made there) i, number_of made)
-          access.writes (kept value.mounts made_in))
+          (opens_for_writing access) (kept value.mounts made_in))
 
       swept : IsSwept mid next (inode_at (world_of mid) (location_of file) ∷ []) [] new
       swept = remains_swept mid mid_held tasks (used_by descriptor ∷ []) [] moves mounts filesystems moved stay

@@ -2,7 +2,7 @@
 use Rattle.std.proofs.Common.{◌≡◌, ◌≢◌, refl, sym, ap, subst, ◌∙◌, inl, inr, ℕ, ◌+◌, ◌≤◌, nat_eq, eq-eqb, Bool, true, false, true≢false, cond, not, ◌&&◌, List, [], ◌∷◌, ◌++◌, map, filter, find, flat_map, Option, Some, None, option_map, is_some, is_ok, Ok, arith}
 use Rattle.vt_spec.specs.declared.attributes.Kind.TheVariants.{White}
 use Rattle.vt_spec.specs.declared.errors.Rule.TheVariants.{B1, C1, E2, E9, F1, F2, L1}
-use Rattle.vt_spec.specs.Language.Calls.{Access, TaskName}
+use Rattle.vt_spec.specs.Language.Calls.{Access, TaskName, opens_for_reading, opens_for_writing}
 use Rattle.vt_spec.specs.Language.Calls.Call.{Close, Exit}
 use Rattle.vt_spec.specs.FileTree.{targets_in}
 use Rattle.vt_spec.specs.Lists.{Fresh}
@@ -106,8 +106,8 @@ module _ (beside : Beside) (world : World ℕ) (name : TaskName) (task : Task �
                 number = free_there 0 task.descriptors i;
                 location = location_there
                     file;
-                reads = access.reads;
-                writes = access.writes;
+                reads = opens_for_reading access;
+                writes = opens_for_writing access;
               }) (map descriptor_there task.descriptors);
         })
         ∙ (λ i. record there_task { descriptors = inserted_there (descriptor_on task file access) task.descriptors i })
@@ -153,7 +153,7 @@ module _ (beside : Beside) (world : World ℕ) (name : TaskName) (task : Task �
   pub open_file_alike : (fresh : Fresh ℕ) (file : ℕ) (access : Access)
       → IsJudged beside world name task fit (open_file tree task file access)
       (Descriptors.open_file nat_eq fresh there there_task (location_there file) access)
-  open_file_alike fresh file access = by access.writes
+  open_file_alike fresh file access = by (opens_for_writing access)
     where
       some : (o : Option (Inode ℕ))
           → not (Rattle.vt_spec.specs.Machine.Rightful.node_allows task.credentials (access_rights access) (node_in o))

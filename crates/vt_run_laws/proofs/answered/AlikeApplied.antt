@@ -8,7 +8,7 @@ use Rattle.vt_run_laws.proofs.answered.AlikeNamespaces.{ended_alike, entered_ali
 use Rattle.vt_run_laws.proofs.answered.AlikeSettled.{overlay_same}
 use Rattle.vt_run_laws.proofs.answered.AlikeWorlds.{Alike, SameTask}
 use Rattle.vt_spec.specs.Language.Answers.Answer.{Bytes, Child, Done, MountList, Names, Opened, Told}
-use Rattle.vt_spec.specs.Language.Calls.{Access}
+use Rattle.vt_spec.specs.Language.Calls.{Access, opens_for_writing}
 use Rattle.vt_spec.specs.Language.Changes.Change.{CopyUp, Make, Move, Remove, SetBytes}
 use Rattle.vt_spec.specs.Lists.{Fresh, evens, odds}
 use Rattle.vt_spec.specs.Machine.Apply.{apply}
@@ -52,7 +52,7 @@ module _ (fresh : Fresh ℕ) (one other : World ℕ) (same : Alike one other) (t
   copied_same : (file : Location ℕ) (access : Access)
       → is_copied_up nat_eq one file access ≡ is_copied_up nat_eq other file access
   copied_same file access = λ i.
-      access.writes
+      (opens_for_writing access)
       && overlay_or false (λ overlay. lies_below overlay file.node)
       (overlay_same _ _ (here_alike one other same file) i)
 

@@ -1,5 +1,5 @@
 -- The calls of a task, as a script names them: each is the system call named with it, in the profile's spelling.
-use Rattle.std.specs.Prelude.{Bool, List, Option, false, ℕ}
+use Rattle.std.specs.Prelude.{Bool, List, Option, false, true, ℕ}
 use Rattle.std.specs.Str.{bytes_eq}
 
 -- a task's name is the numbers after its `t`, so `t` itself is the empty list
@@ -26,9 +26,22 @@ pub data CapabilityWord : Type 0 where
   These : (capabilities : ℕ) → CapabilityWord
 
 -- what a file is opened for: O_RDONLY, O_WRONLY or O_RDWR of open(2)
-pub record Access : Type 0 where
-  pub reads : Bool
-  pub writes : Bool
+pub data Access : Type 0 where
+  ReadOnly : Access
+  WriteOnly : Access
+  ReadWrite : Access
+
+-- a descriptor opened so may be read: O_RDONLY and O_RDWR of open(2)
+abbrev pub opens_for_reading : Access → Bool
+opens_for_reading Access.ReadOnly = true
+opens_for_reading Access.WriteOnly = false
+opens_for_reading Access.ReadWrite = true
+
+-- a descriptor opened so may be written: O_WRONLY and O_RDWR of open(2)
+abbrev pub opens_for_writing : Access → Bool
+opens_for_writing Access.ReadOnly = false
+opens_for_writing Access.WriteOnly = true
+opens_for_writing Access.ReadWrite = true
 
 -- what open(2) does where the name is missing: nothing, O_CREAT with a mode, or O_CREAT and O_EXCL
 pub data Creation : Type 0 where

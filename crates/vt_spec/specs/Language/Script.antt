@@ -1,9 +1,10 @@
 -- The text of a script: its lines, tokens and grammar (profile).
-use Rattle.std.specs.Prelude.{Bool, List, None, Option, Some, [], codes, drop, false, if◌then◌else◌, length, nat_le, nat_lt, not, option_map, slice_index, take, true, unwrap_or, ℕ, ◌&&◌, ◌*◌, ◌++◌, ◌+◌, ◌-◌, ◌==◌, ◌||◌, ◌∷◌}
+use Rattle.std.specs.Prelude.{Bool, List, None, Option, Some, [], codes, drop, false, if◌then◌else◌, length, nat_le, nat_lt, not, option_map, slice_index, take, true, unwrap_or, ℕ, ◌&&◌, ◌*◌, ◌++◌, ◌+◌, ◌-◌, ◌==◌, ◌∷◌}
 use Rattle.std.specs.Int.RustNames.{bit_or}
 use Rattle.std.specs.List.{list_all, list_any}
 use Rattle.std.specs.Str.{bytes_eq}
 use Rattle.vt_spec.specs.Language.Calls.{Access, Call, CapabilityWord, Creation, Directive, MountFlags, OverlayWords, TaskName, TypeWord, plain_flags}
+use Rattle.vt_spec.specs.Language.Calls.Access.{ReadOnly, ReadWrite, WriteOnly}
 use Rattle.vt_spec.specs.Language.Calls.Call.{Bind, Chdir, Chmod, Chown, Chroot, Close, Drop, Exec, Exit, Fork, Lazy, LinkTo, ListMounts, Ls, Lstat, MakeWhiteout, Mkdir, MountOverlay, MountPlain, MoveMount, Opaque, OpenFile, PivotRoot, Pread, Pwrite, Read, Readlink, Remount, Rename, Rmdir, SetType, Setns, Stat, SymlinkAt, Umask, Umount, Unlink, Unshare, Write}
 use Rattle.vt_spec.specs.Language.Calls.CapabilityWord.{Held, These}
 use Rattle.vt_spec.specs.Language.Calls.Creation.{Exclusive, NoCreation, OrCreate}
@@ -248,9 +249,9 @@ type_word text =
 -- what a file is opened for
 abbrev pub access_word : List ℕ → Option Access
 access_word text =
-    if bytes_eq text (codes "r") then Some (record { reads = true; writes = false })
-    else if bytes_eq text (codes "w") then Some (record { reads = false; writes = true })
-    else if bytes_eq text (codes "rw") then Some (record { reads = true; writes = true })
+    if bytes_eq text (codes "r") then Some ReadOnly
+    else if bytes_eq text (codes "w") then Some WriteOnly
+    else if bytes_eq text (codes "rw") then Some ReadWrite
     else None
 
 -- whether a directory is marked opaque

@@ -5,7 +5,7 @@ use Rattle.vt_spec.specs.declared.attributes.Attr.{Attr}
 use Rattle.vt_spec.specs.declared.errors.Deny.{Deny}
 use Rattle.vt_spec.specs.declared.errors.Rule.TheVariants.{C2, P1, S1, S2}
 use Rattle.vt_spec.specs.Errors.{and_then, denial, unless}
-use Rattle.vt_spec.specs.Language.Calls.{Access, Call, Creation, ForkWords, TaskName}
+use Rattle.vt_spec.specs.Language.Calls.{Access, Call, Creation, ForkWords, TaskName, opens_for_reading, opens_for_writing}
 use Rattle.vt_spec.specs.Language.Calls.Call.{Chmod, Chown, Close, Drop, Exec, Exit, Fork, LinkTo, Ls, Lstat, Mkdir, OpenFile, Pread, Pwrite, Read, Readlink, Rename, Rmdir, Stat, SymlinkAt, Umask, Unlink, Write}
 use Rattle.vt_spec.specs.Language.Calls.Creation.{Exclusive, NoCreation, OrCreate}
 use Rattle.vt_spec.specs.Language.Changes.Change.{AddName, Make, Move, Remove, SetAttr, SetBytes}
@@ -244,7 +244,12 @@ module _ {N : Type 0} where
   -- a descriptor on a file, with the least number that is free: open(2)
   abbrev pub descriptor_on : Task N → N → Access → Descriptor N
   descriptor_on task file access =
-      record { number = free_number task; file = file; reads = access.reads; writes = access.writes }
+      record {
+        number = free_number task;
+        file = file;
+        reads = opens_for_reading access;
+        writes = opens_for_writing access;
+      }
 
   -- the task has a descriptor more
   abbrev pub with_opened : World N → TaskName → Task N → N → Access → World N

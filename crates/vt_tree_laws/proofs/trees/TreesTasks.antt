@@ -4,7 +4,7 @@ use Rattle.std.proofs.Math.Nat.{mod-lt}
 use Rattle.std.proofs.lemmas.List.{length-append}
 use Rattle.std.proofs.lemmas.Bool.{and_parts}
 use Rattle.std.specs.List.{filter, list_all}
-use Rattle.vt_spec.specs.Language.Calls.{Access, ForkWords, same_name}
+use Rattle.vt_spec.specs.Language.Calls.{Access, ForkWords, opens_for_reading, opens_for_writing, same_name}
 use Rattle.vt_spec.specs.Machine.Mounts.{Location}
 use Rattle.vt_spec.specs.Machine.Outcome.Descriptors.{free_from, free_number, inserted, with_descriptor, without_descriptor}
 use Rattle.vt_spec.specs.Language.Limits.{deepest_name, most_descriptors, most_forks}
@@ -185,7 +185,12 @@ opened_within task location access is room =
     let limits = within task is in
     let fewer = leb-false most_descriptors (length task.descriptors) room in
     let new : Descriptor ℕ =
-    record { number = free_number task; location = location; reads = access.reads; writes = access.writes } in
+    record {
+      number = free_number task;
+      location = location;
+      reads = opens_for_reading access;
+      writes = opens_for_writing access;
+    } in
     limits_of (with_descriptor task location access) (record {
       few = le-leb (length (inserted new task.descriptors)) most_descriptors
           (omega (arith, inserted_length new task.descriptors, fewer));

@@ -1,7 +1,7 @@
 -- Calls on open files: their rules in a world (`Rules/Descriptors.antt`), and what they change.
 -- A definition without a comment is that of its name in `Rules/Descriptors.antt`, in a world.
 use Rattle.std.specs.Prelude.{Bool, List, None, Option, Some, [], drop, false, filter, if◌then◌else◌, length, nat_lt, not, replicate, take, true, ℕ, ◌++◌, ◌+◌, ◌-◌, ◌==◌, ◌∷◌}
-use Rattle.vt_spec.specs.Language.Calls.{Access, Creation}
+use Rattle.vt_spec.specs.Language.Calls.{Access, Creation, opens_for_reading, opens_for_writing}
 use Rattle.vt_spec.specs.Language.Calls.Creation.{Exclusive, NoCreation, OrCreate}
 use Rattle.vt_spec.specs.Language.Changes.Change.{CopyUp, SetBytes}
 use Rattle.vt_spec.specs.Errors.{Rules}
@@ -47,7 +47,12 @@ module _ {N : Type 0} where
   abbrev pub with_descriptor : Task N → Location N → Access → Task N
   with_descriptor task file access = record task {
     descriptors = inserted
-        (record { number = free_number task; location = file; reads = access.reads; writes = access.writes })
+        (record {
+          number = free_number task;
+          location = file;
+          reads = opens_for_reading access;
+          writes = opens_for_writing access;
+        })
         task.descriptors;
   }
 

@@ -1,7 +1,7 @@
 -- The rules of calls on open files.
 use Rattle.std.specs.Prelude.{Bool, List, Option, Result, [], false, find, if◌then◌else◌, is_some, length, nat_le, nat_lt, not, ok_or, option_to_list, true, ℕ, ◌&&◌, ◌+◌, ◌==◌, ◌∷◌}
 use Rattle.vt_spec.specs.Errors.{Rules, denial}
-use Rattle.vt_spec.specs.Language.Calls.{Access}
+use Rattle.vt_spec.specs.Language.Calls.{Access, opens_for_reading, opens_for_writing}
 use Rattle.vt_spec.specs.Language.Changes.Change.{CopyUp}
 use Rattle.vt_spec.specs.Machine.Filesystems.{lies_below}
 use Rattle.vt_spec.specs.Machine.Locked.{overlay_or}
@@ -19,7 +19,8 @@ use Rattle.vt_spec.specs.declared.errors.Rule.TheVariants.{B1, C1, E1, E2, E6, E
 
 -- the rights that an access mode asks for, as one request: open(2)
 abbrev pub access_rights : Access → ℕ
-access_rights access = (if access.reads then read_right else 0) + (if access.writes then write_right else 0)
+access_rights access =
+    (if opens_for_reading access then read_right else 0) + (if opens_for_writing access then write_right else 0)
 
 module _ {N : Type 0} where
   -- the task's descriptor of this number
@@ -45,7 +46,7 @@ module _ {N : Type 0} where
   -- an object that lies only in lower layers is copied up when it is opened for writing: overlayfs, "upper and lower"
   abbrev pub is_copied_up : Looks N → Location N → Access → Bool
   is_copied_up looks file access =
-      access.writes && overlay_or false (λ overlay. lies_below overlay file.node) (looks.overlay file)
+      opens_for_writing access && overlay_or false (λ overlay. lies_below overlay file.node) (looks.overlay file)
 
   -- B1 and B2 of that copy-up (profile; overlayfs, "permission model")
   abbrev pub copy_rules : Bool → Looks N → Location N → Rules
@@ -57,9 +58,9 @@ module _ {N : Type 0} where
   open_rules looks task file access =
       (is_directory_at looks file, E2)
       ∷ (kind_at looks file White, E9)
-      ∷ (access.writes && is_read_only looks file, F1)
-      ∷ (access.writes && has_no_upper looks file, F2)
-      ∷ (access.writes && looks.is_locked file, L1)
+      ∷ (opens_for_writing access && is_read_only looks file, F1)
+      ∷ (opens_for_writing access && has_no_upper looks file, F2)
+      ∷ (opens_for_writing access && looks.is_locked file, L1)
       ∷ (may_not looks task file (access_rights access), C1)
       ∷ (mounter_may_not looks file (access_rights access), B1)
       ∷ copy_rules (is_copied_up looks file access) looks file

@@ -3,6 +3,7 @@ use Rattle.std.proofs.Common.{ap, ◌∙◌, map}
 use Rattle.vt_request.specs.Requests.{access_of}
 use Rattle.vt_tasks.proofs.OpenLemmas.{files-opened, writes-opened}
 use Rattle.vt_tasks.proofs.descriptors.Descriptors.files.Goals as goal
+use Rattle.vt_spec.specs.Language.Calls.{opens_for_writing}
 
 pub returns-clause-locations : goal.returns-clause-locations
 returns-clause-locations c =
@@ -12,6 +13,6 @@ returns-clause-locations c =
 
 pub returns-clause-writes : goal.returns-clause-writes
 returns-clause-writes c =
-    ap (map (λ held. (access_of held.access).writes)) (c.as_slice.ensures ∙ c.values.ensures.rest)
+    ap (map (λ held. opens_for_writing (access_of held.access))) (c.as_slice.ensures ∙ c.values.ensures.rest)
     ∙ writes-opened c.self.inside.by_number.entries
     ∙ ap (map (λ d. d.writes)) c.self.view_is
