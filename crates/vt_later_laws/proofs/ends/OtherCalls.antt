@@ -70,11 +70,11 @@ use Rattle.vt_later_laws.specs.Ends.{KeepsAllButMasters, sets_type, takes_uses}
 use Rattle.vt_later_laws.specs.Whiteouts.{AllTypesLeaveAllButMasters, OtherCallsLetWhiteoutsGo, replaced_as, replaced_by, replaced_if, replaced_in, replaced_over}
 
 -- the sweep takes nothing
-abbrev pub KeepsAll : World ℕ → Type 0
+abbrev KeepsAll : World ℕ → Type 0
 KeepsAll left = settled nat_eq left ≡ left
 
 -- or looks at these
-abbrev pub LetsGo : World ℕ → List Inode → Type 0
+abbrev LetsGo : World ℕ → List Inode → Type 0
 LetsGo left inodes = settled nat_eq left ≡ let_go_plain left inodes
 
 -- groups that are let go of lose their masters, and nothing else changes
@@ -98,6 +98,7 @@ no_name_made call e = absurd (true≢false (sym e))
 
 module _ (world : World ℕ) (fresh : Fresh ℕ) (task : Task ℕ) (call : Call)
     (of_mounts : changes_no_mount call ≡ false) where
+  -- so it is none of the others
   not_that : {A : Type 0} (other : Call) → call ≡ other → changes_no_mount other ≡ true → A
   not_that other e files = absurd (true≢false (sym files ∙ ap changes_no_mount (sym e) ∙ of_mounts))
 
@@ -113,6 +114,7 @@ module _ (world : World ℕ) (fresh : Fresh ℕ) (task : Task ℕ) (call : Call)
   no_change location (SetMark directory opaque) for = not_that _ for.1 refl
   no_change location (CopyUp object) for = for
 
+  -- and its permit asks for none
   pub asks_nothing : (permit : Permit ℕ) → IsFor (looks_of nat_eq world) task call permit
       → change_asked fresh world permit ≡ None
   asks_nothing (ToChange location change) for = absurd (no_change location change for)
@@ -174,6 +176,7 @@ module _ (world : World ℕ) (fresh : Fresh ℕ) (task : Task ℕ) (is : IsWorld
     there : is_among nat_eq number (map (λ (f : Filesystem ℕ). f.number) world.filesystems) ≡ true
     there = listed number world.filesystems location.node something
 
+    -- what the change needs
     may_change : (kind : Change ℕ) → IsProper files.tree kind → takes_a_name kind ≡ false → MayChange files kind
     may_change (Make directory name object node) may none =
         record { in_directory = may.name_is_free.in_directory; is_new = may.number_is_new }
@@ -185,7 +188,8 @@ module _ (world : World ℕ) (fresh : Fresh ℕ) (task : Task ℕ) (is : IsWorld
     may_change (SetMark directory opaque) may none = tt
     may_change (CopyUp object) may none = tt
 
-    pub plain_keeps : is_overlay merged ≡ false → KeepsAll left
+    -- in a plain tree nothing goes
+    plain_keeps : is_overlay merged ≡ false → KeepsAll left
     plain_keeps plain =
         file_changes_let_go (numbers_left fresh permit) world location change settles is.files.one_filesystem there
         plain after_tree (may_change change proper none)
@@ -193,7 +197,7 @@ module _ (world : World ℕ) (fresh : Fresh ℕ) (task : Task ℕ) (is : IsWorld
         (no_name_lost files change proper none)
 
     -- so it looks at what is replaced
-    pub change_goes : LetsGo left (replaced_over world merged.overlay change)
+    change_goes : LetsGo left (replaced_over world merged.overlay change)
     change_goes = by merged.overlay refl
       where
         over : (overlay : Overlay ℕ) → merged.overlay ≡ Some overlay → (o : Option (Layer ℕ)) → overlay.upper ≡ o
@@ -213,7 +217,7 @@ module _ (world : World ℕ) (fresh : Fresh ℕ) (task : Task ℕ) (is : IsWorld
         by (Some overlay) e = over overlay e overlay.upper refl
 
     -- with a new file that is opened
-    pub opened_goes : (name : List ℕ) (node : Node ℕ) (access : Access) → permit ≡ ToOpenNew location name node access
+    opened_goes : (name : List ℕ) (node : Node ℕ) (access : Access) → permit ≡ ToOpenNew location name node access
         → is_on_mount world location ≡ true
         → LetsGo (apply nat_eq fresh world task (ToOpenNew location name node access)).world
         (replaced_over world merged.overlay (Make location.node name (evens fresh 0) node))
@@ -314,6 +318,7 @@ module _ (world : World ℕ) (fresh : Fresh ℕ) (task : Task ℕ) (is : IsWorld
       by None = refl
       by (Some overlay) = over overlay overlay.upper
 
+  -- a mount may be attached at a destination
   attached : (place : Location ℕ) → IsDestination world task place → is_attached world place.mount ≡ true
   attached place at = ap is_some at.own
 
@@ -340,6 +345,7 @@ module _ (world : World ℕ) (fresh : Fresh ℕ) (task : Task ℕ) (is : IsWorld
     abbrev not_this : {A : Type 0} (other : Call) → call ≡ other → takes_uses other ≡ true → A
     not_this other e takes = absurd (true≢false (sym takes ∙ ap takes_uses (sym e) ∙ only))
 
+    -- calls on files: link(2), write(2), chmod(2), chown(2), setxattr(2)
     change_leaves : (location : Location ℕ) (change : Change ℕ)
         → judge_in nat_eq fresh world task call ≡ Ok (ToChange location change)
         → IsFor (looks_of nat_eq world) task call (ToChange location change)
@@ -362,6 +368,7 @@ module _ (world : World ℕ) (fresh : Fresh ℕ) (task : Task ℕ) (is : IsWorld
         something
     change_leaves location (CopyUp object) judged for something = absurd for
 
+    -- pwrite(2)
     written_leaves : (file : Location ℕ) (offset : ℕ) (bytes : List ℕ)
         → judge_in nat_eq fresh world task call ≡ Ok (ToWritePart file offset bytes)
         → is_some (node_at nat_eq world file) ≡ true → Goes (ToWritePart file offset bytes)
@@ -371,6 +378,7 @@ module _ (world : World ℕ) (fresh : Fresh ℕ) (task : Task ℕ) (is : IsWorld
         (SetBytes file.node (overwritten offset (byte ∷ bytes) (bytes_in (node_at nat_eq world file)))) refl refl
         something
 
+    -- each permit
     permit_leaves : (permit : Permit ℕ) → judge_in nat_eq fresh world task call ≡ Ok permit
         → IsFor (looks_of nat_eq world) task call permit → NamesWhatIsThere world task permit → Leaves permit
     permit_leaves (ToChange location change) judged for names =
@@ -432,6 +440,7 @@ module _ (world : World ℕ) (fresh : Fresh ℕ) (task : Task ℕ) (is : IsWorld
     permit_leaves (ToPivot new put) judged for names = not_this (PivotRoot for.0 for.1) for.2 refl
     permit_leaves permit judged for names = is.nothing_unused
 
+    -- that a granted call is given
     granted_leaves : (permit : Permit ℕ) → mounts_overlay call ≡ false
         → judge_in nat_eq fresh world task call ≡ Ok permit → Leaves permit
     granted_leaves permit plainly judged =
@@ -479,6 +488,7 @@ module _ (world : World ℕ) (fresh : Fresh ℕ) (task : Task ℕ) (is : IsWorld
           (asks_nothing world fresh task (MountOverlay path options flags) refl permit
           (permits_are_for_their_calls fresh world task (MountOverlay path options flags) permit e))
 
+  -- any other call, granted or refused
   call_goes : (call : Call) → takes_uses call ≡ false → sets_type call ≡ false → mounts_overlay call ≡ false
       → LetsGo (call_outcome nat_eq fresh world task call).world (replaced_by fresh world task call)
   call_goes call only no_type plainly = by (judge_in nat_eq fresh world task call) refl

@@ -23,9 +23,9 @@ module _ (other : ℕ) where
   In files left = RemainsIn other files left
 
   -- the inodes of an overlay and those of its upper layer
-  pub record BothRemain (before left : Merge ℕ) : Type 0 where
-    pub files : In before.files left.files
-    pub upper : In before.upper left.upper
+  record BothRemain (before left : Merge ℕ) : Type 0 where
+    files : In before.files left.files
+    upper : In before.upper left.upper
 
   -- one step after the other
   then_remain : (a b c : Merge ℕ) → BothRemain a b → BothRemain b c → BothRemain a c
@@ -90,7 +90,7 @@ module _ (other : ℕ) where
       copied = copied_up nat_eq fresh merge object
 
   -- each change
-  pub merge_remains : (fresh : Fresh ℕ) (stack : Stack ℕ) (merge : Merge ℕ) (change : Change ℕ)
+  merge_remains : (fresh : Fresh ℕ) (stack : Stack ℕ) (merge : Merge ℕ) (change : Change ℕ)
       → takes_a_name change ≡ false → BothRemain merge (merge_changed nat_eq fresh stack merge change)
   merge_remains fresh stack merge (Make directory name number node) none =
       then_remain merge copied _ (up_remain (evens fresh) merge directory)

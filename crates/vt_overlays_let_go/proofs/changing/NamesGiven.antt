@@ -138,7 +138,7 @@ module _ (fresh : Fresh ℕ) (stack : Stack ℕ) (before : Merge ℕ) (fit : IsF
       ∙ ap (entry_at before.upper.tree d) (sym same) ∙ e
 
   -- of a new object
-  pub made_had : (directory : ℕ) (name : List ℕ) → is_some (before.files.tree.node directory) ≡ true
+  made_had : (directory : ℕ) (name : List ℕ) → is_some (before.files.tree.node directory) ≡ true
       → (d : ℕ) (n : List ℕ) (k : ℕ) → entry_at before.upper.tree d n ≡ Some k
       → IsAt (copied_up nat_eq (evens fresh) before directory) directory name d n → HadName (directory, name) k
   made_had directory name there d n k e at =
@@ -147,7 +147,7 @@ module _ (fresh : Fresh ℕ) (stack : Stack ℕ) (before : Merge ℕ) (fit : IsF
       there d n k e at.0) at.1
 
   -- of a further name
-  pub linked_had : (directory : ℕ) (name : List ℕ) (object : ℕ) → is_some (before.files.tree.node directory) ≡ true
+  linked_had : (directory : ℕ) (name : List ℕ) (object : ℕ) → is_some (before.files.tree.node directory) ≡ true
       → (d : ℕ) (n : List ℕ) (k : ℕ) → entry_at before.upper.tree d n ≡ Some k
       → IsAt (copied_up nat_eq (odds fresh) (copied_up nat_eq (evens fresh) before object) directory) directory name d n
       → HadName (directory, name) k
@@ -232,7 +232,7 @@ module _ (fresh : Fresh ℕ) (world : World ℕ) (location : Location ℕ) (chan
       (at_given change may none place.0 place.1 k place.2)
 
   -- it is all that may have lost its last name or overlay
-  pub has_lost : HasThese (inodes_lost_with_upper fresh world location overlay upper change)
+  has_lost : HasThese (inodes_lost_with_upper fresh world location overlay upper change)
       (replaced_in_upper world overlay upper change)
   has_lost filesystem inode lost =
       let found = one_passes (λ (i : Inode). nat_eq filesystem i.0 && nat_eq inode i.1)
@@ -260,7 +260,7 @@ module _ (fresh : Fresh ℕ) (world : World ℕ) (location : Location ℕ) (chan
       (subst (Among f) same m)) (option_to_list given)
 
   -- that goes which nothing uses
-  pub given_goes : settled nat_eq (with_change nat_eq fresh world location change)
+  given_goes : settled nat_eq (with_change nat_eq fresh world location change)
       ≡ let_go_plain (with_change nat_eq fresh world location change) (replaced_in_upper world overlay upper change)
   given_goes =
       goes_in_plain (with_change nat_eq fresh world location change) refl
