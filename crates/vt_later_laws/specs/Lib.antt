@@ -1,6 +1,7 @@
 pub mod Later
 pub mod LaterPaths
 pub mod Ends
+pub mod Whiteouts
 pub mod Exits
 pub mod LaterNames
 pub mod Tables

@@ -1,6 +1,6 @@
-//! What later calls see of earlier ones, and which calls let something go, in a world without overlays; and what the
-//! list of mounts tells after an unshare, what an unmount undoes, what an exit leaves, and that each thing goes with
-//! its last use, in every world.
+//! What later calls see of earlier ones, in a world without overlays; and which calls let something go, what the list
+//! of mounts tells after an unshare, what an unmount undoes, what an exit leaves, and that each thing goes with its last
+//! use, in every world.
 //!
 //! Each public function is a theorem of the written policy, and does nothing.
 #![tactic(auto)]

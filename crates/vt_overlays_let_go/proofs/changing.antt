@@ -4,6 +4,7 @@ pub mod Copied
 pub mod MountsOfOthers
 pub mod NamesCopied
 pub mod NamesFree
+pub mod NamesGiven
 pub mod NamesLost
 pub mod OverlayCalls
 pub mod OverlaysChanged

@@ -1,4 +1,5 @@
 //! What goes when an overlay changes.
+ghost use Rattle.vt_overlays_let_go.specs.NamesGiven.{GivenNamesLetGo, OpenedNamesLetGo};
 ghost use Rattle.vt_overlays_let_go.specs.OverlayCalls.{MadeInOverlaysLetsGo, OpenedNewInOverlaysLetsGo, RemovedFromOverlaysLetGo, RemovingKeepsTheMount, ReplacedInOverlaysLetGo, ReplacingKeepsTheMount, TakenAndOverlayChangesLetGo};
 ghost use Rattle.vt_overlays_let_go.specs.OverlayChanges.{OverlayChangesLetGo};
 ghost use Rattle.vt_overlays_let_go.specs.OverlayNames.{OnlyTheseLoseNames, OpenedCopiesKeepAll, OverlayChangesKeepAll, WrittenPartsInOverlaysKeepAll};
@@ -29,4 +30,11 @@ pub fn a_removal_keeps_the_mount_that_it_goes_through()
 pub fn what_is_opened_in_an_overlay_stays()
     ensures new { OpenedNewInOverlaysLetsGo }
     ensures copied_up { OpenedCopiesKeepAll }
+{}
+
+/// After a call on an overlay that takes no name away, nothing goes but what the upper layer had at the name that the
+/// call gave to something, if the call gave one and nothing uses that: a whiteout, since the overlay showed nothing.
+pub fn what_a_new_name_replaces_goes()
+    ensures change { GivenNamesLetGo }
+    ensures open { OpenedNamesLetGo }
 {}

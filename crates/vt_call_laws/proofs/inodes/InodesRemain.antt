@@ -17,18 +17,18 @@ use Rattle.vt_spec.specs.Machine.World.{Task, World, files_at}
 use Rattle.vt_spec.specs.Tree.{Node, entries_in, entry_named, node_with_bytes, node_with_entry}
 use Rattle.vt_tree_laws.specs.Trees.Calls.{mounts_overlay}
 
-abbrev Remains : Option (Node ℕ) → Option (Node ℕ) → Type 0
+abbrev pub Remains : Option (Node ℕ) → Option (Node ℕ) → Type 0
 Remains was now = is_some was ≡ true → is_some now ≡ true
 
 -- a change of a node that is there leaves one
-abbrev LeavesOne : (Option (Node ℕ) → Option (Node ℕ)) → Type 0
+abbrev pub LeavesOne : (Option (Node ℕ) → Option (Node ℕ)) → Type 0
 LeavesOne new = (node : Node ℕ) → is_some (new (Some node)) ≡ true
 
 module _ (other : ℕ) where
-  abbrev RemainsIn : FileTree ℕ → FileTree ℕ → Type 0
+  abbrev pub RemainsIn : FileTree ℕ → FileTree ℕ → Type 0
   RemainsIn files left = Remains (files.tree.node other) (left.tree.node other)
 
-  at_node : (files : FileTree ℕ) (number : ℕ) (new : Option (Node ℕ) → Option (Node ℕ)) → LeavesOne new
+  pub at_node : (files : FileTree ℕ) (number : ℕ) (new : Option (Node ℕ) → Option (Node ℕ)) → LeavesOne new
       → RemainsIn files (changed_node nat_eq files number new)
   at_node files number new leaves there = by (nat_eq other number) refl
     where
@@ -48,7 +48,7 @@ module _ (other : ℕ) where
   alone_remains files None there = there
   alone_remains files (Some object) there = at_node files object (node_with_parent object) (λ node. refl) there
 
-  named_remains : (files : FileTree ℕ) (directory : ℕ) (name : List ℕ) (object : ℕ)
+  pub named_remains : (files : FileTree ℕ) (directory : ℕ) (name : List ℕ) (object : ℕ)
       → RemainsIn files (with_name nat_eq files directory name object)
   named_remains files directory name object = at_node files directory (node_with_entry name object) (λ node. refl)
 
@@ -56,7 +56,7 @@ module _ (other : ℕ) where
       → RemainsIn files (without_name nat_eq files directory name)
   unnamed_remains files directory name = at_node files directory (node_without_entry name) (λ node. refl)
 
-  made_remains : (files : FileTree ℕ) (number : ℕ) (node : Node ℕ)
+  pub made_remains : (files : FileTree ℕ) (number : ℕ) (node : Node ℕ)
       → RemainsIn files (with_inode nat_eq files number node)
   made_remains files number node there = by (nat_eq other number)
     where
@@ -64,7 +64,7 @@ module _ (other : ℕ) where
       by true = refl
       by false = there
 
-  changed_remains : (files : FileTree ℕ) (change : Change ℕ) → RemainsIn files (changed nat_eq files change)
+  pub changed_remains : (files : FileTree ℕ) (change : Change ℕ) → RemainsIn files (changed nat_eq files change)
   changed_remains files (Make directory name number node) there =
       named_remains (with_inode nat_eq files number node) directory name number (made_remains files number node there)
   changed_remains files (AddName directory name object) there = named_remains files directory name object there

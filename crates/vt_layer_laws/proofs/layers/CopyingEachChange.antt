@@ -46,7 +46,7 @@ module _ (fresh : Fresh ℕ) (stack : Stack ℕ) (before : Merge ℕ) (fit : IsF
       (λ k. (k, refl)) object
 
   -- another line, by a part of what was spared
-  then_odds : (object other : ℕ)
+  pub then_odds : (object other : ℕ)
       → IsReady fresh before fit nothing_spared
       (line_to nat_eq before.files object ++ line_to nat_eq before.files other)
       (copied_up nat_eq (odds fresh) (copied_up nat_eq (evens fresh) before object) other)

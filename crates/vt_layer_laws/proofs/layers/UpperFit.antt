@@ -17,7 +17,7 @@ use Rattle.vt_spec.proofs.NodeChanges.{same_content_kind}
 use Rattle.vt_spec.proofs.Options.{none_is_some}
 
 -- an upper object is a real one
-upper_is : (real : Option (Real ℕ)) (object : ℕ) → upper_object real ≡ Some object → real ≡ Some (Upper object)
+pub upper_is : (real : Option (Real ℕ)) (object : ℕ) → upper_object real ≡ Some object → real ≡ Some (Upper object)
 upper_is None object e = none_is_some object e
 upper_is (Some (Upper other)) object e = ap (λ o. Some (Upper o)) (same_Some other object e)
 upper_is (Some (Below layer path)) object e = none_is_some object e

@@ -58,6 +58,24 @@ emptied_out files (Some object) d n k e =
     (emptied_other files (Some object) d (λ s. other.1 (sym (same_Some object d s)))) ∙ e))
     (eqb_tells d object)
 
+-- an entry of the upper layer is at a name of a directory of the overlay
+abbrev pub IsAt : Merge ℕ → ℕ → List ℕ → ℕ → List ℕ → Type 0
+IsAt merge directory name d n = (d ≡ upper_of merge directory) × (n ≡ name)
+
+-- A further name takes the place of what had it, and of nothing else
+linked_loses : (merge : Merge ℕ) (directory : ℕ) (name : List ℕ) (object : ℕ) (d : ℕ) (n : List ℕ) (k : ℕ)
+    → entry_at merge.upper.tree d n ≡ Some k
+    → HasName (linked nat_eq merge directory name object).upper.tree k ⊎ IsAt merge directory name d n
+linked_loses merge directory name object d n k e =
+    ⊎_elim inr
+    (λ differ. inl (
+      d,
+      n,
+      put_same merge.upper (upper_of merge directory) name (upper_of merge object) d n differ
+          ∙ e,
+    ))
+    (one_place d (upper_of merge directory) n name)
+
 -- Changes of an overlay of which all that they ask for is copied
 module _ (fresh : Fresh ℕ) (stack : Stack ℕ) (merge : Merge ℕ)
     (vacant : entries_in (merge.upper.tree.node (fresh 0)) ≡ []) where
@@ -91,10 +109,11 @@ module _ (fresh : Fresh ℕ) (stack : Stack ℕ) (merge : Merge ℕ)
       (among_numbers k (targets_in (merge.upper.tree.node d))
       (among_targets n (entries_in (merge.upper.tree.node d)) k e))
 
-  made_loses : (directory : ℕ) (name : List ℕ) (number : ℕ) (node : Node ℕ)
-      → NamedOr (made nat_eq fresh stack merge directory name number node).upper (under_name merge directory name)
+  made_loses : (directory : ℕ) (name : List ℕ) (number : ℕ) (node : Node ℕ) (d : ℕ) (n : List ℕ) (k : ℕ)
+      → entry_at merge.upper.tree d n ≡ Some k
+      → HasName (made nat_eq fresh stack merge directory name number node).upper.tree k ⊎ IsAt merge directory name d n
   made_loses directory name number node d n k e =
-      ⊎_elim (λ same. inr (at_place merge.upper d (upper_of merge directory) n name k e same))
+      ⊎_elim inr
       (λ differ. inl (
         d,
         n,
@@ -110,18 +129,6 @@ module _ (fresh : Fresh ℕ) (stack : Stack ℕ) (merge : Merge ℕ)
     where
       object : Node ℕ
       object = record { attr = node.attr; content = content_with_parent (upper_of merge directory) node.content }
-
-  linked_loses : (directory : ℕ) (name : List ℕ) (object : ℕ)
-      → NamedOr (linked nat_eq merge directory name object).upper (under_name merge directory name)
-  linked_loses directory name object d n k e =
-      ⊎_elim (λ same. inr (at_place merge.upper d (upper_of merge directory) n name k e same))
-      (λ differ. inl (
-        d,
-        n,
-        put_same merge.upper (upper_of merge directory) name (upper_of merge object) d n differ
-            ∙ e,
-      ))
-      (one_place d (upper_of merge directory) n name)
 
   removed_loses : (directory : ℕ) (name : List ℕ) (object : ℕ)
       → NamedOr (removed nat_eq fresh stack merge directory name object).upper
@@ -292,29 +299,47 @@ module _ (fresh : Fresh ℕ) (stack : Stack ℕ) (before : Merge ℕ) (fit : IsF
   abbrev later : Change ℕ → FileTree ℕ
   later change = (merge_changed nat_eq fresh stack before change).upper
 
-  pub loses : (change : Change ℕ) (d : ℕ) (n : List ℕ) (k : ℕ) → entry_at before.upper.tree d n ≡ Some k
-      → HasName (later change).tree k ⊎ Among k (upper_names_lost (copied_for fresh before change) change)
-  loses (Make directory name number node) d n k e =
+  -- what loses its last name to an object that is made, or to a further name, had that name
+  pub made_at : (directory : ℕ) (name : List ℕ) (number : ℕ) (node : Node ℕ) (d : ℕ) (n : List ℕ) (k : ℕ)
+      → entry_at before.upper.tree d n ≡ Some k
+      → HasName (later (Make directory name number node)).tree k
+      ⊎ IsAt (copied_up nat_eq (evens fresh) before directory) directory name d n
+  made_at directory name number node d n k e =
       let copied = evens_copied directory in
-      made_loses (odds fresh) stack (copied_up nat_eq
-      (evens fresh) before directory) copied.empty_next directory name number node d n k
-      (copied.stays d n k e)
-  loses (AddName directory name object) d n k e =
+      made_loses (odds fresh) stack (copied_up nat_eq (evens fresh) before directory) copied.empty_next directory name
+      number node d n k (copied.stays d n k e)
+
+  -- names stand when the object and the directory of a further name are copied
+  both_stay : (directory object : ℕ) (d : ℕ) (n : List ℕ) (k : ℕ) → entry_at before.upper.tree d n ≡ Some k
+      → entry_at (copied_up nat_eq (odds fresh) (copied_up nat_eq (evens fresh) before object) directory).upper.tree d n
+      ≡ Some k
+  both_stay directory object d n k e =
       let done = then_by object directory (odds fresh) (odd_distinct fresh fit.distinct) no_spare (λ j s. s)
       (λ j. (j, refl))
       (λ m s. absurd s) in
+      subst (λ m. entry_at m.upper.tree d n ≡ Some k) (sym done.is) (done.fine.stays d n k e)
+
+  pub linked_at : (directory : ℕ) (name : List ℕ) (object : ℕ) (d : ℕ) (n : List ℕ) (k : ℕ)
+      → entry_at before.upper.tree d n ≡ Some k
+      → HasName (later (AddName directory name object)).tree k
+      ⊎ IsAt (copied_up nat_eq (odds fresh) (copied_up nat_eq (evens fresh) before object) directory) directory name d n
+  linked_at directory name object d n k e =
+      linked_loses (copied_up nat_eq (odds fresh) (copied_up nat_eq (evens fresh) before object) directory) directory
+      name object d n k (both_stay directory object d n k e)
+
+  pub loses : (change : Change ℕ) (d : ℕ) (n : List ℕ) (k : ℕ) → entry_at before.upper.tree d n ≡ Some k
+      → HasName (later change).tree k ⊎ Among k (upper_names_lost (copied_for fresh before change) change)
+  loses (Make directory name number node) d n k e =
+      let copied = copied_up nat_eq (evens fresh) before directory in
+      ⊎_elim inl
+      (λ at. inr (at_place copied.upper d (upper_of copied directory) n name k ((evens_copied directory).stays d n k e)
+      at))
+      (made_at directory name number node d n k e)
+  loses (AddName directory name object) d n k e =
       let copied = copied_up nat_eq (odds fresh) (copied_up nat_eq (evens fresh) before object) directory in
-      let still : entry_at copied.upper.tree d n ≡ Some k =
-      subst (λ m. entry_at m.upper.tree d n ≡ Some k) (sym done.is)
-      (done.fine.stays d n k e) in
-      ⊎_elim (λ same. inr (at_place copied.upper d (upper_of copied directory) n name k still same))
-      (λ differ. inl (
-        d,
-        n,
-        put_same copied.upper (upper_of copied directory) name (upper_of copied object) d n differ
-            ∙ still,
-      ))
-      (one_place d (upper_of copied directory) n name)
+      ⊎_elim inl
+      (λ at. inr (at_place copied.upper d (upper_of copied directory) n name k (both_stay directory object d n k e) at))
+      (linked_at directory name object d n k e)
   loses (Remove directory name object) d n k e =
       let copied = evens_copied directory in
       removed_loses (odds fresh) stack
@@ -358,7 +383,7 @@ module _ (fresh : Fresh ℕ) (stack : Stack ℕ) (before : Merge ℕ) (fit : IsF
   loses (CopyUp object) d n k e = inl (d, n, all_copied object d n k e)
 
 -- an inode that has a name has an entry
-entry_of : (files : FileTree ℕ) → IsListedTree files → (k : ℕ) → Among k (named_in files)
+pub entry_of : (files : FileTree ℕ) → IsListedTree files → (k : ℕ) → Among k (named_in files)
     → (d : ℕ) × (n : List ℕ) × (entry_at files.tree d n ≡ Some k)
 entry_of files listed k m =
     let one = among-from_flat_map (λ d. targets_in (files.tree.node d)) files.numbers k m in

@@ -17,6 +17,7 @@ use Rattle.vt_letting_go.specs.InUse.{HasTrees, UppersArePlain}
 use Rattle.vt_letting_go.specs.Leaving.{only_these_are_left, with_tasks}
 use Rattle.vt_letting_go.specs.LeavingOverlays.{IsSettled}
 use Rattle.vt_letting_go.specs.MountingOverlays.{used_by_gone_with_layers}
+use Rattle.vt_letting_go.specs.OneByOne.{Inode}
 use Rattle.vt_letting_go.specs.Overlays.{RealsAreThere, let_go_all, let_go_all_inodes}
 use Rattle.vt_letting_go.specs.TreesOverlays.{in_use_of, with_filesystems, with_lost}
 use Rattle.vt_letting_go.specs.Unmounting.{numbers_of_trees}
@@ -30,7 +31,7 @@ use Rattle.vt_world_laws.specs.Worlds.Permits.{IsReached}
 use Rattle.vt_overlays_let_go.specs.OverlayCalls.{MadeInOverlaysLetsGo, OpenedNewInOverlaysLetsGo, RemovedFromOverlaysLetGo, ReplacedInOverlaysLetGo, TakenAndOverlayChangesLetGo, is_on_mount, keeps_a_mount}
 use Rattle.vt_overlays_let_go.specs.OverlayChanges.{CanChange, inodes_lost_with_upper}
 use Rattle.vt_overlays_let_go.proofs.changing.MountsOfOthers.{from_reached, parent_reached, removing_keeps_the_mount, replacing_keeps_the_mount}
-use Rattle.vt_overlays_let_go.proofs.changing.OverlaysChanged.{all_changed, becomes, is_swap, merged, merged_there, new_merged, overlay_changes_let_go, reals_then, settles, swap_both, trees_then, uppers_then}
+use Rattle.vt_overlays_let_go.proofs.changing.OverlaysChanged.{HasThese, all_changed, all_changed_within, becomes, is_swap, merged, merged_there, new_merged, overlay_changes_let_go, reals_then, settles, swap_both, trees_then, uppers_then}
 use Rattle.vt_spec.proofs.Worlds.{number-mount_in}
 
 -- the mount of a location is there
@@ -59,7 +60,7 @@ keeps_its_mount world conditions gone location on stays =
     number : ℕ
     number = (mount_at nat_eq world location).filesystem
 
-reached_on_mount : (world : World ℕ) (task : Task ℕ) (location : Location ℕ) → IsReached world task location
+pub reached_on_mount : (world : World ℕ) (task : Task ℕ) (location : Location ℕ) → IsReached world task location
     → is_on_mount world location ≡ true
 reached_on_mount world task location reached =
     (and_parts (is_on_mount world location)
@@ -169,22 +170,20 @@ module _ (fresh : Fresh ℕ) (world : World ℕ) (location : Location ℕ) (chan
       taken : World ℕ
       taken = taken_away nat_eq world gone
 
-  -- and a task comes to more locations
-  pub goes_with_task : (new : Task ℕ) → only_these_are_left world (with_task world new).tasks [] ≡ true
+  -- and a task comes to more locations; of inodes with all that may have lost their last name
+  pub goes_with_task_within : (new : Task ℕ) → only_these_are_left world (with_task world new).tasks [] ≡ true
       → is_on_mount world location ≡ true
+      → (wider : List Inode) → HasThese (inodes_lost_with_upper fresh world location overlay upper change) wider
       → settled nat_eq (with_task (with_change nat_eq fresh world location change) new)
-      ≡ let_go_all_inodes (with_task (with_change nat_eq fresh world location change) new)
-      (inodes_lost_with_upper fresh world location overlay upper change)
-  goes_with_task new only on =
-      subst (λ w. settled nat_eq (with_task w new) ≡ let_go_all_inodes (with_task w new)
-      (inodes_lost_with_upper fresh world location overlay upper change))
+      ≡ let_go_all_inodes (with_task (with_change nat_eq fresh world location change) new) wider
+  goes_with_task_within new only on wider has =
+      subst (λ w. settled nat_eq (with_task w new) ≡ let_go_all_inodes (with_task w new) wider)
       (sym (is_swap fresh world location change overlay upper conditions can world refl refl))
-      (left_and_changed_lets_go world tasks [] swap (inodes_lost_with_upper fresh world location overlay upper change)
-      settled_world only
+      (left_and_changed_lets_go world tasks [] swap wider settled_world only
       (trees_then fresh world location change overlay upper conditions can)
       (uppers_then fresh world location change overlay upper conditions can)
       (reals_then fresh world location change overlay upper conditions can)
-      (all_changed fresh world location change overlay upper conditions can
+      (all_changed_within fresh world location change overlay upper conditions can
       (in_use_of (with_filesystems (with_tasks world tasks) swap))
       (lives_then (with_tasks world tasks) refl
       (any_passes (λ (m : Mount ℕ). nat_eq number m.filesystem)
@@ -192,7 +191,7 @@ module _ (fresh : Fresh ℕ) (world : World ℕ) (location : Location ℕ) (chan
       (among-filter (mount_lives nat_eq (with_tasks world tasks)) world.mounts at_location there
       (passes (mount_lives nat_eq (with_tasks world tasks)) world.mounts
       (mounts_but world tasks [] settled_world.in_use settled_world.mounts only) at_location there))
-      (eq-eqb number number refl)))))
+      (eq-eqb number number refl))) wider has))
     where
       tasks : List (Task ℕ)
       tasks = (with_task world new).tasks
@@ -205,6 +204,15 @@ module _ (fresh : Fresh ℕ) (world : World ℕ) (location : Location ℕ) (chan
 
       there : Among at_location world.mounts
       there = mount_there world conditions location on
+
+  pub goes_with_task : (new : Task ℕ) → only_these_are_left world (with_task world new).tasks [] ≡ true
+      → is_on_mount world location ≡ true
+      → settled nat_eq (with_task (with_change nat_eq fresh world location change) new)
+      ≡ let_go_all_inodes (with_task (with_change nat_eq fresh world location change) new)
+      (inodes_lost_with_upper fresh world location overlay upper change)
+  goes_with_task new only on =
+      goes_with_task_within new only on (inodes_lost_with_upper fresh world location overlay upper change)
+      (λ filesystem inode e. e)
 
 pub made_in_overlays_lets_go : MadeInOverlaysLetsGo
 made_in_overlays_lets_go fresh world task directory name node overlay upper conditions can =

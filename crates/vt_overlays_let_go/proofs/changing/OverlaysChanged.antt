@@ -4,6 +4,7 @@ use Rattle.std.proofs.lemmas.Bool.{and_parts, not-true, or_cases, cases_Bool}
 use Rattle.std.proofs.lemmas.List.Folds.{list_any-append}
 use Rattle.std.specs.List.{filter_map, list_all}
 use Rattle.std.specs.Prelude.{All}
+use Rattle.std.proofs.lemmas.List.Elements.{All-weaker}
 use Rattle.vt_spec.specs.FileTree.{FileTree}
 use Rattle.vt_spec.specs.Language.Changes.{Change}
 use Rattle.vt_spec.specs.Lists.{Fresh, holds_of, is_among}
@@ -45,6 +46,34 @@ of_number number list filesystem inode same m =
     (number, inode)
     (among-map (λ i. (number, i)) list inode m)
     (ap (λ b. b && nat_eq inode inode) (eq-eqb filesystem number same) ∙ eq-eqb inode inode refl)
+
+-- inodes of a list are in another one
+abbrev pub HasThese : List Inode → List Inode → Type 0
+HasThese list wider = (filesystem inode : ℕ) → is_inode_among filesystem inode list ≡ true
+    → is_inode_among filesystem inode wider ≡ true
+
+-- what may have lost its last name is in a longer list, too
+changes_within : (last : World ℕ) (lost wider : List Inode) → HasThese lost wider → (old new : Filesystem ℕ)
+    → ChangesFilesystem last lost old new → ChangesFilesystem last wider old new
+changes_within last lost wider has old new is = record {
+  number = is.number;
+  root = is.root;
+  layers = is.layers;
+  inodes = is.inodes;
+  names = within (λ k. is_among nat_eq k (named_in new.files)) old.number (named_in old.files) is.names;
+  objects = λ target. within (λ k. is_among nat_eq k (objects_of_overlay nat_eq target new)) target
+      (objects_of_overlay nat_eq target old) (is.objects target);
+}
+  where
+    within : (kept : ℕ → Bool) (filesystem : ℕ) (list : List ℕ)
+        → list_all (λ k. kept k || is_inode_among filesystem k lost) list ≡ true
+        → list_all (λ k. kept k || is_inode_among filesystem k wider) list ≡ true
+    within kept filesystem list all =
+        all_pass (λ k. kept k || is_inode_among filesystem k wider) list (λ k m.
+        ⊎_elim (λ e. or_first (kept k) (is_inode_among filesystem k wider) e)
+        (λ e. or_second (kept k) (is_inode_among filesystem k wider) (has filesystem k e))
+        (or_cases (kept k) (is_inode_among filesystem k lost)
+        (passes (λ k. kept k || is_inode_among filesystem k lost) list all k m)))
 
 -- the real objects of an overlay in a filesystem
 abbrev objects_by : ℕ → List ℕ → Overlay ℕ → List ℕ
@@ -370,6 +399,13 @@ module _ (fresh : Fresh ℕ) (world : World ℕ) (location : Location ℕ) (chan
             (subst (ChangesFilesystem last lost layer) (sym s) of_layer)
         by f (is_other s) = subst (ChangesFilesystem last lost f) (sym s) (unchanged last lost f)
 
+    -- so it is of all lists that have these
+    pub all_changed_within : (wider : List Inode) → HasThese lost wider
+        → All (λ f. ChangesFilesystem last wider f (swap_both f)) world.filesystems
+    all_changed_within wider has = All-weaker (λ f. ChangesFilesystem last lost f (swap_both f))
+        (λ f. ChangesFilesystem last wider f (swap_both f))
+        (λ f is. changes_within last lost wider has f (swap_both f) is) world.filesystems all_changed
+
   pub becomes : swap_both merged ≡ new_merged
   becomes =
       ap (λ c. replaced_if_numbered nat_eq new_layer (cond c new_merged merged))
@@ -404,13 +440,33 @@ module _ (fresh : Fresh ℕ) (world : World ℕ) (location : Location ℕ) (chan
           (merge_changed nat_eq fresh (stack_of nat_eq (of fs) overlay upper)
           (merge_of nat_eq (of fs) merged overlay upper) change)).filesystems
 
-  goes : settled nat_eq then_ ≡ let_go_all_inodes then_ lost
-  goes = changed_trees_let_go world swap_both lost settles trees_then uppers_then reals_then
-      (all_changed then_ merged_then)
+  -- no overlay has the number of the upper layer's filesystem
+  pub layer_plain_then : (f : Filesystem ℕ) → Among f (with_change nat_eq fresh world location change).filesystems
+      → is_overlay f ≡ true → nat_eq f.number upper.filesystem ≡ false
+  layer_plain_then f m is = by (nat_eq f.number upper.filesystem) refl
+    where
+      has_none : has_upper_in f.number new_merged ≡ false
+      has_none =
+          among_from_all (λ g. has_upper_in f.number g ≡ false) then_.filesystems
+          (among_from_all (λ x. is_overlay x ≡ true → All
+          (λ g. has_upper_in x.number g ≡ false) then_.filesystems) then_.filesystems uppers_then f
+          (subst (λ w. Among f w.filesystems) (is_swap world refl refl) m) is) new_merged merged_then
+
+      by : (b : Bool) → nat_eq f.number upper.filesystem ≡ b → b ≡ false
+      by true e =
+          absurd (true≢false (sym (ap (holds_of (λ (l : Layer ℕ). nat_eq f.number l.filesystem)) can.upper_there ∙ e)
+          ∙ has_none))
+      by false e = refl
+
+  pub goes_within : (wider : List Inode) → HasThese lost wider
+      → settled nat_eq (with_change nat_eq fresh world location change)
+      ≡ let_go_all_inodes (with_change nat_eq fresh world location change) wider
+  goes_within wider has =
+      subst (λ w. settled nat_eq w ≡ let_go_all_inodes w wider) (sym (is_swap world refl refl))
+      (changed_trees_let_go world swap_both wider settles trees_then uppers_then reals_then
+      (all_changed_within then_ merged_then wider has))
 
 pub overlay_changes_let_go : OverlayChangesLetGo
 overlay_changes_let_go fresh world location change overlay upper conditions can =
-    subst (λ w. settled nat_eq w ≡ let_go_all_inodes w
-    (inodes_lost_with_upper fresh world location overlay upper change))
-    (sym (is_swap fresh world location change overlay upper conditions can world refl refl))
-    (goes fresh world location change overlay upper conditions can)
+    goes_within fresh world location change overlay upper conditions can
+    (inodes_lost_with_upper fresh world location overlay upper change) (λ filesystem inode e. e)

@@ -1,5 +1,4 @@
-mod EndedBy
-use Rattle.vt_later_laws.proofs.ends.only_these_calls_end_inodes.Answers.EndedBy.{only_these_end_inodes}
+use Rattle.vt_later_laws.proofs.ends.WithoutOverlays.{only_these_end_inodes}
 use Rattle.vt_later_laws.proofs.ends.only_these_calls_end_inodes.Goals as goal
 
 pub returns : goal.returns
