@@ -1,16 +1,17 @@
 -- What a new mount leaves at a destination that is not shared: one mount more, and the filesystem that it shows.
-use Rattle.std.proofs.Common.{◌≡◌, refl, ap, ◌∙◌, ℕ, nat_eq, eq-eqb, Bool, true, false, List, [], ◌∷◌, ◌++◌, None, Some, filter, flat_map, map, option_map}
+use Rattle.std.proofs.Common.{◌≡◌, refl, ap, ◌∙◌, ℕ, nat_eq, eq-eqb, Bool, true, false, not, List, [], ◌∷◌, ◌++◌, Option, None, Some, filter, flat_map, map, option_map}
 use Rattle.std.proofs.lemmas.List.{append-nil}
+use Rattle.std.specs.List.{cons_option}
 use Rattle.std.specs.Prelude.{if◌then◌else◌, unwrap_or}
 use Rattle.vt_spec.specs.Language.Calls.{MountFlags}
-use Rattle.vt_spec.specs.Lists.{Fresh, odds}
+use Rattle.vt_spec.specs.Lists.{Fresh, folded, odds, then_some, when}
 use Rattle.vt_spec.specs.Machine.Apply.{apply}
-use Rattle.vt_spec.specs.Machine.Attach.{Copies, Graft, copies_at, copies_from, copy_place, copy_type, graft_of, pushed_up, receivers_of, takes_part, twig_of, type_at, type_at_part}
+use Rattle.vt_spec.specs.Machine.Attach.{Copies, Graft, all_groups_made, copies_at, copies_from, copy_place, copy_type, graft_of, image, masters_with, nearest_image, pushed_up, receivers_of, takes_part, twig_master, twig_of, type_at, type_at_part}
 use Rattle.vt_spec.specs.Machine.Mounts.{Location, Mount, group_of}
 use Rattle.vt_spec.specs.Machine.Mounts.Propagation.{Private}
 use Rattle.vt_spec.specs.Machine.Outcome.Mounting.{new_mount, plain_filesystem, with_new_filesystem}
 use Rattle.vt_spec.specs.Machine.Permits.Permit.{ToMountPlain}
-use Rattle.vt_spec.specs.Machine.Receives.{receivers}
+use Rattle.vt_spec.specs.Machine.Receives.{is_member_of, receivers}
 use Rattle.vt_spec.specs.Machine.World.{Filesystem, Task, World, mount_at}
 use Rattle.vt_spec.proofs.Worlds.{number-mount_in}
 
@@ -110,3 +111,34 @@ module _ (fresh : Fresh ℕ) (world : World ℕ) (place : Location ℕ) (flags :
         mount_point = Some (point_is_destination i);
         propagation = type_is_private private i;
       }) ∷ [])
+
+  -- no group is made
+  pub master-new_mount : destination.propagation ≡ Private → (task : Task ℕ)
+      → (apply nat_eq fresh world task (ToMountPlain place flags)).world.master ≡ world.master
+  master-new_mount private task =
+      ap master_with (no_receivers (ap group_of private))
+      ∙ ap (λ made. folded (masters_with nat_eq) world.master (cons_option made [] ++ []))
+      (by (nat_eq destination.number place.mount))
+    where
+      by : (b : Bool)
+          → (if b then twig_master (twig_of alone_copies (group_of destination.propagation) origin)
+          else then_some (group_of destination.propagation) (λ group.
+          when (not (is_member_of nat_eq group destination)) (
+            image nat_eq alone_copies destination (twig_of alone_copies (group_of destination.propagation) origin) group,
+            nearest_image nat_eq larger alone_copies (destination ∷ []) destination
+                (twig_of alone_copies (group_of destination.propagation) origin) (world.master group),
+          ))) ≡ None
+      by true = ap (λ kind. twig_master (twig_of alone_copies (group_of kind) origin)) private
+      by false = ap (λ kind. then_some (group_of kind) (λ group.
+          when (not (is_member_of nat_eq group destination)) (
+            image nat_eq alone_copies destination (twig_of alone_copies (group_of destination.propagation) origin) group,
+            nearest_image nat_eq larger alone_copies (destination ∷ []) destination
+                (twig_of alone_copies (group_of destination.propagation) origin) (world.master group),
+          ))) private
+
+      master_with : List (Mount ℕ) → ℕ → Option ℕ
+      master_with others =
+          folded (masters_with nat_eq) world.master (all_groups_made nat_eq larger
+          (copies_from nat_eq (odds fresh) (destination ∷ others) (origin ∷ []))
+          (graft_of nat_eq larger (copies_from nat_eq (odds fresh) (destination ∷ others) (origin ∷ [])) place false
+          (origin ∷ [])) (destination ∷ others))

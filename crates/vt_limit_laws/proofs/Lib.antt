@@ -3,6 +3,9 @@ pub mod OneWordWalks
 pub mod Outcomes
 pub mod ScriptLines
 pub mod StackGrows
+pub mod StackUnmounted
 pub mod StackedMounts
 pub mod Supplies
 pub mod TopmostGrows
+pub mod TwoWordWalks
+pub mod UnmountedAgain

@@ -97,7 +97,8 @@ module _ (world : World ℕ) (task : Task ℕ) (path word : List ℕ) (one : Has
       ∙ ap (λ text. if_symlink end_of_walk text (followed nat_eq world task task.root end_of_walk))
       (directory_no_link (node_at nat_eq world top) way.directory)
 
-  directory_is_walked : directory_walk nat_eq world task path ≡ Ok end_of_walk
+  -- the walk to a directory
+  pub directory_is_walked : directory_walk nat_eq world task path ≡ Ok end_of_walk
   directory_is_walked =
       ap (λ walk. then_walk walk (λ here.
       walk_unless here.steps ((not (is_directory_at nat_eq world here.location), W3) ∷ []) here)) path_is_walked

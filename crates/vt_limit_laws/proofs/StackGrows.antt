@@ -16,12 +16,12 @@ use Rattle.vt_spec.specs.Machine.Invariants.{IsWorld}
 use Rattle.vt_spec.specs.Machine.Mounts.{Location, Mount, child_at, mount_in, root_of, stands_at, topmost}
 use Rattle.vt_spec.specs.Machine.Outcomes.{denied, granted}
 use Rattle.vt_spec.specs.Machine.Permits.Permit.{ToMountPlain}
-use Rattle.vt_spec.specs.Machine.Policy.{numbers_raised, policy, raised_task}
+use Rattle.vt_spec.specs.Machine.Policy.{numbers_raised, policy, raised_namespace, raised_task, same_mounts_in}
 use Rattle.vt_spec.specs.Machine.Filesystems.{raised}
 use Rattle.vt_spec.specs.Machine.Rightful.{node_allows}
 use Rattle.vt_spec.specs.Machine.Run.{Serves}
 use Rattle.vt_spec.specs.Machine.Settled.{settled}
-use Rattle.vt_spec.specs.Machine.World.{Filesystem, Task, World, filesystem_numbered, is_directory_at, is_removed_at, mount_at, mount_numbered, no_filesystem, node_at, root_attr}
+use Rattle.vt_spec.specs.Machine.World.{Filesystem, Namespace, Task, World, filesystem_numbered, is_directory_at, is_removed_at, mount_at, mount_numbered, no_filesystem, node_at, root_attr}
 use Rattle.vt_spec.specs.Rights.{execute_right}
 use Rattle.vt_spec.specs.Tree.{entries_in, entry_named, is_directory_node, new_directory}
 use Rattle.vt_spec.specs.FileTree.{is_removed, named_parent}
@@ -42,7 +42,7 @@ use Rattle.vt_world_laws.proofs.Plain.{plain_numbered}
 use Rattle.vt_world_laws.proofs.worlds.CallsKept.{calls_keep_worlds}
 use Rattle.vt_world_laws.proofs.worlds.ReachedWalks.{root_found}
 use Rattle.vt_later_laws.proofs.Granted.{called_raised}
-use Rattle.vt_limit_laws.proofs.AddedMount.{added_filesystem, added_mount}
+use Rattle.vt_limit_laws.proofs.AddedMount.{added_filesystem, added_mount, master-new_mount}
 use Rattle.vt_limit_laws.proofs.OneWordWalks.{HasOneWord}
 use Rattle.vt_limit_laws.proofs.Outcomes.{called_by_its_name, policy_by_judgement, refused_call}
 use Rattle.vt_limit_laws.proofs.StackedMounts.{IsStack, judged_by_room, mounted_world, mounts_after, one_more_mount}
@@ -70,12 +70,25 @@ filesystem_stays world added number node directory = by (find has_number world.f
         ∙ ap (λ found. option_or found (find has_number (added ∷ []))) e ∙ sym e)
 
 -- where no filesystem changed, all keep their change numbers
-filesystems_not_raised : (filesystems : List (Filesystem ℕ)) → map (raised_if_changed nat_eq []) filesystems ≡ filesystems
+pub filesystems_not_raised : (filesystems : List (Filesystem ℕ)) → map (raised_if_changed nat_eq []) filesystems ≡ filesystems
 filesystems_not_raised [] = refl
 filesystems_not_raised (filesystem ∷ rest) = ap (λ others. filesystem ∷ others) (filesystems_not_raised rest)
 
+-- namespaces keep their numbers where change numbers are raised
+pub numbers-raised_namespaces : (before left : World ℕ) (namespaces : List (Namespace ℕ))
+    → map (λ (namespace : Namespace ℕ). namespace.number) (map (raised_namespace nat_eq before left) namespaces)
+    ≡ map (λ namespace. namespace.number) namespaces
+numbers-raised_namespaces before left [] = refl
+numbers-raised_namespaces before left (namespace ∷ rest) =
+    λ i. by (same_mounts_in nat_eq before left namespace.number) i ∷ numbers-raised_namespaces before left rest i
+  where
+    by : (b : Bool) → (cond b namespace (record namespace { change = raised namespace.change })).number
+        ≡ namespace.number
+    by true = refl
+    by false = refl
+
 -- of a task whose change number is raised nothing else changes
-raised_task_is : (name : TaskName) (task : Task ℕ)
+pub raised_task_is : (name : TaskName) (task : Task ℕ)
     → (change : ℕ) × (raised_task name task ≡ record task { change = change })
 raised_task_is name task = by (same_name name task.name)
   where
@@ -138,7 +151,7 @@ module _ (world : World ℕ) (name : TaskName) (path word : List ℕ) (one : Has
         (calls_keep_worlds world fresh name (MountPlain path flags) stack.is stack.plain serves refl refl)
 
     -- Mounts
-    mounts_are : stacked_world.mounts ≡ world.mounts ++ (new ∷ [])
+    pub mounts_are : stacked_world.mounts ≡ world.mounts ++ (new ∷ [])
     mounts_are = mounts_after world name path word one count stack fresh flags
 
     number_is_new : (number : ℕ) → Among number (numbers_of world.mounts) → nat_eq number new.number ≡ false
@@ -162,7 +175,7 @@ module _ (world : World ℕ) (name : TaskName) (path word : List ℕ) (one : Has
     new_is_found = found_itself stacked_world.mounts kept.0.mounts.one_number new new_is_there
 
     -- Filesystems
-    filesystems_are : stacked_world.filesystems ≡ world.filesystems ++ (added ∷ [])
+    pub filesystems_are : stacked_world.filesystems ≡ world.filesystems ++ (added ∷ [])
     filesystems_are = filesystems_not_raised (world.filesystems ++ (added ∷ []))
 
     added_is_found : filesystem_numbered nat_eq stacked_world added.number ≡ added
@@ -274,3 +287,26 @@ module _ (world : World ℕ) (name : TaskName) (path word : List ℕ) (one : Has
           inside = ap (λ (mount : Mount ℕ). mount.namespace) new_is_found ∙ stack.inside;
           counted = one_more_mount world name path word one count stack fresh flags;
         }
+
+    -- its top is the root of the new mount, in the same namespace
+    pub grown_top : grown_stack.top ≡ root_of new
+    unfolding grown_stack
+    grown_top = refl
+
+    pub grown_namespace : grown_stack.task.namespace ≡ stack.task.namespace
+    unfolding grown_stack
+    grown_namespace = refl
+
+    -- all of the world after the call but its tasks and change numbers
+    pub stacked_world_is : stacked_world ≡ record world {
+      mounts = world.mounts ++ (new ∷ []);
+      filesystems = world.filesystems ++ (added ∷ []);
+      tasks = stacked_world.tasks;
+      namespaces = stacked_world.namespaces;
+      change = stacked_world.change;
+    }
+    stacked_world_is = λ i. record stacked_world {
+      mounts = mounts_are i;
+      filesystems = filesystems_are i;
+      master = master-new_mount fresh world stack.top flags stack.private stack.task i;
+    }
