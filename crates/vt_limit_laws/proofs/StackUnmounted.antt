@@ -28,7 +28,7 @@ use Rattle.vt_letting_go.proofs.sweeps.OfWorlds.{all_in_use}
 use Rattle.vt_world_laws.proofs.Raised.{counted}
 use Rattle.vt_world_laws.proofs.RaisedInUse.{in_use_later}
 use Rattle.vt_limit_laws.proofs.AddedMount.{added_mount}
-use Rattle.vt_limit_laws.proofs.OneWordWalks.{HasOneWord, directory_is_walked}
+use Rattle.vt_limit_laws.proofs.PathWalks.{HasOneWord, directory_is_walked, end_of_one, one_word_leads}
 use Rattle.vt_limit_laws.proofs.Outcomes.{policy_by_judgement}
 use Rattle.vt_limit_laws.proofs.StackGrows.{grown_stack, grown_top, raised_task_is, stacked_world, stacked_world_is}
 use Rattle.vt_limit_laws.proofs.StackedMounts.{IsStack}
@@ -44,9 +44,11 @@ module _ (world : World ℕ) (name : TaskName) (path word : List ℕ) (one : Has
   abbrev stacked : World ℕ
   stacked = stacked_world world name path word one count stack fresh flags serves room
 
+  -- its stack
   abbrev grown : IsStack (stacked_world world name path word one count stack fresh flags serves room) name word (suc count)
   grown = grown_stack world name path word one count stack fresh flags serves room
 
+  -- tasks use the locations that they used
   same_locations : all_locations (record world { tasks = stacked.tasks }) ≡ all_locations world
   same_locations = flat_map-map (raised_task name) locations_of world.tasks (λ task. by task (same_name name task.name))
     where
@@ -84,6 +86,7 @@ module _ (world : World ℕ) (name : TaskName) (path word : List ℕ) (one : Has
           (λ (namespace : Namespace ℕ). namespace.change) (λ (task : Task ℕ). (raised_task_is name task).0) world.change
           world (all_in_use world stack.is)
 
+  -- the world with the new mount, by its parts
   abbrev with_mount : World ℕ
   with_mount = with_new world fresh stack.top flags stack.is stack.plain serves stack.private (ap is_some stack.inside)
       stacked.tasks stacked.namespaces stacked.change same_locations given_back_in_use new
@@ -92,12 +95,14 @@ module _ (world : World ℕ) (name : TaskName) (path word : List ℕ) (one : Has
   abbrev permit : Permit ℕ
   permit = ToUnmount new.number
 
+  -- the mount is found by its number
   top_is_in : (one : World ℕ) → one ≡ with_mount → mount_numbered nat_eq one new.number ≡ new
   top_is_in one same =
       ap (λ (w : World ℕ). mount_numbered nat_eq w new.number) same
       ∙ new_is_found world fresh stack.top flags stack.is stack.plain serves stack.private (ap is_some stack.inside)
       stacked.tasks stacked.namespaces stacked.change same_locations given_back_in_use
 
+  -- nothing stands on it, and no task uses it
   not_busy : (one : World ℕ) → one ≡ with_mount → is_busy nat_eq one new.number ≡ false
   not_busy one same =
       ap (λ (w : World ℕ). is_busy nat_eq w new.number) same
@@ -106,13 +111,16 @@ module _ (world : World ℕ) (name : TaskName) (path word : List ℕ) (one : Has
       || none_uses_new world fresh stack.top flags stack.is stack.plain serves stack.private (ap is_some stack.inside)
       stacked.tasks stacked.namespaces stacked.change same_locations given_back_in_use i)
 
+  -- no rule refuses the unmount
   judged_unmount : judge_in nat_eq fresh stacked grown.task (Umount path) ≡ Ok permit
   unfolding umount_permit
   judged_unmount =
       ap (λ b. unless ((b, K1) ∷ []) (and_then (walk_end (directory_walk nat_eq stacked grown.task path)) judged_at))
       grown.admin
       ∙ ap (λ walk. and_then (walk_end walk) judged_at)
-      (directory_is_walked stacked grown.task path word one grown.object grown.top grown.way)
+      (directory_is_walked stacked grown.task path
+      (end_of_one stacked grown.task path word one grown.object grown.top grown.way)
+      (one_word_leads stacked grown.task path word one grown.object grown.top grown.way) grown.destination)
       ∙ ap (λ namespace. judged_by namespace grown.top) grown.inside
       ∙ ap (judged_by (Some grown.task.namespace))
       (grown_top world name path word one count stack fresh flags serves room)
@@ -142,6 +150,7 @@ module _ (world : World ℕ) (name : TaskName) (path word : List ℕ) (one : Has
   abbrev pub unmounted_world : World ℕ
   unmounted_world = numbers_raised nat_eq stacked name [] world_given_back
 
+  -- the call is granted, and leaves the world before the mount, but for tasks and change numbers
   pub top_is_unmounted : (handed : Fresh ℕ)
       → policy nat_eq handed stacked name (Umount path) ≡ granted Done unmounted_world
   top_is_unmounted handed =

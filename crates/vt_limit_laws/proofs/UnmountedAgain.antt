@@ -1,5 +1,5 @@
 -- A new mount on a private mount, unmounted again: when what nothing uses is gone, the world is as it was before.
-use Rattle.std.proofs.Common.{◌≡◌, refl, sym, ap, subst, ◌∙◌, inl, inr, ⊎_elim, true≢false, ℕ, nat_eq, eq-eqb, eqb-true, Bool, true, false, cond, not, ◌||◌, ◌&&◌, List, [], ◌∷◌, ◌++◌, Option, None, Some, filter, find, flat_map, is_some, map}
+use Rattle.std.proofs.Common.{◌≡◌, refl, sym, ap, ◌∙◌, inl, inr, ⊎_elim, true≢false, ℕ, nat_eq, eq-eqb, eqb-true, Bool, true, false, cond, not, ◌||◌, ◌&&◌, List, [], ◌∷◌, ◌++◌, Option, None, Some, filter, find, flat_map, is_some, map}
 use Rattle.std.specs.Prelude.{option_to_list, unwrap_or}
 use Rattle.std.specs.List.{list_all, list_any}
 use Rattle.std.proofs.Math.Bool.{or-false}
@@ -22,22 +22,21 @@ use Rattle.vt_spec.specs.Machine.Settled.{filesystem_lives, has_layer_on, is_mou
 use Rattle.vt_spec.specs.Machine.World.{Filesystem, Layer, Namespace, Task, World, all_locations, filesystem_numbered, is_overlay, layers_of, mount_at, mount_numbered, no_filesystem}
 use Rattle.vt_spec.specs.Tree.{is_directory_node}
 use Rattle.vt_spec.proofs.Found.{filter_all, found_among, found_passes}
-use Rattle.vt_spec.proofs.Lists.{Among, among-append, among-append_left, among-append_right, among-flat_map, among_from_all, among_numbers, none_among, none_from_among}
+use Rattle.vt_spec.proofs.Lists.{Among, among-append, among-append_left, among-append_right, among-flat_map, among_from_all, none_among, none_from_among}
 use Rattle.vt_spec.proofs.Truths.{nat_eq_false_turned}
-use Rattle.vt_spec.proofs.Worlds.{number-mount_in}
-use Rattle.vt_mount_laws.specs.Mounts.Attaching.{is_mount, numbers_of}
-use Rattle.vt_mount_laws.proofs.mounts.MountsNumbered.{is_one_of, number_is_old}
+use Rattle.vt_mount_laws.specs.Mounts.Attaching.{numbers_of}
+use Rattle.vt_mount_laws.proofs.mounts.MountsNumbered.{is_one_of}
 use Rattle.vt_mount_laws.proofs.mounts.MountsReplaced.{found-append}
 use Rattle.vt_letting_go.specs.Detaching.{StandsUnshared, detached_if, without_place}
 use Rattle.vt_letting_go.specs.InUse.{AllInUse}
 use Rattle.vt_letting_go.proofs.Lists.{map_alike, passes}
 use Rattle.vt_letting_go.proofs.leaving.Detached.{unmount_is_of_one}
-use Rattle.vt_letting_go.proofs.leaving.PlacesLeft.{found_is_there, place_attached}
+use Rattle.vt_letting_go.proofs.leaving.PlacesLeft.{place_attached}
 use Rattle.vt_letting_go.proofs.sweeps.InUse.{groups_stay, inodes_stay}
 use Rattle.vt_letting_go.proofs.sweeps.OfWorlds.{locations_of_worlds_stand, mounts_of_worlds_stand}
 use Rattle.vt_world_laws.specs.Worlds.Kept.{IsPlain}
 use Rattle.vt_world_laws.proofs.Plain.{no_overlay}
-use Rattle.vt_limit_laws.proofs.AddedMount.{added_filesystem, added_mount}
+use Rattle.vt_limit_laws.proofs.AddedMount.{added_filesystem, added_mount, attached_is_mount, other_number}
 
 -- what passes nowhere in a list is not found
 pub nothing_found : {A : Type 0} (test : A → Bool) (list : List A) → ((a : A) → Among a list → test a ≡ false)
@@ -60,22 +59,13 @@ module _ (world : World ℕ) (fresh : Fresh ℕ) (place : Location ℕ) (flags :
   abbrev new : Mount ℕ
   new = added_mount fresh world place flags
 
+  -- the filesystem that it shows
   abbrev added : Filesystem ℕ
   added = added_filesystem fresh world place flags
 
-  -- the mount of the world that a mount in a namespace is
-  attached_is_mount : (number : ℕ) → is_some (mount_numbered nat_eq world number).namespace ≡ true
-      → is_mount world number ≡ true
-  attached_is_mount number in_namespace =
-      subst (λ n. is_mount world n ≡ true) (number-mount_in world.mounts number)
-      (is_one_of world.mounts (mount_numbered nat_eq world number) (found_is_there world.mounts number in_namespace))
-
-  other_number : (number : ℕ) → is_mount world number ≡ true → nat_eq number new.number ≡ false
-  other_number number there =
-      number_is_old world fresh serves number (among_numbers (numbers_of world.mounts) number there) _
-
+  -- a mount of the world has another number than the new one
   other_mount : (mount : Mount ℕ) → Among mount world.mounts → nat_eq mount.number new.number ≡ false
-  other_mount mount m = other_number mount.number (is_one_of world.mounts mount m)
+  other_mount mount m = other_number fresh world place flags serves mount.number (is_one_of world.mounts mount m)
 
   -- the number of the new filesystem is that of no filesystem, and no mount shows it
   other_filesystem : (filesystem : Filesystem ℕ) → Among filesystem world.filesystems
@@ -88,6 +78,7 @@ module _ (world : World ℕ) (fresh : Fresh ℕ) (place : Location ℕ) (flags :
       filesystem.number
       (among-flat_map used_by_filesystem world.filesystems filesystem filesystem.number m (inl refl))))
 
+  -- no mount of the world shows that filesystem
   pub not_shown : (mount : Mount ℕ) → Among mount world.mounts → nat_eq added.number mount.filesystem ≡ false
   not_shown mount m = by (find has_number world.filesystems) refl
     where
@@ -122,12 +113,13 @@ module _ (world : World ℕ) (fresh : Fresh ℕ) (place : Location ℕ) (flags :
       filesystems = world.filesystems ++ (added ∷ []);
     }
 
+    -- no mount stands on the new one
     pub none_on_new : has_child nat_eq (with_new new) new.number ≡ false
     none_on_new =
         none_from_among (stands_on nat_eq new.number) (world.mounts ++ (new ∷ [])) (λ mount m.
         ⊎_elim (λ old. by mount old mount.mount_point refl)
         (λ last. ⊎_elim (λ same. ap (stands_on nat_eq new.number) same
-        ∙ nat_eq_false_turned place.mount new.number (other_number place.mount (attached_is_mount place.mount attached)))
+        ∙ nat_eq_false_turned place.mount new.number (other_number fresh world place flags serves place.mount (attached_is_mount world place.mount attached)))
         (λ none. absurd none) last) (among-append world.mounts (new ∷ []) mount m))
       where
         by : (mount : Mount ℕ) → Among mount world.mounts → (point : Option (Location ℕ)) → mount.mount_point ≡ point
@@ -135,9 +127,10 @@ module _ (world : World ℕ) (fresh : Fresh ℕ) (place : Location ℕ) (flags :
         by mount m None e = ap (λ o. holds_of (λ (at : Location ℕ). nat_eq new.number at.mount) o) e
         by mount m (Some at) e =
             ap (λ o. holds_of (λ (at : Location ℕ). nat_eq new.number at.mount) o) e
-            ∙ nat_eq_false_turned at.mount new.number (other_number at.mount (attached_is_mount at.mount
+            ∙ nat_eq_false_turned at.mount new.number (other_number fresh world place flags serves at.mount (attached_is_mount world at.mount
             (place_attached world (mounts_of_worlds_stand world is) mount m at e)))
 
+    -- it is found by its number
     pub new_is_found : mount_numbered nat_eq (with_new new) new.number ≡ new
     new_is_found =
         ap (λ found. unwrap_or found (no_mount new.number))
@@ -147,12 +140,13 @@ module _ (world : World ℕ) (fresh : Fresh ℕ) (place : Location ℕ) (flags :
         (λ mount m. nat_eq_false_turned mount.number new.number (other_mount mount m)))
         ∙ ap (λ b. cond b (Some new) None) (eq-eqb new.number new.number refl))
 
+    -- it stands on a mount that is not shared
     stands_unshared : StandsUnshared (with_new new) new.number
     stands_unshared =
         ap (λ (mount : Mount ℕ). list_all (λ at. not (is_shared (mount_at nat_eq (with_new new) at).propagation))
         (option_to_list mount.mount_point)) new_is_found
         ∙ ap (λ (mount : Mount ℕ). not (is_shared mount.propagation) && true)
-        (found-append world.mounts (new ∷ []) place.mount (attached_is_mount place.mount attached))
+        (found-append world.mounts (new ∷ []) place.mount (attached_is_mount world place.mount attached))
         ∙ ap (λ kind. not (is_shared kind) && true) private
 
     -- the mount alone is detached
@@ -171,6 +165,7 @@ module _ (world : World ℕ) (fresh : Fresh ℕ) (place : Location ℕ) (flags :
         list_any-append (is_member_of nat_eq group) world.mounts (detached new ∷ [])
         ∙ or-false (has_members nat_eq world.mounts group)
 
+    -- each group of a mount has its members and its master
     no_group_is_lost : (mount : Mount ℕ) → Among mount (world.mounts ++ (detached new ∷ []))
         → lost_a_group nat_eq (with_new (detached new)) mount ≡ false
     no_group_is_lost mount m =
@@ -198,6 +193,7 @@ module _ (world : World ℕ) (fresh : Fresh ℕ) (place : Location ℕ) (flags :
             || is_lost_group nat_eq (with_new (detached new)) (then_some source world.master)) e
             ∙ of_master group (among_from_all (HasLivingGroups nat_eq world) world.mounts is.mounts.groups mount old group e)
 
+    -- so the unmount detaches the new mount, and changes nothing else
     unmounted_is : unmounted nat_eq (with_new new) new.number ≡ with_new (detached new)
     unmounted_is =
         unmount_is_of_one (with_new new) new.number none_on_new stands_unshared
@@ -211,10 +207,11 @@ module _ (world : World ℕ) (fresh : Fresh ℕ) (place : Location ℕ) (flags :
     located_elsewhere =
         ap (list_any (λ location. nat_eq new.number location.mount)) same_locations
         ∙ none_from_among (λ (location : Location ℕ). nat_eq new.number location.mount) (all_locations world)
-        (λ location m. nat_eq_false_turned location.mount new.number (other_number location.mount
+        (λ location m. nat_eq_false_turned location.mount new.number (other_number fresh world place flags serves location.mount
         (passes (λ (at : Location ℕ). is_among nat_eq at.mount (numbers_of world.mounts)) (all_locations world)
         (locations_of_worlds_stand world is) location m)))
 
+    -- the sweep leaves the mounts that were there
     mounts_left : filter (mount_lives nat_eq (with_new (detached new))) (world.mounts ++ (detached new ∷ []))
         ≡ world.mounts
     mounts_left =
@@ -224,12 +221,15 @@ module _ (world : World ℕ) (fresh : Fresh ℕ) (place : Location ℕ) (flags :
         ++ cond (located_elsewhere i) (detached new ∷ []) [])
         ∙ append-nil world.mounts
 
+    -- then the filesystem is left over
     abbrev without_new : World ℕ
     without_new = record before { filesystems = world.filesystems ++ (added ∷ []) }
 
+    -- a mounted overlay has a layer in a filesystem
     abbrev has_its_layer : ℕ → Filesystem ℕ → Bool
     has_its_layer number merged = has_layer_on nat_eq number merged && is_mounted nat_eq without_new merged.number
 
+    -- none has one
     no_layers : (number : ℕ) → list_any (has_its_layer number) (world.filesystems ++ (added ∷ [])) ≡ false
     no_layers number =
         none_from_among (has_its_layer number) (world.filesystems ++ (added ∷ [])) (λ merged m.
@@ -238,6 +238,7 @@ module _ (world : World ℕ) (fresh : Fresh ℕ) (place : Location ℕ) (flags :
         (λ last. ⊎_elim (λ same. ap (has_its_layer number) same) (λ none. absurd none) last)
         (among-append world.filesystems (added ∷ []) merged m))
 
+    -- each filesystem that was there stays
     filesystem_stays_alive : (filesystem : Filesystem ℕ) → Among filesystem world.filesystems
         → filesystem_lives nat_eq without_new filesystem ≡ true
     filesystem_stays_alive filesystem m =
@@ -250,11 +251,13 @@ module _ (world : World ℕ) (fresh : Fresh ℕ) (place : Location ℕ) (flags :
         alive true old all last e f = refl
         alive false old all last e f = f ∙ ap (λ b. b || last) e
 
+    -- the new one goes
     added_is_dead : filesystem_lives nat_eq without_new added ≡ false
     added_is_dead =
         (λ i. none_from_among (λ (mount : Mount ℕ). nat_eq added.number mount.filesystem) world.mounts not_shown i
         || no_layers added.number i)
 
+    -- the sweep leaves the filesystems that were there
     filesystems_left : filter (filesystem_lives nat_eq without_new) (world.filesystems ++ (added ∷ []))
         ≡ world.filesystems
     filesystems_left =
@@ -270,11 +273,11 @@ module _ (world : World ℕ) (fresh : Fresh ℕ) (place : Location ℕ) (flags :
         ap (λ mount. is_used nat_eq (with_new new) (going nat_eq (with_new new) mount)) new_is_found
         ∙ ap (λ (mount : Mount ℕ). is_used nat_eq (with_new new)
         (going_from nat_eq (with_new new) new place (is_shared mount.propagation)))
-        (found-append world.mounts (new ∷ []) place.mount (attached_is_mount place.mount attached))
+        (found-append world.mounts (new ∷ []) place.mount (attached_is_mount world place.mount attached))
         ∙ ap (λ kind. is_used nat_eq (with_new new) (going_from nat_eq (with_new new) new place (is_shared kind))) private
         ∙ ap (list_any (λ location. is_among nat_eq location.mount (new.number ∷ []))) same_locations
         ∙ none_from_among (λ (location : Location ℕ). is_among nat_eq location.mount (new.number ∷ []))
-        (all_locations world) (λ location m. ap (λ b. b || false) (other_number location.mount
+        (all_locations world) (λ location m. ap (λ b. b || false) (other_number fresh world place flags serves location.mount
         (passes (λ (at : Location ℕ). is_among nat_eq at.mount (numbers_of world.mounts)) (all_locations world)
         (locations_of_worlds_stand world is) location m)))
 

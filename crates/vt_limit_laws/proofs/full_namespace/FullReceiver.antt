@@ -32,6 +32,7 @@ stacking = MountPlain (codes "/q") plain_flags
 abbrev mounting : Call
 mounting = MountPlain (codes "/s/d") plain_flags
 
+-- the lines that are repeated or come last, in each version of the language
 stacking_is_asked : (version : Version) → AsksFor (whole version) (codes "t.1 mount plain /q") (1 ∷ []) stacking
 unfolding request_of
 stacking_is_asked One = record { short = refl; loud = refl; asks = refl }
@@ -61,6 +62,7 @@ module _ (version : Version) where
       ∙ ap (λ reply. reply ++ text_from (whole version) (next_world (suc last) world name call) (suc (suc last)) lines [])
       replied
 
+-- the answers to the first seven lines, computed
 reply_1 : reply_line 1 (policy nat_eq (numbers_for 1) first_world [] (Mkdir (codes "/s") None)).answer ≡ codes "1 ok\n"
 unfolding everything digits
 reply_1 = refl
@@ -91,6 +93,7 @@ reply_7 : reply_line 7 (policy nat_eq (numbers_for 7) world_6 (1 ∷ []) Unshare
 unfolding everything digits
 reply_7 = refl
 
+-- what these lines ask for
 asked_1 : (version : Version) → AsksFor (whole version) (codes "t mkdir /s") [] (Mkdir (codes "/s") None)
 unfolding request_of
 asked_1 One = record { short = refl; loud = refl; asks = refl }
@@ -148,6 +151,7 @@ lines_from_2 lines = codes "t mkdir /q" ∷ lines_from_3 lines
 abbrev lines_from_1 : List (List ℕ) → List (List ℕ)
 lines_from_1 lines = codes "t mkdir /s" ∷ lines_from_2 lines
 
+-- they lead to the world from which the second task fills its namespace
 pub seven_lines : (version : Version) (lines : List (List ℕ))
     → text_from (whole version) first_world 1 (lines_from_1 lines) []
     ≡ codes "1 ok\n2 ok\n3 ok\n4 ok\n5 ok\n6 ok t.1\n7 ok\n" ++ text_from (whole version) world_7 8 lines []
@@ -178,6 +182,7 @@ seven_lines version lines =
 last_lines : List (List ℕ)
 last_lines = codes "t mount plain /s/d" ∷ codes "t.1 umount /q" ∷ codes "t mount plain /s/d" ∷ []
 
+-- the lines of the script behind the first seven
 stacking_lines : (count : ℕ)
     → lines_of (repeated count (codes "t.1 mount plain /q\n")
     ++ codes "t mount plain /s/d\nt.1 umount /q\nt mount plain /s/d\n")
@@ -186,10 +191,12 @@ unfolding repeated lines_repeated last_lines
 stacking_lines zero = refl
 stacking_lines (suc count) = ap (λ lines. codes "t.1 mount plain /q" ∷ lines) (stacking_lines count)
 
+-- all lines
 script_lines : (count : ℕ)
     → lines_of (receiver_script count) ≡ lines_from_1 (lines_repeated count (codes "t.1 mount plain /q") last_lines)
 script_lines count = ap lines_from_1 (stacking_lines count)
 
+-- a line once
 one_line : (line : List ℕ) (lines : List (List ℕ)) → lines_repeated 1 line lines ≡ line ∷ lines
 unfolding lines_repeated
 one_line line lines = refl
@@ -216,6 +223,7 @@ last_granted : numbered 4101 1 (codes " ok\n") ≡ codes "4101 ok\n"
 unfolding numbered digits
 last_granted = refl
 
+-- the answers to the last lines, printed
 ok_4101 : reply_line 4101 (Ok Done) ≡ codes "4101 ok\n"
 unfolding digits
 ok_4101 = refl
@@ -250,30 +258,38 @@ module _ (version : Version) where
     serves_4101 : Serves nat_eq world (numbers_for 4101)
     serves_4101 = next_numbers_serve world 4100 has
 
+    -- there is room for one more
     room : 4095 < most_mounts
     room = omega arith
 
+    -- the world with it
     abbrev full : World ℕ
     full = one_more 4095 world filled (numbers_for 4101) serves_4101 room
 
+    -- in which the namespace is full
     abbrev fuller : IsFilled 4096 full
     fuller = fills_on 4095 world filled (numbers_for 4101) serves_4101 room
 
+    -- the world without it again
     abbrev left : World ℕ
     left = one_less 4095 world filled (numbers_for 4101) serves_4101 room
 
+    -- the last mount is granted
     line_4101 : policy nat_eq (numbers_for 4101) world (1 ∷ []) stacking ≡ granted Done full
     line_4101 = stack_grows world (1 ∷ []) (codes "/q") (codes "q") path_has_one_word 4095 filled.stack (numbers_for 4101)
         plain_flags serves_4101 room
 
+    -- the namespace has 4,096 mounts
     full_count : mount_count full 39 ≡ 4096
     full_count = ap (mount_count full) (sym fuller.own) ∙ fuller.stack.counted
 
+    -- the mount on the shared one is refused
     line_4102 : policy nat_eq (numbers_for 4102) full [] mounting ≡ denied full (denial M9)
     line_4102 =
         full_receiver_refuses full (fuller.stack.is, fuller.stack.plain) fuller.receiver 4096 full_count
         (numbers_for 4102) refl
 
+    -- the numbers of the next line are not in use
     has_4102 : HasNumbersUntil 4102 full
     has_4102 =
         numbers_go_on (whole version) (codes "t mount plain /s/d") [] mounting (mounting_is_asked version) full 4101
@@ -281,11 +297,13 @@ module _ (version : Version) where
         (numbers_go_on (whole version) (codes "t.1 mount plain /q") (1 ∷ []) stacking (stacking_is_asked version) world 4100
         (granted Done full) has line_4101) line_4102
 
+    -- one mount is unmounted
     line_4103 : policy nat_eq (numbers_for 4103) full (1 ∷ []) (Umount (codes "/q")) ≡ granted Done left
     line_4103 =
         top_is_unmounted world (1 ∷ []) (codes "/q") (codes "q") path_has_one_word 4095 filled.stack (numbers_for 4101)
         plain_flags serves_4101 room (numbers_for 4103)
 
+    -- the mount on the shared one is granted
     line_4104 : (policy nat_eq (numbers_for 4104) left [] mounting).answer ≡ Ok Done
     line_4104 =
         receiver_with_room_grants left
@@ -294,6 +312,7 @@ module _ (version : Version) where
         (receiver_is_left 4095 world filled (numbers_for 4101) serves_4101 room) 4095
         (ap (mount_count left) (sym filled.own) ∙ filled.stack.counted) (numbers_for 4104) refl
 
+    -- the text of these lines
     last_text : text_from (whole version) world 4101 (codes "t.1 mount plain /q" ∷ last_lines) []
         ≡ codes "4101 ok\n4102 deny 28 ENOSPC M9\n4103 ok\n4104 ok\n"
     unfolding last_lines
@@ -312,6 +331,7 @@ module _ (version : Version) where
         ∙ ap (λ answer. codes "4101 ok\n4102 deny 28 ENOSPC M9\n4103 ok\n" ++ (reply_line 4104 answer ++ [])) line_4104
         ∙ ap (λ last. codes "4101 ok\n4102 deny 28 ENOSPC M9\n4103 ok\n" ++ (last ++ [])) ok_4104
 
+-- the whole text
 pub full_receiver_is_refused : FullReceiverRefuses
 unfolding machine_text
 full_receiver_is_refused version =

@@ -19,7 +19,7 @@ use Rattle.vt_world_laws.proofs.worlds.CallsKept.{Kept, calls_keep_worlds}
 use Rattle.vt_later_laws.proofs.Granted.{called_raised}
 use Rattle.vt_limit_laws.specs.Room.{NeedsRoom, lacks_room}
 use Rattle.vt_limit_laws.proofs.AddedMount.{added_filesystem, added_mount}
-use Rattle.vt_limit_laws.proofs.OneWordWalks.{HasOneWord}
+use Rattle.vt_limit_laws.proofs.PathWalks.{HasOneWord}
 use Rattle.vt_limit_laws.proofs.StackGrows.{filesystems_are, filesystems_not_raised, grown_namespace, grown_stack, mounts_are, numbers-raised_namespaces, stacked_world}
 use Rattle.vt_limit_laws.proofs.StackUnmounted.{top_is_unmounted, unmounted_world, world_given_back}
 use Rattle.vt_limit_laws.proofs.StackedMounts.{IsStack, mounted_world}
@@ -27,6 +27,7 @@ use Rattle.vt_limit_laws.proofs.full_namespace.ReceiverRoom.{HasReceiver, TwoTre
 use Rattle.vt_limit_laws.proofs.full_namespace.ReceiverWorld.{filesystems_are_two, first_is_called, first_number, first_of_two, first_root, first_tree, four_mounts, mounts_are_four, namespaces_are_two, second_number, second_place, second_place_reached, second_place_stays, second_root, second_is_own, second_starts, second_tree, world_7}
 use Rattle.vt_limit_laws.proofs.room.Refused.{new_mount_needs_room}
 
+-- the path of the mount point
 pub path_has_one_word : HasOneWord (codes "/q") (codes "q")
 path_has_one_word = record { parsed = refl; absolute = refl; words_are = refl; named = refl }
 
@@ -36,6 +37,7 @@ pub record IsFilled (count : ℕ) (world : World ℕ) : Type 0 where
   pub own : stack.task.namespace ≡ 39
   pub receiver : HasReceiver first_tree second_tree world
 
+-- the two trees
 trees : TwoTrees first_tree second_tree
 trees = record {
   first_number = first_number;
@@ -47,6 +49,7 @@ trees = record {
   reached = second_place_reached;
 }
 
+-- the namespace has two mounts at first
 pub first_is_filled : IsFilled 2 world_7
 first_is_filled = record {
   stack = second_starts;
@@ -69,12 +72,15 @@ module _ (count : ℕ) (world : World ℕ) (filled : IsFilled count world) (fres
   one_more = stacked_world world (1 ∷ []) (codes "/q") (codes "q") path_has_one_word count filled.stack fresh plain_flags
       serves room
 
+  -- the mount that comes
   abbrev new : Mount ℕ
   new = added_mount fresh world filled.stack.top plain_flags
 
+  -- the filesystem that it shows
   abbrev added : Filesystem ℕ
   added = added_filesystem fresh world filled.stack.top plain_flags
 
+  -- the world with both, before change numbers are raised
   abbrev mounted : World ℕ
   mounted = mounted_world world (1 ∷ []) (codes "/q") (codes "q") path_has_one_word count filled.stack fresh plain_flags
 
@@ -109,10 +115,12 @@ module _ (count : ℕ) (world : World ℕ) (filled : IsFilled count world) (fres
   one_less = unmounted_world world (1 ∷ []) (codes "/q") (codes "q") path_has_one_word count filled.stack fresh plain_flags
       serves room
 
+  -- that world before change numbers are raised
   abbrev left : World ℕ
   left = world_given_back world (1 ∷ []) (codes "/q") (codes "q") path_has_one_word count filled.stack fresh plain_flags
       serves room
 
+  -- the first task finds what it found
   pub receiver_is_left : HasReceiver first_tree second_tree one_less
   receiver_is_left = record {
     rest = filled.receiver.rest;
@@ -127,6 +135,7 @@ module _ (count : ℕ) (world : World ℕ) (filled : IsFilled count world) (fres
         ∙ numbers-raised_namespaces world mounted world.namespaces ∙ filled.receiver.listed;
   }
 
+  -- and the invariants hold
   pub one_less_is_kept : (handed : Fresh ℕ) → Serves nat_eq one_more handed → Kept one_less
   one_less_is_kept handed handed_serves =
       subst Kept (ap (λ outcome. outcome.world) (top_is_unmounted world (1 ∷ []) (codes "/q") (codes "q")

@@ -29,7 +29,7 @@ use Rattle.vt_world_laws.proofs.Plain.{plain_numbered}
 use Rattle.vt_world_laws.proofs.worlds.Roots.{child_in}
 use Rattle.vt_limit_laws.specs.Room.{how_many_in, lacks_room, none_fails}
 use Rattle.vt_limit_laws.proofs.TopmostGrows.{topmost_of_free}
-use Rattle.vt_limit_laws.proofs.TwoWordWalks.{HasTwoWords, WordLeads, two_words_lead}
+use Rattle.vt_limit_laws.proofs.PathWalks.{HasTwoWords, WordLeads, destination_is_walked, end_of_two, two_words_lead}
 use Rattle.vt_limit_laws.proofs.UnmountedAgain.{nothing_found}
 use Rattle.vt_limit_laws.proofs.full_namespace.ReceiverWorld.{first_of_two, four_mounts, root_mount, shared_mount}
 
@@ -93,6 +93,7 @@ module _ (first second : Filesystem ℕ) (trees : TwoTrees first second) (world 
   first_mount_is : mount_numbered nat_eq world 0 ≡ root_mount 0 1
   first_mount_is = ap (λ mounts. mount_in nat_eq mounts 0) has.mounts
 
+  -- the shared mount
   shared_mount_is : mount_numbered nat_eq world 17 ≡ shared_mount 17 1 0
   shared_mount_is = ap (λ mounts. mount_in nat_eq mounts 17) has.mounts
 
@@ -117,12 +118,14 @@ module _ (first second : Filesystem ℕ) (trees : TwoTrees first second) (world 
           (ap (λ (one : Mount ℕ). list_all (nat_eq 1) (option_to_list one.namespace)) shared_mount_is))
           ∙ elsewhere mount.namespace (and_parts _ _ (passes is_other has.rest has.others mount m)).1))
 
+  -- nothing stands on the root of the shared mount
   nothing_on_root : child_at nat_eq world.mounts (record { mount = 17; node = 22 }) ≡ None
   nothing_on_root =
       ap (λ mounts. child_at nat_eq mounts (record { mount = 17; node = 22 })) has.mounts
       ∙ nothing_found (stands_at nat_eq (record { mount = 17; node = 22 })) has.rest
       (λ mount m. rest_stands_apart mount m 22)
 
+  -- nor at the place
   nothing_on_place : child_at nat_eq world.mounts place ≡ None
   nothing_on_place =
       ap (λ mounts. child_at nat_eq mounts place) has.mounts
@@ -137,6 +140,7 @@ module _ (first second : Filesystem ℕ) (trees : TwoTrees first second) (world 
       (find (λ (filesystem : Filesystem ℕ). nat_eq 2 filesystem.number) (second ∷ has.more))) (no_filesystem 2))
       trees.first_number
 
+  -- the filesystem of the shared mount
   second_is_found : filesystem_numbered nat_eq world 13 ≡ second
   second_is_found =
       ap (λ list. unwrap_or (find (λ (filesystem : Filesystem ℕ). nat_eq 13 filesystem.number) list) (no_filesystem 13))
@@ -145,6 +149,7 @@ module _ (first second : Filesystem ℕ) (trees : TwoTrees first second) (world 
       (cond (nat_eq 13 (trees.second_number i)) (Some second)
       (find (λ (filesystem : Filesystem ℕ). nat_eq 13 filesystem.number) has.more))) (no_filesystem 13))
 
+  -- the first task's root directory
   root_is : node_at nat_eq world (record { mount = 0; node = 3 }) ≡ Some (record {
     attr = root_attr;
     content = Directory 3 ((codes "q", 9) ∷ (codes "s", 6) ∷ []) false;
@@ -153,6 +158,7 @@ module _ (first second : Filesystem ℕ) (trees : TwoTrees first second) (world 
       ap (λ (mount : Mount ℕ). (filesystem_numbered nat_eq world mount.filesystem).files.tree.node 3) first_mount_is
       ∙ ap (λ (filesystem : Filesystem ℕ). filesystem.files.tree.node 3) first_is_found ∙ trees.first_root
 
+  -- the root of the shared mount
   middle_is : node_at nat_eq world (record { mount = 17; node = 22 }) ≡ Some (record {
     attr = root_attr;
     content = Directory 22 ((codes "d", 24) ∷ []) false;
@@ -161,6 +167,7 @@ module _ (first second : Filesystem ℕ) (trees : TwoTrees first second) (world 
       ap (λ (mount : Mount ℕ). (filesystem_numbered nat_eq world mount.filesystem).files.tree.node 22) shared_mount_is
       ∙ ap (λ (filesystem : Filesystem ℕ). filesystem.files.tree.node 22) second_is_found ∙ trees.second_root
 
+  -- the directory of the place
   place_is : node_at nat_eq world place ≡ second.files.tree.node 24
   place_is =
       ap (λ (mount : Mount ℕ). (filesystem_numbered nat_eq world mount.filesystem).files.tree.node 24) shared_mount_is
@@ -171,6 +178,7 @@ module _ (first second : Filesystem ℕ) (trees : TwoTrees first second) (world 
   path_has_two_words =
       record { parsed = refl; absolute = refl; words_are = refl; first_named = refl; second_named = refl }
 
+  -- `s` leads to the root of the shared mount
   first_word_leads : WordLeads world task (record { mount = 0; node = 3 }) (codes "s") 6 (record { mount = 17; node = 22 })
   first_word_leads = record {
     searched = ap is_directory_node root_is;
@@ -183,6 +191,7 @@ module _ (first second : Filesystem ℕ) (trees : TwoTrees first second) (world 
     directory = ap is_directory_node middle_is;
   }
 
+  -- `d` leads from there to the place
   second_word_leads : WordLeads world task (record { mount = 17; node = 22 }) (codes "d") 24 place
   second_word_leads = record {
     searched = ap is_directory_node middle_is;
@@ -193,6 +202,7 @@ module _ (first second : Filesystem ℕ) (trees : TwoTrees first second) (world 
     directory = ap is_directory_node place_is ∙ trees.place;
   }
 
+  -- which is not removed
   place_stays : is_removed_at nat_eq world place ≡ false
   place_stays =
       ap (λ (mount : Mount ℕ). is_removed nat_eq (filesystem_numbered nat_eq world mount.filesystem).files.tree 24)
@@ -205,11 +215,19 @@ module _ (first second : Filesystem ℕ) (trees : TwoTrees first second) (world 
       ≡ Ok (record { location = place; left = most_symlinks; steps = steps }))
   path_leads = (
     _,
-    two_words_lead world task (codes "/s/d") (codes "s") (codes "d") path_has_two_words 6 24
-        (record { mount = 17; node = 22 }) place first_word_leads second_word_leads
-        (topmost_of_free world.mounts place nothing_on_place) place_stays,
+    destination_is_walked world task (codes "/s/d")
+        (end_of_two world task (codes "/s/d") (codes "s") (codes "d") path_has_two_words 6 24
+        (record { mount = 17; node = 22 }) place first_word_leads second_word_leads)
+        (two_words_lead world task (codes "/s/d") (codes "s") (codes "d") path_has_two_words 6 24
+        (record { mount = 17; node = 22 }) place first_word_leads second_word_leads)
+        (record {
+          ends = topmost_of_free world.mounts place nothing_on_place;
+          directory = second_word_leads.directory;
+          stays = place_stays;
+        }),
   )
 
+  -- the shared mount is in the first task's namespace
   pub no_rule_fails : none_fails (new_mount_rules nat_eq (looks_of nat_eq world) task place false) ≡ true
   no_rule_fails = ap (λ (mount : Mount ℕ). not (not (holds_of (nat_eq 1) mount.namespace)) && true) shared_mount_is
 
@@ -217,6 +235,7 @@ module _ (first second : Filesystem ℕ) (trees : TwoTrees first second) (world 
   receives_itself : receives nat_eq world 18 (shared_mount 17 1 0) ≡ true
   receives_itself = start_among world.master (length world.mounts) 18
 
+  -- what was stacked receives nothing
   rest_receives_nothing : filter (receives nat_eq world 18) has.rest ≡ []
   rest_receives_nothing =
       nothing_passes (receives nat_eq world 18) has.rest (λ mount m.
@@ -227,9 +246,11 @@ module _ (first second : Filesystem ℕ) (trees : TwoTrees first second) (world 
       by None e = refl
       by (Some group) e = absurd (true≢false (sym e))
 
+  -- the shared mount and its peer
   abbrev two_shared : List (Mount ℕ)
   two_shared = shared_mount 17 1 0 ∷ shared_mount 66 39 47 ∷ []
 
+  -- both receive
   receivers_are : receivers_of nat_eq world (shared_mount 17 1 0) ≡ two_shared
   receivers_are =
       ap (filter (receives nat_eq world 18)) has.mounts
@@ -238,6 +259,7 @@ module _ (first second : Filesystem ℕ) (trees : TwoTrees first second) (world 
       (rest_receives_nothing i))
       (cond (receives_itself i) (shared_mount 66 39 47 ∷ rest_receives_nothing i) (rest_receives_nothing i)))
 
+  -- the peer takes part
   peer_takes_part : takes_part nat_eq world place (shared_mount 66 39 47) ≡ true
   peer_takes_part =
       ap (λ (mount : Mount ℕ). nat_eq mount.filesystem 13 && reaches nat_eq world 24 (shared_mount 66 39 47))
@@ -245,12 +267,14 @@ module _ (first second : Filesystem ℕ) (trees : TwoTrees first second) (world 
       ∙ ap (λ (filesystem : Filesystem ℕ). is_directory_under nat_eq filesystem.files 22 24) second_is_found
       ∙ trees.reached
 
+  -- so they are the parts
   parts_are : parts_of nat_eq world place ≡ two_shared
   parts_are =
       (λ i. shared_mount_is i ∷ filter (takes_part nat_eq world place) (receivers_of nat_eq world (shared_mount_is i)))
       ∙ ap (λ list. shared_mount 17 1 0 ∷ filter (takes_part nat_eq world place) list) receivers_are
       ∙ ap (λ b. shared_mount 17 1 0 ∷ cond b (shared_mount 66 39 47 ∷ []) []) peer_takes_part
 
+  -- the first namespace has two mounts
   first_has_two : mount_count world 1 ≡ 2
   first_has_two =
       ap (λ mounts. length (filter (is_in 1) mounts)) has.mounts

@@ -30,6 +30,7 @@ use Rattle.vt_limit_laws.proofs.Supplies.{HasNumbersUntil, next_numbers_serve, o
 abbrev pub next_world : ℕ → World ℕ → TaskName → Call → World ℕ
 next_world number world name call = (policy nat_eq (numbers_for number) world name call).world
 
+-- the worlds after the first lines
 abbrev pub world_1 : World ℕ
 world_1 = next_world 1 first_world [] (Mkdir (codes "/s") None)
 
@@ -64,6 +65,7 @@ root_mount number namespace = record {
   propagation = Private;
 }
 
+-- the mount of the shared filesystem in a namespace
 abbrev pub shared_mount : ℕ → ℕ → ℕ → Mount ℕ
 shared_mount number namespace parent = record {
   number = number;
@@ -75,6 +77,7 @@ shared_mount number namespace parent = record {
   propagation = Shared 18;
 }
 
+-- all four
 abbrev pub four_mounts : List (Mount ℕ)
 four_mounts = root_mount 0 1 ∷ shared_mount 17 1 0 ∷ root_mount 47 39 ∷ shared_mount 66 39 47 ∷ []
 
@@ -82,6 +85,7 @@ four_mounts = root_mount 0 1 ∷ shared_mount 17 1 0 ∷ root_mount 47 39 ∷ sh
 abbrev pub first_of_two : ℕ → Task ℕ
 first_of_two change = record (first_task nat_eq (λ place. place)) { forks = 1; change = change }
 
+-- the child has its own namespace
 abbrev pub second_of_two : Task ℕ
 second_of_two = record (first_task nat_eq (λ place. place)) {
   name = 1 ∷ [];
@@ -91,14 +95,17 @@ second_of_two = record (first_task nat_eq (λ place. place)) {
   change = 1;
 }
 
+-- these are its mounts
 pub mounts_are_four : world_7.mounts ≡ four_mounts
 unfolding everything
 mounts_are_four = refl
 
+-- its namespaces
 pub namespaces_are_two : map (λ (namespace : Namespace ℕ). namespace.number) world_7.namespaces ≡ 1 ∷ 39 ∷ []
 unfolding everything
 namespaces_are_two = refl
 
+-- and its tasks
 pub first_is_called : task_called world_7 [] ≡ Some (first_of_two 6)
 unfolding everything
 first_is_called = refl
@@ -114,6 +121,7 @@ first_tree = unwrap_or (first_of_list world_7.filesystems) (no_filesystem 0)
 abbrev pub second_tree : Filesystem ℕ
 second_tree = unwrap_or (first_of_list (rest_of world_7.filesystems)) (no_filesystem 0)
 
+-- there are two filesystems
 two_there_are : length world_7.filesystems ≡ 2
 unfolding everything
 two_there_are = refl
@@ -126,9 +134,11 @@ list_of_two default (a ∷ []) e = absurd (omega arith)
 list_of_two default (a ∷ b ∷ []) e = refl
 list_of_two default (a ∷ b ∷ c ∷ list) e = absurd (omega arith)
 
+-- these are its filesystems
 pub filesystems_are_two : world_7.filesystems ≡ first_tree ∷ second_tree ∷ []
 filesystems_are_two = list_of_two (no_filesystem 0) world_7.filesystems two_there_are
 
+-- the numbers of the trees
 pub first_number : first_tree.number ≡ 2
 unfolding everything
 first_number = refl
@@ -137,6 +147,7 @@ pub second_number : second_tree.number ≡ 13
 unfolding everything
 second_number = refl
 
+-- the first tree has `q` and `s`
 pub first_root : first_tree.files.tree.node 3 ≡ Some (record {
   attr = root_attr;
   content = Directory 3 ((codes "q", 9) ∷ (codes "s", 6) ∷ []) false;
@@ -144,14 +155,7 @@ pub first_root : first_tree.files.tree.node 3 ≡ Some (record {
 unfolding everything
 first_root = refl
 
-pub first_place : is_directory_node (first_tree.files.tree.node 9) ≡ true
-unfolding everything
-first_place = refl
-
-pub first_place_stays : is_removed nat_eq first_tree.files.tree 9 ≡ false
-unfolding everything
-first_place_stays = refl
-
+-- the second one has `d`
 pub second_root : second_tree.files.tree.node 22 ≡ Some (record {
   attr = root_attr;
   content = Directory 22 ((codes "d", 24) ∷ []) false;
@@ -159,14 +163,17 @@ pub second_root : second_tree.files.tree.node 22 ≡ Some (record {
 unfolding everything
 second_root = refl
 
+-- which is a directory
 pub second_place : is_directory_node (second_tree.files.tree.node 24) ≡ true
 unfolding everything
 second_place = refl
 
+-- is not removed
 pub second_place_stays : is_removed nat_eq second_tree.files.tree 24 ≡ false
 unfolding everything
 second_place_stays = refl
 
+-- and lies under the root
 pub second_place_reached : is_directory_under nat_eq second_tree.files 22 24 ≡ true
 unfolding everything
 second_place_reached = refl
@@ -179,10 +186,12 @@ pub own_root : node_at nat_eq world_7 (record { mount = 47; node = 3 }) ≡ Some
 unfolding everything
 own_root = refl
 
+-- `q` is a directory
 own_place : is_directory_at nat_eq world_7 (record { mount = 47; node = 9 }) ≡ true
 unfolding everything
 own_place = refl
 
+-- and not removed
 own_place_stays : is_removed_at nat_eq world_7 (record { mount = 47; node = 9 }) ≡ false
 unfolding everything
 own_place_stays = refl
@@ -203,6 +212,7 @@ line_leads last world line name call asked plainly few reached = record {
       (policy nat_eq (numbers_for (suc last)) world name call) reached.has refl;
 }
 
+-- the first seven lines lead to a world with the invariants
 pub seven_are_reached : IsReached 7 world_7
 unfolding request_of
 seven_are_reached =
@@ -234,11 +244,14 @@ second_starts = record {
   object = 9;
   top = record { mount = 47; node = 9 };
   way = record {
-    root = ap is_directory_node own_root;
+    searched = ap is_directory_node own_root;
     plain = plain_numbered world_7 seven_are_reached.kept.1 _;
     searches = ap (node_allows second_of_two.credentials execute_right) own_root;
     entry = ap (λ node. entry_named (codes "q") (entries_in node)) own_root;
     leads = ap (λ mounts. topmost nat_eq mounts (record { mount = 47; node = 9 })) mounts_are_four;
+    directory = own_place;
+  };
+  destination = record {
     ends = ap (λ mounts. topmost nat_eq mounts (record { mount = 47; node = 9 })) mounts_are_four;
     directory = own_place;
     stays = own_place_stays;
@@ -249,6 +262,7 @@ second_starts = record {
       mounts_are_four;
 }
 
+-- in its own namespace
 pub second_is_own : second_starts.task.namespace ≡ 39
 unfolding second_starts
 second_is_own = refl
