@@ -1,8 +1,10 @@
 pub mod AddedMount
-pub mod OneWordWalks
 pub mod Outcomes
+pub mod PathWalks
 pub mod ScriptLines
 pub mod StackGrows
+pub mod StackUnmounted
 pub mod StackedMounts
 pub mod Supplies
 pub mod TopmostGrows
+pub mod UnmountedAgain

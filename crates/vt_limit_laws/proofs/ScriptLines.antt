@@ -47,6 +47,7 @@ pub ok_is_printed : (number : ℕ) → reply_line number (Ok Done) ≡ decimal n
 ok_is_printed number =
     append-nil (decimal number ++ codes " ok" ++ codes "\n") ∙ append_assoc (decimal number) (codes " ok") (codes "\n")
 
+-- a refusal by M9, printed
 pub full_is_printed : (number : ℕ)
     → reply_line number (Err (denial M9)) ≡ decimal number ++ codes " deny 28 ENOSPC M9\n"
 unfolding digits
@@ -114,6 +115,7 @@ module _ (grammar : Grammar) (line : List ℕ) (name : TaskName) (call : Call) (
       pub text : text_from grammar world (suc last) (lines_repeated more line lines) []
           ≡ numbered (suc last) more (codes " ok\n") ++ text_from grammar later (suc (last + more)) lines []
 
+    -- while there is room, each line is granted
     pub fills : (more count last : ℕ) (world : World ℕ) (lines : List (List ℕ)) → State count world
         → HasNumbersUntil last world → count + more ≤ most_mounts → Fills count last more world lines
     unfolding numbered lines_repeated

@@ -26,7 +26,7 @@ use Rattle.vt_spec.proofs.Lists.{among_from_list_all}
 use Rattle.vt_letting_go.proofs.ends.NamespacesEnd.{added_mounts_count, added_mounts_count_in_no_other, too_many_is_of_one}
 use Rattle.vt_world_laws.specs.Worlds.Kept.{IsPlain}
 use Rattle.vt_limit_laws.proofs.AddedMount.{added_mount, mounts-new_mount}
-use Rattle.vt_limit_laws.proofs.OneWordWalks.{HasOneWord, LeadsToTop, destination_is_walked}
+use Rattle.vt_limit_laws.proofs.PathWalks.{HasOneWord, IsDestination, WordLeads, destination_is_walked, end_of_one, one_word_leads}
 
 -- Mounts are stacked where the word leads from the task's root: the topmost one is private and in the task's namespace,
 -- which has so many mounts.
@@ -38,7 +38,8 @@ pub record IsStack (world : World ℕ) (name : TaskName) (word : List ℕ) (coun
   pub admin : lacks task cap_sys_admin ≡ false
   pub object : ℕ
   pub top : Location ℕ
-  pub way : LeadsToTop world task word object top
+  pub way : WordLeads world task task.root word object top
+  pub destination : IsDestination world top
   pub private : (mount_at nat_eq world top).propagation ≡ Private
   pub inside : (mount_at nat_eq world top).namespace ≡ Some task.namespace
   pub counted : length (mounts_of nat_eq world task.namespace) ≡ count
@@ -48,9 +49,11 @@ module _ (world : World ℕ) (name : TaskName) (path word : List ℕ) (one : Has
   abbrev task : Task ℕ
   task = stack.task
 
+  -- the topmost mount's root
   abbrev top : Location ℕ
   top = stack.top
 
+  -- what the call is permitted
   abbrev permit : Permit ℕ
   permit = ToMountPlain stack.top flags
 
@@ -58,9 +61,11 @@ module _ (world : World ℕ) (name : TaskName) (path word : List ℕ) (one : Has
   abbrev pub mounted_world : World ℕ
   mounted_world = (apply nat_eq fresh world stack.task (ToMountPlain stack.top flags)).world
 
+  -- the new mount
   abbrev new : Mount ℕ
   new = added_mount fresh world stack.top flags
 
+  -- it comes last
   pub mounts_after : mounted_world.mounts ≡ world.mounts ++ (new ∷ [])
   mounts_after = mounts-new_mount fresh world stack.top flags stack.private stack.task
 
@@ -70,12 +75,14 @@ module _ (world : World ℕ) (name : TaskName) (path word : List ℕ) (one : Has
       ap (λ namespace. holds_of (nat_eq stack.task.namespace) namespace && true) stack.inside
       ∙ ap (λ b. b && true) (eq-eqb stack.task.namespace stack.task.namespace refl)
 
+  -- its namespace has one mount more
   pub one_more_mount : length (mounts_of nat_eq mounted_world stack.task.namespace) ≡ suc count
   one_more_mount =
       ap (λ mounts. length (mounts_of nat_eq (with_mounts world mounts) stack.task.namespace)) mounts_after
       ∙ added_mounts_count world (new ∷ []) stack.task.namespace new_is_inside
       ∙ (let same = stack.counted in omega (arith, same))
 
+  -- and no other one has
   as_many_elsewhere : (other : ℕ) → nat_eq other stack.task.namespace ≡ false
       → length (mounts_of nat_eq mounted_world other) ≤ length (mounts_of nat_eq world other)
   as_many_elsewhere other differs =
@@ -84,6 +91,7 @@ module _ (world : World ℕ) (name : TaskName) (path word : List ℕ) (one : Has
       ∙ added_mounts_count_in_no_other world (new ∷ []) stack.task.namespace other new_is_inside differs in
       omega (arith, same)
 
+  -- the namespace of the task is there
   namespace_is_listed : is_listed nat_eq world stack.task.namespace ≡ true
   namespace_is_listed =
       among_from_list_all (λ (one : Task ℕ). is_listed nat_eq world one.namespace) world.tasks
@@ -104,7 +112,9 @@ module _ (world : World ℕ) (name : TaskName) (path word : List ℕ) (one : Has
       ap (λ b. unless ((b, K1) ∷ []) (and_then (walk_end (destination_walk nat_eq world stack.task path)) judged_at))
       stack.admin
       ∙ ap (λ walk. and_then (walk_end walk) judged_at)
-      (destination_is_walked world stack.task path word one stack.object stack.top stack.way)
+      (destination_is_walked world stack.task path
+      (end_of_one world stack.task path word one stack.object stack.top stack.way)
+      (one_word_leads world stack.task path word one stack.object stack.top stack.way) stack.destination)
       ∙ ap (λ namespace. unless ((not (holds_of (nat_eq stack.task.namespace) namespace), M2)
       ∷ (overfills nat_eq fresh world stack.task permit, M9) ∷ []) (Ok permit)) stack.inside
       ∙ (λ i. unless ((not (eq-eqb stack.task.namespace stack.task.namespace refl i), M2)

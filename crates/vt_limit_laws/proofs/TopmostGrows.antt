@@ -19,6 +19,7 @@ module _ {A : Type 0} (step grown : A → Option A) (end next : A)
       ap (last_or d)
       (chain_goes_on grown (suc n) a next (ap grown is ∙ ended) ∙ ap (λ rest. a ∷ rest) (chain_ends grown n next ends))
 
+  -- wherever it began
   pub chain_grows : (n : ℕ) (a d e : A) → last_or d (chain n step a) ≡ end → last_or e (chain (suc n) grown a) ≡ next
   chain_grows zero a d e is = one_more_step zero a e is
   chain_grows (suc n) a d e is = by (step a) refl (chain_grows n)

@@ -37,3 +37,21 @@ LastOfManyMountsIsRefused =
     (version : Version)
     → machine_text version [] (stacking_script 4096)
     ≡ numbered 1 4096 (codes " ok\n") ++ codes "4097 deny 28 ENOSPC M9\n"
+
+-- A shared mount of the first task has a peer in the namespace of its child, which stacks so many mounts there. Then a
+-- mount is to come onto the shared one, one of the child's is unmounted, and the mount is to come again: mount(2),
+-- umount(2), the kernel's document sharedsubtree.
+abbrev pub receiver_script : ℕ → List ℕ
+receiver_script mounts =
+    codes "t mkdir /s\nt mkdir /q\nt mount plain /s\nt type /s shared\nt mkdir /s/d\nt fork\nt.1 unshare\n"
+    ++ (repeated mounts (codes "t.1 mount plain /q\n")
+    ++ codes "t mount plain /s/d\nt.1 umount /q\nt mount plain /s/d\n")
+
+-- The child's namespace has two mounts, and is full with 4,094 more. Then the mount is refused, since its copy at the
+-- peer has no room; once one of the child's is gone, it is granted.
+abbrev pub FullReceiverRefuses : Type 0
+FullReceiverRefuses =
+    (version : Version)
+    → machine_text version [] (receiver_script 4094)
+    ≡ codes "1 ok\n2 ok\n3 ok\n4 ok\n5 ok\n6 ok t.1\n7 ok\n" ++ (numbered 8 4094 (codes " ok\n")
+    ++ codes "4102 deny 28 ENOSPC M9\n4103 ok\n4104 ok\n")

@@ -316,6 +316,7 @@ module _ (world : World ℕ) (place : Location ℕ) where
     abbrev moved : World ℕ
     moved = attached_by nat_eq world new place true tree
 
+    -- the receivers that take part
     abbrev others : List (Mount ℕ)
     others = filter (takes_part nat_eq world place) (receivers_of nat_eq world (mount_at nat_eq world place))
 

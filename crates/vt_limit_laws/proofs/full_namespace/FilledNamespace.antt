@@ -16,7 +16,7 @@ use Rattle.vt_spec.specs.Machine.World.{World, first_task}
 use Rattle.vt_world_laws.proofs.opening.OpeningWorld.{opening_is_a_world}
 use Rattle.vt_world_laws.proofs.worlds.CallsKept.{Kept, calls_keep_worlds}
 use Rattle.vt_limit_laws.specs.FullNamespaces.{FillsItsNamespace, FullNamespaceRefuses, LastOfManyMountsIsRefused, numbered, repeated, stacking_script}
-use Rattle.vt_limit_laws.proofs.OneWordWalks.{HasOneWord}
+use Rattle.vt_limit_laws.proofs.PathWalks.{HasOneWord}
 use Rattle.vt_limit_laws.proofs.ScriptLines.{AsksFor, Fills, fills, lines_repeated, more_repeated, numbered_from, numbers_go_on, ok_is_printed, text_goes_on, text_of_refusals}
 use Rattle.vt_limit_laws.proofs.StackGrows.{full_stack_refuses, grown_stack, stack_grows, stacked_world}
 use Rattle.vt_limit_laws.proofs.StackedMounts.{IsStack}
@@ -29,6 +29,7 @@ making = Mkdir (codes "/a") None
 abbrev mounting : Call
 mounting = MountPlain (codes "/a") plain_flags
 
+-- their lines, in each version of the language
 making_is_asked : (version : Version) → AsksFor (whole version) (codes "t mkdir /a") [] making
 unfolding request_of
 making_is_asked One = record { short = refl; loud = refl; asks = refl }
@@ -39,6 +40,7 @@ unfolding request_of
 mounting_is_asked One = record { short = refl; loud = refl; asks = refl }
 mounting_is_asked Two = record { short = refl; loud = refl; asks = refl }
 
+-- the path of the mount point
 path_has_one_word : HasOneWord (codes "/a") (codes "a")
 path_has_one_word = record { parsed = refl; absolute = refl; words_are = refl; named = refl }
 
@@ -46,10 +48,12 @@ path_has_one_word = record { parsed = refl; absolute = refl; words_are = refl; n
 abbrev made : World ℕ
 made = (policy nat_eq (numbers_for 1) first_world [] making).world
 
+-- the first line is granted
 directory_is_made : policy nat_eq (numbers_for 1) first_world [] making ≡ granted Done made
 unfolding everything
 directory_is_made = refl
 
+-- that world has the invariants
 made_is_kept : Kept made
 made_is_kept =
     let opened = opening_is_a_world (λ place. place) (λ j k same. same) in
@@ -68,26 +72,27 @@ starts = record {
   object = 6;
   top = record { mount = 0; node = 6 };
   way = record {
-    root = refl;
+    searched = refl;
     plain = refl;
     searches = refl;
     entry = refl;
     leads = refl;
-    ends = refl;
     directory = refl;
-    stays = refl;
   };
+  destination = record { ends = refl; directory = refl; stays = refl };
   private = refl;
   inside = refl;
   counted = refl;
 }
 
+-- the lines of a repeated line
 lines_are_repeated : (count : ℕ)
     → lines_of (repeated count (codes "t mount plain /a\n")) ≡ lines_repeated count (codes "t mount plain /a") []
 unfolding repeated lines_repeated
 lines_are_repeated zero = refl
 lines_are_repeated (suc count) = ap (λ lines. codes "t mount plain /a" ∷ lines) (lines_are_repeated count)
 
+-- the lines of the script
 script_has_lines : (mounts : ℕ)
     → lines_of (stacking_script mounts) ≡ codes "t mkdir /a" ∷ lines_repeated mounts (codes "t mount plain /a") []
 script_has_lines mounts = ap (λ lines. codes "t mkdir /a" ∷ lines) (lines_are_repeated mounts)
@@ -120,6 +125,7 @@ module _ (version : Version) where
       ∙ ap (λ first. first ++ text_from (whole version) made 2 (lines_repeated mounts (codes "t mount plain /a") []) [])
       (ok_is_printed 1)
 
+-- all mounts within the limit are granted
 pub fills_its_namespace : FillsItsNamespace
 fills_its_namespace version mounts room =
     let filled = stacked version mounts [] (omega arith) in
@@ -129,6 +135,7 @@ fills_its_namespace version mounts room =
     ∙ sym (numbered_from 1 mounts (codes " ok\n"))
     ∙ ap (λ count. numbered 1 count (codes " ok\n")) all
 
+-- and those beyond it are refused
 pub full_namespace_refuses : FullNamespaceRefuses
 full_namespace_refuses version more =
     let filled = stacked version 4095 (lines_repeated more (codes "t mount plain /a") []) (omega arith) in
@@ -145,10 +152,12 @@ full_namespace_refuses version more =
     ∙ ap (λ first. first ++ numbered 4097 more (codes " deny 28 ENOSPC M9\n"))
     (sym (numbered_from 1 4095 (codes " ok\n")))
 
+-- one refusal, printed
 one_refusal : numbered 4097 1 (codes " deny 28 ENOSPC M9\n") ≡ codes "4097 deny 28 ENOSPC M9\n"
 unfolding numbered digits
 one_refusal = refl
 
+-- so the last one is
 pub last_of_many_mounts_is_refused : LastOfManyMountsIsRefused
 last_of_many_mounts_is_refused version =
     full_namespace_refuses version 1 ∙ ap (λ last. numbered 1 4096 (codes " ok\n") ++ last) one_refusal

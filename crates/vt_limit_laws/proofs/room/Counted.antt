@@ -38,20 +38,24 @@ mounted_asks_for_room world fresh place filesystem flags is =
     nat_lt most_mounts (mount_count world namespace.number + how_many_in namespace.number parts * 1)) world.namespaces)
     (same_parts world is filesystem place)
 
+-- a new mount of a plain filesystem
 pub new_mounts_ask_for_room : NewMountsAskForRoom
 new_mounts_ask_for_room world fresh task place flags is =
     mounted_asks_for_room world (odds fresh) place (plain_filesystem nat_eq fresh) flags is
 
+-- a mount of an overlay
 pub overlays_ask_for_room : OverlaysAskForRoom
 overlays_ask_for_room world fresh task place overlay flags is =
     mounted_asks_for_room world (odds fresh) place (overlay_filesystem nat_eq (evens fresh) world overlay) flags is
 
+-- a bind
 pub binds_ask_for_room : BindsAskForRoom
 binds_ask_for_room world fresh task source place recursive =
     copies_ask_for_room world place
     (copies_from nat_eq fresh (parts_of nat_eq world place) (bind_tree nat_eq world source recursive))
     (bind_tree nat_eq world source recursive)
 
+-- a move
 pub moves_ask_for_room : MovesAskForRoom
 moves_ask_for_room world fresh task mount place is there =
     λ i. list_any (λ namespace. nat_lt most_mounts (counted namespace.number i)) world.namespaces

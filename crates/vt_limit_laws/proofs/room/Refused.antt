@@ -60,6 +60,7 @@ module _ (world : World ℕ) (fresh : Fresh ℕ) (name : TaskName) (task : Task 
         ∙ answer-finished_by _ world name _ (apply nat_eq fresh world task permit) ∙ done,
   )
 
+-- a new mount
 pub new_mount_needs_room : NewMountNeedsRoom
 unfolding mount_plain_permit
 new_mount_needs_room world fresh name task path flags here is called admin walk none =
@@ -77,6 +78,7 @@ new_mount_needs_room world fresh name task path flags here is called admin walk 
         attach_permit (new_mount_rules nat_eq (looks_of nat_eq world) task place.location)
         (overfills nat_eq fresh world task) (ToMountPlain place.location flags)
 
+-- a bind
 pub bind_needs_room : BindNeedsRoom
 unfolding bind_permit
 bind_needs_room world fresh name task source path recursive from here called admin from_walk walk none =
@@ -100,6 +102,7 @@ bind_needs_room world fresh name task source path recursive from here called adm
     judged_from : Here ℕ → Judgement ℕ
     judged_from origin = and_then (walk_end (destination_walk nat_eq world task path)) (judged_at origin)
 
+-- a move
 pub move_needs_room : MoveNeedsRoom
 unfolding move_permit
 move_needs_room world fresh name task source path from here is called admin from_walk walk none =
