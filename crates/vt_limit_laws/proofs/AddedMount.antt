@@ -79,7 +79,8 @@ module _ (fresh : Fresh ℕ) (world : World ℕ) (place : Location ℕ) (flags :
   -- the attachment, where the destination is the only part
   abbrev alone_graft : Graft ℕ
   alone_graft =
-      graft_of nat_eq larger (copies_from nat_eq (odds fresh) (destination ∷ []) (origin ∷ [])) place false (origin ∷ [])
+      graft_of nat_eq larger (copies_from nat_eq (odds fresh) (destination ∷ []) (origin ∷ [])) place false
+      (origin ∷ [])
 
   -- a mount that is not shared has no receivers
   no_receivers : group_of destination.propagation ≡ None
@@ -144,14 +145,16 @@ module _ (fresh : Fresh ℕ) (world : World ℕ) (place : Location ℕ) (flags :
           → (if b then twig_master (twig_of alone_copies (group_of destination.propagation) origin)
           else then_some (group_of destination.propagation) (λ group.
           when (not (is_member_of nat_eq group destination)) (
-            image nat_eq alone_copies destination (twig_of alone_copies (group_of destination.propagation) origin) group,
+            image nat_eq alone_copies destination
+                (twig_of alone_copies (group_of destination.propagation) origin) group,
             nearest_image nat_eq larger alone_copies (destination ∷ []) destination
                 (twig_of alone_copies (group_of destination.propagation) origin) (world.master group),
           ))) ≡ None
       by true = ap (λ kind. twig_master (twig_of alone_copies (group_of kind) origin)) private
       by false = ap (λ kind. then_some (group_of kind) (λ group.
           when (not (is_member_of nat_eq group destination)) (
-            image nat_eq alone_copies destination (twig_of alone_copies (group_of destination.propagation) origin) group,
+            image nat_eq alone_copies destination
+                (twig_of alone_copies (group_of destination.propagation) origin) group,
             nearest_image nat_eq larger alone_copies (destination ∷ []) destination
                 (twig_of alone_copies (group_of destination.propagation) origin) (world.master group),
           ))) private

@@ -75,11 +75,13 @@ module _ (world : World ℕ) (task : Task ℕ) (from next : Location ℕ) (left 
 
   -- the word walked, and no symlink followed
   pub word_goes_on : then_walk (word_walked nat_eq world task here (Named word)) (λ reached.
-      if_symlink reached (symlink_text (node_at nat_eq world reached.location)) (followed nat_eq world task from reached))
+      if_symlink reached (symlink_text (node_at nat_eq world reached.location))
+      (followed nat_eq world task from reached))
       ≡ Ok there
   word_goes_on =
       ap (λ walk. then_walk walk (λ reached.
-      if_symlink reached (symlink_text (node_at nat_eq world reached.location)) (followed nat_eq world task from reached)))
+      if_symlink reached (symlink_text (node_at nat_eq world reached.location))
+      (followed nat_eq world task from reached)))
       word_is_walked
       ∙ ap (λ text. if_symlink there text (followed nat_eq world task from there))
       (directory_no_link (node_at nat_eq world next) way.directory)

@@ -59,7 +59,8 @@ pub record AsksFor (grammar : Grammar) (line : List ℕ) (name : TaskName) (call
   pub loud : is_silent line ≡ false
   pub asks : request_of grammar line ≡ Some (Calling name call)
 
-module _ (grammar : Grammar) (line : List ℕ) (name : TaskName) (call : Call) (asked : AsksFor grammar line name call) where
+module _ (grammar : Grammar) (line : List ℕ) (name : TaskName) (call : Call)
+    (asked : AsksFor grammar line name call) where
   -- its step is the policy's outcome
   step_is_outcome : (world : World ℕ) (fresh : Fresh ℕ)
       → line_step nat_eq grammar world line (Some fresh) ≡ Answered (policy nat_eq fresh world name call)
@@ -97,7 +98,8 @@ module _ (grammar : Grammar) (line : List ℕ) (name : TaskName) (call : Call) (
   text_of_refusals world refuses zero last = refl
   text_of_refusals world refuses (suc count) last =
       let next : suc (suc last) ≡ suc last + 1 = omega arith in
-      text_goes_on world last (denied world (denial M9)) (lines_repeated count line []) (refuses (numbers_for (suc last)))
+      text_goes_on world last (denied world (denial M9)) (lines_repeated count line [])
+      (refuses (numbers_for (suc last)))
       ∙ (λ i. full_is_printed (suc last) i ++ text_of_refusals world refuses count (suc last) i)
       ∙ ap (λ number. decimal (suc last) ++ codes " deny 28 ENOSPC M9\n"
       ++ numbered number count (codes " deny 28 ENOSPC M9\n")) next

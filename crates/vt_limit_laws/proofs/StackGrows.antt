@@ -67,7 +67,8 @@ filesystem_stays world added number node directory = by (find has_number world.f
         ∙ ap (λ found. option_or found (find has_number (added ∷ []))) e ∙ sym e)
 
 -- where no filesystem changed, all keep their change numbers
-pub filesystems_not_raised : (filesystems : List (Filesystem ℕ)) → map (raised_if_changed nat_eq []) filesystems ≡ filesystems
+pub filesystems_not_raised : (filesystems : List (Filesystem ℕ)) → map (raised_if_changed nat_eq []) filesystems
+    ≡ filesystems
 filesystems_not_raised [] = refl
 filesystems_not_raised (filesystem ∷ rest) = ap (λ others. filesystem ∷ others) (filesystems_not_raised rest)
 
@@ -233,7 +234,8 @@ module _ (world : World ℕ) (name : TaskName) (path word : List ℕ) (one : Has
     root_stays : node_at nat_eq stacked_world stack.task.root ≡ node_at nat_eq world stack.task.root
     root_stays =
         ap (λ (mount : Mount ℕ).
-        (filesystem_numbered nat_eq stacked_world mount.filesystem).files.tree.node stack.task.root.node) root_mount_stays
+        (filesystem_numbered nat_eq stacked_world mount.filesystem).files.tree.node stack.task.root.node)
+        root_mount_stays
         ∙ ap (λ filesystems. (filesystem_numbered nat_eq (record world { filesystems = filesystems })
         (mount_at nat_eq world stack.task.root).filesystem).files.tree.node stack.task.root.node) filesystems_are
         ∙ ap (λ (filesystem : Filesystem ℕ). filesystem.files.tree.node stack.task.root.node)
@@ -256,7 +258,8 @@ module _ (world : World ℕ) (name : TaskName) (path word : List ℕ) (one : Has
             ap (λ (mount : Mount ℕ). is_removed nat_eq
             (filesystem_numbered nat_eq stacked_world mount.filesystem).files.tree new.root) new_is_found
             ∙ ap (λ (filesystem : Filesystem ℕ). is_removed nat_eq filesystem.files.tree new.root) added_is_found
-            ∙ ap (λ b. not (b || is_some (named_parent nat_eq added.files.tree new.root))) (eq-eqb new.root new.root refl)
+            ∙ ap (λ b. not (b || is_some (named_parent nat_eq added.files.tree new.root)))
+            (eq-eqb new.root new.root refl)
 
         by : (change : ℕ) × (raised_task name stack.task ≡ record stack.task { change = change })
             → IsStack stacked_world name word (suc count)

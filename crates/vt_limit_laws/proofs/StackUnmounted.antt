@@ -45,7 +45,8 @@ module _ (world : World ℕ) (name : TaskName) (path word : List ℕ) (one : Has
   stacked = stacked_world world name path word one count stack fresh flags serves room
 
   -- its stack
-  abbrev grown : IsStack (stacked_world world name path word one count stack fresh flags serves room) name word (suc count)
+  abbrev grown : IsStack (stacked_world world name path word one count stack fresh flags serves room) name word
+      (suc count)
   grown = grown_stack world name path word one count stack fresh flags serves room
 
   -- tasks use the locations that they used
@@ -106,7 +107,8 @@ module _ (world : World ℕ) (name : TaskName) (path word : List ℕ) (one : Has
   not_busy : (one : World ℕ) → one ≡ with_mount → is_busy nat_eq one new.number ≡ false
   not_busy one same =
       ap (λ (w : World ℕ). is_busy nat_eq w new.number) same
-      ∙ (λ i. none_on_new world fresh stack.top flags stack.is stack.plain serves stack.private (ap is_some stack.inside)
+      ∙ (λ i. none_on_new world fresh stack.top flags stack.is stack.plain serves stack.private
+      (ap is_some stack.inside)
       stacked.tasks stacked.namespaces stacked.change same_locations given_back_in_use i
       || none_uses_new world fresh stack.top flags stack.is stack.plain serves stack.private (ap is_some stack.inside)
       stacked.tasks stacked.namespaces stacked.change same_locations given_back_in_use i)
@@ -158,5 +160,6 @@ module _ (world : World ℕ) (name : TaskName) (path word : List ℕ) (one : Has
       ∙ ap (λ (w : World ℕ). granted Done (numbers_raised nat_eq stacked name [] (settled nat_eq
       (unmounted nat_eq w new.number)))) (stacked_world_is world name path word one count stack fresh flags serves room)
       ∙ ap (λ left. granted Done (numbers_raised nat_eq stacked name [] left))
-      (unmount_gives_back world fresh stack.top flags stack.is stack.plain serves stack.private (ap is_some stack.inside)
+      (unmount_gives_back world fresh stack.top flags stack.is stack.plain serves stack.private
+      (ap is_some stack.inside)
       stacked.tasks stacked.namespaces stacked.change same_locations given_back_in_use)

@@ -70,7 +70,8 @@ module _ (world : World ℕ) (name : TaskName) (path word : List ℕ) (one : Has
   mounts_after = mounts-new_mount fresh world stack.top flags stack.private stack.task
 
   -- Counts
-  new_is_inside : list_all (λ (mount : Mount ℕ). holds_of (nat_eq stack.task.namespace) mount.namespace) (new ∷ []) ≡ true
+  new_is_inside : list_all (λ (mount : Mount ℕ). holds_of (nat_eq stack.task.namespace) mount.namespace) (new ∷ [])
+      ≡ true
   new_is_inside =
       ap (λ namespace. holds_of (nat_eq stack.task.namespace) namespace && true) stack.inside
       ∙ ap (λ b. b && true) (eq-eqb stack.task.namespace stack.task.namespace refl)

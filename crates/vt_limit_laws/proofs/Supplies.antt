@@ -42,7 +42,8 @@ handed_in_row last place =
     itself number = grind (arith, nat_tests)
 
 -- after the next line the world has the numbers of that line too
-pub line_adds_its_numbers : (grammar : Grammar) (world : World ℕ) (last : ℕ) (line : List ℕ) → HasNumbersUntil last world
+pub line_adds_its_numbers : (grammar : Grammar) (world : World ℕ) (last : ℕ) (line : List ℕ)
+    → HasNumbersUntil last world
     → HasNumbersUntil (suc last)
     (step_world world (line_step nat_eq grammar world line (Some (numbers_for (suc last)))))
 line_adds_its_numbers grammar world last line has =

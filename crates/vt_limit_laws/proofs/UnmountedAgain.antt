@@ -92,7 +92,8 @@ module _ (world : World ℕ) (fresh : Fresh ℕ) (place : Location ℕ) (flags :
           → nat_eq added.number mount.filesystem ≡ false
       by None e =
           absurd (true≢false (sym shows
-          ∙ ap (λ found. is_directory_node ((unwrap_or found (no_filesystem mount.filesystem)).files.tree.node mount.root)) e))
+          ∙ ap (λ found. is_directory_node
+          ((unwrap_or found (no_filesystem mount.filesystem)).files.tree.node mount.root)) e))
       by (Some filesystem) e =
           ap (nat_eq added.number)
           (eqb-true mount.filesystem filesystem.number (found_passes has_number world.filesystems filesystem e))
@@ -119,7 +120,8 @@ module _ (world : World ℕ) (fresh : Fresh ℕ) (place : Location ℕ) (flags :
         none_from_among (stands_on nat_eq new.number) (world.mounts ++ (new ∷ [])) (λ mount m.
         ⊎_elim (λ old. by mount old mount.mount_point refl)
         (λ last. ⊎_elim (λ same. ap (stands_on nat_eq new.number) same
-        ∙ nat_eq_false_turned place.mount new.number (other_number fresh world place flags serves place.mount (attached_is_mount world place.mount attached)))
+        ∙ nat_eq_false_turned place.mount new.number (other_number fresh world place flags serves place.mount
+        (attached_is_mount world place.mount attached)))
         (λ none. absurd none) last) (among-append world.mounts (new ∷ []) mount m))
       where
         by : (mount : Mount ℕ) → Among mount world.mounts → (point : Option (Location ℕ)) → mount.mount_point ≡ point
@@ -127,7 +129,8 @@ module _ (world : World ℕ) (fresh : Fresh ℕ) (place : Location ℕ) (flags :
         by mount m None e = ap (λ o. holds_of (λ (at : Location ℕ). nat_eq new.number at.mount) o) e
         by mount m (Some at) e =
             ap (λ o. holds_of (λ (at : Location ℕ). nat_eq new.number at.mount) o) e
-            ∙ nat_eq_false_turned at.mount new.number (other_number fresh world place flags serves at.mount (attached_is_mount world at.mount
+            ∙ nat_eq_false_turned at.mount new.number (other_number fresh world place flags serves at.mount
+            (attached_is_mount world at.mount
             (place_attached world (mounts_of_worlds_stand world is) mount m at e)))
 
     -- it is found by its number
@@ -191,7 +194,8 @@ module _ (world : World ℕ) (fresh : Fresh ℕ) (place : Location ℕ) (flags :
         by old (Some group) e =
             ap (λ source. is_lost_group nat_eq (with_new (detached new)) source
             || is_lost_group nat_eq (with_new (detached new)) (then_some source world.master)) e
-            ∙ of_master group (among_from_all (HasLivingGroups nat_eq world) world.mounts is.mounts.groups mount old group e)
+            ∙ of_master group
+            (among_from_all (HasLivingGroups nat_eq world) world.mounts is.mounts.groups mount old group e)
 
     -- so the unmount detaches the new mount, and changes nothing else
     unmounted_is : unmounted nat_eq (with_new new) new.number ≡ with_new (detached new)
@@ -207,7 +211,8 @@ module _ (world : World ℕ) (fresh : Fresh ℕ) (place : Location ℕ) (flags :
     located_elsewhere =
         ap (list_any (λ location. nat_eq new.number location.mount)) same_locations
         ∙ none_from_among (λ (location : Location ℕ). nat_eq new.number location.mount) (all_locations world)
-        (λ location m. nat_eq_false_turned location.mount new.number (other_number fresh world place flags serves location.mount
+        (λ location m. nat_eq_false_turned location.mount new.number
+        (other_number fresh world place flags serves location.mount
         (passes (λ (at : Location ℕ). is_among nat_eq at.mount (numbers_of world.mounts)) (all_locations world)
         (locations_of_worlds_stand world is) location m)))
 
@@ -233,7 +238,8 @@ module _ (world : World ℕ) (fresh : Fresh ℕ) (place : Location ℕ) (flags :
     no_layers : (number : ℕ) → list_any (has_its_layer number) (world.filesystems ++ (added ∷ [])) ≡ false
     no_layers number =
         none_from_among (has_its_layer number) (world.filesystems ++ (added ∷ [])) (λ merged m.
-        ⊎_elim (λ old. ap (λ overlay. overlay_or false (λ one. list_any (λ (layer : Layer ℕ). nat_eq number layer.filesystem)
+        ⊎_elim (λ old. ap (λ overlay. overlay_or false (λ one.
+        list_any (λ (layer : Layer ℕ). nat_eq number layer.filesystem)
         (layers_of one)) overlay && is_mounted nat_eq without_new merged.number) (no_overlay world plain merged old))
         (λ last. ⊎_elim (λ same. ap (has_its_layer number) same) (λ none. absurd none) last)
         (among-append world.filesystems (added ∷ []) merged m))
@@ -274,10 +280,12 @@ module _ (world : World ℕ) (fresh : Fresh ℕ) (place : Location ℕ) (flags :
         ∙ ap (λ (mount : Mount ℕ). is_used nat_eq (with_new new)
         (going_from nat_eq (with_new new) new place (is_shared mount.propagation)))
         (found-append world.mounts (new ∷ []) place.mount (attached_is_mount world place.mount attached))
-        ∙ ap (λ kind. is_used nat_eq (with_new new) (going_from nat_eq (with_new new) new place (is_shared kind))) private
+        ∙ ap (λ kind. is_used nat_eq (with_new new)
+        (going_from nat_eq (with_new new) new place (is_shared kind))) private
         ∙ ap (list_any (λ location. is_among nat_eq location.mount (new.number ∷ []))) same_locations
         ∙ none_from_among (λ (location : Location ℕ). is_among nat_eq location.mount (new.number ∷ []))
-        (all_locations world) (λ location m. ap (λ b. b || false) (other_number fresh world place flags serves location.mount
+        (all_locations world) (λ location m. ap (λ b. b || false)
+        (other_number fresh world place flags serves location.mount
         (passes (λ (at : Location ℕ). is_among nat_eq at.mount (numbers_of world.mounts)) (all_locations world)
         (locations_of_worlds_stand world is) location m)))
 
@@ -289,7 +297,8 @@ module _ (world : World ℕ) (fresh : Fresh ℕ) (place : Location ℕ) (flags :
         (record (with_new (detached new)) { mounts = mounts })))) mounts_left
         ∙ ap (λ filesystems. without_dead_groups nat_eq (without_dead_inodes nat_eq
         (record without_new { filesystems = filesystems }))) filesystems_left
-        ∙ ap (λ one. without_dead_groups nat_eq (without_dead_in nat_eq (λ filesystem. not (is_overlay filesystem)) one))
+        ∙ ap (λ one. without_dead_groups nat_eq
+        (without_dead_in nat_eq (λ filesystem. not (is_overlay filesystem)) one))
         (inodes_stay is_overlay before in_use.inodes)
         ∙ ap (without_dead_groups nat_eq) (inodes_stay (λ filesystem. not (is_overlay filesystem)) before in_use.inodes)
         ∙ groups_stay before in_use.groups

@@ -11,7 +11,8 @@ pub fn full_namespaces_are_counted()
     ensures moves { MovesAskForRoom }
 {}
 
-/// Where a namespace lacks room for what comes to it, a new mount, a bind and a move are refused by M9, and the world is
+/// Where a namespace lacks room for what comes to it, a new mount, a bind and a move are refused by M9, and the world
+/// is
 /// as it was; where each has room, they are granted. So it is where no other rule refuses the call.
 pub fn a_full_namespace_refuses_attachments()
     ensures new_mount { NewMountNeedsRoom }

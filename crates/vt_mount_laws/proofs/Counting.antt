@@ -143,8 +143,8 @@ module _ (new : Mount ℕ) (namespace : ℕ) where
           ≡ mount_count rest namespace + mount_count (new ∷ []) namespace)
           → (b || is_among nat_eq new.number (numbers_of rest)) ≡ true
           → mount_count (cond b new mount ∷ with_mount nat_eq rest new) namespace
-          + mount_count (unwrap_or (cond b (Some mount) (seek (λ (other : Mount ℕ). nat_eq new.number other.number) rest)) (no_mount new.number)
-          ∷ []) namespace
+          + mount_count (unwrap_or (cond b (Some mount)
+          (seek (λ (other : Mount ℕ). nat_eq new.number other.number) rest)) (no_mount new.number) ∷ []) namespace
           ≡ mount_count (mount ∷ rest) namespace + mount_count (new ∷ []) namespace
       by true e others later h =
           let same = put_nowhere rest new

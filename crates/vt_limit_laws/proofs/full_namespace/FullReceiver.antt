@@ -43,7 +43,8 @@ unfolding request_of
 mounting_is_asked One = record { short = refl; loud = refl; asks = refl }
 mounting_is_asked Two = record { short = refl; loud = refl; asks = refl }
 
-unmounting_is_asked : (version : Version) → AsksFor (whole version) (codes "t.1 umount /q") (1 ∷ []) (Umount (codes "/q"))
+unmounting_is_asked : (version : Version) → AsksFor (whole version) (codes "t.1 umount /q") (1 ∷ [])
+    (Umount (codes "/q"))
 unfolding request_of
 unmounting_is_asked One = record { short = refl; loud = refl; asks = refl }
 unmounting_is_asked Two = record { short = refl; loud = refl; asks = refl }
@@ -59,7 +60,8 @@ module _ (version : Version) where
   line_text last world line name call asked text replied lines =
       text_goes_on (whole version) line name call asked world last
       (policy nat_eq (numbers_for (suc last)) world name call) lines refl
-      ∙ ap (λ reply. reply ++ text_from (whole version) (next_world (suc last) world name call) (suc (suc last)) lines [])
+      ∙ ap (λ reply. reply
+      ++ text_from (whole version) (next_world (suc last) world name call) (suc (suc last)) lines [])
       replied
 
 -- the answers to the first seven lines, computed
@@ -104,12 +106,14 @@ unfolding request_of
 asked_2 One = record { short = refl; loud = refl; asks = refl }
 asked_2 Two = record { short = refl; loud = refl; asks = refl }
 
-asked_3 : (version : Version) → AsksFor (whole version) (codes "t mount plain /s") [] (MountPlain (codes "/s") plain_flags)
+asked_3 : (version : Version) → AsksFor (whole version) (codes "t mount plain /s") []
+    (MountPlain (codes "/s") plain_flags)
 unfolding request_of
 asked_3 One = record { short = refl; loud = refl; asks = refl }
 asked_3 Two = record { short = refl; loud = refl; asks = refl }
 
-asked_4 : (version : Version) → AsksFor (whole version) (codes "t type /s shared") [] (SetType (codes "/s") ToShared false)
+asked_4 : (version : Version) → AsksFor (whole version) (codes "t type /s shared") []
+    (SetType (codes "/s") ToShared false)
 unfolding request_of
 asked_4 One = record { short = refl; loud = refl; asks = refl }
 asked_4 Two = record { short = refl; loud = refl; asks = refl }
@@ -245,12 +249,14 @@ module _ (version : Version) where
   stacked : Fills (whole version) (codes "t.1 mount plain /q") (1 ∷ []) stacking (stacking_is_asked version) IsFilled
       (λ count world fresh filled serves room. (
         one_more count world filled fresh serves room,
-        stack_grows world (1 ∷ []) (codes "/q") (codes "q") path_has_one_word count filled.stack fresh plain_flags serves
+        stack_grows world (1 ∷ []) (codes "/q")
+            (codes "q") path_has_one_word count filled.stack fresh plain_flags serves
             room,
         fills_on count world filled fresh serves room,
       )) 2 7 4093 world_7 (codes "t.1 mount plain /q" ∷ last_lines)
   stacked =
-      fills (whole version) (codes "t.1 mount plain /q") (1 ∷ []) stacking (stacking_is_asked version) IsFilled _ 4093 2 7
+      fills (whole version) (codes "t.1 mount plain /q") (1 ∷ []) stacking
+      (stacking_is_asked version) IsFilled _ 4093 2 7
       world_7 (codes "t.1 mount plain /q" ∷ last_lines) first_is_filled seven_are_reached.has (omega arith)
 
   -- the world in which one more mount has room, and what its lines lead to
@@ -276,7 +282,8 @@ module _ (version : Version) where
 
     -- the last mount is granted
     line_4101 : policy nat_eq (numbers_for 4101) world (1 ∷ []) stacking ≡ granted Done full
-    line_4101 = stack_grows world (1 ∷ []) (codes "/q") (codes "q") path_has_one_word 4095 filled.stack (numbers_for 4101)
+    line_4101 = stack_grows world (1 ∷ []) (codes "/q") (codes "q") path_has_one_word 4095 filled.stack
+        (numbers_for 4101)
         plain_flags serves_4101 room
 
     -- the namespace has 4,096 mounts
@@ -294,7 +301,8 @@ module _ (version : Version) where
     has_4102 =
         numbers_go_on (whole version) (codes "t mount plain /s/d") [] mounting (mounting_is_asked version) full 4101
         (denied full (denial M9))
-        (numbers_go_on (whole version) (codes "t.1 mount plain /q") (1 ∷ []) stacking (stacking_is_asked version) world 4100
+        (numbers_go_on (whole version) (codes "t.1 mount plain /q") (1 ∷ []) stacking
+        (stacking_is_asked version) world 4100
         (granted Done full) has line_4101) line_4102
 
     -- one mount is unmounted
@@ -317,7 +325,8 @@ module _ (version : Version) where
         ≡ codes "4101 ok\n4102 deny 28 ENOSPC M9\n4103 ok\n4104 ok\n"
     unfolding last_lines
     last_text =
-        text_goes_on (whole version) (codes "t.1 mount plain /q") (1 ∷ []) stacking (stacking_is_asked version) world 4100
+        text_goes_on (whole version) (codes "t.1 mount plain /q") (1 ∷ []) stacking
+        (stacking_is_asked version) world 4100
         (granted Done full) last_lines line_4101
         ∙ (λ i. ok_4101 i ++ text_goes_on (whole version) (codes "t mount plain /s/d") [] mounting
         (mounting_is_asked version) full 4101 (denied full (denial M9))

@@ -66,10 +66,12 @@ first_is_filled = record {
   };
 }
 
-module _ (count : ℕ) (world : World ℕ) (filled : IsFilled count world) (fresh : Fresh ℕ) (serves : Serves nat_eq world fresh)
+module _ (count : ℕ) (world : World ℕ) (filled : IsFilled count world) (fresh : Fresh ℕ)
+    (serves : Serves nat_eq world fresh)
     (room : count < most_mounts) where
   abbrev pub one_more : World ℕ
-  one_more = stacked_world world (1 ∷ []) (codes "/q") (codes "q") path_has_one_word count filled.stack fresh plain_flags
+  one_more = stacked_world world (1 ∷ []) (codes "/q")
+      (codes "q") path_has_one_word count filled.stack fresh plain_flags
       serves room
 
   -- the mount that comes
@@ -102,7 +104,8 @@ module _ (count : ℕ) (world : World ℕ) (filled : IsFilled count world) (fres
           plain_flags serves room
           ∙ ap (λ filesystems. filesystems ++ (added ∷ [])) filled.receiver.filesystems;
       others = list_all-append is_other filled.receiver.rest (new ∷ [])
-          ∙ (λ i. filled.receiver.others i && (holds_of (nat_eq 39) ((filled.stack.inside ∙ ap (λ n. Some n) filled.own) i)
+          ∙ (λ i. filled.receiver.others i
+          && (holds_of (nat_eq 39) ((filled.stack.inside ∙ ap (λ n. Some n) filled.own) i)
           && true));
       change = filled.receiver.change;
       called = called_raised (1 ∷ []) [] (first_of_two filled.receiver.change) world.tasks filled.receiver.called;
@@ -112,7 +115,8 @@ module _ (count : ℕ) (world : World ℕ) (filled : IsFilled count world) (fres
 
   -- the topmost mount unmounted
   abbrev pub one_less : World ℕ
-  one_less = unmounted_world world (1 ∷ []) (codes "/q") (codes "q") path_has_one_word count filled.stack fresh plain_flags
+  one_less = unmounted_world world (1 ∷ []) (codes "/q")
+      (codes "q") path_has_one_word count filled.stack fresh plain_flags
       serves room
 
   -- that world before change numbers are raised

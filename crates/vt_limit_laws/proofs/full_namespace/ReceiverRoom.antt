@@ -1,4 +1,5 @@
--- Whether a mount in the first namespace has room: it comes to the shared mount, and to its peer in the other namespace.
+-- Whether a mount in the first namespace has room: it comes to the shared mount, and to its peer in the other
+-- namespace.
 use Rattle.std.proofs.Common.{◌≡◌, refl, sym, ap, subst, ◌∙◌, inl, inr, ⊎_elim, true≢false, ℕ, suc, nat_eq, nat_lt, eqb-true, Bool, true, false, cond, not, ◌&&◌, ◌||◌, ◌+◌, ◌*◌, List, [], ◌∷◌, ◌++◌, Option, None, Some, Ok, filter, find, is_some, length, map, option_map}
 use Rattle.std.proofs.Math.Bool.{or-false}
 use Rattle.std.specs.Prelude.{codes, option_to_list, unwrap_or}
@@ -179,7 +180,8 @@ module _ (first second : Filesystem ℕ) (trees : TwoTrees first second) (world 
       record { parsed = refl; absolute = refl; words_are = refl; first_named = refl; second_named = refl }
 
   -- `s` leads to the root of the shared mount
-  first_word_leads : WordLeads world task (record { mount = 0; node = 3 }) (codes "s") 6 (record { mount = 17; node = 22 })
+  first_word_leads : WordLeads world task (record { mount = 0; node = 3 }) (codes "s") 6
+      (record { mount = 17; node = 22 })
   first_word_leads = record {
     searched = ap is_directory_node root_is;
     plain = plain_numbered world plain _;

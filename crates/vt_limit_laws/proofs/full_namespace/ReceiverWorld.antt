@@ -216,7 +216,8 @@ line_leads last world line name call asked plainly few reached = record {
 pub seven_are_reached : IsReached 7 world_7
 unfolding request_of
 seven_are_reached =
-    line_leads 6 world_6 (codes "t.1 unshare") (1 ∷ []) Unshare (record { short = refl; loud = refl; asks = refl }) refl refl
+    line_leads 6 world_6 (codes "t.1 unshare") (1 ∷ []) Unshare
+    (record { short = refl; loud = refl; asks = refl }) refl refl
     (line_leads 5 world_5 (codes "t fork") [] (Fork None) (record { short = refl; loud = refl; asks = refl }) refl refl
     (line_leads 4 world_4 (codes "t mkdir /s/d") [] (Mkdir (codes "/s/d") None)
     (record { short = refl; loud = refl; asks = refl }) refl refl

@@ -74,7 +74,8 @@ moves_ask_for_room world fresh task mount place is there =
 
     counted : (namespace : ℕ)
         → mount_count (attached_by nat_eq world new place true (tree_of world mount)) namespace
-        ≡ mount_count world namespace + how_many_in namespace (parts_of nat_eq world place) * length (tree_of world mount)
+        ≡ mount_count world namespace + how_many_in namespace (parts_of nat_eq world place) * length
+        (tree_of world mount)
         - how_many_in namespace (tree_of world mount)
     counted namespace =
         let all = moved_all world place new (tree_of world mount) is.mounts.one_number
