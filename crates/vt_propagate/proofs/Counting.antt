@@ -3,11 +3,11 @@ use Rattle.std.proofs.Common.{◌≡◌, ℕ, Bool, true, false, cond, ◌+◌, 
 use Rattle.std.specs.Prelude.{Contains, option_to_list, unwrap_or}
 use Rattle.std.specs.List.{list_all, list_any}
 use Rattle.std.proofs.lemmas.Bool.{and_parts, eqb-true, ltb-false, ltb-true, or_parts}
-use Rattle.std.proofs.lemmas.List.{length-append, length-map}
+use Rattle.std.proofs.lemmas.List.{length-append, length-map, map-id}
 use Rattle.std.proofs.lemmas.List.Elements.{filter-append}
 use Rattle.std.proofs.lemmas.List.Sums.{length-filter}
 use Rattle.vt_spec.specs.Language.Limits.{most_mounts}
-use Rattle.vt_spec.specs.Lists.{any_pair, folded, holds_of, is_among}
+use Rattle.vt_spec.specs.Lists.{folded, holds_of, is_among}
 use Rattle.vt_spec.specs.Machine.Attach.{Copies, Graft, attached_by, copies_at, copy_at, graft_of, has_too_many, parts_of, pushed_onto, pushed_up, receiver_below, receivers_of, takes_part, twig_of}
 use Rattle.vt_spec.specs.Machine.Mounts.{Location, Mount, group_of, mount_in, no_mount, with_mount}
 use Rattle.vt_spec.specs.Machine.World.{Namespace, World, mount_at}
@@ -20,20 +20,26 @@ use Rattle.vt_location.specs.declared.numbers.NamespaceId.{NamespaceId}
 use Rattle.vt_location.specs.MountValue.{mount_of}
 use Rattle.vt_location.specs.Numbers.{counted}
 use Rattle.vt_mount.proofs.EntryLemmas.{same_count}
-use Rattle.vt_propagate.specs.Filling.{GrowsBy, MovesFrom, is_in, is_overfilled, is_part_in, leaving, mount_count, parts_in, same_namespace}
+use Rattle.vt_propagate.specs.Filling.{GrowsBy, MovesFrom, is_overfilled, leaving, mount_count, parts_in}
 use Rattle.vt_propagate.specs.declared.filling.Load.{Load}
-use Rattle.vt_propagate.proofs.Found.{numbered, numbers}
-use Rattle.vt_propagate.proofs.Leaving.{found_one, same_from}
+use Rattle.vt_propagate.proofs.Found.{numbered}
 use Rattle.vt_propagate.proofs.TakingPart.{receivers_there}
+use Rattle.vt_spec.proofs.Truths.{same_truth}
+use Rattle.vt_letting_go.proofs.Lists.{found_in}
+use Rattle.vt_mount_laws.specs.Mounts.Attaching.{numbers_of, OneNumberAMount}
+use Rattle.vt_mount.specs.Indexes.{same_namespace, is_in as is_part_in}
+use Rattle.vt_letting_go.specs.Ends.{is_in}
 
 -- Counts
 
+-- mounts of a namespace among two lists put together are those of both
 pub count-append : (one other : List (Mount ℕ)) (namespace : ℕ)
     → mount_count (one ++ other) namespace ≡ mount_count one namespace + mount_count other namespace
 count-append one other namespace =
     ap length (filter-append (is_in namespace) one other)
     ∙ length-append (filter (is_in namespace) one) (filter (is_in namespace) other)
 
+-- one mount more is one more of its namespace
 pub count-cons : (mount : Mount ℕ) (mounts : List (Mount ℕ)) (namespace : ℕ)
     → mount_count (mount ∷ mounts) namespace ≡ cond (is_in namespace mount) 1 0 + mount_count mounts namespace
 count-cons mount mounts namespace = by (is_in namespace mount)
@@ -43,6 +49,7 @@ count-cons mount mounts namespace = by (is_in namespace mount)
     by true = omega arith
     by false = omega arith
 
+-- as many are in a namespace where the namespaces stay
 pub count-map : {A : Type 0} (f g : A → Mount ℕ) → ((a : A) → (f a).namespace ≡ (g a).namespace)
     → (list : List A) (namespace : ℕ)
     → mount_count (map f list) namespace ≡ mount_count (map g list) namespace
@@ -52,6 +59,7 @@ count-map f g same (a ∷ list) namespace =
     ∙ (λ i. cond (holds_of (nat_eq namespace) (same a i)) 1 0 + count-map f g same list namespace i)
     ∙ sym (count-cons (g a) (map g list) namespace)
 
+-- where all are in one namespace all are counted there, and none elsewhere
 pub count-alike : {A : Type 0} (f : A → Mount ℕ) (o : Option ℕ) → ((a : A) → (f a).namespace ≡ o)
     → (list : List A) (namespace : ℕ)
     → mount_count (map f list) namespace ≡ cond (holds_of (nat_eq namespace) o) (length list) 0
@@ -69,6 +77,7 @@ count-alike f o same (a ∷ list) namespace =
     by true = omega arith
     by false = omega arith
 
+-- copies at each part are counted in the namespace of the part
 pub count-flat : (copies : Mount ℕ → List (Mount ℕ)) (k namespace : ℕ)
     → ((part : Mount ℕ) → mount_count (copies part) namespace ≡ cond (is_in namespace part) k 0)
     → (parts : List (Mount ℕ)) → mount_count (flat_map copies parts) namespace ≡ mount_count parts namespace * k
@@ -108,6 +117,7 @@ map_among f g (mount ∷ list) same = λ i. same mount (inl refl) i ∷ map_amon
 
 -- parts as they are kept
 
+-- the parts of a namespace are counted as code counts them
 pub parts_counted : (parts : List Kept) (namespace : NamespaceId)
     → mount_count (map mount_of parts) (counted namespace.count) ≡ parts_in parts namespace
 parts_counted parts namespace = all parts ∙ length-filter (is_part_in namespace) parts
@@ -139,9 +149,6 @@ parts_counted parts namespace = all parts ∙ length-filter (is_part_in namespac
 
 -- Mounts in the place of others: as in MS_MOVE
 
-abbrev Own : List (Mount ℕ) → Type 0
-Own mounts = any_pair (λ (a b : Mount ℕ). nat_eq a.number b.number) mounts ≡ false
-
 put_nowhere : (mounts : List (Mount ℕ)) (new : Mount ℕ)
     → list_any (λ (other : Mount ℕ). nat_eq new.number other.number) mounts ≡ false
     → with_mount nat_eq mounts new ≡ mounts
@@ -152,7 +159,8 @@ put_nowhere (mount ∷ rest) new none =
 
 -- one mount in the place of another of its number
 module _ (new : Mount ℕ) (namespace : ℕ) where
-  one_counted : (mounts : List (Mount ℕ)) → Own mounts → is_among nat_eq new.number (numbers mounts) ≡ true
+  one_counted : (mounts : List (Mount ℕ)) → OneNumberAMount mounts → is_among nat_eq new.number (numbers_of mounts)
+      ≡ true
       → mount_count (with_mount nat_eq mounts new) namespace + mount_count
       (mount_in nat_eq mounts new.number ∷ []) namespace
       ≡ mount_count mounts namespace + mount_count (new ∷ []) namespace
@@ -163,11 +171,11 @@ module _ (new : Mount ℕ) (namespace : ℕ) where
     where
       by : (b : Bool) → nat_eq new.number mount.number ≡ b
           → list_any (λ (other : Mount ℕ). nat_eq mount.number other.number) rest ≡ false
-          → (is_among nat_eq new.number (numbers rest) ≡ true
+          → (is_among nat_eq new.number (numbers_of rest) ≡ true
           → mount_count (with_mount nat_eq rest new) namespace + mount_count
           (mount_in nat_eq rest new.number ∷ []) namespace
           ≡ mount_count rest namespace + mount_count (new ∷ []) namespace)
-          → (b || is_among nat_eq new.number (numbers rest)) ≡ true
+          → (b || is_among nat_eq new.number (numbers_of rest)) ≡ true
           → mount_count (cond b new mount ∷ with_mount nat_eq rest new) namespace
           + mount_count (unwrap_or (cond b (Some mount) (numbered rest new.number)) (no_mount new.number)
           ∷ []) namespace
@@ -196,8 +204,8 @@ module _ (new : Mount ℕ) (namespace : ℕ) where
           omega (arith, rest_is, one, two)
 
 -- several, each in the place of another
-replaced_counted : (copies mounts : List (Mount ℕ)) (namespace : ℕ) → Own copies → Own mounts
-    → ((copy : Mount ℕ) → Among copy copies → is_among nat_eq copy.number (numbers mounts) ≡ true)
+replaced_counted : (copies mounts : List (Mount ℕ)) (namespace : ℕ) → OneNumberAMount copies → OneNumberAMount mounts
+    → ((copy : Mount ℕ) → Among copy copies → is_among nat_eq copy.number (numbers_of mounts) ≡ true)
     → mount_count (folded (with_mount nat_eq) mounts copies) namespace + mount_count
     (map (λ (copy : Mount ℕ). mount_in nat_eq mounts copy.number) copies) namespace
     ≡ mount_count mounts namespace + mount_count copies namespace
@@ -226,9 +234,10 @@ replaced_counted (copy ∷ copies) mounts namespace apart own there =
     omega (arith, later, kept, first, one, two)
 
 -- mounts that move: each change of them keeps their numbers
-module _ (mounts tree : List (Mount ℕ)) (own : Own mounts) (apart : Own tree)
+module _ (mounts tree : List (Mount ℕ)) (own : OneNumberAMount mounts) (apart : OneNumberAMount tree)
     (there : (mount : Mount ℕ) → Among mount tree → Among mount mounts)
     (change : Mount ℕ → Mount ℕ) (keeps : (mount : Mount ℕ) → (change mount).number ≡ mount.number) where
+  -- where a tree moves each namespace gains what comes and loses what goes
   pub moved_counted : (namespace : ℕ)
       → mount_count (folded (with_mount nat_eq) mounts (map change tree)) namespace + mount_count tree namespace
       ≡ mount_count mounts namespace + mount_count (map change tree) namespace
@@ -240,16 +249,16 @@ module _ (mounts tree : List (Mount ℕ)) (own : Own mounts) (apart : Own tree)
       ap (λ list. mount_count list namespace) (originals tree there) in
       omega (arith, all, were)
     where
-      changed_numbers : (list : List (Mount ℕ)) → numbers (map change list) ≡ numbers list
+      changed_numbers : (list : List (Mount ℕ)) → numbers_of (map change list) ≡ numbers_of list
       changed_numbers [] = refl
       changed_numbers (mount ∷ list) = λ i. keeps mount i ∷ changed_numbers list i
 
-      listed : (copy : Mount ℕ) → Among copy (map change tree) → is_among nat_eq copy.number (numbers mounts) ≡ true
+      listed : (copy : Mount ℕ) → Among copy (map change tree) → is_among nat_eq copy.number (numbers_of mounts) ≡ true
       listed copy m =
           let from = among-from_map change tree copy m in
-          ap (λ (one : Mount ℕ). is_among nat_eq one.number (numbers mounts)) from.2
-          ∙ ap (λ n. is_among nat_eq n (numbers mounts)) (keeps from.0)
-          ∙ is_among_numbers (numbers mounts) from.0.number
+          ap (λ (one : Mount ℕ). is_among nat_eq one.number (numbers_of mounts)) from.2
+          ∙ ap (λ n. is_among nat_eq n (numbers_of mounts)) (keeps from.0)
+          ∙ is_among_numbers (numbers_of mounts) from.0.number
           (among-map (λ (one : Mount ℕ). one.number) mounts from.0 (there from.0 from.1))
 
       originals : (list : List (Mount ℕ)) → ((mount : Mount ℕ) → Among mount list → Among mount mounts)
@@ -260,7 +269,7 @@ module _ (mounts tree : List (Mount ℕ)) (own : Own mounts) (apart : Own tree)
           ∷ originals list (λ other m. within other (inr m)) i
 
 -- so they are no more than all
-pub moved_fewer : (mounts tree : List (Mount ℕ)) → Own mounts → Own tree
+pub moved_fewer : (mounts tree : List (Mount ℕ)) → OneNumberAMount mounts → OneNumberAMount tree
     → ((mount : Mount ℕ) → Among mount tree → Among mount mounts)
     → (namespace : ℕ) → mount_count tree namespace ≤ mount_count mounts namespace
 moved_fewer mounts tree own apart there namespace =
@@ -271,10 +280,6 @@ moved_fewer mounts tree own apart there namespace =
     omega (arith, all, none)
 
 -- Worlds in which a tree is attached
-
-map_same_mounts : (list : List (Mount ℕ)) → map (λ (mount : Mount ℕ). mount) list ≡ list
-map_same_mounts [] = refl
-map_same_mounts (mount ∷ list) = ap (λ rest. mount ∷ rest) (map_same_mounts list)
 
 -- a mount in a namespace is in one that is listed
 module _ (world : World ℕ) (invariants : NamespaceInvariants nat_eq world) where
@@ -298,7 +303,7 @@ module _ (world : World ℕ) (parts : List (Mount ℕ)) (invariants : NamespaceI
 
   parts_tell : list_any (λ part. holds_of full part.namespace) parts
       ≡ list_any (λ namespace. full namespace.number) world.namespaces
-  parts_tell = same_from _ _ there back
+  parts_tell = same_truth _ _ there back
     where
       there : list_any (λ part. holds_of full part.namespace) parts ≡ true
           → list_any (λ namespace. full namespace.number) world.namespaces ≡ true
@@ -404,7 +409,7 @@ module _ (world : World ℕ) (place : Location ℕ) where
           (same ∙ ap (λ found. unwrap_or found (no_mount place.mount)) e))))
       first (Some mount) e same =
           listed world invariants mount namespace
-          (found_one (λ (one : Mount ℕ). nat_eq place.mount one.number) world.mounts mount e).0
+          (found_in (λ (one : Mount ℕ). nat_eq place.mount one.number) world.mounts mount e).0
           (ap (λ (one : Mount ℕ). one.namespace) (sym (same ∙ ap (λ found. unwrap_or found (no_mount place.mount)) e))
           ∙ is)
 
@@ -423,7 +428,7 @@ module _ (world : World ℕ) (place : Location ℕ) where
         → mount_count (map (pushed_up nat_eq world new graft parts) list) namespace ≡ mount_count list namespace
     pushed_counted list namespace =
         count-map (pushed_up nat_eq world new graft parts) (λ (mount : Mount ℕ). mount) pushed_stays list namespace
-        ∙ ap (λ all. mount_count all namespace) (map_same_mounts list)
+        ∙ ap (λ all. mount_count all namespace) (map-id list)
 
     copies_counted : (namespace : ℕ) (part : Mount ℕ)
         → mount_count (copies_at nat_eq world new graft parts part) namespace
@@ -445,6 +450,7 @@ module _ (world : World ℕ) (place : Location ℕ) where
     abbrev added : World ℕ
     added = attached_by nat_eq world new place false tree
 
+    -- where a tree is copied to all parts each namespace gains a tree for each of its parts
     pub added_counted : (namespace : ℕ)
         → mount_count added.mounts namespace
         ≡ mount_count world.mounts namespace + mount_count parts namespace * length tree
@@ -458,6 +464,7 @@ module _ (world : World ℕ) (place : Location ℕ) where
         (flat_map (copies_at nat_eq world new (graft new false tree) parts) parts) namespace
         ∙ (λ i. pushed_counted new false tree world.mounts namespace i + rest_counted new false tree namespace parts i)
 
+    -- What code counts tells whether a namespace overfills where a tree is copied to all parts.
     pub added_tell : NamespaceInvariants nat_eq world → (mounts : List (Mount ℕ)) → mounts ≡ world.mounts
         → (kept : List Kept) → map mount_of kept ≡ parts
         → (load : Load) → length tree ≡ load.count → load.leaves ≡ None
@@ -516,7 +523,7 @@ module _ (world : World ℕ) (place : Location ℕ) where
 
     -- a mount that is not there comes to the receivers alone
     pub absent_counted : (mount : Mount ℕ) → tree ≡ mount ∷ []
-        → is_among nat_eq mount.number (numbers world.mounts) ≡ false
+        → is_among nat_eq mount.number (numbers_of world.mounts) ≡ false
         → (namespace : ℕ) → mount_count moved.mounts namespace
         ≡ mount_count world.mounts namespace + mount_count others namespace * length tree
     absent_counted mount is missing namespace =
@@ -542,15 +549,16 @@ module _ (world : World ℕ) (place : Location ℕ) where
         let rest = rest_counted new true tree namespace others in
         omega (arith, all, front, pushed, same, rest)
       where
-        none_has : (list : List (Mount ℕ)) → is_among nat_eq mount.number (numbers list) ≡ false
+        none_has : (list : List (Mount ℕ)) → is_among nat_eq mount.number (numbers_of list) ≡ false
             → list_any (λ (other : Mount ℕ). nat_eq mount.number other.number) list ≡ false
         none_has [] none = refl
         none_has (other ∷ list) none =
             let parts = or_parts (nat_eq mount.number other.number) _ none in
             λ i. parts.0 i || none_has list parts.1 i
 
-    module _ (own : Own world.mounts) (apart : Own tree)
+    module _ (own : OneNumberAMount world.mounts) (apart : OneNumberAMount tree)
         (within : (mount : Mount ℕ) → Among mount tree → Among mount world.mounts) where
+      -- where a tree moves with copies each namespace gains a tree for each of its parts, and loses the tree
       pub moved_all : (namespace : ℕ)
           → mount_count moved.mounts namespace + mount_count tree namespace
           ≡ mount_count world.mounts namespace + mount_count parts namespace * length tree
@@ -627,6 +635,7 @@ module _ (world : World ℕ) (place : Location ℕ) where
               ap (λ n. mount_count parts (counted namespace.count) * n) size in
               omega (arith, all, gone, fewer, sized)
 
+-- What code counts tells whether a namespace overfills where a tree moves with copies.
 pub moves_tell : (world : World ℕ) (place : Location ℕ) (new : Copies ℕ) (tree : List (Mount ℕ))
     → NamespaceInvariants nat_eq world
     → (mounts : List (Mount ℕ)) → mounts ≡ world.mounts → (kept : List Kept)
