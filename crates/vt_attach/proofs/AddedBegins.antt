@@ -20,7 +20,7 @@ use Rattle.vt_letting_go.specs.Keeping.{LocationsStand}
 use Rattle.vt_letting_go.specs.Leaving.{MountsStand, stands_on_attached}
 use Rattle.vt_letting_go.specs.Mounting.{inode_at}
 use Rattle.vt_letting_go.specs.OneByOne.{Inode}
-use Rattle.vt_letting_go.proofs.Lists.{Among, all_pass, among-append, among-append_left, among-append_right, among-from_map, among-map, among_from_all, among_numbers, any_passes, is_among_numbers, map_alike, map_twice, one_passes, or_first, passes}
+use Rattle.vt_letting_go.proofs.Lists.{Among, all_pass, among-append, among-append_left, among-append_right, among-from_map, among-map, among_from_all, any_passes, one_passes, or_first, passes}
 use Rattle.vt_letting_go.proofs.leaving.MountsAdded.{found_before}
 use Rattle.vt_letting_go.proofs.sweeps.OfWorlds.{mounts_of_worlds_stand}
 use Rattle.vt_letting_go.proofs.sweeps.UsesCounted.{located_while_counted}
@@ -38,6 +38,7 @@ use Rattle.vt_detach.proofs.Midway.{IsShown, Midway, NoneUnused, Reached, gone_i
 use Rattle.vt_detach.proofs.MidwayBegins as Begins
 use Rattle.vt_detach.proofs.Moving.{Moves}
 use Rattle.vt_detach.proofs.Staying.{world_is_plain}
+use Rattle.vt_spec.proofs.Lists.{map_alike, map_twice}
 
 flat_alike : {A B : Type 0} (f g : A → List B) (xs : List A) → ((x : A) → Among x xs → f x ≡ g x)
     → flat_map f xs ≡ flat_map g xs

@@ -15,7 +15,7 @@ use Rattle.vt_fs.specs.FilesystemsValue.{Shown}
 use Rattle.vt_letting_go.specs.Counts.{times}
 use Rattle.vt_letting_go.specs.Mounting.{inode_at}
 use Rattle.vt_letting_go.specs.OneByOne.{Inode}
-use Rattle.vt_letting_go.proofs.Lists.{Among, map_alike, map_twice}
+use Rattle.vt_letting_go.proofs.Lists.{Among}
 use Rattle.vt_location.specs.declared.locations.Location.{Location}
 use Rattle.vt_location.specs.declared.mounts.Mount.{Mount}
 use Rattle.vt_location.specs.Locations.{location_of}
@@ -26,6 +26,7 @@ use Rattle.vt_detach.proofs.Detached.{inodes_of_point}
 use Rattle.vt_detach.specs.Uses.{inode_of, mounted_if, pinned_at, pinned_in, shown_by}
 use Rattle.vt_detach.proofs.Shown.{counted_eq_back}
 use Rattle.vt_location.proofs.NumberLemmas.{counted_test}
+use Rattle.vt_spec.proofs.Lists.{map_alike, map_twice}
 
 -- the inodes that mounts use
 abbrev pub gained_by : List Mount → List Inode

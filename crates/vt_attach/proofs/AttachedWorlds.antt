@@ -30,7 +30,7 @@ use Rattle.vt_detach.proofs.FilesSeen.{seen_in}
 use Rattle.vt_letting_go.proofs.sweeps.OfWorlds.{found_filesystem}
 
 -- an inode of which there is a node is there
-inode_is_there : (o : Option (Counted ℕ)) → is_some (node_in o) ≡ true → is_some o ≡ true
+pub inode_is_there : (o : Option (Counted ℕ)) → is_some (node_in o) ≡ true → is_some o ≡ true
 inode_is_there None e = e
 inode_is_there (Some inode) e = refl
 

@@ -34,7 +34,6 @@ use Rattle.vt_propagate.specs.declared.copying.Counts.{Counts}
 use Rattle.vt_propagate.specs.declared.copying.Graft.{Graft}
 use Rattle.vt_propagate.specs.Copying as planned
 use Rattle.vt_propagate.specs.Planned.{planned_copies}
-use Rattle.vt_propagate.specs.Pushing.{EachOnce}
 use Rattle.vt_propagate.specs.Seen.{IsSeen}
 use Rattle.vt_run_laws.specs.Handed.{counts_from, is_counted_before}
 use Rattle.vt_spec.proofs.Lists.{among_from_contains}
@@ -54,8 +53,10 @@ use Rattle.vt_attach.specs.PlannedUses.{point_seen}
 use Rattle.vt_attach.proofs.AttachedCounts.{lower_numbers}
 use Rattle.vt_attach.proofs.CopiesAscend.{planned_ascend}
 use Rattle.vt_attach.proofs.GraftedDone.{IsBase, graft_is_done, grafted_value, plan_attaches}
-use Rattle.vt_attach.proofs.NumbersByParts.{bind_some, binds_keep_to_numbers}
+use Rattle.vt_attach.proofs.NumbersByParts.{binds_keep_to_numbers}
 use Rattle.vt_attach.proofs.TakingNumbers.{TakesNumbers}
+use Rattle.vt_permit_laws.proofs.taken.TakenFirst.{bind_some}
+use Rattle.vt_mount_laws.specs.Mounts.Attaching.{OneNumberAMount}
 
 -- the filesystems of the code's world
 pub same_base : (value : WorldValue) → IsHeld value → IsBase value value.filesystems
@@ -109,9 +110,9 @@ module _ (value : WorldValue) (whole : IsHeld value) (name : TaskName) (source :
   same_counts : (k : ℕ) → planned.counts_from counts k ≡ counts_from value.next k
   same_counts k = (λ i. counted (first i + step i * k)) ∙ omega arith
 
-  tree_once : EachOnce tree
+  tree_once : OneNumberAMount tree
   tree_once =
-      subst EachOnce (sym tree_is)
+      subst OneNumberAMount (sym tree_is)
       (binds_take_each_once world (location_of source) recursive whole.in_world.mounts.one_number whole.in_world.mounts.standing)
 
   tree_some : 0 < length graft.tree.now
@@ -137,7 +138,7 @@ module _ (value : WorldValue) (whole : IsHeld value) (name : TaskName) (source :
     seen = is_seen value whole;
     one_child = whole.in_world.mounts.one_child;
     parts_are = parts_are;
-    apart = subst EachOnce (sym parts_are)
+    apart = subst OneNumberAMount (sym parts_are)
         (parts_apart world (location_of graft.place) whole.in_world.mounts.one_number);
     ascending = rising_then ascending odd;
   }
@@ -155,8 +156,9 @@ module _ (value : WorldValue) (whole : IsHeld value) (name : TaskName) (source :
       (λ old. each mount old)
       (bind_there_or_source world (location_of source) recursive mount (subst (Among mount) tree_is m))
 
-  there : HasGroupsOf world tree
-  there mount contained =
+  -- the groups of the tree are groups of the world
+  tree_groups_there : HasGroupsOf world tree
+  tree_groups_there mount contained =
       tree_mount (λ (x : meant.Mount ℕ). (group : ℕ) → group_of x.propagation ≡ Some group → HasGroup world group)
       (group_there (mounts_in value.mounts)) (λ mount root has. has) mount (among_from_contains tree mount contained)
 
@@ -196,7 +198,7 @@ module _ (value : WorldValue) (whole : IsHeld value) (name : TaskName) (source :
       (λ i. 2 * (length (sym parts_are i) * length (sym tree_is i)))
       ∙ (λ i. 2 * (length-map graft.parts.now mount_of i * length-map graft.tree.now mount_of i)) in
       graft_is_done value whole value.filesystems
-      (same_base value whole) graft counts mounts groups filesystems next is attaches there rising
+      (same_base value whole) graft counts mounts groups filesystems next is attaches tree_groups_there rising
       name permit permits takes left_is
       (subst (λ n. KeepsTo (is_counted_before n) (left_by value permits.task permit))
       (ap (λ n. value.next + n) sizes ∙ sym grows) named)

@@ -6,7 +6,7 @@ use Rattle.std.specs.List.{list_all, list_any}
 use Rattle.std.proofs.Math.Nat.{mul-le-mul_left}
 use Rattle.std.proofs.lemmas.Bool.{lt-ltb, ne_eqb, or_parts}
 use Rattle.std.proofs.lemmas.List.{length-map}
-use Rattle.vt_letting_go.proofs.Lists.{Among, all_pass, among-from_flat_map, among-from_map, fails, flat_map_alike, map_twice}
+use Rattle.vt_letting_go.proofs.Lists.{Among, all_pass, among-from_flat_map, among-from_map, fails, flat_map_alike}
 use Rattle.vt_location.specs.Locations.{location_of}
 use Rattle.vt_location.specs.MountValue.{mount_of}
 use Rattle.vt_location.specs.Numbers.{counted}
@@ -16,14 +16,16 @@ use Rattle.vt_permit_laws.proofs.taken.TakenAttached.{index_bound}
 use Rattle.vt_propagate.specs.declared.copying.Counts.{Counts}
 use Rattle.vt_propagate.specs.declared.copying.Graft.{Graft}
 use Rattle.vt_propagate.specs.Planned.{graft_in, numbers_at, planned_copies}
-use Rattle.vt_propagate.specs.Pushing.{EachOnce}
 use Rattle.vt_spec.specs.Lists.{any_pair, place_from}
 use Rattle.vt_spec.specs.Machine.Attach.{copies_at, copy_at, is_destination, parts_of, twig_of}
 use Rattle.vt_spec.specs.Machine.Mounts.{Mount, group_of, index_of}
 use Rattle.vt_spec.specs.Machine.World.{World, mount_at}
 use Rattle.vt_attach.proofs.EnteringLemmas.{ascending_joined}
+use Rattle.vt_spec.proofs.Lists.{map_twice}
+use Rattle.vt_mount_laws.specs.Mounts.Attaching.{OneNumberAMount}
 
-pub differs : (first : Mount ℕ) (rest : List (Mount ℕ)) → EachOnce (first ∷ rest) → (mount : Mount ℕ) → Among mount rest
+pub differs : (first : Mount ℕ) (rest : List (Mount ℕ)) → OneNumberAMount (first ∷ rest) → (mount : Mount ℕ)
+    → Among mount rest
     → nat_eq mount.number first.number ≡ false
 differs first rest each mount m =
     let apart = fails (same_number first) rest
@@ -56,7 +58,8 @@ place_first k first rest =
     ap (λ b. unwrap_or (cond b (Some k) (place_from (λ (x : Mount ℕ). nat_eq first.number x.number) (k + 1) rest)) 0)
     (eq-eqb first.number first.number refl)
 
-pub place_later : (k : ℕ) (first : Mount ℕ) (rest : List (Mount ℕ)) → EachOnce (first ∷ rest) → (mount : Mount ℕ)
+pub place_later : (k : ℕ) (first : Mount ℕ) (rest : List (Mount ℕ)) → OneNumberAMount (first ∷ rest)
+    → (mount : Mount ℕ)
     → Among mount rest
     → place_in k (first ∷ rest) mount.number ≡ place_in (k + 1) rest mount.number
 place_later k first rest each mount m =
@@ -65,7 +68,7 @@ place_later k first rest each mount m =
 
 -- Numbers that grow with their places
 module _ (number : ℕ → ℕ) (grows : (a b : ℕ) → a < b → number a < number b) where
-  row_ascends : (copy : Mount ℕ → Mount ℕ) (base k : ℕ) (all : List (Mount ℕ)) → EachOnce all
+  row_ascends : (copy : Mount ℕ → Mount ℕ) (base k : ℕ) (all : List (Mount ℕ)) → OneNumberAMount all
       → ((mount : Mount ℕ) → Among mount all → (copy mount).number ≡ number (base + place_in k all mount.number))
       → are_ascending (map copy all) ≡ true
   row_ascends copy base k [] each is = refl
@@ -88,14 +91,14 @@ module _ (number : ℕ → ℕ) (grows : (a b : ℕ) → a < b → number a < nu
           let all = grows (base + k) (base + place_in (k + 1) rest from.0.number) (omega (arith, low)) in
           lt-ltb (copy first).number later.number (omega (arith, it, first_is, all)))
 
-  module _ (tree : List (Mount ℕ)) (tree_once : EachOnce tree) (some : 0 < length tree)
+  module _ (tree : List (Mount ℕ)) (tree_once : OneNumberAMount tree) (some : 0 < length tree)
       (copy : Mount ℕ → Mount ℕ → Mount ℕ) where
     abbrev Places : ℕ → List (Mount ℕ) → Type 0
     Places k parts = (part mount : Mount ℕ) → Among part parts → Among mount tree
         → (copy part mount).number ≡ number
         (place_in k parts part.number * length tree + index_of nat_eq tree mount.number)
 
-    pub rows_ascend : (k : ℕ) (parts : List (Mount ℕ)) → EachOnce parts → Places k parts
+    pub rows_ascend : (k : ℕ) (parts : List (Mount ℕ)) → OneNumberAMount parts → Places k parts
         → are_ascending (flat_map (λ part. map (copy part) tree) parts) ≡ true
     rows_ascend k [] each is = refl
     rows_ascend k (first ∷ rest) each is =
@@ -138,8 +141,8 @@ module _ (counts : Counts) (steps : 0 < counts.step) where
       let more : counts.step * (2 * a + 1) ≤ counts.step * (2 * b) = mul-le-mul_left counts.step apart in
       omega (arith, more, steps)
 
-  module _ (world : World ℕ) (graft : Graft) (binds : graft.moves ≡ false) (one : EachOnce world.mounts)
-      (tree_once : EachOnce (map mount_of graft.tree.now)) (some : 0 < length graft.tree.now) where
+  module _ (world : World ℕ) (graft : Graft) (binds : graft.moves ≡ false) (one : OneNumberAMount world.mounts)
+      (tree_once : OneNumberAMount (map mount_of graft.tree.now)) (some : 0 < length graft.tree.now) where
     abbrev tree : List (Mount ℕ)
     tree = map mount_of graft.tree.now
 

@@ -7,11 +7,12 @@ use Rattle.vt_spec.specs.Lists.{holds_of, is_among, then_some, when}
 use Rattle.vt_spec.specs.Machine.Attach.{Copies, Graft, Twig, copies_at, copy_at, copy_type, graft_of, group_made, image, is_destination, nearest_image, parts_of, twig_master, twig_of, type_at, type_at_part}
 use Rattle.vt_spec.specs.Machine.Mounts.{Location, Mount, Propagation, group_of, is_shared}
 use Rattle.vt_spec.specs.Machine.Mounts.Propagation.{Private, Shared, Slave, Unbindable}
-use Rattle.vt_spec.specs.Machine.Receives.{has_members, is_member_of, slave_of_heir}
+use Rattle.vt_spec.specs.Machine.Receives.{has_members, is_member_of}
 use Rattle.vt_spec.specs.Machine.Types.{master_after}
 use Rattle.vt_spec.specs.Machine.World.{World, mount_at}
 use Rattle.vt_spec.proofs.Lists.{Among, all_from_among, among-filter_map, among-flat_map, among-from_filter_map, among-from_flat_map, among-from_map, among-map, any_among, any_from_among, contains_from_among, is_among_numbers}
 use Rattle.vt_attach.specs.AttachedGroups.{FormedGroupsBegin, GroupsOfCopiesAreNamed, HasGroupsOf, all_copies, groups_formed}
+use Rattle.vt_mount_laws.proofs.Groups.{no_group_of_heir}
 
 none_is_some : {A : Type 0} (a : A) {B : Type 0} → None ≡ Some a → B
 none_is_some a e = absurd (true≢false (sym (ap is_some e)))
@@ -21,10 +22,6 @@ first_given : {A B : Type 0} (f : A → B) (o : Option A) (entry : A × B) → o
     → o ≡ Some entry.0
 first_given f None entry e = none_is_some entry e
 first_given f (Some a) entry e = ap (option_map (λ x. x.0)) e
-
-no_member : (o : Option ℕ) → group_of (slave_of_heir o) ≡ None
-no_member None = refl
-no_member (Some master) = refl
 
 some_given : (o : Option ℕ) (default : ℕ) → is_some o ≡ true → o ≡ Some (unwrap_or o default)
 some_given None default e = absurd (true≢false (sym e))
@@ -202,7 +199,8 @@ module _ (world : World ℕ) (new : Copies ℕ) (place : Location ℕ) (moves : 
             → group_of (copy_type nat_eq world new parts target twig kind) ≡ Some group → IsNamed group
         by_kind (Shared own) kind other is = elsewhere own kind other is
         by_kind (Slave master) kind other is =
-            none_is_some group (sym (no_member (nearest_image nat_eq world new parts target twig (Some master))) ∙ is)
+            none_is_some group (sym (no_group_of_heir
+            (nearest_image nat_eq world new parts target twig (Some master))) ∙ is)
         by_kind Private kind other is = none_is_some group is
         by_kind Unbindable kind other is = none_is_some group is
 

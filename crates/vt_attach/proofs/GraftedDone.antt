@@ -3,7 +3,6 @@
 use Rattle.std.proofs.Common.{◌≡◌, refl, sym, ap, subst, ◌∙◌, ⊎_elim, inl, inr, ℕ, ◌+◌, nat_eq, Bool, true, false, cond, ◌&&◌, List, [], ◌∷◌, ◌++◌, map, Option, is_some}
 use Rattle.std.specs.Prelude.{All}
 use Rattle.std.specs.List.{list_all}
-use Rattle.std.proofs.lemmas.List.Folds.{list_all-append}
 use Rattle.vt_count_laws.specs.Counted.{IsCounted}
 use Rattle.vt_count_laws.specs.Using.{exchanged}
 use Rattle.vt_count_laws.proofs.using.Exchanged.{uses_are_exchanged}
@@ -14,7 +13,7 @@ use Rattle.vt_laws.specs.Numbers.{KeepsTo}
 use Rattle.vt_letting_go.specs.Counts.{mounts_showing, times}
 use Rattle.vt_letting_go.specs.InUse.{HasTrees, InodesInUse}
 use Rattle.vt_letting_go.specs.OneByOne.{Inode}
-use Rattle.vt_letting_go.proofs.Lists.{Among, all_from_among, all_pass, among-append, among-from_map, among-map, among_from_all, map_twice, passes}
+use Rattle.vt_letting_go.proofs.Lists.{Among, all_from_among, among-append, among-from_map, among-map, among_from_all}
 use Rattle.vt_letting_go.proofs.sweeps.UpperUses.{times_append}
 use Rattle.vt_location.specs.declared.locations.Location.{Location}
 use Rattle.vt_location.specs.declared.mounts.Mount.{Mount}
@@ -68,6 +67,7 @@ use Rattle.vt_attach.proofs.PlannedCounts.{exchanged_on, inodes_of_points, plann
 use Rattle.vt_attach.proofs.PlannedPoints.{moved_at}
 use Rattle.vt_attach.proofs.PointsCounted.{points_count}
 use Rattle.vt_attach.proofs.TakingNumbers.{TakesNumbers, left_is_world, numbers_are_kept}
+use Rattle.vt_spec.proofs.Lists.{map_twice}
 
 -- the world with these filesystems
 abbrev pub with_base : WorldValue → Filesystems → World ℕ

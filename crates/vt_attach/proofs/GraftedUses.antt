@@ -15,7 +15,7 @@ use Rattle.vt_letting_go.specs.Counts.{times}
 use Rattle.vt_letting_go.specs.Mounting.{inode_at}
 use Rattle.vt_letting_go.specs.OneByOne.{Inode, let_go_inode_of, let_go_inodes, without_inode}
 use Rattle.vt_letting_go.specs.InUse.{is_inode_used}
-use Rattle.vt_letting_go.proofs.Lists.{Among, all_pass, among-append_left, among-append_right, among-filter_map, among-from_map, among-map, among_from_all, among_numbers, map_alike, map_same, map_twice, none_passes, passes}
+use Rattle.vt_letting_go.proofs.Lists.{Among, all_pass, among-append_left, among-append_right, among-filter_map, among-from_map, among-map, among_from_all, among_numbers, map_same, none_passes, passes}
 use Rattle.vt_letting_go.proofs.sweeps.OfWorlds.{found_filesystem, mounts_of_worlds_stand}
 use Rattle.vt_letting_go.proofs.sweeps.UpperUses.{times_append}
 use Rattle.vt_location.specs.declared.locations.Location.{Location}
@@ -51,6 +51,7 @@ use Rattle.vt_attach.proofs.MovedPoints.{points_are_moved}
 use Rattle.vt_attach.proofs.PlacedUses.{points_are_uses}
 use Rattle.vt_attach.proofs.PlannedCounts.{inodes_of_points}
 use Rattle.vt_attach.proofs.PlannedPoints.{moved_at, number_at, others_stay, left_with_more, stands_then, stood, taken_with_more}
+use Rattle.vt_spec.proofs.Lists.{map_alike, map_twice}
 
 -- What is in use stays
 
@@ -337,14 +338,15 @@ module _ (value : WorldValue) (base : Filesystems) (master : ℕ → Option ℕ)
         ∙ map-append (moved_at points) (mounts_in value.mounts) (map mount_of copies)
         ∙ ap (λ back. map (moved_at points) (mounts_in value.mounts) ++ back) copies_stay
 
-    found : (mount : Mount) → Among mount copies → IsFoundIn after mount
-    found = new_found after is_world
+    -- each copy is found in the world that is left
+    copies_found : (mount : Mount) → Among mount copies → IsFoundIn after mount
+    copies_found = new_found after is_world
         (map (changed_at points kinds) (mounts_in value.mounts)) copies refl slots base refl own
 
     found_come : (mount : Mount) → Among mount copies → IsFoundIn come mount
     found_come mount m = record {
-      root = (λ i. come_as_after i (meant.root_of (mount_of mount))) ∙ (found mount m).root;
-      point = λ point is. (λ i. come_as_after i (location_of point)) ∙ (found mount m).point point is;
+      root = (λ i. come_as_after i (meant.root_of (mount_of mount))) ∙ (copies_found mount m).root;
+      point = λ point is. (λ i. come_as_after i (location_of point)) ∙ (copies_found mount m).point point is;
     }
 
     abbrev pub gained : List Inode

@@ -19,16 +19,15 @@ use Rattle.vt_spec.specs.Machine.Receives.{has_members}
 use Rattle.vt_spec.specs.Machine.Settled.{mount_lives, settled}
 use Rattle.vt_spec.specs.Machine.World.{Filesystem, World, is_overlay, mount_at, mount_numbered}
 use Rattle.vt_spec.specs.Machine.Invariants.{IsWorld}
-use Rattle.vt_spec.proofs.Lists.{among_from_contains, contains_from_among}
+use Rattle.vt_spec.proofs.Lists.{among_from_contains, contains_from_among, map_twice}
 use Rattle.vt_count_laws.specs.Counted.{IsPlain}
-use Rattle.vt_count_laws.specs.Sweeping.{living}
 use Rattle.vt_count_laws.specs.Using.{Exchanges}
 use Rattle.vt_count_laws.proofs.using.MountRoots as Roots
 use Rattle.vt_fs.specs.FilesystemsValue.{Filesystems, Shown, filesystems_seen}
-use Rattle.vt_group.specs.Grouping.{Grouping, Has, master_in, numbers_of}
+use Rattle.vt_group.specs.Grouping.{Grouping, Has, master_in}
 use Rattle.vt_group.specs.Together.{Grows, new_group, typed}
 use Rattle.vt_laws.specs.Numbers.{KeepsTo}
-use Rattle.vt_letting_go.proofs.Lists.{Among, all_from_among, among-from_map, among-map, among_from_all, is_among_numbers, map_twice, none_passes, passes}
+use Rattle.vt_letting_go.proofs.Lists.{Among, all_from_among, among-from_map, among-map, among_from_all, is_among_numbers, none_passes, passes}
 use Rattle.vt_letting_go.proofs.sweeps.OfWorlds.{mounts_of_worlds_stand}
 use Rattle.vt_location.specs.declared.mounts.Mount.{Mount}
 use Rattle.vt_location.specs.Locations.{location_of}
@@ -46,7 +45,7 @@ use Rattle.vt_propagate.specs.Attaching.{AttachesBy, IsMoved}
 use Rattle.vt_propagate.specs.Copying as planned
 use Rattle.vt_propagate.specs.Falling.{moved_by}
 use Rattle.vt_propagate.specs.Planned.{numbers_at, planned_copies}
-use Rattle.vt_propagate.specs.Pushing.{EachOnce, MovesOnce, leaver}
+use Rattle.vt_propagate.specs.Pushing.{MovesOnce, leaver}
 use Rattle.vt_run_laws.specs.Handed.{counts_from, is_counted_before}
 use Rattle.vt_world_laws.specs.Worlds.Kept.{IsUnderWay}
 use Rattle.vt_world_laws.specs.Worlds.Permits.{MayMoveTo}
@@ -88,6 +87,9 @@ use Rattle.vt_attach.proofs.PlannedPoints.{moved_at}
 use Rattle.vt_attach.proofs.TakingNumbers.{TakesNumbers, left_is_world, numbers_are_kept}
 use Rattle.vt_attach.proofs.TypedMounts.{Kind, KindsOnce, looked_up_kind, retyped_one, typed_at, typed_seen, typed_with_more}
 use Rattle.vt_attach.proofs.TypesGrown.{GrowBeside, grows_beside}
+use Rattle.vt_spec.proofs.Options.{some_from_is_some}
+use Rattle.vt_mount_laws.specs.Mounts.Attaching.{numbers_of, OneNumberAMount}
+use Rattle.vt_letting_go.specs.TreesOverlays.{in_use_of}
 
 tree_is_some : (fuel : ℕ) (mounts : List (meant.Mount ℕ)) (top : meant.Mount ℕ)
     → 0 < length (tree_from nat_eq fuel mounts top)
@@ -98,10 +100,6 @@ begins : (tree : List Mount) → 0 < length tree → (first : Mount) × (others 
 begins [] some = absurd (omega (arith, some))
 begins (first ∷ others) some = (first, others, refl)
 
-some_is : {A : Type 0} (o : Option A) → is_some o ≡ true → (a : A) × (o ≡ Some a)
-some_is None e = absurd (true≢false (sym e))
-some_is (Some a) e = (a, refl)
-
 kinds_apart : (number : ℕ) (own : List (meant.Mount ℕ))
     → list_any (λ (b : meant.Mount ℕ). nat_eq number b.number) own ≡ false
     → list_any (λ (b : Kind). nat_eq number b.0) (map type_of own) ≡ false
@@ -110,7 +108,7 @@ kinds_apart number (mount ∷ rest) none =
     let parts = or_parts (nat_eq number mount.number) _ none in
     λ i. parts.0 i || kinds_apart number rest parts.1 i
 
-kinds_are_once : (own : List (meant.Mount ℕ)) → EachOnce own → KindsOnce (map type_of own)
+kinds_are_once : (own : List (meant.Mount ℕ)) → OneNumberAMount own → KindsOnce (map type_of own)
 kinds_are_once [] once = refl
 kinds_are_once (mount ∷ rest) once =
     let parts = or_parts (list_any (λ (b : meant.Mount ℕ). nat_eq mount.number b.number) rest) _ once in
@@ -205,14 +203,15 @@ module _ (value : WorldValue) (whole : IsHeld value) (name : TaskName) (number :
   same_counts : (k : ℕ) → planned.counts_from counts k ≡ counts_from value.next k
   same_counts k = (λ i. counted (first_is i + step i * k)) ∙ omega arith
 
-  one : EachOnce (mounts_in value.mounts)
-  one = whole.in_world.mounts.one_number
+  -- each number is that of one mount
+  one_number : OneNumberAMount (mounts_in value.mounts)
+  one_number = whole.in_world.mounts.one_number
 
   -- the tree
 
-  tree_once : EachOnce tree
+  tree_once : OneNumberAMount tree
   tree_once =
-      subst EachOnce (sym tree_is)
+      subst OneNumberAMount (sym tree_is)
       (trees_have_each_once world number whole.in_world.mounts.one_number whole.in_world.mounts.standing)
 
   tree_some : 0 < length graft.tree.now
@@ -235,8 +234,9 @@ module _ (value : WorldValue) (whole : IsHeld value) (name : TaskName) (number :
       → Among mount (mount_tree nat_eq (mounts_in value.mounts) (mount_numbered nat_eq (world_of value) number))
   of_tree mount m = subst (Among mount) tree_is m
 
-  there : (mount : meant.Mount ℕ) → Among mount tree → Among mount (mounts_in value.mounts)
-  there mount m = (in_tree value whole number namespace may.own mount (of_tree mount m)).0
+  -- a mount of the tree is one of the world
+  tree_among : (mount : meant.Mount ℕ) → Among mount tree → Among mount (mounts_in value.mounts)
+  tree_among mount m = (in_tree value whole number namespace may.own mount (of_tree mount m)).0
 
   beside : (mount : meant.Mount ℕ) → Among mount tree → mount.namespace ≡ dest.namespace
   beside mount m = (in_tree value whole number namespace may.own mount (of_tree mount m)).2 ∙ sym may.destination.own
@@ -271,7 +271,7 @@ module _ (value : WorldValue) (whole : IsHeld value) (name : TaskName) (number :
       ≡ true
   rising_then ascending odd =
       ap (λ list. are_ascending (mounts_in value.mounts ++ list)) rest_dropped
-      ∙ beside_ascend counts (subst (λ n. 0 < n) (sym step) (omega arith)) world graft one tree_once tree_some
+      ∙ beside_ascend counts (subst (λ n. 0 < n) (sym step) (omega arith)) world graft one_number tree_once tree_some
       (mounts_in value.mounts) ascending
       (λ mount m. subst (λ n. mount.number < counted n) (sym first_is) (lower_numbers value whole odd mount m))
 
@@ -283,7 +283,7 @@ module _ (value : WorldValue) (whole : IsHeld value) (name : TaskName) (number :
     seen = is_seen value whole;
     one_child = whole.in_world.mounts.one_child;
     parts_are = parts_are;
-    apart = subst EachOnce (sym parts_are)
+    apart = subst OneNumberAMount (sym parts_are)
         (parts_apart world (location_of graft.place) whole.in_world.mounts.one_number);
     own =
         let all = length-append own (copies_beside world graft counts) in
@@ -339,7 +339,7 @@ module _ (value : WorldValue) (whole : IsHeld value) (name : TaskName) (number :
     rising = ap (λ list. are_ascending (mounts_in value.mounts ++ list)) (come_is ∙ sym rest_dropped)
         ∙ rising_then ascending odd
 
-    own_once : EachOnce own
+    own_once : OneNumberAMount own
     own_once = one_number_by_numbers tree own
         (Trees.own_numbers world graft counts first others tree_now moves) tree_once
 
@@ -381,7 +381,7 @@ module _ (value : WorldValue) (whole : IsHeld value) (name : TaskName) (number :
     first_there =
         is_among_numbers first_number (numbers_of (mounts_in value.mounts))
         (among-map (λ (x : meant.Mount ℕ). x.number) (mounts_in value.mounts) (mount_of first)
-        (there (mount_of first) (subst (λ (list : List Mount). Among (mount_of first) (map mount_of list))
+        (tree_among (mount_of first) (subst (λ (list : List Mount). Among (mount_of first) (map mount_of list))
         (sym tree_now) (inl refl))))
 
     once : MovesOnce (mounts_in value.mounts) (map point_seen points)
@@ -408,7 +408,7 @@ module _ (value : WorldValue) (whole : IsHeld value) (name : TaskName) (number :
         mounts_entered (with_points points value.mounts) come
         ∙ ap (λ front. front ++ map mount_of come) (points_are_moved value.mounts points)
 
-    behind : EachOnce (map (moved_at points) (mounts_in value.mounts) ++ map mount_of come)
+    behind : OneNumberAMount (map (moved_at points) (mounts_in value.mounts) ++ map mount_of come)
     behind =
         one_number_by_numbers (mounts_in value.mounts ++ map mount_of come)
         (map (moved_at points) (mounts_in value.mounts) ++ map mount_of come)
@@ -421,12 +421,14 @@ module _ (value : WorldValue) (whole : IsHeld value) (name : TaskName) (number :
         kinds_apart mount.number own
         (none_passes (λ (b : meant.Mount ℕ). nat_eq mount.number b.number) own (λ b n.
         let from = own_number b n in
-        let less = apart (mounts_in value.mounts) (map mount_of come) rising from.0 mount (there from.0 from.1) m in
+        let less = apart (mounts_in value.mounts) (map mount_of come) rising from.0 mount (tree_among from.0 from.1) m
+            in
         let number_is = from.2 in
         ne_eqb mount.number b.number (λ same. absurd (omega (arith, less, same, number_is)))))
 
-    seen : mounts_in mounts ≡ map (changed_at points kinds) (mounts_in value.mounts) ++ map mount_of come
-    seen =
+    -- the mounts that are left, as the definitions see them
+    mounts_seen : mounts_in mounts ≡ map (changed_at points kinds) (mounts_in value.mounts) ++ map mount_of come
+    mounts_seen =
         ap (λ k. mounts_in k.mounts) is.done
         ∙ typed_seen (map typed is.copies) (with_points points value.mounts ++ map unused_entry come)
         ∙ (λ i. folded retyped_one (entries_seen i) (all_kinds i))
@@ -442,7 +444,7 @@ module _ (value : WorldValue) (whole : IsHeld value) (name : TaskName) (number :
       left_are = is.left_are;
       left_small = is.left_small;
       done = is.done;
-      seen = seen;
+      seen = mounts_seen;
       slots = is.slots;
       taken_small = is.taken_small;
     }
@@ -452,11 +454,12 @@ module _ (value : WorldValue) (whole : IsHeld value) (name : TaskName) (number :
     kind_of_copy : (origin : meant.Mount ℕ)
         → (Trees.copy world graft counts first others tree_now moves origin).propagation
         ≡ type_on_shared ((numbers_at world graft counts).image
-        (some_is (group_of dest.propagation) shared).0 origin.number)
+        (some_from_is_some (group_of dest.propagation) shared).0 origin.number)
         origin.propagation
     kind_of_copy origin =
         Trees.copy_kind_is world graft counts first others tree_now moves origin
-        ∙ ap (λ o. type_at (numbers_at world graft counts) o origin) (some_is (group_of dest.propagation) shared).1
+        ∙ ap (λ o. type_at (numbers_at world graft counts) o origin)
+        (some_from_is_some (group_of dest.propagation) shared).1
 
     stays : (mount : meant.Mount ℕ) → Among mount (mounts_in value.mounts) → (group : ℕ)
         → group_of mount.propagation ≡ Some group → group_of (typed_at kinds mount).propagation ≡ Some group
@@ -467,18 +470,19 @@ module _ (value : WorldValue) (whole : IsHeld value) (name : TaskName) (number :
         by None e = ap (λ o. group_of (unwrap_or o mount.propagation)) e ∙ has
         by (Some kind) e =
             let mine = looked_up_kind mount.number own kind e in
-            let becomes = Trees.becomes world graft counts first others tree_now moves one own_once kinds_once
-            there beside placed mount m mine.0 mine.1 mine.3 in
+            let becomes = Trees.becomes world graft counts first others tree_now moves one_number own_once kinds_once
+            tree_among beside placed mount m mine.0 mine.1 mine.3 in
             ap (λ o. group_of (unwrap_or o mount.propagation)) e ∙ ap group_of (sym mine.2)
             ∙ ap (λ (x : meant.Mount ℕ). group_of x.propagation) becomes.1
             ∙ ap group_of (kind_of_copy mount)
             ∙ group_stays ((numbers_at world graft counts).image
-            (some_is (group_of dest.propagation) shared).0 mount.number)
+            (some_from_is_some (group_of dest.propagation) shared).0 mount.number)
             group mount.propagation has
 
     groups_there : HasGroupsOf world tree
     groups_there mount contained group e =
-        group_there (mounts_in value.mounts) mount (there mount (among_from_contains tree mount contained)) group e
+        group_there (mounts_in value.mounts) mount (tree_among mount (among_from_contains tree mount contained)) group
+        e
 
     grown : GrowBeside world then_world (changed_at points kinds) own (map mount_of come) formed
     grown = record {
@@ -490,12 +494,12 @@ module _ (value : WorldValue) (whole : IsHeld value) (name : TaskName) (number :
           let from = own_number mount m in
           ap (λ n. is_among nat_eq n (numbers_of (mounts_in value.mounts))) from.2
           ∙ is_among_numbers from.0.number (numbers_of (mounts_in value.mounts))
-          (among-map (λ (x : meant.Mount ℕ). x.number) (mounts_in value.mounts) from.0 (there from.0 from.1));
+          (among-map (λ (x : meant.Mount ℕ). x.number) (mounts_in value.mounts) from.0 (tree_among from.0 from.1));
       shared = λ mount m.
           let from = own_from mount m in
           ap (λ (x : meant.Mount ℕ). is_shared x.propagation) from.2 ∙ ap is_shared (kind_of_copy from.0)
           ∙ shared_there ((numbers_at world graft counts).image
-          (some_is (group_of dest.propagation) shared).0 from.0.number)
+          (some_from_is_some (group_of dest.propagation) shared).0 from.0.number)
           from.0.propagation;
       stays = stays;
       order = sym (ascending_rises (mounts_in value.mounts ++ map mount_of come)) ∙ rising;
@@ -530,7 +534,7 @@ module _ (value : WorldValue) (whole : IsHeld value) (name : TaskName) (number :
     is_moved : IsMoved world tree
     is_moved = record {
       there = all_from_among (Contains world.mounts) tree
-          (λ mount m. contains_from_among world.mounts mount (there mount m));
+          (λ mount m. contains_from_among world.mounts mount (tree_among mount m));
       standing = all_from_among (λ (mount : meant.Mount ℕ). is_some mount.mount_point ≡ true) (rest_of tree)
           (λ mount m. placed mount (rest_among tree mount m));
     }
@@ -550,7 +554,8 @@ module _ (value : WorldValue) (whole : IsHeld value) (name : TaskName) (number :
           master = master;
         })
         ∙ ap (λ front. record world { mounts = front ++ map mount_of come; master = master })
-        (Trees.all_moved world graft counts first others tree_now moves one own_once kinds_once there beside placed
+        (Trees.all_moved world graft counts first others tree_now moves one_number own_once kinds_once tree_among
+        beside placed
         is.pushed)
 
     under : IsUnderWay then_world
@@ -568,7 +573,7 @@ module _ (value : WorldValue) (whole : IsHeld value) (name : TaskName) (number :
     tree_list = sym (ap (map mount_of) tree_now) ∙ tree_is
 
     its : (mount : meant.Mount ℕ) → Among mount (mount_of first ∷ map mount_of others) → Among mount world.mounts
-    its mount m = there mount (subst (Among mount) (sym (ap (map mount_of) tree_now)) m)
+    its mount m = tree_among mount (subst (Among mount) (sym (ap (map mount_of) tree_now)) m)
 
     no_overlay : list_any is_overlay (filesystems_seen value.filesystems) ≡ false
     no_overlay =
@@ -576,10 +581,10 @@ module _ (value : WorldValue) (whole : IsHeld value) (name : TaskName) (number :
         (λ f m. among_from_all (λ (g : Filesystem ℕ). is_overlay g ≡ false) (filesystems_seen value.filesystems)
         (files_are_plain value.filesystems) f m)
 
-    living_is : living then_world ≡ then_world
+    living_is : in_use_of then_world ≡ then_world
     living_is =
-        subst (λ (w : World ℕ). living w ≡ w) moved_is
-        (subst (λ list. living (attach nat_eq world (counts_from value.next) place true list)
+        subst (λ (w : World ℕ). in_use_of w ≡ w) moved_is
+        (subst (λ list. in_use_of (attach nat_eq world (counts_from value.next) place true list)
         ≡ attach nat_eq world (counts_from value.next) place true list) tree_list
         (living_moved world (worlds_are_in_use world whole.in_world) (mounts_of_worlds_stand world whole.in_world)
         (Roots.locations_of_worlds_stand world whole.in_world) no_overlay
@@ -609,7 +614,7 @@ module _ (value : WorldValue) (whole : IsHeld value) (name : TaskName) (number :
         (inodes_of_points (points_taken points value.mounts) ++ gained_by come) (inodes_of_points is.left) new
     swept = record {
       plain = files_are_plain value.filesystems;
-      mounts = ap (λ (w : World ℕ). w.mounts) living_is ∙ sym seen;
+      mounts = ap (λ (w : World ℕ). w.mounts) living_is ∙ sym mounts_seen;
       numbers = ap (λ (w : World ℕ). map (λ (f : Filesystem ℕ). f.number) w.filesystems) living_is
           ∙ same_numbers value whole value.filesystems (same_base value whole) come points kinds is.left formed mounts
           groups filesystems next entered rising;

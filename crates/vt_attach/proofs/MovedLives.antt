@@ -2,7 +2,6 @@
 use Rattle.std.proofs.Common.{◌≡◌, ap, subst, ◌∙◌, inl, ℕ, nat_eq, true, List, [], ◌∷◌, is_some}
 use Rattle.std.specs.Prelude.{option_to_list}
 use Rattle.std.specs.List.{list_all}
-use Rattle.vt_count_laws.specs.Sweeping.{living}
 use Rattle.vt_letting_go.specs.InUse.{AllInUse}
 use Rattle.vt_letting_go.specs.Keeping.{LocationsStand}
 use Rattle.vt_letting_go.specs.Leaving.{MountsStand}
@@ -16,6 +15,7 @@ use Rattle.vt_spec.specs.Machine.Attach.{Copies, attached_by}
 use Rattle.vt_spec.specs.Machine.Mounts.{Location, Mount}
 use Rattle.vt_spec.specs.Machine.Settled.{mount_lives, without_dead_filesystems, without_dead_mounts}
 use Rattle.vt_spec.specs.Machine.World.{World, mount_at}
+use Rattle.vt_letting_go.specs.TreesOverlays.{in_use_of}
 
 module _ (world : World ℕ) (in_use : AllInUse world) (stand : MountsStand world) (located : LocationsStand world)
     (plain : IsPlain world) (new : Copies ℕ) (place : Location ℕ)
@@ -37,7 +37,7 @@ module _ (world : World ℕ) (in_use : AllInUse world) (stand : MountsStand worl
   pub mounts_live : list_all (mount_lives nat_eq after) after.mounts ≡ true
   mounts_live = in_use_then.mounts
 
-  pub living_moved : living after ≡ after
+  pub living_moved : in_use_of after ≡ after
   living_moved =
       ap (without_dead_filesystems nat_eq) (mounts_go_one_by_one after [] in_use_then.mounts)
       ∙ subst (λ (w : World ℕ). without_dead_filesystems nat_eq w ≡ w)

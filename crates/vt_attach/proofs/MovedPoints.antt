@@ -1,7 +1,6 @@
 -- Mounts that get other mount points one after the other, and all at once.
 use Rattle.std.proofs.Common.{◌≡◌, refl, ap, ◌∙◌, ℕ, nat_eq, Bool, true, false, cond, List, [], ◌∷◌, map, Some}
 use Rattle.std.specs.Map.{lookup}
-use Rattle.vt_letting_go.proofs.Lists.{map_alike, map_twice}
 use Rattle.vt_location.specs.declared.locations.Location.{Location}
 use Rattle.vt_location.specs.Locations.{location_of}
 use Rattle.vt_location.specs.Numbers.{counted}
@@ -12,6 +11,7 @@ use Rattle.vt_spec.specs.Machine.Mounts.{Mount}
 use Rattle.vt_attach.specs.Planned.{placed_entry, with_points}
 use Rattle.vt_attach.specs.PlannedUses.{PointsAreMoved, point_seen}
 use Rattle.vt_detach.proofs.LookLemmas.{turned}
+use Rattle.vt_spec.proofs.Lists.{map_alike, map_twice}
 
 abbrev at_point : List (ℕ × meant.Location ℕ) → Mount ℕ → Mount ℕ
 at_point points mount = record mount { mount_point = or_else (lookup (nat_eq mount.number) points) mount.mount_point }

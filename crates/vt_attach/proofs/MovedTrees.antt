@@ -4,7 +4,7 @@ use Rattle.std.proofs.Common.{◌≡◌, refl, sym, ap, subst, ◌∙◌, inl, i
 use Rattle.std.specs.Prelude.{if◌then◌else◌}
 use Rattle.std.specs.Map.{lookup}
 use Rattle.std.proofs.lemmas.Option.{same_Some}
-use Rattle.vt_letting_go.proofs.Lists.{Among, among-from_map, map_alike, map_twice}
+use Rattle.vt_letting_go.proofs.Lists.{Among, among-from_map}
 use Rattle.vt_location.specs.declared.mounts.Mount.{Mount as Code}
 use Rattle.vt_location.specs.Locations.{location_of}
 use Rattle.vt_location.specs.MountValue.{mount_of}
@@ -24,6 +24,7 @@ use Rattle.vt_attach.specs.Planned.{Point}
 use Rattle.vt_attach.specs.PlannedUses.{point_seen}
 use Rattle.vt_attach.proofs.GraftedUses.{changed_at}
 use Rattle.vt_attach.proofs.TypedMounts.{KindsOnce, all_replaced, lookup_kind, replaced_by, same_numbered}
+use Rattle.vt_spec.proofs.Lists.{map_alike, map_twice}
 
 lookup_append : {B : Type 0} (number : ℕ) (xs ys : List (ℕ × B))
     → lookup (nat_eq number) (xs ++ ys) ≡ or_else (lookup (nat_eq number) xs) (lookup (nat_eq number) ys)

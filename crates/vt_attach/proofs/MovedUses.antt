@@ -8,7 +8,7 @@ use Rattle.vt_spec.specs.Machine.Mounts.{Location, Mount}
 use Rattle.vt_spec.specs.Machine.World.{Descriptor, World, all_locations, locations_of}
 use Rattle.vt_count_laws.proofs.using.MountRoots as Roots
 use Rattle.vt_letting_go.specs.Counts.{mount_uses, times}
-use Rattle.vt_letting_go.proofs.Lists.{Among, among-append, among-append_right, among-from_map, among-map, among_from_all, among_numbers, fails, map_alike, map_twice, passes}
+use Rattle.vt_letting_go.proofs.Lists.{Among, among-append, among-append_right, among-from_map, among-map, among_from_all, among_numbers, fails, passes}
 use Rattle.vt_location.specs.declared.mounts.Mount.{Mount as Attached}
 use Rattle.vt_location.specs.MountValue.{mount_of}
 use Rattle.vt_mount.specs.MountsValue.{MountEntry, changed, held, mounts_in, released}
@@ -22,6 +22,7 @@ use Rattle.vt_detach.specs.Uses.{unused_entry}
 use Rattle.vt_detach.specs.WorldValue.{WorldValue, world_of}
 use Rattle.vt_attach.proofs.AddedBegins.{IsAdded}
 use Rattle.vt_detach.proofs.Moving.{swap_eq}
+use Rattle.vt_spec.proofs.Lists.{map_alike, map_twice}
 
 -- One use goes from a mount to another
 

@@ -5,7 +5,7 @@ use Rattle.std.specs.Prelude.{flat_map, if◌then◌else◌, nat_lt}
 use Rattle.std.specs.List.{list_all, list_any}
 use Rattle.std.proofs.lemmas.Bool.{and_parts, ltb-true, ne_eqb, or_parts}
 use Rattle.std.proofs.lemmas.List.{length-map}
-use Rattle.vt_letting_go.proofs.Lists.{Among, among-from_flat_map, among-from_map, flat_map_alike, map_twice, none_passes, passes}
+use Rattle.vt_letting_go.proofs.Lists.{Among, among-from_flat_map, among-from_map, flat_map_alike, none_passes, passes}
 use Rattle.vt_location.specs.Locations.{location_of}
 use Rattle.vt_location.specs.MountValue.{mount_of}
 use Rattle.vt_location.specs.Numbers.{counted}
@@ -14,7 +14,6 @@ use Rattle.vt_mount_laws.proofs.mounts.MountsNumbered.{parts_apart}
 use Rattle.vt_propagate.specs.declared.copying.Counts.{Counts}
 use Rattle.vt_propagate.specs.declared.copying.Graft.{Graft}
 use Rattle.vt_propagate.specs.Planned.{graft_in, numbers_at}
-use Rattle.vt_propagate.specs.Pushing.{EachOnce}
 use Rattle.vt_propagate.proofs.Pushed.{receivers_apart}
 use Rattle.vt_spec.specs.Lists.{rest_of}
 use Rattle.vt_spec.specs.Machine.Attach.{copies_at, copy_at, parts_of, receivers_of, takes_part, twig_of}
@@ -22,9 +21,11 @@ use Rattle.vt_spec.specs.Machine.Mounts.{Mount, group_of, index_of}
 use Rattle.vt_spec.specs.Machine.World.{World, mount_at}
 use Rattle.vt_attach.proofs.CopiesAscend.{number_at, numbers_grow, place_in, place_later, rows_ascend}
 use Rattle.vt_attach.proofs.EnteringLemmas.{ascending_joined}
+use Rattle.vt_spec.proofs.Lists.{map_twice}
+use Rattle.vt_mount_laws.specs.Mounts.Attaching.{OneNumberAMount}
 
 -- mounts in the order of their numbers have one number each
-pub ascending_once : (mounts : List (Mount ℕ)) → are_ascending mounts ≡ true → EachOnce mounts
+pub ascending_once : (mounts : List (Mount ℕ)) → are_ascending mounts ≡ true → OneNumberAMount mounts
 ascending_once [] rising = refl
 ascending_once (first ∷ rest) rising =
     let parts = and_parts (list_all (λ (later : Mount ℕ). nat_lt first.number later.number) rest) _ rising in
@@ -43,8 +44,9 @@ copies_beside world graft counts =
     (parts_of nat_eq world (location_of graft.place)))
     (rest_of (parts_of nat_eq world (location_of graft.place)))
 
-module _ (counts : Counts) (steps : 0 < counts.step) (world : World ℕ) (graft : Graft) (one : EachOnce world.mounts)
-    (tree_once : EachOnce (map mount_of graft.tree.now)) (some : 0 < length graft.tree.now) where
+module _ (counts : Counts) (steps : 0 < counts.step) (world : World ℕ) (graft : Graft)
+    (one : OneNumberAMount world.mounts)
+    (tree_once : OneNumberAMount (map mount_of graft.tree.now)) (some : 0 < length graft.tree.now) where
   abbrev tree : List (Mount ℕ)
   tree = map mount_of graft.tree.now
 
@@ -76,7 +78,7 @@ module _ (counts : Counts) (steps : 0 < counts.step) (world : World ℕ) (graft 
       by true = refl
       by false = refl
 
-  parts_once : EachOnce parts
+  parts_once : OneNumberAMount parts
   parts_once = parts_apart world (location_of graft.place) one
 
   places : (part mount : Mount ℕ) → Among part rest → Among mount tree

@@ -27,7 +27,6 @@ use Rattle.vt_propagate.specs.declared.copying.Counts.{Counts}
 use Rattle.vt_propagate.specs.declared.copying.Graft.{Graft}
 use Rattle.vt_propagate.specs.Copying as planned
 use Rattle.vt_propagate.specs.Planned.{planned_copies}
-use Rattle.vt_propagate.specs.Pushing.{EachOnce}
 use Rattle.vt_propagate.specs.Seen.{IsSeen}
 use Rattle.vt_run_laws.specs.Handed.{counts_from, handed_from, is_counted_before}
 use Rattle.vt_detach.specs.Events.{Permits, left_by}
@@ -47,6 +46,7 @@ use Rattle.vt_attach.proofs.CopiesAscend.{planned_ascend}
 use Rattle.vt_attach.proofs.GraftedDone.{graft_is_done, grafted_value, plan_attaches, with_base}
 use Rattle.vt_attach.proofs.NewBase.{base_is, destination_there, left_attached, new_base, plain_is, same_parts, takes}
 use Rattle.vt_attach.proofs.NumbersByParts.{new_mounts_keep_to_numbers}
+use Rattle.vt_mount_laws.specs.Mounts.Attaching.{OneNumberAMount}
 
 module _ (value : WorldValue) (whole : IsHeld value) (name : TaskName) (graft : Graft) (counts : Counts)
     (flags : MountFlags)
@@ -76,8 +76,8 @@ module _ (value : WorldValue) (whole : IsHeld value) (name : TaskName) (graft : 
       (λ i. counted (first i + step i * k)) ∙ same
       ∙ sym (ap (λ b. cond b (inode_number value.next 0) (counts_from value.next (2 * k + 1))) other)
 
-  tree_once : EachOnce tree
-  tree_once = subst EachOnce (sym tree_is) refl
+  tree_once : OneNumberAMount tree
+  tree_once = subst OneNumberAMount (sym tree_is) refl
 
   tree_some : 0 < length graft.tree.now
   tree_some =
@@ -86,7 +86,7 @@ module _ (value : WorldValue) (whole : IsHeld value) (name : TaskName) (graft : 
 
   module _ (ascending : are_ascending (mounts_in value.mounts) ≡ true)
       (odd : list_all (λ mount. mount.number % 4 == 1) (mounts_in value.mounts) ≡ true) where
-    rising_in : (other : World ℕ) → EachOnce other.mounts
+    rising_in : (other : World ℕ) → OneNumberAMount other.mounts
         → are_ascending (mounts_in value.mounts ++ planned_copies other graft counts) ≡ true
     rising_in other one =
         planned_ascend counts (subst (λ n. 0 < n) (sym step) (omega arith)) other graft binds one tree_once tree_some
@@ -100,7 +100,7 @@ module _ (value : WorldValue) (whole : IsHeld value) (name : TaskName) (graft : 
       seen = is_seen value whole;
       one_child = whole.in_world.mounts.one_child;
       parts_are = parts_are;
-      apart = subst EachOnce (sym parts_are) (parts_apart world place whole.in_world.mounts.one_number);
+      apart = subst OneNumberAMount (sym parts_are) (parts_apart world place whole.in_world.mounts.one_number);
       ascending = rising_in world whole.in_world.mounts.one_number;
     }
 
@@ -123,8 +123,9 @@ module _ (value : WorldValue) (whole : IsHeld value) (name : TaskName) (graft : 
           ∙ ap (λ (w : World ℕ). parts_of nat_eq w (location_of graft.place))
           (base_is value whole name place flags permits entry is_new)
 
-      there : HasGroupsOf (with_base value (value.filesystems ++ entry ∷ [])) (map mount_of graft.tree.now)
-      there mount contained group e =
+      -- the groups of the new mounts are there
+      groups_there : HasGroupsOf (with_base value (value.filesystems ++ entry ∷ [])) (map mount_of graft.tree.now)
+      groups_there mount contained group e =
           ⊎_elim
           (λ same. absurd (true≢false (sym
           (ap is_some (sym (ap (λ (x : meant.Mount ℕ). group_of x.propagation) same) ∙ e)))))
@@ -162,7 +163,8 @@ module _ (value : WorldValue) (whole : IsHeld value) (name : TaskName) (graft : 
           (base_is value whole name place flags permits entry is_new)
           ∙ ap (λ list. attach nat_eq (with_base value base) (odds fresh) place false list) (sym tree_is)
           ∙ attach_is in
-          graft_is_done value whole base (new_base value whole name place flags permits entry is_new) graft counts mounts groups filesystems next is attaches there
+          graft_is_done value whole base (new_base value whole name place flags permits entry is_new) graft counts
+          mounts groups filesystems next is attaches groups_there
           rising name permit permits (takes value whole name place flags permits) left_is
           (subst (λ n. KeepsTo (is_counted_before n) (left_by value permits.task permit))
           (ap (λ n. value.next + n) sizes ∙ sym grows)

@@ -23,7 +23,7 @@ use Rattle.vt_spec.specs.Machine.Namespaces.{namespaces_ended, unshared_by}
 use Rattle.vt_spec.proofs.Lists.{among_from_list_all, among_numbers, among-from_map}
 use Rattle.vt_world_laws.proofs.worlds.ReachedWalks.{task_among}
 use Rattle.vt_attach.specs.AttachedNumbers.{BindsKeepToNumbers, MovesKeepToNumbers, NewMountsKeepToNumbers, UnsharesKeepToNumbers, numbers_of_new_mount, numbers_of_parts}
-use Rattle.vt_permit_laws.proofs.taken.TakenFirst.{nonempty, numbers_same, tree_some}
+use Rattle.vt_permit_laws.proofs.taken.TakenFirst.{nonempty, numbers_same, tree_some, bind_some}
 use Rattle.vt_permit_laws.proofs.taken.TakenHanded.{counted_here}
 
 -- places in a table
@@ -74,11 +74,6 @@ attach_same : (world : World ℕ) (place : Location ℕ) (moves : Bool) (tree : 
 attach_same world place moves tree some fresh again same =
     ap (λ (new : Copies ℕ). attached_by nat_eq world new place moves tree)
     (copies_same (parts_of nat_eq world place) tree (omega arith) some fresh again same)
-
-pub bind_some : (world : World ℕ) (source : Location ℕ) (recursive : Bool)
-    → 0 < length (bind_tree nat_eq world source recursive)
-bind_some world source false = omega arith
-bind_some world source true = omega arith
 
 -- Where a permit takes the first numbers of a supply alone, the world that it leaves keeps to those, and to the numbers
 -- that it had.

@@ -3,7 +3,6 @@ use Rattle.std.proofs.Common.{◌≡◌, refl, ap, ◌∙◌, ℕ, ◌+◌, List
 use Rattle.vt_count_laws.specs.Using.{exchanged, pinned_if, unpinned_if}
 use Rattle.vt_fs.specs.FilesystemsValue.{Shown}
 use Rattle.vt_letting_go.specs.OneByOne.{Inode}
-use Rattle.vt_letting_go.proofs.Lists.{map_alike, map_twice}
 use Rattle.vt_location.specs.declared.locations.Location.{Location}
 use Rattle.vt_location.specs.declared.mounts.Mount.{Mount}
 use Rattle.vt_location.specs.Numbers.{counted}
@@ -11,6 +10,7 @@ use Rattle.vt_spec.specs.Lists.{folded}
 use Rattle.vt_attach.specs.Planned.{pinned_by, unpinned_by}
 use Rattle.vt_detach.specs.Uses.{inode_of, shown_by}
 use Rattle.vt_attach.proofs.AddedUses.{folded_after, gained_by, showing, shown_by_all, with_mounts_on}
+use Rattle.vt_spec.proofs.Lists.{map_alike, map_twice}
 
 abbrev pub inodes_of_points : List Location → List Inode
 inodes_of_points points = map (λ (point : Location). inode_of point.node) points

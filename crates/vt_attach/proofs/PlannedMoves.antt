@@ -25,9 +25,9 @@ use Rattle.vt_attach.specs.Planned.{Point, left_of, pinned_by, placed_entry, poi
 use Rattle.vt_attach.specs.Room.{has_room, most_counted, point_has_room, uses_shown, without_one}
 use Rattle.vt_detach.specs.Uses.{inode_of, mounts_shown, unused_entry}
 use Rattle.vt_attach.proofs.EnteringLemmas.{all_taken}
-use Rattle.vt_detach.proofs.Keeping.{folded_append}
 use Rattle.vt_detach.proofs.Shown.{found_entry, is_some_mapped, pins}
 use Rattle.vt_attach.proofs.RoomLemmas.{folded_more, not_refused, pinned_mounts, pinned_uses, uses_are_shown}
+use Rattle.vt_detach.proofs.LostUses.{folded_append}
 
 -- Their numbers stay
 

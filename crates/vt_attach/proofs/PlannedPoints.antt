@@ -234,19 +234,20 @@ others_stay points mounts apart =
 
 module _ (entries : List MountEntry) (points : List Point)
     (once : MovesOnce (mounts_in entries) (map point_seen points)) where
-  here : Here points entries
-  here point m =
+  -- each mount that gets a new mount point has an entry
+  points_entered : Here points entries
+  points_entered point m =
       entry_some (number_at point) entries
       (passes (λ (seen : ℕ × meant.Location ℕ). is_among nat_eq seen.0
       (map (λ (mount : Mount ℕ). mount.number) (mounts_in entries)))
       (map point_seen points) once.there (point_seen point) (among-map point_seen points point m))
 
   pub taken_with_more : (back : List MountEntry) → points_taken points (entries ++ back) ≡ points_taken points entries
-  taken_with_more back = taken_is points (entries ++ back) once.once ∙ taken_first points entries back here
+  taken_with_more back = taken_is points (entries ++ back) once.once ∙ taken_first points entries back points_entered
       ∙ sym (taken_is points entries once.once)
 
   pub left_with_more : (back : List MountEntry) → points_left points (entries ++ back) ≡ points_left points entries
-  left_with_more back = left_is points (entries ++ back) once.once ∙ left_first points entries back here
+  left_with_more back = left_is points (entries ++ back) once.once ∙ left_first points entries back points_entered
       ∙ sym (left_is points entries once.once)
 
   -- a mount stood where one is left
@@ -259,7 +260,7 @@ module _ (entries : List MountEntry) (points : List Point)
       × (mount.mount_point ≡ Some (location_of place))
   stands_then place m =
       let from = taken_from points entries place (subst (Among place) (taken_is points entries once.once) m) in
-      by from.0 from.1 from.2 (entry_numbered entries (number_at from.0)) refl (here from.0 from.1)
+      by from.0 from.1 from.2 (entry_numbered entries (number_at from.0)) refl (points_entered from.0 from.1)
     where
       by : (point : Point) → Among point points → place ≡ point.place → (o : Option MountEntry)
           → entry_numbered entries (number_at point) ≡ o → is_some o ≡ true

@@ -57,7 +57,7 @@ pinned_more inodes number other = by (nat_eq other number) refl
         (eqb-true other number e) (used_more (inodes.inode other))
     by false e = omega arith
 
-pinned_if_more : (filesystem : ℕ) (inodes : Inodes ℕ) (inode : Inode) (other : ℕ)
+pub pinned_if_more : (filesystem : ℕ) (inodes : Inodes ℕ) (inode : Inode) (other : ℕ)
     → uses_in ((pinned_if filesystem inodes inode).inode other) ≤ uses_in (inodes.inode other) + 1
 pinned_if_more filesystem inodes inode other = by (nat_eq filesystem inode.0)
   where

@@ -12,7 +12,6 @@ use Rattle.vt_location.specs.Numbers.{counted}
 use Rattle.vt_mount.specs.MountsValue.{are_ascending, mounts_in}
 use Rattle.vt_mount_laws.proofs.attached.BindsStand.{bind_there_or_source}
 use Rattle.vt_mount_laws.proofs.mounts.Standing.{binds_take_each_once}
-use Rattle.vt_propagate.specs.Pushing.{EachOnce}
 use Rattle.vt_spec.specs.Machine.Attach.{bind_tree, bindable_children, bindable_tree, bound, stands_under}
 use Rattle.vt_spec.specs.Machine.Mounts.{Mount, no_mount}
 use Rattle.vt_spec.specs.Machine.World.{World, mount_at}
@@ -26,6 +25,7 @@ use Rattle.vt_attach.proofs.Binding.{found_some}
 use Rattle.vt_attach.proofs.CopiesAscend.{differs}
 use Rattle.vt_mount.proofs.AttachedLemmas.{ascending_found, picked}
 use Rattle.vt_world_laws.proofs.worlds.FitPermits.{some_of}
+use Rattle.vt_mount_laws.specs.Mounts.Attaching.{OneNumberAMount}
 
 module _ (value : WorldValue) (whole : IsHeld value) (source : Place) (recursive : Bool)
     (small : source.node.slot < 18446744073709551616)
@@ -57,21 +57,22 @@ module _ (value : WorldValue) (whole : IsHeld value) (source : Place) (recursive
   tree_is : tree_now ≡ top ∷ rest
   tree_is = (rest_of_tree recursive).1
 
-  each_once : EachOnce tree_now
+  each_once : OneNumberAMount tree_now
   each_once = binds_take_each_once world
       (location_of source) recursive whole.in_world.mounts.one_number whole.in_world.mounts.standing
 
   top_number : top.number ≡ counted source.mount.count
   top_number = number_found mounts_now (counted source.mount.count)
 
-  other : (mount : Mount ℕ) → Among mount rest → nat_eq mount.number top.number ≡ false
-  other mount m = differs top rest (subst EachOnce tree_is each_once) mount m
+  -- what lies below the top is not the top
+  rest_differs : (mount : Mount ℕ) → Among mount rest → nat_eq mount.number top.number ≡ false
+  rest_differs mount m = differs top rest (subst OneNumberAMount tree_is each_once) mount m
 
   in_world : (mount : Mount ℕ) → Among mount rest → Among mount mounts_now
   in_world mount m =
       ⊎_elim
       (λ same. absurd (true≢false (sym (eq-eqb mount.number top.number (ap (λ (x : Mount ℕ). x.number) same))
-      ∙ other mount m)))
+      ∙ rest_differs mount m)))
       (λ later. later)
       (bind_there_or_source world (location_of source) recursive mount (subst (Among mount) (sym tree_is) (inr m)))
 
@@ -95,7 +96,7 @@ module _ (value : WorldValue) (whole : IsHeld value) (source : Place) (recursive
   below_rooted : (mount : Mount ℕ) → Among mount rest → rooted_at source mount ≡ mount
   below_rooted mount m =
       ap (λ b. cond b (record mount { filesystem = counted source.node.filesystem.count; root = number_of source.node }) mount)
-      (ap (nat_eq mount.number) (sym top_number) ∙ other mount m)
+      (ap (nat_eq mount.number) (sym top_number) ∙ rest_differs mount m)
 
   all_rooted : (some : List (Mount ℕ)) → ((mount : Mount ℕ) → Among mount some → rooted_at source mount ≡ mount)
       → map (rooted_at source) some ≡ some

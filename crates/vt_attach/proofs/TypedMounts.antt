@@ -6,8 +6,7 @@ use Rattle.std.proofs.lemmas.Bool.{ne_eqb, or_parts}
 use Rattle.std.proofs.lemmas.List.{map-append}
 use Rattle.std.proofs.lemmas.Option.{same_Some}
 use Rattle.vt_group.specs.Grouping.{retyped_if}
-use Rattle.vt_group.proofs.Together.{eqb-swapped}
-use Rattle.vt_letting_go.proofs.Lists.{Among, among-append_right, among-map, fails, map_alike, map_same, map_twice}
+use Rattle.vt_letting_go.proofs.Lists.{Among, among-append_right, among-map, fails, map_same}
 use Rattle.vt_mount.specs.MountsValue.{MountEntry, changed, mounts_in}
 use Rattle.vt_mount_laws.proofs.mounts.MountsReplaced.{found_itself, one_number_by_numbers}
 use Rattle.vt_retype.specs.Retyping.{with_kind, with_type_in}
@@ -15,6 +14,9 @@ use Rattle.vt_spec.specs.Lists.{any_pair, folded}
 use Rattle.vt_spec.specs.Machine.Mounts.{Mount, Propagation, no_mount, replaced_if_same, with_mount}
 use Rattle.vt_attach.specs.AttachedGroups.{type_of}
 use Rattle.vt_attach.specs.Moved.{typed_all}
+use Rattle.vt_spec.proofs.Lists.{map_alike, map_twice}
+use Rattle.vt_spec.proofs.Truths.{nat_eq-swapped}
+use Rattle.vt_detach.proofs.LostUses.{folded_append}
 
 abbrev pub Kind : Type 0
 Kind = ℕ × Propagation ℕ
@@ -80,14 +82,14 @@ all_typed (kind ∷ rest) once mounts =
         (ap (λ n. list_any (λ (b : Kind). nat_eq n b.0) rest) (sym (eqb-true kind.0 mount.number e)) ∙ apart))
         ∙ (λ i. record mount {
           propagation = unwrap_or
-              (cond (sym (eqb-swapped kind.0 mount.number true e) i) (Some kind.1)
+              (cond (sym (nat_eq-swapped kind.0 mount.number true e) i) (Some kind.1)
               (lookup (nat_eq mount.number) rest))
               mount.propagation;
         })
     by apart mount false e =
         λ i. record mount {
           propagation = unwrap_or
-              (cond (sym (eqb-swapped kind.0 mount.number false e) i) (Some kind.1)
+              (cond (sym (nat_eq-swapped kind.0 mount.number false e) i) (Some kind.1)
               (lookup (nat_eq mount.number) rest))
               mount.propagation;
         }
@@ -120,11 +122,6 @@ module _ (mounts : List (Mount ℕ)) (one : any_pair (λ (a b : Mount ℕ). nat_
           (ap (λ (x : Mount ℕ). x.propagation)
           (same_numbered mount other (there mount (inl refl)) n (eqb-true mount.number other.number e)))
 
-pub folded-append : {A B : Type 0} (step : B → A → B) (b : B) (xs ys : List A)
-    → folded step b (xs ++ ys) ≡ folded step (folded step b xs) ys
-folded-append step b [] ys = refl
-folded-append step b (x ∷ xs) ys = folded-append step (step b x) xs ys
-
 -- Some mounts of a list get types, and others stand behind it with theirs.
 module _ (front come own : List (Mount ℕ))
     (one : any_pair (λ (a b : Mount ℕ). nat_eq a.number b.number) (front ++ come) ≡ false)
@@ -149,7 +146,7 @@ module _ (front come own : List (Mount ℕ))
       ≡ map (typed_at (map type_of own)) front ++ come
   typed_with_more =
       ap (folded retyped_one (front ++ come)) (map-append type_of own come)
-      ∙ folded-append retyped_one (front ++ come) (map type_of own) (map type_of come)
+      ∙ folded_append retyped_one (front ++ come) (map type_of own) (map type_of come)
       ∙ ap (λ list. folded retyped_one list (map type_of come))
       (all_typed (map type_of own) once (front ++ come) ∙ typed_front)
       ∙ typed_already (map (typed_at (map type_of own)) front ++ come)
@@ -196,10 +193,10 @@ all_replaced (first ∷ rest) once mounts =
         → replaced_by rest (cond b first mount) ≡ replaced_by (first ∷ rest) mount
     by apart mount true e =
         ap (λ o. unwrap_or o first) (found_none first.number rest apart)
-        ∙ (λ i. unwrap_or (cond (sym (eqb-swapped first.number mount.number true e) i) (Some first)
+        ∙ (λ i. unwrap_or (cond (sym (nat_eq-swapped first.number mount.number true e) i) (Some first)
         (find (λ (one : Mount ℕ). nat_eq mount.number one.number) rest)) mount)
     by apart mount false e =
-        λ i. unwrap_or (cond (sym (eqb-swapped first.number mount.number false e) i) (Some first)
+        λ i. unwrap_or (cond (sym (nat_eq-swapped first.number mount.number false e) i) (Some first)
         (find (λ (one : Mount ℕ). nat_eq mount.number one.number) rest)) mount
 
 -- What is looked up

@@ -4,7 +4,7 @@ use Rattle.std.specs.Prelude.{All}
 use Rattle.std.specs.List.{cons_option}
 use Rattle.std.specs.Map.{lookup}
 use Rattle.std.proofs.lemmas.List.{map-append}
-use Rattle.vt_group.specs.Grouping.{HasGroup, LacksGroup, are_rising, numbers_of, peers_of, retyped_if}
+use Rattle.vt_group.specs.Grouping.{HasGroup, LacksGroup, are_rising, peers_of, retyped_if}
 use Rattle.vt_group.specs.Together.{Grows, with_type_of}
 use Rattle.vt_group.proofs.Peers.{numbers-retyped, peers-set}
 use Rattle.vt_letting_go.proofs.Lists.{Among, all_from_among, among-append, among-append_left, among-append_right, among-from_map, among-map, among_from_all, any_passes}
@@ -17,7 +17,9 @@ use Rattle.vt_spec.specs.Machine.World.{World}
 use Rattle.vt_spec.proofs.Lists as spec
 use Rattle.vt_attach.specs.AttachedGroups.{type_of}
 use Rattle.vt_attach.proofs.GrownGroups.{all_entered}
-use Rattle.vt_attach.proofs.TypedMounts.{KindsOnce, all_typed, folded-append, looked_up_kind, lookup_kind, retyped_one, typed_at}
+use Rattle.vt_attach.proofs.TypedMounts.{KindsOnce, all_typed, looked_up_kind, lookup_kind, retyped_one, typed_at}
+use Rattle.vt_mount_laws.specs.Mounts.Attaching.{numbers_of}
+use Rattle.vt_detach.proofs.LostUses.{folded_append}
 
 -- The mounts keep their numbers, and some become shared or were so. Others come after them with greater numbers. A group
 -- of these or those is there already or is new, and each new group that has a master has one of them.
@@ -112,7 +114,7 @@ module _ (world after : World ℕ) (change : Mount ℕ → Mount ℕ) (own come 
   peers_then =
       ap peers_of is.mounts ∙ peers_alike world.mounts
       ∙ sym (ap (folded with_type_of (peers_of world.mounts)) (map-append type_of own come)
-      ∙ folded-append with_type_of (peers_of world.mounts) (map type_of own) (map type_of come)
+      ∙ folded_append with_type_of (peers_of world.mounts) (map type_of own) (map type_of come)
       ∙ ap (λ peers. folded with_type_of peers (map type_of come))
       (all_set own world.mounts rising is.there is.shared
       ∙ ap peers_of (all_typed (map type_of own) is.once world.mounts))

@@ -14,7 +14,7 @@ use Rattle.vt_spec.specs.Machine.Invariants.{IsWorld, MountInvariants}
 use Rattle.vt_count_laws.specs.Counted.{IsPlain}
 use Rattle.vt_count_laws.specs.Using.{AreThere, places_of}
 use Rattle.vt_fs.specs.FilesystemsValue.{FilesystemEntry, Filesystems, inodes_seen, shown}
-use Rattle.vt_group.specs.Grouping.{Grouping, Has, are_rising, numbers_of}
+use Rattle.vt_group.specs.Grouping.{Grouping, Has, are_rising}
 use Rattle.vt_group.specs.Together.{GrowsTo, typed}
 use Rattle.vt_laws.specs.Numbers.{KeepsTo}
 use Rattle.vt_letting_go.specs.Counts.{times}
@@ -56,6 +56,7 @@ use Rattle.vt_attach.proofs.TakingNumbers.{TakesNumbers, left_is_world, left_kee
 use Rattle.vt_attach.proofs.UnsharedGroups as Groups
 use Rattle.vt_attach.proofs.UnsharedTasks as Tasks
 use Rattle.vt_attach.proofs.UnsharedWorlds as Worlds
+use Rattle.vt_mount_laws.specs.Mounts.Attaching.{numbers_of}
 
 module _ (value : WorldValue) (whole : IsHeld value) (name : TaskName) (permits : Permits value name ToUnshare)
     (count : ℕ) (in_namespace : counted count ≡ permits.task.namespace)
@@ -188,8 +189,9 @@ module _ (value : WorldValue) (whole : IsHeld value) (name : TaskName) (permits 
         is_inside : Mount ℕ → Bool
         is_inside mount = holds_of (nat_eq (counted count)) mount.namespace
 
-    left : IsLeft value ended (gained_by copies) goes (kept new.mounts new.filesystems) new.groups
-    left = leaves value whole base base_holds tasks count entries
+    -- what is left once the old namespace has ended
+    ended_is_left : IsLeft value ended (gained_by copies) goes (kept new.mounts new.filesystems) new.groups
+    ended_is_left = leaves value whole base base_holds tasks count entries
         (Worlds.entries_count value whole name task permits.called permits.given.serves count in_namespace)
         remaining stays grown base_has (gained_by copies) (kept moved_entries filesystems)
         (kept new.mounts new.filesystems) begins
@@ -199,19 +201,21 @@ module _ (value : WorldValue) (whole : IsHeld value) (name : TaskName) (permits 
     -- The code's world, but for types
 
     abbrev untyped : WorldValue
-    untyped = record new { mounts = left.entries }
+    untyped = record new { mounts = ended_is_left.entries }
 
-    swept : IsSwept value ended (gained_by copies) left.reached.lost untyped
+    swept : IsSwept value ended (gained_by copies) ended_is_left.reached.lost untyped
     swept =
         reached_swept value ended (gained_by copies) goes
-        (kept left.entries new.filesystems) left.reached left.all_gone untyped refl (sym tasks_are)
+        (kept ended_is_left.entries new.filesystems) ended_is_left.reached ended_is_left.all_gone untyped refl
+        (sym tasks_are)
         (world_is_plain value)
         (ap (map (λ (n : Namespace ℕ). record n { change = 0 })) (ap (map namespace_of) (sym namespaces_are)))
 
     counts : CountsBeside untyped
     counts =
         reached_counted value ended (gained_by copies) goes
-        (kept left.entries new.filesystems) left.reached left.all_gone untyped refl (sym tasks_are)
+        (kept ended_is_left.entries new.filesystems) ended_is_left.reached ended_is_left.all_gone untyped refl
+        (sym tasks_are)
         (subst (All (CountsWhatIsInIt (world_of untyped))) (sym namespaces_are)
         (left_counted count tasks entries
         (Worlds.entries_count value whole name task permits.called permits.given.serves count in_namespace)
@@ -230,7 +234,7 @@ module _ (value : WorldValue) (whole : IsHeld value) (name : TaskName) (permits 
         ap (settled nat_eq)
         (Worlds.ended_is value whole name task permits.called permits.given.serves count in_namespace added same_copies
         stays)
-        ∙ settled_typed ended new.groups left.has
+        ∙ settled_typed ended new.groups ended_is_left.has
 
     takes : TakesNumbers value name ToUnshare task
     takes = record { called = permits.called; given = permits.given; inode = 0; even = refl; supply = refl }
@@ -239,17 +243,20 @@ module _ (value : WorldValue) (whole : IsHeld value) (name : TaskName) (permits 
     world_left = subst (λ w. IsWorld nat_eq w × IsPlain w) typed_left
         (left_is_world value whole name ToUnshare task takes)
 
-    typed_swept : IsSwept value typed_ended (gained_by copies) left.reached.lost typed_new
-    typed_swept = swept_typed new.groups untyped value ended (gained_by copies) left.reached.lost swept
+    typed_swept : IsSwept value typed_ended (gained_by copies) ended_is_left.reached.lost typed_new
+    typed_swept = swept_typed new.groups untyped value ended (gained_by copies) ended_is_left.reached.lost swept
 
     typed_has : Has (settled nat_eq typed_ended) new.groups
-    typed_has = settled_typed_has ended new.groups left.has (nowhere_private base base_holds tasks goes remaining stays)
+    typed_has = settled_typed_has ended new.groups ended_is_left.has
+        (nowhere_private base base_holds tasks goes remaining stays)
 
     typed_counts : CountsBeside typed_new
     typed_counts = counts_typed new.groups untyped counts
 
-    same : SameWorlds (settled nat_eq typed_ended) (world_of typed_new)
-    same = swept_is_same value whole typed_ended (gained_by copies) left.reached.lost typed_new typed_swept typed_has
+    -- the settled world is code's but for change numbers
+    settled_same : SameWorlds (settled nat_eq typed_ended) (world_of typed_new)
+    settled_same = swept_is_same value whole typed_ended (gained_by copies) ended_is_left.reached.lost typed_new
+        typed_swept typed_has
         world_left
 
     keeps_numbers : KeepsTo (is_counted_before new.next) (world_of typed_new)
@@ -257,16 +264,16 @@ module _ (value : WorldValue) (whole : IsHeld value) (name : TaskName) (permits 
         subst (λ next. KeepsTo (is_counted_before next) (world_of typed_new)) (sym next_is)
         (same_worlds_keep_to_numbers (is_counted_before
         (value.next + 2 * length (attached_in task.namespace value.mounts))) (settled nat_eq typed_ended)
-        (world_of typed_new) same world_left.1
+        (world_of typed_new) settled_same world_left.1
         (subst (KeepsTo (is_counted_before (value.next + 2 * length (attached_in task.namespace value.mounts))))
         typed_left (left_keeps value whole name task takes)))
 
     pub unshared_done : IsDone value name ToUnshare new
     unshared_done =
-        subst (λ mounts. IsDone value name ToUnshare (record new { mounts = mounts })) (sym left.typed)
+        subst (λ mounts. IsDone value name ToUnshare (record new { mounts = mounts })) (sym ended_is_left.typed)
         (record {
-          held = swept_held value whole typed_ended world_left (gained_by copies) left.reached.lost typed_new
+          held = swept_held value whole typed_ended world_left (gained_by copies) ended_is_left.reached.lost typed_new
               typed_swept typed_has typed_counts keeps_numbers;
           becomes = becomes_so value name ToUnshare typed_new task permits.called
-              (subst (λ w. SameWorlds w (world_of typed_new)) (sym typed_left) same);
+              (subst (λ w. SameWorlds w (world_of typed_new)) (sym typed_left) settled_same);
         })

@@ -1,12 +1,13 @@
 -- Mounts that come with their groups, while others move: the groups grow by those of the mounts that come.
 use Rattle.std.specs.Prelude.{All, Bool, Contains, List, Option, Some, flat_map, is_some, map, nat_eq, true, ℕ, ◌++◌, ◌≡◌, ◌⊎◌}
-use Rattle.vt_group.specs.Grouping.{HasGroup, are_rising, numbers_of}
+use Rattle.vt_group.specs.Grouping.{HasGroup, are_rising}
 use Rattle.vt_group.specs.Together.{Grows}
 use Rattle.vt_spec.specs.Lists.{folded, is_among}
 use Rattle.vt_spec.specs.Machine.Attach.{Copies, all_groups_made, copies_at, graft_of, masters_with, parts_of}
 use Rattle.vt_spec.specs.Machine.Mounts.{Location, Mount, Propagation, group_of}
 use Rattle.vt_spec.specs.Machine.Receives.{has_members}
 use Rattle.vt_spec.specs.Machine.World.{World}
+use Rattle.vt_mount_laws.specs.Mounts.Attaching.{numbers_of}
 
 -- a mount's number and its type
 abbrev pub type_of : Mount ℕ → ℕ × Propagation ℕ

@@ -13,7 +13,7 @@ use Rattle.vt_propagate.specs.declared.copying.Counts.{Counts}
 use Rattle.vt_propagate.specs.declared.copying.Graft.{Graft}
 use Rattle.vt_propagate.specs.Attaching.{AttachesBy}
 use Rattle.vt_propagate.specs.Planned.{planned_copies}
-use Rattle.vt_propagate.specs.Pushing.{EachOnce, MovesOnce, OneChild}
+use Rattle.vt_propagate.specs.Pushing.{MovesOnce, OneChild}
 use Rattle.vt_propagate.specs.Seen.{IsSeen}
 use Rattle.vt_spec.specs.Machine.Attach.{parts_of}
 use Rattle.vt_spec.specs.Machine.World.{World}
@@ -21,6 +21,7 @@ use Rattle.vt_attach.specs.Planned.{Point, is_small, points_left, points_taken, 
 use Rattle.vt_attach.specs.PlannedUses.{point_seen}
 use Rattle.vt_attach.specs.Room.{has_small_slots}
 use Rattle.vt_detach.specs.Uses.{Kept}
+use Rattle.vt_mount_laws.specs.Mounts.Attaching.{OneNumberAMount}
 
 -- These are the parts of a world with these mounts and groups. The mounts that come have greater numbers than all
 -- others.
@@ -29,7 +30,7 @@ pub record MayGraft (mounts : List MountEntry) (groups : Grouping) (graft : Graf
   pub seen : IsSeen world mounts groups
   pub one_child : OneChild world
   pub parts_are : map mount_of graft.parts.now ≡ parts_of nat_eq world (location_of graft.place)
-  pub apart : EachOnce (map mount_of graft.parts.now)
+  pub apart : OneNumberAMount (map mount_of graft.parts.now)
   pub ascending : are_ascending (mounts_in mounts ++ planned_copies world graft counts) ≡ true
 
 -- The plan is the definitions', and all of it was done.

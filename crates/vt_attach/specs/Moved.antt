@@ -13,7 +13,7 @@ use Rattle.vt_propagate.specs.declared.copying.Counts.{Counts}
 use Rattle.vt_propagate.specs.declared.copying.Graft.{Graft}
 use Rattle.vt_propagate.specs.Attaching.{AttachesBy}
 use Rattle.vt_propagate.specs.Planned.{planned_copies}
-use Rattle.vt_propagate.specs.Pushing.{EachOnce, KeepsLeaver, MovesOnce, OneChild}
+use Rattle.vt_propagate.specs.Pushing.{KeepsLeaver, MovesOnce, OneChild}
 use Rattle.vt_retype.specs.Retyping.{with_type_in}
 use Rattle.vt_propagate.specs.Seen.{IsSeen}
 use Rattle.vt_spec.specs.Lists.{folded}
@@ -24,6 +24,7 @@ use Rattle.vt_attach.specs.Planned.{Point, is_small, points_left, points_taken, 
 use Rattle.vt_attach.specs.PlannedUses.{point_seen}
 use Rattle.vt_attach.specs.Room.{has_small_slots}
 use Rattle.vt_detach.specs.Uses.{Kept}
+use Rattle.vt_mount_laws.specs.Mounts.Attaching.{OneNumberAMount}
 
 -- mounts get types, one after the other
 abbrev pub typed_all : List (ℕ × Propagation ℕ) → List MountEntry → List MountEntry
@@ -47,7 +48,7 @@ pub record MayMoveTree (mounts : List MountEntry) (groups : Grouping) (graft : G
   pub seen : IsSeen world mounts groups
   pub one_child : OneChild world
   pub parts_are : map mount_of graft.parts.now ≡ parts_of nat_eq world (location_of graft.place)
-  pub apart : EachOnce (map mount_of graft.parts.now)
+  pub apart : OneNumberAMount (map mount_of graft.parts.now)
   pub own : length graft.tree.now ≤ length (planned_copies world graft counts)
   pub ascending : are_ascending (mounts_in mounts ++ drop (length graft.tree.now) (planned_copies world graft counts))
       ≡ true

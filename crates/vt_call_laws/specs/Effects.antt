@@ -1,7 +1,7 @@
 -- A right stands behind each effect: what a call tells its task may read, and what it changes its task may write, or
 -- owns.
 use Rattle.std.specs.Prelude.{Bool, List, Ok, Some, drop, false, nat_eq, take, true, ℕ, ◌==◌, ◌||◌, ◌≡◌, ◌⊎◌}
-use Rattle.vt_call_laws.specs.Inodes.{HasNoOverlays, IsNotHanded, inode_in, owner_of}
+use Rattle.vt_call_laws.specs.Inodes.{IsNotHanded, inode_in, owner_of}
 use Rattle.vt_spec.specs.declared.attributes.Kind.TheVariants.{Symlink}
 use Rattle.vt_spec.specs.FileTree.{is_kind_in, opaque_of}
 use Rattle.vt_spec.specs.Language.Answers.Answer.{Bytes, Names, Opened}
@@ -21,6 +21,7 @@ use Rattle.vt_spec.specs.Machine.World.{Descriptor, Task, World, mount_at, node_
 use Rattle.vt_spec.specs.Rights.{cap_chown, cap_sys_admin, execute_right, has_all, owns, read_right, write_right}
 use Rattle.vt_spec.specs.Tree.{Node, bytes_in, bytes_of, entries_of, entry_named, names_in}
 use Rattle.vt_tree_laws.specs.Trees.Calls.{mounts_overlay}
+use Rattle.vt_laws.specs.Plain.{IsPlain}
 
 -- the task has the wanted rights on an inode of a filesystem: path_resolution(7), "Permissions"
 abbrev pub MayDo : World ℕ → Task ℕ → ℕ → ℕ → ℕ → Type 0
@@ -55,7 +56,7 @@ abbrev pub ChangesAreByRight : Type 0
 ChangesAreByRight =
     (fresh : Fresh ℕ) (world : World ℕ) (name : TaskName) (call : Call) (task : Task ℕ) (permit : Permit ℕ)
     (filesystem number : ℕ) (was now : Node ℕ)
-    → HasNoOverlays world → mounts_overlay call ≡ false
+    → IsPlain world → mounts_overlay call ≡ false
     → task_called world name ≡ Some task → judge_in nat_eq fresh world task call ≡ Ok permit → IsNotHanded fresh number
     → inode_in world filesystem number ≡ Some was
     → inode_in (policy nat_eq fresh world name call).world filesystem number ≡ Some now

@@ -1,6 +1,5 @@
 -- Laws of inodes: what calls leave as it was, in worlds without overlays.
 use Rattle.std.specs.Prelude.{Bool, List, None, Ok, Option, Some, [], false, is_some, nat_eq, option_to_list, true, ℕ, ⊤, ◌&&◌, ◌∷◌, ◌≡◌, ◌⊎◌}
-use Rattle.std.specs.List.{All}
 use Rattle.std.specs.Str.{bytes_eq}
 use Rattle.vt_laws.specs.Given.{may_create}
 use Rattle.vt_spec.specs.Machine.Apply.{apply}
@@ -16,16 +15,14 @@ use Rattle.vt_spec.specs.Machine.Outcome.Descriptors.{overwritten}
 use Rattle.vt_spec.specs.Machine.Permits.{Permit}
 use Rattle.vt_spec.specs.Machine.Permits.Permit.{ToChange, ToMake, ToMountPlain, ToOpenNew, ToRemoveDirectory, ToRename, ToWritePart}
 use Rattle.vt_spec.specs.Machine.Policy.{policy}
-use Rattle.vt_spec.specs.Machine.World.{Task, World, files_at, filesystem_numbered, is_overlay, mount_at, node_at, task_called}
+use Rattle.vt_spec.specs.Machine.World.{Task, World, files_at, filesystem_numbered, mount_at, node_at, task_called}
 use Rattle.vt_spec.specs.Tree.{Node, bytes_in, bytes_of, entries_in, entries_of, entry_named, kind_of}
 use Rattle.vt_tree_laws.specs.Trees.Calls.{mounts_overlay}
+use Rattle.vt_laws.specs.Plain.{IsPlain}
 
 -- the inode of a filesystem in a world
 abbrev pub inode_in : World ℕ → ℕ → ℕ → Option (Node ℕ)
 inode_in world filesystem number = (filesystem_numbered nat_eq world filesystem).files.tree.node number
-
-abbrev pub HasNoOverlays : World ℕ → Type 0
-HasNoOverlays world = All (λ filesystem. is_overlay filesystem ≡ false) world.filesystems
 
 -- What a permit names
 
@@ -78,7 +75,7 @@ abbrev pub OfGrantedCalls : (Fresh ℕ → World ℕ → Permit ℕ → World �
 OfGrantedCalls law =
     (fresh : Fresh ℕ) (world : World ℕ) (name : TaskName) (call : Call) (task : Task ℕ) (permit : Permit ℕ)
     (filesystem number : ℕ)
-    → HasNoOverlays world → mounts_overlay call ≡ false
+    → IsPlain world → mounts_overlay call ≡ false
     → task_called world name ≡ Some task → judge_in nat_eq fresh world task call ≡ Ok permit
     → law fresh world permit (policy nat_eq fresh world name call).world filesystem number
 
@@ -94,7 +91,7 @@ CallsChangeTheirOwn =
 abbrev pub OnlyUnusedInodesEnd : Type 0
 OnlyUnusedInodesEnd =
     (fresh : Fresh ℕ) (world : World ℕ) (call : Call) (task : Task ℕ) (permit : Permit ℕ) (filesystem number : ℕ)
-    → HasNoOverlays world → mounts_overlay call ≡ false → judge_in nat_eq fresh world task call ≡ Ok permit
+    → IsPlain world → mounts_overlay call ≡ false → judge_in nat_eq fresh world task call ≡ Ok permit
     → is_some (inode_in world filesystem number) ≡ true
     → is_some (inode_in (apply nat_eq fresh world task permit).world filesystem number) ≡ true
 
@@ -114,7 +111,7 @@ IsNotHanded fresh number = (k : ℕ) → nat_eq number (fresh k) ≡ false
 abbrev pub OnlyTheseChange : {A : Type 0} → (Call → Bool) → (Node ℕ → A) → Type 0
 OnlyTheseChange these part =
     (fresh : Fresh ℕ) (world : World ℕ) (name : TaskName) (call : Call) (filesystem number : ℕ)
-    → HasNoOverlays world → mounts_overlay call ≡ false → these call ≡ false → IsNotHanded fresh number
+    → IsPlain world → mounts_overlay call ≡ false → these call ≡ false → IsNotHanded fresh number
     → StaysIfThere part (inode_in world filesystem number)
     (inode_in (policy nat_eq fresh world name call).world filesystem number)
 

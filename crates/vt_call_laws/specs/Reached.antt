@@ -2,7 +2,7 @@
 -- reach. In every world roots stay.
 use Rattle.std.specs.Prelude.{Bool, Err, List, None, Ok, Option, Result, Some, [], false, find, nat_eq, option_map, option_to_list, ℕ, ◌&&◌, ◌++◌, ◌∷◌, ◌≡◌, ◌⊎◌}
 use Rattle.std.specs.List.{list_any}
-use Rattle.vt_call_laws.specs.Inodes.{HasNoOverlays, inode_in}
+use Rattle.vt_call_laws.specs.Inodes.{inode_in}
 use Rattle.vt_spec.specs.Language.Calls.{Call, TaskName}
 use Rattle.vt_spec.specs.Language.Calls.Call.{Chmod, Chown, LinkTo, MakeWhiteout, Mkdir, MountPlain, Opaque, OpenFile, Pwrite, Rename, Rmdir, SymlinkAt, Unlink, Write}
 use Rattle.vt_spec.specs.Language.Calls.Creation.{Exclusive, OrCreate}
@@ -13,6 +13,7 @@ use Rattle.vt_spec.specs.Machine.Rules.Descriptors.{descriptor_numbered}
 use Rattle.vt_spec.specs.Machine.Walk.{Here, Place, Stop, directory_walk, file_walk, new_leaf_walk, new_walk, object_walk, old_leaf_walk, old_walk, symlink_walk}
 use Rattle.vt_spec.specs.Machine.World.{Task, World, mount_at, task_called}
 use Rattle.vt_tree_laws.specs.Trees.Calls.{mounts_overlay}
+use Rattle.vt_laws.specs.Plain.{IsPlain}
 
 -- Where a path leads: to an object; to a directory, to that and what has the name there, to that and what is made there
 abbrev pub object_at : Result (Here ℕ) (Stop ℕ) → List (Location ℕ)
@@ -93,7 +94,7 @@ is_new_root fresh call filesystem number = false
 abbrev pub CallsKeepToTheirPaths : Type 0
 CallsKeepToTheirPaths =
     (fresh : Fresh ℕ) (world : World ℕ) (name : TaskName) (call : Call) (task : Task ℕ) (filesystem number : ℕ)
-    → HasNoOverlays world → mounts_overlay call ≡ false → task_called world name ≡ Some task
+    → IsPlain world → mounts_overlay call ≡ false → task_called world name ≡ Some task
     → is_at_one_of world filesystem number (reached_by fresh world task call) ≡ false
     → is_new_root fresh call filesystem number ≡ false
     → (inode_in (policy nat_eq fresh world name call).world filesystem number ≡ inode_in world filesystem number)

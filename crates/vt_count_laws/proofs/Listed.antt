@@ -1,5 +1,5 @@
 -- Numbers in lists: how often each stands there.
-use Rattle.std.proofs.Common.{◌≡◌, eqb-true, true≢false, refl, sym, ap, subst, ◌∙◌, ⊎_elim, ℕ, ◌+◌, ◌≤◌, nat_eq, eq-eqb, Bool, true, false, cond, ◌||◌, List, [], ◌∷◌, arith}
+use Rattle.std.proofs.Common.{◌≡◌, refl, sym, ap, subst, ◌∙◌, ⊎_elim, ℕ, ◌+◌, ◌≤◌, nat_eq, eq-eqb, Bool, true, false, cond, ◌||◌, List, [], ◌∷◌, arith}
 use Rattle.std.specs.List.Sorted.{IsPermutation}
 use Rattle.std.proofs.lemmas.Bool.{or_parts}
 use Rattle.std.proofs.lemmas.Bool.Decides.{eqb_tells}
@@ -10,15 +10,6 @@ use Rattle.vt_one_text.specs.OneTree.{times_in}
 use Rattle.vt_one_text.proofs.one_tree.OneTreeEntries.{one_if}
 use Rattle.vt_one_text.proofs.one_tree.OneTreeTrees.{among_times, removed, times_among, times_removed}
 use Rattle.vt_count_laws.specs.Numbers.{SameNumbersArePermuted}
-
--- a comparison the other way round
-pub turned : (a b : ℕ) (c : Bool) → nat_eq a b ≡ c → nat_eq b a ≡ c
-turned a b true e = eq-eqb b a (sym (eqb-true a b e))
-turned a b false e = by (nat_eq b a) refl
-  where
-    by : (d : Bool) → nat_eq b a ≡ d → d ≡ false
-    by false f = refl
-    by true f = absurd (true≢false (sym (eq-eqb a b (sym (eqb-true b a f))) ∙ e))
 
 pub times_is : (n : ℕ) (list : List ℕ) → times (nat_eq n) list ≡ times_in n list
 times_is n [] = refl

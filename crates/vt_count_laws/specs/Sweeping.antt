@@ -2,23 +2,20 @@
 -- numbers.
 use Rattle.std.specs.Prelude.{List, nat_eq, ℕ}
 use Rattle.vt_spec.specs.Machine.SameWorlds.{SameWorlds}
-use Rattle.vt_spec.specs.Machine.Settled.{settled, without_dead_filesystems, without_dead_mounts}
+use Rattle.vt_spec.specs.Machine.Settled.{settled}
 use Rattle.vt_spec.specs.Machine.World.{World, filesystem_numbered}
 use Rattle.vt_spec.specs.Inodes.{Inodes}
 use Rattle.vt_letting_go.specs.InUse.{HasTrees, InodesInUse}
 use Rattle.vt_letting_go.specs.OneByOne.{Inode}
 use Rattle.vt_count_laws.specs.Counted.{IsCounted, IsPlain}
 use Rattle.vt_count_laws.specs.Using.{AreThere, Exchanges, exchanged}
-
--- the world without the mounts and the filesystems that are no longer in use
-abbrev pub living : World ℕ → World ℕ
-living world = without_dead_filesystems nat_eq (without_dead_mounts nat_eq world)
+use Rattle.vt_letting_go.specs.TreesOverlays.{in_use_of}
 
 -- Where all inodes were in use, the sweep takes those that the exchange left without a use.
 abbrev pub UsesAreSwept : Type 0
 UsesAreSwept =
     (world after : World ℕ) (gained lost : List Inode) (filesystem : ℕ) (inodes : Inodes ℕ)
-    → HasTrees world → InodesInUse world → IsPlain after → Exchanges gained lost filesystem world (living after)
+    → HasTrees world → InodesInUse world → IsPlain after → Exchanges gained lost filesystem world (in_use_of after)
     → IsCounted world (filesystem_numbered nat_eq world filesystem) inodes → AreThere filesystem inodes gained
     → IsCounted (settled nat_eq after) (filesystem_numbered nat_eq (settled nat_eq after) filesystem)
     (exchanged filesystem gained lost inodes)

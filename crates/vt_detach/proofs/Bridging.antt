@@ -7,7 +7,6 @@ use Rattle.vt_spec.specs.Machine.Settled.{only_used, settled, without_dead_in}
 use Rattle.vt_spec.specs.Machine.World.{World, filesystem_numbered, is_overlay}
 use Rattle.vt_spec.specs.Machine.Invariants.{IsWorld}
 use Rattle.vt_count_laws.specs.Counted.{IsCounted, IsPlain}
-use Rattle.vt_count_laws.specs.Sweeping.{living}
 use Rattle.vt_count_laws.specs.Using.{AreThere, Exchanges, exchanged}
 use Rattle.vt_count_laws.proofs.using.Exchanged.{numbers_mapped}
 use Rattle.vt_count_laws.proofs.using.Sweeps.{uses_are_swept}
@@ -24,6 +23,7 @@ use Rattle.vt_detach.specs.Held.{CountsItsMounts, IsHeld}
 use Rattle.vt_detach.specs.WorldValue.{WorldValue, world_of}
 use Rattle.vt_letting_go.proofs.sweeps.OfWorlds.{found_filesystem}
 use Rattle.vt_detach.proofs.Showing.{ShowsAs, shown_has, shown_is_counted, shown_is_same}
+use Rattle.vt_letting_go.specs.TreesOverlays.{in_use_of}
 
 -- An entry comes from one of the same filesystem, in which inodes got these uses and lost those.
 pub record ComesFrom (old : WorldValue) (after : World ℕ) (gained lost : List Inode)
@@ -33,13 +33,13 @@ pub record ComesFrom (old : WorldValue) (after : World ℕ) (gained lost : List 
   pub count : entry.count ≡ was.count
   pub there : AreThere (counted was.count) (inodes_seen was) gained
   pub inodes : inodes_seen entry ≡ exchanged (counted was.count) gained lost (inodes_seen was)
-  pub exchanges : Exchanges gained lost (counted was.count) (world_of old) (living after)
+  pub exchanges : Exchanges gained lost (counted was.count) (world_of old) (in_use_of after)
 
 -- Mounts and filesystems are those that the sweep leaves, in their order.
 pub record IsSwept (old : WorldValue) (after : World ℕ) (gained lost : List Inode) (new : WorldValue) : Type 0 where
   pub plain : IsPlain after
-  pub mounts : (living after).mounts ≡ mounts_in new.mounts
-  pub numbers : map (λ f. f.number) (living after).filesystems ≡ map (λ entry. counted entry.count) new.filesystems
+  pub mounts : (in_use_of after).mounts ≡ mounts_in new.mounts
+  pub numbers : map (λ f. f.number) (in_use_of after).filesystems ≡ map (λ entry. counted entry.count) new.filesystems
   pub entries : (entry : FilesystemEntry) → Among entry new.filesystems → ComesFrom old after gained lost entry
   pub namespaces : (without_changes after).namespaces ≡ (without_changes (world_of new)).namespaces
   pub tasks : (without_changes after).tasks ≡ (without_changes (world_of new)).tasks
@@ -68,16 +68,17 @@ module _ (old : WorldValue) (held : IsHeld old) (after : World ℕ) (gained lost
       was_counted)
       from.there))
 
-  numbers_left : map (λ f. f.number) left.filesystems ≡ map (λ f. f.number) (living after).filesystems
+  numbers_left : map (λ f. f.number) left.filesystems ≡ map (λ f. f.number) (in_use_of after).filesystems
   numbers_left =
       numbers_mapped (λ f. only_used nat_eq first_round (not (is_overlay f)) f)
       (λ f. used_number first_round (not (is_overlay f)) f) first_round.filesystems
-      ∙ numbers_mapped (λ f. only_used nat_eq (living after) (is_overlay f) f)
-      (λ f. used_number (living after) (is_overlay f) f) (living after).filesystems
+      ∙ numbers_mapped (λ f. only_used nat_eq (in_use_of after) (is_overlay f) f)
+      (λ f. used_number (in_use_of after) (is_overlay f) f) (in_use_of after).filesystems
     where
       first_round : World ℕ
-      first_round = without_dead_in nat_eq is_overlay (living after)
+      first_round = without_dead_in nat_eq is_overlay (in_use_of after)
 
+  -- what the sweep leaves shows as code's world does
   pub shows_left : ShowsAs left new
   shows_left = record {
     plain = is.1;

@@ -12,7 +12,7 @@ use Rattle.vt_spec.specs.Machine.World.{Descriptor, Task, all_locations, task_ca
 use Rattle.vt_spec.specs.Machine.Invariants.{are_ascending_from, is_located_well}
 use Rattle.vt_fs.specs.FilesystemsValue.{Filesystems}
 use Rattle.vt_letting_go.specs.Counts.{times}
-use Rattle.vt_letting_go.proofs.Lists.{Among, among-append_right, passes}
+use Rattle.vt_letting_go.proofs.Lists.{Among, among-append_right, passes, times_around}
 use Rattle.vt_location.specs.Locations.{location_of, number_of}
 use Rattle.vt_location.specs.Numbers.{counted}
 use Rattle.vt_mount.specs.MountsValue.{MountEntry}
@@ -34,9 +34,11 @@ use Rattle.vt_detach.proofs.Staying.{IsDone, after, staying_is_done}
 
 -- Descriptors
 
+-- the descriptors of a task
 abbrev pub Descriptors : Type 0
 Descriptors = List (Descriptor ℕ)
 
+-- those with another number
 abbrev pub others : ℕ → Descriptors → Descriptors
 others number all = filter (λ descriptor. not (number == descriptor.number)) all
 
@@ -83,17 +85,15 @@ one_goes number least (first ∷ rest) descriptor rising found =
       is = ap (λ all. first ∷ all) goes.is;
     }
 
-pub times_around : {A : Type 0} (test : A → Bool) (front back : List A) (one : A)
-    → times test (front ++ (one ∷ back)) ≡ times test (front ++ back) + cond (test one) 1 0
-times_around test [] back one = omega arith
-times_around test (first ∷ front) back one = let later = times_around test front back one in omega (arith, later)
-
+-- lists put together in another order of brackets are the same list
 pub around : {A : Type 0} (front p q back : List A) → front ++ ((p ++ q) ++ back) ≡ (front ++ p) ++ (q ++ back)
 around front p q back = ap (λ list. front ++ list) (append_assoc p q back) ∙ sym (append_assoc front p (q ++ back))
 
+-- the location of a descriptor
 abbrev pub place : Descriptor ℕ → meant.Location ℕ
 place descriptor = descriptor.location
 
+-- how a descriptor uses its location
 abbrev pub used_by : Descriptor ℕ → Use
 used_by descriptor = record { location = descriptor.location; writes = descriptor.writes }
 
@@ -139,6 +139,7 @@ module _ (value : WorldValue) (whole : IsHeld value) (name : TaskName) (task : T
       (λ one. nat_eq namespace one.namespace) in
       omega (arith, moved)
 
+-- A descriptor is closed, and what it alone used is let go.
 pub file_is_closed : (value : WorldValue) (name : TaskName) (number : ℕ) (closed : OpenFile) (mounts : List MountEntry)
     (filesystems : Filesystems) (tasks : Tasks)
     → IsHeld value → Permits value name (ToClose number) → closed.location.node.slot < 18446744073709551616

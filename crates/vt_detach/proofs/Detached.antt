@@ -11,7 +11,7 @@ use Rattle.vt_letting_go.specs.Counts.{mounts_showing}
 use Rattle.vt_letting_go.specs.Detaching.{detached_if}
 use Rattle.vt_letting_go.specs.Mounting.{inode_at}
 use Rattle.vt_letting_go.specs.OneByOne.{Inode}
-use Rattle.vt_letting_go.proofs.Lists.{Among, all_from_among, among-from_map, among-map, among_from_all, map_alike, map_twice}
+use Rattle.vt_letting_go.proofs.Lists.{Among, all_from_among, among-from_map, among-map, among_from_all}
 use Rattle.vt_location.specs.declared.locations.Location.{Location}
 use Rattle.vt_location.specs.Locations.{location_of, number_of}
 use Rattle.vt_location.specs.Numbers.{counted}
@@ -19,11 +19,13 @@ use Rattle.vt_mount.specs.MountsValue.{MountEntry, changed, entry_numbered, moun
 use Rattle.vt_detach.specs.Held.{CountsItsUses}
 use Rattle.vt_detach.specs.Uses.{Kept, detached_entry, detached_use, inode_of, point_of, unpinned_at, without_attachment}
 use Rattle.vt_detach.specs.WorldValue.{WorldValue, world_of}
-use Rattle.vt_detach.proofs.Keeping.{IsKeptBut, IsShownIn, append_three, detached_in, folded_append, looked_at, points_lost}
+use Rattle.vt_detach.proofs.Keeping.{IsKeptBut, IsShownIn, append_three, detached_in, looked_at, points_lost}
 use Rattle.vt_detach.proofs.Leaving.{found_it}
 use Rattle.vt_detach.proofs.MountsGone.{mount_looked_at}
 use Rattle.vt_detach.proofs.Moving.{map_itself, swap_eq}
 use Rattle.vt_detach.proofs.Shown.{found_entry}
+use Rattle.vt_spec.proofs.Lists.{map_alike, map_twice}
+use Rattle.vt_detach.proofs.LostUses.{folded_append}
 
 -- Entries of which one is detached
 

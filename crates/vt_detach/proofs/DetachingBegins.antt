@@ -10,7 +10,6 @@ use Rattle.vt_spec.specs.Machine.Settled.{filesystem_lives, is_mounted, mount_li
 use Rattle.vt_spec.specs.Machine.World.{Filesystem, World, all_locations, is_overlay, mount_at, with_mounts}
 use Rattle.vt_spec.specs.Machine.Invariants.{is_nowhere_or_attached}
 use Rattle.vt_count_laws.specs.Counted.{IsPlain}
-use Rattle.vt_count_laws.specs.Sweeping.{living}
 use Rattle.vt_count_laws.specs.Using.{Exchanges}
 use Rattle.vt_count_laws.proofs.using.Places.{exchanges_follow, mount_is_placed}
 use Rattle.vt_fs.specs.FilesystemsValue.{Shown}
@@ -22,7 +21,7 @@ use Rattle.vt_letting_go.specs.Leaving.{MountsStand, stands_on_attached}
 use Rattle.vt_letting_go.specs.Mounting.{inode_at}
 use Rattle.vt_letting_go.specs.OneByOne.{Inode, MountsInUseBut}
 use Rattle.vt_letting_go.specs.OneByOne as Looks
-use Rattle.vt_letting_go.proofs.Lists.{Among, all_from_among, all_pass, among-from_map, among_from_all, any-map, any_passes, among-from_filter, fails, filter_all, filter_alike, filter_twice, map_alike, map_same, map_twice, one_passes, or_second, passes}
+use Rattle.vt_letting_go.proofs.Lists.{Among, all_from_among, all_pass, among-from_map, among_from_all, any-map, any_passes, among-from_filter, fails, filter_all, filter_alike, filter_twice, map_same, one_passes, or_second, passes}
 use Rattle.vt_letting_go.proofs.sweeps.OneByOne.{mounts_go_one_by_one}
 use Rattle.vt_location.specs.Numbers.{counted}
 use Rattle.vt_mount.specs.MountsValue.{mounts_in}
@@ -34,6 +33,9 @@ use Rattle.vt_detach.proofs.Keeping.{IsKeptBut, IsShownIn, detached_in, lives_pl
 use Rattle.vt_detach.proofs.Leaving.{found_it}
 use Rattle.vt_detach.proofs.MountsGone.{found_mapped, none_numbered, pending_filesystem, pending_number}
 use Rattle.vt_detach.proofs.Moving.{map_itself, swap_eq}
+use Rattle.vt_spec.proofs.Lists.{map_alike, map_twice}
+use Rattle.vt_spec.proofs.Worlds.{shown-mapped}
+use Rattle.vt_letting_go.specs.TreesOverlays.{in_use_of}
 
 -- the world with these mounts detached
 abbrev pub detached_world : List ℕ → World ℕ → World ℕ
@@ -56,18 +58,6 @@ pair_mapped change same (first ∷ rest) =
     λ i. any-map (λ (b : Mount ℕ). nat_eq (change first).number b.number) change rest
     (λ (b : Mount ℕ). (λ j. nat_eq (same first j) (same b j))) i
     || pair_mapped change same rest i
-
-pub filesystem_kept : (change : Mount ℕ → Mount ℕ) → ((mount : Mount ℕ) → (change mount).number ≡ mount.number)
-    → ((mount : Mount ℕ) → (change mount).filesystem ≡ mount.filesystem) → (mounts : List (Mount ℕ)) (number : ℕ)
-    → (mount_in nat_eq (map change mounts) number).filesystem ≡ (mount_in nat_eq mounts number).filesystem
-filesystem_kept change same shows mounts number =
-    ap (λ o. (unwrap_or o (no_mount number)).filesystem) (found_mapped change same mounts number)
-    ∙ by (find (λ (mount : Mount ℕ). nat_eq number mount.number) mounts)
-  where
-    by : (o : Option (Mount ℕ)) → (unwrap_or (option_map change o) (no_mount number)).filesystem
-        ≡ (unwrap_or o (no_mount number)).filesystem
-    by None = refl
-    by (Some mount) = shows mount
 
 times_alike : {A : Type 0} (test : A → Bool) (change : A → A) → ((a : A) → test (change a) ≡ test a) → (all : List A)
     → times test (map change all) ≡ times test all
@@ -205,7 +195,7 @@ module _ (before : World ℕ) where
       sees_still : SeesPlaces (without_place world number)
       sees_still mount m place p =
           let from = among-from_map (detached_if number) world.mounts mount m in
-          filesystem_kept (detached_if number) (same_number number) same_filesystem world.mounts place.mount
+          shown-mapped (detached_if number) (same_number number) same_filesystem world.mounts place.mount
           ∙ sees from.0 from.1 place (placed from.0 place (nat_eq from.0.number number)
           (ap (λ (x : Mount ℕ). x.mount_point) (sym from.2) ∙ p))
 
@@ -401,11 +391,11 @@ module _ (old : WorldValue) (gained lost : List Inode) (world : World ℕ) (k : 
         let from = among-from_map (detached_in gone) world.mounts mount m in
         let stays = stays_placed from.0 place (is_among nat_eq from.0.number gone) refl
         (ap (λ (x : Mount ℕ). x.mount_point) (sym from.2) ∙ p) in
-        filesystem_kept (detached_in gone) (pending_number gone) (pending_filesystem gone) world.mounts place.mount
+        shown-mapped (detached_in gone) (pending_number gone) (pending_filesystem gone) world.mounts place.mount
         ∙ is.places from.0 from.1 place stays.1;
   }
 
-  ends_living : folded looked_at after gone ≡ living after
+  ends_living : folded looked_at after gone ≡ in_use_of after
   ends_living =
       ap (λ one. folded looked_at one gone) (sym all_live)
       ∙ looked_all after is.plain gone
@@ -417,5 +407,5 @@ module _ (old : WorldValue) (gained lost : List Inode) (world : World ℕ) (k : 
           (λ f m. passes (filesystem_lives nat_eq after) after.filesystems begun_mounted f m))
 
   -- All are pending; in the end the living world is left.
-  pub detaching_begins : IsDetaching old gained (living after) gone k
+  pub detaching_begins : IsDetaching old gained (in_use_of after) gone k
   detaching_begins = record { lost = lost; world = after; is = begun_kept; ends = ends_living }

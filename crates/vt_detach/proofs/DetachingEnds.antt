@@ -17,7 +17,6 @@ use Rattle.vt_spec.specs.Machine.World.{Filesystem, Task, World, filesystem_numb
 use Rattle.vt_spec.specs.Machine.Invariants.{has_its_root, is_located_well, is_nowhere_or_attached, is_there}
 use Rattle.vt_spec.specs.Tree.{is_directory_node}
 use Rattle.vt_count_laws.specs.Counted.{IsPlain}
-use Rattle.vt_count_laws.specs.Sweeping.{living}
 use Rattle.vt_count_laws.specs.Using.{Exchanges}
 use Rattle.vt_count_laws.proofs.using.MountRoots as Roots
 use Rattle.vt_fs.specs.FilesystemsValue.{Filesystems, Shown, filesystem_seen, shown_entry}
@@ -26,7 +25,7 @@ use Rattle.vt_group.specs.Together.{TakesAway}
 use Rattle.vt_letting_go.specs.Counts.{mount_uses, mounts_showing, times}
 use Rattle.vt_letting_go.specs.Leaving.{stands_on_attached}
 use Rattle.vt_letting_go.specs.OneByOne.{Inode}
-use Rattle.vt_letting_go.proofs.Lists.{Among, all_from_among, among-from_map, among-map, among_from_all, is_among_numbers, map_alike, map_twice, passes}
+use Rattle.vt_letting_go.proofs.Lists.{Among, all_from_among, among-from_map, among-map, among_from_all, is_among_numbers, passes}
 use Rattle.vt_letting_go.proofs.mounting.MountingTaken as Taken
 use Rattle.vt_letting_go.proofs.sweeps.OfWorlds.{mounts_of_worlds_stand}
 use Rattle.vt_letting_go.proofs.leaving.PlacesLeft.{found_is_there, number_found}
@@ -35,7 +34,7 @@ use Rattle.vt_location.specs.Numbers.{counted}
 use Rattle.vt_mount.specs.MountsValue.{MountEntry, mounts_in}
 use Rattle.vt_world_laws.proofs.RaisedInUse.{worlds_are_in_use}
 use Rattle.vt_world_laws.proofs.worlds.Roots.{directory_there}
-use Rattle.vt_detach.specs.Held.{CountsItsMounts, CountsItsUses, CountsWhatIsInIt, IsHeld, is_ungrouped, writes_of}
+use Rattle.vt_detach.specs.Held.{CountsItsMounts, CountsItsUses, CountsWhatIsInIt, IsHeld, writes_of}
 use Rattle.vt_detach.specs.Uses.{kept}
 use Rattle.vt_detach.specs.WorldValue.{WorldValue, world_of}
 use Rattle.vt_detach.proofs.Bridging.{IsSwept}
@@ -43,13 +42,17 @@ use Rattle.vt_detach.proofs.Detached.{IsDetaching}
 use Rattle.vt_detach.proofs.DetachingBegins.{HasChildrenOf, detached_world}
 use Rattle.vt_detach.proofs.Finishing.{CountsBeside, IsApplied, finished}
 use Rattle.vt_detach.proofs.GoneAlone.{alone_has, alone_regroups}
-use Rattle.vt_detach.proofs.Grouped.{not_attached, settled_has, stays_private}
+use Rattle.vt_detach.proofs.Grouped.{settled_has, stays_private}
 use Rattle.vt_detach.proofs.Keeping.{IsKeptBut, detached_in, no_more}
 use Rattle.vt_detach.proofs.LocationsSeen.{seen_where_located}
 use Rattle.vt_detach.proofs.Moving.{map_itself}
 use Rattle.vt_detach.proofs.Remaining.{remade}
 use Rattle.vt_detach.proofs.Staying.{IsDone, world_is_plain}
 use Rattle.vt_detach.proofs.TypedEvents.{typed_done, typed_value}
+use Rattle.vt_spec.proofs.Lists.{map_alike, map_twice}
+use Rattle.vt_spec.proofs.Truths.{or_false_left}
+use Rattle.vt_permit_laws.specs.Taken.{is_ungrouped}
+use Rattle.vt_letting_go.specs.TreesOverlays.{in_use_of}
 
 -- What is kept of a world with its invariants
 
@@ -117,9 +120,9 @@ module _ (value : WorldValue) (whole : IsHeld value) where
 -- The end
 
 module _ (old : WorldValue) (after : World ℕ) (gained lost : List Inode) (new : WorldValue)
-    (is : IsKeptBut old [] [] gained lost (living after) (kept new.mounts new.filesystems))
+    (is : IsKeptBut old [] [] gained lost (in_use_of after) (kept new.mounts new.filesystems))
     (same_tasks : after.tasks ≡ new.tasks) where
-  mounts_are : (living after).mounts ≡ mounts_in new.mounts
+  mounts_are : (in_use_of after).mounts ≡ mounts_in new.mounts
   mounts_are = is.mounts ∙ sym (map_itself (mounts_in new.mounts))
 
   pub detached_swept : IsPlain after
@@ -136,7 +139,7 @@ module _ (old : WorldValue) (after : World ℕ) (gained lost : List Inode) (new 
           count = from.count;
           there = from.there;
           inodes = from.inodes;
-          exchanges = subst (λ all. Exchanges gained all (counted from.was.count) (world_of old) (living after))
+          exchanges = subst (λ all. Exchanges gained all (counted from.was.count) (world_of old) (in_use_of after))
               (no_more lost) from.exchanges;
         };
     namespaces = namespaces;
@@ -146,7 +149,7 @@ module _ (old : WorldValue) (after : World ℕ) (gained lost : List Inode) (new 
   pub detached_counted : All (CountsWhatIsInIt (world_of new)) new.namespaces → CountsBeside new
   detached_counted inside = record {
     uses = all_from_among (CountsItsUses (world_of new)) new.mounts (λ entry m.
-        let counts = among_from_all (CountsItsUses (living after)) new.mounts is.uses entry m in
+        let counts = among_from_all (CountsItsUses (in_use_of after)) new.mounts is.uses entry m in
         record {
           uses = counts.uses ∙ (λ i. mount_uses (record after { tasks = same_tasks i }) entry.mount.number);
           writers = counts.writers ∙ (λ i. writes_of entry.mount.number (same_tasks i));
@@ -208,7 +211,7 @@ pub detached_done : (value : WorldValue) (name : TaskName) (permit : Permit ℕ)
     → ((mount : Mount ℕ) → Among mount (mounts_in value.mounts) → is_among nat_eq mount.number gone ≡ true
     → is_ungrouped mount.propagation ≡ true)
     → IsApplied value name permit task (taken_away nat_eq (world_of value) gone)
-    → IsDetaching value [] (living (detached_world gone (world_of value))) [] (kept mounts filesystems)
+    → IsDetaching value [] (in_use_of (detached_world gone (world_of value))) [] (kept mounts filesystems)
     → IsDone value name permit (remade value mounts filesystems value.tasks)
 detached_done value name permit task gone mounts filesystems whole closed free is detaching =
     let world = world_of value in
@@ -229,7 +232,7 @@ detached_done value name permit task gone mounts filesystems whole closed free i
     (detached_swept value after [] detaching.lost new kept_last refl (world_is_plain value) refl refl)
     (settled_has after value.groups (alone_has world value.groups whole.groups live gone free) (λ mount m dead.
     ap is_ungrouped (detached_is_private world gone whole.in_world.mounts.nowhere mount m
-    (not_attached (is_some mount.namespace) (is_located nat_eq after mount.number) dead))))
+    (or_false_left (is_some mount.namespace) (is_located nat_eq after mount.number) dead))))
     (detached_counted value after [] detaching.lost new kept_last refl
     (all_from_among (CountsWhatIsInIt (world_of new)) value.namespaces (λ entry m.
     let was = among_from_all (CountsWhatIsInIt
@@ -241,7 +244,7 @@ pub detached_typed : (value : WorldValue) (name : TaskName) (permit : Permit ℕ
     (groups : Grouping)
     (mounts : List MountEntry) (filesystems : Filesystems) → IsHeld value → HasChildrenOf gone (mounts_in value.mounts)
     → TakesAway value.groups groups gone → IsApplied value name permit task (taken_away nat_eq (world_of value) gone)
-    → IsDetaching value [] (living (detached_world gone (world_of value))) [] (kept mounts filesystems)
+    → IsDetaching value [] (in_use_of (detached_world gone (world_of value))) [] (kept mounts filesystems)
     → IsDone value name permit (typed_value groups (remade value mounts filesystems value.tasks))
 detached_typed value name permit task gone groups mounts filesystems whole closed follows is detaching =
     let after = detached_world gone (world_of value) in

@@ -10,12 +10,12 @@ use Rattle.vt_spec.specs.Lists.{folded}
 use Rattle.vt_spec.specs.Machine.Mounts as meant
 use Rattle.vt_spec.specs.Machine.Namespaces.{has_tasks, namespaces_ended}
 use Rattle.vt_spec.specs.Machine.Permits.Permit.{ToExit}
-use Rattle.vt_spec.specs.Machine.World.{Descriptor, Task, World, all_locations, locations_of, mount_at, task_called}
+use Rattle.vt_spec.specs.Machine.World.{Descriptor, Task, World, all_locations, locations_of, task_called}
 use Rattle.vt_spec.specs.Machine.Invariants.{is_located_well}
 use Rattle.vt_fs.specs.FilesystemsValue.{Filesystems}
 use Rattle.vt_group.specs.Grouping.{Grouping}
 use Rattle.vt_letting_go.specs.Counts.{times}
-use Rattle.vt_letting_go.proofs.Lists.{Among, among-append_left, among-append_right, among-map, among_from_all, map_twice, passes}
+use Rattle.vt_letting_go.proofs.Lists.{Among, among-append_left, among-append_right, among-map, among_from_all, passes}
 use Rattle.vt_location.specs.declared.locations.Location.{Location}
 use Rattle.vt_location.specs.Locations.{location_of, number_of}
 use Rattle.vt_location.specs.Numbers.{counted}
@@ -43,6 +43,7 @@ use Rattle.vt_detach.proofs.Places.{standing}
 use Rattle.vt_detach.proofs.Shown.{counted_eq_back}
 use Rattle.vt_detach.proofs.Splits.{locations_around, times_total, writes_total}
 use Rattle.vt_detach.proofs.Staying.{IsDone}
+use Rattle.vt_spec.proofs.Lists.{map_twice}
 
 -- one task goes
 pub record GoesOne (task : Task ℕ) (tasks after : Tasks) : Type 0 where
@@ -51,6 +52,7 @@ pub record GoesOne (task : Task ℕ) (tasks after : Tasks) : Type 0 where
   pub was : tasks ≡ front ++ (task ∷ back)
   pub is : after ≡ front ++ back
 
+-- just the task of the name goes out of the tasks
 pub one_goes_out : (name : TaskName) (tasks : Tasks) (task : Task ℕ) → AreNamedApart tasks
     → called name tasks ≡ Some task
     → GoesOne task tasks (without_called name tasks)
@@ -82,6 +84,7 @@ one_goes_out name (first ∷ tasks) task apart found =
 abbrev pub uses_of_task : Task ℕ → List Use
 uses_of_task task = standing task.root ∷ standing task.directory ∷ map used_by task.descriptors
 
+-- a task uses its locations
 pub uses_are_locations : (task : Task ℕ) → locations (uses_of_task task) ≡ locations_of task
 uses_are_locations task = ap (λ places. task.root ∷ task.directory ∷ places)
     (map_twice (λ (u : Use). u.location) used_by task.descriptors)
@@ -102,6 +105,7 @@ module _ (value : WorldValue) (whole : IsHeld value) (name : TaskName) (task : T
   abbrev goes : GoesOne task value.tasks tasks
   goes = one_goes_out name value.tasks task whole.in_world.tasks.one_task found
 
+  -- the tasks without it use its locations no more
   pub exit_moves : Moves value tasks [] (uses_of_task task)
   exit_moves = record {
     front = locations_in goes.front;
@@ -156,6 +160,7 @@ left_so value whole at writes k few well =
     λ i. without_use (counted at.mount.count)
     (sym (seen_where_located value whole at few well) i, number_of at.node) writes k
 
+-- closing its files takes away the uses of its descriptors
 pub files_left_so : (value : WorldValue) → IsHeld value
     → (files : List OpenFile) (descriptors : List (Descriptor ℕ)) (k : Kept)
     → map (λ (file : OpenFile). location_of file.location) files ≡ map (λ (d : Descriptor ℕ). d.location) descriptors
@@ -196,6 +201,7 @@ pub record LeavesAll (old : Kept) (task : Held) (files : List OpenFile) (left : 
       ≡ map (λ (d : Descriptor ℕ). d.writes) (task_of task).descriptors
   pub is : left ≡ fold without_file (without_location task.directory false (without_location task.root false old)) files
 
+-- A task exits, and what it alone used is let go.
 pub task_exits : (value : WorldValue) (name : TaskName) (task : Held) (files : List OpenFile) (left : Kept)
     (mounts : List MountEntry) (groups : Grouping) (filesystems : Filesystems) (namespaces : List NamespaceEntry)
     (left_tasks : Tasks)

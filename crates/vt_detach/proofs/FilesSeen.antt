@@ -26,9 +26,11 @@ use Rattle.vt_detach.specs.WorldValue.{WorldValue, world_of}
 use Rattle.vt_detach.proofs.FilesystemsFound.{found as filesystem_found, found_if}
 use Rattle.vt_fs.proofs.Numbers.{found_by_number}
 use Rattle.vt_permit_laws.proofs.in_use.InUseServes.{leaves_two}
+use Rattle.vt_spec.proofs.Found.{is_among_left}
 
 -- No filesystem is an overlay
 
+-- no filesystem of code's world is an overlay
 pub files_are_plain : (filesystems : Filesystems)
     → All (λ filesystem. is_overlay filesystem ≡ false) (filesystems_seen filesystems)
 files_are_plain filesystems =
@@ -71,6 +73,7 @@ pub record IsSeenIn (fs : Filesystems) (number inode : ℕ) : Type 0 where
   pub number_is : number ≡ counted entry.count
   pub own : is_inode_of entry.count inode ≡ true
 
+-- an inode that is found stands in a filesystem of code
 pub seen_in : (fs : Filesystems) → All HasOwnInodes fs → (number inode : ℕ)
     → is_some ((filesystem_found fs number).files.tree.node inode) ≡ true → IsSeenIn fs number inode
 seen_in [] own number inode there = absurd (true≢false (sym there))
@@ -108,6 +111,7 @@ seen_in (x ∷ fs) own number inode there =
 
 -- Numbers that are counted before the next one
 
+-- the number of an inode was counted
 pub inodes_named : (next f slot : ℕ) → is_counted_before next (inode_number f slot) ≡ true
 inodes_named next f slot = ap (λ b. b || is_counted_before_odd) (eq-eqb (inode_number f slot % 2) 0 (omega arith))
   where
@@ -139,22 +143,13 @@ used_mount n (first ∷ mounts) rest m = by (nat_eq n first.number) m (used_moun
     by false e next = among_goes_on n (option_to_list (source_of first.propagation))
         (flat_map used_by_mount mounts) rest (next e)
 
-among_first : (n : ℕ) (a b : List ℕ) → is_among nat_eq n a ≡ true → is_among nat_eq n (a ++ b) ≡ true
-among_first n [] b m = absurd (true≢false (sym m))
-among_first n (x ∷ a) b m = by (nat_eq n x) m (among_first n a b)
-  where
-    by : (c : Bool) → (c || is_among nat_eq n a) ≡ true
-        → (is_among nat_eq n a ≡ true → is_among nat_eq n (a ++ b) ≡ true)
-        → (c || is_among nat_eq n (a ++ b)) ≡ true
-    by true e next = refl
-    by false e next = next e
-
+-- and so was that of a mount
 pub mount_named : (value : WorldValue) → IsHeld value → (number : ℕ)
     → is_among nat_eq number (map (λ (mount : Mount ℕ). mount.number) (world_of value).mounts) ≡ true
     → is_counted_before value.next number ≡ true
 mount_named value held number there =
     used_numbers_are_named (is_counted_before value.next) (world_of value) held.given (leaves_two value.next) number
-    (among_first number
+    (is_among_left number
     (flat_map used_by_mount (world_of value).mounts ++ flat_map used_by_filesystem (world_of value).filesystems)
     (map (λ (namespace : Namespace ℕ). namespace.number) (world_of value).namespaces)
     (used_mount number (world_of value).mounts (flat_map used_by_filesystem (world_of value).filesystems) there))
@@ -168,6 +163,7 @@ pub record IsLocated (value : WorldValue) (at : Location) : Type 0 where
   pub shows : (mount_at nat_eq (world_of value) (location_of at)).filesystem ≡ counted entry.count
   pub named : location_named (is_counted_before value.next) (location_of at) ≡ true
 
+-- a location of the world stands in a filesystem of code
 pub located : (value : WorldValue) → IsHeld value → (at : Location) → at.node.slot < 18446744073709551616
     → is_located_well nat_eq (world_of value) (location_of at) ≡ true → IsLocated value at
 located value held at small there =

@@ -55,6 +55,7 @@ unpinned_own count (inode ∷ rest) inodes own =
     by true = own_unpinned count inodes inode.1 own
     by false = own
 
+-- inodes stay of their filesystem where uses are gained and lost
 pub own_exchanged : (count : ℕ) (gained lost : List Inode) (inodes : Inodes ℕ) → IsOwn count inodes
     → IsOwn count (exchanged (counted count) gained lost inodes)
 own_exchanged count gained lost inodes own =
@@ -79,6 +80,7 @@ pub record CountsBeside (new : WorldValue) : Type 0 where
 -- what is left is a world, so the code's world has its invariants
 module _ (value : WorldValue) (whole : IsHeld value) (next : World ℕ)
     (left : IsWorld nat_eq (settled nat_eq next) × IsPlain (settled nat_eq next)) where
+  -- what holds of each world holds of the one that the sweep leaves
   pub swept_held : (gained lost : List Inode) (new : WorldValue) → IsSwept value next gained lost new
       → Has (settled nat_eq next) new.groups
       → CountsBeside new → KeepsTo (is_counted_before new.next) (world_of new) → IsHeld new
@@ -113,6 +115,7 @@ module _ (value : WorldValue) (whole : IsHeld value) (name : TaskName) (permit :
       (given_permits_leave_worlds (world_of value) (supply_of value permit) task permit whole.in_world
       (world_is_plain value) is.given)
 
+  -- the settled world names numbers that were counted
   pub keeps_left : KeepsTo (is_counted_before value.next) (settled nat_eq next)
   keeps_left =
       subst (λ world. KeepsTo (is_counted_before value.next) (settled nat_eq world)) (is.applied (λ k. 0))
@@ -139,6 +142,7 @@ module _ (value : WorldValue) (whole : IsHeld value) (name : TaskName) (permit :
             (subst (λ left. SameWorlds left (world_of new)) (sym alike) same));
       }
 
+  -- an event that leaves what the sweep leaves is done
   pub finished : (gained lost : List Inode) (new : WorldValue) → IsSwept value next gained lost new
       → Has (settled nat_eq next) new.groups
       → CountsBeside new → new.next ≡ value.next → IsDone value name permit new

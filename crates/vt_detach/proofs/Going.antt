@@ -11,7 +11,6 @@ use Rattle.vt_spec.specs.Machine.Settled.{filesystem_lives, is_located, is_mount
 use Rattle.vt_spec.specs.Machine.World.{Filesystem, Task, World, all_locations, is_overlay, mount_numbered}
 use Rattle.vt_spec.specs.Machine.Invariants.{is_located_well}
 use Rattle.vt_count_laws.specs.Counted.{IsPlain}
-use Rattle.vt_count_laws.specs.Sweeping.{living}
 use Rattle.vt_count_laws.specs.Using.{Exchanges, unpinned_if}
 use Rattle.vt_count_laws.proofs.going.Gone.{mount_takes_its_count}
 use Rattle.vt_count_laws.proofs.using.MountRoots as Roots
@@ -23,7 +22,7 @@ use Rattle.vt_letting_go.specs.Keeping.{LocationsStand}
 use Rattle.vt_letting_go.specs.Leaving.{MountsStand}
 use Rattle.vt_letting_go.specs.Mounting.{inode_at}
 use Rattle.vt_letting_go.specs.OneByOne.{Inode, is_mount_used, without_mount}
-use Rattle.vt_letting_go.proofs.Lists.{Among, all_from_among, all_pass, among-append, among-append_left, among-append_right, among-from_filter, among-from_map, among-map, among_from_all, filter_all, filter_alike, map_alike, map_twice, passes}
+use Rattle.vt_letting_go.proofs.Lists.{Among, all_from_among, all_pass, among-append, among-append_left, among-append_right, among-from_filter, among-from_map, among-map, among_from_all, filter_all, filter_alike, passes, filter_less}
 use Rattle.vt_letting_go.proofs.sweeps.OfWorlds.{mounts_of_worlds_stand}
 use Rattle.vt_letting_go.proofs.leaving.PlacesLeft.{found_itself, no_layers}
 use Rattle.vt_letting_go.proofs.sweeps.UsesCounted.{located_while_counted, mounted_while_counted}
@@ -33,7 +32,7 @@ use Rattle.vt_tasks.specs.TasksValue.{Tasks}
 use Rattle.vt_world_laws.proofs.RaisedInUse.{worlds_are_in_use}
 use Rattle.vt_detach.specs.Held.{CountsItsMounts, CountsItsUses, CountsWhatIsInIt, IsHeld}
 use Rattle.vt_detach.specs.Uses as meant
-use Rattle.vt_detach.specs.Uses.{Kept, kept, mounts_shown, released_if}
+use Rattle.vt_detach.specs.Uses.{kept, mounts_shown, released_if}
 use Rattle.vt_detach.specs.WorldValue.{WorldValue, world_of}
 use Rattle.vt_detach.proofs.Bridging.{IsSwept}
 use Rattle.vt_detach.proofs.Finishing.{CountsBeside, IsApplied, finished}
@@ -41,8 +40,10 @@ use Rattle.vt_detach.proofs.Grouped.{left_has}
 use Rattle.vt_detach.proofs.Moving.{Moves, Use, entry_counts, exchanged_shown, filesystems_moved, gained_there, held_counts, hold_if, inodes_of_uses, locations, mounts_moved, moved_kept, release_if, released_counts, swap_eq, uses_moved}
 use Rattle.vt_detach.proofs.Remaining.{remade}
 use Rattle.vt_detach.proofs.Staying.{IsDone, after, world_is_plain}
-use Rattle.vt_detach.proofs.LostUses.{filter_less, found_unless, positive, shown_by_rule}
-use Rattle.vt_fs.proofs.TreesLookedAt.{or_nothing}
+use Rattle.vt_detach.proofs.LostUses.{found_unless, positive, shown_by_rule}
+use Rattle.vt_spec.proofs.Lists.{map_alike, map_twice}
+use Rattle.std.proofs.Math.Bool.{or-false, or-true}
+use Rattle.vt_letting_go.specs.TreesOverlays.{in_use_of}
 
 -- Lists
 
@@ -57,10 +58,6 @@ map_filtered f p q same (x ∷ xs) =
         → map f (cond b (x ∷ filter p xs) (filter p xs)) ≡ cond b (f x ∷ filter q (map f xs)) (filter q (map f xs))
     by true later = ap (λ rest. f x ∷ rest) later
     by false later = later
-
-pub or_all : (b : Bool) → (b || true) ≡ true
-or_all true = refl
-or_all false = refl
 
 module _ (value : WorldValue) (whole : IsHeld value) (tasks : Tasks) (more : List Use) (left_use : Use)
     (moves : Moves value tasks more (left_use ∷ []))
@@ -204,7 +201,7 @@ module _ (value : WorldValue) (whole : IsHeld value) (tasks : Tasks) (more : Lis
       ap (filesystem_lives nat_eq mounted) from.2
       ∙ ap (λ b. is_mounted nat_eq mounted (counted from.0.count) || b)
       (no_layers (counted from.0.count) mounted world.filesystems (plain_of world (world_is_plain value)))
-      ∙ or_nothing (is_mounted nat_eq mounted (counted from.0.count))
+      ∙ or-false (is_mounted nat_eq mounted (counted from.0.count))
       ∙ mounted_while_counted mounted (counted from.0.count)
       ∙ positive (mounts_showing mounted (counted from.0.count))
       ∙ by from.0 from.1 (nat_eq mount.filesystem (counted from.0.count)) refl
@@ -215,7 +212,7 @@ module _ (value : WorldValue) (whole : IsHeld value) (tasks : Tasks) (more : Lis
       was_mounted was n =
           sym (positive (mounts_showing world (counted was.count)))
           ∙ sym (mounted_while_counted world (counted was.count))
-          ∙ sym (or_nothing (is_mounted nat_eq world (counted was.count)))
+          ∙ sym (or-false (is_mounted nat_eq world (counted was.count)))
           ∙ sym (ap (λ b. is_mounted nat_eq world (counted was.count) || b)
           (no_layers (counted was.count) world world.filesystems (plain_of world (world_is_plain value))))
           ∙ passes (filesystem_lives nat_eq world) world.filesystems
@@ -239,7 +236,7 @@ module _ (value : WorldValue) (whole : IsHeld value) (tasks : Tasks) (more : Lis
           (same ∙ ap counted (sym (step_is was n).0)) in
           ap (λ k. not (nat_eq (mounts_showing mounted k) 0)) (sym same)
           ∙ ap (λ k. not (nat_eq k 0)) (sym counts)
-          ∙ sym (or_nothing (not none_left))
+          ∙ sym (or-false (not none_left))
           ∙ ap (λ b. not none_left || not b) (sym e)
       by was n false e =
           let took : mounts_showing world (counted was.count) ≡ mounts_showing mounted (counted was.count) + 0 =
@@ -247,12 +244,12 @@ module _ (value : WorldValue) (whole : IsHeld value) (tasks : Tasks) (more : Lis
           let same : mounts_showing mounted (counted was.count)
           ≡ mounts_showing world (counted was.count) = omega (arith, took) in
           ap (λ k. not (nat_eq k 0)) same ∙ was_mounted was n
-          ∙ sym (or_all (not none_left)) ∙ ap (λ b. not none_left || not b) (sym e)
+          ∙ sym (or-true (not none_left)) ∙ ap (λ b. not none_left || not b) (sym e)
 
   abbrev remaining : World ℕ
   remaining = record mounted { filesystems = filter (λ (f : Filesystem ℕ). stays_numbered f.number) world.filesystems }
 
-  living_is : living next ≡ remaining
+  living_is : in_use_of next ≡ remaining
   living_is =
       ap (without_dead_filesystems nat_eq) dead
       ∙ ap (λ all. record mounted { filesystems = all })
@@ -302,7 +299,7 @@ module _ (value : WorldValue) (whole : IsHeld value) (tasks : Tasks) (more : Lis
       among_from_all (λ f. is_overlay f ≡ false) world.filesystems (world_is_plain value) f
       (among-from_filter (λ (f : Filesystem ℕ). stays_numbered f.number) world.filesystems f m).0)
 
-  exchanges_are : (k : ℕ) → stays_numbered k ≡ true → Exchanges gained lost k world (living next)
+  exchanges_are : (k : ℕ) → stays_numbered k ≡ true → Exchanges gained lost k world (in_use_of next)
   exchanges_are k stays =
       let first = uses_moved value whole tasks more less moves k in
       let second = subst (λ (x : Mount ℕ). Exchanges [] ((x.filesystem, x.root) ∷ []) k next mounted) found_so

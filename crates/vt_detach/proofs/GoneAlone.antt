@@ -6,16 +6,17 @@ use Rattle.vt_spec.specs.Machine.Mounts.{Mount, detached}
 use Rattle.vt_spec.specs.Machine.Receives.{regrouped}
 use Rattle.vt_spec.specs.Machine.World.{World}
 use Rattle.vt_spec.specs.Machine.Invariants.{HasLivingGroups, Lives}
-use Rattle.vt_group.specs.Grouping.{Grouping, GroupsLive, Has, peer_of, peers_of}
+use Rattle.vt_group.specs.Grouping.{Grouping, Has, peer_of, peers_of}
 use Rattle.vt_group.proofs.Together.{regrouped_living}
 use Rattle.vt_letting_go.proofs.Lists.{Among, all_from_among, among-from_map, among_from_all}
-use Rattle.vt_detach.specs.Held.{is_ungrouped}
 use Rattle.vt_detach.proofs.DetachingBegins.{detached_world}
 use Rattle.vt_detach.proofs.Grouped.{alike_has, members_alike, no_peer, rising_mapped}
 use Rattle.vt_detach.proofs.Keeping.{detached_in}
 use Rattle.vt_detach.proofs.MountsGone.{pending_number}
+use Rattle.vt_mount_laws.specs.Mounts.Receivers.{AllGroupsLive}
+use Rattle.vt_permit_laws.specs.Taken.{is_ungrouped}
 
-module _ (world : World ℕ) (groups : Grouping) (has : Has world groups) (live : GroupsLive world) (gone : List ℕ)
+module _ (world : World ℕ) (groups : Grouping) (has : Has world groups) (live : AllGroupsLive world) (gone : List ℕ)
     (free : (mount : Mount ℕ) → Among mount world.mounts → is_among nat_eq mount.number gone ≡ true
     → is_ungrouped mount.propagation ≡ true) where
   abbrev start : World ℕ
@@ -40,7 +41,7 @@ module _ (world : World ℕ) (groups : Grouping) (has : Has world groups) (live 
   alone_has = alike_has world start groups has
       (rising_mapped (detached_in gone) (pending_number gone) world.mounts has.order) same_peers (λ group. refl)
 
-  still_live : GroupsLive start
+  still_live : AllGroupsLive start
   still_live = all_from_among (HasLivingGroups nat_eq start) start.mounts (λ mount m.
       let from = among-from_map (detached_in gone) world.mounts mount m in
       subst (HasLivingGroups nat_eq start) (sym from.2) (by from.0 from.1 (is_among nat_eq from.0.number gone)))

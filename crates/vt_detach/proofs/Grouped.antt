@@ -8,21 +8,26 @@ use Rattle.vt_spec.specs.Machine.Receives.{has_members}
 use Rattle.vt_spec.specs.Machine.Settled.{is_located, mount_lives, settled}
 use Rattle.vt_spec.specs.Machine.World.{World}
 use Rattle.vt_spec.specs.Machine.Invariants.{IsWorld, is_nowhere_or_attached, is_private}
-use Rattle.vt_group.specs.Grouping.{Grouping, Has, are_rising, master_in, numbers_of, peers_of}
+use Rattle.vt_group.specs.Grouping.{Grouping, Has, are_rising, master_in, peers_of}
 use Rattle.vt_group.specs.Steps.{is_member}
 use Rattle.vt_group.proofs.Peers.{members-peers}
 use Rattle.vt_letting_go.proofs.Lists.{Among, among-from_map, passes}
 use Rattle.vt_mount.specs.MountsValue.{mounts_in}
-use Rattle.vt_detach.specs.Held.{IsHeld, is_ungrouped}
+use Rattle.vt_detach.specs.Held.{IsHeld}
 use Rattle.vt_detach.specs.WorldValue.{WorldValue, world_of}
+use Rattle.vt_spec.proofs.Truths.{or_false_left}
+use Rattle.vt_mount_laws.specs.Mounts.Attaching.{numbers_of}
+use Rattle.vt_permit_laws.specs.Taken.{is_ungrouped}
 
 -- The same mounts in groups
 
+-- a group has members where the shared mounts and slaves stay
 pub members_alike : (one other : List (Mount ℕ)) → peers_of one ≡ peers_of other → (group : ℕ)
     → has_members nat_eq one group ≡ has_members nat_eq other group
 members_alike one other same group =
     sym (members-peers group one) ∙ ap (list_any (is_member group)) same ∙ members-peers group other
 
+-- a world with the same shared mounts and slaves has the same groups
 pub alike_has : (world after : World ℕ) (groups : Grouping) → Has world groups
     → are_rising (numbers_of after.mounts) ≡ true
     → peers_of after.mounts ≡ peers_of world.mounts → ((group : ℕ) → after.master group ≡ world.master group)
@@ -50,6 +55,7 @@ numbers_mapped : (change : Mount ℕ → Mount ℕ) → ((mount : Mount ℕ) →
 numbers_mapped change same [] = refl
 numbers_mapped change same (mount ∷ rest) = λ i. same mount i ∷ numbers_mapped change same rest i
 
+-- numbers rise where mounts keep them
 pub rising_mapped : (change : Mount ℕ → Mount ℕ) → ((mount : Mount ℕ) → (change mount).number ≡ mount.number)
     → (mounts : List (Mount ℕ))
     → are_rising (numbers_of mounts) ≡ true → are_rising (numbers_of (map change mounts)) ≡ true
@@ -82,6 +88,7 @@ rising_kept p (mount ∷ rest) rising =
     by true first later = and_from _ _ first later
     by false first later = later
 
+-- an ungrouped mount has no source
 pub no_source : (kind : Propagation ℕ) → is_ungrouped kind ≡ true → source_of kind ≡ None
 no_source (Shared group) e = absurd (true≢false (sym e))
 no_source (Slave master) e = absurd (true≢false (sym e))
@@ -154,10 +161,6 @@ pub stays_private : (mount : Mount ℕ) → is_nowhere_or_attached mount ≡ tru
 stays_private mount outside true none = refl
 stays_private mount outside false none = nowhere_is_private mount outside none
 
-pub not_attached : (attached located : Bool) → (attached || located) ≡ false → attached ≡ false
-not_attached true located dead = dead
-not_attached false located dead = refl
-
 -- where the mounts are those of a held world, so are the groups once what nothing uses is gone
 pub left_has : (value : WorldValue) → IsHeld value → (next : World ℕ) → next.mounts ≡ mounts_in value.mounts
     → ((group : ℕ) → next.master group ≡ master_in value.groups group) → Has (settled nat_eq next) value.groups
@@ -167,7 +170,7 @@ left_has value held next mounts master =
     nowhere_is_free mount
     (passes is_nowhere_or_attached (mounts_in value.mounts) held.in_world.mounts.nowhere mount
     (subst (Among mount) mounts m))
-    (not_attached (is_some mount.namespace) (is_located nat_eq next mount.number) dead))
+    (or_false_left (is_some mount.namespace) (is_located nat_eq next mount.number) dead))
 
 -- or mounts keep their numbers, their namespaces and their types
 peers_mapped : (change : Mount ℕ → Mount ℕ) → ((mount : Mount ℕ) → (change mount).number ≡ mount.number)
@@ -178,6 +181,7 @@ peers_mapped change number kind (mount ∷ rest) = λ i.
     cons_option (option_map (λ source. (number mount i, kind mount i)) (source_of (kind mount i)))
     (peers_mapped change number kind rest i)
 
+-- a world whose mounts change but for their types has the groups that it had
 pub changed_has : (value : WorldValue) → IsHeld value → (next : World ℕ) (change : Mount ℕ → Mount ℕ)
     → next.mounts ≡ map change (mounts_in value.mounts)
     → ((group : ℕ) → next.master group ≡ master_in value.groups group)
@@ -196,7 +200,7 @@ changed_has value held next change mounts master number namespace kind =
     ∙ nowhere_is_free from.0 (passes is_nowhere_or_attached
     (mounts_in value.mounts) held.in_world.mounts.nowhere from.0 from.1)
     (sym (namespace_is from.0 mount from.2)
-    ∙ not_attached (is_some mount.namespace) (is_located nat_eq next mount.number) dead))
+    ∙ or_false_left (is_some mount.namespace) (is_located nat_eq next mount.number) dead))
   where
     namespace_is : (was mount : Mount ℕ) → mount ≡ change was → is_some mount.namespace ≡ is_some was.namespace
     namespace_is was mount is = ap (λ (x : Mount ℕ). is_some x.namespace) is ∙ ap is_some (namespace was)

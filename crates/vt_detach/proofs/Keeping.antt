@@ -2,9 +2,7 @@
 -- gone.
 use Rattle.std.proofs.Common.{◌≡◌, refl, sym, ap, ◌∙◌, ℕ, nat_eq, eqb-true, Bool, true, false, cond, not, ◌||◌, List, [], ◌∷◌, ◌++◌, map, filter, find, Some, None, unwrap_or}
 use Rattle.std.specs.Prelude.{All, if◌then◌else◌, option_to_list, ◌<◌}
-use Rattle.std.specs.List.{list_any}
-use Rattle.std.proofs.lemmas.Bool.{or_parts}
-use Rattle.vt_spec.specs.Lists.{any_pair, folded, is_among}
+use Rattle.vt_spec.specs.Lists.{is_among}
 use Rattle.vt_spec.specs.Machine.Mounts.{Location as Place, Mount, detached, mount_in, no_mount}
 use Rattle.vt_spec.specs.Machine.Settled.{filesystem_lives, is_mounted, without_dead_filesystems}
 use Rattle.vt_spec.specs.Machine.World.{Filesystem, World, mount_at}
@@ -18,7 +16,7 @@ use Rattle.vt_letting_go.specs.InUse.{FilesystemsInUse}
 use Rattle.vt_letting_go.specs.Keeping.{LocationsStand}
 use Rattle.vt_letting_go.specs.Leaving.{MountsStand}
 use Rattle.vt_letting_go.specs.Mounting.{inode_at}
-use Rattle.vt_letting_go.specs.OneByOne.{Inode, MountsInUseBut, is_mount_used, without_mount}
+use Rattle.vt_letting_go.specs.OneByOne.{Inode, MountsInUseBut}
 use Rattle.vt_letting_go.specs.OneByOne as Looks
 use Rattle.vt_letting_go.proofs.Lists.{Among, filter-map}
 use Rattle.vt_letting_go.proofs.leaving.PlacesLeft.{found_in_filter, no_layers}
@@ -30,10 +28,11 @@ use Rattle.vt_detach.specs.Held.{CountsItsUses}
 use Rattle.vt_detach.specs.Uses.{Kept}
 use Rattle.vt_detach.specs.WorldValue.{WorldValue, world_of}
 use Rattle.vt_detach.proofs.Moving.{swap_eq}
-use Rattle.vt_fs.proofs.TreesLookedAt.{or_nothing}
+use Rattle.std.proofs.Math.Bool.{or-false}
 
 -- Mounts that are still to be detached
 
+-- a mount, detached if its number is pending
 abbrev pub detached_in : List ℕ → Mount ℕ → Mount ℕ
 detached_in pending mount = if is_among nat_eq mount.number pending then detached mount else mount
 
@@ -88,51 +87,22 @@ looked_at world number = without_dead_filesystems nat_eq (Looks.let_go_mount wor
 
 -- Lists
 
+-- nothing put behind a list leaves it
 pub no_more : (inodes : List Inode) → inodes ++ [] ≡ inodes
 no_more [] = refl
 no_more (inode ∷ rest) = ap (λ others. inode ∷ others) (no_more rest)
 
-pub folded_append : {A B : Type 0} (add : B → A → B) (b : B) (xs ys : List A)
-    → folded add b (xs ++ ys) ≡ folded add (folded add b xs) ys
-folded_append add b [] ys = refl
-folded_append add b (x ∷ xs) ys = folded_append add (add b x) xs ys
-
+-- three lists put together in another order of brackets are the same list
 pub append_three : {A : Type 0} (xs ys zs : List A) → (xs ++ ys) ++ zs ≡ xs ++ (ys ++ zs)
 append_three [] ys zs = refl
 append_three (x ∷ xs) ys zs = ap (λ rest. x ∷ rest) (append_three xs ys zs)
-
-any_in_filter : {A : Type 0} (test p : A → Bool) (xs : List A) → list_any test xs ≡ false
-    → list_any test (filter p xs) ≡ false
-any_in_filter test p [] none = refl
-any_in_filter test p (x ∷ xs) none = by (p x) (any_in_filter test p xs parts.1)
-  where
-    parts : (test x ≡ false) × (list_any test xs ≡ false)
-    parts = or_parts (test x) (list_any test xs) none
-
-    by : (b : Bool) → list_any test (filter p xs) ≡ false
-        → list_any test (cond b (x ∷ filter p xs) (filter p xs)) ≡ false
-    by true later = ap (λ c. c || list_any test (filter p xs)) parts.0 ∙ later
-    by false later = later
-
-pub pair_in_filter : {A : Type 0} (test : A → A → Bool) (p : A → Bool) (xs : List A) → any_pair test xs ≡ false
-    → any_pair test (filter p xs) ≡ false
-pair_in_filter test p [] none = refl
-pair_in_filter test p (x ∷ xs) none = by (p x) (pair_in_filter test p xs parts.1)
-  where
-    parts : (list_any (test x) xs ≡ false) × (any_pair test xs ≡ false)
-    parts = or_parts (list_any (test x) xs) (any_pair test xs) none
-
-    by : (b : Bool) → any_pair test (filter p xs) ≡ false
-        → any_pair test (cond b (x ∷ filter p xs) (filter p xs)) ≡ false
-    by true later = ap (λ c. c || any_pair test (filter p xs)) (any_in_filter (test x) p xs parts.0) ∙ later
-    by false later = later
 
 -- Filesystems of plain worlds live by their mounts
 pub lives_plainly : (world : World ℕ) → IsPlain world → (f : Filesystem ℕ)
     → filesystem_lives nat_eq world f ≡ is_mounted nat_eq world f.number
 lives_plainly world plain f =
     ap (λ b. is_mounted nat_eq world f.number || b) (no_layers f.number world world.filesystems (plain_of world plain))
-    ∙ or_nothing (is_mounted nat_eq world f.number)
+    ∙ or-false (is_mounted nat_eq world f.number)
 
 -- where a mount has no mount point, the inodes lost are the same without it
 found_none : (mounts : List (Mount ℕ)) (number : ℕ)
@@ -152,6 +122,7 @@ found_none (first ∷ rest) number = by (nat_eq first.number number) refl (found
         (no_mount number))
         (swap_eq number first.number ∙ e) ∙ later
 
+-- a mount that is detached keeps its number
 pub same_number : (number : ℕ) (mount : Mount ℕ) → (detached_if number mount).number ≡ mount.number
 same_number number mount = by (nat_eq mount.number number)
   where
@@ -182,6 +153,7 @@ no_point_still (first ∷ rest) other number none =
         here false = h
     by false h later = later h
 
+-- a mount that stands nowhere loses no mount point
 pub points_without : (world : World ℕ) (pending : List ℕ) (mounts : List (Mount ℕ)) (number : ℕ)
     → (mount_in nat_eq mounts number).mount_point ≡ None
     → points_lost world (filter (λ mount. not (nat_eq mount.number number)) mounts) pending

@@ -12,14 +12,13 @@ use Rattle.vt_spec.specs.Machine.Receives.{regrouped}
 use Rattle.vt_spec.specs.Machine.World.{World, mount_at, mount_numbered, with_mounts}
 use Rattle.vt_spec.specs.Machine.Invariants.{HasLivingGroups, Lives, MountInvariants, is_nowhere_or_attached, is_private}
 use Rattle.vt_spec.proofs.Lists as Spec
-use Rattle.vt_letting_go.proofs.Lists.{Among, all_from_among, among-flat_map, among_from_all, among-from_filter, among-from_flat_map, among-from_map, among-map, among_numbers, is_among_numbers, map_alike, map_twice, passes}
+use Rattle.vt_letting_go.proofs.Lists.{Among, all_from_among, among-flat_map, among_from_all, among-from_filter, among-from_flat_map, among-from_map, among-map, among_numbers, is_among_numbers, passes}
 use Rattle.vt_letting_go.proofs.mounting.MountingTaken as Taken
 use Rattle.vt_letting_go.proofs.leaving.PlacesLeft.{found_is_there, found_itself}
 use Rattle.vt_mount_laws.proofs.mounts.Standing.{standing_is_computed}
 use Rattle.vt_mount_laws.proofs.ends.UnmountingTrees.{trees_closed}
-use Rattle.vt_group.specs.Grouping.{GroupsLive, peer_of, peers_of}
+use Rattle.vt_group.specs.Grouping.{peer_of, peers_of}
 use Rattle.vt_group.proofs.Together.{regrouped_living}
-use Rattle.vt_detach.specs.Held.{is_ungrouped}
 use Rattle.vt_detach.proofs.DetachingBegins.{HasChildrenOf, detached_world}
 use Rattle.vt_detach.proofs.Keeping.{detached_in}
 use Rattle.vt_detach.proofs.Grouped.{members_alike, no_peer, no_source}
@@ -28,6 +27,9 @@ use Rattle.vt_detach.proofs.MountsGone.{found_mapped}
 use Rattle.vt_detach.proofs.Moving.{map_itself}
 use Rattle.vt_detach.proofs.UnmountedAlone.{goes_apart}
 use Rattle.vt_mount_laws.proofs.ends.EndingCounts.{tree_placed}
+use Rattle.vt_spec.proofs.Lists.{map_alike, map_twice}
+use Rattle.vt_mount_laws.specs.Mounts.Receivers.{AllGroupsLive}
+use Rattle.vt_permit_laws.specs.Taken.{is_ungrouped}
 
 -- Mounts ordered by their depth are the same mounts
 
@@ -94,7 +96,7 @@ abbrev pub IsApart : World ℕ → Mount ℕ → Type 0
 IsApart world mount =
     (place : Place ℕ) → mount.mount_point ≡ Some place → is_shared (mount_at nat_eq world place).propagation ≡ false
 
-module _ (world : World ℕ) (live : GroupsLive world)
+module _ (world : World ℕ) (live : AllGroupsLive world)
     (one : any_pair (λ (a b : Mount ℕ). nat_eq a.number b.number) world.mounts ≡ false)
     (tree : List ℕ) (closed : HasChildrenOf tree world.mounts)
     (attached : (mount : Mount ℕ) → Among mount world.mounts → is_among nat_eq mount.number tree ≡ true
@@ -138,7 +140,7 @@ module _ (world : World ℕ) (live : GroupsLive world)
       → ((mount : Mount ℕ) → Among mount world.mounts → is_among nat_eq mount.number tree ≡ false
       → change mount ≡ mount)
       → ((mount : Mount ℕ) → is_ungrouped mount.propagation ≡ true → is_ungrouped (change mount).propagation ≡ true)
-      → GroupsLive (with_mounts world (map change world.mounts))
+      → AllGroupsLive (with_mounts world (map change world.mounts))
   live_still change number others still =
       all_from_among (HasLivingGroups nat_eq after) after.mounts (λ mount m.
       let from = among-from_map change world.mounts mount m in

@@ -73,8 +73,9 @@ module _ (value : WorldValue) (whole : IsHeld value) (tasks : Tasks) (more : Lis
   abbrev moved : Kept
   moved = moved_kept world more (left_use ∷ []) (kept value.mounts value.filesystems)
 
-  there : is_among nat_eq number (map (λ x. x.number) world.mounts) ≡ true
-  there =
+  -- the mount is one of the world
+  mount_listed : is_among nat_eq number (map (λ x. x.number) world.mounts) ≡ true
+  mount_listed =
       passes (λ location. is_among nat_eq location.mount (map (λ x. x.number) world.mounts)) (all_locations world)
       (Roots.locations_of_worlds_stand world whole.in_world) left_use.location
       (subst (λ all. Among left_use.location all) (sym moves.was)
@@ -97,7 +98,7 @@ module _ (value : WorldValue) (whole : IsHeld value) (tasks : Tasks) (more : Lis
       by : (o : Option MountEntry) → entry_numbered moved.mounts number ≡ o
           → IsDone value name permit (remade value mounts filesystems tasks)
       by None e =
-          absurd (true≢false (sym there ∙ none_among number world.mounts
+          absurd (true≢false (sym mount_listed ∙ none_among number world.mounts
           (ap (find (λ x. nat_eq number x.number))
           (sym (same_moved_mounts world more (left_use ∷ []) (kept value.mounts value.filesystems)))
           ∙ found_entry number moved.mounts ∙ ap (option_map (λ entry. entry.mount)) e)))
@@ -152,7 +153,7 @@ module _ (value : WorldValue) (whole : IsHeld value) (tasks : Tasks) (more : Lis
           chosen true f c g = stays (looked_so true (nat_lt 0 entry.uses) f refl) (kept_so true c f g)
           chosen false f false g = stays (looked_so false true f (some_uses g)) (kept_so false false f g)
           chosen false f true g =
-              gone_done value whole tasks more left_use moves mounts filesystems entry.mount mount_is there f
+              gone_done value whole tasks more left_use moves mounts filesystems entry.mount mount_is mount_listed f
               (sym uses_are ∙ eqb-true entry.uses 0 g)
               (looked_so false false f (ap (nat_lt 0) (eqb-true entry.uses 0 g)))
               (kept_so false true f g) name permit task is inside

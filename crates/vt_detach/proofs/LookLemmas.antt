@@ -31,7 +31,8 @@ use Rattle.vt_detach.specs.Looking.{is_seen}
 use Rattle.vt_detach.specs.WorldValue.{WorldValue, world_of}
 use Rattle.vt_detach.proofs.FilesystemsFound.{found, found_number, found_plain, holds_at, in_no_other, no_counted_inode, own_filesystem}
 use Rattle.vt_fs.proofs.Parents.{parents_named}
-use Rattle.vt_fs.proofs.TreesLookedAt.{nowhere_removed, nowhere_under, or_nothing, under_nowhere}
+use Rattle.vt_fs.proofs.TreesLookedAt.{nowhere_removed, nowhere_under, under_nowhere}
+use Rattle.std.proofs.Math.Bool.{or-false}
 
 and_false : (b : Bool) → (b && false) ≡ false
 and_false true = refl
@@ -117,6 +118,7 @@ module _ (value : WorldValue) (held : IsHeld value) where
       (found_or_none (mounts_in value.mounts) (counted number))
 
   module _ (at : Location) (small : at.node.slot < 18446744073709551616) where
+    -- a location that is seen is in the filesystem that code has for it
     pub seen_filesystem : is_seen value at ≡ true
         → filesystem_at nat_eq (world_of value) (location_of at)
         ≡ filesystem_seen (entry_at value.filesystems at.node.filesystem.count)
@@ -126,11 +128,13 @@ module _ (value : WorldValue) (held : IsHeld value) where
         (counted at.node.filesystem.count) seen)
         ∙ found_by_number value.filesystems at.node.filesystem.count
 
+    -- one that is not seen has no inode
     pub unseen_node : is_seen value at ≡ false → node_at nat_eq (world_of value) (location_of at) ≡ None
     unseen_node unseen =
         in_no_other value.filesystems held.own_inodes (mount_at nat_eq (world_of value) (location_of at)).filesystem
         at.node.filesystem.count at.node.slot small unseen
 
+    -- and counts as removed
     pub unseen_removed : is_seen value at ≡ false → is_removed_at nat_eq (world_of value) (location_of at) ≡ true
     unseen_removed unseen =
         let shown = shown_counted at.mount.count in
@@ -173,13 +177,14 @@ module _ (value : WorldValue) (held : IsHeld value) where
         (number_of at.node))
         (found_plain value.filesystems shown i)
 
+    -- a mount is a mount point of the location just where it stands over its inode
     pub point_seen : (mount : meant.Mount ℕ) → Among mount (mounts_in value.mounts)
         → list_any (λ (point : ℕ × ℕ). is_point nat_eq (world_of value) point.0 point.1 mount)
         (points_of nat_eq (world_of value) (location_of at))
         ≡ (is_seen value at && stands_over (number_of at.node) mount)
     point_seen mount m =
         ap (list_any (λ (point : ℕ × ℕ). is_point nat_eq (world_of value) point.0 point.1 mount)) points_are
-        ∙ or_nothing _
+        ∙ or-false _
         ∙ by mount.mount_point
         (and_parts (is_directory_node ((filesystem_numbered nat_eq
         (world_of value) mount.filesystem).files.tree.node mount.root))
@@ -214,6 +219,7 @@ module _ (value : WorldValue) (held : IsHeld value) where
             (and_parts (is_directory_at nat_eq (world_of value) place) true e).0)
             (nat_eq place.node (number_of at.node)) refl
 
+    -- one that passes stands there just where one stands over the inode that is seen
     pub any_point : (test : meant.Mount ℕ → Bool)
         → list_any test (mounts_on nat_eq (world_of value) (location_of at))
         ≡ (is_seen value at && list_any (λ mount. stands_over (number_of at.node) mount && test mount)
@@ -247,6 +253,7 @@ module _ (value : WorldValue) (held : IsHeld value) where
         (sym (ap (λ (mount : meant.Mount ℕ). mount.root) none) ∙ same))
         (found_or_none (mounts_in value.mounts) (counted at.mount.count)))
 
+    -- a location that is not seen lies under no root
     pub unseen_root : is_seen value at ≡ false
         → is_directory_under nat_eq (filesystem_at nat_eq (world_of value) (location_of at)).files
         (mount_at nat_eq (world_of value) (location_of at)).root (number_of at.node) ≡ false
@@ -255,6 +262,7 @@ module _ (value : WorldValue) (held : IsHeld value) where
         (mount_at nat_eq (world_of value) (location_of at)).root (number_of at.node) (unseen_node unseen)
         ∙ root_apart unseen
 
+    -- nor does one on a mount that is not there
     pub missing_root : mount_at nat_eq (world_of value) (location_of at) ≡ no_mount (counted at.mount.count)
         → is_directory_under nat_eq (filesystem_at nat_eq (world_of value) (location_of at)).files
         (mount_at nat_eq (world_of value) (location_of at)).root (number_of at.node) ≡ false

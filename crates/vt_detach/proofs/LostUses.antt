@@ -11,17 +11,20 @@ use Rattle.vt_count_laws.specs.Using.{Exchanges, is_inode}
 use Rattle.vt_fs.specs.FilesystemsValue.{Shown}
 use Rattle.vt_letting_go.specs.Counts.{inode_uses, times}
 use Rattle.vt_letting_go.specs.OneByOne.{Inode}
-use Rattle.vt_letting_go.proofs.Lists.{Among, among-from_filter, among-map, fails, map_alike, map_twice, none_passes}
+use Rattle.vt_letting_go.proofs.Lists.{Among, among-from_filter, among-map, fails, none_passes}
 use Rattle.vt_location.specs.Numbers.{counted}
 use Rattle.vt_mount.specs.MountsValue.{MountEntry, changed, entry_numbered, mounts_in}
 use Rattle.vt_mount_laws.specs.Mounts.Attaching.{OneNumberAMount}
 use Rattle.vt_detach.specs.Uses.{mounts_shown}
+use Rattle.vt_spec.proofs.Lists.{map_alike, map_twice}
 
+-- a fold over two lists put together is one after the other
 pub folded_append : {A B : Type 0} (f : A → B → A) (z : A) (xs ys : List B)
     → folded f z (xs ++ ys) ≡ folded f (folded f z xs) ys
 folded_append f z [] ys = refl
 folded_append f z (x ∷ xs) ys = folded_append f (f z x) xs ys
 
+-- a number is above zero where it is not zero
 pub positive : (a : ℕ) → nat_lt 0 a ≡ not (nat_eq a 0)
 positive a = by (nat_eq a 0) refl
   where
@@ -38,18 +41,7 @@ lost_alike gained lost other k one two same exchanges = record {
   uses = λ n. exchanges.uses n ∙ ap (λ t. inode_uses two (filesystem_numbered nat_eq two k) n + t) (same n);
 }
 
-pub filter_less : {A : Type 0} (p q : A → Bool) (xs : List A) → ((x : A) → Among x xs → q x ≡ false → p x ≡ false)
-    → filter p (filter q xs) ≡ filter p xs
-filter_less p q [] none = refl
-filter_less p q (x ∷ xs) none = by (q x) refl (p x) refl (filter_less p q xs (λ y m. none y (inr m)))
-  where
-    by : (b : Bool) → q x ≡ b → (c : Bool) → p x ≡ c → filter p (filter q xs) ≡ filter p xs
-        → filter p (cond b (x ∷ filter q xs) (filter q xs)) ≡ cond c (x ∷ filter p xs) (filter p xs)
-    by true e c f later = ap (λ d. cond d (x ∷ filter p (filter q xs)) (filter p (filter q xs))) f
-        ∙ ap (λ rest. cond c (x ∷ rest) rest) later
-    by false e true f later = absurd (true≢false (sym f ∙ none x (inl refl) e))
-    by false e false f later = later
-
+-- a filter that skips only what gives nothing
 pub flat_map_less : {A B : Type 0} (g : A → List B) (q : A → Bool) (xs : List A)
     → ((x : A) → Among x xs → q x ≡ false → g x ≡ [])
     → flat_map g (filter q xs) ≡ flat_map g xs
@@ -61,6 +53,7 @@ flat_map_less g q (x ∷ xs) none = by (q x) refl (flat_map_less g q xs (λ y m.
     by true e later = ap (λ rest. g x ++ rest) later
     by false e later = later ∙ ap (λ own. own ++ flat_map g xs) (sym (none x (inl refl) e))
 
+-- a filesystem that passes is found also where others are left out
 pub found_unless : (p : Filesystem ℕ → Bool) (filesystems : List (Filesystem ℕ)) (k : ℕ)
     → ((x : Filesystem ℕ) → Among x filesystems → x.number ≡ k → p x ≡ true)
     → unwrap_or (find (λ x. nat_eq k x.number) (filter p filesystems)) (no_filesystem k)
@@ -101,6 +94,7 @@ shown_by_rule f counts (first ∷ rest) each one m same =
 
 -- Mounts by their numbers
 
+-- mounts with one number each have it also where some are left out
 pub one_number_less : (p : Mount ℕ → Bool) (mounts : List (Mount ℕ)) → OneNumberAMount mounts
     → OneNumberAMount (filter p mounts)
 one_number_less p [] one = refl
@@ -116,6 +110,7 @@ one_number_less p (x ∷ xs) one =
         (λ y m. fails (λ b. nat_eq x.number b.number) xs others y (among-from_filter p xs y m).0) i || later i)
     by false others later = later
 
+-- an entry is found by its number
 pub entry_itself : (entries : List MountEntry) → OneNumberAMount (mounts_in entries) → (entry : MountEntry)
     → Among entry entries
     → entry_numbered entries entry.mount.number ≡ Some entry

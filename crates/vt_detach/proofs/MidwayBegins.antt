@@ -11,7 +11,7 @@ use Rattle.vt_spec.specs.Machine.Settled.{is_located, is_mounted, mount_lives, f
 use Rattle.vt_spec.specs.Machine.World.{Filesystem, Namespace, World, all_locations, is_directory_at, mount_at, mount_numbered, node_at}
 use Rattle.vt_spec.specs.Machine.Invariants.{Stands, has_its_root, is_located_well, is_nowhere_or_attached}
 use Rattle.vt_spec.specs.Machine.Invariants.Stands.{at_root, on_parent}
-use Rattle.vt_count_laws.specs.Using.{Exchanges, exchanged, is_inode, pinned_if, places_of}
+use Rattle.vt_count_laws.specs.Using.{Exchanges, pinned_if, places_of}
 use Rattle.vt_count_laws.proofs.using.MountRoots as Roots
 use Rattle.vt_count_laws.proofs.using.Places.{exchanges_follow, locations_use_mounts, mount_is_placed}
 use Rattle.vt_count_laws.proofs.using.Swept.{plain_of}
@@ -21,7 +21,7 @@ use Rattle.vt_letting_go.specs.Keeping.{LocationsStand}
 use Rattle.vt_letting_go.specs.Leaving.{MountsStand, stands_on_attached}
 use Rattle.vt_letting_go.specs.Mounting.{inode_at}
 use Rattle.vt_letting_go.specs.OneByOne.{Inode}
-use Rattle.vt_letting_go.proofs.Lists.{Among, all_pass, among-append, among-append_left, among-append_right, among-filter_map, among-from_map, among-map, among_from_all, map_alike, map_twice, passes}
+use Rattle.vt_letting_go.proofs.Lists.{Among, all_pass, among-append, among-append_left, among-append_right, among-filter_map, among-from_map, among-map, among_from_all, passes}
 use Rattle.vt_letting_go.proofs.sweeps.OfWorlds.{mounts_of_worlds_stand}
 use Rattle.vt_letting_go.proofs.leaving.PlacesLeft.{found_itself, no_layers}
 use Rattle.vt_letting_go.proofs.sweeps.UsesCounted.{located_while_counted, mounted_while_counted}
@@ -32,7 +32,6 @@ use Rattle.vt_world_laws.proofs.RaisedInUse.{worlds_are_in_use}
 use Rattle.vt_world_laws.proofs.worlds.Roots.{directory_there}
 use Rattle.vt_mount_laws.specs.Mounts.Attaching.{OneNumberAMount}
 use Rattle.vt_letting_go.specs.Attaching.{inodes_of_mount_point}
-use Rattle.vt_fs.proofs.TreesLookedAt.{or_nothing}
 use Rattle.vt_detach.specs.Held.{CountsItsMounts, CountsItsUses, IsHeld, writes_of}
 use Rattle.vt_detach.specs.Uses.{Kept, is_unused, kept}
 use Rattle.vt_detach.specs.WorldValue.{WorldValue, world_of}
@@ -40,6 +39,8 @@ use Rattle.vt_detach.proofs.LostUses.{positive}
 use Rattle.vt_detach.proofs.Midway.{IsShown, Midway, NoneUnused, Reached, gone_if, gone_number, point_left, points_left}
 use Rattle.vt_detach.proofs.Moving.{Moves, Use, filesystems_gained, gain, gained_there, held_counts, hold_if, inodes_of_uses, is_use_on, locations, mounts_gained, same_moved_mounts, times_mapped, uses_moved, writes_on_mount}
 use Rattle.vt_detach.proofs.Staying.{after, world_is_plain}
+use Rattle.vt_spec.proofs.Lists.{map_alike, map_twice}
+use Rattle.std.proofs.Math.Bool.{or-false}
 
 -- Mounts that are detached at once, in a world
 
@@ -383,7 +384,7 @@ module _ (value : WorldValue) (whole : IsHeld value) (tasks : Tasks) (more less 
       (CountsItsMounts world) value.filesystems whole.filesystems was m).mounts
       ∙ sym (positive (mounts_showing world (counted was.count)))
       ∙ sym (mounted_while_counted world (counted was.count))
-      ∙ sym (or_nothing (is_mounted nat_eq world (counted was.count)))
+      ∙ sym (or-false (is_mounted nat_eq world (counted was.count)))
       ∙ sym (ap (λ b. is_mounted nat_eq world (counted was.count) || b)
       (no_layers (counted was.count) world world.filesystems (plain_of world (world_is_plain value))))
       ∙ passes (filesystem_lives nat_eq world) world.filesystems (worlds_are_in_use world whole.in_world).filesystems

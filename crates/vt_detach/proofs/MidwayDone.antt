@@ -8,31 +8,32 @@ use Rattle.vt_spec.specs.Machine.SameWorlds.{without_changes}
 use Rattle.vt_spec.specs.Machine.Settled.{filesystem_lives, is_located, is_mounted, mount_lives, without_dead_filesystems, without_dead_mounts}
 use Rattle.vt_spec.specs.Machine.World.{Filesystem, Task, World}
 use Rattle.vt_count_laws.specs.Counted.{IsPlain}
-use Rattle.vt_count_laws.specs.Sweeping.{living}
 use Rattle.vt_count_laws.specs.Using.{Exchanges}
 use Rattle.vt_count_laws.proofs.using.Swept.{plain_of}
 use Rattle.vt_fs.specs.FilesystemsValue.{FilesystemEntry, Shown, shown_entry}
 use Rattle.vt_letting_go.specs.Counts.{mount_uses, mounts_showing}
 use Rattle.vt_letting_go.specs.OneByOne.{Inode}
 use Rattle.vt_letting_go.specs.Mounting.{inode_at}
-use Rattle.vt_letting_go.proofs.Lists.{Among, all_from_among, among-from_map, among-map, filter_all, flat_map_none, map_same, map_twice}
+use Rattle.vt_letting_go.proofs.Lists.{Among, all_from_among, among-from_map, among-map, filter_all, flat_map_none, map_same}
 use Rattle.vt_letting_go.proofs.leaving.PlacesLeft.{no_layers}
 use Rattle.vt_letting_go.proofs.sweeps.UsesCounted.{located_while_counted, mounted_while_counted}
 use Rattle.vt_location.specs.declared.locations.Location.{Location as Place}
 use Rattle.vt_location.specs.Numbers.{counted}
 use Rattle.vt_mount.specs.MountsValue.{MountEntry, mounts_in}
 use Rattle.vt_letting_go.specs.Attaching.{inodes_of_mount_point}
-use Rattle.vt_fs.proofs.TreesLookedAt.{or_nothing}
 use Rattle.vt_detach.specs.Held.{CountsItsUses, CountsWhatIsInIt, IsHeld, writes_of}
 use Rattle.vt_detach.specs.NamespacesLeft.{AreDetached, Detached}
 use Rattle.vt_detach.specs.Uses.{Kept, kept, without_attachment, without_use}
 use Rattle.vt_detach.specs.WorldValue.{WorldValue, world_of}
 use Rattle.vt_detach.proofs.Bridging.{IsSwept}
 use Rattle.vt_detach.proofs.Finishing.{CountsBeside}
-use Rattle.vt_detach.proofs.Midway.{IsGoing, IsShown, Midway, NoneUnused, Reached, gone_if, left_alone, mount_taken, point_left, points_left, taken_alone, use_left}
+use Rattle.vt_detach.proofs.Midway.{IsGoing, Midway, Reached, gone_if, left_alone, mount_taken, point_left, points_left, taken_alone, use_left}
 use Rattle.vt_detach.proofs.MidwayGoes.{mount_looked_at}
 use Rattle.vt_detach.proofs.Moving.{Use, inodes_of_uses}
 use Rattle.vt_detach.proofs.LostUses.{positive}
+use Rattle.vt_spec.proofs.Lists.{map_twice}
+use Rattle.std.proofs.Math.Bool.{or-false}
+use Rattle.vt_letting_go.specs.TreesOverlays.{in_use_of}
 
 -- one use less of a location of a world, as code leaves it
 abbrev pub leave_use : World ℕ → Kept → Use → Kept
@@ -139,13 +140,13 @@ module _ (value : WorldValue) (start : World ℕ) (gained : List Inode) (goes : 
       (among-map (λ (x : Filesystem ℕ). x.number) now.filesystems f m)) in
       let is = mid.shown from.0 from.1 in
       ap (λ b. is_mounted nat_eq now f.number || b) (no_layers f.number now now.filesystems (plain_of now mid.plain))
-      ∙ or_nothing (is_mounted nat_eq now f.number)
+      ∙ or-false (is_mounted nat_eq now f.number)
       ∙ mounted_while_counted now f.number
       ∙ positive (mounts_showing now f.number)
       ∙ ap (λ n. not (nat_eq n 0)) (ap (mounts_showing now) from.2 ∙ sym is.mounts)
       ∙ ap not is.mounted
 
-  living_is : living start ≡ now
+  living_is : in_use_of start ≡ now
   living_is =
       sym mid.same
       ∙ ap (without_dead_filesystems nat_eq) still
@@ -179,7 +180,7 @@ module _ (value : WorldValue) (start : World ℕ) (gained : List Inode) (goes : 
       count = is.count;
       there = is.there;
       inodes = is.inodes;
-      exchanges = subst (λ count. Exchanges gained at.lost (counted count) (world_of value) (living start)) is.count
+      exchanges = subst (λ count. Exchanges gained at.lost (counted count) (world_of value) (in_use_of start)) is.count
           (subst (λ w. Exchanges gained at.lost (counted entry.count) (world_of value) w) (sym living_is)
           (subst (λ lost. Exchanges gained lost (counted entry.count) (world_of value) now) nothing_rests
           (mid.exchanges (shown_entry entry) (shown_of entry m))));

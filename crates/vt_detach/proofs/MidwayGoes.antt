@@ -13,7 +13,6 @@ use Rattle.vt_spec.specs.Machine.Settled.{filesystem_lives, is_located, is_mount
 use Rattle.vt_spec.specs.Machine.World.{Filesystem, World, all_locations, is_overlay, mount_at, mount_numbered}
 use Rattle.vt_spec.specs.Machine.Invariants.{is_nowhere_or_attached}
 use Rattle.vt_count_laws.specs.Counted.{IsPlain}
-use Rattle.vt_count_laws.specs.Sweeping.{living}
 use Rattle.vt_count_laws.specs.Using.{Exchanges, is_inode, pinned_if, unpinned_if}
 use Rattle.vt_count_laws.proofs.going.Gone.{mount_takes_its_count}
 use Rattle.vt_count_laws.proofs.using.MountRoots as Roots
@@ -24,7 +23,7 @@ use Rattle.vt_letting_go.specs.Counts.{mount_uses, mounts_showing, times}
 use Rattle.vt_letting_go.specs.Keeping.{LocationsStand}
 use Rattle.vt_letting_go.specs.Leaving.{MountsStand, stands_on_attached}
 use Rattle.vt_letting_go.specs.OneByOne.{Inode, is_mount_used, without_mount}
-use Rattle.vt_letting_go.proofs.Lists.{Among, all_from_among, all_pass, among-filter, among-from_filter, among-from_map, among-map, among_from_all, among_numbers, fails, filter-map, filter_all, filter_alike, is_among_numbers, map_alike, map_twice, none_passes, passes}
+use Rattle.vt_letting_go.proofs.Lists.{Among, all_from_among, all_pass, among-filter, among-from_filter, among-from_map, among-map, among_from_all, among_numbers, fails, filter-map, filter_all, filter_alike, is_among_numbers, none_passes, passes, filter_less}
 use Rattle.vt_letting_go.proofs.leaving.PlacesLeft.{found_itself, no_layers}
 use Rattle.vt_letting_go.proofs.sweeps.UsesCounted.{located_while_counted, mounted_while_counted}
 use Rattle.vt_location.specs.Numbers.{counted}
@@ -32,14 +31,16 @@ use Rattle.vt_mount.specs.MountsValue.{MountEntry, entry_numbered, mounts_in, wi
 use Rattle.vt_letting_go.proofs.sweeps.UpperUses.{times_append}
 use Rattle.vt_mount_laws.specs.Mounts.Attaching.{OneNumberAMount}
 use Rattle.vt_letting_go.specs.Attaching.{inodes_of_mount_point}
-use Rattle.vt_fs.proofs.TreesLookedAt.{or_nothing}
 use Rattle.vt_detach.specs.Held.{IsHeld}
 use Rattle.vt_detach.specs.Uses as meant
 use Rattle.vt_detach.specs.Uses.{Kept, is_unused, let_go_entry, mounts_shown, released_if}
 use Rattle.vt_detach.specs.WorldValue.{WorldValue, world_of}
-use Rattle.vt_detach.proofs.LostUses.{entry_found_at, entry_itself, filter_less, flat_map_less, folded_append, found_unless, lost_alike, one_number_less, shown_by_rule}
+use Rattle.vt_detach.proofs.LostUses.{entry_found_at, entry_itself, flat_map_less, folded_append, found_unless, lost_alike, one_number_less, shown_by_rule}
 use Rattle.vt_detach.proofs.Midway.{IsShown, Midway, NoneUnused, Reached, UnusedOnly, gone_if, gone_number, one_number_kept, point_left, points_left, unused_parts}
 use Rattle.vt_detach.proofs.Moving.{Use, inodes_of_uses, swap_eq}
+use Rattle.vt_spec.proofs.Lists.{map_alike, map_twice}
+use Rattle.std.proofs.Math.Bool.{or-false}
+use Rattle.vt_letting_go.specs.TreesOverlays.{in_use_of}
 
 -- What the sweep leaves when a dead mount and filesystems that no mount shows are gone already
 
@@ -67,7 +68,7 @@ module _ (now : World ℕ) (number : ℕ) (stays : ℕ → Bool) (plain : IsPlai
   lives_is : (v : World ℕ) → IsPlain v → (f : Filesystem ℕ) → filesystem_lives nat_eq v f ≡ is_mounted nat_eq v f.number
   lives_is v is f =
       ap (λ b. is_mounted nat_eq v f.number || b) (no_layers f.number v v.filesystems (plain_of v is))
-      ∙ or_nothing (is_mounted nat_eq v f.number)
+      ∙ or-false (is_mounted nat_eq v f.number)
 
   plain_second : IsPlain second
   plain_second =
@@ -99,7 +100,7 @@ module _ (now : World ℕ) (number : ℕ) (stays : ℕ → Bool) (plain : IsPlai
       (filesystem_lives nat_eq (without_dead_mounts nat_eq now)) now.filesystems
       (λ f m. sym (lives_is (without_dead_mounts nat_eq now) plain f))
 
-  pub living_alike : living second ≡ living now
+  pub living_alike : in_use_of second ≡ in_use_of now
   living_alike = λ i. record now { mounts = same_left i; filesystems = same_filesystems i }
 
   pub second_is_plain : IsPlain second
@@ -148,8 +149,9 @@ module _ (value : WorldValue) (whole : IsHeld value) (start : World ℕ) (gained
     mount_is : mount_numbered nat_eq now number ≡ mount
     mount_is = ap (mount_numbered nat_eq now) among.1 ∙ found_itself now.mounts mid.stand.one_number mount in_now
 
-    there : is_among nat_eq number (map (λ x. x.number) now.mounts) ≡ true
-    there = is_among_numbers number (map (λ x. x.number) now.mounts)
+    -- the mount is one of the world
+    mount_listed : is_among nat_eq number (map (λ x. x.number) now.mounts) ≡ true
+    mount_listed = is_among_numbers number (map (λ x. x.number) now.mounts)
         (subst (λ n. Among n (map (λ (x : Mount ℕ). x.number) now.mounts)) (sym among.1)
         (among-map (λ (x : Mount ℕ). x.number) now.mounts mount in_now))
 
@@ -195,7 +197,7 @@ module _ (value : WorldValue) (whole : IsHeld value) (start : World ℕ) (gained
 
     takes : (n : ℕ) → mounts_showing now n ≡ mounts_showing first n + cond (nat_eq f n) 1 0
     takes n =
-        mount_takes_its_count now number n mid.stand.one_number there
+        mount_takes_its_count now number n mid.stand.one_number mount_listed
         ∙ ap (λ (x : Mount ℕ). mounts_showing first n + cond (nat_eq n x.filesystem) 1 0) mount_is
         ∙ ap (λ b. mounts_showing first n + cond b 1 0) (swap_eq n f)
 
@@ -468,7 +470,7 @@ module _ (value : WorldValue) (whole : IsHeld value) (start : World ℕ) (gained
         let rest = inodes_of_uses world left ++ points_left world goes k.mounts in
         let root_is : Exchanges [] (root ∷ []) c now first = subst
         (λ (x : Mount ℕ). Exchanges [] ((x.filesystem, x.root) ∷ []) c now first) mount_is
-        (Roots.mounts_leave_their_roots now number mid.stand mid.located there not_used c) in
+        (Roots.mounts_leave_their_roots now number mid.stand mid.located mount_listed not_used c) in
         let gone = others_use_nothing first after c mid.plain
         (second_is_plain now number stays mid.plain dead bare) refl refl
         (found_unless (λ (g : Filesystem ℕ). stays g.number) now.filesystems c (λ x m e. ap stays e ∙ stay)) in

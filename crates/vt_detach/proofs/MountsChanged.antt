@@ -12,7 +12,6 @@ use Rattle.vt_spec.specs.Machine.Mounts.{Mount, no_mount}
 use Rattle.vt_spec.specs.Machine.Permits.{Permit}
 use Rattle.vt_spec.specs.Machine.Settled.{filesystem_lives, has_layer_on, is_located, is_mounted, mount_lives, settled, without_dead_filesystems, without_dead_mounts}
 use Rattle.vt_spec.specs.Machine.World.{Filesystem, Task, World, mount_numbered, with_mounts}
-use Rattle.vt_count_laws.specs.Sweeping.{living}
 use Rattle.vt_count_laws.specs.Using.{AreThere, Exchanges}
 use Rattle.vt_count_laws.proofs.using.Places.{mount_is_placed}
 use Rattle.vt_fs.specs.FilesystemsValue.{FilesystemEntry, Filesystems, Shown, filesystem_seen, inodes_seen, shown, shown_entry}
@@ -21,7 +20,7 @@ use Rattle.vt_letting_go.specs.Counts.{mounts_showing, times}
 use Rattle.vt_letting_go.specs.InUse.{AllInUse}
 use Rattle.vt_letting_go.specs.Mounting.{inode_at}
 use Rattle.vt_letting_go.specs.OneByOne.{Inode}
-use Rattle.vt_letting_go.proofs.Lists.{Among, all_from_among, among-from_map, among-map, among_from_all, any-map, filter_all, map_twice, passes}
+use Rattle.vt_letting_go.proofs.Lists.{Among, all_from_among, among-from_map, among-map, among_from_all, any-map, filter_all, passes}
 use Rattle.vt_location.specs.Numbers.{counted}
 use Rattle.vt_mount.specs.MountsValue.{MountEntry, changed, entry_numbered, mounts_in}
 use Rattle.vt_world_laws.proofs.RaisedInUse.{worlds_are_in_use}
@@ -34,6 +33,8 @@ use Rattle.vt_detach.proofs.Moving.{exchanged_shown}
 use Rattle.vt_detach.proofs.Remaining.{remade}
 use Rattle.vt_detach.proofs.Shown.{found_entry}
 use Rattle.vt_detach.proofs.Staying.{IsDone, world_is_plain}
+use Rattle.vt_spec.proofs.Lists.{map_twice}
+use Rattle.vt_letting_go.specs.TreesOverlays.{in_use_of}
 
 -- the mount keeps its number, its namespace and what it shows
 pub record KeepsWhatItShows (change : Mount ℕ → Mount ℕ) : Type 0 where
@@ -141,7 +142,7 @@ module _ (value : WorldValue) (whole : IsHeld value) (number : ℕ) (change : Mo
       (λ (entry : MountEntry). entry.mount) value.mounts)
 
   -- all mounts and filesystems are still in use
-  living_is : living next_of ≡ next_of
+  living_is : in_use_of next_of ≡ next_of
   living_is =
       ap (without_dead_filesystems nat_eq) mounts_stay
       ∙ ap (λ all. record next_of { filesystems = all })

@@ -18,9 +18,9 @@ use Rattle.vt_letting_go.specs.Counts.{mount_uses, mounts_showing}
 use Rattle.vt_letting_go.specs.Keeping.{LocationsStand}
 use Rattle.vt_letting_go.specs.Leaving.{MountsStand, stands_on_attached}
 use Rattle.vt_letting_go.specs.Mounting.{root_inode}
-use Rattle.vt_letting_go.specs.OneByOne.{Inode, MountsInUseBut, is_mount_used, without_mount}
+use Rattle.vt_letting_go.specs.OneByOne.{Inode, is_mount_used, without_mount}
 use Rattle.vt_letting_go.specs.OneByOne as Looks
-use Rattle.vt_letting_go.proofs.Lists.{Among, all_from_among, all_pass, among-filter, among-from_filter, among-from_map, among-map, among_from_all, among_numbers, fails, filter-map, filter_all, filter_alike, is_among_numbers, map_alike, map_twice, or_second, passes}
+use Rattle.vt_letting_go.proofs.Lists.{Among, all_from_among, all_pass, among-filter, among-from_filter, among-from_map, among-map, among_from_all, among_numbers, fails, filter-map, filter_all, filter_alike, is_among_numbers, or_second, passes}
 use Rattle.vt_letting_go.proofs.leaving.PlacesLeft.{found_in_filter}
 use Rattle.vt_letting_go.proofs.sweeps.UpperUses.{times_append}
 use Rattle.vt_letting_go.proofs.sweeps.UsesCounted.{located_while_counted, mounted_while_counted}
@@ -30,13 +30,14 @@ use Rattle.vt_detach.specs.Held.{CountsItsUses}
 use Rattle.vt_detach.specs.Uses as meant
 use Rattle.vt_detach.specs.Uses.{Kept, mounts_shown, released_if}
 use Rattle.vt_detach.specs.WorldValue.{WorldValue, world_of}
-use Rattle.vt_detach.proofs.Going.{map_filtered, or_all}
-use Rattle.vt_detach.proofs.Keeping.{IsKeptBut, IsShownIn, detached_in, folded_append, lives_plainly, looked_at, pair_in_filter, points_lost, points_without}
+use Rattle.vt_detach.proofs.Going.{map_filtered}
+use Rattle.vt_detach.proofs.Keeping.{IsKeptBut, IsShownIn, detached_in, lives_plainly, looked_at, points_lost, points_without}
 use Rattle.vt_detach.proofs.Leaving.{found_it}
 use Rattle.vt_detach.proofs.Moving.{swap_eq}
 use Rattle.vt_detach.proofs.Shown.{found_entry}
-use Rattle.vt_detach.proofs.LostUses.{found_unless, positive, shown_by_rule}
-use Rattle.vt_fs.proofs.TreesLookedAt.{or_nothing}
+use Rattle.vt_detach.proofs.LostUses.{found_unless, positive, shown_by_rule, folded_append}
+use Rattle.vt_spec.proofs.Lists.{map_alike, map_twice, pair-filter}
+use Rattle.std.proofs.Math.Bool.{or-false, or-true}
 
 -- Mounts that are changed, by their numbers
 
@@ -164,11 +165,12 @@ module _ (old : WorldValue) (number : ℕ) (pending : List ℕ) (gained lost : L
     abbrev seen : Mount ℕ
     seen = detached_in pending mount
 
-    found : Among entry k.mounts × (nat_eq number entry.mount.number ≡ true)
-    found = found_it (λ (x : MountEntry). nat_eq number x.mount.number) k.mounts entry e
+    -- the entry is one of those kept, with the number
+    entry_found : Among entry k.mounts × (nat_eq number entry.mount.number ≡ true)
+    entry_found = found_it (λ (x : MountEntry). nat_eq number x.mount.number) k.mounts entry e
 
     numbered : number ≡ mount.number
-    numbered = eqb-true number mount.number found.1
+    numbered = eqb-true number mount.number entry_found.1
 
     mount_is : mount_numbered nat_eq world number ≡ seen
     mount_is = ap (λ o. unwrap_or o (no_mount number))
@@ -184,7 +186,7 @@ module _ (old : WorldValue) (number : ℕ) (pending : List ℕ) (gained lost : L
     nowhere_so = ap (λ (x : Mount ℕ). is_some x.namespace) mount_is ∙ pending_nowhere pending mount nowhere
 
     uses_are : entry.uses ≡ mount_uses world number
-    uses_are = (among_from_all (CountsItsUses world) k.mounts is.uses entry found.0).uses
+    uses_are = (among_from_all (CountsItsUses world) k.mounts is.uses entry entry_found.0).uses
         ∙ ap (mount_uses world) (sym numbered)
 
     looked : (c : Bool) → nat_lt 0 entry.uses ≡ c
@@ -199,15 +201,16 @@ module _ (old : WorldValue) (number : ℕ) (pending : List ℕ) (gained lost : L
     kept_is b c f g =
         ap (meant.let_go_entry number k) e ∙ (λ i. cond (not (f i) && g i) (meant.without_mount number mount k) k)
 
-    there : is_among nat_eq number (map (λ x. x.number) world.mounts) ≡ true
-    there =
+    -- the mount is one of the world
+    mount_listed : is_among nat_eq number (map (λ x. x.number) world.mounts) ≡ true
+    mount_listed =
         is_among_numbers number (map (λ (x : Mount ℕ). x.number) world.mounts)
         (subst (λ n. Among n (map (λ (x : Mount ℕ). x.number) world.mounts))
         (pending_number pending mount ∙ sym numbered)
         (among-map (λ (x : Mount ℕ). x.number) world.mounts seen
         (subst (λ all. Among seen all) (sym is.mounts)
         (among-map (detached_in pending) (mounts_in k.mounts) mount
-        (among-map (λ (x : MountEntry). x.mount) k.mounts entry found.0)))))
+        (among-map (λ (x : MountEntry). x.mount) k.mounts entry entry_found.0)))))
 
     -- where nothing is on it
     module _ (unused : mount_uses world number ≡ 0)
@@ -252,7 +255,7 @@ module _ (old : WorldValue) (number : ℕ) (pending : List ℕ) (gained lost : L
 
       takes : (n : ℕ) → mounts_showing world n ≡ mounts_showing mounted n + cond (nat_eq mount.filesystem n) 1 0
       takes n =
-          mount_takes_its_count world number n is.stand.one_number there
+          mount_takes_its_count world number n is.stand.one_number mount_listed
           ∙ ap (λ f. mounts_showing mounted n + cond (nat_eq n f) 1 0) shows
           ∙ ap (λ b. mounts_showing mounted n + cond b 1 0) (swap_eq n mount.filesystem)
 
@@ -313,14 +316,14 @@ module _ (old : WorldValue) (number : ℕ) (pending : List ℕ) (gained lost : L
               (same ∙ shown_one.2 ∙ ap counted (sym (step_is shown_one.0 shown_one.1).0)) in
               ap (λ n. not (nat_eq (mounts_showing mounted n) 0)) (sym same)
               ∙ ap (λ n. not (nat_eq n 0)) (sym counts)
-              ∙ sym (or_nothing (not none_left))
+              ∙ sym (or-false (not none_left))
               ∙ ap (λ b. not none_left || not b) (sym h)
           by false h =
               let took : mounts_showing world f.number ≡ mounts_showing mounted f.number + 0 =
               takes f.number ∙ ap (λ b. mounts_showing mounted f.number + cond b 1 0) h in
               let same : mounts_showing mounted f.number ≡ mounts_showing world f.number = omega (arith, took) in
               ap (λ n. not (nat_eq n 0)) same ∙ was_mounted
-              ∙ sym (or_all (not none_left)) ∙ ap (λ b. not none_left || not b) (sym h)
+              ∙ sym (or-true (not none_left)) ∙ ap (λ b. not none_left || not b) (sym h)
 
       abbrev remaining : World ℕ
       remaining = record mounted {
@@ -354,7 +357,7 @@ module _ (old : WorldValue) (number : ℕ) (pending : List ℕ) (gained lost : L
       root_goes : (n : ℕ) → stays_numbered n ≡ true → Exchanges [] (root ∷ []) n world remaining
       root_goes n stays =
           let first = subst (λ inode. Exchanges [] (inode ∷ []) n world mounted) root_is
-          (Roots.mounts_leave_their_roots world number is.stand is.located there unused_so n) in
+          (Roots.mounts_leave_their_roots world number is.stand is.located mount_listed unused_so n) in
           let second = others_use_nothing mounted remaining n is.plain plain_remaining refl refl
           (found_unless (λ (f : Filesystem ℕ). stays_numbered f.number) world.filesystems n
           (λ x m f. ap stays_numbered f ∙ stays)) in
@@ -385,7 +388,7 @@ module _ (old : WorldValue) (number : ℕ) (pending : List ℕ) (gained lost : L
 
       stand_still : MountsStand remaining
       stand_still = record {
-        one_number = pair_in_filter (λ
+        one_number = pair-filter (λ
             (a b : Mount ℕ). nat_eq a.number b.number) is_other world.mounts is.stand.one_number;
         nowhere = all_pass is_nowhere_or_attached remaining.mounts (λ x m.
             passes is_nowhere_or_attached world.mounts is.stand.nowhere x

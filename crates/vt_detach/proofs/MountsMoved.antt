@@ -3,7 +3,7 @@ use Rattle.std.proofs.Common.{◌≡◌, ◌<◌, refl, sym, ap, subst, ◌∙�
 use Rattle.std.specs.Prelude.{filter_map, find, option_to_list}
 use Rattle.std.specs.List.{cons_option, list_all, list_any}
 use Rattle.std.proofs.lemmas.Bool.{and_parts, or_parts}
-use Rattle.std.proofs.lemmas.List.{append-nil}
+use Rattle.std.proofs.lemmas.List.{append-nil, map-id}
 use Rattle.vt_spec.specs.Language.Calls.{TaskName}
 use Rattle.vt_spec.specs.Lists.{Fresh, any_pair, folded}
 use Rattle.vt_spec.specs.Machine.Attach.{Copies, Twig, attach, copies_from, masters_with, twig_master}
@@ -21,7 +21,7 @@ use Rattle.vt_fs.specs.FilesystemsValue.{FilesystemEntry, Filesystems, filesyste
 use Rattle.vt_letting_go.specs.Mounting.{inode_at}
 use Rattle.vt_letting_go.specs.OneByOne.{Inode}
 use Rattle.vt_letting_go.specs.Leaving.{stands_on_attached}
-use Rattle.vt_letting_go.proofs.Lists.{Among, among-map, is_among_numbers, map_twice, passes}
+use Rattle.vt_letting_go.proofs.Lists.{Among, among-map, is_among_numbers, passes}
 use Rattle.vt_letting_go.proofs.sweeps.OfWorlds.{mounts_of_worlds_stand}
 use Rattle.vt_letting_go.proofs.leaving.PlacesLeft.{found_is_there}
 use Rattle.vt_location.specs.declared.locations.Location.{Location as At}
@@ -52,6 +52,7 @@ use Rattle.vt_detach.proofs.Staying.{IsDone}
 use Rattle.vt_detach.proofs.TypesSet.{attached_named}
 use Rattle.vt_detach.proofs.TreesInNamespaces.{in_tree}
 use Rattle.vt_spec.proofs.Options.{none_from_not_some}
+use Rattle.vt_spec.proofs.Lists.{map_twice}
 
 -- the mount of a location stands at another mount point
 abbrev pub placed_at : Location ℕ → Mount ℕ → Mount ℕ
@@ -106,8 +107,9 @@ module _ (value : WorldValue) (held : IsHeld value) (number namespace : ℕ) (pl
   abbrev put : Mount ℕ
   put = placed_at place (mount_numbered nat_eq (world_of value) number)
 
-  one : any_pair (λ (a b : Mount ℕ). nat_eq a.number b.number) (mounts_in value.mounts) ≡ false
-  one = held.in_world.mounts.one_number
+  -- each number is that of one mount
+  one_number : any_pair (λ (a b : Mount ℕ). nat_eq a.number b.number) (mounts_in value.mounts) ≡ false
+  one_number = held.in_world.mounts.one_number
 
   first_put : with_mount nat_eq (mounts_in value.mounts) put
       ≡ map (one_changed number (placed_at place)) (mounts_in value.mounts)
@@ -125,7 +127,7 @@ module _ (value : WorldValue) (held : IsHeld value) (number namespace : ℕ) (pl
           → cond b put mount ≡ cond b (placed_at place mount) mount
       by mount m true e =
           ap (placed_at place) (ap (mount_numbered nat_eq world) (eqb-true number mount.number e)
-          ∙ found_itself mounts one mount m)
+          ∙ found_itself mounts one_number mount m)
       by mount m false e = refl
 
   module _ (rest : List (Mount ℕ))
@@ -151,7 +153,7 @@ module _ (value : WorldValue) (held : IsHeld value) (number namespace : ℕ) (pl
         spec.none_among (λ (other : Mount ℕ). nat_eq top.number other.number) rest
         (or_parts (list_any (λ (other : Mount ℕ). nat_eq top.number other.number) rest) _
         (subst (λ list. any_pair (λ (a b : Mount ℕ). nat_eq a.number b.number) list ≡ false) is_tree
-        (trees_have_each_once world number one held.in_world.mounts.standing))).0 mount m
+        (trees_have_each_once world number one_number held.in_world.mounts.standing))).0 mount m
 
     top_copied : copy top ≡ put
     top_copied = λ i. record top {
@@ -191,7 +193,7 @@ module _ (value : WorldValue) (held : IsHeld value) (number namespace : ℕ) (pl
     mounts_after =
         ap (folded (with_mount nat_eq) mounts) all_copied
         ∙ puts_themselves (with_mount nat_eq mounts put)
-        (one_number_by_numbers mounts (with_mount nat_eq mounts put) (numbers-with_mount put mounts) one)
+        (one_number_by_numbers mounts (with_mount nat_eq mounts put) (numbers-with_mount put mounts) one_number)
         rest (λ mount m.
         subst (λ x. spec.Among x (with_mount nat_eq mounts put)) (ap (λ b. cond b put mount) (another mount m))
         (spec.among-map (replaced_if_same nat_eq put) mounts mount
@@ -211,10 +213,6 @@ module _ (value : WorldValue) (held : IsHeld value) (number namespace : ℕ) (pl
         no_group_made Private = refl
         no_group_made Unbindable = refl
 
-  map_itself : (list : List (Mount ℕ)) → map (λ (mount : Mount ℕ). mount) list ≡ list
-  map_itself [] = refl
-  map_itself (mount ∷ list) = ap (λ others. mount ∷ others) (map_itself list)
-
   -- where the destination's mount is not shared
   pub tree_moved : (fresh : Fresh ℕ) → group_of (mount_at nat_eq (world_of value) place).propagation ≡ None
       → attach nat_eq (world_of value) fresh place true
@@ -226,7 +224,7 @@ module _ (value : WorldValue) (held : IsHeld value) (number namespace : ℕ) (pl
       ap (λ list. attach nat_eq world fresh place true list) begins.1
       ∙ at_destination world place (top ∷ begins.0) alone true fresh
       ∙ (λ i. record world {
-        mounts = (append-nil _ ∙ append-nil _ ∙ map_itself _ ∙ mounts_after begins.0 begins.1 new
+        mounts = (append-nil _ ∙ append-nil _ ∙ map-id _ ∙ mounts_after begins.0 begins.1 new
             ∙ sym (mounts_changed number (placed_at place) value.mounts)) i;
         master = folded (masters_with nat_eq) world.master
             (made_none begins.0 begins.1 new (top ∷ begins.0) i ++ []);
@@ -274,8 +272,9 @@ module _ (value : WorldValue) (whole : IsHeld value) (name : TaskName) (number :
   may : MayMoveTo (world_of value) permits.task number (location_of place)
   may = (permit_fits value whole name (ToMove number (location_of place)) permits).names
 
-  well : is_located_well nat_eq (world_of value) (location_of place) ≡ true
-  well = may.destination.directory.reached.there
+  -- the place is a location of the world
+  place_located : is_located_well nat_eq (world_of value) (location_of place) ≡ true
+  place_located = may.destination.directory.reached.there
 
   abbrev gained : List Inode
   gained = inode_at (world_of value) (location_of place) ∷ []
@@ -284,7 +283,7 @@ module _ (value : WorldValue) (whole : IsHeld value) (name : TaskName) (number :
   lost = map (inode_at (world_of value)) (option_to_list (mount_numbered nat_eq (world_of value) number).mount_point)
 
   place_inode : inode_of place.node ≡ inode_at (world_of value) (location_of place)
-  place_inode = λ i. (sym (seen_where_located value whole place small well) i, number_of place.node)
+  place_inode = λ i. (sym (seen_where_located value whole place small place_located) i, number_of place.node)
 
   shown_moved : (o : Option At) → option_map location_of o ≡ (mount_numbered nat_eq (world_of value) number).mount_point
       → ((point : At) → o ≡ Some point → point.node.slot < 18446744073709551616)
@@ -321,7 +320,7 @@ module _ (value : WorldValue) (whole : IsHeld value) (name : TaskName) (number :
           (sym (found_filesystem there_world.filesystems whole.in_world.files.one_filesystem (filesystem_seen was)
           (among-map filesystem_seen value.filesystems was m))
           ∙ ap (filesystem_numbered nat_eq there_world) (eqb-true _ _ e))
-          ∙ (and_parts _ _ well).1
+          ∙ (and_parts _ _ place_located).1
 
   pub mount_is_moved : IsDone value name (ToMove number (location_of place))
       (remade value (changed number (λ entry.
@@ -346,7 +345,7 @@ module _ (value : WorldValue) (whole : IsHeld value) (name : TaskName) (number :
         called = permits.called;
         given = permits.given;
         named = λ i. attached_named value whole number permits.task.namespace may.own i
-            && located_is_named value whole (location_of place) well i;
+            && located_is_named value whole (location_of place) place_located i;
         applied = λ fresh.
             tree_moved value whole number permits.task.namespace
             (location_of place) may.own may.destination.own may.placed fresh

@@ -12,7 +12,7 @@ use Rattle.vt_spec.specs.Machine.Receives.{regrouped}
 use Rattle.vt_spec.specs.Machine.World.{Namespace, Task, World, mount_at, mount_numbered, with_mounts}
 use Rattle.vt_spec.specs.Machine.Invariants.{is_listed}
 use Rattle.vt_letting_go.specs.Counts.{times}
-use Rattle.vt_letting_go.proofs.Lists.{Among, all_from_among, among-from_filter, among-from_map, among-map, among_numbers, any_passes, filter_all, is_among_numbers, map_alike, none_passes}
+use Rattle.vt_letting_go.proofs.Lists.{Among, all_from_among, among-from_filter, among-from_map, among-map, among_numbers, any_passes, filter_all, is_among_numbers, none_passes}
 use Rattle.vt_letting_go.proofs.leaving.PlacesLeft.{found_itself}
 use Rattle.vt_location.specs.Numbers.{counted}
 use Rattle.vt_tasks.specs.TasksValue.{Tasks}
@@ -23,6 +23,7 @@ use Rattle.vt_detach.specs.WorldValue.{NamespaceEntry, namespace_of}
 use Rattle.vt_detach.proofs.LostUses.{positive}
 use Rattle.vt_detach.proofs.Midway.{gone_if}
 use Rattle.vt_location.proofs.NumberLemmas.{counted_test}
+use Rattle.vt_spec.proofs.Lists.{map_alike}
 
 -- Mounts that are taken away, and no mount that stays is on them
 

@@ -9,6 +9,7 @@ use Rattle.vt_count_laws.specs.Using.{pinned_if, unpinned_if}
 use Rattle.vt_detach.specs.Uses.{Kept, let_go_entry, let_go_filesystem, let_go_mount, mounts_shown, pinned_in, released_in, unpinned_in, without_filesystem, without_mount}
 use Rattle.vt_location.proofs.NumberLemmas.{counted_test}
 
+-- a comparison of counted numbers is one of the counts, turned round
 pub counted_eq_back : (a b : ℕ) → nat_eq (counted a) (counted b) ≡ nat_eq b a
 counted_eq_back a b = counted_test a b ∙ by (nat_eq a b) refl
   where
@@ -32,6 +33,7 @@ changed_inodes count change changed_so same (one ∷ rest) =
     by true = refl
     by false = refl
 
+-- a use more of an inode shows as one
 pub pins : (count number : ℕ) (old new : Filesystems)
     → ChangesInodes count (λ inodes. pinned nat_eq inodes number) old new
     → shown new ≡ pinned_in (counted count, number) (shown old)
@@ -41,6 +43,7 @@ pins count number old new changes =
     (λ filesystem inodes. pinned_if filesystem inodes (counted count, number))
     (λ other inodes. ap (λ b. cond b (pinned nat_eq inodes number) inodes) (counted_eq_back other count)) (shown old)
 
+-- and a use less
 pub unpins : (count number : ℕ) (old new : Filesystems)
     → ChangesInodes count (λ inodes. unpinned nat_eq inodes number) old new
     → shown new ≡ unpinned_in (counted count, number) (shown old)
@@ -66,6 +69,7 @@ releases count (entry ∷ rest) =
     by true = refl
     by false = refl
 
+-- a filesystem that is removed shows no more
 pub removes : (count : ℕ) (old : Filesystems)
     → shown (without count old) ≡ without_filesystem (counted count) (shown old)
 removes count [] = refl
@@ -81,6 +85,7 @@ removes count (entry ∷ rest) =
     by true later = later
     by false later = ap (λ others. shown_entry entry ∷ others) later
 
+-- how many mounts show a filesystem is what its entry counts
 pub mounts_are_shown : (count : ℕ) (filesystems : Filesystems)
     → (entry_at filesystems count).mounts ≡ mounts_shown (counted count) (shown filesystems)
 mounts_are_shown count [] = refl
@@ -114,6 +119,7 @@ found_entry number (entry ∷ rest) = by (nat_eq number entry.mount.number) (fou
 
 -- What functions of uses leave
 
+-- a filesystem goes with its last mount
 pub filesystem_goes : (count : ℕ) (old held new : Filesystems) (n : ℕ)
     → held ≡ with_changed count (λ entry. record entry { mounts = entry.mounts - 1 }) old
     → n ≡ (entry_at held count).mounts → n ≡ 0
@@ -127,6 +133,7 @@ filesystem_goes count old held new n is_held is zero gone =
     (released_in (counted count) (shown old)))
     (eq-eqb _ 0 none))
 
+-- and stays while another shows it
 pub filesystem_stays : (count : ℕ) (old held : Filesystems) (n : ℕ)
     → held ≡ with_changed count (λ entry. record entry { mounts = entry.mounts - 1 }) old
     → n ≡ (entry_at held count).mounts → n ≢ 0
@@ -144,6 +151,7 @@ module _ (number : ℕ) (k : Kept) where
   abbrev found : Option (Mount ℕ)
   found = find (λ mount. nat_eq number mount.number) (mounts_in k.mounts)
 
+  -- where no mount has the number none is let go
   pub let_go_none : found ≡ None → k ≡ let_go_mount number k
   let_go_none none = by (entry_numbered k.mounts number) (sym (found_entry number k.mounts) ∙ none)
     where
@@ -151,6 +159,7 @@ module _ (number : ℕ) (k : Kept) where
       by None e = refl
       by (Some entry) e = absurd cc
 
+  -- a mount that is attached or used stays
   pub let_go_used : (mount : Mount ℕ) → found ≡ Some mount
       → (is_some mount.namespace ≡ true) ⊎ (0 < uses_of k.mounts number) → k ≡ let_go_mount number k
   let_go_used mount is used = by (entry_numbered k.mounts number) (sym (found_entry number k.mounts) ∙ is) used
@@ -172,6 +181,7 @@ module _ (number : ℕ) (k : Kept) where
           here true zero = refl
           here false zero = ap (λ z. cond z (without_mount number entry.mount k) k) (sym zero)
 
+  -- one that is neither goes
   pub let_go_unused : (mount : Mount ℕ) → found ≡ Some mount → is_some mount.namespace ≡ false
       → uses_of k.mounts number ≡ 0
       → let_go_mount number k ≡ without_mount number mount k
@@ -189,6 +199,7 @@ module _ (number : ℕ) (k : Kept) where
           ∙ ap (λ z. cond z (without_mount number entry.mount k) k) (eq-eqb entry.uses 0 u)
           ∙ ap (λ x. without_mount number x k) same
 
+-- what is mapped is there where it was
 pub is_some_mapped : {A B : Type 0} (f : A → B) (o : Option A) → is_some (option_map f o) ≡ is_some o
 is_some_mapped f None = refl
 is_some_mapped f (Some a) = refl

@@ -40,14 +40,17 @@ use Rattle.vt_detach.proofs.Splits.{locations_stay, replaced_split, times_replac
 use Rattle.vt_detach.proofs.FilesSeen.{files_are_plain}
 use Rattle.vt_detach.proofs.Grouped.{same_has}
 
+-- the world with other tasks
 abbrev pub after : WorldValue → Tasks → WorldValue
 after value tasks = record value { tasks = tasks }
 
 -- The world of the code
 
+-- no filesystem of code's world is an overlay
 pub world_is_plain : (value : WorldValue) → IsPlain (world_of value)
 world_is_plain value = files_are_plain value.filesystems
 
+-- a world that code has is settled
 pub held_is_settled : (value : WorldValue) → IsWorld nat_eq (world_of value) → IsSettledPlain (world_of value)
 held_is_settled value is = record {
   in_use = worlds_are_in_use (world_of value) is;
@@ -75,6 +78,7 @@ module _ (value : WorldValue) (tasks : Tasks)
       ++ layers_in nat_eq (world_of value) filesystem.number
       ++ flat_map (objects_of_overlay nat_eq filesystem.number) (world_of value).filesystems))
 
+  -- what holds of each world holds where tasks keep what they use
   pub stays_held : IsHeld value
       → ((mount : ℕ) → writes_of mount tasks ≡ writes_of mount value.tasks)
       → ((namespace : ℕ) → times (λ task. nat_eq namespace task.namespace) tasks
@@ -146,6 +150,7 @@ module _ (value : WorldValue) (name : TaskName) (permit : Permit ℕ) (task new 
       locations_stay task new value.tasks tasks_after
       (replaced_split name value.tasks task new held.in_world.tasks.one_task stays.called stays.same_name) stays.same_places
 
+  -- the settled world is the one with the new task
   pub stayed_exactly : (fresh : Fresh ℕ)
       → settled nat_eq (apply nat_eq fresh (world_of value) task permit).world ≡ world_of (after value tasks_after)
   stayed_exactly fresh =
@@ -153,12 +158,14 @@ module _ (value : WorldValue) (name : TaskName) (permit : Permit ℕ) (task new 
       ∙ staying_keeps_all (world_of value) tasks_after (held_is_settled value held.in_world)
       (none_left value tasks_after places_stay)
 
+  -- and code's world but for change numbers
   pub stayed_becomes : SameWorlds (left_by value task permit) (world_of (after value tasks_after))
   stayed_becomes =
       subst (λ world. SameWorlds world (world_of (after value tasks_after)))
       (sym (stayed_exactly (supply_of value permit)))
       (sameness_is_an_equivalence.itself (world_of (after value tasks_after)))
 
+  -- what holds of each world holds of it
   pub stayed_held : IsHeld (after value tasks_after)
   stayed_held =
       stays_held value tasks_after places_stay held
@@ -183,12 +190,14 @@ pub record IsDone (value : WorldValue) (name : TaskName) (permit : Permit ℕ) (
   pub held : IsHeld new
   pub becomes : Becomes value name permit new
 
+-- a world that code leaves is the one that the permit leaves
 pub becomes_so : (value : WorldValue) (name : TaskName) (permit : Permit ℕ) (new : WorldValue) (task : Task ℕ)
     → task_called (world_of value) name ≡ Some task → SameWorlds (left_by value task permit) (world_of new)
     → Becomes value name permit new
 becomes_so value name permit new task found same other called =
     subst (λ one. SameWorlds (left_by value one permit) (world_of new)) (same_Some task other (sym found ∙ called)) same
 
+-- An event that changes a task and nothing that it uses is done.
 pub staying_is_done : (value : WorldValue) (name : TaskName) (permit : Permit ℕ) (task new : Task ℕ) (tasks : Tasks)
     → IsHeld value
     → IsStaying value name permit task new → tasks ≡ replaced new value.tasks
@@ -202,6 +211,7 @@ staying_is_done value name permit task new tasks held stays is =
 
 -- The events
 
+-- the umask is set
 pub umask_is_set : (value : WorldValue) (name : TaskName) (umask : ℕ) (tasks : Tasks) → IsHeld value
     → Permits value name (ToSetUmask umask)
     → tasks ≡ changed_called name (λ task. record task { umask = umask }) value.tasks
@@ -220,6 +230,7 @@ umask_is_set value name umask tasks held permits is =
     })
     (is ∙ ap (changed_by (λ task. record task { umask = umask }) value.tasks) permits.called)
 
+-- capabilities are dropped
 pub caps_are_dropped : (value : WorldValue) (name : TaskName) (bits : ℕ) (tasks : Tasks) → IsHeld value
     → Permits value name (ToSetCredentials (with_dropped (credentials_called value name) bits))
     → tasks ≡ changed_called name (λ task. record task { credentials = with_dropped task.credentials bits }) value.tasks

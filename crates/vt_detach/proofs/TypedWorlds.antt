@@ -6,23 +6,26 @@ use Rattle.std.specs.Prelude.{filter_map}
 use Rattle.std.specs.List.{cons_option, list_any}
 use Rattle.vt_spec.specs.Machine.Mounts.{Location, Mount, is_unbindable, root_of}
 use Rattle.vt_spec.specs.Machine.Mounts.Propagation.{Private, Unbindable}
-use Rattle.vt_spec.specs.Machine.Receives.{has_members, inherited, inheriting, is_member_of, regrouped}
-use Rattle.vt_spec.specs.Machine.Settled.{filesystem_lives, has_layer_on, is_mounted, layers_in, located_in, mount_lives, named_in, objects_of_overlay, settled, without_dead_groups, without_dead_mounts}
+use Rattle.vt_spec.specs.Machine.Receives.{has_members, inherited, inheriting, regrouped}
+use Rattle.vt_spec.specs.Machine.Settled.{filesystem_lives, has_layer_on, is_mounted, layers_in, located_in, mount_lives, named_in, objects_of_overlay, settled, without_dead_mounts}
 use Rattle.vt_spec.specs.Machine.World.{Filesystem, World, all_locations, filesystem_numbered}
-use Rattle.vt_count_laws.specs.Sweeping.{living}
 use Rattle.vt_count_laws.specs.Using.{Exchanges, is_inode}
 use Rattle.vt_group.specs.Grouping.{Grouping, Has, master_in, propagation_in}
 use Rattle.vt_group.specs.Laws.{shown, typed_by}
-use Rattle.vt_group.proofs.GroupLemmas.{mounts-regrouped}
 use Rattle.vt_group.proofs.Showing.{shows_types}
 use Rattle.vt_group.proofs.Typed.{regrouped_is_typed}
 use Rattle.vt_letting_go.specs.Counts.{inode_uses, mounts_showing, times}
 use Rattle.vt_letting_go.specs.OneByOne.{Inode}
-use Rattle.vt_letting_go.proofs.Lists.{Among, among-from_filter, among-from_map, among-map, among_from_all, any-map, any_passes, filter-map, filter_alike, map_twice, one_passes}
-use Rattle.vt_detach.specs.Held.{is_ungrouped}
-use Rattle.vt_detach.proofs.DetachingBegins.{filesystem_kept}
-use Rattle.vt_detach.proofs.Grouped.{not_attached, settled_has}
+use Rattle.vt_letting_go.proofs.Lists.{Among, among-from_map, among-map, among_from_all, any-map, filter-map, filter_alike}
+use Rattle.vt_detach.proofs.Grouped.{settled_has}
 use Rattle.vt_detach.proofs.MountsChanged.{times_map}
+use Rattle.vt_spec.proofs.Lists.{map_twice}
+use Rattle.vt_spec.proofs.Truths.{or_false_left}
+use Rattle.vt_spec.proofs.Worlds.{shown-mapped}
+use Rattle.vt_mount_laws.proofs.Groups.{mounts-regrouped}
+use Rattle.vt_letting_go.proofs.SweptBetween.{settled_without_groups}
+use Rattle.vt_permit_laws.specs.Taken.{is_ungrouped}
+use Rattle.vt_letting_go.specs.TreesOverlays.{in_use_of}
 
 module _ (groups : Grouping) where
   -- the world with the types and the masters that groups tell
@@ -46,7 +49,8 @@ module _ (groups : Grouping) where
       (typed_by groups)
       (filter (mount_lives nat_eq world) world.mounts) (λ mount. refl)
 
-  pub living_typed : (world : World ℕ) → living (typed_world world) ≡ typed_world (living world)
+  -- what lives is the same where types change
+  pub living_typed : (world : World ℕ) → in_use_of (typed_world world) ≡ typed_world (in_use_of world)
   living_typed world = λ i. record world {
     mounts = mounts_live world i;
     master = master_in groups;
@@ -69,7 +73,7 @@ module _ (groups : Grouping) where
       → located_in nat_eq (typed_world world) filesystem ≡ located_in nat_eq world filesystem
   located_typed world filesystem = λ i. map (λ (location : Location ℕ). location.node)
       (filter (λ (location : Location ℕ). nat_eq filesystem
-      (filesystem_kept (typed_by groups) (λ mount. refl) (λ mount. refl) world.mounts location.mount i))
+      (shown-mapped (typed_by groups) (λ mount. refl) (λ mount. refl) world.mounts location.mount i))
       (all_locations world ++ map_twice root_of (typed_by groups) world.mounts i ++ points_typed world.mounts i))
 
   uses_typed : (world : World ℕ) (filesystem : Filesystem ℕ) (number : ℕ)
@@ -79,6 +83,7 @@ module _ (groups : Grouping) where
       ++ located_typed world filesystem.number i ++ layers_in nat_eq world filesystem.number
       ++ flat_map (objects_of_overlay nat_eq filesystem.number) world.filesystems))
 
+  -- uses that are gained and lost are the same where types change
   pub exchanges_typed : (gained lost : List Inode) (filesystem : ℕ) (before world : World ℕ)
       → Exchanges gained lost filesystem before world → Exchanges gained lost filesystem before (typed_world world)
   exchanges_typed gained lost filesystem before world exchanges = record {
@@ -88,6 +93,7 @@ module _ (groups : Grouping) where
         (sym (uses_typed world (filesystem_numbered nat_eq world filesystem) number));
   }
 
+  -- as many mounts show a filesystem
   pub mounts_showing_typed : (world : World ℕ) (number : ℕ)
       → mounts_showing (typed_world world) number ≡ mounts_showing world number
   mounts_showing_typed world number = times_map (λ (mount : Mount ℕ). nat_eq number mount.filesystem)
@@ -99,27 +105,8 @@ once_more : (b : Bool) (o : Option ℕ) → cond b (cond b o None) None ≡ cond
 once_more true o = refl
 once_more false o = refl
 
--- groups without members end at the end of a call as well
-pub settled_without_groups : (world : World ℕ)
-    → settled nat_eq (without_dead_groups nat_eq world) ≡ settled nat_eq world
-settled_without_groups world = λ i. record (settled nat_eq world) {
-  master = λ group. ended group (has_members nat_eq (filter (mount_lives nat_eq world) world.mounts) group) refl i;
-}
-  where
-    had : (group : ℕ) → has_members nat_eq (filter (mount_lives nat_eq world) world.mounts) group ≡ true
-        → has_members nat_eq world.mounts group ≡ true
-    had group has =
-        let member = one_passes (is_member_of nat_eq group) (filter (mount_lives nat_eq world) world.mounts) has in
-        any_passes (is_member_of nat_eq group) world.mounts member.0
-        (among-from_filter (mount_lives nat_eq world) world.mounts member.0 member.1).0 member.2
-
-    ended : (group : ℕ) (b : Bool) → has_members nat_eq (filter (mount_lives nat_eq world) world.mounts) group ≡ b
-        → cond b (cond (has_members nat_eq world.mounts group) (world.master group) None) None
-        ≡ cond b (world.master group) None
-    ended group true e = ap (λ c. cond c (world.master group) None) (had group e)
-    ended group false e = refl
-
 module _ (world : World ℕ) (groups : Grouping) (has : Has (regrouped nat_eq world) groups) where
+  -- a regrouped world settles to what the typed one settles to
   pub settled_typed : settled nat_eq (regrouped nat_eq world) ≡ settled nat_eq (typed_world groups world)
   settled_typed =
       sym (settled_without_groups (regrouped nat_eq world)) ∙ ap (settled nat_eq) (regrouped_is_typed world groups has)
@@ -146,6 +133,7 @@ module _ (world : World ℕ) (groups : Grouping) (has : Has (regrouped nat_eq wo
       (among-map (inheriting nat_eq world) world.mounts mount m))
       ∙ ap (λ kind. shown (inherited nat_eq world kind)) private
 
+  -- and has the same groups, where mounts outside are private
   pub settled_typed_has : ((mount : Mount ℕ) → Among mount world.mounts → is_some mount.namespace ≡ false
       → mount.propagation ≡ Private)
       → Has (settled nat_eq (typed_world groups world)) groups
@@ -154,4 +142,4 @@ module _ (world : World ℕ) (groups : Grouping) (has : Has (regrouped nat_eq wo
       let from = among-from_map (typed_by groups) world.mounts mount m in
       ap (λ (x : Mount ℕ). is_ungrouped x.propagation) from.2
       ∙ ap is_ungrouped (private_stays from.0 from.1 (nowhere from.0 from.1
-      (ap (λ (x : Mount ℕ). is_some x.namespace) (sym from.2) ∙ not_attached (is_some mount.namespace) _ dead))))
+      (ap (λ (x : Mount ℕ). is_some x.namespace) (sym from.2) ∙ or_false_left (is_some mount.namespace) _ dead))))

@@ -10,10 +10,10 @@ use Rattle.vt_spec.specs.Machine.Mounts.Propagation.{Private, Shared, Slave, Unb
 use Rattle.vt_spec.specs.Machine.Receives.{regrouped}
 use Rattle.vt_spec.specs.Machine.World.{World}
 use Rattle.vt_fs.specs.FilesystemsValue.{Shown}
-use Rattle.vt_group.specs.Grouping.{Grouping, GroupsLive, Has, no_groups, propagation_in}
+use Rattle.vt_group.specs.Grouping.{Grouping, Has, no_groups, propagation_in}
 use Rattle.vt_group.specs.Together.{TakesAway, as_private, changed_if, with_changed}
-use Rattle.vt_group.proofs.Together.{eqb-swapped, is_among-snoc, taken_has}
-use Rattle.vt_letting_go.proofs.Lists.{Among, all_from_among, among-filter, among-from_filter, among-from_map, among-map, among_from_all, among_numbers, any-map, any_passes, filter-map, found_in, is_among_numbers, is_among_right, map_alike}
+use Rattle.vt_group.proofs.Together.{is_among-snoc, taken_has}
+use Rattle.vt_letting_go.proofs.Lists.{Among, all_from_among, among-filter, among-from_filter, among-from_map, among-map, among_from_all, among_numbers, any-map, any_passes, filter-map, found_in, is_among_numbers, is_among_right, held_number}
 use Rattle.vt_location.specs.declared.locations.Location.{Location}
 use Rattle.vt_mount.specs.MountsValue.{MountEntry, changed, entry_numbered, mounts_in}
 use Rattle.vt_retype.specs.Leaving.{OnlyTypesChange}
@@ -22,6 +22,9 @@ use Rattle.vt_retype.proofs.Left.{StillTyped}
 use Rattle.vt_detach.specs.NamespacesLeft.{AreDetached, Detached, IsAttached, is_attached_in, numbers_inside}
 use Rattle.vt_detach.specs.Uses.{Kept, detached_entry, detached_use, is_unused, let_go_entry, let_go_mount, without_attachment, without_mount}
 use Rattle.vt_detach.proofs.FollowedTypes.{one_left}
+use Rattle.vt_spec.proofs.Lists.{map_alike}
+use Rattle.vt_spec.proofs.Truths.{nat_eq-swapped}
+use Rattle.vt_mount_laws.specs.Mounts.Receivers.{AllGroupsLive}
 
 module _ (groups : Grouping) where
   abbrev told : MountEntry → MountEntry
@@ -194,10 +197,6 @@ module _ (namespace : ℕ) where
         ap (λ (x : Mount ℕ). holds_of (nat_eq namespace) x.namespace) (sym entry.2) ∙ inside.1,
       )
 
-  held_namespace : (o : Option ℕ) → holds_of (nat_eq namespace) o ≡ true → o ≡ Some namespace
-  held_namespace None e = absurd (true≢false (sym e))
-  held_namespace (Some n) e = ap Some (sym (eqb-true namespace n e))
-
   -- those inside once one is detached were inside before
   inside_before : (number : ℕ) (point : Option Location) (k : Kept) (other : ℕ)
       → is_among nat_eq other (numbers_inside namespace (without_attachment number point k).mounts) ≡ true
@@ -209,7 +208,7 @@ module _ (namespace : ℕ) where
       → is_among nat_eq entry.mount.number (numbers_inside namespace k.mounts) ≡ true) number point k
       (λ was m same none. absurd (true≢false (sym (ap is_some none))))
       (λ was m apart inside. inside_listed k.mounts was m inside)
-      at.0 at.1 (held_namespace at.0.mount.namespace at.3))
+      at.0 at.1 (held_number namespace at.0.mount.namespace at.3))
 
   gone_inside : (gone : List Detached) (k last : Kept) → AreDetached namespace gone k last → (number : ℕ)
       → is_among nat_eq number (gone_numbers gone) ≡ true
@@ -273,7 +272,7 @@ module _ (namespace : ℕ) where
       (λ there. inside_gone gone (without_attachment one.number one.point k) last are.1 none entry there inside)
     where
       turned : nat_eq entry.mount.number one.number ≡ false → nat_eq one.number entry.mount.number ≡ false
-      turned apart = eqb-swapped entry.mount.number one.number false apart
+      turned apart = nat_eq-swapped entry.mount.number one.number false apart
 
       by : (b : Bool) → nat_eq entry.mount.number one.number ≡ b
           → (Among entry (without_attachment one.number one.point k).mounts
@@ -301,7 +300,7 @@ module _ (namespace : ℕ) where
 
   pub all_taken : (before now : Grouping) (gone : List Detached) (k last : Kept) → AreDetached namespace gone k last
       → list_any (is_attached_in namespace) last.mounts ≡ false
-      → ((world : World ℕ) → Has world before → GroupsLive world
+      → ((world : World ℕ) → Has world before → AllGroupsLive world
       → Has (regrouped nat_eq (with_changed as_private world (gone_numbers gone))) now)
       → TakesAway before now (numbers_inside namespace k.mounts)
   all_taken before now gone k last are none has world is living =
@@ -340,7 +339,7 @@ still_detached groups numbers number point k still = record {
       among_from_all (λ (one : MountEntry). is_among nat_eq one.mount.number numbers ≡ true
       → source_of one.mount.propagation ≡ None) k.mounts still.sourceless was m
       (left (is_among nat_eq was.mount.number numbers) (nat_eq was.mount.number number)
-      (eqb-swapped number was.mount.number false other)
+      (nat_eq-swapped number was.mount.number false other)
       (sym (is_among-snoc was.mount.number number numbers) ∙ is))));
   private = still.private;
 }
@@ -349,7 +348,7 @@ still_detached groups numbers number point k still = record {
     there other same =
         is_among-snoc other number numbers
         ∙ ap (λ b. is_among nat_eq other numbers || b)
-        (eqb-swapped number other true same)
+        (nat_eq-swapped number other true same)
         ∙ second (is_among nat_eq other numbers)
       where
         second : (a : Bool) → (a || true) ≡ true

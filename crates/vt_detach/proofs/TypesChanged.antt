@@ -14,13 +14,13 @@ use Rattle.vt_spec.specs.Machine.Settled.{layers_in, located_in, named_in, objec
 use Rattle.vt_spec.specs.Machine.Types.{named_mounts, retyped, retyped_mount, with_new_groups}
 use Rattle.vt_spec.specs.Machine.World.{Filesystem, World, all_locations}
 use Rattle.vt_fs.specs.FilesystemsValue.{filesystem_seen}
-use Rattle.vt_group.specs.Grouping.{Grouping, Has, are_rising, master_in, numbers_of, peers_of}
+use Rattle.vt_group.specs.Grouping.{Grouping, Has, are_rising, master_in, peers_of}
 use Rattle.vt_laws.specs.Numbers.{KeepsTo}
 use Rattle.vt_letting_go.specs.Counts.{inode_uses, mounts_showing, times}
 use Rattle.vt_letting_go.specs.Detaching.{with_changed}
 use Rattle.vt_letting_go.specs.InUse.{GroupsInUse}
 use Rattle.vt_letting_go.specs.Keeping.{KeepsUses}
-use Rattle.vt_letting_go.proofs.Lists.{all_from_among, among-from_map, among_from_all, map_twice}
+use Rattle.vt_letting_go.proofs.Lists.{all_from_among, among-from_map, among_from_all}
 use Rattle.vt_letting_go.proofs.leaving.UsesKept.{types_keep_all}
 use Rattle.vt_location.specs.Numbers.{counted}
 use Rattle.vt_mount.specs.MountsValue.{MountEntry, mounts_in}
@@ -31,11 +31,13 @@ use Rattle.vt_world_laws.proofs.RaisedInUse.{worlds_are_in_use}
 use Rattle.vt_detach.specs.Events.{Permits, left_by, supply_of}
 use Rattle.vt_detach.specs.Held.{CountsItsMounts, CountsItsUses, CountsWhatIsInIt, IsHeld}
 use Rattle.vt_detach.specs.WorldValue.{WorldValue, world_of}
-use Rattle.vt_detach.proofs.DetachingBegins.{filesystem_kept}
 use Rattle.vt_detach.proofs.MountsChanged.{times_map}
 use Rattle.vt_detach.proofs.Staying.{IsDone, becomes_so, world_is_plain}
-use Rattle.vt_detach.proofs.TypedWorlds.{settled_without_groups}
+use Rattle.vt_letting_go.proofs.SweptBetween.{settled_without_groups}
 use Rattle.vt_run_laws.proofs.answered.AlikeWorlds.{sameness_is_an_equivalence}
+use Rattle.vt_spec.proofs.Lists.{map_twice}
+use Rattle.vt_spec.proofs.Worlds.{shown-mapped}
+use Rattle.vt_mount_laws.specs.Mounts.Attaching.{numbers_of}
 
 -- Worlds in which mounts have other types, and groups other masters
 
@@ -77,7 +79,7 @@ module _ (world : World ℕ) (kind : ℕ → Propagation ℕ → Propagation ℕ
   same_located : (filesystem : ℕ) → located_in nat_eq other filesystem ≡ located_in nat_eq world filesystem
   same_located filesystem = λ i. map (λ (location : Location ℕ). location.node)
       (filter (λ (location : Location ℕ). nat_eq filesystem
-      (filesystem_kept change (λ mount. refl) (λ mount. refl) world.mounts location.mount i))
+      (shown-mapped change (λ mount. refl) (λ mount. refl) world.mounts location.mount i))
       (all_locations world ++ map_twice root_of change world.mounts i ++ same_points world.mounts i))
 
   same_uses : (filesystem : Filesystem ℕ) (number : ℕ)

@@ -28,6 +28,7 @@ use Rattle.vt_detach.proofs.FileEvents.{permit_fits}
 use Rattle.vt_detach.proofs.Staying.{IsDone}
 use Rattle.vt_detach.proofs.TypesChanged.{retyped_value, types_are_set, types_settled}
 use Rattle.vt_detach.proofs.TypesSet.{attached_named}
+use Rattle.std.proofs.Math.Bool.{or-true}
 
 -- Numbers that are no group's
 
@@ -150,10 +151,6 @@ module _ (value : WorldValue) (whole : IsHeld value) (name : TaskName) (number :
         ap (λ b. cond b (counts_from value.next (index_of nat_eq named one)) even)
         (lt-ltb (index_of nat_eq named one) (length named) (index_bound named one some))
 
-    either : (b : Bool) → (b || true) ≡ true
-    either true = refl
-    either false = refl
-
     counted_low : (k : ℕ) (b : Bool) → nat_lt k (length named) ≡ b
         → is_counted_before later (cond b (counts_from value.next k) even) ≡ true
     counted_low k true e =
@@ -161,7 +158,7 @@ module _ (value : WorldValue) (whole : IsHeld value) (name : TaskName) (number :
         (λ i. (counts_from value.next k % 2 == 0)
         || (eq-eqb (counts_from value.next k % 4) 1 (omega arith) i
         && lt-ltb (counts_from value.next k / 4) later (omega (arith, low)) i))
-        ∙ either (counts_from value.next k % 2 == 0)
+        ∙ or-true (counts_from value.next k % 2 == 0)
     counted_low k false e = counted_later value.next later even (omega arith) is_even
 
     keeps_taken : KeepsTo (is_counted_before later)

@@ -15,7 +15,7 @@ use Rattle.vt_group.specs.Grouping.{Has}
 use Rattle.vt_letting_go.specs.Counts.{times}
 use Rattle.vt_letting_go.specs.Keeping.{flags_if}
 use Rattle.vt_letting_go.specs.Mounting.{inode_at}
-use Rattle.vt_letting_go.proofs.Lists.{Among, is_among_numbers, among-map, map_alike}
+use Rattle.vt_letting_go.proofs.Lists.{Among, is_among_numbers, among-map}
 use Rattle.vt_letting_go.proofs.leaving.PlacesLeft.{found_is_there, number_found}
 use Rattle.vt_letting_go.proofs.leaving.UsesKept.{flags_are_of_one}
 use Rattle.vt_mount.specs.MountsValue.{changed, mounts_in}
@@ -31,6 +31,7 @@ use Rattle.vt_detach.proofs.Moving.{exchanged_shown}
 use Rattle.vt_detach.proofs.MountsChanged.{KeepsWhatItShows, attached_entry, kind_kept, mount_is_changed, mounts_changed, next_of, one_changed, places_exchanged, with_mount_changed}
 use Rattle.vt_detach.proofs.Remaining.{remade}
 use Rattle.vt_detach.proofs.Staying.{IsDone}
+use Rattle.vt_spec.proofs.Lists.{map_alike}
 
 -- A mount that keeps its mount point too
 

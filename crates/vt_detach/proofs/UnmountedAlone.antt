@@ -9,7 +9,6 @@ use Rattle.vt_spec.specs.Machine.Mounts.{Location as Place, Mount, is_shared, mo
 use Rattle.vt_spec.specs.Machine.Permits.Permit.{ToUnmount}
 use Rattle.vt_spec.specs.Machine.Run.{numbers_in_use, used_by_filesystem, used_by_mount}
 use Rattle.vt_spec.specs.Machine.World.{World, mount_at, mount_numbered}
-use Rattle.vt_count_laws.specs.Sweeping.{living}
 use Rattle.vt_fs.specs.FilesystemsValue.{Filesystems}
 use Rattle.vt_laws.proofs.numbers.Supports.{used_numbers_are_named}
 use Rattle.vt_letting_go.proofs.Lists.{Among, among-append_left, among-flat_map, fails, is_among_numbers}
@@ -19,7 +18,7 @@ use Rattle.vt_location.specs.Locations.{location_of}
 use Rattle.vt_mount.specs.MountsValue.{MountEntry, mounts_in}
 use Rattle.vt_run_laws.specs.Handed.{is_counted_before}
 use Rattle.vt_detach.specs.Events.{Permits}
-use Rattle.vt_detach.specs.Held.{IsHeld, is_ungrouped}
+use Rattle.vt_detach.specs.Held.{IsHeld}
 use Rattle.vt_detach.specs.Uses.{kept, point_of, without_attachment}
 use Rattle.vt_detach.specs.WorldValue.{WorldValue, world_of}
 use Rattle.vt_detach.proofs.Detached.{detaching_on}
@@ -29,6 +28,8 @@ use Rattle.vt_detach.proofs.FileEvents.{permit_fits}
 use Rattle.vt_detach.proofs.Moving.{swap_eq}
 use Rattle.vt_detach.proofs.Remaining.{remade}
 use Rattle.vt_detach.proofs.Staying.{IsDone}
+use Rattle.vt_permit_laws.specs.Taken.{is_ungrouped}
+use Rattle.vt_letting_go.specs.TreesOverlays.{in_use_of}
 
 pub attached_is_named : (value : WorldValue) → IsHeld value → (number : ℕ)
     → is_some (mount_numbered nat_eq (world_of value) number).namespace ≡ true
@@ -94,9 +95,9 @@ unmount_is_done value name number point mounts filesystems whole permits free ap
       named = attached_is_named value whole number (ap is_some names.0);
       applied = λ fresh. ap (taken_away nat_eq world) (goes_apart world number apart);
     })
-    (subst (Rattle.vt_detach.proofs.Detached.IsDetaching value [] (living (detached_world (number ∷ []) world)) [])
+    (subst (Rattle.vt_detach.proofs.Detached.IsDetaching value [] (in_use_of (detached_world (number ∷ []) world)) [])
     (sym is_kept)
-    (detaching_on value [] (living (detached_world (number ∷ []) world)) number []
+    (detaching_on value [] (in_use_of (detached_world (number ∷ []) world)) number []
     (kept value.mounts value.filesystems) point
     (detaching_begins value [] [] world (kept value.mounts value.filesystems) (held_is_kept value whole)
     (number ∷ []) closed) point_is few))

@@ -6,13 +6,12 @@ use Rattle.vt_spec.specs.Lists.{holds_of}
 use Rattle.vt_spec.specs.Machine.Mounts.{Location as Place, Mount, is_shared, mount_in, mount_tree}
 use Rattle.vt_spec.specs.Machine.Permits.Permit.{ToUnmountLazily}
 use Rattle.vt_spec.specs.Machine.World.{World, mount_at, mount_numbered}
-use Rattle.vt_count_laws.specs.Sweeping.{living}
 use Rattle.vt_fs.specs.FilesystemsValue.{Filesystems}
 use Rattle.vt_letting_go.specs.OneByOne.{Inode}
 use Rattle.vt_mount.specs.MountsValue.{MountEntry, mounts_in}
 use Rattle.vt_detach.specs.Detached.{LeaveInTurn}
 use Rattle.vt_detach.specs.Events.{Permits}
-use Rattle.vt_detach.specs.Held.{IsHeld, is_ungrouped}
+use Rattle.vt_detach.specs.Held.{IsHeld}
 use Rattle.vt_detach.specs.Uses.{Kept, kept, without_attachment}
 use Rattle.vt_detach.specs.WorldValue.{WorldValue, world_of}
 use Rattle.vt_detach.proofs.Detached.{IsDetaching, detaching_on}
@@ -24,6 +23,8 @@ use Rattle.vt_detach.proofs.LazilyUnmounted.{lazily_is_detached, tree_has_childr
 use Rattle.vt_detach.proofs.Remaining.{remade}
 use Rattle.vt_detach.proofs.Staying.{IsDone}
 use Rattle.vt_detach.proofs.UnmountedAlone.{attached_is_named}
+use Rattle.vt_permit_laws.specs.Taken.{is_ungrouped}
+use Rattle.vt_letting_go.specs.TreesOverlays.{in_use_of}
 
 -- where each has left in its turn, none is pending
 pub all_detached : (old : WorldValue) (gained : List Inode) (last : World ℕ) (numbers : List ℕ) (k final : Kept)
@@ -65,7 +66,7 @@ lazy_unmount_is_done value name number numbers mounts filesystems whole permits 
           ∙ sym (taken_regroups world gone closed
           ∙ alone_regroups world value.groups whole.groups kept_mounts.groups gone free);
     })
-    (all_detached value [] (living (detached_world gone world)) gone (kept value.mounts value.filesystems)
+    (all_detached value [] (in_use_of (detached_world gone world)) gone (kept value.mounts value.filesystems)
     (kept mounts filesystems)
     (detaching_begins value [] [] world (kept value.mounts value.filesystems) start gone closed)
     (subst (λ all. LeaveInTurn all (kept value.mounts value.filesystems) (kept mounts filesystems)) tree turn))

@@ -1,8 +1,6 @@
 -- What holds of each world of the code: the invariants of a world, and that what is kept beside it, groups and counts,
 -- is what the definitions say.
-use Rattle.std.specs.Prelude.{All, Bool, List, None, [], false, nat_eq, true, ℕ, ◌&&◌, ◌+◌, ◌∷◌, ◌≡◌}
-use Rattle.vt_spec.specs.Machine.Mounts.{Propagation}
-use Rattle.vt_spec.specs.Machine.Mounts.Propagation.{Private, Shared, Slave, Unbindable}
+use Rattle.std.specs.Prelude.{All, Bool, List, None, [], false, nat_eq, ℕ, ◌&&◌, ◌+◌, ◌∷◌, ◌≡◌}
 use Rattle.vt_spec.specs.Machine.World.{Descriptor, Task, World}
 use Rattle.vt_spec.specs.Machine.Invariants.{IsWorld}
 use Rattle.vt_count_laws.specs.Counted.{IsCounted}
@@ -14,13 +12,6 @@ use Rattle.vt_location.specs.Numbers.{counted, is_inode_of}
 use Rattle.vt_mount.specs.MountsValue.{MountEntry}
 use Rattle.vt_run_laws.specs.Handed.{is_counted_before}
 use Rattle.vt_detach.specs.WorldValue.{NamespaceEntry, WorldValue, world_of}
-
--- in no peer group, and no slave of one
-abbrev pub is_ungrouped : Propagation ℕ → Bool
-is_ungrouped (Shared group) = false
-is_ungrouped (Slave master) = false
-is_ungrouped Private = true
-is_ungrouped Unbindable = true
 
 -- the descriptors of a task that are open for writing on a mount
 abbrev pub writes_on : ℕ → Descriptor ℕ → Bool

@@ -1,14 +1,13 @@
 -- A tree by the numbers of its inodes: whatever is made of it is what is made of it by slots, renamed.
-use Rattle.std.proofs.Common.{◌≡◌, refl, ℕ, nat_eq, Bool, List, Option, Some, None, option_map}
+use Rattle.std.proofs.Common.{◌≡◌, refl, ℕ, nat_eq, Bool, List, Option, option_map}
 use Rattle.vt_spec.specs.declared.attributes.Attr.{Attr}
 use Rattle.vt_spec.specs.Language.Changes.{Change}
-use Rattle.vt_spec.specs.Language.Changes.Change.{AddName, CopyUp, Make, Move, Remove, SetAttr, SetBytes, SetMark}
 use Rattle.vt_spec.specs.Machine.Renaming.{renamed_node}
-use Rattle.vt_spec.specs.Inodes.{Inode, Inodes, changed, is_directory_under, one_directory, pinned, renamed_inode, renamed_inodes, tree_of, unpinned, uses_in}
+use Rattle.vt_spec.specs.Inodes.{Inodes, changed, is_directory_under, one_directory, pinned, renamed_inodes, tree_of, unpinned, uses_in}
 use Rattle.vt_spec.specs.Tree.{Node, parent_in}
 use Rattle.vt_spec.specs.TreeInvariant.{entry_at}
-use Rattle.vt_laws.specs.Renaming.{Renaming}
-use Rattle.vt_laws.proofs.numbers.Commuting.{Named, commutes_nat, node_itself, option_itself}
+use Rattle.vt_laws.specs.Renaming.{Renaming, renamed_change}
+use Rattle.vt_laws.proofs.numbers.Commuting.{Named, commutes_nat, node_itself, option_itself, inode_itself, change_itself}
 use Rattle.vt_tree.specs.Paths.{path_in}
 use Rattle.vt_location.specs.Numbers.{exchanged}
 use Rattle.vt_location.proofs.NumberLemmas.{exchanged_back}
@@ -21,24 +20,8 @@ exchange f = record { there = exchanged f; back = exchanged f; there_back = exch
 abbrev pub by_numbers : ℕ → Inodes ℕ → Inodes ℕ
 by_numbers f inodes = renamed_inodes (exchanged f) (exchanged f) inodes
 
-module _ {N M : Type 0} (there : N → M) (back : M → N) where
-  abbrev pub renamed_change : Change N → Change M
-  renamed_change (Make directory name number node) = Make (there directory) name (there number)
-      (renamed_node there back node)
-  renamed_change (AddName directory name object) = AddName (there directory) name (there object)
-  renamed_change (Remove directory name object) = Remove (there directory) name (there object)
-  renamed_change (Move from old to new object) = Move (there from) old (there to) new (there object)
-  renamed_change (SetBytes file bytes) = SetBytes (there file) bytes
-  renamed_change (SetAttr object attr) = SetAttr (there object) attr
-  renamed_change (SetMark directory opaque) = SetMark (there directory) opaque
-  renamed_change (CopyUp object) = CopyUp (there object)
-
 -- With each number for itself nothing is renamed.
 module _ {N : Type 0} where
-  inode_itself : (inode : Option (Inode N)) → option_map (renamed_inode (λ n. n) (λ n. n)) inode ≡ inode
-  inode_itself None = refl
-  inode_itself (Some inode) = λ i. Some (record { node = node_itself inode.node i; uses = inode.uses })
-
   inodes_itself : (inodes : Inodes N) → renamed_inodes (λ n. n) (λ n. n) inodes ≡ inodes
   inodes_itself inodes = λ i. record {
     root = inodes.root;
@@ -46,16 +29,6 @@ module _ {N : Type 0} where
         inode_itself (inodes.inode number) i;
     count = inodes.count;
   }
-
-  change_itself : (change : Change N) → renamed_change (λ n. n) (λ n. n) change ≡ change
-  change_itself (Make directory name number node) = λ i. Make directory name number (node_itself node i)
-  change_itself (AddName directory name object) = refl
-  change_itself (Remove directory name object) = refl
-  change_itself (Move from old to new object) = refl
-  change_itself (SetBytes file bytes) = refl
-  change_itself (SetAttr object attr) = refl
-  change_itself (SetMark directory opaque) = refl
-  change_itself (CopyUp object) = refl
 
 -- What is handed in: a tree, with a change, or with a number, or with more
 abbrev WithChange : Type 0 → Type 0

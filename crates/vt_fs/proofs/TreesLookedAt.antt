@@ -4,10 +4,7 @@ use Rattle.vt_spec.specs.FileTree.{FileTree, has_entry_to, is_directory_under, i
 use Rattle.vt_spec.specs.Lists.{chain, is_among, when}
 use Rattle.vt_spec.specs.Tree.{Node, Tree, parent_in}
 use Rattle.vt_spec.proofs.Lists.{chain_ends, chain_goes_on}
-
-pub or_nothing : (b : Bool) → (b || false) ≡ b
-or_nothing true = refl
-or_nothing false = refl
+use Rattle.std.proofs.Math.Bool.{or-false}
 
 one_number : (a b : ℕ) → Some a ≡ Some b → a ≡ b
 one_number a b e = cc
@@ -57,7 +54,7 @@ module _ (tree : Tree ℕ) where
 
   nothing_above : (top : ℕ) → tree.node top ≡ None → (n directory : ℕ)
       → is_among nat_eq top (chain n (named_parent nat_eq tree) directory) ≡ nat_eq top directory
-  nothing_above top none zero directory = or_nothing (nat_eq top directory)
+  nothing_above top none zero directory = or-false (nat_eq top directory)
   nothing_above top none (suc n) directory =
       by (named_parent nat_eq tree directory) refl (nothing_above top none n)
     where
@@ -66,20 +63,20 @@ module _ (tree : Tree ℕ) where
           → is_among nat_eq top (chain (suc n) (named_parent nat_eq tree) directory) ≡ nat_eq top directory
       by None e rest =
           ap (is_among nat_eq top) (chain_ends (named_parent nat_eq tree) n directory e)
-          ∙ or_nothing (nat_eq top directory)
+          ∙ or-false (nat_eq top directory)
       by (Some parent) e rest =
           ap (is_among nat_eq top) (chain_goes_on (named_parent nat_eq tree) n directory parent e)
           ∙ ap (λ b. nat_eq top directory || b) (rest parent
           ∙ ne_eqb top parent (λ same. true≢false
           (sym (parent_there directory parent e) ∙ ap (λ p. is_some (tree.node p)) (sym same) ∙ ap is_some none)))
-          ∙ or_nothing (nat_eq top directory)
+          ∙ or-false (nat_eq top directory)
 
   only_itself : (top directory : ℕ) → tree.node directory ≡ None → (n : ℕ)
       → is_among nat_eq top (chain n (named_parent nat_eq tree) directory) ≡ nat_eq top directory
-  only_itself top directory none zero = or_nothing (nat_eq top directory)
+  only_itself top directory none zero = or-false (nat_eq top directory)
   only_itself top directory none (suc n) =
       ap (is_among nat_eq top) (chain_ends (named_parent nat_eq tree) n directory (nowhere_up directory none))
-      ∙ or_nothing (nat_eq top directory)
+      ∙ or-false (nat_eq top directory)
 
 pub under_nowhere : (files : FileTree ℕ) (top directory : ℕ) → files.tree.node top ≡ None
     → is_directory_under nat_eq files top directory ≡ nat_eq top directory

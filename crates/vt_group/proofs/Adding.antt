@@ -11,18 +11,13 @@ use Rattle.vt_spec.specs.Machine.Mounts.{Propagation}
 use Rattle.vt_spec.specs.Machine.Receives.{has_members}
 use Rattle.vt_spec.specs.Machine.Settled.{without_dead_groups}
 use Rattle.vt_spec.specs.Machine.World.{World}
-use Rattle.vt_spec.proofs.Lists.{Among, among_from_all}
+use Rattle.vt_spec.proofs.Lists.{Among, among_from_all, folded-snoc}
 use Rattle.vt_location.specs.declared.numbers.GroupId.{GroupId}
 use Rattle.vt_group.specs.Grouping.{Grouping, Has, HasGroup, are_rising, master_in}
 use Rattle.vt_group.specs.Steps.{group_number}
 use Rattle.vt_group.specs.Together.{Grows, all_added, if_sourced, with_entry_of, with_master_of, with_type_of}
 use Rattle.vt_group.proofs.Changes.{lookup-inserted, rising-inserted}
 use Rattle.vt_group.proofs.Regrouping.{keys, lookup-low}
-
-pub folded-snoc : {A B : Type 0} (add : B → A → B) (b : B) (list : List A) (a : A) → folded add b (list ++ a ∷ [])
-    ≡ add (folded add b list) a
-folded-snoc add b [] a = refl
-folded-snoc add b (first ∷ list) a = folded-snoc add (add b first) list a
 
 -- a fold over one more of what a list is seen as
 pub folded_more : {X A B : Type 0} (add : B → A → B) (b : B) (see : X → A) (list : List X) (i : ℕ) (default : X)
@@ -53,6 +48,7 @@ low-removed low group (e ∷ masters) all = by (nat_eq group e.0) (low-removed l
     by true later = (and_parts _ _ all).1
     by false later = and_from _ _ (and_parts _ _ all).0 later
 
+-- masters stay in order where an entry is removed
 pub rising-removed : {V : Type 0} (group : ℕ) (masters : List (ℕ × V)) → are_rising (keys masters) ≡ true
     → are_rising (keys (remove_entry (nat_eq group) masters)) ≡ true
 rising-removed group [] rising = refl
@@ -66,6 +62,7 @@ rising-removed group (e ∷ masters) rising =
     by true later low = (and_parts _ _ rising).1
     by false later low = and_from _ _ low later
 
+-- what is found once an entry is removed: nothing at its group, and what was there at any other
 pub lookup-removed : {V : Type 0} (other group : ℕ) (masters : List (ℕ × V)) → are_rising (keys masters) ≡ true
     → lookup (nat_eq other) (remove_entry (nat_eq group) masters)
     ≡ cond (nat_eq other group) None (lookup (nat_eq other) masters)
@@ -125,6 +122,7 @@ lookup-one group masters new rising = by new.1
     by None = lookup-removed group new.0 masters rising
     by (Some master) = lookup-inserted group new.0 master masters
 
+-- masters stay in order where the masters of new groups are put in
 pub rising-all : (masters : List (ℕ × ℕ)) (new : List (ℕ × Option ℕ)) → are_rising (keys masters) ≡ true
     → are_rising (keys (folded with_master_of masters new)) ≡ true
 rising-all masters [] rising = rising
@@ -151,6 +149,7 @@ module _ (group : ℕ) where
           ap (λ b. if b then first.1 else one group) is ∙ same (λ i. is i || unnamed i)
           ∙ ap (λ b. if b then first.1 else other group) (sym is)
 
+  -- and are then those of the definitions, with the new groups
   pub lookup-all : (masters : List (ℕ × ℕ)) (new : List (ℕ × Option ℕ)) → are_rising (keys masters) ≡ true
       → lookup (nat_eq group) (folded with_master_of masters new)
       ≡ folded (masters_with nat_eq) (λ other. lookup (nat_eq other) masters) new group
@@ -174,6 +173,7 @@ none_folded group (first ∷ rest) master each start =
     by true is = each first (inl refl) (eqb-true group first.0 is)
     by false is = start
 
+-- A world that grows by mounts and groups has the groups that were added to those it had.
 pub grown_has : (world after : World ℕ) (groups : Grouping) (types : List (ℕ × Propagation ℕ)) (new : List (ℕ
     × Option ℕ)) → Has world groups
     → Grows world after types new → Has after (all_added groups types new)

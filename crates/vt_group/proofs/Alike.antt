@@ -13,17 +13,21 @@ use Rattle.vt_spec.specs.Machine.World.{World}
 use Rattle.vt_spec.specs.Machine.Invariants.{Lives}
 use Rattle.vt_spec.specs.Machine.Invariants.Lives.{has_master, has_no_master}
 use Rattle.vt_spec.proofs.Lists.{Among, any_among}
-use Rattle.vt_group.specs.Grouping.{Grouping, Has, are_rising, numbers_of, peer_of, peers_of}
+use Rattle.vt_group.specs.Grouping.{Grouping, Has, are_rising, peer_of, peers_of}
 use Rattle.vt_group.specs.Laws.{shown}
-use Rattle.vt_group.proofs.GroupLemmas.{members-regrouped, mounts-regrouped}
 use Rattle.vt_group.proofs.Heirs.{master_inherited}
-use Rattle.vt_group.proofs.Receiving.{all_on_way, chain_alike}
-use Rattle.vt_group.proofs.Regrouping.{member_shared}
+use Rattle.vt_group.proofs.Receiving.{chain_alike}
+use Rattle.vt_mount_laws.proofs.GroupsUp.{all_on_way}
+use Rattle.vt_mount_laws.proofs.GroupsKept.{member_shared}
+use Rattle.vt_mount_laws.proofs.Groups.{mounts-regrouped, members-regrouped}
+use Rattle.vt_mount_laws.proofs.mounts.MountsKept.{numbers_regrouped}
+use Rattle.vt_mount_laws.specs.Mounts.Attaching.{numbers_of}
 
 -- what groups know of a mount
 abbrev pub key_of : Mount ℕ → ℕ × Propagation ℕ
 key_of mount = (mount.number, shown mount.propagation)
 
+-- what propagation needs of each mount: its number and its type
 abbrev pub keys_of : List (Mount ℕ) → List (ℕ × Propagation ℕ)
 keys_of mounts = map key_of mounts
 
@@ -115,17 +119,10 @@ module _ (one other : World ℕ) (keys : keys_of one.mounts ≡ keys_of other.mo
       ∙ ap (filter_map (inherited_key other)) keys ∙ sym (peers-keys other other.mounts)
       ∙ ap peers_of (sym (mounts-regrouped other))
 
-  numbers-kept : (world : World ℕ) → numbers_of (regrouped nat_eq world).mounts ≡ numbers_of world.mounts
-  numbers-kept world = ap numbers_of (mounts-regrouped world) ∙ same world.mounts
-    where
-      same : (mounts : List (Mount ℕ)) → numbers_of (map (inheriting nat_eq world) mounts) ≡ numbers_of mounts
-      same [] = refl
-      same (mount ∷ rest) = ap (λ l. mount.number ∷ l) (same rest)
-
   same_numbers : numbers_of (regrouped nat_eq one).mounts ≡ numbers_of (regrouped nat_eq other).mounts
   same_numbers =
-      numbers-kept one ∙ numbers-keys one.mounts ∙ ap (map (λ key. key.0)) keys ∙ sym (numbers-keys other.mounts)
-      ∙ sym (numbers-kept other)
+      numbers_regrouped one ∙ numbers-keys one.mounts ∙ ap (map (λ key. key.0)) keys ∙ sym (numbers-keys other.mounts)
+      ∙ sym (numbers_regrouped other)
 
   same_master : (group : ℕ) → has_members nat_eq one.mounts group ≡ true → (regrouped nat_eq one).master group
       ≡ (regrouped nat_eq other).master group
@@ -158,6 +155,7 @@ module _ (one other : World ℕ) (keys : keys_of one.mounts ≡ keys_of other.mo
           ap (λ b. cond b ((regrouped nat_eq one).master group) None) e
           ∙ ap (λ b. cond b ((regrouped nat_eq other).master group) None) (sym e)
 
+  -- Worlds whose mounts have the same numbers and types have the same groups once they are regrouped.
   pub has_alike : (groups : Grouping) → Has (regrouped nat_eq one) groups → Has (regrouped nat_eq other) groups
   has_alike groups has = record {
     order = ap are_rising (sym same_numbers) ∙ has.order;

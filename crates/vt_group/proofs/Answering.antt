@@ -20,10 +20,12 @@ use Rattle.vt_group.proofs.CountLemmas.{lookup-numbered}
 
 -- members among the types of mounts
 
+-- some type of a list is that of a member of the group
 abbrev pub any_in : ℕ → List Propagation → Bool
 any_in group [] = false
 any_in group (kind ∷ rest) = holds_of (nat_eq group) (group_of (propagation_of kind)) || any_in group rest
 
+-- the types of a map hold a member just where its entries do
 pub members-valued : (group : ℕ) (es : List (ℕ × Propagation))
     → any_in group (values_of es) ≡ list_any (is_member group) (map numbered_peer es)
 members-valued group [] = refl
@@ -32,6 +34,7 @@ members-valued group (e ∷ es) = ap (λ b. holds_of (nat_eq group) (group_of (p
 
 -- one step up the masters
 
+-- a group that is not the one looked for is above a group just where it is above its master
 pub one_up : (next : ℕ → Option ℕ) (group here above n k : ℕ) → n ≡ suc k → nat_eq here group ≡ false
     → next here ≡ Some above
     → is_among nat_eq group (chain k next above) ≡ is_among nat_eq group (chain n next here)
@@ -49,6 +52,7 @@ found-type (Some kind) = refl
 
 module _ (count : ℕ) (es : List (ℕ × Propagation)) (masters : List (ℕ × ℕ)) (groups : Grouping)
     (view : record { peers = map numbered_peer es; masters = masters } ≡ groups) where
+  -- the type that a map has for a mount is the one that the groups have
   pub shown-type : (old : Option Propagation) → old ≡ lookup (is_at (nat_cmp count)) es
       → type_or_private old ≡ propagation_in groups (counted count)
   shown-type old e =
@@ -78,22 +82,22 @@ undone group master (e ∷ masters) none = by (nat_lt group e.0) (nat_eq group e
         (e ∷ remove_entry (nat_eq group) (insert_entry nat_cmp masters group master))) is
         ∙ ap (λ l. e ∷ l) (rest none)
 
-pub on-ok : {T E P Q : Type 0} (r : Result T E) → (P → Q) → OnOk r P → OnOk r Q
-on-ok (Ok t) so p = so p
-on-ok (Err e) so _ = tt
-
+-- nothing put behind a list leaves it
 pub nothing-behind : (numbers : List ℕ) → numbers ++ [] ≡ numbers
 nothing-behind [] = refl
 nothing-behind (number ∷ rest) = ap (λ l. number ∷ l) (nothing-behind rest)
 
+-- what holds of an error holds where the result is one
 pub unlisted : {T E P : Type 0} (r : Result T E) → OnErr r P → is_err r ≡ true → P
 unlisted (Ok t) p err = absurd (true≢false (sym err))
 unlisted (Err e) p err = p
 
+-- what holds of a success holds where the result is none
 pub listed_ok : {T E P : Type 0} (r : Result T E) → OnOk r P → is_err r ≡ false → P
 listed_ok (Ok t) p err = p
 listed_ok (Err e) p err = absurd (true≢false err)
 
+-- a step that fails only where nothing is found succeeds where something is
 pub ok_where_some : {T E A P : Type 0} (r : Result T E) (found : Option A) (one : A) → found ≡ Some one
     → OnErr r (found ≡ None) → OnOk r P → P
 ok_where_some (Ok t) found one is none p = p

@@ -17,11 +17,16 @@ use Rattle.vt_spec.specs.Machine.World.{World}
 use Rattle.vt_spec.specs.Machine.Invariants.{HasLivingGroups, Lives}
 use Rattle.vt_spec.specs.Machine.Invariants.Lives.{has_master, has_no_master}
 use Rattle.vt_spec.proofs.Lists.{Among, among-from_map, among-map, among_from_all, among_from_contains, any_among, any_from_among, is_among_numbers}
-use Rattle.vt_group.specs.Grouping.{Grouping, GroupsLive, Has, HasGroup, HasMount, LacksGroup, are_rising, below, numbers_of, peers_of, propagation_in, retyped_if, with_propagation}
+use Rattle.vt_group.specs.Grouping.{Grouping, Has, HasGroup, HasMount, LacksGroup, are_rising, below, peers_of, propagation_in, retyped_if, with_propagation}
 use Rattle.vt_group.specs.Steps.{ended_if_lost, retyped}
+use Rattle.vt_mount_laws.proofs.GroupsUp.{live_members, master_has_members}
 use Rattle.vt_group.proofs.Peers.{lookup-among, lookup-peer, numbers-retyped, peers-left, peers-set, retyped_other, retyped_same}
-use Rattle.vt_group.proofs.Regrouping.{member_shared, regrouped-has, shared_member}
+use Rattle.vt_group.proofs.Regrouping.{regrouped-has}
+use Rattle.vt_mount_laws.proofs.GroupsKept.{member_shared, shared_member}
+use Rattle.vt_mount_laws.specs.Mounts.Attaching.{numbers_of}
+use Rattle.vt_mount_laws.specs.Mounts.Receivers.{AllGroupsLive}
 
+-- a type with a group of its own is shared in it
 pub group_shared : (kind : Propagation ℕ) (group : ℕ) → group_of kind ≡ Some group → kind ≡ Shared group
 group_shared (Shared own) group e = ap Shared (same_Some own group e)
 group_shared (Slave above) group e = absurd (true≢false (sym (ap is_some e)))
@@ -30,22 +35,14 @@ group_shared Unbindable group e = absurd (true≢false (sym (ap is_some e)))
 
 -- Living groups
 module _ (members : ℕ → Bool) (master : ℕ → Option ℕ) where
-  pub live_members : (group : ℕ) → Lives members master group → members group ≡ true
-  live_members group (has_no_master it has e) = has
-  live_members group (has_master it next has e later) = has
-
-  above_lives : (group above : ℕ) → Lives members master group → master group ≡ Some above → members above ≡ true
-  above_lives group above (has_no_master it has e) f = absurd (true≢false (sym (ap is_some f) ∙ ap is_some e))
-  above_lives group above (has_master it next has e later) f = ap members (sym (same_Some next above (sym e ∙ f)))
-      ∙ live_members next later
-
+  -- a living group is not its own master
   not_own_master : (group : ℕ) → Lives members master group → master group ≡ Some group → ⊥
   not_own_master group (has_no_master it has e) f = true≢false (sym (ap is_some f) ∙ ap is_some e)
   not_own_master group (has_master it next has e later) f =
       let same : next ≡ it = same_Some next it (sym e ∙ f) in
       not_own_master next later (ap master same ∙ f ∙ ap Some (sym same))
 
-module _ (world : World ℕ) (groups : Grouping) (has : Has world groups) (live : GroupsLive world) (number : ℕ)
+module _ (world : World ℕ) (groups : Grouping) (has : Has world groups) (live : AllGroupsLive world) (number : ℕ)
     (kind : Propagation ℕ) where
   abbrev were : ℕ → Bool
   were = has_members nat_eq world.mounts
@@ -169,11 +166,14 @@ module _ (world : World ℕ) (groups : Grouping) (has : Has world groups) (live 
             (λ e. or_true (are group) _ (ap (holds_of (nat_eq group)) e ∙ eq-eqb group group refl)) (still group w)))
         by false w = dead w (are group) refl
 
-    was : (group : ℕ) → (are group ≡ true) ⊎ (left ≡ Some group) → (were group ≡ true) ⊎ (group_of kind ≡ Some group)
-    was group h = ⊎_elim (λ a. had group a) (λ l. inl (left_had group l)) h
+    -- a group that has members has had some, or is the one that is joined
+    had_or_joined : (group : ℕ) → (are group ≡ true) ⊎ (left ≡ Some group)
+        → (were group ≡ true) ⊎ (group_of kind ≡ Some group)
+    had_or_joined group h = ⊎_elim (λ a. had group a) (λ l. inl (left_had group l)) h
 
     above_old : (group up : ℕ) → were group ≡ true → master group ≡ Some up → were up ≡ true
-    above_old group up w e = above_lives were world.master group up (group_lives group w) (sym (master_old group w) ∙ e)
+    above_old group up w e = master_has_members world.master were group up (group_lives group w)
+        (sym (master_old group w) ∙ e)
 
     above_any : (group up : ℕ) → (were group ≡ true) ⊎ (group_of kind ≡ Some group) → master group ≡ Some up
         → were up ≡ true
@@ -183,6 +183,7 @@ module _ (world : World ℕ) (groups : Grouping) (has : Has world groups) (live 
         by true w h = above_old group up w e
         by false w h = ⊎_elim (λ t. absurd (true≢false (sym t ∙ w))) (λ k. master_new group up k w e) h
 
+    -- a world in which one mount changed its type has the changed groups, without the one that ended
     pub changed_regroups : Has (regrouped nat_eq changed)
         (ended_if_lost left (record { peers = peers; masters = masters }))
     changed_regroups = regrouped-has changed left (record { peers = peers; masters = masters }) (record {
@@ -192,9 +193,9 @@ module _ (world : World ℕ) (groups : Grouping) (has : Has world groups) (live 
       masters = entries;
       slaves = λ mount m master_of e.
           still master_of (⊎_elim (λ k. slave_of master_of (sym k ∙ e))
-          (λ old. live_members were world.master master_of (source_lives mount old master_of (ap source_of e)))
+          (λ old. live_members world.master were master_of (source_lives mount old master_of (ap source_of e)))
           (from_before mount m));
-      above = λ group up h e. still up (above_any group up (was group h) e);
+      above = λ group up h e. still up (above_any group up (had_or_joined group h) e);
       apart = λ group l e.
           let w = left_had group l in
           not_own_master were world.master group (group_lives group w) (sym (master_old group w) ∙ e);
@@ -223,7 +224,7 @@ module _ (world : World ℕ) (groups : Grouping) (has : Has world groups) (live 
       (is_among_numbers (numbers_of world.mounts) number (among_from_contains (numbers_of world.mounts) number there)))
 
 -- A mount becomes private
-pub left_regroups : (world : World ℕ) (groups : Grouping) → Has world groups → GroupsLive world → (number : ℕ)
+pub left_regroups : (world : World ℕ) (groups : Grouping) → Has world groups → AllGroupsLive world → (number : ℕ)
     → Has (regrouped nat_eq (with_propagation world number Private))
     (ended_if_lost (group_of (propagation_in groups number))
     (record groups { peers = remove_entry (nat_eq number) groups.peers }))
@@ -244,7 +245,8 @@ left_regroups world groups has live number =
     private_no_slave group e = cc
 
 -- A mount becomes a slave
-pub slave_regroups : (world : World ℕ) (groups : Grouping) → Has world groups → GroupsLive world → (number master : ℕ)
+pub slave_regroups : (world : World ℕ) (groups : Grouping) → Has world groups → AllGroupsLive world
+    → (number master : ℕ)
     → Contains (numbers_of world.mounts) number → has_members nat_eq world.mounts master ≡ true
     → Has (regrouped nat_eq (with_propagation world number (Slave master))) (retyped number (Slave master) groups)
 slave_regroups world groups has live number master there lives =
@@ -264,7 +266,7 @@ slave_regroups world groups has live number master there lives =
     same_master group e = cc
 
 -- A mount joins a group
-pub join_regroups : (world : World ℕ) (groups : Grouping) → Has world groups → GroupsLive world → (number group : ℕ)
+pub join_regroups : (world : World ℕ) (groups : Grouping) → Has world groups → AllGroupsLive world → (number group : ℕ)
     → Contains (numbers_of world.mounts) number
     → (has_members nat_eq world.mounts group ≡ false → world.master group ≡ None)
     → Has (regrouped nat_eq (with_propagation world number (Shared group))) (retyped number (Shared group) groups)
@@ -292,6 +294,7 @@ join_regroups world groups has live number group there fresh =
 
 -- Entries of masters, with one more
 
+-- what is found once an entry is put in: its value at its group, and what was there at any other
 pub lookup-inserted : {V : Type 0} (other group : ℕ) (master : V) (masters : List (ℕ × V))
     → lookup (nat_eq other) (insert_entry nat_cmp masters group master)
     ≡ cond (nat_eq other group) (Some master) (lookup (nat_eq other) masters)
@@ -352,6 +355,7 @@ module _ (group master : ℕ) where
       and_from _ _ (lt-ltb group e.0 (omega (arith, ltb-true group high less, ltb-true high e.0 (and_parts _ _ all).0)))
       (further_low high masters less (and_parts _ _ all).1)
 
+  -- masters stay in order where one is put in
   pub rising-inserted : (masters : List (ℕ × ℕ)) → are_rising (keys masters) ≡ true
       → are_rising (keys (insert_entry nat_cmp masters group master)) ≡ true
   rising-inserted [] rising = refl
@@ -372,7 +376,7 @@ module _ (group master : ℕ) where
           (lt-ltb e.0 group (omega (arith, ltb-false group e.0 l, eqb-false group e.0 s))) parts.0) rest
 
 -- A mount is the first member of a new group
-pub start_regroups : (world : World ℕ) (groups : Grouping) → Has world groups → GroupsLive world
+pub start_regroups : (world : World ℕ) (groups : Grouping) → Has world groups → AllGroupsLive world
     → (number group : ℕ) (master : Option ℕ) (masters : List (ℕ × ℕ))
     → are_rising (keys group group masters) ≡ true
     → ((other : ℕ) → lookup (nat_eq other) masters
@@ -418,7 +422,8 @@ start_regroups world groups has live number group master masters rising entry th
     here : (other : ℕ) → other ≡ group → with_master nat_eq world.master group master other ≡ master
     here other e = ap (λ b. if b then master else world.master other) (eq-eqb other group e)
 
-pub start_below : (world : World ℕ) (groups : Grouping) → Has world groups → GroupsLive world
+-- A mount that starts a group as a slave gives the world that group, with its master.
+pub start_below : (world : World ℕ) (groups : Grouping) → Has world groups → AllGroupsLive world
     → (number group master : ℕ)
     → HasMount world number → LacksGroup world group → HasGroup world master
     → Has (regrouped nat_eq (below (with_propagation world number (Shared group)) group (Some master)))
@@ -428,7 +433,8 @@ start_below world groups has live number group master there fresh lives =
     (rising-inserted group master groups.masters has.masters_order)
     (λ other. lookup-inserted other group master groups.masters) there fresh lives
 
-pub start_alone : (world : World ℕ) (groups : Grouping) → Has world groups → GroupsLive world → (number group : ℕ)
+-- A mount that starts a group alone gives the world that group, without a master.
+pub start_alone : (world : World ℕ) (groups : Grouping) → Has world groups → AllGroupsLive world → (number group : ℕ)
     → HasMount world number → LacksGroup world group
     → Has (regrouped nat_eq (below (with_propagation world number (Shared group)) group None))
     (retyped number (Shared group) groups)

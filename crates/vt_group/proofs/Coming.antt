@@ -1,5 +1,5 @@
 -- Mounts and groups that come are listed first.
-use Rattle.std.proofs.Common.{◌≡◌, ℕ, Bool, true, false, cond, ◌+◌, ◌<◌, List, [], ◌∷◌, ◌++◌, get_or, length, map, nat_eq, Option, None, Some, is_some, option_map, refl, sym, ap, subst, take, ◌∙◌, arith, true≢false}
+use Rattle.std.proofs.Common.{◌≡◌, ℕ, Bool, true, false, cond, ◌+◌, ◌<◌, List, [], ◌∷◌, ◌++◌, get_or, length, map, nat_eq, Option, None, Some, is_some, option_map, refl, sym, ap, subst, take, ◌∙◌, true≢false}
 use Rattle.std.proofs.lemmas.Bool.{eqb-true}
 use Rattle.std.proofs.lemmas.List.{take_more}
 use Rattle.std.proofs.lemmas.Option.{same_Some}
@@ -30,6 +30,7 @@ use Rattle.vt_group.proofs.Changes.{lookup-inserted, rising-inserted}
 use Rattle.vt_group.proofs.CountLemmas.{lookup-numbered}
 use Rattle.vt_group.proofs.Regrouping.{keys}
 use Rattle.vt_group.specs.Listing.{EachJoined, EachListed, EachShared, IsJoined, IsListed, IsShared, kind_shared, master_shared}
+use Rattle.vt_location.proofs.NumberLemmas.{counted_same}
 
 module _ (old new : Index)
     (lower : (low up : GroupId) → is_lower old low up ≡ true → is_lower new low up ≡ true)
@@ -39,10 +40,12 @@ module _ (old new : Index)
   joined_still group None joined = tt
   joined_still group (Some master) joined = lower group master joined
 
+  -- new groups that are joined stay so in an index that keeps what is joined
   pub each_joined_still : (list : List NewGroup) → EachJoined old list → EachJoined new list
   each_joined_still [] each = tt
   each_joined_still (one ∷ list) each = (joined_still one.group one.master each.0, each_joined_still list each.1)
 
+  -- mounts that are listed stay so in an index that keeps what is listed
   pub each_listed_still : (list : List Mount) → EachListed old list → EachListed new list
   each_listed_still [] each = tt
   each_listed_still (one ∷ list) each =
@@ -59,6 +62,7 @@ module _ (index : Index) where
   listed_push [] one each listed = (listed, tt)
   listed_push (first ∷ list) one each listed = (each.0, listed_push list one each.1 listed)
 
+  -- where one more group is joined, one more of the list is
   pub joined_more : (list : List NewGroup) (i : ℕ) (default : NewGroup) → i < length list
       → EachJoined index (take i list)
       → IsJoined index (get_or list i default).group (get_or list i default).master
@@ -66,6 +70,7 @@ module _ (index : Index) where
   joined_more list i default less each joined =
       subst (EachJoined index) (sym (take_more list i default less)) (joined_push (take i list) (get_or list i default) each joined)
 
+  -- where one more mount is listed, one more of the list is
   pub listed_more : (list : List Mount) (i : ℕ) (default : Mount) → i < length list
       → EachListed index (take i list) → IsListed index (get_or list i default)
       → EachListed index (take (i + 1) list)
@@ -74,11 +79,9 @@ module _ (index : Index) where
 
 -- counts and types are told by their numbers
 
-pub count_same : (a b : ℕ) → counted a ≡ counted b → a ≡ b
-count_same a b e = omega (arith, e)
-
+-- types with one meaning are one
 pub kind_same : (a b : Propagation) → propagation_of a ≡ propagation_of b → a ≡ b
-kind_same (Shared a) (Shared b) e = λ i. Shared (record { count = count_same a.count b.count (shared_same e) i })
+kind_same (Shared a) (Shared b) e = λ i. Shared (record { count = counted_same a.count b.count (shared_same e) i })
   where
     shared_same : {x y : ℕ} → MeansShared x ≡ MeansShared y → x ≡ y
     shared_same e = cc
@@ -86,7 +89,7 @@ kind_same (Shared a) (Slave b) e = absurd cc
 kind_same (Shared a) Private e = absurd cc
 kind_same (Shared a) Unbindable e = absurd cc
 kind_same (Slave a) (Shared b) e = absurd cc
-kind_same (Slave a) (Slave b) e = λ i. Slave (record { count = count_same a.count b.count (slave_same e) i })
+kind_same (Slave a) (Slave b) e = λ i. Slave (record { count = counted_same a.count b.count (slave_same e) i })
   where
     slave_same : {x y : ℕ} → MeansSlave x ≡ MeansSlave y → x ≡ y
     slave_same e = cc
@@ -112,6 +115,7 @@ kept_kind es count kind is =
     by None is = absurd (true≢false (sym (ap is_some is)))
     by (Some one) is = ap Some (kind_same one kind (same_Some (propagation_of one) (propagation_of kind) is))
 
+-- a mount that the groups have as shared has that type in the map
 pub kept_shared : (es : List (ℕ × Propagation)) (count : ℕ) (group : GroupId)
     → unwrap_or (lookup (nat_eq (counted count)) (map numbered_peer es)) MeansPrivate ≡ MeansShared (group_number group)
     → lookup (is_at (nat_cmp count)) es ≡ Some (Shared group)
@@ -123,6 +127,7 @@ kept_shared es count group is =
     by None is = absurd cc
     by (Some kind) is = ap Some is
 
+-- a master that the groups have is that of the map
 pub kept_master : (es : List (ℕ × GroupId)) (count : ℕ) (master : GroupId)
     → lookup (nat_eq (counted count)) (map numbered_master es) ≡ Some (group_number master)
     → lookup (is_at (nat_cmp count)) es ≡ Some master
@@ -132,13 +137,16 @@ kept_master es count master is =
     by : (found : Option GroupId) → option_map group_number found ≡ Some (group_number master) → found ≡ Some master
     by None is = absurd (true≢false (sym (ap is_some is)))
     by (Some one) is =
-        ap Some (λ i. record { count = count_same one.count master.count (same_Some (group_number one) (group_number master) is) i })
+        ap Some (λ i. record { count = counted_same one.count master.count
+            (same_Some (group_number one) (group_number master) is) i })
 
+-- a type of the map is that of the groups
 pub seen_kind : (es : List (ℕ × Propagation)) (count : ℕ) (kind : Propagation)
     → lookup (is_at (nat_cmp count)) es ≡ Some kind
     → lookup (nat_eq (counted count)) (map numbered_peer es) ≡ Some (propagation_of kind)
 seen_kind es count kind is = lookup-numbered propagation_of count es ∙ ap (option_map propagation_of) is
 
+-- a master of the map is that of the groups
 pub seen_master : (es : List (ℕ × GroupId)) (count : ℕ) (master : GroupId)
     → lookup (is_at (nat_cmp count)) es ≡ Some master
     → lookup (nat_eq (counted count)) (map numbered_master es) ≡ Some (group_number master)
@@ -146,11 +154,13 @@ seen_master es count master is = lookup-numbered group_number count es ∙ ap (o
 
 -- each that is found is listed
 
+-- each mount of the groups is listed in the index under its type
 abbrev pub FoundListed : Index → List (ℕ × Type_of_mount ℕ) → Type 0
 FoundListed index peers =
     (mount : ℕ) (kind : Propagation) → lookup (nat_eq (counted mount)) peers ≡ Some (propagation_of kind)
     → is_listed index (mount_at mount) kind ≡ true
 
+-- each group with a master is listed in the index under it
 abbrev pub FoundLower : Index → List (ℕ × ℕ) → Type 0
 FoundLower index masters =
     (lower : ℕ) (upper : GroupId) → lookup (nat_eq (counted lower)) masters ≡ Some (group_number upper)
@@ -166,7 +176,7 @@ typed_listed index one type peers listed found = by (source_of (propagation_of t
         → cond b (Some (propagation_of type)) (lookup (nat_eq (counted mount)) peers) ≡ Some (propagation_of kind)
         → is_listed index (mount_at mount) kind ≡ true
     here true mount kind same sourced is =
-        (λ i. is_listed index (mount_at (count_same mount one.count
+        (λ i. is_listed index (mount_at (counted_same mount one.count
         (eqb-true (counted mount) (counted one.count) same) i))
         (kind_same kind type (sym (same_Some (propagation_of type) (propagation_of kind) is)) i))
         ∙ listed sourced
@@ -180,6 +190,7 @@ typed_listed index one type peers listed found = by (source_of (propagation_of t
         here (nat_eq (counted mount) (counted one.count)) mount kind refl (ap is_some is)
         (sym (lookup-inserted (counted mount) (counted one.count) (propagation_of type) peers) ∙ at)
 
+-- where the new mounts are listed, all mounts are
 pub all_listed : (index : Index) (mounts : List Mount) (peers : List (ℕ × Type_of_mount ℕ)) → EachListed index mounts
     → FoundListed index peers → FoundListed index (folded with_type_of peers (map typed mounts))
 all_listed index [] peers each found = found
@@ -205,10 +216,10 @@ mastered_lower index group (Some master) masters joined rising found lower upper
         → cond b (Some (group_number master)) (lookup (nat_eq (counted lower)) masters) ≡ Some (group_number upper)
         → is_lower index (group_at lower) upper ≡ true
     by true same is =
-        (λ i. is_lower index (group_at (count_same lower group.count
+        (λ i. is_lower index (group_at (counted_same lower group.count
         (eqb-true (counted lower) (counted group.count) same) i))
         (record {
-          count = count_same upper.count master.count
+          count = counted_same upper.count master.count
               (sym (same_Some (group_number master) (group_number upper) is)) i;
         }))
         ∙ joined
@@ -219,6 +230,7 @@ rising_master : (group : ℕ) (master : Option ℕ) (masters : List (ℕ × ℕ)
 rising_master group None masters rising = rising-removed group masters rising
 rising_master group (Some master) masters rising = rising-inserted group master masters rising
 
+-- where the new groups are joined, all groups with masters are listed
 pub all_lower : (index : Index) (new : List NewGroup) (masters : List (ℕ × ℕ)) → EachJoined index new
     → are_rising (keys masters) ≡ true → FoundLower index masters
     → FoundLower index (folded with_master_of masters (map new_group new))
@@ -238,6 +250,7 @@ shared_still : (old new : Index)
 shared_still old new lower kept was mount group shared =
     (kept mount (kind_shared was group) shared.0, joined_still old new lower kept group (master_shared was) shared.1)
 
+-- mounts that are shared stay so in an index that keeps what is listed
 pub each_shared_still : (old new : Index)
     (lower : (low up : GroupId) → is_lower old low up ≡ true → is_lower new low up ≡ true)
     (kept : (mount : MountId) (kind : Propagation) → is_listed old mount kind ≡ true → is_listed new mount kind ≡ true)
@@ -255,6 +268,7 @@ shared_push : (index : Index) (types : BTreeMap ℕ Propagation) (list : List (M
 shared_push index types [] one each shared = (shared, tt)
 shared_push index types (first ∷ list) one each shared = (each.0, shared_push index types list one each.1 shared)
 
+-- where one more mount is shared, one more of the list is
 pub shared_more : (index : Index) (types : BTreeMap ℕ Propagation) (list : List (MountId × GroupId)) (i : ℕ)
     (default : MountId × GroupId) → i < length list → EachShared index types (take i list)
     → IsShared index (get nat_cmp types (get_or list i default).0.count) (get_or list i default).0 (get_or list i default).1
@@ -289,6 +303,7 @@ module _ (groups : Grouping) (types : BTreeMap ℕ Propagation)
       by (Some Private) = refl
       by (Some Unbindable) = refl
 
+  -- where the named mounts are shared, all mounts are listed under their new types
   pub all_shared_listed : (index : Index) (named : List (MountId × GroupId)) (peers : List (ℕ × Type_of_mount ℕ))
       → EachShared index types named → FoundListed index peers
       → FoundListed index (folded with_type_of peers (map (λ pair. shared_type groups (pair_of pair)) named))
@@ -298,6 +313,7 @@ module _ (groups : Grouping) (types : BTreeMap ℕ Propagation)
       (subst (λ type. FoundListed index (with_type_of peers (counted pair.0.count, type))) (sym (type_seen pair))
       (typed_listed index pair.0 (kind_shared (get nat_cmp types pair.0.count) pair.1) peers (λ sourced. each.0.0) found))
 
+  -- and all groups under their masters
   pub all_shared_lower : (index : Index) (named : List (MountId × GroupId)) (masters : List (ℕ × ℕ))
       → EachShared index types named → are_rising (keys masters) ≡ true → FoundLower index masters
       → FoundLower index (folded with_master_of masters (map (λ pair. shared_group groups (pair_of pair)) named))

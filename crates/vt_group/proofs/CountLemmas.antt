@@ -1,6 +1,6 @@
 -- Entries by counts, as contracts see them by numbers.
-use Rattle.std.proofs.Common.{◌≡◌, ◌≢◌, ℕ, Bool, true, false, cond, List, [], ◌∷◌, map, nat_eq, nat_lt, Option, Some, None, option_map, refl, sym, ap, subst, ◌∙◌, arith, eq-eqb, ne_eqb, lt-ltb, le-ltb}
-use Rattle.std.proofs.lemmas.Bool.{eqb-true, eqb-false, ltb-true, ltb-false}
+use Rattle.std.proofs.Common.{◌≡◌, ◌≢◌, ℕ, Bool, true, false, cond, List, [], ◌∷◌, map, nat_eq, nat_lt, Option, Some, None, option_map, refl, sym, ap, subst, ◌∙◌, arith, ne_eqb}
+use Rattle.std.proofs.lemmas.Bool.{ltb-true}
 use Rattle.std.specs.Prelude.{filter_map}
 use Rattle.std.specs.List.{cons_option}
 use Rattle.std.specs.BTreeMap.{insert_entry, is_at}
@@ -10,28 +10,16 @@ use Rattle.std.specs.Ordering.{is_eq, match_ordering, nat_cmp}
 use Rattle.vt_location.specs.Numbers.{counted}
 use Rattle.std.specs.declared.cmp.Ordering.{Ordering}
 use Rattle.std.specs.declared.cmp.Ordering.TheVariants.{Less, Equal, Greater}
+use Rattle.vt_location.proofs.NumberLemmas.{counted_test, counted_less}
 
-pub same_count : (a b : ℕ) → nat_eq (counted a) (counted b) ≡ nat_eq a b
-same_count a b = by (nat_eq a b) refl
-  where
-    by : (t : Bool) → nat_eq a b ≡ t → nat_eq (counted a) (counted b) ≡ t
-    by true e = let same : a ≡ b = eqb-true a b e in eq-eqb (counted a) (counted b) (ap counted same)
-    by false e = let differ : a ≢ b = eqb-false a b e in ne_eqb (counted a) (counted b)
-        (λ same. differ (omega (arith, same)))
-
-pub less_count : (a b : ℕ) → nat_lt (counted a) (counted b) ≡ nat_lt a b
-less_count a b = by (nat_lt a b) refl
-  where
-    by : (t : Bool) → nat_lt a b ≡ t → nat_lt (counted a) (counted b) ≡ t
-    by true e = lt-ltb (counted a) (counted b) (omega (arith, ltb-true a b e))
-    by false e = le-ltb (counted a) (counted b) (omega (arith, ltb-false a b e))
-
+-- numbers of counts are ordered as the counts are
 pub cmp_count : (a b : ℕ) → nat_cmp (counted a) (counted b) ≡ nat_cmp a b
-cmp_count a b = rw (less_count a b, same_count a b)
+cmp_count a b = rw (counted_less a b, counted_test a b)
 
+-- an order that finds a count finds its number
 pub at_count : (a b : ℕ) → is_at (nat_cmp a) b ≡ nat_eq (counted a) (counted b)
 at_count a b = tied (nat_lt a b) (nat_eq a b) (λ e. ne_eqb a b (λ same. omega (arith, ltb-true a b e, same)))
-    ∙ sym (same_count a b)
+    ∙ sym (counted_test a b)
   where
     tied : (less same : Bool) → (less ≡ true → same ≡ false) → is_eq (cond less Less (cond same Equal Greater)) ≡ same
     tied true true apart = sym (apart refl)
@@ -40,9 +28,11 @@ at_count a b = tied (nat_lt a b) (nat_eq a b) (λ e. ne_eqb a b (λ same. omega 
     tied false false apart = refl
 
 module _ {V W : Type 0} (f : V → W) where
+  -- an entry of a map by the number of its count, with what its value means
   abbrev pub numbered : ℕ × V → ℕ × W
   numbered entry = (counted entry.0, f entry.1)
 
+  -- what a map has at a count is what its entries have at the number
   pub lookup-numbered : (count : ℕ) (es : List (ℕ × V))
       → lookup (nat_eq (counted count)) (map numbered es) ≡ option_map f (lookup (is_at (nat_cmp count)) es)
   lookup-numbered count [] = refl
@@ -57,6 +47,7 @@ module _ {V W : Type 0} (f : V → W) where
       by true rest = refl
       by false rest = rest
 
+  -- an entry that is put in is put in among the numbers
   pub inserted-numbered : (count : ℕ) (v : V) (es : List (ℕ × V))
       → map numbered (insert_entry nat_cmp es count v) ≡ insert_entry nat_cmp (map numbered es) (counted count) (f v)
   inserted-numbered count v [] = refl
@@ -74,6 +65,7 @@ module _ {V W : Type 0} (f : V → W) where
       by Equal rest = refl
       by Greater rest = ap (λ l. numbered e ∷ l) rest
 
+  -- and one that is removed is removed there
   pub removed-numbered : (count : ℕ) (es : List (ℕ × V))
       → map numbered (remove_entry (is_at (nat_cmp count)) es) ≡ remove_entry (nat_eq (counted count)) (map numbered es)
   removed-numbered count [] = refl

@@ -16,8 +16,8 @@ use Rattle.vt_location.specs.Numbers.{counted}
 use Rattle.vt_group.specs.Grouping.{are_rising}
 use Rattle.vt_group.specs.Leaving.{slave_or_private, type_after_end}
 use Rattle.vt_group.specs.Steps.{handed_peer, handed_type}
-use Rattle.vt_group.proofs.CountLemmas.{less_count}
 use Rattle.vt_group.proofs.Regrouping.{keys, lookup-low}
+use Rattle.vt_location.proofs.NumberLemmas.{counted_less}
 
 -- the keys of a map rise
 
@@ -34,7 +34,7 @@ low_counted : {V W : Type 0} (f : V → W) (low : ℕ) (es : List (ℕ × V))
     → list_all (nat_lt (counted low)) (keys (map (λ (e : ℕ × V). (counted e.0, f e.1)) es)) ≡ true
 low_counted f low [] all = refl
 low_counted f low (e ∷ es) all =
-    and_from _ _ (less_count low e.0 ∙ less_nat low e.0 all.0) (low_counted f low es all.1)
+    and_from _ _ (counted_less low e.0 ∙ less_nat low e.0 all.0) (low_counted f low es all.1)
 
 rising_sorted : {V W : Type 0} (f : V → W) (es : List (ℕ × V)) → IsStrictlySortedBy nat_cmp (keys_of es)
     → are_rising (keys (map (λ (e : ℕ × V). (counted e.0, f e.1)) es)) ≡ true
@@ -43,6 +43,7 @@ rising_sorted f (e ∷ es) sorted =
     and_from _ _ (low_counted f e.0 es (sorted_head nat_cmp e.0 (keys_of es) sorted))
     (rising_sorted f es (sorted_tail nat_cmp e.0 (keys_of es) sorted))
 
+-- the numbers of an ordered map rise
 pub rising_numbers : {V W : Type 0} (f : V → W) (entries : BTreeMap ℕ V) → IsOrdered nat_cmp entries
     → are_rising (keys (map (λ (e : ℕ × V). (counted e.0, f e.1)) entries.entries)) ≡ true
 rising_numbers f entries ordered = rising_sorted f entries.entries ordered
@@ -50,6 +51,7 @@ rising_numbers f entries ordered = rising_sorted f entries.entries ordered
 -- entries that a function changes or drops
 
 module _ {V : Type 0} (change : ℕ → V → Option V) where
+  -- an entry with another value, or none
   abbrev pub changed_entry : ℕ × V → Option (ℕ × V)
   changed_entry entry = option_map (λ value. (entry.0, value)) (change entry.0 entry.1)
 
@@ -64,6 +66,7 @@ module _ {V : Type 0} (change : ℕ → V → Option V) where
       by None later = later
       by (Some v) later = and_from _ _ (and_parts _ _ all).0 later
 
+  -- entries stay in order where values change and some go
   pub rising-changed : (es : List (ℕ × V)) → are_rising (keys es) ≡ true
       → are_rising (keys (filter_map changed_entry es)) ≡ true
   rising-changed [] rising = refl
@@ -76,6 +79,7 @@ module _ {V : Type 0} (change : ℕ → V → Option V) where
       by None low later = later
       by (Some v) low later = and_from _ _ low later
 
+  -- what is found then is the changed value of what was
   pub lookup-changed : (es : List (ℕ × V)) → are_rising (keys es) ≡ true → (key : ℕ)
       → lookup (nat_eq key) (filter_map changed_entry es) ≡ then_some (lookup (nat_eq key) es) (change key)
   lookup-changed [] rising key = refl
@@ -124,6 +128,7 @@ once_ended lost heir (Some (Slave master)) = by (nat_eq master lost) heir
 once_ended lost heir (Some Private) = refl
 once_ended lost heir (Some Unbindable) = refl
 
+-- once a group has ended each mount has the type that the end of the group leaves it
 pub type-ended : (lost : ℕ) (heir : Option ℕ) (peers : List (ℕ × Propagation ℕ)) → are_rising (keys peers) ≡ true
     → (mount : ℕ)
     → unwrap_or (lookup (nat_eq mount) (filter_map (handed_peer lost heir) peers)) Private

@@ -15,11 +15,12 @@ use Rattle.vt_location.specs.Numbers.{counted}
 use Rattle.vt_group.specs.Indexed.{has_source}
 use Rattle.vt_group.specs.Sets.{same_group}
 use Rattle.vt_group.specs.Steps.{group_number, handed, handed_type}
-use Rattle.vt_group.proofs.CountLemmas.{same_count}
-use Rattle.vt_group.proofs.Together.{eqb-swapped}
+use Rattle.vt_spec.proofs.Truths.{nat_eq-swapped}
+use Rattle.vt_location.proofs.NumberLemmas.{counted_test}
 
 -- what was handed is not handed again
 
+-- a master that is handed on is handed on once
 pub group_handed-twice : (lost : GroupId) (heir : Option GroupId) (master : GroupId)
     → then_some (group_handed lost heir master) (group_handed lost heir) ≡ group_handed lost heir master
 group_handed-twice lost heir master = by (same_group master lost) refl heir refl
@@ -44,6 +45,7 @@ group_handed-twice lost heir master = by (same_group master lost) refl heir refl
         ∙ kept above is true ∙ sym is
     by false at o is = ap (λ b. if b then heir else Some master) at
 
+-- a type that is handed on is handed on once
 pub kind_handed-twice : (lost : GroupId) (heir : Option GroupId) (kind : Propagation)
     → then_some (kind_handed lost heir kind) (kind_handed lost heir) ≡ kind_handed lost heir kind
 kind_handed-twice lost heir (Shared group) = refl
@@ -61,6 +63,7 @@ kind_handed-twice lost heir Unbindable = refl
 -- where one is handed, what is left to be handed leads to the same
 module _ {A K : Type 0} (hand : A → Option A) (twice : (value : A) → then_some (hand value) hand ≡ hand value)
     (count : K → ℕ) (number : ℕ) (now new : ℕ → Option A) (id : K) (rest : List K) where
+  -- where one more is handed on, the rest is left to be
   pub handed_next : new number ≡ (if nat_eq number (count id) then then_some (now (count id)) hand else now number)
       → (if list_any (λ id. nat_eq number (count id)) rest then then_some (new number) hand else new number)
       ≡ (if list_any (λ id. nat_eq number (count id)) (id ∷ rest) then then_some (now number) hand else now number)
@@ -82,33 +85,37 @@ module _ {A K : Type 0} (hand : A → Option A) (twice : (value : A) → then_so
       by false apart true = refl
       by false apart false = refl
 
+-- a type without the lost group stays
 pub unhanded_kind : (lost : GroupId) (heir : Option GroupId) (kind : Propagation) → has_source lost kind ≡ false
     → kind_handed lost heir kind ≡ Some kind
 unhanded_kind lost heir (Shared group) apart = refl
 unhanded_kind lost heir (Slave master) apart =
-    ap (λ b. option_map Slave (if b then heir else Some master)) (eqb-swapped lost.count master.count false apart)
+    ap (λ b. option_map Slave (if b then heir else Some master)) (nat_eq-swapped lost.count master.count false apart)
 unhanded_kind lost heir Private apart = refl
 unhanded_kind lost heir Unbindable apart = refl
 
+-- a master other than the lost group stays
 pub unhanded_group : (lost : GroupId) (heir : Option GroupId) (master : GroupId) → same_group master lost ≡ false
     → group_handed lost heir master ≡ Some master
 unhanded_group lost heir master apart = ap (λ b. if b then heir else Some master) apart
 
 -- as contracts see it
 
+-- a master that is handed on means the master that the definitions hand on
 pub group_seen : (lost : GroupId) (heir : Option GroupId) (master : GroupId)
     → option_map group_number (group_handed lost heir master)
     ≡ handed (counted lost.count) (option_map group_number heir) (group_number master)
 group_seen lost heir master =
     by (same_group master lost)
     ∙ ap (λ b. if b then option_map group_number heir else Some (group_number master))
-    (sym (same_count master.count lost.count))
+    (sym (counted_test master.count lost.count))
   where
     by : (b : Bool) → option_map group_number (if b then heir else Some master)
         ≡ (if b then option_map group_number heir else Some (group_number master))
     by true = refl
     by false = refl
 
+-- a type that is handed on means the type that the definitions hand on
 pub kind_seen : (lost : GroupId) (heir : Option GroupId) (kind : Propagation)
     → option_map propagation_of (kind_handed lost heir kind)
     ≡ handed_type (counted lost.count) (option_map group_number heir) (propagation_of kind)
@@ -134,7 +141,7 @@ pub option_eq-counted : (found : Option GroupId) (group : GroupId)
     → option_eq same_group found (Some group) ≡ holds_of (nat_eq (counted group.count)) (option_map group_number found)
 option_eq-counted None group = refl
 option_eq-counted (Some own) group =
-    sym (same_count group.count own.count ∙ eqb-swapped own.count group.count (nat_eq own.count group.count) refl)
+    sym (counted_test group.count own.count ∙ nat_eq-swapped own.count group.count (nat_eq own.count group.count) refl)
 
 -- what is left at a key
 
@@ -144,6 +151,7 @@ module _ {V W : Type 0} (see : V → W) (hand : V → Option V) (change : W → 
   both_seen None = refl
   both_seen (Some value) = seen value
 
+  -- what is left of an entry is what the change leaves of what it means
   pub left_at : (old new : Option V) (among : Bool) → new ≡ (if among then then_some old hand else old)
       → ((value : V) → old ≡ Some value → among ≡ false → hand value ≡ Some value)
       → option_map see new ≡ then_some (option_map see old) change

@@ -7,9 +7,9 @@ use Rattle.vt_spec.specs.Machine.Mounts.{Mount, source_of}
 use Rattle.vt_spec.specs.Machine.Receives.{has_members, heir, is_lost_group, is_member_of, lost_a_group, regrouped, regrouped_by}
 use Rattle.vt_spec.specs.Machine.World.{World}
 use Rattle.vt_spec.proofs.Lists.{Among, any_among, chain_ends, chain_goes_on, last_of_chain, none_among}
-use Rattle.vt_group.proofs.GroupLemmas.{find_start}
 use Rattle.vt_group.proofs.Receiving.{Ends, chain_same}
-use Rattle.vt_group.proofs.Regrouping.{member_shared}
+use Rattle.vt_spec.proofs.Found.{find-chain_start}
+use Rattle.vt_mount_laws.proofs.GroupsKept.{member_shared}
 
 module _ (p : ℕ → Bool) (master : ℕ → Option ℕ) where
   abbrev found_from : ℕ → Option ℕ → Option ℕ
@@ -40,9 +40,11 @@ module _ (world : World ℕ) where
   abbrev members : ℕ → Bool
   members = has_members nat_eq world.mounts
 
+  -- a group with members is its own heir
   pub heir_itself : (group : ℕ) → members group ≡ true → heir nat_eq world (Some group) ≡ Some group
-  heir_itself group e = find_start members world.master (length world.mounts) group e
+  heir_itself group e = find-chain_start members world.master (length world.mounts) group e
 
+  -- a group without members has the heir of its master
   pub heir_above : (group : ℕ) → Ends world.master (length world.mounts) group → members group ≡ false
       → heir nat_eq world (Some group) ≡ heir nat_eq world (world.master group)
   heir_above group ends fails = one_up members world.master (length world.mounts) group ends fails

@@ -1,5 +1,5 @@
 -- What an index lists, once a part of it changed.
-use Rattle.std.proofs.Common.{◌≡◌, ℕ, Bool, true, false, List, [], ◌∷◌, ◌||◌, filter, nat_eq, Option, Some, is_some, refl, sym, ap, subst, ◌∙◌, true≢false, ne_eqb, eq-eqb, flat_map, not}
+use Rattle.std.proofs.Common.{◌≡◌, ℕ, Bool, true, false, List, [], ◌∷◌, ◌||◌, filter, nat_eq, Option, Some, is_some, refl, sym, ap, subst, ◌∙◌, true≢false, ne_eqb, eq-eqb, flat_map}
 use Rattle.std.proofs.lemmas.Bool.{and_from, and_parts, eqb-true}
 use Rattle.std.proofs.lemmas.Map.Views.{any-filter_same}
 use Rattle.std.proofs.lemmas.List.Folds.{list_any-append}
@@ -15,14 +15,12 @@ use Rattle.vt_group.specs.Indexed.{group_of_kind, has_source, is_listed, is_rela
 use Rattle.vt_group.specs.Names.{KeepsNames, Named, is_under, names_of}
 use Rattle.vt_group.specs.Sets.{has, same_group, same_id}
 use Rattle.vt_group.proofs.SetsLemmas.{same_id as same_number}
+use Rattle.std.proofs.Math.Bool.{or-true}
 
-pub both : (a b c d : Bool) → (a ≡ true → c ≡ true) → (b ≡ true → d ≡ true) → (a && b) ≡ true → (c && d) ≡ true
-both a b c d first second is =
+-- two tests that hold together hold also where weaker ones stand for them
+pub and_weaker : (a b c d : Bool) → (a ≡ true → c ≡ true) → (b ≡ true → d ≡ true) → (a && b) ≡ true → (c && d) ≡ true
+and_weaker a b c d first second is =
     let parts = and_parts a b is in and_from c d (first parts.0) (second parts.1)
-
-pub or_true : (b : Bool) → (b || true) ≡ true
-or_true true = refl
-or_true false = refl
 
 module _ {A : Type 0} (p q : A → Bool) where
   one_more : (x : A) (xs : List A) → (p x ≡ true → q x ≡ true) → (list_any p xs ≡ true → list_any q xs ≡ true)
@@ -31,30 +29,35 @@ module _ {A : Type 0} (p q : A → Bool) where
     where
       by : (b : Bool) → (b ≡ true → q x ≡ true) → (b || list_any p xs) ≡ true → (q x || list_any q xs) ≡ true
       by true first any = ap (λ t. t || list_any q xs) (first refl)
-      by false first any = ap (λ t. q x || t) (later any) ∙ or_true (q x)
+      by false first any = ap (λ t. q x || t) (later any) ∙ or-true (q x)
 
+  -- where some pass a test, some pass a weaker one
   pub any_still : ((x : A) → p x ≡ true → q x ≡ true) → (xs : List A) → list_any p xs ≡ true → list_any q xs ≡ true
   any_still so [] any = any
   any_still so (x ∷ xs) any = one_more x xs (so x) (any_still so xs) any
 
+  -- where some pass a test, some pass another that those that are the same pass
   pub any_within : (same : A → A → Bool) → ((x : A) → same x x ≡ true) → (xs : List A)
       → ((x : A) → list_any (λ y. same y x) xs ≡ true → p x ≡ true → q x ≡ true)
       → list_any p xs ≡ true → list_any q xs ≡ true
   any_within same itself [] so any = any
   any_within same itself (x ∷ xs) so any =
       one_more x xs (so x (ap (λ t. t || list_any (λ y. same y x) xs) (itself x)))
-      (any_within same itself xs (λ y among. so y (ap (λ t. same x y || t) among ∙ or_true (same x y)))) any
+      (any_within same itself xs (λ y among. so y (ap (λ t. same x y || t) among ∙ or-true (same x y)))) any
 
+-- some of lists put together pass where some of one list do
 pub any_flat : {A B : Type 0} (test : B → Bool) (f : A → List B) (xs : List A)
     → list_any test (flat_map f xs) ≡ list_any (λ x. list_any test (f x)) xs
 any_flat test f [] = refl
 any_flat test f (x ∷ xs) =
     list_any-append test (f x) (flat_map f xs) ∙ ap (λ b. list_any test (f x) || b) (any_flat test f xs)
 
+-- a group is the same as itself
 pub itself : (group : GroupId) → same_group group group ≡ true
 itself group = eq-eqb group.count group.count refl
 
 module _ {T : Type 0} (eq : T → T → Bool) (names now : Named) (old new : Sets T) (one : T) where
+  -- a member or slave that is listed under a group stays so where the names do
   pub under_still : KeepsNames names now
       → ((at : GroupId) → has eq at one old ≡ true → has eq at one new ≡ true)
       → (group : GroupId) → is_under eq names old one group ≡ true → is_under eq now new one group ≡ true
@@ -63,21 +66,25 @@ module _ {T : Type 0} (eq : T → T → Bool) (names now : Named) (old new : Set
       (any_still (λ name. has eq name one old) (λ name. has eq name one new) sets (names_of names group) under)
 
 module _ (old new : Index) (mount : MountId) where
+  -- a mount that is listed under its type stays so where it stays among relatives and members
   pub listed_still : (kind : Propagation)
       → ((group : GroupId) → has_source group kind ≡ true → is_relative old mount group ≡ true
       → is_relative new mount group ≡ true)
       → ((group : GroupId) → group_of_kind kind ≡ Some group → has same_id group mount old.members ≡ true
       → has same_id group mount new.members ≡ true)
       → is_listed old mount kind ≡ true → is_listed new mount kind ≡ true
-  listed_still (Shared group) relatives members = both _ _ _ _ (relatives group (itself group)) (members group refl)
+  listed_still (Shared group) relatives members =
+      and_weaker _ _ _ _ (relatives group (itself group)) (members group refl)
   listed_still (Slave master) relatives members = relatives master (itself master)
   listed_still Private relatives members = λ listed. refl
   listed_still Unbindable relatives members = λ listed. refl
 
+-- numbers of which one is taken and the other is free are not one
 pub apart_by : {A : Type 0} (at : ℕ → Option A) (a b : ℕ) → is_some (at a) ≡ false → is_some (at b) ≡ true
     → nat_eq a b ≡ false
 apart_by at a b none some = ne_eqb a b (λ same. true≢false (sym some ∙ ap (λ n. is_some (at n)) (sym same) ∙ none))
 
+-- what is there is among those that are kept of a list where it was in the list
 pub any-kept : {T A : Type 0} (count : T → ℕ) (at : ℕ → Option A) (number : ℕ) (ids left : List T)
     → left ≡ filter (λ id. is_some (at (count id))) ids → is_some (at number) ≡ true
     → list_any (λ id. nat_eq number (count id)) ids ≡ true → list_any (λ id. nat_eq number (count id)) left ≡ true
@@ -87,6 +94,7 @@ any-kept count at number ids left is some there =
     (λ id same. ap (λ n. is_some (at n)) (sym (eqb-true number (count id) same)) ∙ some) ids
     ∙ there
 
+-- a listed mount is a relative of the group that it is a member or a slave of
 pub relative_of_source : (index : Index) (mount : MountId) (kind : Propagation) (group : GroupId)
     → has_source group kind ≡ true → is_listed index mount kind ≡ true → is_relative index mount group ≡ true
 relative_of_source index mount (Shared own) group source listed =
@@ -112,6 +120,7 @@ unlisted_still Was Is types mount found is others own other kind at =
         (λ found_at. own kind (is ∙ found_at)) at
     by false apart = others other kind apart
 
+-- a type with one source does not have another
 pub apart_source : (lost group : GroupId) (kind : Propagation) → has_source lost kind ≡ false
     → has_source group kind ≡ true → same_group lost group ≡ false
 apart_source lost group (Shared own) apart source =
@@ -144,14 +153,7 @@ apart_from_each name at names none among = by (same_group name at) refl
         ∙ ap (λ (id : GroupId). list_any (λ other. same_group other id) names) (same_number name at same) ∙ none))
     by false apart = apart
 
-pub neither_one : (a b : Bool) → b ≡ false → (a && b) ≡ false
-neither_one true b is = is
-neither_one false b is = refl
-
-pub not-true : (b : Bool) → not b ≡ true → b ≡ false
-not-true true is = absurd (true≢false (sym is))
-not-true false is = refl
-
+-- the source of a type is the group that it names
 pub source_told_kind : (group : GroupId) (kind : Propagation) → has_source group kind ≡ true
     → source_of_kind kind ≡ Some group
 source_told_kind group (Shared own) source = ap Some (same_number group own source)

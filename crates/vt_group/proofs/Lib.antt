@@ -1,5 +1,4 @@
 pub mod CountLemmas
-pub mod GroupLemmas
 pub mod Others
 pub mod Peers
 pub mod Regrouping

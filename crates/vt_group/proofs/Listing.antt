@@ -18,7 +18,8 @@ use Rattle.vt_group.specs.Indexed.{has_source}
 use Rattle.vt_group.specs.Steps.{numbered_peer}
 use Rattle.std.proofs.lemmas.Option.{same_Some}
 use Rattle.vt_location.specs.Numbers.{counted}
-use Rattle.vt_group.proofs.CountLemmas.{at_count, lookup-numbered, same_count}
+use Rattle.vt_group.proofs.CountLemmas.{at_count, lookup-numbered}
+use Rattle.vt_location.proofs.NumberLemmas.{counted_test}
 
 -- a number under which something is found is that of a count
 pub found_count : {V W : Type 0} (f : V → W) (number : ℕ) (es : List (ℕ × V))
@@ -49,16 +50,17 @@ found_count {V} f number (e ∷ es) found = by (nat_eq number (counted e.0)) ref
           some_either (is_at (nat_cmp further.0) e.0) (lookup (is_at (nat_cmp further.0)) es) further.2,
         )
 
+-- a mount that is listed by its count is among the numbers
 pub listed_among : (count : ℕ) (ids : List MountId) → list_any (λ id. nat_eq count id.count) ids ≡ true
     → is_among nat_eq (counted count) (map (λ id. counted id.count) ids) ≡ true
 listed_among count [] listed = listed
 listed_among count (id ∷ ids) listed =
-    (λ i. same_count count id.count i || among ids i) ∙ listed
+    (λ i. counted_test count id.count i || among ids i) ∙ listed
   where
     among : (ids : List MountId) → is_among nat_eq (counted count) (map (λ id. counted id.count) ids)
         ≡ list_any (λ id. nat_eq count id.count) ids
     among [] = refl
-    among (other ∷ rest) = λ i. same_count count other.count i || among rest i
+    among (other ∷ rest) = λ i. counted_test count other.count i || among rest i
 
 -- a type with a source is found
 pub sourced_found : (source : ℕ) (found : Option (Propagation ℕ))
@@ -66,6 +68,7 @@ pub sourced_found : (source : ℕ) (found : Option (Propagation ℕ))
 sourced_found source None is = absurd (true≢false (sym (ap is_some is)))
 sourced_found source (Some kind) is = refl
 
+-- a member of a group has an entry
 pub member_found : (group : ℕ) (found : Option (Propagation ℕ))
     → holds_of (nat_eq group) (group_of (unwrap_or found Private)) ≡ true → is_some found ≡ true
 member_found group None is = absurd (true≢false (sym is))
@@ -96,9 +99,11 @@ found_kind number es some =
       is,
     )
 
+-- counts with one number are found to be one
 pub counted_same : (a b : ℕ) → counted a ≡ counted b → nat_eq b a ≡ true
 counted_same a b e = eq-eqb b a (omega (arith, e))
 
+-- a type whose source is a group names it
 pub source_has : (group : GroupId) (kind : Kept) → source_of (propagation_of kind) ≡ Some (counted group.count)
     → has_source group kind ≡ true
 source_has group (Shared own) is = counted_same own.count group.count (same_Some (counted own.count) (counted group.count) is)
@@ -107,6 +112,7 @@ source_has group (Slave master) is =
 source_has group Unshared is = absurd (true≢false (sym (ap is_some is)))
 source_has group Unbindable is = absurd (true≢false (sym (ap is_some is)))
 
+-- a member of a group is shared in it
 pub member_kind : (group : GroupId) (kind : Kept)
     → holds_of (nat_eq (counted group.count)) (group_of (propagation_of kind)) ≡ true → kind ≡ Shared group
 member_kind group (Shared own) is =

@@ -17,13 +17,14 @@ use Rattle.vt_group.specs.Grouping.{are_rising}
 use Rattle.vt_group.specs.Steps.{group_number, numbered_master}
 use Rattle.vt_group.specs.Together.{new_group, with_master_of}
 use Rattle.vt_group.proofs.Adding.{lookup-all, rising-all}
-use Rattle.vt_group.proofs.CountLemmas.{inserted-numbered, lookup-numbered, removed-numbered, same_count}
+use Rattle.vt_group.proofs.CountLemmas.{inserted-numbered, lookup-numbered, removed-numbered}
 use Rattle.vt_group.proofs.EndedTypes.{rising_numbers}
 use Rattle.vt_group.proofs.Invariant.{at_nat}
 use Rattle.vt_group.proofs.Listing.{found_count}
 use Rattle.vt_group.proofs.Regrouping.{keys}
 use Rattle.vt_group.proofs.Showing.{same_entries}
-use Rattle.vt_group.proofs.Together.{eqb-swapped}
+use Rattle.vt_spec.proofs.Truths.{nat_eq-swapped}
+use Rattle.vt_location.proofs.NumberLemmas.{counted_test}
 
 -- a group gets a master, and is not left to lose it
 pub master_inserted : (count group : ℕ) (left was : Bool) (next now master : Option GroupId)
@@ -35,10 +36,10 @@ master_inserted count group left was next now master leaves writes = by (nat_eq 
         → (if left then None else next) ≡ (if nat_eq group count then master else (if was then None else now))
     by true same leaves writes =
         (λ i. if leaves i then None else writes i)
-        ∙ ap (λ b. if b then master else (if was then None else now)) (sym (eqb-swapped count group true same))
+        ∙ ap (λ b. if b then master else (if was then None else now)) (sym (nat_eq-swapped count group true same))
     by false apart leaves writes =
         (λ i. if leaves i then None else writes i)
-        ∙ ap (λ b. if b then master else (if was then None else now)) (sym (eqb-swapped count group false apart))
+        ∙ ap (λ b. if b then master else (if was then None else now)) (sym (nat_eq-swapped count group false apart))
 
 -- one more group loses its master
 pub one_more_left : (groups : List GroupId) (i : ℕ) (default : GroupId) → i < length groups
@@ -60,13 +61,13 @@ one_more_left groups i default less was now next removes left group =
         → cond b None (if there then None else was group)
         ≡ (if there || nat_eq group count then None else was group)
     by true same there =
-        either there ∙ ap (λ b. if there || b then None else was group) (sym (eqb-swapped count group true same))
+        either there ∙ ap (λ b. if there || b then None else was group) (sym (nat_eq-swapped count group true same))
       where
         either : (there : Bool) → None ≡ (if there || true then None else was group)
         either true = refl
         either false = refl
     by false apart there =
-        either there ∙ ap (λ b. if there || b then None else was group) (sym (eqb-swapped count group false apart))
+        either there ∙ ap (λ b. if there || b then None else was group) (sym (nat_eq-swapped count group false apart))
       where
         either : (there : Bool) → (if there then None else was group) ≡ (if there || false then None else was group)
         either true = refl
@@ -104,7 +105,7 @@ seen_folded count (first ∷ list) kept seen same =
     seen_folded count list (with_new_master kept first) (masters_with nat_eq seen (new_group first))
     (by (nat_eq count first.group.count)
     ∙ ap (λ b. if b then option_map group_number first.master else seen (counted count))
-    (sym (same_count count first.group.count)))
+    (sym (counted_test count first.group.count)))
   where
     by : (b : Bool) → option_map group_number (if b then first.master else kept count)
         ≡ (if b then option_map group_number first.master else seen (counted count))
@@ -147,6 +148,7 @@ module _ (old new : BTreeMap ℕ GroupId) (list : List NewGroup) (ordered : IsOr
           at_one at.0 at.1
       by false is false was = none_from_not_some _ is ∙ sym (none_from_not_some _ was)
 
+  -- masters that are put in are those of the definitions, with the new ones
   pub masters_put : seen_new ≡ put_all
   masters_put =
       same_entries seen_new put_all (rising_numbers group_number new ordered_new)

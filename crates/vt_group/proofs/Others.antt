@@ -4,9 +4,10 @@ use Rattle.std.proofs.lemmas.Bool.{and_from, and_parts}
 use Rattle.std.specs.List.{cons_option, list_all}
 use Rattle.vt_spec.specs.Machine.Mounts.{Mount, source_of}
 use Rattle.vt_spec.specs.Machine.World.{World}
-use Rattle.vt_group.specs.Grouping.{Grouping, Has, are_rising, numbers_of, peers_of}
+use Rattle.vt_group.specs.Grouping.{Grouping, Has, are_rising, peers_of}
 use Rattle.vt_group.specs.Together.{is_ordered}
 use Rattle.vt_group.proofs.Regrouping.{keys}
+use Rattle.vt_mount_laws.specs.Mounts.Attaching.{numbers_of}
 
 low_peers : (number : ℕ) (mounts : List (Mount ℕ)) → list_all (nat_lt number) (numbers_of mounts) ≡ true
     → list_all (nat_lt number) (keys (peers_of mounts)) ≡ true
@@ -34,5 +35,6 @@ rising_peers (mount ∷ rest) rising =
     by None low later = later
     by (Some source) low later = and_from _ _ low later
 
+-- the groups of a world are in order
 pub has_ordered : (world : World ℕ) (groups : Grouping) → Has world groups → is_ordered groups ≡ true
 has_ordered world groups has = ap (λ peers. are_rising (keys peers)) has.peers ∙ rising_peers world.mounts has.order

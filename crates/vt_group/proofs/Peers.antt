@@ -13,9 +13,11 @@ use Rattle.vt_spec.specs.Machine.Mounts.{Mount, Propagation, group_of, source_of
 use Rattle.vt_spec.specs.Machine.Mounts.Propagation.{Private, Shared, Slave, Unbindable}
 use Rattle.vt_spec.specs.Machine.Receives.{has_members}
 use Rattle.vt_spec.proofs.Lists.{Among, among_from_list_all, among_numbers, among-map, map_same}
-use Rattle.vt_group.specs.Grouping.{are_rising, numbers_of, peer_of, peers_of, retyped_if}
+use Rattle.vt_group.specs.Grouping.{are_rising, peer_of, peers_of, retyped_if}
 use Rattle.vt_group.specs.Steps.{is_member}
+use Rattle.vt_mount_laws.specs.Mounts.Attaching.{numbers_of}
 
+-- a number below those of all mounts is that of none
 pub above_first : (number : ℕ) (mounts : List (Mount ℕ)) → list_all (nat_lt number) (numbers_of mounts) ≡ true
     → (mount : Mount ℕ) → Among mount mounts → nat_eq number mount.number ≡ false
 above_first number mounts all mount m =
@@ -38,6 +40,7 @@ lookup-below number (mount ∷ rest) none = by (source_of mount.propagation)
     by (Some s) later = ap (λ b. cond b (Some mount.propagation) (lookup (nat_eq number) (peers_of rest)))
         (none mount (inl refl)) ∙ later
 
+-- a mount with the number and the type is there
 abbrev pub FoundIn : List (Mount ℕ) → ℕ → Propagation ℕ → Type 0
 FoundIn mounts number kind = (mount : Mount ℕ) × Among mount mounts × (mount.number ≡ number)
     × (mount.propagation ≡ kind)
@@ -157,10 +160,12 @@ members-peers group (mount ∷ rest) = by mount.propagation refl (members-peers 
 
 -- One mount changes its type
 
+-- a mount with another number keeps its type
 pub retyped_other : (number : ℕ) (kind : Propagation ℕ) (mount : Mount ℕ) → nat_eq number mount.number ≡ false
     → retyped_if number kind mount ≡ mount
 retyped_other number kind mount differ = ap (λ b. if b then record mount { propagation = kind } else mount) differ
 
+-- the mount with the number gets the type
 pub retyped_same : (number : ℕ) (kind : Propagation ℕ) (mount : Mount ℕ) → nat_eq number mount.number ≡ true
     → retyped_if number kind mount ≡ record mount { propagation = kind }
 retyped_same number kind mount same = ap (λ b. if b then record mount { propagation = kind } else mount) same
@@ -171,6 +176,7 @@ retyped_above : (number : ℕ) (kind : Propagation ℕ) (mounts : List (Mount �
 retyped_above number kind mounts all = map_same (retyped_if number kind) mounts
     (λ mount m. retyped_other number kind mount (above_first number mounts all mount m))
 
+-- mounts keep their numbers where one gets a type
 pub numbers-retyped : (number : ℕ) (kind : Propagation ℕ) (mounts : List (Mount ℕ))
     → numbers_of (map (retyped_if number kind) mounts) ≡ numbers_of mounts
 numbers-retyped number kind [] = refl
@@ -181,6 +187,7 @@ numbers-retyped number kind (mount ∷ rest) = λ i. same (nat_eq number mount.n
     same true = refl
     same false = refl
 
+-- entries stay where none has the number that is removed
 pub remove-absent : (number : ℕ) (peers : List (ℕ × Propagation ℕ)) → lookup (nat_eq number) peers ≡ None
     → remove_entry (nat_eq number) peers ≡ peers
 remove-absent number [] e = refl
@@ -251,9 +258,11 @@ below_peers number kind (mount ∷ rest) all = by (source_of mount.propagation)
         ((mount.number, kind) ∷ peers_of rest)
         ((mount.number, mount.propagation) ∷ insert_entry nat_cmp (peers_of rest) number kind)) (and_parts _ _ all).0
 
+-- a number is found equal to itself
 pub cmp_same : (a b : ℕ) → nat_eq a b ≡ true → nat_cmp a b ≡ Equal
 cmp_same a b e = (λ i. cond (le-ltb a b (omega (arith, eqb-true a b e)) i) Less (cond (e i) Equal Greater))
 
+-- and greater than one below it
 pub cmp_greater : (a b : ℕ) → nat_lt b a ≡ true → nat_cmp a b ≡ Greater
 cmp_greater a b l =
     let less = ltb-true b a l in

@@ -1,21 +1,21 @@
 -- Who receives from a group: the mounts of the groups that are found from it downwards.
 use Rattle.std.proofs.lemmas.List.Filters.{length-filter_both}
-use Rattle.std.proofs.Common.{◌≡◌, refl, sym, ap, subst, ◌∙◌, true, false, zero, suc, Bool, List, None, Option, Some, [], arith, cond, is_some, length, map, nat_eq, option_map, true≢false, ℕ, ◌&&◌, ◌||◌, ◌+◌, ◌∷◌, ◌≤◌, filter, not, ⊎_elim, inl, inr}
-use Rattle.std.proofs.lemmas.Bool.{and_parts, eqb-true, false_from_ne_true, or_cases, or_from, or_parts}
-use Rattle.std.proofs.lemmas.Option.{same_Some}
+use Rattle.std.proofs.Common.{◌≡◌, refl, sym, ap, ◌∙◌, true, false, zero, suc, Bool, List, None, Option, Some, [], arith, cond, is_some, length, map, nat_eq, option_map, true≢false, ℕ, ◌&&◌, ◌||◌, ◌+◌, ◌∷◌, ◌≤◌, filter, not, ⊎_elim, inl, inr}
+use Rattle.std.proofs.lemmas.Bool.{and_parts, eqb-true, or_cases, or_parts}
 use Rattle.std.specs.List.{cons_option, list_all, list_any}
 use Rattle.vt_spec.specs.Lists.{any_pair, chain, holds_of, is_among, last_or}
 use Rattle.vt_spec.specs.Machine.Mounts.{Mount, Propagation, group_of, source_of}
 use Rattle.vt_spec.specs.Machine.Receives.{groups_up, has_members, receivers, receives}
 use Rattle.vt_spec.specs.Machine.World.{World}
 use Rattle.vt_spec.specs.Machine.Invariants.{HasLivingGroups, Lives}
-use Rattle.vt_spec.specs.Machine.Invariants.Lives.{has_master, has_no_master}
-use Rattle.vt_spec.proofs.Lists.{Among, among-filter, among_from_all, among_from_list_all, among_numbers, any_among, any_from_among, chain_ends, chain_goes_on, last_of_chain, list_all_from_among, none_among}
-use Rattle.vt_group.specs.Grouping.{Grouping, GroupsLive, Has, master_in, peer_of, peers_of}
+use Rattle.vt_spec.proofs.Lists.{Among, among-filter, among_from_all, among_from_list_all, any_among, any_from_among, chain_ends, chain_goes_on, last_of_chain, list_all_from_among, none_among}
+use Rattle.vt_group.specs.Grouping.{Grouping, Has, master_in, peer_of, peers_of}
 use Rattle.vt_group.specs.Receiving.{FindsBelow}
 use Rattle.vt_group.specs.Steps.{is_member}
-use Rattle.vt_group.proofs.Changes.{live_members}
+use Rattle.vt_mount_laws.proofs.GroupsUp.{all_on_way, ends_within, way, way_apart, way_members}
 use Rattle.vt_group.proofs.Peers.{members-peers}
+use Rattle.vt_spec.proofs.Truths.{or_false_alone, same_truth}
+use Rattle.vt_mount_laws.specs.Mounts.Receivers.{AllGroupsLive}
 
 module _ (master : ℕ → Option ℕ) where
   -- the end of a chain has no master
@@ -65,89 +65,10 @@ module _ (master : ℕ → Option ℕ) where
           chain_goes_on other n source next (same source parts.0 ∙ e) ∙ ap (λ l. source ∷ l) (later next parts.1)
           ∙ sym (chain_goes_on master n source next e)
 
-  module _ (members : ℕ → Bool) where
-    -- the groups on the way
-    abbrev way : (group : ℕ) → Lives members master group → List ℕ
-    way group (has_no_master it has f) = it ∷ []
-    way group (has_master it next has f later) = it ∷ way next later
-
-    pub all_on_way : (n group : ℕ) → Lives members master group → list_all members (chain n master group) ≡ true
-    all_on_way zero group life = ap (λ b. b && true) (live_members members master group life)
-    all_on_way (suc n) group (has_no_master it has f) = ap (list_all members) (chain_ends master n it f)
-        ∙ ap (λ b. b && true) has
-    all_on_way (suc n) group (has_master it next has f later) =
-        ap (list_all members) (chain_goes_on master n it next f)
-        ∙ ap (λ b. b && list_all members (chain n master next)) has ∙ all_on_way n next later
-
-    ends_within : (n group : ℕ) (life : Lives members master group) → length (way group life) ≤ suc n
-        → is_some (master (last_or group (chain n master group))) ≡ false
-    ends_within zero group (has_no_master it has f) l = ap is_some f
-    ends_within (suc n) group (has_no_master it has f) l = ap (λ gs. is_some (master (last_or it gs)))
-        (chain_ends master n it f) ∙ ap is_some f
-    ends_within zero group (has_master it next has f later) l = absurd (too_long next later l)
-      where
-        too_long : (g : ℕ) (life : Lives members master g) → suc (length (way g life)) ≤ 1 → ⊥
-        too_long g (has_no_master x h e) t = omega (arith, t)
-        too_long g (has_master x y h e r) t = omega (arith, t)
-    ends_within (suc n) group (has_master it next has f later) l =
-        ap (λ g. is_some (master g)) (ap (last_or it) (chain_goes_on master n it next f)
-        ∙ last_of_chain master n next it)
-        ∙ ends_within n next later (omega (arith, l))
-
-    same_length : (a : ℕ) (life : Lives members master a) (b : ℕ) (other : Lives members master b) → a ≡ b
-        → length (way a life) ≡ length (way b other)
-    same_length a (has_no_master x has f) b (has_no_master y has_too g) e = refl
-    same_length a (has_no_master x has f) b (has_master y next has_too g later) e = absurd
-        (true≢false (sym (ap is_some (ap master e ∙ g)) ∙ ap is_some f))
-    same_length a (has_master x next has f later) b (has_no_master y has_too g) e = absurd
-        (true≢false (sym (ap is_some (ap master (sym e) ∙ f)) ∙ ap is_some g))
-    same_length a (has_master x next has f later) b (has_master y after has_too g later_too) e =
-        ap suc (same_length next later after later_too (same_Some next after (sym f ∙ ap master e ∙ g)))
-
-    -- what is on the way has a way that is no longer
-    rest_of_way : (group : ℕ) (life : Lives members master group) (other : ℕ) → Among other (way group life)
-        → (rest : Lives members master other) × (length (way other rest) ≤ length (way group life))
-    rest_of_way group (has_no_master it has f) other m = ⊎_elim (λ e. by other (sym e)) (λ none. absurd none) m
-      where
-        by : (o : ℕ) → it ≡ o → (rest : Lives members master o) × (length (way o rest) ≤ 1)
-        by o e = subst (λ g. (rest : Lives members master g) × (length (way g rest) ≤ 1)) e
-            (has_no_master it has f, omega arith)
-    rest_of_way group (has_master it next has f later) other m =
-        ⊎_elim
-        (λ e. subst (λ g. (rest : Lives members master g) × (length (way g rest) ≤ suc (length (way next later))))
-        (sym e) (has_master it next has f later, omega arith))
-        (λ l. let t = rest_of_way next later other l in (t.0, omega (arith, t.1)))
-        m
-
-    -- no group comes twice
-    way_apart : (group : ℕ) (life : Lives members master group) → any_pair nat_eq (way group life) ≡ false
-    way_apart group (has_no_master it has f) = refl
-    way_apart group (has_master it next has f later) =
-        or_from (list_any (nat_eq it) (way next later)) (any_pair nat_eq (way next later))
-        (false_from_ne_true (list_any (nat_eq it) (way next later)) (λ h.
-        let t = rest_of_way next later it (among_numbers (way next later) it h) in
-        let same : length (way it t.0)
-        ≡ suc (length (way next later)) = same_length it t.0 it (has_master it next has f later) refl in
-        absurd (omega (arith, t.1, same))))
-        (way_apart next later)
-
-    way_members : (group : ℕ) (life : Lives members master group) → list_all members (way group life) ≡ true
-    way_members group (has_no_master it has f) = ap (λ b. b && true) has
-    way_members group (has_master it next has f later) = ap (λ b. b && list_all members (way next later)) has
-        ∙ way_members next later
-
-or_not : (b : Bool) → (b || false) ≡ true → b ≡ true
-or_not true is = refl
-or_not false is = is
-
-either : (a b c : Bool) → (b ≡ true → c ≡ true) → (a || b) ≡ true → (a || c) ≡ true
-either true b c so is = refl
-either false b c so is = so is
-
-same_truth : (a b : Bool) → (a ≡ true → b ≡ true) → (b ≡ true → a ≡ true) → a ≡ b
-same_truth true b so back = sym (so refl)
-same_truth false true so back = back refl
-same_truth false false so back = refl
+-- a choice that holds holds also with a weaker second test
+or_weaker : (a b c : Bool) → (b ≡ true → c ≡ true) → (a || b) ≡ true → (a || c) ≡ true
+or_weaker true b c so is = refl
+or_weaker false b c so is = so is
 
 -- groups that each have a member are no more than the peers
 fewer_groups : (groups : List ℕ) (peers : List (ℕ × Propagation ℕ)) → any_pair nat_eq groups ≡ false
@@ -192,6 +113,7 @@ fewer_groups (group ∷ groups) peers distinct all =
 
 -- The mounts that receive, among those that are shared or slaves
 
+-- the numbers of the mounts whose source passes a test
 abbrev pub picked : (ℕ → Bool) → List (ℕ × Propagation ℕ) → List ℕ
 picked test [] = []
 picked test (peer ∷ rest) = cond (holds_of test (source_of peer.1)) (peer.0 ∷ picked test rest) (picked test rest)
@@ -265,7 +187,7 @@ longer_chain master group zero (suc m) source le is = by (master source) refl
     by None e = ap (is_among nat_eq group) (chain_ends master m source e) ∙ is
     by (Some next) e =
         ap (is_among nat_eq group) (chain_goes_on master m source next e)
-        ∙ ap (λ b. b || is_among nat_eq group (chain m master next)) (or_not (nat_eq group source) is)
+        ∙ ap (λ b. b || is_among nat_eq group (chain m master next)) (or_false_alone (nat_eq group source) is)
 longer_chain master group (suc n) zero source le is = absurd (omega (arith, le))
 longer_chain master group (suc n) (suc m) source le is =
     by (master source) refl (λ next. longer_chain master group n m next (omega (arith, le)))
@@ -278,7 +200,7 @@ longer_chain master group (suc n) (suc m) source le is =
         ap (is_among nat_eq group) (chain_ends master m source e ∙ sym (chain_ends master n source e)) ∙ is
     by (Some next) e later =
         ap (is_among nat_eq group) (chain_goes_on master m source next e)
-        ∙ either (nat_eq group source) (is_among nat_eq group (chain n master next))
+        ∙ or_weaker (nat_eq group source) (is_among nat_eq group (chain n master next))
         (is_among nat_eq group (chain m master next)) (later next)
         (ap (is_among nat_eq group) (sym (chain_goes_on master n source next e)) ∙ is)
 
@@ -288,21 +210,21 @@ module _ (groups : Grouping) (group : ℕ) (found : ℕ → Bool) (finds : Finds
 
   -- what the group is up the masters of is found
   below_found : (n source : ℕ) → is_among nat_eq group (chain n (master_in groups) source) ≡ true → found source ≡ true
-  below_found zero source is = first_found source (or_not (nat_eq group source) is)
+  below_found zero source is = first_found source (or_false_alone (nat_eq group source) is)
   below_found (suc n) source is = by (master_in groups source) refl (below_found n)
     where
       by : (o : Option ℕ) → master_in groups source ≡ o
           → ((next : ℕ) → is_among nat_eq group (chain n (master_in groups) next) ≡ true → found next ≡ true)
           → found source ≡ true
       by None e later =
-          first_found source (or_not (nat_eq group source)
+          first_found source (or_false_alone (nat_eq group source)
           (ap (is_among nat_eq group) (sym (chain_ends (master_in groups) n source e)) ∙ is))
       by (Some next) e later =
           ⊎_elim (first_found source) (λ among. finds.lower source next e (later next among))
           (or_cases (nat_eq group source) (is_among nat_eq group (chain n (master_in groups) next))
           (ap (is_among nat_eq group) (sym (chain_goes_on (master_in groups) n source next e)) ∙ is))
 
-  module _ (world : World ℕ) (has : Has world groups) (live : GroupsLive world) where
+  module _ (world : World ℕ) (has : Has world groups) (live : AllGroupsLive world) where
     abbrev members : ℕ → Bool
     members = has_members nat_eq world.mounts
 
@@ -327,6 +249,7 @@ module _ (groups : Grouping) (group : ℕ) (found : ℕ → Bool) (finds : Finds
         ∙ longer_chain world.master group reaches.0 most source (omega arith)
         (ap (is_among nat_eq group) (sym (alike reaches.0 source life)) ∙ reaches.1))
 
+    -- the mounts that are picked are the receivers of the definitions
     pub receivers_found : picked found groups.peers ≡ map (λ mount. mount.number) (receivers nat_eq world group)
     receivers_found =
         ap (picked found) has.peers

@@ -6,36 +6,24 @@ use Rattle.std.specs.Prelude.{filter_map, if◌then◌else◌}
 use Rattle.std.specs.List.{cons_option, list_all, list_any}
 use Rattle.std.specs.Map.{lookup}
 use Rattle.vt_spec.specs.Lists.{chain, holds_of, then_some}
-use Rattle.vt_spec.specs.Machine.Mounts.{Mount, Propagation, group_of, source_of}
+use Rattle.vt_spec.specs.Machine.Mounts.{Mount, Propagation, source_of}
 use Rattle.vt_spec.specs.Machine.Mounts.Propagation.{Private, Shared, Slave, Unbindable}
 use Rattle.vt_spec.specs.Machine.Receives.{has_members, heir, inherited, inheriting, is_lost_group, is_member_of, lost_a_group, regrouped, regrouped_by, slave_of_heir}
 use Rattle.vt_spec.specs.Machine.Settled.{without_dead_groups}
 use Rattle.vt_spec.specs.Machine.World.{World}
 use Rattle.vt_spec.proofs.Lists.{Among, any_among, any_from_among, chain_goes_on}
-use Rattle.vt_group.specs.Grouping.{Grouping, Has, are_rising, master_in, numbers_of, peer_of, peers_of}
+use Rattle.vt_group.specs.Grouping.{Grouping, Has, are_rising, master_in, peer_of, peers_of}
 use Rattle.vt_group.specs.Steps.{ended, ended_if_lost, handed, handed_entry, handed_peer, has_peers, is_member}
-use Rattle.vt_group.proofs.GroupLemmas.{find_start, inherited_kept, master-regrouped, members-regrouped, mounts-regrouped, no_heir}
 use Rattle.vt_group.proofs.Peers.{members-peers}
-
--- a member of a group is shared
-pub member_shared : (group : ℕ) (mount : Mount ℕ) → is_member_of nat_eq group mount ≡ true
-    → mount.propagation ≡ Shared group
-member_shared group mount h = by mount.propagation refl h
-  where
-    by : (kind : Propagation ℕ) → mount.propagation ≡ kind → holds_of (nat_eq group) (group_of mount.propagation) ≡ true
-        → mount.propagation ≡ Shared group
-    by (Shared own) e t = e ∙ ap Shared
-        (sym (eqb-true group own (sym (ap (λ k. holds_of (nat_eq group) (group_of k)) e) ∙ t)))
-    by (Slave up) e t = absurd (true≢false (sym t ∙ ap (λ k. holds_of (nat_eq group) (group_of k)) e))
-    by Private e t = absurd (true≢false (sym t ∙ ap (λ k. holds_of (nat_eq group) (group_of k)) e))
-    by Unbindable e t = absurd (true≢false (sym t ∙ ap (λ k. holds_of (nat_eq group) (group_of k)) e))
-
-pub shared_member : (group : ℕ) (mount : Mount ℕ) → mount.propagation ≡ Shared group
-    → is_member_of nat_eq group mount ≡ true
-shared_member group mount e = ap (λ k. holds_of (nat_eq group) (group_of k)) e ∙ eq-eqb group group refl
+use Rattle.vt_spec.proofs.Found.{find-chain_start}
+use Rattle.vt_mount_laws.proofs.GroupsKept.{member_shared}
+use Rattle.vt_mount_laws.proofs.Groups.{inherited_kept, mounts-regrouped, members-regrouped, master-regrouped, no_heir}
+use Rattle.vt_mount_laws.proofs.mounts.MountsKept.{numbers_regrouped}
+use Rattle.vt_mount_laws.specs.Mounts.Attaching.{numbers_of}
 
 -- Entries of groups and masters
 
+-- the numbers of entries
 abbrev pub keys : {V : Type 0} → List (ℕ × V) → List ℕ
 keys entries = map (λ entry. entry.0) entries
 
@@ -56,6 +44,7 @@ below_keys low lost left (e ∷ masters) all =
     by false None rest = rest
     by false (Some m) rest = and_from _ _ parts.0 rest
 
+-- masters stay in order where one group is handed on
 pub rising-handed : (lost : ℕ) (left : Option ℕ) (masters : List (ℕ × ℕ)) → are_rising (keys masters) ≡ true
     → are_rising (keys (filter_map (handed_entry lost left) masters)) ≡ true
 rising-handed lost left [] rising = refl
@@ -74,6 +63,7 @@ rising-handed lost left (e ∷ masters) rising =
     by false None rest low = rest
     by false (Some m) rest low = and_from _ _ low rest
 
+-- a group below all that have a master has none
 pub lookup-low : {V : Type 0} (group : ℕ) (masters : List (ℕ × V)) → list_all (nat_lt group) (keys masters) ≡ true
     → lookup (nat_eq group) masters ≡ None
 lookup-low group [] all = refl
@@ -163,13 +153,6 @@ module _ (world : World ℕ) where
   abbrev members : ℕ → Bool
   members = has_members nat_eq world.mounts
 
-  numbers-regrouped : numbers_of (regrouped nat_eq world).mounts ≡ numbers_of world.mounts
-  numbers-regrouped = ap numbers_of (mounts-regrouped world) ∙ same world.mounts
-    where
-      same : (mounts : List (Mount ℕ)) → numbers_of (map (inheriting nat_eq world) mounts) ≡ numbers_of mounts
-      same [] = refl
-      same (mount ∷ rest) = ap (λ l. mount.number ∷ l) (same rest)
-
   -- the peers, where each mount's entry after inheritance comes from its own before
   peers-inherited : (change : ℕ × Propagation ℕ → Option (ℕ × Propagation ℕ)) (mounts : List (Mount ℕ))
       → ((mount : Mount ℕ) → Among mount mounts
@@ -237,9 +220,10 @@ module _ (world : World ℕ) where
         by true has = found has (world.master group) refl
         by false has = refl
 
+    -- where no group lost its last member the groups are those of the regrouped world
     pub none_lost : Has (regrouped nat_eq world) groups
     none_lost = record {
-      order = ap are_rising numbers-regrouped ∙ kept.order;
+      order = ap are_rising (numbers_regrouped world) ∙ kept.order;
       peers = kept.peers ∙ sym (all_kept (peers_of world.mounts)) ∙ sym (peers-inherited Some world.mounts unlost_peer)
           ∙ ap peers_of (sym (mounts-regrouped world));
       masters_order = kept.masters_order;
@@ -264,7 +248,7 @@ module _ (world : World ℕ) where
         ap (find (has_members nat_eq (mount ∷ rest))) (chain_goes_on world.master (length rest) lost above e)
         ∙ ap (λ b. cond b (Some lost) (find (has_members nat_eq (mount ∷ rest))
         (chain (length rest) world.master above))) none
-        ∙ find_start (has_members nat_eq (mount ∷ rest)) world.master (length rest) above has
+        ∙ find-chain_start (has_members nat_eq (mount ∷ rest)) world.master (length rest) above has
 
     -- its heir is its master
     heir_is : heir nat_eq world (Some lost) ≡ world.master lost
@@ -369,9 +353,10 @@ module _ (world : World ℕ) where
             ∙ by_above has (world.master group) refl
         by false has = apart_none has (nat_eq group lost) refl
 
+    -- where one did they are, once it has ended
     pub one_lost : Has (regrouped nat_eq world) (ended lost groups)
     one_lost = record {
-      order = ap are_rising numbers-regrouped ∙ kept.order;
+      order = ap are_rising (numbers_regrouped world) ∙ kept.order;
       peers = (λ i. filter_map (handing (heir_in_groups i)) (kept.peers i))
           ∙ sym (peers-inherited (handing (world.master lost)) world.mounts lost_peer)
           ∙ ap peers_of (sym (mounts-regrouped world));

@@ -9,6 +9,7 @@ use Rattle.vt_location.specs.declared.numbers.GroupId.{GroupId}
 use Rattle.vt_group.specs.declared.sets.Sets.{Sets}
 use Rattle.vt_group.specs.Sets.{has, kept_in, same_group}
 
+-- groups that are the same are one
 pub same_id : (a b : GroupId) → same_group a b ≡ true → b ≡ a
 same_id a b same = λ i. record { count = sym (eqb-true a.count b.count same) i }
 
@@ -58,6 +59,7 @@ module _ {T : Type 0} (eq : T → T → Bool) (old new : Sets T) (group : GroupI
       by true same = stays (ap (list_any (eq other)) (sym is ∙ ap (λ id. kept_in id old) (sym (same_id group at same))) ∙ there)
       by false apart = there
 
+  -- a set in which one was put has it, and what it had
   pub has-put : (was now : List T) (one : T)
       → ((at : GroupId) → kept_in at new ≡ (if same_group group at then now else kept_in at old))
       → kept_in group old ≡ was
@@ -68,6 +70,7 @@ module _ {T : Type 0} (eq : T → T → Bool) (old new : Sets T) (group : GroupI
       ∙ (λ i. if eq-eqb group.count group.count refl i then (if itself i then true else has eq group one old)
       else has eq group one old)
 
+  -- every set keeps what it had where one was put in
   pub has-kept : (was now : List T) (one : T)
       → ((at : GroupId) → kept_in at new ≡ (if same_group group at then now else kept_in at old))
       → kept_in group old ≡ was
@@ -82,6 +85,7 @@ module _ {T : Type 0} (eq : T → T → Bool) (old new : Sets T) (group : GroupI
       by true false = there
       by false b = there
 
+  -- and what it had but the one that was removed
   pub has-left : (was now : List T) (one : T)
       → ((at : GroupId) → kept_in at new ≡ (if same_group group at then now else kept_in at old))
       → kept_in group old ≡ was
@@ -98,10 +102,12 @@ module _ {T : Type 0} (eq : T → T → Bool) (old new : Sets T) (group : GroupI
       by true false apart = there
       by false b apart = there
 
+-- an entry that is dropped is not found
 pub dropped-empty : {A : Type 0} (b : Bool) (found rest : Option A) → cond b None (cond b found rest) ≡ cond b None rest
 dropped-empty true found rest = refl
 dropped-empty false found rest = refl
 
+-- an empty list has nothing
 pub nothing-kept : {T : Type 0} (test : T → Bool) (keys : List T) → length keys ≡ 0 → list_any test keys ≡ false
 nothing-kept test [] none = refl
 nothing-kept test (key ∷ keys) none = absurd (omega (arith, none))
@@ -121,6 +127,7 @@ module _ {T : Type 0} (GroupClone : GroupId → GroupId → Type 0) (Clone : T �
   abbrev Entry : Type 0
   Entry = GroupId × HashSet T (BuildHasherDefault FoldHasher)
 
+  -- sets that are cloned have what the first ones have
   pub kept_cloned : (entries copies : List Entry)
       → AllZip (λ one copy. GroupClone one.0 copy.0 × AllZip Clone one.1.keys copy.1.keys) entries copies
       → (at : GroupId) → unwrap_or (option_map (λ set. set.keys) (lookup (same_group at) copies)) []

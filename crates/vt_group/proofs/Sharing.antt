@@ -16,17 +16,19 @@ use Rattle.vt_spec.specs.Machine.Types.{master_after, retyped, retyped_mount, ty
 use Rattle.vt_spec.specs.Machine.World.{World}
 use Rattle.vt_spec.specs.Machine.Invariants.{HasLivingGroups, Lives}
 use Rattle.vt_spec.specs.Machine.Invariants.Lives.{has_master, has_no_master}
-use Rattle.vt_spec.proofs.Lists.{Among, all_from_among, among-from_map, among-map, among_from_all, among_from_contains, any_among, any_from_among, is_among_numbers}
+use Rattle.vt_spec.proofs.Lists.{Among, all_from_among, among-from_map, among-map, among_from_all, among_from_contains, any_among, any_from_among, is_among_numbers, map_alike, map_twice}
 use Rattle.vt_location.specs.declared.numbers.GroupId.{GroupId}
 use Rattle.vt_location.specs.declared.numbers.MountId.{MountId}
-use Rattle.vt_group.specs.Grouping.{Grouping, GroupsLive, Has, HasGroup, LacksGroup, are_rising, numbers_of, peers_of, propagation_in, retyped_if}
+use Rattle.vt_group.specs.Grouping.{Grouping, Has, HasGroup, LacksGroup, are_rising, peers_of, propagation_in, retyped_if}
 use Rattle.vt_group.specs.Laws.{shown}
 use Rattle.vt_group.specs.Together.{Grows, all_added, if_sourced, pair_of, shared_group, shared_type, with_type_of}
 use Rattle.vt_group.proofs.Adding.{grown_has}
 use Rattle.vt_group.proofs.Peers.{above_first, numbers-retyped, peers-set}
-use Rattle.vt_group.proofs.Regrouping.{member_shared, shared_member}
 use Rattle.vt_group.proofs.Showing.{shows_types}
-use Rattle.vt_group.proofs.Together.{map_alike, map-twice, old_masters, regrouped_living}
+use Rattle.vt_group.proofs.Together.{old_masters, regrouped_living}
+use Rattle.vt_mount_laws.proofs.GroupsKept.{member_shared, shared_member}
+use Rattle.vt_mount_laws.specs.Mounts.Attaching.{numbers_of}
+use Rattle.vt_mount_laws.specs.Mounts.Receivers.{AllGroupsLive}
 
 -- mounts with one number are one
 one_number : (mounts : List (Mount ℕ)) → are_rising (numbers_of mounts) ≡ true → (a b : Mount ℕ) → Among a mounts
@@ -41,7 +43,7 @@ one_number (first ∷ rest) rising a b m n same =
     apart : (x : Mount ℕ) → Among x rest → x.number ≡ first.number → ⊥
     apart x l e = eqb-false first.number x.number (above_first first.number rest (and_parts _ _ rising).0 x l) (sym e)
 
-module _ (world : World ℕ) (live : GroupsLive world) (groups : Grouping) (has : Has world groups) (group : ℕ → ℕ)
+module _ (world : World ℕ) (live : AllGroupsLive world) (groups : Grouping) (has : Has world groups) (group : ℕ → ℕ)
     (lacks : (number : ℕ) → LacksGroup world (group number)) where
   abbrev were : ℕ → Bool
   were = has_members nat_eq world.mounts
@@ -49,9 +51,11 @@ module _ (world : World ℕ) (live : GroupsLive world) (groups : Grouping) (has 
   abbrev to_shared : Mount ℕ → Propagation ℕ
   to_shared mount = type_after (group mount.number) ToShared mount.propagation
 
+  -- the types that the named mounts get
   abbrev pub types : List (Mount ℕ) → List (ℕ × Propagation ℕ)
   types named = map (λ mount. (mount.number, to_shared mount)) named
 
+  -- the groups that they start, with their masters
   abbrev pub begun : List (Mount ℕ) → List (ℕ × Option ℕ)
   begun named = map (λ mount. (group mount.number, master_after mount.propagation)) named
 
@@ -95,7 +99,7 @@ module _ (world : World ℕ) (live : GroupsLive world) (groups : Grouping) (has 
       same (mount ∷ rest) = ap (λ l. mount ∷ l) (same rest)
   folded-map (one ∷ named) mounts =
       folded-map named (map (retyped_if one.number (to_shared one)) mounts)
-      ∙ map-twice (λ mount. folded share_one mount named) (retyped_if one.number (to_shared one)) mounts
+      ∙ map_twice (λ mount. folded share_one mount named) (retyped_if one.number (to_shared one)) mounts
 
   -- a mount that is shared stays so
   stays_shared : (mount : Mount ℕ) → Among mount world.mounts → (named : List (Mount ℕ)) → ((one : Mount ℕ)
@@ -195,6 +199,7 @@ module _ (world : World ℕ) (live : GroupsLive world) (groups : Grouping) (has 
       by false l false is e further = absurd (true≢false (sym e ∙ l))
 
   module _ (named : List (Mount ℕ)) (within : (mount : Mount ℕ) → Among mount named → Among mount world.mounts) where
+    -- the world in which they are shared
     abbrev pub after : World ℕ
     after = record world {
       mounts = map (retyped_mount nat_eq group ToShared named) world.mounts;
@@ -379,7 +384,7 @@ module _ (world : World ℕ) (live : GroupsLive world) (groups : Grouping) (has 
         by x l Private f is = has_no_master one here (is ∙ ap master_after f)
         by x l Unbindable f is = has_no_master one here (is ∙ ap master_after f)
 
-    after_live : GroupsLive after
+    after_live : AllGroupsLive after
     after_live = all_from_among (HasLivingGroups nat_eq after) after.mounts (λ x l one e.
         let from = among-from_map (retyped_mount nat_eq group ToShared named) world.mounts x l in
         by from.0 from.1 one (sym (ap (λ y. source_of y.propagation) from.2) ∙ e))
@@ -423,7 +428,8 @@ module _ (world : World ℕ) (live : GroupsLive world) (groups : Grouping) (has 
         by Private = refl
         by Unbindable = refl
 
-pub shared_has : (world : World ℕ) → GroupsLive world → (groups : Grouping) → Has world groups → (group : ℕ → ℕ)
+-- A world in which the named mounts become shared has the groups that they start.
+pub shared_has : (world : World ℕ) → AllGroupsLive world → (groups : Grouping) → Has world groups → (group : ℕ → ℕ)
     → ((number : ℕ) → LacksGroup world (group number)) → (named : List (Mount ℕ)) → All (Contains world.mounts) named
     → (pairs : List (MountId × GroupId)) → map (λ mount. (mount.number, group mount.number)) named ≡ map pair_of pairs
     → Has (retyped nat_eq world group ToShared named)
@@ -433,11 +439,11 @@ shared_has world live groups has group lacks named there pairs same =
     let within : (mount : Mount ℕ) → Among mount named → Among mount world.mounts =
     λ mount m. among_from_contains world.mounts mount (among_from_all (Contains world.mounts) named there mount m) in
     let types_same = sym (told_types world live groups has group lacks named within)
-    ∙ sym (map-twice (shared_type groups) (λ mount. (mount.number, group mount.number)) named)
-    ∙ ap (map (shared_type groups)) same ∙ map-twice (shared_type groups) pair_of pairs in
+    ∙ sym (map_twice (shared_type groups) (λ mount. (mount.number, group mount.number)) named)
+    ∙ ap (map (shared_type groups)) same ∙ map_twice (shared_type groups) pair_of pairs in
     let groups_same = sym (told_groups world live groups has group lacks named within)
-    ∙ sym (map-twice (shared_group groups) (λ mount. (mount.number, group mount.number)) named)
-    ∙ ap (map (shared_group groups)) same ∙ map-twice (shared_group groups) pair_of pairs in
+    ∙ sym (map_twice (shared_group groups) (λ mount. (mount.number, group mount.number)) named)
+    ∙ ap (map (shared_group groups)) same ∙ map_twice (shared_group groups) pair_of pairs in
     subst (λ w. Has w (all_added groups (map (λ pair. shared_type groups (pair_of pair)) pairs) (map
     (λ pair. shared_group groups (pair_of pair)) pairs)))
     (sym (regrouped_living (after world live groups has group lacks named within)
@@ -449,13 +455,14 @@ shared_has world live groups has group lacks named there pairs same =
     (grows world live groups has group lacks named within)))
 
 -- no group loses a member by it
-module _ (world : World ℕ) (live : GroupsLive world) (groups : Grouping) (has : Has world groups) (group : ℕ → ℕ)
+module _ (world : World ℕ) (live : AllGroupsLive world) (groups : Grouping) (has : Has world groups) (group : ℕ → ℕ)
     (lacks : (number : ℕ) → LacksGroup world (group number)) (named : List (Mount ℕ))
     (there : All (Contains world.mounts) named) where
   within_world : (mount : Mount ℕ) → Among mount named → Among mount world.mounts
   within_world mount m = among_from_contains world.mounts mount
       (among_from_all (Contains world.mounts) named there mount m)
 
+  -- no group ends where mounts become shared
   pub sharing_regroups : retyped nat_eq world group ToShared named ≡ record world {
     mounts = map (retyped_mount nat_eq group ToShared named) world.mounts;
     master = with_new_groups nat_eq group world.master named;
@@ -464,6 +471,7 @@ module _ (world : World ℕ) (live : GroupsLive world) (groups : Grouping) (has 
       regrouped_living (after world live groups has group lacks named within_world)
       (after_live world live groups has group lacks named within_world)
 
-  pub sharing_lives : GroupsLive (retyped nat_eq world group ToShared named)
-  sharing_lives = subst GroupsLive (sym sharing_regroups)
+  -- and all groups live
+  pub sharing_lives : AllGroupsLive (retyped nat_eq world group ToShared named)
+  sharing_lives = subst AllGroupsLive (sym sharing_regroups)
       (after_live world live groups has group lacks named within_world)

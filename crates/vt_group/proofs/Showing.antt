@@ -13,6 +13,7 @@ use Rattle.vt_group.specs.Laws.{HasOneGrouping, OpeningHasNoGroups, ShowsMasters
 use Rattle.vt_group.proofs.Peers.{lookup-absent, lookup-peer}
 use Rattle.vt_group.proofs.Regrouping.{lookup-low}
 
+-- the opening world has no groups
 pub opening_has_no_groups : OpeningHasNoGroups
 opening_has_no_groups fresh = record { order = refl; peers = refl; masters_order = refl; masters = λ group. refl }
 
@@ -75,6 +76,7 @@ same_entries {V} (x ∷ xs) (y ∷ ys) r s same = by (nat_lt x.0 y.0) refl (nat_
             ∙ ap (λ b. cond b (Some y.1) (lookup (nat_eq group) ys))
             (ne_eqb group y.0 (λ e. eqb-false group x.0 is (e ∙ sym key)))
 
+-- a world has one grouping
 pub has_one_grouping : HasOneGrouping
 has_one_grouping world one other a b = λ i. record {
   peers = (a.peers ∙ sym b.peers) i;
@@ -82,6 +84,7 @@ has_one_grouping world one other a b = λ i. record {
       (λ group. a.masters group ∙ sym (b.masters group)) i;
 }
 
+-- groups show the type of each mount
 pub shows_types : ShowsTypes
 shows_types world groups has = all_from_among
     (λ mount. propagation_in groups mount.number ≡ shown mount.propagation) world.mounts (λ mount m.
@@ -100,5 +103,6 @@ shows_types world groups has = all_from_among
     by mount m Unbindable e =
         ap (λ o. unwrap_or o Private) (lookup-absent mount world.mounts has.order m (ap source_of e)) ∙ sym (ap shown e)
 
+-- and the master of each group with members
 pub shows_masters : ShowsMasters
 shows_masters world groups group has lives = has.masters group ∙ ap (λ b. cond b (world.master group) None) lives

@@ -11,24 +11,32 @@ use Rattle.vt_spec.specs.Machine.World.{World}
 use Rattle.vt_spec.specs.Machine.Invariants.{HasLivingGroups, Lives}
 use Rattle.vt_spec.specs.Machine.Invariants.Lives.{has_master, has_no_master}
 use Rattle.vt_spec.proofs.Lists.{Among, among-from_map, among_from_all, any_among, any_from_among}
-use Rattle.vt_group.specs.Grouping.{Grouping, GroupsLive, Has, are_rising, numbers_of, peers_of, retyped_if, with_propagation}
-use Rattle.vt_group.proofs.GroupLemmas.{group-inherited, members-regrouped, mounts-regrouped}
+use Rattle.vt_group.specs.Grouping.{Grouping, Has, are_rising, peers_of, retyped_if, with_propagation}
 use Rattle.vt_group.proofs.Heirs.{heir_above, heir_itself, master_inherited}
-use Rattle.vt_group.proofs.Living.{group_lives, lives_end, regrouped_live}
+use Rattle.vt_group.proofs.Living.{group_lives}
+use Rattle.vt_mount_laws.proofs.GroupsKept.{lives_end, regrouped_live}
+use Rattle.vt_mount_laws.proofs.GroupsLiving.{all_live}
 use Rattle.vt_group.proofs.Peers.{retyped_other, retyped_same}
 use Rattle.vt_group.proofs.Receiving.{Ends, living_ends}
-use Rattle.vt_group.proofs.Regrouping.{member_shared}
+use Rattle.vt_mount_laws.proofs.GroupsKept.{member_shared}
+use Rattle.vt_mount_laws.proofs.Groups.{group-inherited, mounts-regrouped, members-regrouped}
+use Rattle.vt_mount_laws.specs.Mounts.Attaching.{numbers_of}
+use Rattle.vt_mount_laws.specs.Mounts.Receivers.{AllGroupsLive}
 
 -- Mounts lose groups, each but what it had as its source.
 pub record OnlyLoses (world : World ℕ) (change : Mount ℕ → Mount ℕ) : Type 0 where
+  -- the change keeps numbers
   pub own : (mount : Mount ℕ) → (change mount).number ≡ mount.number
+  -- it gives no mount another source
   pub sourced : (mount : Mount ℕ) (source : ℕ) → source_of (change mount).propagation ≡ Some source
       → source_of mount.propagation ≡ Some source
+  -- and none another group
   pub grouped : (mount : Mount ℕ) (group : ℕ) → group_of (change mount).propagation ≡ Some group
       → group_of mount.propagation ≡ Some group
 
-module _ (world : World ℕ) (live : GroupsLive world) (change : Mount ℕ
+module _ (world : World ℕ) (live : AllGroupsLive world) (change : Mount ℕ
     → Mount ℕ) (loses : OnlyLoses world change) where
+  -- the world after the change
   abbrev pub between : World ℕ
   between = record world { mounts = map change world.mounts }
 
@@ -46,9 +54,10 @@ module _ (world : World ℕ) (live : GroupsLive world) (change : Mount ℕ
       among_from_all (HasLivingGroups nat_eq world) world.mounts live from.0 from.1 source
       (loses.sourced from.0 source (sym (ap (λ x. source_of x.propagation) from.2) ∙ e))
 
-  pub between_live : GroupsLive (regrouped nat_eq between)
-  between_live = regrouped_live between (λ mount m source e.
-      lives_end were world.master world.master (λ group h. refl) source (source_lives mount m source e))
+  -- groups live in it once it is regrouped
+  pub between_live : AllGroupsLive (regrouped nat_eq between)
+  between_live = all_live (regrouped nat_eq between) (regrouped_live between (λ mount m source e.
+      lives_end were world.master world.master (λ group h. refl) source (source_lives mount m source e)))
 
   ends : (source : ℕ) → Lives were world.master source → Ends world.master (length between.mounts) source
   ends source life = subst (λ n. Ends world.master n source) (sym same_length) (living_ends world source life)
@@ -60,6 +69,7 @@ module _ (world : World ℕ) (live : GroupsLive world) (change : Mount ℕ
     abbrev regrouped_first : World ℕ
     regrouped_first = with_propagation (regrouped nat_eq between) number kind
 
+    -- the world after the change in which one mount more gets its type
     abbrev pub straight : World ℕ
     straight = with_propagation between number kind
 
@@ -109,8 +119,9 @@ module _ (world : World ℕ) (live : GroupsLive world) (change : Mount ℕ
             ∙ ap is_some no_group))
         by mount false is e = sym (ap (λ x. group_of x.propagation) (retyped_other number kind mount is)) ∙ e
 
-    was : (group : ℕ) → first group ≡ true → Lives were world.master group
-    was group h =
+    -- a group that has members now lived before
+    first_lives : (group : ℕ) → first group ≡ true → Lives were world.master group
+    first_lives group h =
         let member = any_among (is_member_of nat_eq group) between.mounts h in
         source_lives member.0 member.1 group (ap source_of (member_shared group member.0 member.2))
 
@@ -195,7 +206,7 @@ module _ (world : World ℕ) (live : GroupsLive world) (change : Mount ℕ
     same_new_type (Slave master) e =
         let has = has_source master (ap source_of e) in
         ap slave_of_heir (ap (heir nat_eq regrouped_first) (sym (heir_itself between master has))
-        ∙ same_heir master (was master has))
+        ∙ same_heir master (first_lives master has))
     same_new_type Private e = refl
     same_new_type Unbindable e = refl
 
@@ -231,7 +242,7 @@ module _ (world : World ℕ) (live : GroupsLive world) (change : Mount ℕ
     same_master group h =
         master_inherited regrouped_first group (same_left group ∙ h)
         ∙ ap (heir nat_eq regrouped_first) (master_inherited between group (fewer group h))
-        ∙ same_above group (was group (fewer group h))
+        ∙ same_above group (first_lives group (fewer group h))
         ∙ sym (master_inherited straight group h)
 
     same_masters : (group : ℕ)
@@ -251,6 +262,7 @@ module _ (world : World ℕ) (live : GroupsLive world) (change : Mount ℕ
             ap (λ b. cond b ((regrouped nat_eq regrouped_first).master group) None) e
             ∙ ap (λ b. cond b ((regrouped nat_eq straight).master group) None) (sym e)
 
+    -- Groups that end one after the other leave what they leave where they end at once.
     pub steps_together : (groups : Grouping) → Has (regrouped nat_eq regrouped_first) groups
         → Has (regrouped nat_eq straight) groups
     steps_together groups has = record {

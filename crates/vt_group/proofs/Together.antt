@@ -1,7 +1,7 @@
 -- Several mounts lose their groups: one after another, or all at once.
-use Rattle.std.proofs.Common.{◌≡◌, refl, sym, ap, subst, ◌∙◌, true, false, Bool, List, None, Option, Some, [], is_some, map, option_map, true≢false, ℕ, nat_eq, ◌||◌, ◌∷◌, ◌++◌, inl, inr, not, eq-eqb, ne_eqb, length, take, get_or, ◌<◌, ◌+◌}
+use Rattle.std.proofs.Common.{◌≡◌, refl, sym, ap, subst, ◌∙◌, true, false, Bool, List, None, Option, Some, [], is_some, map, option_map, true≢false, ℕ, nat_eq, ◌||◌, ◌∷◌, ◌++◌, inl, inr, not, ne_eqb, length, take, get_or, ◌<◌, ◌+◌}
 use Rattle.std.proofs.lemmas.List.{map-append, take_more}
-use Rattle.std.proofs.lemmas.Bool.{eqb-true, eqb-false}
+use Rattle.std.proofs.lemmas.Bool.{eqb-true}
 use Rattle.std.proofs.lemmas.List.Folds.{list_any-append}
 use Rattle.std.proofs.lemmas.Option.{same_Some}
 use Rattle.std.specs.Prelude.{Contains, if◌then◌else◌, unwrap_or}
@@ -18,24 +18,29 @@ use Rattle.vt_spec.specs.Machine.Types.{master_after, retyped, retyped_mount, ty
 use Rattle.vt_spec.specs.Machine.World.{World, with_mounts}
 use Rattle.vt_spec.specs.Machine.Invariants.{HasLivingGroups, Lives}
 use Rattle.vt_spec.specs.Machine.Invariants.Lives.{has_master, has_no_master}
-use Rattle.vt_spec.proofs.Lists.{Among, among-from_map, among-map, among_from_all, any_from_among, contains_from_among}
+use Rattle.vt_spec.proofs.Lists.{Among, among-from_map, among-map, among_from_all, any_from_among, contains_from_among, map_alike, map_twice}
 use Rattle.vt_location.specs.declared.numbers.MountId.{MountId}
 use Rattle.vt_location.specs.Numbers.{counted}
-use Rattle.vt_group.specs.Grouping.{Grouping, GroupsLive, Has, HasGroup, HasMount, LacksGroup, numbers_of, propagation_in, retyped_if, with_propagation}
+use Rattle.vt_group.specs.Grouping.{Grouping, Has, HasGroup, HasMount, LacksGroup, propagation_in, retyped_if, with_propagation}
 use Rattle.vt_group.specs.Laws.{shown}
 use Rattle.vt_group.specs.Steps.{retyped as retyped_groups}
 use Rattle.vt_group.specs.Together.{as_private, as_slave, changed_if, with_changed}
 use Rattle.vt_group.proofs.Alike.{has_alike, key_of, keys_of}
-use Rattle.vt_group.proofs.Changes.{group_shared, live_members, slave_regroups}
-use Rattle.vt_group.proofs.GroupLemmas.{group-inherited, members-regrouped, mounts-regrouped}
+use Rattle.vt_group.proofs.Changes.{group_shared, slave_regroups}
+use Rattle.vt_mount_laws.proofs.GroupsUp.{live_members}
 use Rattle.vt_group.proofs.Peers.{lookup-among, retyped_other, retyped_same}
-use Rattle.vt_group.proofs.Regrouping.{shared_member}
 use Rattle.vt_group.proofs.Showing.{shows_types}
 use Rattle.vt_group.proofs.Stepping.{OnlyLoses, between_live, steps_together}
+use Rattle.vt_spec.proofs.Truths.{nat_eq-swapped}
+use Rattle.std.proofs.Math.Bool.{or-false}
+use Rattle.vt_mount_laws.proofs.GroupsKept.{shared_member}
+use Rattle.vt_mount_laws.proofs.Groups.{group-inherited, mounts-regrouped, members-regrouped}
+use Rattle.vt_mount_laws.specs.Mounts.Attaching.{numbers_of}
+use Rattle.vt_mount_laws.specs.Mounts.Receivers.{AllGroupsLive}
 
 -- Where all groups live nothing is lost
 
-module _ (world : World ℕ) (live : GroupsLive world) where
+module _ (world : World ℕ) (live : AllGroupsLive world) where
   abbrev members : ℕ → Bool
   members = has_members nat_eq world.mounts
 
@@ -47,7 +52,7 @@ module _ (world : World ℕ) (live : GroupsLive world) where
       above group (has_no_master it has e) = (λ i. not (has i) || is_lost_group nat_eq world (e i))
       above group (has_master it next has e later) =
           (λ i. not (has i) || is_lost_group nat_eq world (e i))
-          ∙ ap not (live_members members world.master next later)
+          ∙ ap not (live_members world.master members next later)
 
       by : (o : Option ℕ) → source_of mount.propagation ≡ o → lost_a_group nat_eq world mount ≡ false
       by None e = ap (λ o. is_lost_group nat_eq world o || is_lost_group nat_eq world (then_some o world.master)) e
@@ -55,6 +60,7 @@ module _ (world : World ℕ) (live : GroupsLive world) where
           ap (λ o. is_lost_group nat_eq world o || is_lost_group nat_eq world (then_some o world.master)) e
           ∙ above group (among_from_all (HasLivingGroups nat_eq world) world.mounts live mount m group e)
 
+  -- a world in which all groups live is regrouped to itself
   pub regrouped_living : regrouped nat_eq world ≡ world
   regrouped_living = ap (λ b. regrouped_by nat_eq b world) (none_lost world.mounts (λ mount m. m))
     where
@@ -67,27 +73,11 @@ module _ (world : World ℕ) (live : GroupsLive world) where
 
 -- Which mounts were visited
 
+-- a number is among numbers with one more where it is among them or is the one
 pub is_among-snoc : (number one : ℕ) (numbers : List ℕ) → is_among nat_eq number (numbers ++ one ∷ [])
     ≡ (is_among nat_eq number numbers || nat_eq number one)
 is_among-snoc number one numbers = list_any-append (nat_eq number) numbers (one ∷ [])
-    ∙ ap (λ b. is_among nat_eq number numbers || b) (or_false (nat_eq number one))
-  where
-    or_false : (b : Bool) → (b || false) ≡ b
-    or_false true = refl
-    or_false false = refl
-
-pub eqb-swapped : (a b : ℕ) (t : Bool) → nat_eq a b ≡ t → nat_eq b a ≡ t
-eqb-swapped a b true e = eq-eqb b a (sym (eqb-true a b e))
-eqb-swapped a b false e = ne_eqb b a (λ same. eqb-false a b e (sym same))
-
-pub map_alike : {A B : Type 0} (f g : A → B) (list : List A) → ((a : A) → Among a list → f a ≡ g a) → map f list
-    ≡ map g list
-map_alike f g [] same = refl
-map_alike f g (a ∷ list) same = λ i. same a (inl refl) i ∷ map_alike f g list (λ x m. same x (inr m)) i
-
-pub map-twice : {A B C : Type 0} (f : B → C) (g : A → B) (list : List A) → map f (map g list) ≡ map (λ a. f (g a)) list
-map-twice f g [] = refl
-map-twice f g (a ∷ list) = ap (λ l. f (g a) ∷ l) (map-twice f g list)
+    ∙ ap (λ b. is_among nat_eq number numbers || b) (or-false (nat_eq number one))
 
 module _ (change : Propagation ℕ → Propagation ℕ) (world : World ℕ) (numbers : List ℕ) (number : ℕ) where
   changed_by : (a b : Bool) (mount : Mount ℕ) → is_among nat_eq mount.number numbers ≡ a
@@ -106,7 +96,7 @@ module _ (change : Propagation ℕ → Propagation ℕ) (world : World ℕ) (num
       ≡ with_changed change world (numbers ++ number ∷ [])
   next_changed kind same =
       λ i. record world {
-        mounts = (map-twice (retyped_if number kind) (changed_if change numbers) world.mounts
+        mounts = (map_twice (retyped_if number kind) (changed_if change numbers) world.mounts
             ∙ map_alike _ (changed_if change (numbers ++ number ∷ [])) world.mounts (λ mount m.
             by mount m (is_among nat_eq mount.number numbers) refl (nat_eq number mount.number) refl)) i;
       }
@@ -119,23 +109,23 @@ module _ (change : Propagation ℕ → Propagation ℕ) (world : World ℕ) (num
           (if c then record mount { propagation = change mount.propagation } else mount)) e
           ∙ retyped_same number kind (record mount { propagation = change mount.propagation }) f
           ∙ (λ i. record mount { propagation = same mount m f i })
-          ∙ sym (changed_by true true mount e (eqb-swapped number mount.number true f))
+          ∙ sym (changed_by true true mount e (nat_eq-swapped number mount.number true f))
       by mount m true e false f =
           ap (λ c. retyped_if number kind
           (if c then record mount { propagation = change mount.propagation } else mount)) e
           ∙ retyped_other number kind (record mount { propagation = change mount.propagation }) f
-          ∙ sym (changed_by true false mount e (eqb-swapped number mount.number false f))
+          ∙ sym (changed_by true false mount e (nat_eq-swapped number mount.number false f))
       by mount m false e true f =
           ap (λ c. retyped_if number kind
           (if c then record mount { propagation = change mount.propagation } else mount)) e
           ∙ retyped_same number kind mount f
           ∙ (λ i. record mount { propagation = same mount m f i })
-          ∙ sym (changed_by false true mount e (eqb-swapped number mount.number true f))
+          ∙ sym (changed_by false true mount e (nat_eq-swapped number mount.number true f))
       by mount m false e false f =
           ap (λ c. retyped_if number kind
           (if c then record mount { propagation = change mount.propagation } else mount)) e
           ∙ retyped_other number kind mount f
-          ∙ sym (changed_by false false mount e (eqb-swapped number mount.number false f))
+          ∙ sym (changed_by false false mount e (nat_eq-swapped number mount.number false f))
 
   -- one more has the type that it would get, or was changed
   pub next_same :
@@ -154,14 +144,14 @@ module _ (change : Propagation ℕ → Propagation ℕ) (world : World ℕ) (num
           ≡ changed_if change (numbers ++ number ∷ []) mount
       by mount m true e b f =
           ap (λ c. if c then record mount { propagation = change mount.propagation } else mount) e
-          ∙ sym (changed_by true b mount e (eqb-swapped number mount.number b f))
+          ∙ sym (changed_by true b mount e (nat_eq-swapped number mount.number b f))
       by mount m false e true f =
           ap (λ c. if c then record mount { propagation = change mount.propagation } else mount) e
           ∙ (λ i. record mount { propagation = same mount m f e i })
-          ∙ sym (changed_by false true mount e (eqb-swapped number mount.number true f))
+          ∙ sym (changed_by false true mount e (nat_eq-swapped number mount.number true f))
       by mount m false e false f =
           ap (λ c. if c then record mount { propagation = change mount.propagation } else mount) e
-          ∙ sym (changed_by false false mount e (eqb-swapped number mount.number false f))
+          ∙ sym (changed_by false false mount e (nat_eq-swapped number mount.number false f))
 
 none_changed : (change : Propagation ℕ → Propagation ℕ) (world : World ℕ) → with_changed change world [] ≡ world
 none_changed change world = λ i. record world { mounts = same world.mounts i }
@@ -170,7 +160,8 @@ none_changed change world = λ i. record world { mounts = same world.mounts i }
     same [] = refl
     same (mount ∷ rest) = ap (λ l. mount ∷ l) (same rest)
 
-pub none_yet : (change : Propagation ℕ → Propagation ℕ) (world : World ℕ) (groups : Grouping) → GroupsLive world
+-- where no mount has changed the world has its groups
+pub none_yet : (change : Propagation ℕ → Propagation ℕ) (world : World ℕ) (groups : Grouping) → AllGroupsLive world
     → Has world groups
     → Has (regrouped nat_eq (with_changed change world [])) groups
 none_yet change world groups live has =
@@ -229,7 +220,8 @@ slave_loses world numbers = changed_loses as_slave world numbers sources groups
     groups Private group e = e
     groups Unbindable group e = e
 
-pub one_more_private : (world : World ℕ) → GroupsLive world → (numbers : List ℕ) (number : ℕ) (groups : Grouping)
+-- one mount more that becomes private leaves what all leave that become so
+pub one_more_private : (world : World ℕ) → AllGroupsLive world → (numbers : List ℕ) (number : ℕ) (groups : Grouping)
     → Has (regrouped nat_eq (with_propagation (regrouped nat_eq
     (with_changed as_private world numbers)) number Private)) groups
     → Has (regrouped nat_eq (with_changed as_private world (numbers ++ number ∷ []))) groups
@@ -239,17 +231,19 @@ one_more_private world live numbers number groups has =
     (steps_together world live (changed_if as_private numbers) (private_loses world numbers) number Private refl
     (λ source e. absurd (true≢false (sym (ap is_some e)))) groups has)
 
-pub left_live : (world : World ℕ) → GroupsLive world → (numbers : List ℕ)
-    → GroupsLive (regrouped nat_eq (with_changed as_private world numbers))
+-- groups live on where mounts become private
+pub left_live : (world : World ℕ) → AllGroupsLive world → (numbers : List ℕ)
+    → AllGroupsLive (regrouped nat_eq (with_changed as_private world numbers))
 left_live world live numbers = between_live world live (changed_if as_private numbers) (private_loses world numbers)
 
-pub slaves_live : (world : World ℕ) → GroupsLive world → (numbers : List ℕ)
-    → GroupsLive (regrouped nat_eq (with_changed as_slave world numbers))
+-- and where they become slaves
+pub slaves_live : (world : World ℕ) → AllGroupsLive world → (numbers : List ℕ)
+    → AllGroupsLive (regrouped nat_eq (with_changed as_slave world numbers))
 slaves_live world live numbers = between_live world live (changed_if as_slave numbers) (slave_loses world numbers)
 
 -- The definitions' worlds
 
-module _ (world : World ℕ) (live : GroupsLive world) where
+module _ (world : World ℕ) (live : AllGroupsLive world) where
   abbrev were : ℕ → Bool
   were = has_members nat_eq world.mounts
 
@@ -268,6 +262,7 @@ module _ (world : World ℕ) (live : GroupsLive world) where
   keys_alike f g same [] = refl
   keys_alike f g same (mount ∷ rest) = λ i. same mount i ∷ keys_alike f g same rest i
 
+  -- mounts that are taken away leave the groups that they leave as private ones
   pub taken_has : (numbers : List ℕ) (groups : Grouping)
       → Has (regrouped nat_eq (with_changed as_private world numbers)) groups
       → Has (taken_away nat_eq world numbers) groups
@@ -298,11 +293,13 @@ module _ (world : World ℕ) (live : GroupsLive world) where
       ∙ ap (λ b. if b then master_after mount.propagation else master one)
       (ne_eqb one (group mount.number) (λ same. true≢false (sym has ∙ ap were same ∙ lacks mount.number)))
 
+  -- a number is that of a named mount where it is among their numbers
   pub named_numbers : (number : ℕ) (named : List (Mount ℕ)) → list_any (λ other. nat_eq number other.number) named
       ≡ is_among nat_eq number (numbers_of named)
   named_numbers number [] = refl
   named_numbers number (mount ∷ rest) = ap (λ b. nat_eq number mount.number || b) (named_numbers number rest)
 
+  -- mounts that get a type at once leave the groups that they leave in turn
   pub retyped_has : (word : TypeWord) (change : Propagation ℕ → Propagation ℕ) (numbers : List ℕ)
       → OnlyLoses world (changed_if change numbers)
       → ((new : ℕ) (kind : Propagation ℕ) → shown (change kind) ≡ shown (type_after new word kind))
@@ -332,18 +329,21 @@ module _ (world : World ℕ) (live : GroupsLive world) where
       by mount true = λ i. (mount.number, same (group mount.number) mount.propagation i)
       by mount false = refl
 
+  -- mounts that become private at once leave the groups that they leave in turn
   pub privately_has : (numbers : List ℕ) (group : ℕ → ℕ) (named : List (Mount ℕ)) → numbers_of named ≡ numbers
       → ((number : ℕ) → LacksGroup world (group number)) → (groups : Grouping)
       → Has (regrouped nat_eq (with_changed as_private world numbers)) groups
       → Has (retyped nat_eq world group ToPrivate named) groups
   privately_has numbers = retyped_has ToPrivate as_private numbers (private_loses world numbers) (λ new kind. refl)
 
+  -- so do mounts that become unbindable
   pub unbindably_has : (numbers : List ℕ) (group : ℕ → ℕ) (named : List (Mount ℕ)) → numbers_of named ≡ numbers
       → ((number : ℕ) → LacksGroup world (group number)) → (groups : Grouping)
       → Has (regrouped nat_eq (with_changed as_private world numbers)) groups
       → Has (retyped nat_eq world group ToUnbindable named) groups
   unbindably_has numbers = retyped_has ToUnbindable as_private numbers (private_loses world numbers) (λ new kind. refl)
 
+  -- and mounts that become slaves
   pub slavishly_has : (numbers : List ℕ) (group : ℕ → ℕ) (named : List (Mount ℕ)) → numbers_of named ≡ numbers
       → ((number : ℕ) → LacksGroup world (group number)) → (groups : Grouping)
       → Has (regrouped nat_eq (with_changed as_slave world numbers)) groups
@@ -358,7 +358,7 @@ module _ (world : World ℕ) (live : GroupsLive world) where
 
 -- A member becomes a slave of its group
 
-module _ (world : World ℕ) (live : GroupsLive world) (numbers : List ℕ) (number : ℕ) (groups : Grouping)
+module _ (world : World ℕ) (live : AllGroupsLive world) (numbers : List ℕ) (number : ℕ) (groups : Grouping)
     (has : Has (regrouped nat_eq (with_changed as_slave world numbers)) groups) where
   abbrev now : World ℕ
   now = with_changed as_slave world numbers
@@ -407,9 +407,10 @@ module _ (world : World ℕ) (live : GroupsLive world) (numbers : List ℕ) (num
   was_shared group mount false e = e
 
   module _ (group : ℕ) (is : propagation_in groups number ≡ Shared group) where
-    found : (mount : Mount ℕ) × Among mount (regrouped nat_eq now).mounts × (mount.number ≡ number)
+    -- a member of the group is the mount of the entry
+    member_found : (mount : Mount ℕ) × Among mount (regrouped nat_eq now).mounts × (mount.number ≡ number)
         × (mount.propagation ≡ Shared group)
-    found = by (lookup (nat_eq number) groups.peers) refl is
+    member_found = by (lookup (nat_eq number) groups.peers) refl is
       where
         by : (o : Option (Propagation ℕ)) → lookup (nat_eq number) groups.peers ≡ o → unwrap_or o Private
             ≡ Shared group
@@ -421,16 +422,19 @@ module _ (world : World ℕ) (live : GroupsLive world) (numbers : List ℕ) (num
             (nat_eq number)) has.peers) ∙ f) in
             (t.0, t.1, t.2, t.3 ∙ e)
 
+    -- the mount is one of the world so far
     pub is_mount : HasMount (regrouped nat_eq now) number
     is_mount =
-        subst (Contains (numbers_of (regrouped nat_eq now).mounts)) found.2
-        (contains_from_among (numbers_of (regrouped nat_eq now).mounts) found.0.number (among-map
-        (λ mount. mount.number) (regrouped nat_eq now).mounts found.0 found.1))
+        subst (Contains (numbers_of (regrouped nat_eq now).mounts)) member_found.2
+        (contains_from_among (numbers_of (regrouped nat_eq now).mounts) member_found.0.number (among-map
+        (λ mount. mount.number) (regrouped nat_eq now).mounts member_found.0 member_found.1))
 
+    -- its group is one of the world so far
     pub is_group : HasGroup (regrouped nat_eq now) group
-    is_group = any_from_among (is_member_of nat_eq group) (regrouped nat_eq now).mounts found.0 found.1
-        (shared_member group found.0 found.3)
+    is_group = any_from_among (is_member_of nat_eq group) (regrouped nat_eq now).mounts member_found.0 member_found.1
+        (shared_member group member_found.0 member_found.3)
 
+    -- one mount more that becomes a slave leaves what all leave that become so
     pub one_more_slave : (new : Grouping)
         → Has (regrouped nat_eq (with_propagation (regrouped nat_eq now) number (Slave group))) new
         → Has (regrouped nat_eq (with_changed as_slave world (numbers ++ number ∷ []))) new
@@ -443,6 +447,7 @@ module _ (world : World ℕ) (live : GroupsLive world) (numbers : List ℕ) (num
         (λ source e. ap (has_members nat_eq now.mounts) (sym (same_Some group source e))
         ∙ sym (members-regrouped now group) ∙ is_group) new later)
 
+  -- a mount that is not shared is left as it is
   pub no_more_slaves : ((group : ℕ) → propagation_in groups number ≡ Shared group → ⊥)
       → Has (regrouped nat_eq (with_changed as_slave world (numbers ++ number ∷ []))) groups
   no_more_slaves apart =
@@ -467,7 +472,7 @@ numbers_more mounts i default less =
     ∙ ap (map (λ mount. counted mount.count)) (sym (take_more mounts i default less))
 
 -- a mount of the list becomes a slave of the group that it is in, if any
-pub slave_or_same : (world : World ℕ) → GroupsLive world → (numbers : List ℕ) (number : ℕ) (groups new : Grouping)
+pub slave_or_same : (world : World ℕ) → AllGroupsLive world → (numbers : List ℕ) (number : ℕ) (groups new : Grouping)
     → Has (regrouped nat_eq (with_changed as_slave world numbers)) groups
     → ((group : ℕ) → propagation_in groups number ≡ Shared group → new ≡ retyped_groups number (Slave group) groups)
     → (group_of (propagation_in groups number) ≡ None → new ≡ groups)

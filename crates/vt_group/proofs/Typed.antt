@@ -7,12 +7,11 @@ use Rattle.vt_spec.specs.Machine.Mounts.Propagation.{Private, Shared, Slave, Unb
 use Rattle.vt_spec.specs.Machine.Receives.{heir, inherited, inheriting, lost_a_group, regrouped, regrouped_by, slave_of_heir}
 use Rattle.vt_spec.specs.Machine.Settled.{without_dead_groups}
 use Rattle.vt_spec.specs.Machine.World.{World}
-use Rattle.vt_spec.proofs.Lists.{Among, among-map, among_from_all}
+use Rattle.vt_spec.proofs.Lists.{Among, among-map, among_from_all, map_alike}
 use Rattle.vt_group.specs.Grouping.{Grouping, Has, master_in, propagation_in}
 use Rattle.vt_group.specs.Laws.{RegroupedIsTyped, shown, typed_by}
-use Rattle.vt_group.proofs.GroupLemmas.{mounts-regrouped}
 use Rattle.vt_group.proofs.Showing.{shows_types}
-use Rattle.vt_group.proofs.Together.{map_alike}
+use Rattle.vt_mount_laws.proofs.Groups.{mounts-regrouped}
 
 module _ (world : World ℕ) (groups : Grouping) (has : Has (regrouped nat_eq world) groups) where
   typed : (mount : Mount ℕ) → Among mount world.mounts → inheriting nat_eq world mount ≡ typed_by groups mount
@@ -42,6 +41,7 @@ module _ (world : World ℕ) (groups : Grouping) (has : Has (regrouped nat_eq wo
   all_else true = refl
   all_else false = refl
 
+  -- a regrouped world has the types and masters of its groups
   pub is_typed : without_dead_groups nat_eq (regrouped nat_eq world)
       ≡ record world { mounts = map (typed_by groups) world.mounts; master = master_in groups }
   is_typed =
@@ -54,5 +54,6 @@ module _ (world : World ℕ) (groups : Grouping) (has : Has (regrouped nat_eq wo
         master = master_in groups;
       })
 
+-- so has each regrouped world
 pub regrouped_is_typed : RegroupedIsTyped
 regrouped_is_typed = is_typed

@@ -41,6 +41,7 @@ module _ {V : Type 0} (steps left : List (ℕ × Option V)) (key : ℕ) (old : O
       let parts = subst (λ list. LeadsBack list now was) last_first back in
       subst (λ at. LeadsBack (reverse left) at was) (λ i other. sym (puts parts.0 other) i) parts.1
 
+-- steps that are all taken back lead back to where they began
 pub back_done : {V : Type 0} (steps : List (ℕ × Option V)) (now was : ℕ → Option V) → steps ≡ []
     → LeadsBack (reverse steps) now was → now ≡ was
 back_done steps now was none back = subst (λ list. LeadsBack (reverse list) now was) none back

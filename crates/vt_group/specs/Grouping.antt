@@ -1,6 +1,6 @@
 -- What contracts see of peer groups, and which worlds have them: mount_namespaces(7), and the kernel's document
 -- sharedsubtree.
-use Rattle.std.specs.Prelude.{All, Bool, Contains, List, Option, [], filter_map, if◌then◌else◌, false, map, nat_eq, nat_lt, option_map, true, unwrap_or, ℕ, ◌&&◌, ◌∷◌, ◌≡◌}
+use Rattle.std.specs.Prelude.{Bool, Contains, List, Option, [], filter_map, if◌then◌else◌, false, map, nat_eq, nat_lt, option_map, true, unwrap_or, ℕ, ◌&&◌, ◌∷◌, ◌≡◌}
 use Rattle.std.specs.List.{list_all}
 use Rattle.std.specs.Map.{lookup}
 use Rattle.vt_spec.specs.Machine.Mounts.{Mount, Propagation, source_of}
@@ -9,7 +9,8 @@ use Rattle.vt_spec.specs.Machine.Receives.{has_members, regrouped}
 use Rattle.vt_spec.specs.Machine.Settled.{without_dead_groups}
 use Rattle.vt_spec.specs.Machine.Types.{with_master}
 use Rattle.vt_spec.specs.Machine.World.{World}
-use Rattle.vt_spec.specs.Machine.Invariants.{HasLivingGroups}
+use Rattle.vt_mount_laws.specs.Mounts.Attaching.{numbers_of}
+use Rattle.vt_mount_laws.specs.Mounts.Receivers.{AllGroupsLive}
 
 -- The mounts that are in a group or slaves of one, in order of attachment, and the groups that have a master.
 pub record Grouping : Type 0 where
@@ -35,9 +36,6 @@ peer_of mount = option_map (λ source. (mount.number, mount.propagation)) (sourc
 abbrev pub peers_of : List (Mount ℕ) → List (ℕ × Propagation ℕ)
 peers_of mounts = filter_map peer_of mounts
 
-abbrev pub numbers_of : List (Mount ℕ) → List ℕ
-numbers_of mounts = map (λ mount. mount.number) mounts
-
 -- each number is greater than those before it
 abbrev pub are_rising : List ℕ → Bool
 are_rising [] = true
@@ -49,10 +47,6 @@ pub record Has (world : World ℕ) (groups : Grouping) : Type 0 where
   pub peers : groups.peers ≡ peers_of world.mounts
   pub masters_order : are_rising (map (λ entry. entry.0) groups.masters) ≡ true
   pub masters : (group : ℕ) → master_in groups group ≡ (without_dead_groups nat_eq world).master group
-
--- the group or master of each mount lives: an invariant of the machine
-abbrev pub GroupsLive : World ℕ → Type 0
-GroupsLive world = All (HasLivingGroups nat_eq world) world.mounts
 
 -- the world with another type of one mount
 abbrev pub retyped_if : ℕ → Propagation ℕ → Mount ℕ → Mount ℕ
@@ -69,7 +63,7 @@ below world group master = record world { master = with_master nat_eq world.mast
 -- left once it is changed so and regrouped.
 abbrev pub Follows : Grouping → Grouping → (World ℕ → Type 0) → (World ℕ → World ℕ) → Type 0
 Follows old new IsOf change =
-    (world : World ℕ) → Has world old → GroupsLive world → IsOf world → Has (regrouped nat_eq (change world)) new
+    (world : World ℕ) → Has world old → AllGroupsLive world → IsOf world → Has (regrouped nat_eq (change world)) new
 
 abbrev pub HasMount : World ℕ → ℕ → Type 0
 HasMount world mount = Contains (numbers_of world.mounts) mount

@@ -6,7 +6,8 @@ use Rattle.vt_spec.specs.Machine.Mounts.Propagation.{Private, Shared, Slave, Unb
 use Rattle.vt_spec.specs.Machine.Receives.{regrouped}
 use Rattle.vt_spec.specs.Machine.Settled.{without_dead_groups}
 use Rattle.vt_spec.specs.Machine.World.{World, opening}
-use Rattle.vt_group.specs.Grouping.{Grouping, GroupsLive, Has, HasGroup, LacksGroup, below, master_in, no_groups, propagation_in, with_propagation}
+use Rattle.vt_group.specs.Grouping.{Grouping, Has, HasGroup, LacksGroup, below, master_in, no_groups, propagation_in, with_propagation}
+use Rattle.vt_mount_laws.specs.Mounts.Receivers.{AllGroupsLive}
 
 abbrev pub OpeningHasNoGroups : Type 0
 OpeningHasNoGroups = (fresh : Fresh ℕ) → Has (opening nat_eq fresh) no_groups
@@ -50,24 +51,24 @@ RegroupedIsTyped =
 -- Groups live on where a mount leaves,
 abbrev pub LeavingKeepsGroups : Type 0
 LeavingKeepsGroups =
-    (world : World ℕ) (mount : ℕ) → GroupsLive world
-    → GroupsLive (regrouped nat_eq (with_propagation world mount Private))
+    (world : World ℕ) (mount : ℕ) → AllGroupsLive world
+    → AllGroupsLive (regrouped nat_eq (with_propagation world mount Private))
 
 -- becomes a slave,
 abbrev pub SlavesKeepGroups : Type 0
 SlavesKeepGroups =
-    (world : World ℕ) (mount master : ℕ) → GroupsLive world → HasGroup world master
-    → GroupsLive (regrouped nat_eq (with_propagation world mount (Slave master)))
+    (world : World ℕ) (mount master : ℕ) → AllGroupsLive world → HasGroup world master
+    → AllGroupsLive (regrouped nat_eq (with_propagation world mount (Slave master)))
 
 -- joins a group,
 abbrev pub JoiningKeepsGroups : Type 0
 JoiningKeepsGroups =
-    (world : World ℕ) (mount group : ℕ) → GroupsLive world → (LacksGroup world group → world.master group ≡ None)
-    → GroupsLive (regrouped nat_eq (with_propagation world mount (Shared group)))
+    (world : World ℕ) (mount group : ℕ) → AllGroupsLive world → (LacksGroup world group → world.master group ≡ None)
+    → AllGroupsLive (regrouped nat_eq (with_propagation world mount (Shared group)))
 
 -- or is the first member of a new one.
 abbrev pub StartingKeepsGroups : Type 0
 StartingKeepsGroups =
-    (world : World ℕ) (mount group : ℕ) (master : Option ℕ) → GroupsLive world → LacksGroup world group
+    (world : World ℕ) (mount group : ℕ) (master : Option ℕ) → AllGroupsLive world → LacksGroup world group
     → IfSome master (HasGroup world)
-    → GroupsLive (regrouped nat_eq (below (with_propagation world mount (Shared group)) group master))
+    → AllGroupsLive (regrouped nat_eq (below (with_propagation world mount (Shared group)) group master))

@@ -18,14 +18,16 @@ use Rattle.vt_location.specs.declared.numbers.MountId.{MountId}
 use Rattle.vt_location.specs.MountValue.{propagation_of}
 use Rattle.vt_location.specs.Numbers.{counted}
 use Rattle.vt_group.specs.declared.groups.NewGroup.{NewGroup}
-use Rattle.vt_group.specs.Grouping.{Grouping, GroupsLive, Has, HasGroup, LacksGroup, are_rising, numbers_of, peers_of, propagation_in}
+use Rattle.vt_group.specs.Grouping.{Grouping, Has, HasGroup, LacksGroup, are_rising, peers_of, propagation_in}
 use Rattle.vt_group.specs.Steps.{group_number}
+use Rattle.vt_mount_laws.specs.Mounts.Attaching.{numbers_of}
+use Rattle.vt_mount_laws.specs.Mounts.Receivers.{AllGroupsLive}
 
 -- What a change of the type of all these mounts follows: each living world that had the groups has those that are left.
 -- The numbers of new groups are of no group that is there.
 abbrev pub Retypes : Grouping → Grouping → TypeWord → List ℕ → Type 0
 Retypes old new word numbers =
-    (world : World ℕ) (group : ℕ → ℕ) (named : List (Mount ℕ)) → Has world old → GroupsLive world
+    (world : World ℕ) (group : ℕ → ℕ) (named : List (Mount ℕ)) → Has world old → AllGroupsLive world
     → numbers_of named ≡ numbers
     → ((number : ℕ) → LacksGroup world (group number)) → Has (retyped nat_eq world group word named) new
 
@@ -36,7 +38,7 @@ is_ordered groups = are_rising (map (λ peer. peer.0) groups.peers)
 -- and where all these mounts are detached
 abbrev pub TakesAway : Grouping → Grouping → List ℕ → Type 0
 TakesAway old new numbers =
-    (world : World ℕ) → Has world old → GroupsLive world → Has (taken_away nat_eq world numbers) new
+    (world : World ℕ) → Has world old → AllGroupsLive world → Has (taken_away nat_eq world numbers) new
 
 -- the world with the types of some mounts changed, and no group ended
 abbrev pub changed_if : (Propagation ℕ → Propagation ℕ) → List ℕ → Mount ℕ → Mount ℕ
@@ -99,7 +101,7 @@ new_group new = (group_number new.group, option_map group_number new.master)
 -- What a change of these mounts to shared follows, each with the number of a group for it, if it needs one.
 abbrev pub Shares : Grouping → Grouping → List (ℕ × ℕ) → Type 0
 Shares old new pairs =
-    (world : World ℕ) (group : ℕ → ℕ) (named : List (Mount ℕ)) → Has world old → GroupsLive world
+    (world : World ℕ) (group : ℕ → ℕ) (named : List (Mount ℕ)) → Has world old → AllGroupsLive world
     → All (Contains world.mounts) named
     → map (λ mount. (mount.number, group mount.number)) named ≡ pairs → ((number : ℕ) → LacksGroup world (group number))
     → Has (retyped nat_eq world group ToShared named) new

@@ -10,7 +10,7 @@ ghost use Rattle.vt_spec.specs.declared.errors.Rule.TheVariants.{S5};
 ghost use Rattle.vt_location.specs.declared.numbers.GroupId.{GroupId as GroupNumber};
 ghost use Rattle.vt_location.specs.MountValue.{propagation_of};
 ghost use Rattle.vt_location.specs.Numbers.{counted};
-ghost use Rattle.vt_group.specs.Grouping.{Follows, GroupsLive, Has, HasGroup, HasMount, LacksGroup, below, master_in, no_groups, numbers_of, propagation_in, with_propagation};
+ghost use Rattle.vt_group.specs.Grouping.{Follows, Has, HasGroup, HasMount, LacksGroup, below, master_in, no_groups, propagation_in, with_propagation};
 ghost use Rattle.vt_group.specs.Additions.{typed_pair};
 ghost use Rattle.vt_group.specs.Together.{GrowsTo, Shares, is_ordered, new_group, pair_of};
 ghost use Rattle.vt_group.specs.Together.{shared_group, shared_type, type_before, typed};
@@ -21,6 +21,8 @@ ghost use Rattle.vt_spec.specs.Lists.{or_else};
 ghost use Rattle.vt_group.specs.Receiving.{FindsBelow, IsLonger, is_in, peer_from, type_from};
 ghost use Rattle.vt_group.specs.Steps.{numbered_peer};
 ghost use Rattle.vt_group.specs.Steps.{ended, ended_if_lost, group_number, handed, handed_type, has_peers, retyped, type_or_private};
+ghost use Rattle.vt_mount_laws.specs.Mounts.Attaching.{numbers_of};
+ghost use Rattle.vt_mount_laws.specs.Mounts.Receivers.{AllGroupsLive};
 
 use crate::additions::{add_all, types_of};
 use crate::handing::{hand_groups, hand_mounts};
@@ -151,7 +153,7 @@ impl Groups {
     ///
     /// S5 (ENOMEM): an allocation failed.
     pub fn receivers(&self, alloc: Global, group: GroupId) -> Result<Vec<MountId>, Deny>
-        ensures ok { IfOk result (λ mounts. (world : World ℕ) → Has world self.now → GroupsLive world
+        ensures ok { IfOk result (λ mounts. (world : World ℕ) → Has world self.now → AllGroupsLive world
             → map (λ mount. counted mount.count) mounts.items
             ≡ numbers_of (receivers nat_eq world (counted group.count))) }
         ensures memory { IfErr result (λ deny. deny ≡ denial S5) }

@@ -7,7 +7,7 @@ use Rattle.vt_spec.specs.TreeInvariant.{IsDirectory, IsReached, IsTree, entry_at
 use Rattle.vt_spec.proofs.Nodes.{directory_used, none_is_not}
 use Rattle.vt_spec.proofs.Trees.{found, led-append, parent_reached, reached_named}
 use Rattle.vt_tree_laws.specs.Trees.{IsFileTree}
-use Rattle.vt_tree_laws.proofs.trees.TreesAbove.{parent_named, under_seen}
+use Rattle.vt_tree_laws.proofs.trees.TreesAbove.{parent_named, under_seen, led_directory}
 use Rattle.vt_tree_laws.proofs.trees.TreesReached.{not_removed_reached}
 use Rattle.std.proofs.lemmas.Option.{same_Some}
 use Rattle.vt_spec.proofs.NodeChanges.{directory_from_entry}
@@ -81,14 +81,6 @@ module _ (tree : Tree ℕ) (conditions : IsTree tree) where
       either true = refl
       either false = refl
 
-  -- names that lead to a directory go through directories
-  pub led_through : (from : ℕ) (names : List (List ℕ)) (to : ℕ) → led tree from names ≡ Some to → IsDirectory tree to
-      → IsDirectory tree from
-  led_through from [] to e is = subst (IsDirectory tree) (sym (same_Some from to e)) is
-  led_through from (name ∷ names) to e is =
-      let step = found (λ next. led tree next names) (entry_at tree from name) to e in
-      directory_from_entry name step.0 (tree.node from) step.1
-
 -- Names of these directories stay, where the directory that has them does
 abbrev pub DirectoryNamesStay : (ℕ → Type 0) → Tree ℕ → Tree ℕ → Type 0
 DirectoryNamesStay Keeps tree later =
@@ -117,7 +109,7 @@ module _ (Keeps : ℕ → Type 0) (tree later : Tree ℕ) (before : IsTree tree)
   led_stays from [] to e is keeps there = e
   led_stays from (name ∷ names) to e is keeps there =
       let step = found (λ next. led tree next names) (entry_at tree from name) to e in
-      let entry = stay from name step.0 step.1 (led_through tree before step.0 names to step.2 is)
+      let entry = stay from name step.0 step.1 (led_directory tree before step.0 names to step.2 is)
       (keeps_through step.0 names to step.2 keeps) there in
       ap (option_and_then (λ next. led later next names)) entry
       ∙ led_stays step.0 names to step.2 is keeps (after.alive from name step.0 entry)

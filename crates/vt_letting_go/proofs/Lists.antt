@@ -1,10 +1,13 @@
 -- What stands in a list: tests over lists that are shortened or changed.
-use Rattle.std.proofs.Common.{◌≡◌, refl, sym, ap, subst, ◌∙◌, inl, inr, ⊎_elim, ℕ, nat_eq, eqb-true, eq-eqb, Bool, true, false, cond, ◌||◌, ◌&&◌, List, [], ◌∷◌, filter, find, map, true≢false, flat_map, ◌++◌, is_some, unwrap_or}
-use Rattle.std.specs.Prelude.{Some}
+use Rattle.std.proofs.Common.{◌≡◌, refl, sym, ap, subst, ◌∙◌, inl, inr, ⊎_elim, ℕ, nat_eq, eqb-true, eq-eqb, Bool, true, false, cond, ◌||◌, ◌&&◌, List, [], ◌∷◌, filter, find, map, true≢false, flat_map, ◌++◌, is_some, unwrap_or, None, Option, arith, ◌+◌}
+use Rattle.std.specs.Prelude.{Some, nat_lt}
 use Rattle.std.specs.List.{list_any}
 use Rattle.std.proofs.lemmas.Bool.{or_parts}
 use Rattle.std.proofs.lemmas.Option.{same_Some}
-use Rattle.vt_spec.specs.Lists.{any_pair, is_among}
+use Rattle.vt_spec.specs.Lists.{any_pair, holds_of, is_among}
+use Rattle.std.proofs.Math.Nat.{add_assoc}
+use Rattle.vt_spec.proofs.Truths.{as_many_with_none, one_more_is_some}
+use Rattle.vt_letting_go.specs.Counts.{times}
 pub use Rattle.std.proofs.lemmas.Bool.{or_left as or_first, or_right as or_second}
 pub use Rattle.vt_spec.proofs.Lists.{Among, all_from_among, among-append, among-append_left, among-append_right, among-filter, among-filter_map, among-flat_map, among-from_filter, among-from_filter_map, among-from_flat_map, among-from_map, among-map, among_from_all, any_among as one_passes, any_from_among as any_passes, among_from_list_all as passes, filter_here, filter_skip, list_all_from_among as all_pass, map_same, none_among as fails, none_from_among as none_passes}
 pub use Rattle.vt_spec.proofs.Found.{is_among_left}
@@ -79,11 +82,6 @@ module _ {A : Type 0} where
           ∙ ap (λ b. b || list_any t ys) (sym (h y (inl refl) e))
 
 module _ {A B : Type 0} where
-  pub map_alike : (f g : A → B) (xs : List A) → ((x : A) → Among x xs → f x ≡ g x) → map f xs ≡ map g xs
-  map_alike f g [] h = refl
-  map_alike f g (y ∷ ys) h =
-      ap (λ x. x ∷ map f ys) (h y (inl refl)) ∙ ap (λ rest. g y ∷ rest) (map_alike f g ys (λ x m. h x (inr m)))
-
   pub any-map : (p : B → Bool) {q : A → Bool} (f : A → B) (xs : List A) → ((x : A) → p (f x) ≡ q x)
       → list_any p (map f xs) ≡ list_any q xs
   any-map p f [] h = refl
@@ -136,13 +134,44 @@ module _ {A B : Type 0} where
       ap (λ l. l ++ flat_map f ys) (h y (inl refl)) ∙ ap (λ l. g y ++ l) (flat_map_alike f g ys (λ x m. h x (inr m)))
 
 module _ {A B C : Type 0} where
-  pub map_twice : (f : B → C) (g : A → B) (xs : List A) → map f (map g xs) ≡ map (λ x. f (g x)) xs
-  map_twice f g [] = refl
-  map_twice f g (y ∷ ys) = ap (λ rest. f (g y) ∷ rest) (map_twice f g ys)
-
   pub flat_map-of_map : (g : B → List C) (f : A → B) (xs : List A) → flat_map g (map f xs) ≡ flat_map (λ x. g (f x)) xs
   flat_map-of_map g f [] = refl
   flat_map-of_map g f (y ∷ ys) = ap (λ l. g (f y) ++ l) (flat_map-of_map g f ys)
+
+-- a filter after one that keeps whatever it keeps is that filter
+pub filter_less : {A : Type 0} (p q : A → Bool) (xs : List A) → ((x : A) → Among x xs → q x ≡ false → p x ≡ false)
+    → filter p (filter q xs) ≡ filter p xs
+filter_less p q [] h = refl
+filter_less p q (y ∷ ys) h = by (q y) refl (filter_less p q ys (λ x m. h x (inr m)))
+  where
+    by : (b : Bool) → q y ≡ b → filter p (filter q ys) ≡ filter p ys
+        → filter p (cond b (y ∷ filter q ys) (filter q ys)) ≡ filter p (y ∷ ys)
+    by true e later = ap (λ l. cond (p y) (y ∷ l) l) later
+    by false e later = later ∙ sym (filter_skip p y ys (h y (inl refl) e))
+
+module _ {A : Type 0} where
+  -- some pass just where their count is not zero
+  pub any_counted : (test : A → Bool) (list : List A) → list_any test list ≡ nat_lt 0 (times test list)
+  any_counted test [] = refl
+  any_counted test (a ∷ rest) = by (test a) (any_counted test rest)
+    where
+      by : (b : Bool) → list_any test rest ≡ nat_lt 0 (times test rest)
+          → (b || list_any test rest) ≡ nat_lt 0 (cond b 1 0 + times test rest)
+      by true e = one_more_is_some (times test rest)
+      by false e = e ∙ as_many_with_none (times test rest)
+
+  -- how many pass with one that stands between two parts of a list, and how many without it
+  pub times_around : (test : A → Bool) (front back : List A) (a : A)
+      → times test (front ++ (a ∷ back)) ≡ times test (front ++ back) + cond (test a) 1 0
+  times_around test [] back a = omega arith
+  times_around test (b ∷ front) back a =
+      ap (λ n. cond (test b) 1 0 + n) (times_around test front back a)
+      ∙ sym (add_assoc (cond (test b) 1 0) (times test (front ++ back)) (cond (test a) 1 0))
+
+-- a number that is the one there may be is the one that is there
+pub held_number : (number : ℕ) (own : Option ℕ) → holds_of (nat_eq number) own ≡ true → own ≡ Some number
+held_number number None e = absurd (true≢false (sym e))
+held_number number (Some one) e = ap Some (sym (eqb-true number one e))
 
 -- a number among numbers
 pub among_numbers : (number : ℕ) (numbers : List ℕ) → is_among nat_eq number numbers ≡ true → Among number numbers

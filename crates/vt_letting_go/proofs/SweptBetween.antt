@@ -14,8 +14,13 @@ use Rattle.vt_letting_go.specs.InUse.{HasTrees, IsListedTree, UppersArePlain, ha
 use Rattle.vt_letting_go.specs.Overlays.{RealsAreThere}
 use Rattle.vt_letting_go.proofs.sweeps.InUse.{layers_stay, UnusedAreEmpty, after_first, after_second, first_layers, layers-first, layers-second, layers_on, left_by, named-left, no_objects, no_upper_objects, number-first, number-left, number-second, overlay-left, root-left, second_leaves, unused_are_empty, upper-left}
 use Rattle.vt_letting_go.proofs.sweeps.Inodes.{numbers_without}
-use Rattle.vt_letting_go.proofs.Lists.{Among, among-append, among-append_left, among-append_right, among-filter, among-filter_map, among-flat_map, among-from_filter, among-from_filter_map, among-from_flat_map, among-from_map, among-map, among_from_all, among_numbers, any-filter, any-map, any_passes, filter-map, filter_twice, flat_map-map, flat_map-of_map, flat_map_alike, flat_map_none, is_among_numbers, map_alike, map_twice, one_passes, or_first, or_second}
+use Rattle.vt_letting_go.proofs.Lists.{Among, among-append, among-append_left, among-append_right, among-filter, among-filter_map, among-flat_map, among-from_filter, among-from_filter_map, among-from_flat_map, among-from_map, among-map, among_from_all, among_numbers, any-filter, any-map, any_passes, filter-map, filter_twice, flat_map-map, flat_map-of_map, flat_map_alike, flat_map_none, is_among_numbers, one_passes, or_first, or_second}
 use Rattle.vt_letting_go.proofs.sweeps.Merged.{HasReals, left_of, reals_without, without_all, without_both}
+use Rattle.vt_spec.proofs.Lists.{map_alike, map_twice}
+use Rattle.vt_spec.proofs.Lists.{none-filter}
+use Rattle.std.specs.Prelude.{if◌then◌else◌}
+use Rattle.vt_spec.specs.Machine.Receives.{is_member_of}
+use Rattle.vt_spec.specs.Machine.Settled.{without_dead_groups}
 
 -- one of two tests that follows from the other
 pub follows : (a b : Bool) → (a ≡ true → b ≡ true) → a ≡ (b && a)
@@ -535,3 +540,28 @@ module _ (world : World ℕ) (once_mounts again_mounts : List (Mount ℕ)) (once
     master = λ group. same_master group i;
     filesystems = same_swept i;
   }
+
+-- A sweep leaves the same world where groups without members ended before it.
+pub settled_without_groups : (world : World ℕ) → settled nat_eq (without_dead_groups nat_eq world)
+    ≡ settled nat_eq world
+settled_without_groups world = λ i. record (settled nat_eq world) { master = λ group. same group i }
+  where
+    living : List (Mount ℕ)
+    living = filter (mount_lives nat_eq world) world.mounts
+
+    same : (group : ℕ) → (settled nat_eq (without_dead_groups nat_eq world)).master group
+        ≡ (settled nat_eq world).master group
+    same group = by (has_members nat_eq living group) refl (has_members nat_eq world.mounts group) refl
+      where
+        by : (b : Bool) → has_members nat_eq living group ≡ b → (c : Bool) → has_members nat_eq world.mounts group ≡ c
+            → (settled nat_eq (without_dead_groups nat_eq world)).master group
+            ≡ (settled nat_eq world).master group
+        by true e true f = ap (λ c. if has_members nat_eq living group
+            then (if c then world.master group else None) else None) f
+        by true e false f =
+            absurd (true≢false (sym e
+            ∙ none-filter (is_member_of nat_eq group) (mount_lives nat_eq world) world.mounts f))
+        by false e c f =
+            ap (λ b. if b then (if has_members nat_eq world.mounts group then world.master group else None) else None)
+            e
+            ∙ sym (ap (λ b. if b then world.master group else None) e)

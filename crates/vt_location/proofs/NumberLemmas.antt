@@ -114,6 +114,14 @@ counted_test a b =
     same_truth _ _ (λ e. eq-eqb a b (counted_same a b (eqb-true (counted a) (counted b) e)))
     (λ e. eq-eqb (counted a) (counted b) (ap counted (eqb-true a b e)))
 
+-- which of two counted numbers is less
+pub counted_less : (a b : ℕ) → nat_lt (counted a) (counted b) ≡ nat_lt a b
+counted_less a b = by (nat_lt a b) (ltb-true a b) (ltb-false a b)
+  where
+    by : (t : Bool) → (t ≡ true → a < b) → (t ≡ false → b ≤ a) → nat_lt (counted a) (counted b) ≡ t
+    by true less more = lt-ltb (counted a) (counted b) (omega (arith, less refl))
+    by false less more = le-ltb (counted a) (counted b) (omega (arith, more refl))
+
 pub inode_test : (f g a b : ℕ) → a < 18446744073709551616 → b < 18446744073709551616
     → nat_eq (inode_number f a) (inode_number g b) ≡ (nat_eq f g && nat_eq a b)
 inode_test f g a b a_small b_small =

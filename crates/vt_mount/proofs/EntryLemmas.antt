@@ -1,7 +1,7 @@
 -- The entries that contracts see of what is kept.
-use Rattle.std.proofs.Common.{◌≡◌, ◌<◌, ◌≤◌, ℕ, suc, Bool, true, false, cond, ◌&&◌, List, [], ◌∷◌, ◌++◌, map, length, not, nat_eq, nat_lt, Option, None, Some, option_map, slice_get, refl, sym, ap, ◌∙◌, arith, eq-eqb, le-ltb, lt-ltb}
+use Rattle.std.proofs.Common.{◌≡◌, ◌<◌, ◌≤◌, ℕ, suc, Bool, true, false, cond, ◌&&◌, List, [], ◌∷◌, ◌++◌, map, length, not, nat_eq, nat_lt, Option, None, Some, option_map, slice_get, refl, sym, ap, ◌∙◌, eq-eqb}
 use Rattle.std.specs.Prelude.{find as seek}
-use Rattle.std.proofs.lemmas.Bool.{eqb-true, ltb-true, ltb-false}
+use Rattle.std.proofs.lemmas.Bool.{eqb-true}
 use Rattle.std.specs.List.{IsDistinct, list_all}
 use Rattle.std.specs.Map.{keys_of, lookup}
 use Rattle.vt_spec.specs.Machine.Mounts as meant
@@ -13,16 +13,9 @@ use Rattle.vt_mount.specs.Listed.{same_id}
 use Rattle.vt_mount.specs.MountsValue.{MountEntry, changed, entries_of, entry_numbered, entry_of, in_order, mount_kept, mounts_in, without}
 use Rattle.vt_mount.proofs.IndexLemmas.{same_mount_id}
 use Rattle.vt_mount.proofs.OrderLemmas.{change_kept, found, found-in_order, in_order-changed, in_order-last, in_order-removed, is_above, length-in_order, tied, without_kept}
-use Rattle.vt_location.proofs.NumberLemmas.{counted_test}
+use Rattle.vt_location.proofs.NumberLemmas.{counted_test, counted_less}
 use Rattle.vt_spec.proofs.Truths.{and_true_left, and_true_right}
 pub use Rattle.vt_location.proofs.NumberLemmas.{counted_test as same_count}
-
-pub less_count : (a b : ℕ) → nat_lt (counted a) (counted b) ≡ nat_lt a b
-less_count a b = by (nat_lt a b) (ltb-true a b) (ltb-false a b)
-  where
-    by : (t : Bool) → (t ≡ true → a < b) → (t ≡ false → b ≤ a) → nat_lt (counted a) (counted b) ≡ t
-    by true less more = lt-ltb (counted a) (counted b) (omega (arith, less refl))
-    by false less more = le-ltb (counted a) (counted b) (omega (arith, more refl))
 
 abbrev pub entries : List (MountId × Mounted) → List MountEntry
 entries kept = map entry_of kept
@@ -160,7 +153,7 @@ pub above-entries : (number : MountId) (kept : List (MountId × Mounted))
     → is_above number kept ≡ true
 above-entries number [] above = refl
 above-entries number (one ∷ kept) above =
-    (λ i. sym (less_count one.0.count number.count) i && above-entries number kept (and_true_right _ _ above) i)
+    (λ i. sym (counted_less one.0.count number.count) i && above-entries number kept (and_true_right _ _ above) i)
     ∙ ap (λ b. b && true) (and_true_left _ _ above)
 
 entries-last : (one : MountId × Mounted) (kept : List (MountId × Mounted))

@@ -19,11 +19,12 @@ use Rattle.vt_mount.specs.Listed.{inserted, same_id}
 use Rattle.vt_mount.specs.Moving.{has_small_slot}
 use Rattle.vt_mount.specs.MountsValue.{are_ascending, entries_of, id_cmp, in_order, mount_kept, mounts_in}
 use Rattle.vt_location.specs.Numbers.{counted}
-use Rattle.vt_mount.proofs.EntryLemmas.{entries, less_count}
+use Rattle.vt_mount.proofs.EntryLemmas.{entries}
 use Rattle.vt_mount.proofs.ListLemmas.{others}
 use Rattle.vt_mount.proofs.IndexLemmas.{absent-others, below-none, cons-numbers, numbers-changed, numbers-left, others-taken, passes, turned, same_mount_id}
 use Rattle.vt_mount.proofs.OrderLemmas.{change_kept, found, rises, rises-in_order, tied}
 use Rattle.vt_spec.proofs.Truths.{T_and_left, T_and_right, and_true_left, and_true_right}
+use Rattle.vt_location.proofs.NumberLemmas.{counted_less}
 
 -- what is kept of a mount with another mount point
 abbrev pub placed_kept : Option Location → Mounted → Mounted
@@ -228,7 +229,7 @@ below-counts : (n : MountId) (kept : List (MountId × Mounted)) → T (below_all
     → list_all (λ later. nat_lt (counted n.count) later.number) (mounts_in (entries kept)) ≡ true
 below-counts n [] below = refl
 below-counts n (one ∷ kept) below =
-    (λ i. (less_count n.count one.0.count ∙ less-than n.count one.0.count (T_and_left _ _ below)) i
+    (λ i. (counted_less n.count one.0.count ∙ less-than n.count one.0.count (T_and_left _ _ below)) i
     && below-counts n kept (T_and_right _ _ below) i)
 
 counts-rise : (kept : List (MountId × Mounted)) → T (rises kept) → are_ascending (mounts_in (entries kept)) ≡ true

@@ -4,7 +4,7 @@ use Rattle.std.specs.List.{AllWithin, insert, remove}
 use Rattle.std.specs.List.Sorted.{IsBinarySearchResult, IsNonDecreasingBy, IsPartitionPoint, IsPartitionedBy, IsSearchInRange}
 use Rattle.std.specs.Ordering.{nat_cmp, ordering_index}
 use Rattle.std.specs.declared.cmp.Ordering.TheVariants.{Less, Equal, Greater}
-use Rattle.std.proofs.lemmas.Bool.{ltb-true, ltb-false}
+use Rattle.std.proofs.lemmas.Bool.{ltb-true, ltb-false, not-true}
 use Rattle.std.proofs.lemmas.Bool.Decides.{nat_tests}
 use Rattle.std.proofs.lemmas.Cmp.{ranked}
 use Rattle.vt_location.specs.declared.numbers.MountId.{MountId}
@@ -14,16 +14,12 @@ use Rattle.vt_spec.proofs.Truths.{and_true_left, and_true_right}
 both : (a b : Bool) → a ≡ true → b ≡ true → (a && b) ≡ true
 both a b left right = (λ i. left i && b) ∙ right
 
-from_not : (b : Bool) → not b ≡ true → b ≡ false
-from_not true is = sym is
-from_not false is = refl
-
 -- numbers that rise, as a binary search asks
 
 not-below : (id : MountId) (list : List MountId) (k : ℕ) (d : MountId) → none_below id list ≡ true → k < length list
     → id.count ≤ (get_or list k d).count
 not-below id [] k d above within = absurd (omega (arith, within))
-not-below id (x ∷ list) zero d above within = ltb-false x.count id.count (from_not _ (and_true_left _ _ above))
+not-below id (x ∷ list) zero d above within = ltb-false x.count id.count (not-true _ (and_true_left _ _ above))
 not-below id (x ∷ list) (suc k) d above within =
     not-below id list k d (and_true_right _ _ above) (omega (arith, within))
 
@@ -60,7 +56,7 @@ lower : (id y : MountId) (list : List MountId) → id.count < y.count → none_b
     → none_below id list ≡ true
 lower id y [] less below = refl
 lower id y (z ∷ list) less below =
-    both _ _ (not_less z.count (ltb-false z.count y.count (from_not _ (and_true_left _ _ below))))
+    both _ _ (not_less z.count (ltb-false z.count y.count (not-true _ (and_true_left _ _ below))))
     (lower id y list less (and_true_right _ _ below))
   where
     not_less : (n : ℕ) → y.count ≤ n → not (nat_lt n id.count) ≡ true
@@ -109,7 +105,8 @@ inserted-there id (x ∷ list) (suc place) within front rest =
     ap (λ l. x ∷ l) (inserted-there id list place (omega (arith, within))
     (λ k d low high. front (suc k) d (omega arith) (omega (arith, high)))
     (λ k d low high. rest (suc k) d (omega (arith, low)) (omega (arith, high))))
-    ∙ ap (λ b. cond b (id ∷ x ∷ list) (x ∷ inserted id list)) (sym (from_not _ (front 0 x (omega arith) (omega arith))))
+    ∙ ap (λ b. cond b (id ∷ x ∷ list) (x ∷ inserted id list))
+    (sym (not-true _ (front 0 x (omega arith) (omega arith))))
 
 -- one that is taken out
 
@@ -208,7 +205,7 @@ pub is_parted : (id : MountId) (slice list : List MountId) → slice ≡ list �
 is_parted id slice list is rising i j d le within passes =
     let le : (get_or slice i d).count ≤ (get_or slice j d).count =
     counts_rise slice (subst (λ list. rises list ≡ true) (sym is) rising) i j d le within in
-    lower _ _ le (ltb-false id.count _ (from_not _ passes))
+    lower _ _ le (ltb-false id.count _ (not-true _ passes))
   where
     lower : (m n : ℕ) → m ≤ n → n ≤ id.count → not (nat_lt id.count m) ≡ true
     lower m n le most = grind (arith, nat_tests)

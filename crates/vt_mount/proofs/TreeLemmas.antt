@@ -10,14 +10,15 @@ use Rattle.vt_mount.specs.declared.trees.Branch.{Branch}
 use Rattle.vt_mount.specs.Waiting.{to_come, tree_numbers}
 use Rattle.vt_mount.proofs.PlaceLemmas.{counts, numbers}
 
-module _ (mounts : List (Mount ℕ)) where
-  flat-numbers : (f : Mount ℕ → List (Mount ℕ)) (g : ℕ → List ℕ)
-      → ((mount : Mount ℕ) → numbers (f mount) ≡ g mount.number) → (all : List (Mount ℕ))
-      → numbers (flat_map f all) ≡ flat_map g (numbers all)
-  flat-numbers f g same [] = refl
-  flat-numbers f g same (mount ∷ all) =
-      map-append (λ mount. mount.number) (f mount) (flat_map f all) ∙ (λ i. same mount i ++ flat-numbers f g same all i)
+-- the numbers of lists of mounts that are put together, where each list's are known
+pub flat-numbers : (f : Mount ℕ → List (Mount ℕ)) (g : ℕ → List ℕ)
+    → ((mount : Mount ℕ) → numbers (f mount) ≡ g mount.number) → (all : List (Mount ℕ))
+    → numbers (flat_map f all) ≡ flat_map g (numbers all)
+flat-numbers f g same [] = refl
+flat-numbers f g same (mount ∷ all) =
+    map-append (λ mount. mount.number) (f mount) (flat_map f all) ∙ (λ i. same mount i ++ flat-numbers f g same all i)
 
+module _ (mounts : List (Mount ℕ)) where
   numbers-tree : (depth : ℕ) (mount : Mount ℕ)
       → numbers (tree_from nat_eq depth mounts mount) ≡ tree_numbers mounts depth mount.number
   numbers-tree zero mount = refl

@@ -43,15 +43,21 @@ found_passes p (y ∷ ys) x e = by (p y) refl (found_passes p ys x)
         later (sym (ap (λ b. cond b (Some y) (find p ys)) f) ∙ e) in
         (t.0, tail_among x y ys t.1)
 
-lives_weaker : (p q : ℕ → Bool) (master : ℕ → Option ℕ) → ((group : ℕ) → p group ≡ true → q group ≡ true) → (group : ℕ)
+-- a group lives also where more groups count as having members
+pub lives_weaker : (p q : ℕ → Bool) (master : ℕ → Option ℕ) → ((group : ℕ) → p group ≡ true → q group ≡ true)
+    → (group : ℕ)
     → Lives p master group → Lives q master group
 lives_weaker p q master more group (has_no_master it has e) = has_no_master it (more it has) e
 lives_weaker p q master more group (has_master it next has e later) =
     has_master it next (more it has) e (lives_weaker p q master more next later)
 
-lives_end : (p : ℕ → Bool) (master : ℕ → Option ℕ) (group : ℕ) → Lives p master group → EndsUp master group
-lives_end p master group (has_no_master it has e) = at_top it e
-lives_end p master group (has_master it next has e later) = goes_up it next e (lives_end p master next later)
+-- the masters of a living group end, also by another function that agrees on groups with members
+pub lives_end : (p : ℕ → Bool) (master other : ℕ → Option ℕ)
+    → ((group : ℕ) → p group ≡ true → other group ≡ master group) → (group : ℕ)
+    → Lives p master group → EndsUp other group
+lives_end p master other same group (has_no_master it has e) = at_top it (same it has ∙ e)
+lives_end p master other same group (has_master it next has e later) =
+    goes_up it next (same it has ∙ e) (lives_end p master other same next later)
 
 -- a member of a group is shared
 pub member_shared : (group : ℕ) (mount : Mount ℕ) → is_member_of nat_eq group mount ≡ true
@@ -66,6 +72,7 @@ member_shared group mount h = by mount.propagation refl h
     by Private e t = absurd (true≢false (sym t ∙ ap (λ k. holds_of (nat_eq group) (group_of k)) e))
     by Unbindable e t = absurd (true≢false (sym t ∙ ap (λ k. holds_of (nat_eq group) (group_of k)) e))
 
+-- and what is shared in a group is a member of it
 pub shared_member : (group : ℕ) (mount : Mount ℕ) → mount.propagation ≡ Shared group
     → is_member_of nat_eq group mount ≡ true
 shared_member group mount e = ap (λ k. holds_of (nat_eq group) (group_of k)) e ∙ eq-eqb group group refl
@@ -163,7 +170,8 @@ module _ (world : World ℕ) where
 masters_end_in : (world : World ℕ) → GroupsLive world → (mount : Mount ℕ) → Among mount world.mounts → (source : ℕ)
     → source_of mount.propagation ≡ Some source → EndsUp world.master source
 masters_end_in world live mount m source e =
-    lives_end (has_members nat_eq world.mounts) world.master source (lives_in world live mount m source e)
+    lives_end (has_members nat_eq world.mounts) world.master world.master (λ group has. refl) source
+    (lives_in world live mount m source e)
 
 pub inheritance_keeps_groups : KeptByInheritance GroupsLive
 inheritance_keeps_groups world live = regrouped_live world (masters_end_in world live)

@@ -71,16 +71,25 @@ module _ (master : ℕ → Option ℕ) where
             (sym (ap (λ g. is_some (master g)) (ap (last_or group) (chain_goes_on master n group next f)
             ∙ last_of_chain master n next group)) ∙ e))
 
+    -- a living group has members
     pub live_members : (group : ℕ) → Lives members master group → members group ≡ true
     live_members group (has_no_master it has f) = has
     live_members group (has_master it next has f later) = has
 
+    -- and so has its master
+    pub master_has_members : (group next : ℕ) → Lives members master group → master group ≡ Some next
+        → members next ≡ true
+    master_has_members group next (has_no_master it has f) e = absurd (true≢false (sym (ap is_some e) ∙ ap is_some f))
+    master_has_members group next (has_master it other has f later) e =
+        ap members (sym (same_Some other next (sym f ∙ e))) ∙ live_members other later
+
     -- the groups on the way
-    abbrev way : (group : ℕ) → Lives members master group → List ℕ
+    abbrev pub way : (group : ℕ) → Lives members master group → List ℕ
     way group (has_no_master it has f) = it ∷ []
     way group (has_master it next has f later) = it ∷ way next later
 
-    all_on_way : (n group : ℕ) → Lives members master group → list_all members (chain n master group) ≡ true
+    -- all groups up the masters of a living group have members
+    pub all_on_way : (n group : ℕ) → Lives members master group → list_all members (chain n master group) ≡ true
     all_on_way zero group life = ap (λ b. b && true) (live_members group life)
     all_on_way (suc n) group (has_no_master it has f) =
         ap (list_all members) (chain_ends master n it f) ∙ ap (λ b. b && true) has
@@ -89,7 +98,8 @@ module _ (master : ℕ → Option ℕ) where
         ∙ ap (λ b. b && list_all members (chain n master next)) has
         ∙ all_on_way n next later
 
-    ends_within : (n group : ℕ) (life : Lives members master group) → length (way group life) ≤ suc n
+    -- a chain as long as the way comes to an end
+    pub ends_within : (n group : ℕ) (life : Lives members master group) → length (way group life) ≤ suc n
         → is_some (master (last_or group (chain n master group))) ≡ false
     ends_within zero group (has_no_master it has f) l = ap is_some f
     ends_within (suc n) group (has_no_master it has f) l =
@@ -131,7 +141,7 @@ module _ (master : ℕ → Option ℕ) where
         m
 
     -- no group comes twice
-    way_apart : (group : ℕ) (life : Lives members master group) → any_pair nat_eq (way group life) ≡ false
+    pub way_apart : (group : ℕ) (life : Lives members master group) → any_pair nat_eq (way group life) ≡ false
     way_apart group (has_no_master it has f) = refl
     way_apart group (has_master it next has f later) =
         or_from (list_any (nat_eq it) (way next later)) (any_pair nat_eq (way next later))
@@ -142,7 +152,8 @@ module _ (master : ℕ → Option ℕ) where
         absurd (omega (arith, t.1, same))))
         (way_apart next later)
 
-    way_members : (group : ℕ) (life : Lives members master group) → list_all members (way group life) ≡ true
+    -- all groups on the way have members
+    pub way_members : (group : ℕ) (life : Lives members master group) → list_all members (way group life) ≡ true
     way_members group (has_no_master it has f) = ap (λ b. b && true) has
     way_members group (has_master it next has f later) =
         ap (λ b. b && list_all members (way next later)) has ∙ way_members next later

@@ -1,5 +1,5 @@
 -- Room for further uses, and the counts of tasks beside namespaces.
-use Rattle.std.proofs.Common.{◌≡◌, ◌≤◌, refl, sym, ap, subst, ◌∙◌, ℕ, ◌+◌, Bool, true, false, cond, nat_eq, eqb-true, List, [], ◌∷◌, find, Option, Some, None, option_map, unwrap_or, arith}
+use Rattle.std.proofs.Common.{◌≡◌, ◌≤◌, refl, sym, ap, subst, ◌∙◌, ℕ, ◌+◌, Bool, true, false, cond, nat_eq, List, [], ◌∷◌, find, Some, None, option_map, unwrap_or, arith}
 use Rattle.std.specs.List.{IsDistinct}
 use Rattle.std.specs.Map.{keys_of, lookup, set_value}
 use Rattle.vt_count_laws.specs.Using.{pinned_if}
@@ -10,12 +10,13 @@ use Rattle.vt_location.specs.Locations.{number_of}
 use Rattle.vt_location.specs.Numbers.{counted}
 use Rattle.vt_mount.specs.MountsValue.{MountEntry, changed, entry_numbered, held, uses_of, writers_of}
 use Rattle.vt_spec.specs.Inodes as Trees
-use Rattle.vt_spec.specs.Inodes.{Inodes, pinned, used_once_more, uses_in}
+use Rattle.vt_spec.specs.Inodes.{Inodes, uses_in}
 use Rattle.vt_detach.specs.declared.namespaces.Namespace.{Namespace}
 use Rattle.vt_detach.specs.Forking.{HasRoom, more_tasks, with_task_more}
 use Rattle.vt_detach.specs.Uses.{kept, pinned_in, with_location}
 use Rattle.vt_detach.specs.WorldValue.{entries_of}
 use Rattle.vt_detach.proofs.NamespaceEntries.{Entries, entries_written, is_id, none_written, same_namespace}
+use Rattle.vt_attach.proofs.RoomLemmas.{pinned_if_more}
 
 -- Uses
 
@@ -55,27 +56,6 @@ uses_grow m n (entry ∷ entries) = by (nat_eq m entry.mount.number) (uses_grow 
     by true rest = at (held false entry) entry refl (omega arith) (omega arith) rest
     by false rest = at entry entry refl (omega arith) refl rest
 
--- nor has an inode
-pins_grow : (filesystem : ℕ) (inodes : Inodes ℕ) (inode : Inode) (number : ℕ)
-    → uses_in ((pinned_if filesystem inodes inode).inode number) ≤ uses_in (inodes.inode number) + 1
-pins_grow filesystem inodes inode number = by (nat_eq filesystem inode.0)
-  where
-    more : (o : Option (Trees.Inode ℕ)) → uses_in (used_once_more o) ≤ uses_in o + 1
-    more None = omega arith
-    more (Some one) = omega arith
-
-    at : (b : Bool) → nat_eq number inode.1 ≡ b
-        → uses_in (cond b (used_once_more (inodes.inode inode.1)) (inodes.inode number)) ≤ uses_in
-        (inodes.inode number) + 1
-    at true e = subst (λ k. uses_in (used_once_more (inodes.inode k)) ≤ uses_in (inodes.inode number) + 1)
-        (eqb-true number inode.1 e) (more (inodes.inode number))
-    at false e = omega arith
-
-    by : (b : Bool) → uses_in ((cond b (pinned nat_eq inodes inode.1) inodes).inode number) ≤ uses_in
-        (inodes.inode number) + 1
-    by true = at (nat_eq number inode.1) refl
-    by false = omega arith
-
 inodes_grow : (inode : Inode) (count number : ℕ) (old new : Filesystems) → shown new ≡ pinned_in inode (shown old)
     → uses_in ((inodes_at new count).inode number) ≤ uses_in ((inodes_at old count).inode number) + 1
 inodes_grow inode count number [] [] is = omega arith
@@ -101,7 +81,7 @@ inodes_grow inode count number (old ∷ olds) (new ∷ news) is =
     by true here later =
         subst (λ (inodes : Inodes ℕ). uses_in (inodes.inode number) ≤ uses_in ((inodes_seen old).inode number) + 1)
         (sym here)
-        (pins_grow (counted old.count) (inodes_seen old) inode number)
+        (pinned_if_more (counted old.count) (inodes_seen old) inode number)
     by false here later = later
 
 -- where there was room for two uses there is room for one after one
@@ -121,10 +101,12 @@ room_left other at mounts news filesystems new_filesystems room is =
 
 -- Tasks of namespaces
 
+-- a task more is counted nowhere where its namespace is not there
 pub nothing_counted : (count : ℕ) (es : Entries) → lookup (is_id count) es ≡ None
     → entries_of es ≡ with_task_more count (entries_of es)
 nothing_counted count es absent = sym (none_written count more_tasks es absent)
 
+-- and in its namespace where that is there
 pub task_counted : (count : ℕ) (es new : Entries) (was now : Namespace) → IsDistinct same_namespace (keys_of es)
     → lookup (is_id count) es ≡ Some was → new ≡ set_value (is_id count) es now → now.tasks ≡ was.tasks + 1
     → entries_of new ≡ with_task_more count (entries_of es)

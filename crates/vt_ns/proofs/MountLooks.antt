@@ -17,19 +17,11 @@ use Rattle.vt_mount.specs.MountsValue.{MountEntry, entry_numbered, mounts_in, us
 use Rattle.vt_detach.specs.Held.{CountsItsUses, IsHeld, writes_of, writes_on}
 use Rattle.vt_detach.specs.WorldValue.{WorldValue, world_of}
 use Rattle.vt_detach.proofs.LostUses.{entry_found_at}
+use Rattle.vt_letting_go.proofs.Lists.{any_counted}
 
 either_counted : (a b : ℕ) → (nat_lt 0 a || nat_lt 0 b) ≡ nat_lt 0 (a + b)
 either_counted zero b = ap (nat_lt 0) (omega arith)
 either_counted (suc a) b = grind (arith, nat_tests)
-
-any_counted : {A : Type 0} (test : A → Bool) (list : List A) → list_any test list ≡ nat_lt 0 (times test list)
-any_counted test [] = refl
-any_counted test (a ∷ rest) = by (test a) (any_counted test rest)
-  where
-    by : (b : Bool) → list_any test rest ≡ nat_lt 0 (times test rest)
-        → (b || list_any test rest) ≡ nat_lt 0 (cond b 1 0 + times test rest)
-    by true e = either_counted 1 (times test rest)
-    by false e = e ∙ either_counted 0 (times test rest)
 
 any_written : (mount : ℕ) (tasks : List (Task ℕ))
     → list_any (λ task. list_any (writes_on mount) task.descriptors) tasks ≡ nat_lt 0 (writes_of mount tasks)
@@ -72,6 +64,7 @@ module _ (value : WorldValue) (held : IsHeld value) (number : ℕ) where
           (sym (eqb-true number location.mount e))
           ∙ entry_missing value.mounts number missing
 
+  -- a mount has uses just where a location is on it
   pub uses_tested : nat_lt 0 (uses_of value.mounts number) ≡ is_located nat_eq (world_of value) number
   uses_tested = by (entry_numbered value.mounts number) refl
     where
@@ -86,6 +79,7 @@ module _ (value : WorldValue) (held : IsHeld value) (number : ℕ) where
           ∙ ap (nat_lt 0) (counts.uses ∙ ap (mount_uses (world_of value)) (sym found.1))
           ∙ sym (located_while_counted (world_of value) number)
 
+  -- and writers just where a descriptor writes through it
   pub written_through : nat_lt 0 (writers_of value.mounts number) ≡ is_written_through nat_eq (world_of value) number
   written_through = by (entry_numbered value.mounts number) refl
     where

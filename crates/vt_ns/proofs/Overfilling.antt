@@ -48,6 +48,7 @@ module _ (mounts : List (Mount ℕ)) (place : Location ℕ)
       (missing_at world same)
       ∙ (let zero : 0 * size ≡ 0 = omega arith in zero)
 
+  -- no namespace overfills where nothing is added
   pub nothing_added : (world : World ℕ) (new : Copies ℕ) (tree : List (Mount ℕ)) → mounts ≡ world.mounts
       → NamespaceInvariants nat_eq world
       → false ≡ has_too_many nat_eq (attached_by nat_eq world new place false tree)
@@ -66,9 +67,11 @@ module _ (value : WorldValue) (held : IsHeld value) (number : ℕ) (place : Loca
   abbrev top : Mount ℕ
   top = mount_numbered nat_eq (world_of value) number
 
+  -- the tree of the mount that moves
   abbrev pub tree : List (Mount ℕ)
   tree = mount_tree nat_eq (mounts_in value.mounts) (mount_numbered nat_eq (world_of value) number)
 
+  -- the numbers of its copies
   abbrev pub new : Copies ℕ
   new = copies_from nat_eq (counts_from value.next) (parts_of nat_eq (world_of value) place)
       (mount_tree nat_eq (mounts_in value.mounts) (mount_numbered nat_eq (world_of value) number))
@@ -99,6 +102,7 @@ module _ (value : WorldValue) (held : IsHeld value) (number : ℕ) (place : Loca
         (λ none. absurd none)
         (subst (Among x) (alone_in_tree value held number is (length (mounts_in value.mounts))) m)
 
+    -- the tree moves out of the namespace of its mount
     pub moves_from : (namespace : Option NamespaceId)
         → mount.namespace ≡ option_map (λ one. counted one.count) namespace
         → MovesFrom (world_of value) namespace tree
@@ -145,6 +149,7 @@ module _ (value : WorldValue) (held : IsHeld value) (number : ℕ) (place : Loca
         (none_among number (mounts_in value.mounts) missing) namespace
         ∙ ap (λ list. mount_count (mounts_in value.mounts) namespace + mount_count others namespace * length list) alone
 
+    -- where no mount has the number only copies are added
     pub absent_grows : GrowsBy (world_of value) (attached_by nat_eq (world_of value) new place true tree)
         (rest_of (parts_of nat_eq (world_of value) place)) 1
     absent_grows = record {
@@ -171,6 +176,7 @@ module _ (value : WorldValue) (held : IsHeld value) (number : ℕ) (place : Loca
         )
         held.in_world.namespaces.few_mounts)
 
+  -- a move onto a mount that is not there overfills no namespace
   pub nowhere_moved : find (λ (one : Mount ℕ). nat_eq place.mount one.number) (mounts_in value.mounts) ≡ None
       → false ≡ overfills_of value (ToMove number place)
   nowhere_moved none = by (find (λ (one : Mount ℕ). nat_eq number one.number) (mounts_in value.mounts)) refl
@@ -189,6 +195,7 @@ TellsAdded value place size too_many =
     → too_many ≡ has_too_many nat_eq (attached_by nat_eq one copies place false added)
 
 module _ (value : WorldValue) (held : IsHeld value) (place : Location ℕ) (too_many : Bool) where
+  -- code tells whether a new mount overfills a namespace
   pub plain_overfills : (flags : MountFlags) → TellsAdded value place 1 too_many
       → too_many ≡ overfills_of value (ToMountPlain place flags)
   plain_overfills flags tells =
@@ -208,6 +215,7 @@ module _ (value : WorldValue) (held : IsHeld value) (place : Location ℕ) (too_
       })
       (same_parts (world_of value) held.in_world filesystem place) refl
 
+  -- and whether a bind does
   pub bind_overfills : (source : Location ℕ) (recursive : Bool)
       → TellsAdded value place (length (bind_tree nat_eq (world_of value) source recursive)) too_many
       → too_many ≡ overfills_of value (ToBind source place recursive)
@@ -223,6 +231,7 @@ pub none_found : (got : Option Kept) (found : Option (Mount ℕ)) → option_map
 none_found None found is none = sym is
 none_found (Some kept) found is none = absurd (true≢false none)
 
+-- the receivers are the parts after the first
 pub rest_kept : (kept : List Kept) (mounts : List (Mount ℕ)) → map mount_of kept ≡ mounts
     → rest_of mounts ≡ map mount_of (take (length kept - 1) (drop 1 kept))
 rest_kept kept mounts is = ap rest_of (sym is) ∙ by kept
@@ -231,6 +240,7 @@ rest_kept kept mounts is = ap rest_of (sym is) ∙ by kept
     by [] = refl
     by (first ∷ rest) = ap (map mount_of) (sym (all_taken (length (first ∷ rest) - 1) rest (omega arith)))
 
+-- a tree has as many mounts as its list has numbers
 pub tree_sized : (ids : List MountId) (mounts : List (Mount ℕ))
     → map (λ (id : MountId). counted id.count) ids ≡ map (λ (mount : Mount ℕ). mount.number) mounts
     → length mounts ≡ length ids

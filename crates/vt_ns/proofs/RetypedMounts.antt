@@ -12,21 +12,24 @@ use Rattle.vt_spec.specs.Machine.Mounts.{Mount, Propagation, is_unbindable, sour
 use Rattle.vt_spec.specs.Machine.Mounts.Propagation.{Unbindable}
 use Rattle.vt_spec.specs.Machine.Types.{retyped as policy_retyped, retyped_mount, type_after}
 use Rattle.vt_spec.specs.Machine.World.{World}
-use Rattle.vt_group.specs.Grouping.{Grouping, GroupsLive, numbers_of, propagation_in}
+use Rattle.vt_group.specs.Grouping.{Grouping, propagation_in}
 use Rattle.vt_group.specs.Together.{Retypes, Shares}
-use Rattle.vt_group.proofs.Together.{eqb-swapped, is_among-snoc, named_numbers}
+use Rattle.vt_group.proofs.Together.{is_among-snoc, named_numbers}
 use Rattle.vt_group.proofs.Others.{has_ordered}
-use Rattle.vt_letting_go.proofs.Lists.{all_from_among, among-from_map, map_alike, map_twice}
+use Rattle.vt_letting_go.proofs.Lists.{all_from_among, among-from_map}
 use Rattle.vt_location.specs.declared.numbers.MountId.{MountId}
 use Rattle.vt_location.specs.Numbers.{counted}
 use Rattle.vt_mount.specs.MountsValue.{MountEntry, changed, mounts_in}
 use Rattle.vt_retype.specs.Retyping.{FollowsTypes, FollowsTypesLeft, HaveNoSource, retyped, shared_by, typed_entry, with_kind}
-use Rattle.vt_propagate.specs.Pushing.{EachOnce}
 use Rattle.vt_propagate.specs.Seen.{IsSeen}
 use Rattle.vt_propagate.proofs.Seeing.{are_typed, retyping_is_seen, sharing_is_seen, slaves_are_seen}
 use Rattle.vt_run_laws.specs.Handed.{counts_from}
 use Rattle.vt_attach.proofs.CopiesAscend.{place_first, place_in, place_later}
 use Rattle.vt_ns.specs.Retyped.{IsRetyped, counted_after, set_if, with_counts}
+use Rattle.vt_spec.proofs.Lists.{map_alike, map_twice}
+use Rattle.vt_spec.proofs.Truths.{nat_eq-swapped}
+use Rattle.vt_mount_laws.specs.Mounts.Attaching.{numbers_of, OneNumberAMount}
+use Rattle.vt_mount_laws.specs.Mounts.Receivers.{AllGroupsLive}
 
 -- One after the other
 
@@ -47,9 +50,9 @@ module _ (numbers : List ℕ) (kind : Propagation ℕ) (number : ℕ) where
       by true true is = refl
       by true false is = refl
       by false true is = sym (ap (λ b. with_kind (if b then kind else entry.mount.propagation) entry)
-          (eqb-swapped number entry.mount.number true is))
+          (nat_eq-swapped number entry.mount.number true is))
       by false false is = sym (ap (λ b. with_kind (if b then kind else entry.mount.propagation) entry)
-          (eqb-swapped number entry.mount.number false is))
+          (nat_eq-swapped number entry.mount.number false is))
 
   all_more : (entries : List MountEntry)
       → changed number (with_kind kind) (map (retyped (set_if numbers kind)) entries)
@@ -57,6 +60,7 @@ module _ (numbers : List ℕ) (kind : Propagation ℕ) (number : ℕ) where
   all_more [] = refl
   all_more (entry ∷ entries) = λ i. one_more entry i ∷ all_more entries i
 
+-- one mount more of a list gets the type
 pub set_next : (old now new : List MountEntry) (kind : Propagation ℕ) (ids : List MountId) (i : ℕ) (d : MountId)
     → i < length ids
     → new ≡ changed (counted (get_or ids i d).count) (with_kind kind) now
@@ -70,6 +74,7 @@ set_next old now new kind ids i d less next so_far =
     (sym (map-append (λ (id : MountId). counted id.count) (take i ids) (get_or ids i d ∷ []))
     ∙ ap (map (λ (id : MountId). counted id.count)) (sym (take_more ids i d less)))
 
+-- at first none has got it
 pub none_set : (kind : Propagation ℕ) (entries : List MountEntry) → entries ≡ map (retyped (set_if [] kind)) entries
 none_set kind [] = refl
 none_set kind (entry ∷ entries) = ap (λ rest. entry ∷ rest) (none_set kind entries)
@@ -79,6 +84,7 @@ none_set kind (entry ∷ entries) = ap (λ rest. entry ∷ rest) (none_set kind 
 abbrev told : Grouping → ℕ → Propagation ℕ → Propagation ℕ
 told now number kind = if is_unbindable kind then Unbindable else propagation_in now number
 
+-- mounts that become slaves have the types of the groups that are left
 pub slaves_retyped : (next : ℕ) (numbers : List ℕ) (before now : Grouping) (old new : List MountEntry)
     → Retypes before now ToSlave numbers
     → FollowsTypes before now [] old new → IsRetyped ToSlave next next numbers before now old new
@@ -144,7 +150,7 @@ set_retyped word kind sets next numbers none before now old left new alone is re
         ∙ sym (map_twice (set_mount numbers) (λ (entry : MountEntry). entry.mount) old)
         ∙ ap (map (set_mount numbers)) seen.mounts
 
-    named_set : (world : World ℕ) → GroupsLive world → (group : ℕ → ℕ) (named mounts : List (Mount ℕ))
+    named_set : (world : World ℕ) → AllGroupsLive world → (group : ℕ → ℕ) (named mounts : List (Mount ℕ))
         → map (set_mount (numbers_of named)) mounts ≡ map (retyped_mount nat_eq group word named) mounts
     named_set world live group named [] = refl
     named_set world live group named (mount ∷ rest) =
@@ -200,6 +206,7 @@ shared_retyped next later numbers before now old new counts shares is = record {
         by true = refl
         by false = refl
 
+-- mounts become shared where the step succeeds
 pub shared_if_ok : (result : Result ℕ Deny) (next : ℕ) (numbers : List ℕ) (before now : Grouping)
     (old new : List MountEntry)
     → OnOk result (Shares before now (with_counts next numbers)) → OnOk result (new ≡ map (shared_by now numbers) old)
@@ -211,12 +218,13 @@ shared_if_ok (Err deny) next numbers before now old new shares is many all count
 
 -- New groups
 
+-- each named mount has a number for its group
 pub each_numbered : (next : ℕ) (numbers : List ℕ) → map (λ (pair : ℕ × ℕ). pair.0) (with_counts next numbers) ≡ numbers
 each_numbered next [] = refl
 each_numbered next (number ∷ rest) = ap (λ others. number ∷ others) (each_numbered (next + 1) rest)
 
 -- Mounts with different numbers have their new groups counted in their order.
-pub places_are_counted : (next k : ℕ) (mounts : List (Mount ℕ)) → EachOnce mounts
+pub places_are_counted : (next k : ℕ) (mounts : List (Mount ℕ)) → OneNumberAMount mounts
     → map {B = ℕ × ℕ} (λ (mount : Mount ℕ). (mount.number, counts_from next (place_in k mounts mount.number))) mounts
     ≡ with_counts (next + k) (numbers_of mounts)
 places_are_counted next k [] once = refl

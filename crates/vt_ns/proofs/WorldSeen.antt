@@ -1,13 +1,10 @@
 -- The code's world is one that propagation sees.
-use Rattle.std.proofs.Common.{refl, sym}
+use Rattle.std.proofs.Common.{sym}
 use Rattle.vt_propagate.specs.Going.{CountsUses}
-use Rattle.vt_propagate.specs.Seen.{IsSeen}
 use Rattle.vt_detach.specs.Held.{IsHeld}
 use Rattle.vt_detach.specs.WorldValue.{WorldValue, world_of}
 use Rattle.vt_ns.proofs.MountLooks.{uses_tested}
 
-pub world_seen : (value : WorldValue) → IsHeld value → IsSeen (world_of value) value.mounts value.groups
-world_seen value held = record { mounts = refl; groups = held.groups; living = held.in_world.mounts.groups }
-
+-- code counts the uses of each mount
 pub uses_seen : (value : WorldValue) → IsHeld value → CountsUses (world_of value) value.mounts
 uses_seen value held number = sym (uses_tested value held number)

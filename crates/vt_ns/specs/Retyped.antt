@@ -6,11 +6,12 @@ use Rattle.vt_spec.specs.Lists.{is_among}
 use Rattle.vt_spec.specs.Machine.Mounts.{Mount, Propagation}
 use Rattle.vt_spec.specs.Machine.Types.{retyped}
 use Rattle.vt_spec.specs.Machine.World.{World}
-use Rattle.vt_group.specs.Grouping.{Grouping, LacksGroup, numbers_of}
+use Rattle.vt_group.specs.Grouping.{Grouping, LacksGroup}
 use Rattle.vt_location.specs.Numbers.{counted}
 use Rattle.vt_mount.specs.MountsValue.{MountEntry}
 use Rattle.vt_retype.specs.Retyping.{retyped as retyped_entry}
 use Rattle.vt_propagate.specs.Seen.{IsSeen}
+use Rattle.vt_mount_laws.specs.Mounts.Attaching.{numbers_of}
 
 -- these mounts get a type
 abbrev pub set_if : List ℕ → Propagation ℕ → ℕ → Propagation ℕ → Propagation ℕ

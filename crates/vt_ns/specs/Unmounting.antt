@@ -5,7 +5,6 @@ use Rattle.vt_spec.specs.Lists.{holds_of}
 use Rattle.vt_spec.specs.Machine.Mounts.{Mount, is_shared, mount_in}
 use Rattle.vt_attach.specs.Planned.{Point, is_small, points_left, points_taken, with_planned}
 use Rattle.vt_detach.specs.Detached.{LeaveTogether}
-use Rattle.vt_detach.specs.Held.{is_ungrouped}
 use Rattle.vt_detach.specs.Uses.{Kept, kept}
 use Rattle.vt_fs.specs.FilesystemsValue.{Filesystems}
 use Rattle.vt_group.specs.Grouping.{Grouping}
@@ -13,6 +12,7 @@ use Rattle.vt_group.specs.Together.{GrowsTo}
 use Rattle.vt_location.specs.declared.locations.Location.{Location}
 use Rattle.vt_location.specs.Locations.{location_of}
 use Rattle.vt_mount.specs.MountsValue.{MountEntry}
+use Rattle.vt_permit_laws.specs.Taken.{is_ungrouped}
 
 -- the parent of a mount is shared
 abbrev pub stands_on_shared : List (Mount ℕ) → ℕ → Bool

@@ -5,7 +5,6 @@ ghost use Rattle.vt_location.specs.MountValue.{propagation_of};
 ghost use Rattle.vt_location.specs.Numbers.{counted};
 ghost use Rattle.vt_mount.specs.MountsValue.{mounts_in};
 ghost use Rattle.vt_spec.specs.Machine.Mounts.{is_shared, mount_in};
-ghost use Rattle.vt_detach.specs.Held.{is_ungrouped};
 ghost use Rattle.vt_ns.specs.Unmounting.{GoTogether, are_ungrouped, stands_on_shared, unmounts_alone};
 ghost use Rattle.vt_detach.specs.Detached.{tree_numbers};
 ghost use Rattle.vt_detach.specs.Uses.{kept};
@@ -13,6 +12,7 @@ ghost use Rattle.vt_spec.specs.declared.errors.Rule.TheVariants.{S5};
 ghost use Rattle.vt_spec.specs.Errors.{denial};
 ghost use Rattle.vt_spec.specs.Machine.Permits.Permit.{ToUnmount, ToUnmountLazily};
 ghost use Rattle.vt_detach.specs.Events.{Becomes, Permits};
+ghost use Rattle.vt_permit_laws.specs.Taken.{is_ungrouped};
 
 use crate::world::World;
 use std::alloc::Global;

@@ -12,27 +12,18 @@ use Rattle.vt_spec.specs.Machine.Renaming.{renamed_location, renamed_node, renam
 use Rattle.vt_spec.specs.Machine.SameWorlds.{SameWorlds}
 use Rattle.vt_spec.specs.Machine.World.{Task, World, task_called}
 use Rattle.vt_world_laws.specs.Worlds.Kept.{IsPlain}
+use Rattle.vt_laws.specs.Renaming.{renamed_change}
 
 -- a permit with other numbers
 module _ {N M : Type 0} (there : N → M) (back : M → N) where
-  abbrev pub renamed_change : Change N → Change M
-  renamed_change (Make directory name number node) =
-      Make (there directory) name (there number) (renamed_node there back node)
-  renamed_change (AddName directory name object) = AddName (there directory) name (there object)
-  renamed_change (Remove directory name object) = Remove (there directory) name (there object)
-  renamed_change (Move from old to new object) = Move (there from) old (there to) new (there object)
-  renamed_change (SetBytes file bytes) = SetBytes (there file) bytes
-  renamed_change (SetAttr object attr) = SetAttr (there object) attr
-  renamed_change (SetMark directory opaque) = SetMark (there directory) opaque
-  renamed_change (CopyUp object) = CopyUp (there object)
-
   abbrev pub renamed_permit : Permit N → Permit M
   renamed_permit Allowed = Allowed
   renamed_permit (ToList directory) = ToList (renamed_location there back directory)
   renamed_permit (ToStat object) = ToStat (renamed_location there back object)
   renamed_permit (ToRead file) = ToRead (renamed_location there back file)
   renamed_permit (ToReadPart file offset size) = ToReadPart (renamed_location there back file) offset size
-  renamed_permit (ToChange location change) = ToChange (renamed_location there back location) (renamed_change change)
+  renamed_permit (ToChange location change) =
+      ToChange (renamed_location there back location) (renamed_change there back change)
   renamed_permit (ToMake directory name node) =
       ToMake (renamed_location there back directory) name (renamed_node there back node)
   renamed_permit (ToRemoveDirectory parent name directory) =

@@ -7,8 +7,7 @@ use Rattle.vt_spec.specs.Lists.{first_of_list, folded, holds_of, rest_of}
 use Rattle.vt_spec.specs.Machine.Attach.{added_mounts, copies_at, masters_with, parts_of, pushed_up, with_moved_mounts}
 use Rattle.vt_spec.specs.Machine.Mounts.{Location, Mount, with_mount}
 use Rattle.vt_spec.specs.Machine.World.{World, mount_at}
-use Rattle.vt_spec.proofs.Lists.{contains_from_among}
-use Rattle.vt_group.proofs.Together.{map_alike}
+use Rattle.vt_spec.proofs.Lists.{contains_from_among, map_alike}
 use Rattle.vt_location.specs.Locations.{location_of}
 use Rattle.vt_location.specs.MountValue.{mount_of}
 use Rattle.vt_location.specs.Numbers.{counted}
@@ -20,6 +19,7 @@ use Rattle.vt_propagate.specs.Planned.{graft_in, numbers_at, planned_copies, pla
 use Rattle.vt_propagate.specs.Pushing.{KeepsLeaver, PushesBy, leaver}
 use Rattle.vt_propagate.proofs.Moved.{all_pushed}
 
+-- a row for each element of a list has as many elements in all as the list times the row
 pub length-rows : {A B C : Type 0} (f : A → B → C) (row : List B) (list : List A)
     → length (flat_map (λ a. map (f a) row) list) ≡ length list * length row
 length-rows f row [] = omega arith
@@ -31,6 +31,7 @@ length-rows f row (a ∷ list) =
     let rest : length (flat_map (λ a. map (f a) row) list) ≡ length list * length row = length-rows f row list in
     omega (arith, whole, one, rest)
 
+-- A world to which a graft is attached is the one that the planned copies, groups and points make.
 pub attached_by_plans : (world : World ℕ) (graft : Graft) (counts : Counts) (copies : List (Mount ℕ)) (new : List
     (ℕ × Option ℕ))
     (points : List (ℕ × Location ℕ)) → copies ≡ planned_copies world graft counts → new

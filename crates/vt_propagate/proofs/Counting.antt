@@ -18,14 +18,20 @@ use Rattle.vt_location.specs.declared.numbers.NamespaceId.{NamespaceId}
 use Rattle.vt_location.specs.MountValue.{mount_of}
 use Rattle.vt_location.specs.Numbers.{counted}
 use Rattle.vt_mount.proofs.EntryLemmas.{same_count}
-use Rattle.vt_propagate.specs.Filling.{GrowsBy, MovesFrom, is_in, is_overfilled, is_part_in, leaving, mount_count, parts_in, same_namespace}
+use Rattle.vt_propagate.specs.Filling.{GrowsBy, MovesFrom, is_overfilled, leaving, mount_count, parts_in}
 use Rattle.vt_propagate.specs.declared.filling.Load.{Load}
 use Rattle.vt_propagate.proofs.Found.{numbered}
 use Rattle.vt_propagate.proofs.Leaving.{found_one, same_from}
 use Rattle.vt_propagate.proofs.TakingPart.{receivers_there}
+use Rattle.vt_spec.proofs.Truths.{same_truth}
+use Rattle.vt_letting_go.proofs.Lists.{found_in}
+use Rattle.vt_mount_laws.specs.Mounts.Attaching.{numbers_of, OneNumberAMount}
+use Rattle.vt_mount.specs.Indexes.{same_namespace, is_in as is_part_in}
+use Rattle.vt_letting_go.specs.Ends.{is_in}
 
 -- parts as they are kept
 
+-- the parts of a namespace are counted as code counts them
 pub parts_counted : (parts : List Kept) (namespace : NamespaceId)
     → mount_count (map mount_of parts) (counted namespace.count) ≡ parts_in parts namespace
 parts_counted parts namespace = all parts ∙ length-filter (is_part_in namespace) parts
@@ -79,7 +85,7 @@ module _ (world : World ℕ) (parts : List (Mount ℕ)) (invariants : NamespaceI
 
   parts_tell : list_any (λ part. holds_of full part.namespace) parts
       ≡ list_any (λ namespace. full namespace.number) world.namespaces
-  parts_tell = same_from _ _ there back
+  parts_tell = same_truth _ _ there back
     where
       there : list_any (λ part. holds_of full part.namespace) parts ≡ true
           → list_any (λ namespace. full namespace.number) world.namespaces ≡ true
@@ -185,7 +191,7 @@ module _ (world : World ℕ) (place : Location ℕ) where
           (same ∙ ap (λ found. unwrap_or found (no_mount place.mount)) e))))
       first (Some mount) e same =
           listed world invariants mount namespace
-          (found_one (λ (one : Mount ℕ). nat_eq place.mount one.number) world.mounts mount e).0
+          (found_in (λ (one : Mount ℕ). nat_eq place.mount one.number) world.mounts mount e).0
           (ap (λ (one : Mount ℕ). one.namespace) (sym (same ∙ ap (λ found. unwrap_or found (no_mount place.mount)) e))
           ∙ is)
 
@@ -271,6 +277,7 @@ module _ (world : World ℕ) (place : Location ℕ) where
               ap (λ n. mount_count parts (counted namespace.count) * n) size in
               omega (arith, all, gone, fewer, sized)
 
+-- What code counts tells whether a namespace overfills where a tree moves with copies.
 pub moves_tell : (world : World ℕ) (place : Location ℕ) (new : Copies ℕ) (tree : List (Mount ℕ))
     → NamespaceInvariants nat_eq world
     → (mounts : List (Mount ℕ)) → mounts ≡ world.mounts → (kept : List Kept)

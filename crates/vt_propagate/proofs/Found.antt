@@ -9,25 +9,28 @@ use Rattle.vt_location.specs.declared.numbers.MountId.{MountId}
 use Rattle.vt_location.specs.Numbers.{counted}
 use Rattle.vt_mount.specs.MountsValue.{are_ascending}
 use Rattle.vt_propagate.specs.Seen.{mounts_numbered}
+use Rattle.vt_mount_laws.specs.Mounts.Attaching.{numbers_of}
 
+-- the numbers of mounts by their counts
 abbrev pub counts : List MountId → List ℕ
 counts ids = map (λ id. counted id.count) ids
 
-abbrev pub numbers : List (Mount ℕ) → List ℕ
-numbers mounts = map (λ mount. mount.number) mounts
-
+-- the first mount with a number
 abbrev pub numbered : List (Mount ℕ) → ℕ → Option (Mount ℕ)
 numbered mounts number = seek (λ mount. nat_eq number mount.number) mounts
 
 -- those of the mounts with these numbers that pass
 module _ (test : Mount ℕ → Bool) (all : List (Mount ℕ)) where
+  -- the mounts of a list of numbers that pass a test
   abbrev pub passing : List MountId → List (Mount ℕ)
   passing ids = filter test (mounts_numbered all (counts ids))
 
+  -- a number that no mount has adds none
   pub passing-missing : (id : MountId) (ids : List MountId) → None ≡ numbered all (counted id.count)
       → passing (id ∷ ids) ≡ passing ids
   passing-missing id ids e = ap (λ o. filter test (cons_option o (mounts_numbered all (counts ids)))) (sym e)
 
+  -- a mount that passes is added
   pub passing-here : (id : MountId) (ids : List MountId) (mount : Mount ℕ)
       → Some mount ≡ numbered all (counted id.count)
       → test mount ≡ true → passing (id ∷ ids) ≡ mount ∷ passing ids
@@ -35,6 +38,7 @@ module _ (test : Mount ℕ → Bool) (all : List (Mount ℕ)) where
       ap (λ o. filter test (cons_option o (mounts_numbered all (counts ids)))) (sym e)
       ∙ ap (λ b. cond b (mount ∷ passing ids) (passing ids)) passes
 
+  -- and one that does not is not
   pub passing-not : (id : MountId) (ids : List MountId) (mount : Mount ℕ) → Some mount ≡ numbered all (counted id.count)
       → test mount ≡ false → passing (id ∷ ids) ≡ passing ids
   passing-not id ids mount e fails =
@@ -71,8 +75,9 @@ numbered_among (first ∷ rest) up mount m = ⊎_elim here (later (numbered_amon
 -- the mounts of an ascending list that are numbered like some of them are these
 pub numbered_again : (all some : List (Mount ℕ)) → are_ascending all ≡ true
     → ((mount : Mount ℕ) → Among mount some → Among mount all)
-    → mounts_numbered all (numbers some) ≡ some
+    → mounts_numbered all (numbers_of some) ≡ some
 numbered_again all [] up within = refl
 numbered_again all (mount ∷ some) up within =
-    ap (λ o. cons_option o (mounts_numbered all (numbers some))) (numbered_among all up mount (within mount (inl refl)))
+    ap (λ o. cons_option o (mounts_numbered all (numbers_of some)))
+    (numbered_among all up mount (within mount (inl refl)))
     ∙ ap (λ l. mount ∷ l) (numbered_again all some up (λ other m. within other (inr m)))

@@ -20,6 +20,7 @@ turned_count a b = turned ∙ sym (same_count b a)
         by false is apart = ne_eqb a b (λ is. apart refl (sym is))
 
 module _ {A B : Type 0} (f : A → B) (test : A → Bool) (seen : B → Bool) (agree : (a : A) → test a ≡ seen (f a)) where
+  -- some pass a test by what they are where some do by what is seen of them
   pub any-seen : (list : List A) → list_any test list ≡ list_any seen (map f list)
   any-seen [] = refl
   any-seen (a ∷ list) = λ i. agree a i || any-seen list i

@@ -1,5 +1,5 @@
 -- A lazy unmount, whose events detach mounts in turn, leaves the world from which all of them are detached at once.
-use Rattle.std.proofs.Common.{◌≡◌, refl, sym, ap, subst, ◌∙◌, ℕ, nat_eq, Bool, true, false, true≢false, ◌||◌, List, [], ◌∷◌, ◌++◌, filter, Option, None, Some, option_map, is_some, ⊎_elim}
+use Rattle.std.proofs.Common.{◌≡◌, refl, sym, ap, subst, ◌∙◌, ℕ, nat_eq, Bool, true, false, true≢false, ◌||◌, List, [], ◌∷◌, ◌++◌, Option, None, Some, option_map, is_some, ⊎_elim}
 use Rattle.std.proofs.lemmas.List.Folds.{list_any-append}
 use Rattle.std.proofs.lemmas.Option.{same_Some}
 use Rattle.std.specs.Prelude.{Contains, flat_map, if◌then◌else◌, length}
@@ -8,11 +8,11 @@ use Rattle.vt_spec.specs.Machine.Detach.{after_going, going, going_at, has_child
 use Rattle.vt_spec.specs.Machine.Invariants.{MountInvariants, Stands}
 use Rattle.vt_spec.specs.Machine.Invariants.Stands.{at_root, on_parent}
 use Rattle.vt_spec.specs.Machine.Mounts.{Location, Mount, mount_tree}
-use Rattle.vt_spec.specs.Machine.Receives.{has_members, is_member_of, regrouped}
-use Rattle.vt_spec.specs.Machine.Settled.{mount_lives, settled, without_dead_groups}
+use Rattle.vt_spec.specs.Machine.Receives.{regrouped}
+use Rattle.vt_spec.specs.Machine.Settled.{settled, without_dead_groups}
 use Rattle.vt_spec.specs.Machine.World.{World, mount_numbered, with_mounts}
-use Rattle.vt_spec.proofs.Lists.{all_from_among, among_cases, among_numbers, contains_from_among, head_among, map_same, none-filter}
-use Rattle.vt_group.specs.Grouping.{Grouping, GroupsLive, are_rising, numbers_of, peers_of}
+use Rattle.vt_spec.proofs.Lists.{all_from_among, among_cases, among_numbers, contains_from_among, head_among, map_same}
+use Rattle.vt_group.specs.Grouping.{Grouping, are_rising, peers_of}
 use Rattle.vt_group.proofs.Together.{regrouped_living}
 use Rattle.vt_letting_go.specs.Several.{KeepsMounts}
 use Rattle.vt_letting_go.proofs.mounting.TakenInTurn.{one_sweep_for_all_mounts_with_overlays}
@@ -28,6 +28,10 @@ use Rattle.vt_mount_laws.proofs.ends.UnmountingEnds.{the_mount_itself_goes}
 use Rattle.vt_propagate.specs.LazyUnmounts.{LazyUnmountsAreAtOnce, LazyUnmountsAreSeen, LazyUnmountsSettleAlike, LazyUnmountsTakeTheTree, PartsAreSweptOnce, gone_by, gone_lazily, going_if_there}
 use Rattle.vt_propagate.specs.Seen.{IsSeen}
 use Rattle.vt_propagate.proofs.TakenTwice.{taken_twice}
+use Rattle.vt_mount_laws.specs.Mounts.Attaching.{numbers_of}
+use Rattle.vt_mount_laws.specs.Mounts.Receivers.{AllGroupsLive}
+use Rattle.vt_letting_go.proofs.SweptBetween.{settled_without_groups}
+use Rattle.vt_letting_go.specs.Attaching.{is_attached}
 
 -- where nothing goes, nothing changes
 pub nothing_taken : (world : World ℕ) → MountInvariants nat_eq world → taken_away nat_eq world [] ≡ world
@@ -66,14 +70,12 @@ module _ (start : World ℕ) (at_first : MountInvariants nat_eq start) (one : �
       ∙ event_and_others now way.kept mount.number (is_some (mount_numbered nat_eq now mount.number).namespace)
       (gone_by (unmounted_if_there nat_eq now mount) rest)
 
+-- a lazy unmount takes all its mounts away at once
 pub lazy_unmounts_are_at_once : LazyUnmountsAreAtOnce
 lazy_unmounts_are_at_once world number kept =
     events_at_once world kept number (taken_in_turn world number) world (begun world kept number)
 
 -- The tree
-
-abbrev is_attached : World ℕ → ℕ → Bool
-is_attached world number = is_some (mount_numbered nat_eq world number).namespace
 
 -- a mount goes in its own event, since nothing stands on it then
 goes_itself : (now : World ℕ) → MountInvariants nat_eq now → (number : ℕ) → has_child nat_eq now number ≡ false
@@ -139,6 +141,7 @@ module _ (start : World ℕ) (at_first : MountInvariants nat_eq start) (one : �
               later (ap is_some (kept_by_number now (gone_by_event true now mount.number) number f).namespace ∙ there)
       further false e later = later there
 
+-- and with each mount what stands on it
 pub lazy_unmounts_take_the_tree : LazyUnmountsTakeTheTree
 lazy_unmounts_take_the_tree world number kept there =
     all_from_among (λ mount. Contains (gone_lazily world number) mount.number)
@@ -156,7 +159,7 @@ lazy_unmounts_take_the_tree world number kept there =
 
 -- worlds that differ in the masters of groups without members have the same groups
 seen_alike : (one other : World ℕ) (kept : List MountEntry) (grouping : Grouping)
-    → without_dead_groups nat_eq other ≡ without_dead_groups nat_eq one → GroupsLive other
+    → without_dead_groups nat_eq other ≡ without_dead_groups nat_eq one → AllGroupsLive other
     → IsSeen one kept grouping → IsSeen other kept grouping
 seen_alike one other kept grouping same live seen =
     let mounts : other.mounts ≡ one.mounts = ap (λ (w : World ℕ). w.mounts) same in
@@ -178,29 +181,6 @@ seen_lazily world number kept grouping invariants seen =
     (lazy_unmounts_are_at_once world number invariants)
     (lazy_unmount_keeps_mounts world number invariants).groups seen
 
--- a world settles to the same where groups without members ended before
-pub settled_without_groups : (world : World ℕ) → settled nat_eq (without_dead_groups nat_eq world) ≡ settled nat_eq world
-settled_without_groups world = λ i. record (settled nat_eq world) { master = λ group. same group i }
-  where
-    living : List (Mount ℕ)
-    living = filter (mount_lives nat_eq world) world.mounts
-
-    same : (group : ℕ) → (settled nat_eq (without_dead_groups nat_eq world)).master group
-        ≡ (settled nat_eq world).master group
-    same group = by (has_members nat_eq living group) refl (has_members nat_eq world.mounts group) refl
-      where
-        by : (b : Bool) → has_members nat_eq living group ≡ b → (c : Bool) → has_members nat_eq world.mounts group ≡ c
-            → (settled nat_eq (without_dead_groups nat_eq world)).master group
-            ≡ (settled nat_eq world).master group
-        by true e true f = ap (λ c. if has_members nat_eq living group
-            then (if c then world.master group else None) else None) f
-        by true e false f =
-            absurd (true≢false (sym e
-            ∙ none-filter (is_member_of nat_eq group) (mount_lives nat_eq world) world.mounts f))
-        by false e c f =
-            ap (λ b. if b then (if has_members nat_eq world.mounts group then world.master group else None) else None) e
-            ∙ sym (ap (λ b. if b then world.master group else None) e)
-
 -- Parts that are taken in turn settle to the world from which all of them are taken at once.
 parts_settle_alike : (world : World ℕ) (parts : List (List ℕ)) → KeepsMounts (taken_away nat_eq) world parts
     → settled nat_eq (folded (taken_away nat_eq) world parts)
@@ -213,6 +193,7 @@ parts_settle_alike world (first ∷ rest) kept =
     ∙ ap (settled nat_eq) (taken_twice world first others kept.0)
     ∙ settled_without_groups (taken_away nat_eq world (first ++ others))
 
+-- parts that are taken away in turn leave, once swept, what they leave at once
 pub parts_are_swept_once : PartsAreSweptOnce
 parts_are_swept_once world parts trees uppers reals kept =
     one_sweep_for_all_mounts_with_overlays world parts trees uppers reals kept

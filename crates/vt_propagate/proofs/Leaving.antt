@@ -1,5 +1,5 @@
 -- Which mounts an unmount detaches, by their numbers.
-use Rattle.std.proofs.Common.{◌≡◌, ℕ, Bool, true, false, cond, ◌||◌, List, [], ◌∷◌, filter, length, nat_eq, nat_lt, Option, None, Some, option_map, is_some, refl, sym, ap, ◌∙◌, arith, true≢false, inl, inr, eq-eqb, ◌+◌, ◌*◌}
+use Rattle.std.proofs.Common.{◌≡◌, ℕ, Bool, true, false, cond, ◌||◌, List, [], ◌∷◌, filter, length, nat_eq, nat_lt, Option, None, Some, option_map, is_some, refl, sym, ap, ◌∙◌, arith, true≢false, eq-eqb, ◌+◌, ◌*◌}
 use Rattle.std.proofs.lemmas.List.{length-map}
 use Rattle.std.specs.Prelude.{find as seek, filter_map, if◌then◌else◌, unwrap_or}
 use Rattle.std.specs.List.{cons_option, list_any}
@@ -12,13 +12,16 @@ use Rattle.vt_spec.specs.Machine.Mounts.{Location, Mount, child_at, children, gr
 use Rattle.vt_spec.specs.Machine.Receives.{receivers}
 use Rattle.vt_spec.specs.Machine.Settled.{is_located}
 use Rattle.vt_spec.specs.Machine.World.{World, all_locations, mount_at, mount_numbered}
-use Rattle.vt_spec.proofs.Lists.{Among, any_among, any_from_among, filter_here, filter_skip}
+use Rattle.vt_spec.proofs.Lists.{any_among, any_from_among, filter_here, filter_skip}
 use Rattle.vt_group.specs.Grouping.{Grouping}
 use Rattle.vt_location.specs.declared.numbers.MountId.{MountId}
 use Rattle.vt_mount.specs.MountsValue.{MountEntry, are_ascending, mounts_in, uses_of}
 use Rattle.vt_propagate.specs.Going.{CountsUses, free_at, free_on, group_at, is_free, shared_point}
 use Rattle.vt_propagate.specs.Seen.{IsSeen}
-use Rattle.vt_propagate.proofs.Found.{counts, numbered, numbered_among, numbers}
+use Rattle.vt_propagate.proofs.Found.{counts, numbered, numbered_among}
+use Rattle.vt_spec.proofs.Truths.{same_truth}
+use Rattle.vt_letting_go.proofs.Lists.{found_in}
+use Rattle.vt_mount_laws.specs.Mounts.Attaching.{numbers_of}
 
 -- Lists
 
@@ -36,27 +39,13 @@ module _ {A : Type 0} where
       by false e false is rest = ap (λ t. cond t (Some y) (seek q ys)) is ∙ rest
           ∙ sym (ap (seek q) (filter_skip p y ys e))
 
-  pub found_one : (p : A → Bool) (xs : List A) (x : A) → seek p xs ≡ Some x → Among x xs × (p x ≡ true)
-  found_one p [] x e = absurd (true≢false (sym (ap is_some e)))
-  found_one p (y ∷ ys) x e = by (p y) refl e (found_one p ys x)
-    where
-      by : (b : Bool) → p y ≡ b → cond b (Some y) (seek p ys) ≡ Some x
-          → (seek p ys ≡ Some x → Among x ys × (p x ≡ true))
-          → Among x (y ∷ ys) × (p x ≡ true)
-      by true is same rest = let at : y ≡ x = same_Some y x same in (inl (sym at), ap p (sym at) ∙ is)
-      by false is same rest = let later : Among x ys × (p x ≡ true) = rest same in (inr later.0, later.1)
-
+-- options that are seen as one are both there or both not
 pub is_some-same : {A B : Type 0} (f : A → ℕ) (g : B → ℕ) (a : Option A) (b : Option B)
     → option_map f a ≡ option_map g b → is_some a ≡ is_some b
 is_some-same f g None None e = refl
 is_some-same f g None (Some b) e = ap is_some e
 is_some-same f g (Some a) None e = ap is_some e
 is_some-same f g (Some a) (Some b) e = refl
-
-pub same_from : (a b : Bool) → (a ≡ true → b ≡ true) → (b ≡ true → a ≡ true) → a ≡ b
-same_from true b to back = sym (to refl)
-same_from false true to back = back refl
-same_from false false to back = refl
 
 -- Mounts that may go
 
@@ -69,19 +58,21 @@ at_on place mount h = by mount.mount_point h
     by None h = absurd (true≢false (sym h))
     by (Some at) h = (and_parts _ _ h).0
 
+-- a mount that is found by its number has it
 pub numbered-number : (mounts : List (Mount ℕ)) (number : ℕ) (mount : Mount ℕ) → Some mount ≡ numbered mounts number
     → number ≡ mount.number
 numbered-number mounts number mount found =
-    eqb-true number mount.number (found_one (λ (m : Mount ℕ). nat_eq number m.number) mounts mount (sym found)).1
+    eqb-true number mount.number (found_in (λ (m : Mount ℕ). nat_eq number m.number) mounts mount (sym found)).1
 
 module _ (mounts : List (Mount ℕ)) (number : ℕ) (mount : Mount ℕ) (found : Some mount ≡ numbered mounts number)
-    (ids : List MountId) (told : counts ids ≡ numbers (children nat_eq mounts number)) where
+    (ids : List MountId) (told : counts ids ≡ numbers_of (children nat_eq mounts number)) where
   length-kids : length ids ≡ length (children nat_eq mounts mount.number)
   length-kids =
       sym (length-map ids (λ (id : MountId). 4 * id.count + 1)) ∙ ap length told
       ∙ length-map (children nat_eq mounts number) (λ (m : Mount ℕ). m.number)
       ∙ ap (λ n. length (children nat_eq mounts n)) (numbered-number mounts number mount found)
 
+  -- a mount on which none stands is free
   pub free-none : length ids ≡ 0 → true ≡ holds_of (is_free mounts) (numbered mounts number)
   free-none none = by (children nat_eq mounts mount.number) (sym length-kids ∙ none)
       ∙ ap (holds_of (is_free mounts)) found
@@ -90,6 +81,7 @@ module _ (mounts : List (Mount ℕ)) (number : ℕ) (mount : Mount ℕ) (found :
       by [] e = refl
       by (kid ∷ kids) e = absurd (omega (arith, e))
 
+  -- one on which just one mount stands is free where that covers its root
   pub free-one : length ids ≡ 1 → is_some (child_at nat_eq mounts (root_of mount))
       ≡ holds_of (is_free mounts) (numbered mounts number)
   free-one one =
@@ -107,6 +99,7 @@ module _ (mounts : List (Mount ℕ)) (number : ℕ) (mount : Mount ℕ) (found :
       by (kid ∷ []) e = covers (covers_root nat_eq mount kid) kid
       by (kid ∷ other ∷ kids) e = absurd (omega (arith, e))
 
+  -- and one on which more stand is not free
   pub free-many : (length ids ≡ 0 → ⊥) → (length ids ≡ 1 → ⊥)
       → false ≡ holds_of (is_free mounts) (numbered mounts number)
   free-many some more =
@@ -119,6 +112,7 @@ module _ (mounts : List (Mount ℕ)) (number : ℕ) (mount : Mount ℕ) (found :
       by (kid ∷ []) none one = absurd (one refl)
       by (kid ∷ other ∷ kids) none one = refl
 
+-- the mount at a place is free just where the one that is found by its number is
 pub free_at-told : (mounts : List (Mount ℕ)) → are_ascending mounts ≡ true → (place : Location ℕ) (number : ℕ)
     → Some number ≡ option_map (λ child. child.number) (child_at nat_eq mounts place)
     → (free : Bool) → free ≡ holds_of (is_free mounts) (numbered mounts number)
@@ -138,14 +132,14 @@ free_at-told mounts up place number told free is = by (child_at nat_eq mounts pl
         let same : number ≡ child.number = same_Some number child.number t in
         let found : numbered mounts number ≡ Some child =
         ap (numbered mounts) same ∙ numbered_among mounts up child
-        (found_one (stands_at nat_eq place) mounts child e).0 in
+        (found_in (stands_at nat_eq place) mounts child e).0 in
         ap (λ b. cond b (Some number) None) (is ∙ ap (holds_of (is_free mounts)) found)
         ∙ goes (is_free mounts child) child same
 
 -- Mounts that an unmount detaches
 
 filter_map-numbers : (f : ℕ → Option (Mount ℕ)) (mounts : List (Mount ℕ))
-    → filter_map f (numbers mounts) ≡ filter_map (λ (m : Mount ℕ). f m.number) mounts
+    → filter_map f (numbers_of mounts) ≡ filter_map (λ (m : Mount ℕ). f m.number) mounts
 filter_map-numbers f [] = refl
 filter_map-numbers f (mount ∷ mounts) = ap (cons_option (f mount.number)) (filter_map-numbers f mounts)
 
@@ -160,20 +154,20 @@ module _ (world : World ℕ) (kept : List MountEntry) (grouping : Grouping) (see
   going_with : (mount : Mount ℕ) (place : Location ℕ) (o : Option (Mount ℕ)) → numbered (mounts_in kept) place.mount ≡ o
       → going_at nat_eq world mount (Some place)
       ≡ (if is_shared (unwrap_or o (no_mount place.mount)).propagation
-      then numbers (filter_map (goes_at nat_eq world place.node)
+      then numbers_of (filter_map (goes_at nat_eq world place.node)
       (receivers_of nat_eq world (unwrap_or o (no_mount place.mount))))
       else (mount.number ∷ []))
   going_with mount place o e =
       by (is_shared (mount_at nat_eq world place).propagation)
       ∙ (λ i. if is_shared (at i).propagation
-      then numbers (filter_map (goes_at nat_eq world place.node) (receivers_of nat_eq world (at i)))
+      then numbers_of (filter_map (goes_at nat_eq world place.node) (receivers_of nat_eq world (at i)))
       else (mount.number ∷ []))
     where
       at : mount_at nat_eq world place ≡ unwrap_or o (no_mount place.mount)
       at = ap (λ found. unwrap_or found (no_mount place.mount)) (numbered-world place.mount ∙ e)
 
       by : (shared : Bool) → going_from nat_eq world mount place shared
-          ≡ (if shared then numbers (filter_map (goes_at nat_eq world place.node)
+          ≡ (if shared then numbers_of (filter_map (goes_at nat_eq world place.node)
           (receivers_of nat_eq world (mount_at nat_eq world place))) else (mount.number ∷ []))
       by true = refl
       by false = refl
@@ -194,34 +188,35 @@ module _ (world : World ℕ) (kept : List MountEntry) (grouping : Grouping) (see
       by None e none = going_with mount place None e
       by (Some parent) e none =
           going_with mount place (Some parent) e
-          ∙ ap (λ b. if b then numbers (filter_map (goes_at nat_eq world place.node) (receivers_of nat_eq world parent))
+          ∙ ap (λ b. if b then numbers_of
+          (filter_map (goes_at nat_eq world place.node) (receivers_of nat_eq world parent))
           else (mount.number ∷ []))
           (shared_by mount parent (group_of parent.propagation) refl none)
 
   going-shared : (mount : Mount ℕ) (place : Location ℕ) (found : Location ℕ × ℕ)
       → group_at (mounts_in kept) place ≡ Some found
       → going_at nat_eq world mount (Some place)
-      ≡ numbers (filter_map (goes_at nat_eq world found.0.node) (receivers nat_eq world found.1))
+      ≡ numbers_of (filter_map (goes_at nat_eq world found.0.node) (receivers nat_eq world found.1))
   going-shared mount place found some = by (numbered (mounts_in kept) place.mount) refl some
     where
       with_group : (parent : Mount ℕ) (group : Option ℕ) → group_of parent.propagation ≡ group
           → option_map (at_group place) group ≡ Some found
           → (if is_shared parent.propagation
-          then numbers (filter_map (goes_at nat_eq world place.node) (receivers_of nat_eq world parent))
+          then numbers_of (filter_map (goes_at nat_eq world place.node) (receivers_of nat_eq world parent))
           else (mount.number ∷ []))
-          ≡ numbers (filter_map (goes_at nat_eq world found.0.node) (receivers nat_eq world found.1))
+          ≡ numbers_of (filter_map (goes_at nat_eq world found.0.node) (receivers nat_eq world found.1))
       with_group parent None e is = absurd (true≢false (sym (ap is_some is)))
       with_group parent (Some group) e is =
           ap (λ (o : Option ℕ). if is_some o
-          then numbers (filter_map (goes_at nat_eq world place.node)
+          then numbers_of (filter_map (goes_at nat_eq world place.node)
           (unwrap_or (option_map (receivers nat_eq world) o) [])) else (mount.number ∷ [])) e
-          ∙ ap (λ (f : Location ℕ × ℕ). numbers
+          ∙ ap (λ (f : Location ℕ × ℕ). numbers_of
           (filter_map (goes_at nat_eq world f.0.node) (receivers nat_eq world f.1))) (same_Some (place, group) found is)
 
       by : (o : Option (Mount ℕ)) → numbered (mounts_in kept) place.mount ≡ o
           → option_map (at_group place) (then_some o (λ parent. group_of parent.propagation)) ≡ Some found
           → going_at nat_eq world mount (Some place)
-          ≡ numbers (filter_map (goes_at nat_eq world found.0.node) (receivers nat_eq world found.1))
+          ≡ numbers_of (filter_map (goes_at nat_eq world found.0.node) (receivers nat_eq world found.1))
       by None e is = absurd (true≢false (sym (ap is_some is)))
       by (Some parent) e is = going_with mount place (Some parent) e
           ∙ with_group parent (group_of parent.propagation) refl is
@@ -232,6 +227,7 @@ module _ (world : World ℕ) (kept : List MountEntry) (grouping : Grouping) (see
   going-number number o e = ap (λ found. going nat_eq world (unwrap_or found (no_mount number)))
       (numbered-world number ∙ e)
 
+  -- a mount that stands where nothing propagates goes alone
   pub going-alone : (number : ℕ) → shared_point (mounts_in kept) number ≡ None
       → number ∷ [] ≡ going nat_eq world (mount_numbered nat_eq world number)
   going-alone number none = by (numbered (mounts_in kept) number) refl none
@@ -251,27 +247,28 @@ module _ (world : World ℕ) (kept : List MountEntry) (grouping : Grouping) (see
           at mount (numbered-number (mounts_in kept) number mount (sym e)) mount.mount_point refl none
           ∙ sym (going-number number (Some mount) e)
 
+  -- one that stands on a shared mount goes with those at the receivers that are free
   pub going-everywhere : (number : ℕ) (found : Location ℕ × ℕ) → shared_point (mounts_in kept) number ≡ Some found
-      → (ids : List MountId) → counts ids ≡ numbers (receivers nat_eq world found.1)
-      → numbers (free_on (mounts_in kept) found.0.node (counts ids))
+      → (ids : List MountId) → counts ids ≡ numbers_of (receivers nat_eq world found.1)
+      → numbers_of (free_on (mounts_in kept) found.0.node (counts ids))
       ≡ going nat_eq world (mount_numbered nat_eq world number)
   going-everywhere number found is ids told =
-      (λ i. numbers (free_on (seen.mounts i) found.0.node (told i)))
-      ∙ ap numbers (filter_map-numbers
+      (λ i. numbers_of (free_on (seen.mounts i) found.0.node (told i)))
+      ∙ ap numbers_of (filter_map-numbers
       (λ receiver. free_at world.mounts (record { mount = receiver; node = found.0.node }))
       (receivers nat_eq world found.1))
       ∙ by (numbered (mounts_in kept) number) refl is
     where
       at : (mount : Mount ℕ) (point : Option (Location ℕ)) → mount.mount_point ≡ point
           → then_some point (group_at (mounts_in kept)) ≡ Some found
-          → numbers (filter_map (goes_at nat_eq world found.0.node) (receivers nat_eq world found.1))
+          → numbers_of (filter_map (goes_at nat_eq world found.0.node) (receivers nat_eq world found.1))
           ≡ going nat_eq world mount
       at mount None e is = absurd (true≢false (sym (ap is_some is)))
       at mount (Some place) e is = sym (ap (going_at nat_eq world mount) e ∙ going-shared mount place found is)
 
       by : (o : Option (Mount ℕ)) → numbered (mounts_in kept) number ≡ o
           → then_some (then_some o (λ (m : Mount ℕ). m.mount_point)) (group_at (mounts_in kept)) ≡ Some found
-          → numbers (filter_map (goes_at nat_eq world found.0.node) (receivers nat_eq world found.1))
+          → numbers_of (filter_map (goes_at nat_eq world found.0.node) (receivers nat_eq world found.1))
           ≡ going nat_eq world (mount_numbered nat_eq world number)
       by None e is = absurd (true≢false (sym (ap is_some is)))
       by (Some mount) e is = at mount mount.mount_point refl is ∙ sym (going-number number (Some mount) e)
@@ -281,7 +278,7 @@ module _ (world : World ℕ) (kept : List MountEntry) (grouping : Grouping) (see
   used-told : CountsUses world kept → (gone : List ℕ)
       → list_any (λ number. nat_lt 0 (uses_of kept number)) gone ≡ is_used nat_eq world gone
   used-told counted_right gone = ap (λ test. list_any test gone) (λ i number. sym (counted_right number) i)
-      ∙ same_from _ _ there back
+      ∙ same_truth _ _ there back
     where
       there : list_any (is_located nat_eq world) gone ≡ true → is_used nat_eq world gone ≡ true
       there h =
@@ -303,6 +300,7 @@ module _ (world : World ℕ) (kept : List MountEntry) (grouping : Grouping) (see
           (all_locations world) place.0 place.1
           (eq-eqb number.0 place.0.mount (sym (eqb-true place.0.mount number.0 number.2))))
 
+  -- a mount is busy just where one that goes with it is used, and none stands on it
   pub busy-told : CountsUses world kept → (number : ℕ) → list_any (stands_on nat_eq number) (mounts_in kept) ≡ false
       → (gone : List ℕ) → gone ≡ going nat_eq world (mount_numbered nat_eq world number)
       → list_any (λ number. nat_lt 0 (uses_of kept number)) gone ≡ is_busy nat_eq world number
@@ -311,6 +309,7 @@ module _ (world : World ℕ) (kept : List MountEntry) (grouping : Grouping) (see
       ∙ ap (λ b. b || is_used nat_eq world (going nat_eq world (mount_numbered nat_eq world number)))
       (sym childless ∙ ap (list_any (stands_on nat_eq number)) seen.mounts)
 
+  -- one on which another stands is busy
   pub busy-child : (number : ℕ) → list_any (stands_on nat_eq number) (mounts_in kept) ≡ true
       → true ≡ is_busy nat_eq world number
   busy-child number child =

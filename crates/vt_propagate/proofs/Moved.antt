@@ -2,12 +2,11 @@
 use Rattle.std.proofs.Common.{◌≡◌, ℕ, Bool, true, false, ◌&&◌, List, [], ◌∷◌, ◌⊎◌, inl, inr, ⊎_elim, map, nat_eq, Option, None, Some, is_some, refl, sym, ap, subst, true≢false, cond, ◌∙◌, eq-eqb}
 use Rattle.std.specs.Prelude.{Contains, find as seek, if◌then◌else◌, option_map, unwrap_or}
 use Rattle.vt_spec.specs.Lists.{first_of_list, folded, holds_of, or_else, rest_of}
-use Rattle.vt_spec.specs.Machine.Attach.{Copies, Twig, copies_at, copy_at, copy_number, is_top, parts_of, place_on_copy, pushed_onto, pushed_up, receiver_below, twig_of}
+use Rattle.vt_spec.specs.Machine.Attach.{Copies, Twig, copies_at, copy_at, copy_number, is_top, parts_of, place_on_copy, pushed_onto, pushed_up, twig_of}
 use Rattle.vt_spec.specs.Machine.Attach as meant
 use Rattle.vt_spec.specs.Machine.Mounts.{Location, Mount, group_of, replaced_if_same, same_location, stands_at, with_mount}
 use Rattle.vt_spec.specs.Machine.World.{World, mount_at}
 use Rattle.vt_spec.proofs.Lists.{Among, among-from_map, among-map, among_from_all, contains_from_among}
-use Rattle.vt_group.proofs.Together.{eqb-swapped}
 use Rattle.vt_location.specs.declared.mounts.Mount.{Mount as Kept}
 use Rattle.vt_location.specs.Locations.{location_of}
 use Rattle.vt_location.specs.MountValue.{mount_of}
@@ -18,7 +17,9 @@ use Rattle.vt_propagate.specs.Attaching.{IsMoved}
 use Rattle.vt_propagate.specs.Falling.{moved_by}
 use Rattle.vt_propagate.specs.Planned.{graft_in, numbers_at}
 use Rattle.vt_propagate.specs.Pushing.{KeepsLeaver, PushesBy, leaver}
-use Rattle.vt_propagate.proofs.Pushed.{number_at, receivers_apart}
+use Rattle.vt_propagate.proofs.Pushed.{receivers_apart}
+use Rattle.vt_spec.proofs.Truths.{nat_eq-swapped}
+use Rattle.vt_spec.proofs.Worlds.{number-mount_in}
 
 -- each mount is one of the new ones, or it was there and has the number of none of them
 among-folded : (new mounts : List (Mount ℕ)) (mount : Mount ℕ) → Among mount (folded (with_mount nat_eq) mounts new)
@@ -47,7 +48,7 @@ among-folded (a ∷ new) mounts mount m =
               subst (λ x. Among x mounts) (sym same) m,
               λ one n.
                   ⊎_elim
-                  (λ here. (λ i. nat_eq (same i).number (here i).number) ∙ eqb-swapped a.number old.number false e)
+                  (λ here. (λ i. nat_eq (same i).number (here i).number) ∙ nat_eq-swapped a.number old.number false e)
                   (λ later. apart one later) n,
             )
 
@@ -89,9 +90,11 @@ module _ (world : World ℕ) (graft : Graft) (counts : Counts) (points : List (�
   abbrev destination : Mount ℕ
   destination = mount_at nat_eq world place
 
+  -- a mount as the move leaves it
   abbrev pub pushed : Mount ℕ → Mount ℕ
   pushed = pushed_up nat_eq world new seen parts
 
+  -- the copies of the tree that moves, at its new place
   abbrev pub moved : List (Mount ℕ)
   moved = copies_at nat_eq world new seen parts destination
 
@@ -102,7 +105,7 @@ module _ (world : World ℕ) (graft : Graft) (counts : Counts) (points : List (�
   copy origin = copy_at nat_eq world new seen parts destination (twig origin)
 
   own : destination.number ≡ place.mount
-  own = number_at world.mounts place.mount
+  own = number-mount_in world.mounts place.mount
 
   -- a mount that moves keeps its number
   number_kept : (number : ℕ) → copy_number nat_eq new seen destination.number number ≡ number
@@ -180,6 +183,7 @@ module _ (world : World ℕ) (graft : Graft) (counts : Counts) (points : List (�
       by origin m true e = first_stays origin e
       by origin m false e = other_stays origin m e
 
+  -- each mount is pushed up by the points that code has for it
   pub all_pushed : (mount : Mount ℕ) → Among mount (folded (with_mount nat_eq) world.mounts moved)
       → pushed mount ≡ moved_by points mount
   all_pushed mount m =

@@ -10,16 +10,14 @@ use Rattle.vt_spec.specs.Machine.Mounts.{Mount}
 use Rattle.vt_location.specs.declared.mounts.Mount.{Mount as Kept}
 use Rattle.vt_location.specs.MountValue.{mount_of}
 
+-- a choice with nothing in second place is the first
 pub or_none : {A : Type 0} (o : Option A) → or_else o None ≡ o
 or_none None = refl
 or_none (Some a) = refl
 
-pub none_of : {A : Type 0} (o : Option A) → is_some o ≡ false → o ≡ None
-none_of None e = refl
-none_of (Some a) e = absurd (true≢false e)
-
 -- an index is noted under a key
 module _ {K : Type 0} (count : K → ℕ) (one : (a b : K) → count a ≡ count b → a ≡ b) where
+  -- what is noted of a key is found at it, and what was noted of others stays
   pub noted : (before after : K → Option ℕ) (key : K) (index : ℕ)
       → ((q : K) → after q ≡ cond (nat_eq (count key) (count q)) (Some index) (before q)) → before key ≡ None
       → (q : K) → after q ≡ or_else (before q) (if nat_eq (count q) (count key) then Some index else None)
@@ -85,6 +83,7 @@ pub place_noted : (test : Mount ℕ → Bool) (mounts : List Kept) (i : ℕ) (de
 place_noted test mounts i default less before after b is tested sofar =
     is ∙ (λ j. or_else (sofar j) (if tested j then Some i else None)) ∙ sym (place_more test mounts i default less)
 
+-- a place is found just where some element passes
 pub is_some-place : {A : Type 0} (test : A → Bool) (k : ℕ) (list : List A)
     → is_some (place_from test k list) ≡ list_any test list
 is_some-place test k [] = refl

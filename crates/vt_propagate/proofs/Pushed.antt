@@ -4,13 +4,13 @@ use Rattle.std.proofs.lemmas.Bool.{and_parts, and_from, eqb-false, eqb-true, not
 use Rattle.std.proofs.lemmas.List.{append_assoc, drop_more, length-drop, length-map}
 use Rattle.std.proofs.Math.Seq.{drop-append_seam, take-append_seam}
 use Rattle.std.proofs.lemmas.Option.{same_Some}
-use Rattle.std.specs.Prelude.{find as seek, flat_map, if◌then◌else◌, unwrap_or}
+use Rattle.std.specs.Prelude.{find as seek, flat_map, if◌then◌else◌}
 use Rattle.std.specs.List.{cons_option, list_any}
 use Rattle.std.specs.Map.{lookup}
 use Rattle.vt_spec.specs.Lists.{any_pair, holds_of, or_else, same_option, then_some}
 use Rattle.vt_spec.specs.Machine.Attach.{copies_at, parts_of, pushed_onto, receivers_of, takes_part, top_of_copies}
 use Rattle.vt_spec.specs.Machine.Invariants.{share_a_mount_point}
-use Rattle.vt_spec.specs.Machine.Mounts.{Location, Mount, child_at, mount_in, no_mount, same_location, stands_at}
+use Rattle.vt_spec.specs.Machine.Mounts.{Location, Mount, child_at, same_location, stands_at}
 use Rattle.vt_spec.specs.Machine.World.{World, mount_at}
 use Rattle.vt_spec.proofs.Lists.{Among, among-from_filter, among_from_contains, any_from_among}
 use Rattle.vt_location.specs.declared.mounts.Mount.{Mount as Kept}
@@ -24,7 +24,8 @@ use Rattle.vt_propagate.specs.Falling.{moved_by}
 use Rattle.vt_propagate.specs.Planned.{graft_in, numbers_at, planned_copies}
 use Rattle.vt_propagate.specs.Pushing.{OneChild, PushesBy, leaver, pushed_at, pushes_from, stander}
 use Rattle.vt_propagate.proofs.Found.{numbered, numbered_among}
-use Rattle.vt_propagate.proofs.Leaving.{found_one}
+use Rattle.vt_spec.proofs.Worlds.{number-mount_in}
+use Rattle.vt_letting_go.proofs.Lists.{found_in}
 
 -- one more part
 map-take : (n : ℕ) (list : List Kept) → map mount_of (take n list) ≡ take n (map mount_of list)
@@ -41,6 +42,7 @@ cons-one : {A : Type 0} (o : Option A) (list : List A) → cons_option o list �
 cons-one None list = refl
 cons-one (Some a) list = refl
 
+-- one more part pushes what stands at its receiver
 pub push_more : (mounts : List (Mount ℕ)) (left : Option ℕ) (place : Location ℕ) (size : ℕ) (parts : List Kept)
     (i : ℕ) (default : Kept) → i < length parts
     → (rest here later : List Kept) → here ≡ take size rest → later ≡ drop size rest
@@ -63,6 +65,7 @@ push_more mounts left place size parts i default less rest here later front back
     (drop_more parts i default less))
     ∙ so_far
 
+-- what is left of the copies is that of the parts that are left
 pub rest_more : (parts : List Kept) (i : ℕ) → i < length parts → (size all later : ℕ) → all
     ≡ length (drop i parts) * size
     → later + size ≡ all → later ≡ length (drop (i + 1) parts) * size
@@ -131,7 +134,7 @@ module _ (world : World ℕ) (one_child : OneChild world) (up : are_ascending wo
       → child_at nat_eq world.mounts place ≡ Some mount
   child_is place mount m at =
       let t = found_some (stands_at nat_eq place) world.mounts mount m at in
-      let first = found_one (stands_at nat_eq place) world.mounts t.0 t.1 in
+      let first = found_in (stands_at nat_eq place) world.mounts t.0 t.1 in
       t.1 ∙ ap Some (one_at world.mounts one_child t.0 mount first.0 m (both_at place t.0 mount first.1 at)
       (both_at place mount t.0 at first.1))
 
@@ -174,7 +177,7 @@ module _ (world : World ℕ) (one_child : OneChild world) (up : are_ascending wo
             → cond b (Some (top_at part)) (lookup (nat_eq mount.number) rest) ≡ lookup (nat_eq mount.number) rest
         other child e false is = refl
         other child e true is =
-            let first = found_one (stands_at nat_eq (at_part part)) world.mounts child e in
+            let first = found_in (stands_at nat_eq (at_part part)) world.mounts child e in
             let same : child ≡ before =
             same_Some child before (sym (numbered_among world.mounts up child first.0)
             ∙ ap (numbered world.mounts) (sym (eqb-true mount.number child.number is) ∙ number)
@@ -239,15 +242,6 @@ module _ (world : World ℕ) (one_child : OneChild world) (up : are_ascending wo
 eqb-turned : (a b : ℕ) → nat_eq b a ≡ false → nat_eq a b ≡ false
 eqb-turned a b e = ne_eqb a b (λ same. eqb-false b a e (sym same))
 
-pub number_at : (mounts : List (Mount ℕ)) (number : ℕ) → (mount_in nat_eq mounts number).number ≡ number
-number_at mounts number = by (seek (λ mount. nat_eq number mount.number) mounts) refl
-  where
-    by : (o : Option (Mount ℕ)) → seek (λ mount. nat_eq number mount.number) mounts ≡ o
-        → (unwrap_or o (no_mount number)).number ≡ number
-    by None e = refl
-    by (Some mount) e = sym (eqb-true number mount.number (found_one
-        (λ mount. nat_eq number mount.number) mounts mount e).1)
-
 -- no receiver that takes part is the destination's mount
 pub receivers_apart : (world : World ℕ) (place : Location ℕ) (part : Mount ℕ)
     → Among part (filter (takes_part nat_eq world place) (receivers_of nat_eq world (mount_at nat_eq world place)))
@@ -262,6 +256,7 @@ receivers_apart world place part m =
         → nat_eq part.number place.mount ≡ false
     turned b is e = eqb-turned part.number place.mount (not-true (nat_eq place.mount part.number) e)
 
+-- the points that are pushed at all parts are those of the definitions
 pub all_pushed : (world : World ℕ) → OneChild world → are_ascending world.mounts ≡ true
     → (graft : Graft) (counts : Counts)
     → PushesBy world graft counts (pushes_from world.mounts (leaver graft) (location_of graft.place)
@@ -314,7 +309,7 @@ all_pushed world one_child up graft counts before mount there stays number point
         })))
         (pushes_from world.mounts (leaver graft) place size receivers (drop size (copies
         (mount_at nat_eq world place) ++ flat_map copies receivers)))))
-        (eq-eqb (mount_at nat_eq world place).number place.mount (number_at world.mounts place.mount))
+        (eq-eqb (mount_at nat_eq world place).number place.mount (number-mount_in world.mounts place.mount))
         ∙ ap (λ l. lookup (nat_eq mount.number) (pushes_from world.mounts (leaver graft) place size receivers l))
         (ap (λ n. drop n (copies (mount_at nat_eq world place) ++ flat_map copies receivers)) (sym (sized
         (mount_at nat_eq world place)))
@@ -352,6 +347,7 @@ module _ (mounts : List (Mount ℕ)) (left : Option ℕ) (place : Location ℕ) 
           absurd (true≢false (sym leaves ∙ ap (λ n. holds_of (nat_eq n) left) (eqb-true number child.number is) ∙ e))
       by false e false is = ap (λ c. cond c (Some top) (lookup (nat_eq number) rest)) is
 
+  -- the mount that moves away is pushed by none
   pub leaver_stays : (parts copies : List (Mount ℕ))
       → lookup (nat_eq number) (pushes_from mounts left place size parts copies) ≡ None
   leaver_stays [] copies = refl

@@ -11,12 +11,12 @@ use Rattle.vt_spec.specs.Machine.Mounts.Propagation.{Private, Shared, Slave, Unb
 use Rattle.vt_spec.specs.Machine.Receives.{regrouped}
 use Rattle.vt_spec.specs.Machine.Types.{retyped, retyped_mount, type_after, with_new_groups}
 use Rattle.vt_spec.specs.Machine.World.{World, with_mounts}
-use Rattle.vt_spec.proofs.Lists.{Among, all_from_among, among-from_map, among-map, among_from_all, among_from_contains}
-use Rattle.vt_group.specs.Grouping.{Grouping, GroupsLive, Has, LacksGroup, numbers_of, propagation_in}
+use Rattle.vt_spec.proofs.Lists.{Among, all_from_among, among-from_map, among-map, among_from_all, among_from_contains, map_alike, map_twice}
+use Rattle.vt_group.specs.Grouping.{Grouping, Has, LacksGroup, propagation_in}
 use Rattle.vt_group.specs.Laws.{shown, typed_by}
 use Rattle.vt_group.proofs.Sharing.{sharing_lives, sharing_regroups}
 use Rattle.vt_group.proofs.Showing.{shows_types}
-use Rattle.vt_group.proofs.Together.{map_alike, map-twice, named_numbers}
+use Rattle.vt_group.proofs.Together.{named_numbers}
 use Rattle.vt_group.proofs.Typed.{regrouped_is_typed}
 use Rattle.vt_mount.specs.MountsValue.{MountEntry, mounts_in}
 use Rattle.vt_mount_laws.proofs.GroupsKept.{taking_away_keeps_groups}
@@ -26,6 +26,8 @@ use Rattle.vt_propagate.specs.Falling.{left_by, moved_by}
 use Rattle.vt_propagate.specs.Laws.{DetachingIsSeen, RetypingIsSeen, SharingIsSeen, SlavesAreSeen}
 use Rattle.vt_retype.specs.Retyping.{AreTypedBut, shared_by, typed_entry, with_kind}
 use Rattle.vt_propagate.specs.Seen.{IsSeen}
+use Rattle.vt_mount_laws.specs.Mounts.Attaching.{numbers_of}
+use Rattle.vt_mount_laws.specs.Mounts.Receivers.{AllGroupsLive}
 
 kind_told : (kind told : Propagation ℕ) → told ≡ shown kind → (if is_unbindable kind then Unbindable else told) ≡ kind
 kind_told (Shared group) told is = is
@@ -71,7 +73,8 @@ mounts-typed now (entry ∷ left) = ap (λ rest. typed_by now entry.mount ∷ re
 -- the mounts of a regrouped world are typed
 seen_after : (base : World ℕ) (left after : List MountEntry) (now : Grouping)
     → map (typed_by now) (mounts_in left) ≡ map (typed_by now) base.mounts → Has (regrouped nat_eq base) now
-    → GroupsLive (regrouped nat_eq base) → after ≡ map (typed_entry now) left → IsSeen (regrouped nat_eq base) after now
+    → AllGroupsLive (regrouped nat_eq base) → after ≡ map (typed_entry now) left
+    → IsSeen (regrouped nat_eq base) after now
 seen_after base left after now same has live is = record {
   mounts = ap mounts_in is ∙ mounts-typed now left ∙ same ∙ sym (ap (λ w. w.mounts) (regrouped_is_typed base now has));
   groups = has;
@@ -80,6 +83,7 @@ seen_after base left after now same has live is = record {
 
 -- Mounts are detached
 
+-- code has the mounts and groups that are left where mounts are detached
 pub detaching_is_seen : DetachingIsSeen
 detaching_is_seen world kept left after before now gone points seen leaves is takes follows =
     let change = left_by gone points in
@@ -87,7 +91,7 @@ detaching_is_seen world kept left after before now gone points seen leaves is ta
     subst (λ w. IsSeen w after now) (sym leaves)
     (seen_after base left after now (ap (map (typed_by now)) is)
     (subst (λ w. Has w now) leaves (takes world seen.groups seen.living))
-    (subst GroupsLive leaves (all_live (taken_away nat_eq world gone)
+    (subst AllGroupsLive leaves (all_live (taken_away nat_eq world gone)
     (taking_away_keeps_groups world gone (tested_live world seen.living))))
     (follows (are_typed world kept before seen gone left change is
     (λ mount apart. keeps mount (is_going nat_eq gone mount.number) refl apart))))
@@ -107,7 +111,8 @@ detaching_is_seen world kept left after before now gone points seen leaves is ta
 
 -- Mounts get types
 
-module _ (world : World ℕ) (live : GroupsLive world) (group : ℕ → ℕ) (word : TypeWord) (named : List (Mount ℕ)) where
+module _ (world : World ℕ) (live : AllGroupsLive world) (group : ℕ → ℕ) (word : TypeWord) (named : List (Mount ℕ))
+    where
   abbrev base : World ℕ
   base = record world {
     mounts = map (retyped_mount nat_eq group word named) world.mounts;
@@ -115,7 +120,7 @@ module _ (world : World ℕ) (live : GroupsLive world) (group : ℕ → ℕ) (wo
   }
 
   retyped_live : All (Contains world.mounts) named → ((number : ℕ) → LacksGroup world (group number))
-      → GroupsLive (retyped nat_eq world group word named)
+      → AllGroupsLive (retyped nat_eq world group word named)
   retyped_live there lacks =
       all_live (retyped nat_eq world group word named)
       (retyping.all_live world group word named (tested_live world live) lacks (λ mount m source e.
@@ -142,6 +147,7 @@ module _ (world : World ℕ) (live : GroupsLive world) (group : ℕ → ℕ) (wo
           ∙ sym (ap (λ b. is_among nat_eq (retyped_if mount b).number (numbers_of named)) e) ∙ apart))
       by false e = (ap (λ b. (retyped_if mount b).number) e, ap (λ b. (retyped_if mount b).propagation) e)
 
+-- where they get a type
 pub retyping_is_seen : RetypingIsSeen
 retyping_is_seen world group word named kept left after before now seen there lacks is retypes follows =
     seen_after (base world seen.living group word named) left after now (ap (map (typed_by now)) is)
@@ -154,13 +160,14 @@ unchanged : (mounts : List (Mount ℕ)) → mounts ≡ map (λ mount. mount) mou
 unchanged [] = refl
 unchanged (mount ∷ mounts) = ap (λ rest. mount ∷ rest) (unchanged mounts)
 
+-- where they become slaves
 pub slaves_are_seen : SlavesAreSeen
 slaves_are_seen world group named kept after before now seen there lacks retypes follows =
     seen_after (base world seen.living group ToSlave named) kept after now
     (ap (map (typed_by now)) seen.mounts
     ∙ map_alike (typed_by now) (λ mount. typed_by now (retyped_mount nat_eq group ToSlave named mount)) world.mounts
     (λ mount m. typed mount (chosen world seen.living group ToSlave named mount))
-    ∙ sym (map-twice (typed_by now) (retyped_mount nat_eq group ToSlave named) world.mounts))
+    ∙ sym (map_twice (typed_by now) (retyped_mount nat_eq group ToSlave named) world.mounts))
     (retypes world group named seen.groups seen.living refl lacks)
     (retyped_live world seen.living group ToSlave named there lacks)
     (follows (are_typed world kept before seen [] kept (λ mount. mount) (seen.mounts ∙ unchanged world.mounts)
@@ -198,6 +205,7 @@ mounts-shared now numbers (entry ∷ kept) = λ i. by (is_among nat_eq entry.mou
     by true = refl
     by false = refl
 
+-- and where they become shared
 pub sharing_is_seen : SharingIsSeen
 sharing_is_seen world group named kept before now seen there lacks shares = record {
   mounts = mounts-shared now (numbers_of named) kept

@@ -13,13 +13,10 @@ use Rattle.vt_spec.specs.Machine.Mounts.Propagation.{Private, Shared, Slave, Unb
 use Rattle.vt_spec.specs.Machine.Receives.{has_members, heir, inherited, inheriting, is_member_of, slave_of_heir}
 use Rattle.vt_spec.specs.Machine.Settled.{without_dead_groups}
 use Rattle.vt_spec.specs.Machine.World.{World, mount_at}
-use Rattle.vt_spec.proofs.Lists.{Among, among-from_map, among-map, among_from_all, none_among, none_from_among}
-use Rattle.vt_group.specs.Grouping.{GroupsLive}
-use Rattle.vt_group.proofs.GroupLemmas.{group-inherited, members-regrouped, mounts-regrouped}
+use Rattle.vt_spec.proofs.Lists.{Among, among-from_map, among-map, among_from_all, none_among, none_from_among, map_alike, map_twice}
 use Rattle.vt_group.proofs.Heirs.{heir_above, heir_itself, master_inherited}
 use Rattle.vt_group.proofs.Living.{group_lives}
 use Rattle.vt_group.proofs.Receiving.{Ends, living_ends}
-use Rattle.vt_group.proofs.Together.{map_alike, map-twice}
 use Rattle.vt_mount.proofs.PointLemmas.{end-here, end-more, end_of}
 use Rattle.vt_mount_laws.specs.Mounts.Invariants.{OneNumberEach}
 use Rattle.vt_mount_laws.specs.Mounts.Standing.{AllStand}
@@ -29,6 +26,8 @@ use Rattle.vt_mount_laws.proofs.mounts.MountsFound.{number_found}
 use Rattle.vt_mount_laws.proofs.mounts.Standing.{rank, rank_bounded, rank_child}
 use Rattle.vt_mount_laws.proofs.ends.Unmounting.{all_but_mounts, middle, number_after, numbers_taken, root_stays, staying_is_placed, taken}
 use Rattle.vt_propagate.specs.LazyUnmounts.{PartsGoAtOnce}
+use Rattle.vt_mount_laws.proofs.Groups.{group-inherited, mounts-regrouped, members-regrouped}
+use Rattle.vt_mount_laws.specs.Mounts.Receivers.{AllGroupsLive}
 
 -- a mount that goes, or falls
 abbrev gone_if : Bool → (Location ℕ → Location ℕ) → Mount ℕ → Mount ℕ
@@ -212,8 +211,8 @@ module _ (world : World ℕ) (first second : List ℕ) where
   mounts_then : secondly.mounts ≡ map twice world.mounts
   mounts_then =
       ap (map (after_going nat_eq left second)) (mounts-regrouped firstly)
-      ∙ map-twice (after_going nat_eq left second) (inheriting nat_eq firstly) firstly.mounts
-      ∙ map-twice (λ mount. after_going nat_eq left second (inheriting nat_eq firstly mount))
+      ∙ map_twice (after_going nat_eq left second) (inheriting nat_eq firstly) firstly.mounts
+      ∙ map_twice (λ mount. after_going nat_eq left second (inheriting nat_eq firstly mount))
       (after_going nat_eq world first) world.mounts
 
   members_alike : (f g : Mount ℕ → Mount ℕ)
@@ -270,8 +269,8 @@ module _ (world : World ℕ) (first second : List ℕ) where
       by true e = e
       by false e = absurd (true≢false (sym has ∙ none e))
 
-  module _ (live : GroupsLive world) where
-    live_left : GroupsLive left
+  module _ (live : AllGroupsLive world) where
+    live_left : AllGroupsLive left
     live_left = all_live left (taking_away_keeps_groups world first (tested_live world live))
 
     abbrev LivesAt : ℕ → Type 0
@@ -375,7 +374,7 @@ module _ (world : World ℕ) (first second : List ℕ) where
     same_mounts : (taken_away nat_eq left second).mounts ≡ (taken_away nat_eq world (first ++ second)).mounts
     same_mounts =
         mounts-regrouped secondly ∙ ap (map (inheriting nat_eq secondly)) mounts_then
-        ∙ map-twice (inheriting nat_eq secondly) twice world.mounts
+        ∙ map_twice (inheriting nat_eq secondly) twice world.mounts
         ∙ map_alike (λ mount. inheriting nat_eq secondly (twice mount))
         (λ mount. inheriting nat_eq at_once (after_going nat_eq world (first ++ second) mount)) world.mounts
         (λ mount m.
@@ -384,7 +383,7 @@ module _ (world : World ℕ) (first second : List ℕ) where
         ∙ mount_alike (is_going nat_eq first mount.number) (is_going nat_eq second mount.number) mount m
         ∙ ap (λ b. inheriting nat_eq at_once (gone_if b (mount_point_left nat_eq world (first ++ second)) mount))
         (sym (goes_at_once mount.number)))
-        ∙ sym (map-twice (inheriting nat_eq at_once) (after_going nat_eq world (first ++ second)) world.mounts)
+        ∙ sym (map_twice (inheriting nat_eq at_once) (after_going nat_eq world (first ++ second)) world.mounts)
         ∙ sym (mounts-regrouped at_once)
 
     same_masters : (group : ℕ) → (without_dead_groups nat_eq (taken_away nat_eq left second)).master group
@@ -406,6 +405,7 @@ module _ (world : World ℕ) (first second : List ℕ) where
             ap (λ b. if b then (taken_away nat_eq left second).master group else None) e
             ∙ ap (λ b. if b then (taken_away nat_eq world (first ++ second)).master group else None) (sym e)
 
+-- mounts that are taken away in two parts leave the world that they leave at once
 pub taken_twice : PartsGoAtOnce
 taken_twice world first second kept =
     let one = all_but_mounts (taken_away nat_eq world first) second in

@@ -6,11 +6,12 @@ use Rattle.vt_spec.specs.Machine.Mounts.{Location, Mount, group_of, no_mount}
 use Rattle.vt_spec.specs.Machine.Receives.{receivers, receives}
 use Rattle.vt_spec.specs.Machine.World.{World, mount_at}
 use Rattle.vt_spec.proofs.Lists.{Among, among-from_filter}
-use Rattle.vt_group.specs.Grouping.{Grouping, numbers_of}
+use Rattle.vt_group.specs.Grouping.{Grouping}
 use Rattle.vt_location.specs.declared.numbers.MountId.{MountId}
 use Rattle.vt_mount.specs.MountsValue.{MountEntry, are_ascending, mounts_in}
 use Rattle.vt_propagate.specs.Seen.{IsSeen, ReachesAs, joins, mounts_numbered}
 use Rattle.vt_propagate.proofs.Found.{counts, numbered, numbered_again, passing}
+use Rattle.vt_mount_laws.specs.Mounts.Attaching.{numbers_of}
 
 -- receivers are mounts
 pub receivers_there : (world : World ℕ) (mount : Mount ℕ) (one : Mount ℕ) → Among one (receivers_of nat_eq world mount)
@@ -39,6 +40,7 @@ module _ (world : World ℕ) (kept : List MountEntry) (grouping : Grouping) (see
       ∙ numbered_again world.mounts (receivers_of nat_eq world mount) (ap are_ascending (sym seen.mounts) ∙ up)
       (receivers_there world mount)
 
+  -- the parts of an event are its mount and the receivers that code finds
   pub parts-found : (under : ℕ → ℕ → ℕ → Bool) → ReachesAs world under → are_ascending (mounts_in kept) ≡ true
       → (place : Location ℕ) (parent : Mount ℕ) → Some parent ≡ numbered (mounts_in kept) place.mount
       → (ids : List MountId) → counts ids ≡ numbers_of (receivers_of nat_eq world parent)

@@ -9,20 +9,11 @@ use Rattle.vt_location.specs.declared.mounts.Mount.{Mount}
 use Rattle.vt_location.specs.declared.numbers.NamespaceId.{NamespaceId}
 use Rattle.vt_location.specs.Numbers.{counted}
 use Rattle.vt_propagate.specs.declared.filling.Load.{Load}
-
-abbrev pub same_namespace : NamespaceId → NamespaceId → Bool
-same_namespace a b = nat_eq a.count b.count
-
--- how many parts are in a namespace
-abbrev pub is_part_in : NamespaceId → Mount → Bool
-is_part_in namespace part = holds_of (same_namespace namespace) part.namespace
+use Rattle.vt_mount.specs.Indexes.{same_namespace, is_in as is_part_in}
+use Rattle.vt_letting_go.specs.Ends.{is_in}
 
 abbrev pub parts_in : List Mount → NamespaceId → ℕ
 parts_in parts namespace = count_by (is_part_in namespace) parts
-
--- how many mounts a namespace has
-abbrev pub is_in : ℕ → meant.Mount ℕ → Bool
-is_in namespace mount = holds_of (nat_eq namespace) mount.namespace
 
 abbrev pub mount_count : List (meant.Mount ℕ) → ℕ → ℕ
 mount_count mounts namespace = length (filter (is_in namespace) mounts)

@@ -1,5 +1,5 @@
 -- Where the mounts and the groups of an attachment stand.
-use Rattle.std.specs.Prelude.{Bool, List, Option, map, nat_eq, ℕ, ◌≡◌}
+use Rattle.std.specs.Prelude.{List, Option, map, nat_eq, ℕ, ◌≡◌}
 use Rattle.std.specs.HashMap.{get}
 use Rattle.vt_spec.specs.Lists.{place_from}
 use Rattle.vt_spec.specs.Machine.Mounts.{Mount}
@@ -11,9 +11,7 @@ use Rattle.vt_location.specs.Numbers.{counted}
 use Rattle.vt_mount.specs.Listed.{same_id}
 use Rattle.vt_propagate.specs.declared.copying.Graft.{Graft}
 use Rattle.vt_propagate.specs.declared.indexes.Indexes.{Indexes}
-
-abbrev pub same_group : GroupId → GroupId → Bool
-same_group a b = nat_eq a.count b.count
+use Rattle.vt_group.specs.Sets.{same_group}
 
 -- where the first mount with a number stands, and the first in a group
 abbrev pub place_of : List (Mount ℕ) → ℕ → Option ℕ

@@ -7,12 +7,13 @@ use Rattle.vt_spec.specs.Machine.Detach.{taken_away}
 use Rattle.vt_spec.specs.Machine.Mounts.{Location, Mount}
 use Rattle.vt_spec.specs.Machine.Types.{retyped, retyped_mount}
 use Rattle.vt_spec.specs.Machine.World.{World}
-use Rattle.vt_group.specs.Grouping.{Grouping, LacksGroup, numbers_of}
+use Rattle.vt_group.specs.Grouping.{Grouping, LacksGroup}
 use Rattle.vt_group.specs.Together.{Retypes, Shares, TakesAway}
 use Rattle.vt_mount.specs.MountsValue.{MountEntry, mounts_in}
 use Rattle.vt_propagate.specs.Falling.{LeavesBy, left_by}
 use Rattle.vt_retype.specs.Retyping.{FollowsTypes, shared_by}
 use Rattle.vt_propagate.specs.Seen.{IsSeen}
+use Rattle.vt_mount_laws.specs.Mounts.Attaching.{numbers_of}
 
 -- Mounts are detached, and leave their groups.
 abbrev pub DetachingIsSeen : Type 0

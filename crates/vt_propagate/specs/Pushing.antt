@@ -33,10 +33,6 @@ abbrev pub KeepsLeaver : Graft → List (ℕ × Location ℕ) → Type 0
 KeepsLeaver graft points = (number : ℕ) → holds_of (nat_eq number) (leaver graft) ≡ true
     → lookup (nat_eq number) points ≡ None
 
--- no two mounts have one number
-abbrev pub EachOnce : List (Mount ℕ) → Type 0
-EachOnce mounts = any_pair (λ (a b : Mount ℕ). nat_eq a.number b.number) mounts ≡ false
-
 -- the mounts that get new mount points are there, and each gets one
 pub record MovesOnce (mounts : List (Mount ℕ)) (points : List (ℕ × Location ℕ)) : Type 0 where
   pub once : any_pair (λ (a b : ℕ × Location ℕ). nat_eq a.0 b.0) points ≡ false

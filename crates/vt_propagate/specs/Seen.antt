@@ -3,14 +3,15 @@ use Rattle.std.specs.Prelude.{Bool, List, filter_map, find, is_some, nat_eq, not
 use Rattle.vt_spec.specs.FileTree.{is_directory_under}
 use Rattle.vt_spec.specs.Machine.Mounts.{Location, Mount}
 use Rattle.vt_spec.specs.Machine.World.{World, filesystem_numbered}
-use Rattle.vt_group.specs.Grouping.{Grouping, GroupsLive, Has}
+use Rattle.vt_group.specs.Grouping.{Grouping, Has}
 use Rattle.vt_mount.specs.MountsValue.{MountEntry, mounts_in}
+use Rattle.vt_mount_laws.specs.Mounts.Receivers.{AllGroupsLive}
 
 -- A world has these mounts and these groups, and each group of a mount lives.
 pub record IsSeen (world : World ℕ) (kept : List MountEntry) (grouping : Grouping) : Type 0 where
   pub mounts : mounts_in kept ≡ world.mounts
   pub groups : Has world grouping
-  pub living : GroupsLive world
+  pub living : AllGroupsLive world
 
 -- In its filesystems a directory lies at or under another just where this says so.
 abbrev pub ReachesAs : World ℕ → (ℕ → ℕ → ℕ → Bool) → Type 0

@@ -10,8 +10,9 @@ ghost use Rattle.vt_mount.specs.MountsValue.{mounts_in};
 ghost use Rattle.vt_propagate.specs.Attaching.{AttachesBy};
 ghost use Rattle.vt_propagate.specs.Copying.{HasRoomFor, new_group};
 ghost use Rattle.vt_propagate.specs.Falling.{point_of};
-ghost use Rattle.vt_propagate.specs.Pushing.{EachOnce, KeepsLeaver, MovesOnce, OneChild};
+ghost use Rattle.vt_propagate.specs.Pushing.{KeepsLeaver, MovesOnce, OneChild};
 ghost use Rattle.vt_propagate.specs.Seen.{IsSeen};
+ghost use Rattle.vt_mount_laws.specs.Mounts.Attaching.{OneNumberAMount};
 
 use crate::copying::{Counts, Graft, copies, new_groups};
 use crate::indexes::Indexes;
@@ -51,7 +52,7 @@ pub fn attachment(
         → AttachesBy world graft.now counts (map mount_of plan.copies.items) (map new_group plan.groups.items)
         (map point_of plan.points.items)) }
     ensures leaver { IfOk result (λ plan. KeepsLeaver graft.now (map point_of plan.points.items)) }
-    ensures once { IfOk result (λ plan. EachOnce (map mount_of graft.now.parts.now)
+    ensures once { IfOk result (λ plan. OneNumberAMount (map mount_of graft.now.parts.now)
         → MovesOnce (mounts_in mounts.now) (map point_of plan.points.items)) }
     ensures memory { IfErr result (λ deny. deny ≡ denial S5) }
 {

@@ -13,7 +13,8 @@ ghost use Rattle.vt_spec.specs.Machine.Invariants.{NamespaceInvariants};
 ghost use Rattle.vt_location.specs.declared.numbers.NamespaceId.{NamespaceId};
 ghost use Rattle.vt_location.specs.MountValue.{mount_of};
 ghost use Rattle.vt_mount.specs.MountsValue.{mounts_in};
-ghost use Rattle.vt_propagate.specs.Filling.{GrowsBy, MovesFrom, is_overfilled, leaving, is_part_in, parts_in, same_namespace};
+ghost use Rattle.vt_propagate.specs.Filling.{GrowsBy, MovesFrom, is_overfilled, leaving, parts_in};
+ghost use Rattle.vt_mount.specs.Indexes.{same_namespace};
 
 use std::alloc::{AllocError, Global};
 use std::collections::HashMap;

@@ -9,7 +9,8 @@ ghost use Rattle.vt_location.specs.declared.numbers.MountId.{MountId};
 ghost use Rattle.vt_location.specs.MountValue.{mount_of, propagation_of};
 ghost use Rattle.vt_location.specs.Numbers.{counted};
 ghost use Rattle.vt_mount.specs.Listed.{same_id};
-ghost use Rattle.vt_propagate.specs.Indexes.{IsIndexed, place_of, place_of_group, same_group};
+ghost use Rattle.vt_propagate.specs.Indexes.{IsIndexed, place_of, place_of_group};
+ghost use Rattle.vt_group.specs.Sets.{same_group};
 
 use crate::copying::Graft;
 use std::alloc::{AllocError, Global};

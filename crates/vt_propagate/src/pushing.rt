@@ -15,7 +15,8 @@ ghost use Rattle.vt_mount.specs.MountsValue.{mounts_in};
 ghost use Rattle.vt_propagate.specs.declared.copying.Counts.{Counts};
 ghost use Rattle.vt_propagate.specs.Falling.{point_of};
 ghost use Rattle.vt_propagate.specs.Planned.{planned_copies};
-ghost use Rattle.vt_propagate.specs.Pushing.{EachOnce, KeepsLeaver, MovesOnce, OneChild, PushesBy, leaver, pushed_at, pushes_from};
+ghost use Rattle.vt_propagate.specs.Pushing.{KeepsLeaver, MovesOnce, OneChild, PushesBy, leaver, pushed_at, pushes_from};
+ghost use Rattle.vt_mount_laws.specs.Mounts.Attaching.{OneNumberAMount};
 
 use crate::copying::Graft;
 use std::alloc::{AllocError, Global};
@@ -40,7 +41,7 @@ pub(crate) fn pushes(
         → map mount_of copies.now ≡ planned_copies world graft.now counts
         → PushesBy world graft.now counts (map point_of points.items)) }
     ensures leaver { IfOk result (λ points. KeepsLeaver graft.now (map point_of points.items)) }
-    ensures once { IfOk result (λ points. EachOnce (map mount_of graft.now.parts.now)
+    ensures once { IfOk result (λ points. OneNumberAMount (map mount_of graft.now.parts.now)
         → MovesOnce (mounts_in mounts.now) (map point_of points.items)) }
     ensures memory { IfErr result (λ deny. deny ≡ denial S5) }
 {

@@ -5,12 +5,14 @@ ghost use Rattle.vt_spec.specs.Errors.{denial};
 ghost use Rattle.vt_spec.specs.Machine.Attach.{parts_of, receivers_of};
 ghost use Rattle.vt_spec.specs.Machine.Mounts as meant;
 ghost use Rattle.vt_spec.specs.Machine.World.{World};
-ghost use Rattle.vt_group.specs.Grouping.{GroupsLive, Has, numbers_of};
+ghost use Rattle.vt_group.specs.Grouping.{Has};
 ghost use Rattle.vt_location.specs.Locations.{location_of, number_of};
 ghost use Rattle.vt_location.specs.MountValue.{mount_of, propagation_of};
 ghost use Rattle.vt_location.specs.Numbers.{counted};
 ghost use Rattle.vt_mount.specs.MountsValue.{mounts_in};
 ghost use Rattle.vt_propagate.specs.Seen.{IsSeen, ReachesAs, is_mounted, joins, mounts_numbered};
+ghost use Rattle.vt_mount_laws.specs.Mounts.Attaching.{numbers_of};
+ghost use Rattle.vt_mount_laws.specs.Mounts.Receivers.{AllGroupsLive};
 
 use crate::reach::Reach;
 use std::alloc::{AllocError, Global};
@@ -51,7 +53,7 @@ pub(crate) fn receivers_of(
     groups: &Groups,
     propagation: Propagation,
 ) -> Result<Vec<MountId>, Deny>
-    ensures ok { IfOk result (λ ids. (world : World ℕ) (mount : meant.Mount ℕ) → Has world groups.now → GroupsLive world
+    ensures ok { IfOk result (λ ids. (world : World ℕ) (mount : meant.Mount ℕ) → Has world groups.now → AllGroupsLive world
         → mount.propagation ≡ propagation_of propagation
         → map (λ id. counted id.count) ids.items ≡ numbers_of (receivers_of nat_eq world mount)) }
     ensures memory { IfErr result (λ deny. deny ≡ denial S5) }

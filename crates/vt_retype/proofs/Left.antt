@@ -5,18 +5,19 @@ use Rattle.std.specs.Prelude.{if◌then◌else◌}
 use Rattle.vt_spec.specs.Lists.{is_among}
 use Rattle.vt_spec.specs.Machine.Mounts.{Propagation, is_unbindable, source_of}
 use Rattle.vt_spec.specs.Machine.Mounts.Propagation.{Private, Shared, Slave, Unbindable}
-use Rattle.vt_spec.proofs.Lists.{Among, all_from_among, among-from_map, among_from_all, head_among, map_same, tail_among}
+use Rattle.vt_spec.proofs.Lists.{Among, all_from_among, among-from_map, among_from_all, head_among, map_same, tail_among, map_alike, map_twice}
 use Rattle.vt_group.specs.Grouping.{Grouping, propagation_in}
 use Rattle.vt_group.specs.Laws.{typed_by}
 use Rattle.vt_group.specs.Leaving.{lone_group, type_once_ended, type_once_left, type_once_slave}
 use Rattle.vt_group.specs.Together.{as_slave}
-use Rattle.vt_group.proofs.Together.{eqb-swapped, is_among-snoc, map-twice, map_alike}
+use Rattle.vt_group.proofs.Together.{is_among-snoc}
 use Rattle.vt_location.specs.Numbers.{counted}
 use Rattle.vt_location.specs.declared.numbers.MountId.{MountId}
 use Rattle.vt_mount.specs.MountsValue.{MountEntry, changed}
 use Rattle.vt_retype.specs.Leaving.{HaveSources, OnlyTypesChange, once_left}
 use Rattle.vt_retype.specs.Retyping.{AreTyped, AreTypedBut, HaveNoSource, typed_entry, with_kind}
 use Rattle.vt_retype.proofs.TypesHanded.{bindable_once_ended, sourceless_once_ended}
+use Rattle.vt_spec.proofs.Truths.{nat_eq-swapped}
 
 -- what a mount of this type has where the groups tell another
 abbrev told_of : Propagation ℕ → Propagation ℕ → Propagation ℕ
@@ -212,7 +213,7 @@ module _ (before now : Grouping) (number : ℕ) (old : List MountEntry) (typed :
       ∙ ap (changed number (typed_entry now)) (slaves (still_sources before [] old typed
       (all_from_among (λ (one : MountEntry). is_among nat_eq one.mount.number [] ≡ true
       → source_of one.mount.propagation ≡ None) old (λ one m none. absurd (true≢false (sym none))))))
-      ∙ map-twice (λ entry. if nat_eq number entry.mount.number then typed_entry now entry else entry)
+      ∙ map_twice (λ entry. if nat_eq number entry.mount.number then typed_entry now entry else entry)
       (once_left before number) old
       ∙ map_alike (λ was. if nat_eq number was.mount.number then typed_entry now (once_left before number was)
       else once_left before number was) (typed_entry now) old
@@ -235,12 +236,12 @@ module _ (before now : Grouping) (number : ℕ) (old : List MountEntry) (typed :
           (told was.mount.number
           ∙ ap (λ b. type_once_ended before (lone_group before number)
           (if b then as_slave (propagation_in before number) else propagation_in before was.mount.number))
-          (eqb-swapped number was.mount.number false apart))))
+          (nat_eq-swapped number was.mount.number false apart))))
           ∙ bindable was
 
   pub slave_only_types : OnlyTypesChange old (map (typed_entry now) old)
   slave_only_types groups =
-      map-twice (typed_entry groups) (typed_entry now) old
+      map_twice (typed_entry groups) (typed_entry now) old
       ∙ map_alike (λ was. typed_entry groups (typed_entry now was)) (typed_entry groups) old (λ was m.
       ap (λ b. with_kind (if b then Unbindable else propagation_in groups was.mount.number) was)
       (bindable_told was.mount.propagation (propagation_in before was.mount.number) (was_typed was m)

@@ -7,7 +7,7 @@ use Rattle.vt_spec.specs.Lists.{folded, is_among}
 use Rattle.vt_spec.specs.Machine.Mounts.{Propagation}
 use Rattle.vt_spec.proofs.Lists.{among_from_all, map_same}
 use Rattle.vt_group.specs.Grouping.{Grouping, propagation_in}
-use Rattle.vt_group.proofs.Together.{eqb-swapped, is_among-snoc}
+use Rattle.vt_group.proofs.Together.{is_among-snoc}
 use Rattle.vt_group.proofs.Adding.{folded_more}
 use Rattle.vt_group.specs.Together.{typed}
 use Rattle.vt_location.specs.Numbers.{counted}
@@ -16,6 +16,7 @@ use Rattle.vt_location.specs.declared.numbers.GroupId.{GroupId}
 use Rattle.vt_location.specs.declared.numbers.MountId.{MountId}
 use Rattle.vt_mount.specs.MountsValue.{MountEntry, changed}
 use Rattle.vt_retype.specs.Retyping.{AreTypedBut, shared_by, typed_entry, with_kind, with_type_in}
+use Rattle.vt_spec.proofs.Truths.{nat_eq-swapped}
 
 module _ (groups : Grouping) (numbers : List ℕ) (number : ℕ) where
   abbrev told : MountEntry → MountEntry
@@ -47,10 +48,10 @@ module _ (groups : Grouping) (numbers : List ℕ) (number : ℕ) where
       by false true is =
           ap (λ b. if b then with_kind (propagation_in groups number) entry else entry) is
           ∙ ap (λ kind. with_kind kind entry) (same is)
-          ∙ sym (ap (λ b. if b then told entry else entry) (eqb-swapped number entry.mount.number true is))
+          ∙ sym (ap (λ b. if b then told entry else entry) (nat_eq-swapped number entry.mount.number true is))
       by false false is =
           ap (λ b. if b then with_kind (propagation_in groups number) entry else entry) is
-          ∙ sym (ap (λ b. if b then told entry else entry) (eqb-swapped number entry.mount.number false is))
+          ∙ sym (ap (λ b. if b then told entry else entry) (nat_eq-swapped number entry.mount.number false is))
 
   pub changed-shared : (entries : List MountEntry)
       → changed number (with_kind (propagation_in groups number)) (map (shared_by groups numbers) entries)

@@ -7,13 +7,13 @@ use Rattle.std.specs.Prelude.{find, if◌then◌else◌}
 use Rattle.vt_spec.specs.Lists.{is_among}
 use Rattle.vt_spec.specs.Machine.Mounts.{Mount, Propagation, is_unbindable, source_of}
 use Rattle.vt_spec.specs.Machine.Mounts.Propagation.{Private, Shared, Slave, Unbindable}
-use Rattle.vt_spec.proofs.Lists.{Among, among_from_all, map_same}
+use Rattle.vt_spec.proofs.Lists.{Among, among_from_all, map_same, map_alike, map_twice}
 use Rattle.vt_group.specs.Grouping.{Grouping, master_in, propagation_in}
 use Rattle.vt_group.specs.Leaving.{lone_group, slave_or_private, type_after_end, type_once_ended}
-use Rattle.vt_group.proofs.Together.{eqb-swapped, map-twice, map_alike}
 use Rattle.vt_mount.specs.MountsValue.{MountEntry, are_ascending, changed, mounts_in}
 use Rattle.vt_retype.specs.Leaving.{HaveSources, OnlyTypesChange, after_end, after_end_of, once_left}
 use Rattle.vt_retype.specs.Retyping.{retyped, typed_entry, with_kind}
+use Rattle.vt_spec.proofs.Truths.{nat_eq-swapped}
 
 -- One type
 
@@ -160,16 +160,16 @@ module _ (numbers : List ℕ) (lost : ℕ) (heir : Option ℕ) (number : ℕ) wh
           ∙ ap (λ b. if b then after_end lost heir (after_end lost heir entry) else after_end lost heir entry) among
           ∙ ap (λ kind. with_kind kind entry) (after_end-twice lost heir entry.mount.propagation)
           ∙ sym (ap (λ b. if b || is_among nat_eq entry.mount.number numbers then after_end lost heir entry else entry)
-          (eqb-swapped number entry.mount.number true is))
+          (nat_eq-swapped number entry.mount.number true is))
       by true is false among =
           ap (λ b. after_end_of numbers lost heir (if b then after_end lost heir entry else entry)) is
           ∙ ap (λ b. if b then after_end lost heir (after_end lost heir entry) else after_end lost heir entry) among
           ∙ sym (ap (λ b. if b || is_among nat_eq entry.mount.number numbers then after_end lost heir entry else entry)
-          (eqb-swapped number entry.mount.number true is))
+          (nat_eq-swapped number entry.mount.number true is))
       by false is a among =
           ap (λ b. after_end_of numbers lost heir (if b then after_end lost heir entry else entry)) is
           ∙ sym (ap (λ b. if b || is_among nat_eq entry.mount.number numbers then after_end lost heir entry else entry)
-          (eqb-swapped number entry.mount.number false is))
+          (nat_eq-swapped number entry.mount.number false is))
 
   pub handed_next : (entries : List MountEntry)
       → map (after_end_of numbers lost heir) (changed number (after_end lost heir) entries)
@@ -186,7 +186,7 @@ none_handed lost heir entries = sym (map_same (after_end_of [] lost heir) entrie
 pub only_types-handed : (numbers : List ℕ) (lost : ℕ) (heir : Option ℕ) (entries : List MountEntry)
     → OnlyTypesChange entries (map (after_end_of numbers lost heir) entries)
 only_types-handed numbers lost heir entries groups =
-    map-twice (typed_entry groups) (after_end_of numbers lost heir) entries
+    map_twice (typed_entry groups) (after_end_of numbers lost heir) entries
     ∙ map_alike (λ entry. typed_entry groups (after_end_of numbers lost heir entry)) (typed_entry groups) entries
     (λ entry m. by entry (is_among nat_eq entry.mount.number numbers))
   where

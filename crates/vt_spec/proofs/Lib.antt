@@ -9,3 +9,4 @@ pub mod Inodes
 pub mod Descriptors
 pub mod Worlds
 pub mod Found
+pub mod FreshNumbers

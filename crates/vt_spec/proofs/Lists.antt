@@ -4,7 +4,7 @@ use Rattle.std.specs.Prelude.{All, Contains}
 use Rattle.std.specs.List.{cons_option, filter_map, list_all, list_any}
 use Rattle.std.proofs.lemmas.Bool.{and_parts, or_cases, or_parts}
 use Rattle.std.proofs.lemmas.List.Elements.{All-nil, All-cons, All-head, All-tail}
-use Rattle.vt_spec.specs.Lists.{chain, is_among, last_or, any_pair}
+use Rattle.vt_spec.specs.Lists.{chain, folded, is_among, last_or, any_pair}
 
 -- x stands in a list
 abbrev pub Among : {A : Type 0} → A → List A → Type 0
@@ -297,3 +297,27 @@ module _ {A B : Type 0} where
       let from = among-from_map f ys b m in
       ap (later (f y)) from.2 ∙ h y from.0 (inl refl) (inr from.1) (none_among (test y) ys parts.0 from.0 from.1)))
       ∙ pair-map test later f ys (λ a b m n. h a b (inr m) (inr n)) parts.1
+
+-- a test that nothing passes is passed by nothing in a list
+pub list_any-never : {A : Type 0} (list : List A) → list_any (λ a. false) list ≡ false
+list_any-never [] = refl
+list_any-never (a ∷ rest) = list_any-never rest
+
+-- Lists that are mapped and folded
+module _ {A B : Type 0} where
+  -- functions that agree on a list map it to the same list
+  pub map_alike : (f g : A → B) (xs : List A) → ((x : A) → Among x xs → f x ≡ g x) → map f xs ≡ map g xs
+  map_alike f g [] h = refl
+  map_alike f g (y ∷ ys) h =
+      ap (λ x. x ∷ map f ys) (h y (inl refl)) ∙ ap (λ rest. g y ∷ rest) (map_alike f g ys (λ x m. h x (inr m)))
+
+  -- a list that is mapped twice is mapped by one function after the other
+  pub map_twice : {C : Type 0} (f : B → C) (g : A → B) (xs : List A) → map f (map g xs) ≡ map (λ x. f (g x)) xs
+  map_twice f g [] = refl
+  map_twice f g (y ∷ ys) = ap (λ rest. f (g y) ∷ rest) (map_twice f g ys)
+
+  -- a fold over a list with one element more at its end takes one step more
+  pub folded-snoc : (add : B → A → B) (b : B) (list : List A) (a : A)
+      → folded add b (list ++ a ∷ []) ≡ add (folded add b list) a
+  folded-snoc add b [] a = refl
+  folded-snoc add b (first ∷ list) a = folded-snoc add (add b first) list a

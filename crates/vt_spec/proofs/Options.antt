@@ -1,5 +1,5 @@
 -- What is there or is not: options, results, lists.
-use Rattle.std.proofs.Common.{Err, List, None, Ok, OnOk, Option, Result, Some, ap, false, is_some, option_and_then, refl, sym, true≢false, ℕ, ◌∙◌, ◌∷◌, ◌≡◌}
+use Rattle.std.proofs.Common.{Bool, Err, List, None, Ok, OnOk, Option, Result, Some, ap, cond, false, is_some, option_and_then, refl, sym, true, true≢false, ℕ, ◌∙◌, ◌∷◌, ◌≡◌}
 use Rattle.vt_spec.specs.Errors.{and_then}
 use Rattle.vt_spec.specs.Tree.{Node}
 use Rattle.vt_spec.specs.declared.errors.Deny.{Deny}
@@ -41,3 +41,13 @@ cons-first a b ones others e = cc
 -- and go on alike
 pub cons-rest : {A : Type 0} (a b : A) (ones others : List A) → (a ∷ ones) ≡ (b ∷ others) → ones ≡ others
 cons-rest a b ones others e = cc
+
+-- what is not nothing is something
+pub some_from_is_some : {A : Type 0} (o : Option A) → is_some o ≡ true → (a : A) × (o ≡ Some a)
+some_from_is_some None e = absurd (true≢false (sym e))
+some_from_is_some (Some a) e = (a, refl)
+
+-- a choice between nothing and nothing is nothing
+pub cond-None : {A : Type 0} (b : Bool) (o : Option A) → o ≡ None → cond b o None ≡ None
+cond-None true o e = e
+cond-None false o e = refl

@@ -1,6 +1,6 @@
 -- Tests: what follows where they pass or fail.
-use Rattle.std.proofs.Common.{Bool, List, T, ap, arith, cond, eq-eqb, false, inl, inr, nat_eq, not, refl, sym, true, true≢false, ℕ, ◌&&◌, ◌+◌, ◌||◌, ◌∙◌, ◌≡◌, ◌≤◌, ◌⊎◌}
-use Rattle.std.proofs.lemmas.Bool.{eqb-true}
+use Rattle.std.proofs.Common.{Bool, List, T, ap, arith, cond, eq-eqb, false, inl, inr, nat_eq, ne_eqb, not, refl, sym, true, true≢false, ℕ, ◌&&◌, ◌+◌, ◌||◌, ◌∙◌, ◌≡◌, ◌≤◌, ◌⊎◌}
+use Rattle.std.proofs.lemmas.Bool.{eqb-false, eqb-true}
 use Rattle.std.proofs.lemmas.Bool.Decides.{eqb_tells, nat_tests}
 use Rattle.std.specs.Cmp.Lexicographic.{bytes_decides}
 use Rattle.std.specs.Ordering.{is_eq, is_lt}
@@ -120,3 +120,13 @@ less_is_not_equal Greater e = refl
 -- bytes are themselves
 pub bytes_eq_itself : (bytes : List ℕ) → bytes_eq bytes bytes ≡ true
 bytes_eq_itself bytes = (bytes_decides bytes bytes).1 refl
+
+-- a comparison of numbers comes out the same the other way round
+pub nat_eq-swapped : (a b : ℕ) (t : Bool) → nat_eq a b ≡ t → nat_eq b a ≡ t
+nat_eq-swapped a b true e = eq-eqb b a (sym (eqb-true a b e))
+nat_eq-swapped a b false e = ne_eqb b a (λ same. eqb-false a b e (sym same))
+
+-- two tests of which the second fails do not hold together
+pub and_false_right : (a b : Bool) → b ≡ false → (a && b) ≡ false
+and_false_right true b e = e
+and_false_right false b e = refl

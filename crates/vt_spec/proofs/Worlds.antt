@@ -43,6 +43,15 @@ same_task_name a b e = (bytes_decides a b).0 e
 pub same_name_itself : (a : TaskName) → same_name a a ≡ true
 same_name_itself a = (bytes_decides a a).1 refl
 
+-- a name that is not that of another task is so the other way round
+pub same_name-swapped : (a b : TaskName) → same_name a b ≡ false → same_name b a ≡ false
+same_name-swapped a b differ = by (same_name b a) refl
+  where
+    by : (test : Bool) → same_name b a ≡ test → test ≡ false
+    by false e = refl
+    by true e =
+        absurd (true≢false (sym (ap (λ n. same_name n b) (sym (same_task_name b a e)) ∙ same_name_itself b) ∙ differ))
+
 -- a task that is replaced keeps its name
 pub name-replaced_if_called : (new old : Task ℕ) → (replaced_if_called new old).name ≡ old.name
 name-replaced_if_called new old = by (same_name new.name old.name) refl
@@ -265,6 +274,12 @@ pub root-without_parent : (files : FileTree ℕ) (object : Option ℕ)
     → (without_parent nat_eq files object).tree.root ≡ files.tree.root
 root-without_parent files None = refl
 root-without_parent files (Some object) = refl
+
+-- and its numbers
+pub numbers-without_parent : (files : FileTree ℕ) (object : Option ℕ)
+    → (without_parent nat_eq files object).numbers ≡ files.numbers
+numbers-without_parent files None = refl
+numbers-without_parent files (Some object) = refl
 
 -- a name that is left keeps the root
 pub root-name_left_by : (hidden : Bool) (fresh : Fresh ℕ) (stack : Stack ℕ) (upper : FileTree ℕ) (directory : ℕ)

@@ -11,18 +11,11 @@ use Rattle.vt_spec.specs.Machine.World.{Task, replaced_if_called}
 use Rattle.vt_spec.specs.Rights.{Credentials}
 use Rattle.vt_tasks.specs.TasksValue.{AreNamedApart, Tasks, are_given_once, called, forked_once, has_given, is_of_forks, names_of, replaced, with_child_behind, without_called}
 use Rattle.vt_spec.proofs.Truths.{and_true_left, and_true_right}
-use Rattle.vt_spec.proofs.Worlds.{name-replaced_if_called, same_name_itself, same_task_name}
+use Rattle.vt_spec.proofs.Worlds.{name-replaced_if_called, same_name_itself, same_task_name, same_name-swapped}
 pub use Rattle.vt_spec.proofs.Worlds.{same_task_name as same_names}
 
 names_differ : (a b : TaskName) → same_name a b ≡ false → a ≢ b
 names_differ a b differs same = true≢false (sym (same_name_itself a) ∙ ap (same_name a) same ∙ differs)
-
-differ_back : (a b : TaskName) → same_name a b ≡ false → same_name b a ≡ false
-differ_back a b differs = by (same_name b a) refl
-  where
-    by : (r : Bool) → same_name b a ≡ r → r ≡ false
-    by false e = refl
-    by true e = absurd (names_differ a b differs (sym (same_task_name b a e)))
 
 -- a child's name is no name of the parent
 pub other-child : (name : TaskName) (number : ℕ) → same_name name (name ++ number ∷ []) ≡ false
@@ -234,7 +227,7 @@ apart-behind (first ∷ tasks) new apart none =
     by true is here rest = absurd cc
     by false is here rest =
         or_from _ _ (none-behind (λ b. same_name first.name b.name) tasks new parts.0
-        (differ_back new.name first.name is)) (rest here)
+        (same_name-swapped new.name first.name is)) (rest here)
 
 -- where one forks
 module _ (name : TaskName) (task : Task ℕ) (tasks : Tasks) (given : are_given_once tasks ≡ true)

@@ -1,7 +1,7 @@
 -- What each permit leaves of an inode, in worlds without overlays.
 use Rattle.std.proofs.Common.{◌≡◌, refl, sym, ap, subst, ◌∙◌, true≢false, ℕ, nat_eq, eqb-true, eq-eqb, Bool, true, false, cond, List, [], ◌∷◌, ◌++◌, map, find, Option, Some, None, is_some, unwrap_or}
 use Rattle.std.specs.List.{All}
-use Rattle.vt_call_laws.specs.Inodes.{HasNoOverlays, change_of}
+use Rattle.vt_call_laws.specs.Inodes.{change_of}
 use Rattle.vt_spec.specs.Machine.Apply.{apply}
 use Rattle.vt_spec.specs.Language.Changes.{Change, changed}
 use Rattle.vt_spec.specs.Language.Changes.Change.{CopyUp}
@@ -19,6 +19,7 @@ use Rattle.vt_spec.specs.Tree.{Node, new_directory}
 use Rattle.vt_tree_laws.proofs.trees.TreesOfWorlds.{number_numbered, numbered, numbered_anyhow, taken_files}
 use Rattle.vt_tree_laws.proofs.trees.ChangesByOthers.{lazily_filesystems, typed_filesystems}
 use Rattle.vt_spec.proofs.Worlds.{filesystems-taken_away, filesystems-without_replaced, shown-without_replaced}
+use Rattle.vt_laws.specs.Plain.{IsPlain}
 
 replaced_files : (world : World ℕ) (replaced : Option (Location ℕ)) (location : Location ℕ)
     → files_at nat_eq (without_replaced nat_eq world replaced) location ≡ files_at nat_eq world location
@@ -78,7 +79,7 @@ module _ (Q : Option (Node ℕ) → Type 0) (number inode : ℕ) where
       number ≡ (mount_at nat_eq world location).filesystem
       → Q ((changed nat_eq (files_at nat_eq world location) change).tree.node inode)
 
-  change_left : (fresh : Fresh ℕ) (world : World ℕ) (location : Location ℕ) (change : Change ℕ) → HasNoOverlays world
+  change_left : (fresh : Fresh ℕ) (world : World ℕ) (location : Location ℕ) (change : Change ℕ) → IsPlain world
       → Holds world.filesystems → ChangeHolds world location change
       → Holds (with_change nat_eq fresh world location change).filesystems
   change_left fresh world location change plain h here = by at.overlay overlay
@@ -99,7 +100,7 @@ module _ (Q : Option (Node ℕ) → Type 0) (number inode : ℕ) where
           (λ same. here (same ∙ number_numbered shown world.filesystems)) world.filesystems h
       by (Some overlay) e = absurd (true≢false e)
 
-  module _ (fresh : Fresh ℕ) (world : World ℕ) (plain : HasNoOverlays world) (h : Holds world.filesystems) where
+  module _ (fresh : Fresh ℕ) (world : World ℕ) (plain : IsPlain world) (h : Holds world.filesystems) where
     -- what is made by a permit
     abbrev pub MadeBy : Option (Location ℕ × Change ℕ) → Type 0
     MadeBy None = Unit {0}

@@ -4,7 +4,7 @@ use Rattle.vt_laws.proofs.given.GivenPermits.{permits_are_for_their_calls}
 use Rattle.vt_call_laws.proofs.inodes.InodesLeft.{ChangeHolds, LeftBy, MadeBy, inode_left}
 use Rattle.vt_call_laws.proofs.inodes.InodesSettled.{inode_after_call}
 use Rattle.vt_laws.specs.Given.{IsFor, IsForAttr, makes_a_name}
-use Rattle.vt_call_laws.specs.Inodes.{HasNoOverlays, IsNotHanded, StaysIfThere, change_of, changes_names, inode_in, sets_mark, sets_mode, sets_owner, writes_bytes}
+use Rattle.vt_call_laws.specs.Inodes.{IsNotHanded, StaysIfThere, change_of, changes_names, inode_in, sets_mark, sets_mode, sets_owner, writes_bytes}
 use Rattle.vt_spec.specs.declared.attributes.Attr.{Attr}
 use Rattle.vt_spec.specs.Language.Calls.{Call, TaskName}
 use Rattle.vt_spec.specs.Language.Calls.Call.{MakeWhiteout, Mkdir, SymlinkAt, Write}
@@ -21,6 +21,7 @@ use Rattle.vt_spec.specs.Machine.Policy.{policy}
 use Rattle.vt_spec.specs.Machine.World.{Task, World, files_at}
 use Rattle.vt_spec.specs.Tree.{Node, entries_in, entry_named, node_with_bytes, node_with_entry}
 use Rattle.vt_tree_laws.specs.Trees.Calls.{mounts_overlay}
+use Rattle.vt_laws.specs.Plain.{IsPlain}
 
 -- what makes a name changes entries
 makes_changes : (call : Call) → makes_a_name call ≡ true → changes_names call ≡ true
@@ -152,7 +153,7 @@ module _ {A : Type 0} (part : Node ℕ → A) where
         → KeptIn left (without_name nat_eq left directory name)
     unnamed_kept names directory name left = kept_at left directory (node_without_entry name) (names.1 name)
 
-    module _ (fresh : Fresh ℕ) (world : World ℕ) (plain : HasNoOverlays world) (filesystem : ℕ)
+    module _ (fresh : Fresh ℕ) (world : World ℕ) (plain : IsPlain world) (filesystem : ℕ)
         (handed : IsNotHanded fresh other) where
       abbrev Was : Option (Node ℕ)
       Was = inode_in world filesystem other
@@ -254,7 +255,7 @@ module _ {A : Type 0} (part : Node ℕ → A) where
 
   -- so for a call of which these do not hold
   pub only_these : (fresh : Fresh ℕ) (world : World ℕ) (name : TaskName) (call : Call) (filesystem other : ℕ)
-      → HasNoOverlays world → mounts_overlay call ≡ false → IsNotHanded fresh other
+      → IsPlain world → mounts_overlay call ≡ false → IsNotHanded fresh other
       → (changes_names call ≡ true → KeptByNames) → (writes_bytes call ≡ true → KeptByBytes)
       → (sets_mode call ≡ true → KeptByMode) → (sets_owner call ≡ true → KeptByOwner)
       → (sets_mark call ≡ true → KeptByMark)

@@ -13,10 +13,10 @@ use Rattle.vt_letting_go.proofs.sweeps.LookedUp.{filesystem_is_looked_up, mount_
 use Rattle.vt_letting_go.proofs.leaving.PlacesLeft.{no_layers}
 use Rattle.vt_letting_go.proofs.sweeps.UsesCounted.{located_while_counted, mounted_while_counted}
 use Rattle.vt_count_laws.specs.Going.{FilesystemGoesAtZero, MountGoesAtZero, MountTakesItsCount}
-use Rattle.vt_count_laws.proofs.Listed.{turned}
 use Rattle.vt_count_laws.proofs.using.Swept.{plain_of}
 use Rattle.std.proofs.Math.Bool.{or-false}
 use Rattle.vt_spec.proofs.Found.{filter_all}
+use Rattle.vt_spec.proofs.Truths.{nat_eq-swapped}
 
 pub mount_goes_at_zero : MountGoesAtZero
 mount_goes_at_zero world number one =
@@ -59,20 +59,20 @@ one_taken test (first ∷ rest) number one there =
         (no_mount number))) 1 0
     by true e h later =
         let all : left ≡ rest = filter_all (λ mount. not (nat_eq mount.number number)) rest
-        (λ mount m. ap not (turned number mount.number false
+        (λ mount m. ap not (nat_eq-swapped number mount.number false
         (ap (λ k. nat_eq k mount.number) (eqb-true number first.number e)
         ∙ fails (λ b. nat_eq first.number b.number) rest parts.0 mount m))) in
         (let aside : cond (test first) 1 0 + times test rest
         ≡ times test rest + cond (test first) 1 0 = omega arith in aside)
         ∙ ap (λ l. times test l + cond (test first) 1 0) (sym all)
         ∙ ap (λ b. times test (cond (not b) (first ∷ left) left) + cond (test first) 1 0)
-        (sym (turned number first.number true e))
+        (sym (nat_eq-swapped number first.number true e))
     by false e h later =
         (let l = later h in
         let aside : cond (test first) 1 0 + times test rest ≡ (cond (test first) 1 0 + times test left) + cond
         (test (mount_in nat_eq rest number)) 1 0 = omega arith in aside)
         ∙ ap (λ b. times test (cond (not b) (first ∷ left) left) + cond (test (mount_in nat_eq rest number)) 1 0)
-        (sym (turned number first.number false e))
+        (sym (nat_eq-swapped number first.number false e))
 
 pub mount_takes_its_count : MountTakesItsCount
 mount_takes_its_count world number filesystem one there = one_taken

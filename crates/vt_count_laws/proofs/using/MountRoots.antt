@@ -11,15 +11,15 @@ use Rattle.vt_spec.specs.Machine.Invariants.{is_nowhere_or_attached}
 use Rattle.vt_letting_go.specs.Leaving.{MountsStand}
 use Rattle.vt_letting_go.specs.Mounting.{inode_at, root_inode}
 use Rattle.vt_letting_go.specs.OneByOne.{is_mount_used, without_mount}
-use Rattle.vt_letting_go.proofs.Lists.{Among, all_pass, among-append, among-append_left, among-append_right, among-from_filter_map, among-from_map, among-map, among_numbers, fails, is_among_numbers, passes}
+use Rattle.vt_letting_go.proofs.Lists.{Among, all_pass, among-append, among-append_right, among-from_filter_map, among-from_map, among-map, among_numbers, fails, is_among_numbers, passes}
 use Rattle.vt_letting_go.proofs.leaving.PlacesLeft.{found_itself, nowhere_parts, place_attached}
 pub use Rattle.vt_letting_go.proofs.sweeps.OfWorlds.{locations_of_worlds_stand}
 use Rattle.vt_count_laws.specs.Using.{MountsLeaveTheirRoots, PlacesStand, is_on, places_of}
 use Rattle.vt_count_laws.specs.Using.{Exchanges}
 use Rattle.vt_count_laws.proofs.using.Exchanged.{exchanges_turn}
-use Rattle.vt_count_laws.proofs.Listed.{turned}
 use Rattle.vt_count_laws.proofs.using.Places.{mounts_are_uses}
 use Rattle.vt_spec.proofs.Found.{filter_all}
+use Rattle.vt_spec.proofs.Truths.{nat_eq-swapped}
 
 -- a mount in a namespace is there
 attached_is : (mounts : List (Mount ℕ)) (number : ℕ) → is_some (mount_in nat_eq mounts number).namespace ≡ true
@@ -79,9 +79,9 @@ around (first ∷ rest) number one there = by (nat_eq number first.number) refl 
       back = rest;
       whole = refl;
       left = ap (λ b. cond (not b) (first ∷ filter (λ other. not (nat_eq other.number number)) rest)
-          (filter (λ other. not (nat_eq other.number number)) rest)) (turned number first.number true e)
+          (filter (λ other. not (nat_eq other.number number)) rest)) (nat_eq-swapped number first.number true e)
           ∙ filter_all (λ other. not (nat_eq other.number number)) rest
-          (λ other m. ap not (turned number other.number false
+          (λ other m. ap not (nat_eq-swapped number other.number false
           (ap (λ k. nat_eq k other.number) (eqb-true number first.number e)
           ∙ fails (λ b. nat_eq first.number b.number) rest parts.0 other m)));
       numbered = sym (eqb-true number first.number e);
@@ -92,7 +92,7 @@ around (first ∷ rest) number one there = by (nat_eq number first.number) refl 
       back = inner.back;
       whole = ap (λ l. first ∷ l) inner.whole;
       left = ap (λ b. cond (not b) (first ∷ filter (λ other. not (nat_eq other.number number)) rest)
-          (filter (λ other. not (nat_eq other.number number)) rest)) (turned number first.number false e)
+          (filter (λ other. not (nat_eq other.number number)) rest)) (nat_eq-swapped number first.number false e)
           ∙ ap (λ l. first ∷ l) inner.left;
       numbered = inner.numbered;
     }
@@ -141,7 +141,7 @@ module _ (world : World ℕ) (number : ℕ) (stand : MountsStand world)
       (among-map (λ (mount : Mount ℕ). mount.number) left.mounts from.0
       (Rattle.vt_letting_go.proofs.Lists.among-filter
       (λ other. not (nat_eq other.number number)) world.mounts from.0 from.1
-      (ap not (ap (λ n. nat_eq n number) (sym from.2) ∙ turned number location.mount false apart)))))
+      (ap not (ap (λ n. nat_eq n number) (sym from.2) ∙ nat_eq-swapped number location.mount false apart)))))
 
   all_on_left : list_all (is_on left.mounts) (all_locations left ++ places_of left.mounts) ≡ true
   all_on_left =

@@ -18,24 +18,25 @@ use Rattle.vt_one_text.specs.OneTree.{times_in}
 use Rattle.vt_one_text.proofs.one_tree.OneTreeSettled.{times_filter}
 use Rattle.vt_one_text.proofs.one_tree.OneTreeTrees.{among_times, as_long, times_among}
 use Rattle.vt_count_laws.specs.Counted.{IsCounted, IsPlain}
-use Rattle.vt_count_laws.specs.Sweeping.{UsesAreSwept, living}
+use Rattle.vt_count_laws.specs.Sweeping.{UsesAreSwept}
 use Rattle.vt_count_laws.specs.Using.{AreThere, Exchanges, exchanged}
 use Rattle.vt_count_laws.proofs.using.Exchanged as Exchanged
 use Rattle.vt_count_laws.proofs.using.Exchanged.{found_mapped, root_pinned, root_unpinned}
 use Rattle.vt_count_laws.proofs.Listed.{no_repeats, times_is}
 use Rattle.vt_count_laws.proofs.using.Swept.{base_of, found_is, plain_of, plain_uses_are}
 use Rattle.vt_spec.proofs.Inodes.{node_in-none, node_in_is_there, uses_in-none}
+use Rattle.vt_letting_go.specs.TreesOverlays.{in_use_of}
 
 module _ (world after : World ℕ) (gained lost : List Inode) (k : ℕ) (inodes : Inodes ℕ) (trees : HasTrees world)
     (in_use : InodesInUse world) (plain : IsPlain after)
-    (exchange : Exchanges gained lost k world (living after))
+    (exchange : Exchanges gained lost k world (in_use_of after))
     (counted : IsCounted world (filesystem_numbered nat_eq world k) inodes)
     (gains : AreThere k inodes gained) where
   abbrev f : Filesystem ℕ
   f = filesystem_numbered nat_eq world k
 
   abbrev lives : World ℕ
-  lives = living after
+  lives = in_use_of after
 
   plain_living : IsPlain lives
   plain_living = all_from_among (λ g. is_overlay g ≡ false) lives.filesystems (λ g m.

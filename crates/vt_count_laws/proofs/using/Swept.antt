@@ -14,7 +14,7 @@ use Rattle.vt_letting_go.specs.InUse.{AllInUse, FilesystemsInUse, IsListedTree, 
 use Rattle.vt_letting_go.specs.OneByOne as LettingGo
 use Rattle.vt_letting_go.specs.TreeChanges.{with_tree}
 use Rattle.vt_letting_go.proofs.sweeps.InUse.{UnusedAreEmpty, filesystems_stay, groups_stay, mounts_stay, named-left}
-use Rattle.vt_letting_go.proofs.Lists.{Among, all_from_among, all_pass, among-from_map, among-map, among_from_all, among_numbers, fails, is_among_numbers, map_alike, map_same, map_twice, none_passes, or_first, passes}
+use Rattle.vt_letting_go.proofs.Lists.{Among, all_pass, among-from_map, among_from_all, among_numbers, fails, map_same, none_passes, or_first, passes}
 use Rattle.vt_letting_go.proofs.leaving.PlacesLeft.{no_layers, no_layers_of}
 use Rattle.vt_one_text.specs.OneTree.{times_in}
 use Rattle.vt_one_text.proofs.one_tree.OneTreeCounts as Counts
@@ -27,6 +27,7 @@ use Rattle.vt_count_laws.proofs.changing.TreeCounts.{IsStart, IsTallied, other_u
 use Rattle.vt_one_text.proofs.one_tree.OneTreeCounts.{one_if-itself}
 use Rattle.vt_spec.proofs.Inodes.{is_some-node_in, node_in-none, node_in_is_there, uses_in-none}
 use Rattle.vt_letting_go.proofs.sweeps.Inodes.{no_objects_of}
+use Rattle.vt_spec.proofs.Lists.{map_alike, map_twice}
 
 pub plain_of : (world : World ℕ) → IsPlain world → LettingGo.IsPlain world
 plain_of world plain = none_passes is_overlay world.filesystems

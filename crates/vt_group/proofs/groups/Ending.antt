@@ -6,11 +6,12 @@ use Rattle.std.specs.Ordering.{nat_cmp}
 use Rattle.std.specs.Prelude.{filter_map, if◌then◌else◌}
 use Rattle.vt_spec.specs.Lists.{then_some}
 use Rattle.vt_location.specs.Numbers.{counted}
-use Rattle.vt_group.proofs.CountLemmas.{at_count, lookup-numbered, numbered, same_count}
+use Rattle.vt_group.proofs.CountLemmas.{at_count, lookup-numbered, numbered}
 use Rattle.vt_group.proofs.EndedTypes.{changed_entry, lookup-changed, rising_numbers, rising-changed}
 use Rattle.vt_group.proofs.Listing.{found_count}
 use Rattle.vt_group.proofs.Showing.{same_entries}
-use Rattle.vt_group.proofs.Together.{eqb-swapped}
+use Rattle.vt_spec.proofs.Truths.{nat_eq-swapped}
+use Rattle.vt_location.proofs.NumberLemmas.{counted_test}
 
 module _ {V W : Type 0} (see : V → W) (change : ℕ → W → Option W) (old new : BTreeMap ℕ V)
     (ordered : IsOrdered nat_cmp old) (ordered_new : IsOrdered nat_cmp new)
@@ -44,6 +45,7 @@ module _ {V W : Type 0} (see : V → W) (change : ℕ → W → Option W) (old n
       by false is false was =
           none _ is ∙ sym (ap (λ found. then_some found (change number)) (none _ was))
 
+  -- the entries that are left are the changed ones
   pub entries_ended : map (numbered see) new.entries
       ≡ filter_map (changed_entry change) (map (numbered see) old.entries)
   entries_ended =
@@ -68,6 +70,7 @@ was_handed {A} hand old new among value is unhanded at = by among refl old refl 
     by false is None from at = absurd (true≢false (sym (ap is_some at)))
     by false is (Some was) from at = (was, from, unhanded was from is ∙ at)
 
+-- what is found where one entry is removed was there, and is another
 pub not_removed : {A : Type 0} (b : Bool) (found new : Option A) (value : A) → new ≡ cond b None found → new ≡ Some value
     → (found ≡ Some value) × (b ≡ false)
 not_removed true found new value is at = absurd (true≢false (sym (ap is_some (sym is ∙ at))))
@@ -78,6 +81,7 @@ pub held_not : (held among : Bool) → (held ≡ true → among ≡ true) → am
 held_not true among is not = absurd (true≢false (sym (is refl) ∙ not))
 held_not false among is not = refl
 
+-- a choice of nothing before a step is one in the step
 pub none_or : {A B : Type 0} (b : Bool) (found : Option A) (next : A → Option B)
     → then_some found (λ value. if b then None else next value) ≡ (if b then None else then_some found next)
 none_or true None next = refl
@@ -92,7 +96,7 @@ pub removed_at : {V W : Type 0} (see : V → W) (next : W → Option W) (lost co
     ≡ then_some (option_map see old) (λ value. if nat_eq (counted count) (counted lost) then None else next value)
 removed_at {V} see next lost count old mid new is each =
     ap (option_map see) (is ∙ ap (λ b. cond b None mid)
-    (at_count lost count ∙ same_count lost count))
+    (at_count lost count ∙ counted_test lost count))
     ∙ by (nat_eq lost count) refl
     ∙ sym (none_or (nat_eq (counted count) (counted lost)) (option_map see old) next)
   where
@@ -100,7 +104,7 @@ removed_at {V} see next lost count old mid new is each =
         ≡ (if nat_eq (counted count) (counted lost) then None else then_some (option_map see old) next)
     by true same =
         ap (λ b. if b then None else then_some (option_map see old) next)
-        (sym (same_count count lost ∙ eqb-swapped lost count true same))
+        (sym (counted_test count lost ∙ nat_eq-swapped lost count true same))
     by false apart =
         each ∙ ap (λ b. if b then None else then_some (option_map see old) next)
-        (sym (same_count count lost ∙ eqb-swapped lost count false apart))
+        (sym (counted_test count lost ∙ nat_eq-swapped lost count false apart))

@@ -1,5 +1,5 @@
 -- The groups that are found from one downwards.
-use Rattle.std.proofs.Common.{◌≡◌, ℕ, Bool, true, false, ◌+◌, ◌-◌, ◌<◌, ◌≤◌, ◌⊎◌, ◌||◌, List, [], ◌∷◌, ◌++◌, get_or, length, map, nat_eq, zero, suc, Option, None, Some, IsSome, is_some, option_map, refl, sym, ap, subst, take, ◌∙◌, append-nil, arith, eq-eqb, inl, inr, true≢false, ⊎_elim}
+use Rattle.std.proofs.Common.{◌≡◌, ℕ, Bool, true, false, ◌+◌, ◌-◌, ◌<◌, ◌≤◌, ◌⊎◌, ◌||◌, List, [], ◌∷◌, ◌++◌, get_or, length, map, nat_eq, zero, suc, Option, None, Some, is_some, option_map, refl, sym, ap, subst, take, ◌∙◌, append-nil, arith, eq-eqb, inl, inr, true≢false, ⊎_elim}
 use Rattle.std.proofs.lemmas.Bool.{eqb-true, or_cases}
 use Rattle.std.proofs.lemmas.List.{take-append-le, take_more}
 use Rattle.std.proofs.lemmas.Map.Steps.{length-le_from_keys}
@@ -17,10 +17,11 @@ use Rattle.vt_group.specs.Grouping.{Grouping, master_in}
 use Rattle.vt_group.specs.Receiving.{IsLonger, Reaches, is_in, kind_from}
 use Rattle.vt_group.specs.Sets.{same_group}
 use Rattle.vt_group.specs.Steps.{group_number}
-use Rattle.vt_group.proofs.CountLemmas.{same_count}
 use Rattle.vt_group.proofs.Listing.{counted_same}
 use Rattle.vt_group.proofs.SetsLemmas.{same_id}
-use Rattle.vt_group.proofs.Together.{eqb-swapped}
+use Rattle.vt_spec.proofs.Truths.{nat_eq-swapped}
+use Rattle.std.proofs.Math.Bool.{or-false, or-true}
+use Rattle.vt_location.proofs.NumberLemmas.{counted_test}
 
 -- groups in lists
 
@@ -28,29 +29,25 @@ or_assoc : (a b c : Bool) → (a || (b || c)) ≡ ((a || b) || c)
 or_assoc true b c = refl
 or_assoc false b c = refl
 
-or_false : (b : Bool) → (b || false) ≡ b
-or_false true = refl
-or_false false = refl
-
-or_true : (b : Bool) → (b || true) ≡ true
-or_true true = refl
-or_true false = refl
-
+-- a group is in two lists put together where it is in one of them
 pub in_both : (old more : List GroupId) (one : ℕ) → is_in (old ++ more) one ≡ (is_in old one || is_in more one)
 in_both [] more one = refl
 in_both (group ∷ old) more one =
     ap (λ b. nat_eq one (group_number group) || b) (in_both old more one)
     ∙ or_assoc (nat_eq one (group_number group)) (is_in old one) (is_in more one)
 
+-- a group stays in a list that grows
 pub in_longer : (old new : List GroupId) → IsLonger old new → (one : ℕ) → is_in old one ≡ true → is_in new one ≡ true
 in_longer old new longer one is =
     ap (λ list. is_in list one) longer.1 ∙ in_both old longer.0 one ∙ ap (λ b. b || is_in longer.0 one) is
 
+-- a group is in a list with one more where it is in it or is the one
 pub in_push : (list : List GroupId) (group : GroupId) (one : ℕ)
     → is_in (list ++ group ∷ []) one ≡ (is_in list one || nat_eq one (group_number group))
 in_push list group one =
-    in_both list (group ∷ []) one ∙ ap (λ b. is_in list one || b) (or_false (nat_eq one (group_number group)))
+    in_both list (group ∷ []) one ∙ ap (λ b. is_in list one || b) (or-false (nat_eq one (group_number group)))
 
+-- what a list has at an index is in it
 pub in_at : (list : List GroupId) (i : ℕ) (default : GroupId) → i < length list
     → is_in list (group_number (get_or list i default)) ≡ true
 in_at [] i default less = absurd (omega (arith, less))
@@ -58,15 +55,18 @@ in_at (group ∷ list) zero default less =
     ap (λ b. b || is_in list (group_number group)) (eq-eqb (group_number group) (group_number group) refl)
 in_at (group ∷ list) (suc i) default less =
     ap (λ b. nat_eq (group_number (get_or list i default)) (group_number group) || b) (in_at list i default (omega (arith, less)))
-    ∙ or_true (nat_eq (group_number (get_or list i default)) (group_number group))
+    ∙ or-true (nat_eq (group_number (get_or list i default)) (group_number group))
 
+-- a group is in a list by its number where it is by itself
 pub groups_among : (group : GroupId) (list : List GroupId) → is_in list (counted group.count) ≡ list_any (same_group group) list
 groups_among group [] = refl
-groups_among group (one ∷ list) = λ i. same_count group.count one.count i || groups_among group list i
+groups_among group (one ∷ list) = λ i. counted_test group.count one.count i || groups_among group list i
 
+-- a list is no shorter than itself
 pub not_longer : (list : List GroupId) → IsLonger list list
 not_longer list = ([], sym (append-nil list))
 
+-- a list that grows twice grows
 pub longer_still : (old now new : List GroupId) → IsLonger old now → IsLonger now new → IsLonger old new
 longer_still old now new first later = (
   first.0 ++ later.0,
@@ -76,6 +76,7 @@ longer_still old now new first later = (
 -- a group that is inserted
 
 module _ (keys new : List GroupId) (lower : GroupId) (is : new ≡ insert_key same_group keys lower) where
+  -- a list grows where a group is put in
   pub inserted_longer : IsLonger keys new
   inserted_longer = by (list_any (same_group lower) keys) is
     where
@@ -83,6 +84,7 @@ module _ (keys new : List GroupId) (lower : GroupId) (is : new ≡ insert_key sa
       by true is = subst (IsLonger keys) (sym is) (not_longer keys)
       by false is = (lower ∷ [], is)
 
+  -- what is in it then was in it, or is that group
   pub inserted_in : (one : ℕ) → is_in new one ≡ true → (is_in keys one ≡ true) ⊎ (one ≡ group_number lower)
   inserted_in one inside = by (list_any (same_group lower) keys) is
     where
@@ -94,6 +96,7 @@ module _ (keys new : List GroupId) (lower : GroupId) (is : new ≡ insert_key sa
           (or_cases (is_in keys one) (nat_eq one (group_number lower))
           (sym (in_push keys lower one) ∙ ap (λ list. is_in list one) (sym is) ∙ inside))
 
+  -- and that group is in it
   pub inserted_there : is_in new (group_number lower) ≡ true
   inserted_there = by (list_any (same_group lower) keys) refl is
     where
@@ -103,13 +106,15 @@ module _ (keys new : List GroupId) (lower : GroupId) (is : new ≡ insert_key sa
       by false among is =
           ap (λ list. is_in list (group_number lower)) is ∙ in_push keys lower (group_number lower)
           ∙ ap (λ b. is_in keys (group_number lower) || b) (eq-eqb (group_number lower) (group_number lower) refl)
-          ∙ or_true (is_in keys (group_number lower))
+          ∙ or-true (is_in keys (group_number lower))
 
+-- a master that is found to be the group is it
 pub own_master : (found : Option GroupId) (group : GroupId) → option_eq same_group found (Some group) ≡ true
     → option_map group_number found ≡ Some (group_number group)
 own_master None group same = absurd (true≢false (sym same))
 own_master (Some one) group same = ap (λ (g : GroupId). Some (group_number g)) (sym (same_id one group same))
 
+-- one that is found not to be the group is not
 pub other_master : (found : Option GroupId) (group : GroupId) → option_eq same_group found (Some group) ≡ false
     → option_map group_number found ≡ Some (group_number group) → ⊥
 other_master None group apart is = absurd cc
@@ -122,7 +127,7 @@ other_master (Some one) group apart is =
 apart_numbers : (group : GroupId) (list : List GroupId) → AllByRecursion (λ one. same_group group one ≡ false) list
     → AllByRecursion (λ one. nat_eq (group_number group) one ≡ false) (map group_number list)
 apart_numbers group [] all = tt
-apart_numbers group (one ∷ list) all = (same_count group.count one.count ∙ all.0, apart_numbers group list all.1)
+apart_numbers group (one ∷ list) all = (counted_test group.count one.count ∙ all.0, apart_numbers group list all.1)
 
 distinct_numbers : (list : List GroupId) → IsDistinct same_group list → IsDistinct nat_eq (map group_number list)
 unfolding IsDistinct
@@ -133,6 +138,7 @@ numbers_length : (list : List GroupId) → length (map group_number list) ≡ le
 numbers_length [] = refl
 numbers_length (group ∷ list) = ap suc (numbers_length list)
 
+-- groups that are found, each once, are no more than those with masters, and the first
 pub few_found : (groups : Grouping) (first : ℕ) (list : List GroupId) → IsDistinct same_group list
     → ((one : ℕ) → is_in list one ≡ true → (one ≡ first) ⊎ (is_some (master_in groups one) ≡ true))
     → length list ≤ suc (length groups.masters)
@@ -153,17 +159,20 @@ few_found groups first list distinct known =
 
 -- one step down
 
+-- a group reaches itself
 pub reaches_first : (groups : Grouping) (group : ℕ) → Reaches groups group group
 reaches_first groups group = (0, ap (λ b. b || false) (eq-eqb group group refl))
 
+-- what reaches a group reaches those whose master it is
 pub reaches_lower : (groups : Grouping) (group one upper : ℕ) → master_in groups one ≡ Some upper
     → Reaches groups group upper → Reaches groups group one
 reaches_lower groups group one upper is reaches = (
   suc reaches.0,
   ap (is_among nat_eq group) (chain_goes_on (master_in groups) reaches.0 one upper is)
-      ∙ ap (λ b. nat_eq group one || b) reaches.1 ∙ or_true (nat_eq group one),
+      ∙ ap (λ b. nat_eq group one || b) reaches.1 ∙ or-true (nat_eq group one),
 )
 
+-- one more of a list that grows is what it had there
 pub taken_more : (keys new : List GroupId) (i : ℕ) (default : GroupId) → i < length keys → IsLonger keys new
     → take (i + 1) new ≡ take i keys ++ get_or keys i default ∷ []
 taken_more keys new i default less longer =
@@ -171,6 +180,7 @@ taken_more keys new i default less longer =
 
 -- the types of mounts that receive from one more group
 
+-- a type is that of what was found, or of what is found more
 pub kind_more : (found more all : ℕ → Bool) → ((group : ℕ) → all group ≡ (found group || more group))
     → (kind : Propagation ℕ) → or_else (kind_from more kind) (kind_from found kind) ≡ kind_from all kind
 kind_more found more all either kind = by (source_of kind)
@@ -191,6 +201,7 @@ kind_more found more all either kind = by (source_of kind)
 
 -- what is gathered one by one
 
+-- what is gathered up to here and of the rest is what is gathered of all
 pub gathered : {A : Type 0} (one old now new : Option A) (here rest : Bool) → new ≡ (if here then or_else one now else now)
     → (now ≡ or_else one old) ⊎ ((now ≡ old) × ((here || rest) ≡ true))
     → (new ≡ or_else one old) ⊎ ((new ≡ old) × (rest ≡ true))
@@ -208,6 +219,7 @@ gathered {A} one old now new here rest step sofar = by here step sofar
     by false step (inl done) = inl (step ∙ done)
     by false step (inr left) = inr (step ∙ left.0, left.1)
 
+-- where no rest is left, all is gathered
 pub none_left : {A : Type 0} (one old now : Option A) (rest : Bool) → rest ≡ false
     → (now ≡ or_else one old) ⊎ ((now ≡ old) × (rest ≡ true)) → now ≡ or_else one old
 none_left one old now rest empty (inl done) = done
@@ -236,11 +248,13 @@ module _ (groups : Grouping) (group : ℕ) (keys new : List GroupId) (next : ℕ
     (longer : IsLonger keys new)
     (below : (one : ℕ) → is_in new one ≡ true
     → (is_in keys one ≡ true) ⊎ (master_in groups one ≡ Some (group_number here))) where
+  -- groups that are found are known, with those found more
   pub known_more : ((one : ℕ) → is_in keys one ≡ true → (one ≡ group) ⊎ (is_some (master_in groups one) ≡ true))
       → (one : ℕ) → is_in new one ≡ true → (one ≡ group) ⊎ (is_some (master_in groups one) ≡ true)
   known_more known one inside =
       ⊎_elim (λ before. known one before) (λ master. inr (ap is_some master)) (below one inside)
 
+  -- and reached from the first
   pub reaches_more : ((one : ℕ) → is_in keys one ≡ true → Reaches groups group one)
       → (one : ℕ) → is_in new one ≡ true → Reaches groups group one
   reaches_more reaches one inside =
@@ -248,6 +262,7 @@ module _ (groups : Grouping) (group : ℕ) (keys new : List GroupId) (next : ℕ
       (λ master. reaches_lower groups group one (group_number here) master (reaches (group_number here) there))
       (below one inside)
 
+  -- with each group those are found whose master it is
   pub lower_more : ((one : ℕ) → master_in groups one ≡ Some (group_number here) → is_in new one ≡ true)
       → ((one upper : ℕ) → master_in groups one ≡ Some upper → is_in (take next keys) upper ≡ true
       → is_in keys one ≡ true)
@@ -259,6 +274,7 @@ module _ (groups : Grouping) (group : ℕ) (keys new : List GroupId) (next : ℕ
       (or_cases (is_in (take next keys) upper) (nat_eq upper (group_number here))
       (sym (in_push (take next keys) here upper) ∙ ap (λ list. is_in list upper) (sym taken) ∙ inside))
 
+  -- the type is that of the groups up to this one
   pub each_more : (kind : Propagation ℕ)
       → or_else (kind_from (nat_eq (group_number here)) kind) (kind_from (is_in (take next keys)) kind)
       ≡ kind_from (is_in (take (next + 1) new)) kind
@@ -266,4 +282,4 @@ module _ (groups : Grouping) (group : ℕ) (keys new : List GroupId) (next : ℕ
       kind_more (is_in (take next keys)) (nat_eq (group_number here)) (is_in (take (next + 1) new))
       (λ one. ap (λ list. is_in list one) taken ∙ in_push (take next keys) here one
       ∙ ap (λ b. is_in (take next keys) one || b)
-      (sym (eqb-swapped one (group_number here) (nat_eq one (group_number here)) refl)))
+      (sym (nat_eq-swapped one (group_number here) (nat_eq one (group_number here)) refl)))

@@ -55,11 +55,13 @@ module _ (old new : Index) (types : BTreeMap ℕ Propagation) (above : BTreeMap 
     found_listed kept mount kind at =
         kept (mount_at mount) kind (lists.listed mount kind (kept_kind types.entries mount kind at))
 
+    -- groups with masters are found in an index that keeps what is listed
     pub found_lower : ((lower upper : GroupId) → is_lower old lower upper ≡ true → is_lower new lower upper ≡ true)
         → FoundLower new (map numbered_master above.entries)
     found_lower lower low up at =
         lower (group_at low) up (lists.lower low up (kept_master above.entries low up at))
 
+-- an index in which all mounts and groups are found lists them
 pub lists_found : (index : Index) (types : BTreeMap ℕ Propagation) (above : BTreeMap ℕ GroupId)
     → FoundListed index (map numbered_peer types.entries) → FoundLower index (map numbered_master above.entries)
     → IsOrdered nat_cmp types → IsOrdered nat_cmp above → Lists index types above

@@ -33,6 +33,7 @@ module _ (groups : Grouping) (mount : ℕ) where
   abbrev pub without_mount : Grouping
   without_mount = record groups { peers = remove_entry (nat_eq mount) groups.peers }
 
+  -- the group that a mount leaves ends just where the mount is alone in it
   pub lost_alone : (group : Option ℕ) → lost_group without_mount group ≡ if_lone groups mount group
   lost_alone None = refl
   lost_alone (Some group) = refl
@@ -46,6 +47,7 @@ module _ (groups : Grouping) (mount : ℕ) where
   same_once_ended None kind = refl
   same_once_ended (Some group) kind = refl
 
+  -- each mount then has the type that the definitions leave it
   pub types-left : are_rising (keys groups.peers) ≡ true → (other : ℕ)
       → type_once_ended without_mount (lost_group without_mount (group_of (propagation_in groups mount)))
       (propagation_in without_mount other)
@@ -110,6 +112,7 @@ module _ (groups : Grouping) (mount group : ℕ) (rising : are_rising (keys grou
       by true = refl
       by false = refl
 
+  -- and so where it becomes a slave of its own group
   pub types-slave : (other : ℕ) → type_once_retyped groups mount (Slave group) other ≡ type_once_slave groups mount other
   types-slave other =
       ap (λ kind. type_once_ended as_its_slave (lost_group as_its_slave (group_of kind)) (propagation_in as_its_slave other))

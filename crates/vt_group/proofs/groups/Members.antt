@@ -1,5 +1,5 @@
 -- Whether a group has members, told by lists in which they all are.
-use Rattle.std.proofs.Common.{◌≡◌, ℕ, Bool, true, false, cond, ◌||◌, List, [], ◌∷◌, map, nat_eq, not, Option, None, Some, is_some, refl, sym, ap, subst, ◌∙◌, true≢false, eq-eqb}
+use Rattle.std.proofs.Common.{◌≡◌, ℕ, Bool, true, false, cond, ◌||◌, List, [], ◌∷◌, map, nat_eq, not, Option, None, Some, is_some, refl, sym, ap, ◌∙◌, true≢false, eq-eqb}
 use Rattle.std.proofs.lemmas.Bool.{and_parts, eqb-true}
 use Rattle.std.proofs.lemmas.Option.{same_Some}
 use Rattle.std.specs.List.{list_all, list_any}
@@ -101,6 +101,7 @@ any_test test (id ∷ ids) any = by (test (counted id.count)) refl any (any_test
 abbrev member_in : ℕ → List (ℕ × Propagation ℕ) → ℕ → Bool
 member_in group es mount = holds_of (nat_eq group) (group_of (unwrap_or (lookup (nat_eq mount) es) Private))
 
+-- a group with a member among the entries has one
 pub member_found : (group mount : ℕ) (es : List (ℕ × Propagation ℕ)) → member_in group es mount ≡ true
     → list_any (is_member group) es ≡ true
 member_found group mount es is = by (lookup (nat_eq mount) es) refl is
@@ -130,12 +131,14 @@ members_told group es rising ids covers =
         ≡ true = ap (λ found. holds_of (nat_eq group) (group_of (unwrap_or found Private))) one.2 ∙ one.3 in
         sym told ∙ among_any (member_in group es) one.0 ids (covers one.0 is) is
 
+-- a member of the group other than the mount
 abbrev pub is_another : Grouping → ℕ → ℕ → ℕ → Bool
 is_another groups group mount other = not (nat_eq other mount) && is_member_of group groups other
 
 module _ (groups : Grouping) (rising : are_rising (keys groups.peers) ≡ true) (group : ℕ) (ids : List MountId)
     (covers : (mount : ℕ) → is_member_of group groups mount ≡ true
     → is_among nat_eq mount (map (λ id. counted id.count) ids) ≡ true) where
+  -- a group has members just where the listed mounts have one
   pub peers-told : list_any (λ id. is_member_of group groups (counted id.count)) ids ≡ has_peers group groups
   peers-told = members_told group groups.peers rising ids covers
 
@@ -163,6 +166,7 @@ module _ (groups : Grouping) (rising : are_rising (keys groups.peers) ≡ true) 
     still_member true found is = absurd (true≢false (sym is))
     still_member false found is = is
 
+    -- and others than the mount where they have another
     pub others-told : list_any (λ id. is_another groups group mount (counted id.count)) ids
         ≡ list_any (is_member group) (remove_entry (nat_eq mount) groups.peers)
     others-told =
@@ -172,6 +176,7 @@ module _ (groups : Grouping) (rising : are_rising (keys groups.peers) ≡ true) 
         (ap (λ found. holds_of (nat_eq group) (group_of (unwrap_or found Private)))
         (sym (lookup-removed other mount groups.peers rising)) ∙ is)))
 
+    -- a mount whose group has no other member is alone in it
     pub lone-told : group_of (propagation_in groups mount) ≡ Some group → (told : Bool)
         → list_any (λ id. is_another groups group mount (counted id.count)) ids ≡ told
         → (if told then None else Some group) ≡ lone_group groups mount

@@ -15,6 +15,7 @@ use Rattle.vt_group.proofs.Receiving.{picked}
 use Rattle.vt_group.proofs.Regrouping.{keys}
 use Rattle.std.specs.List.{cons_option}
 
+-- the type that is found of an entry is that of its mount, or private
 pub received : (found : ℕ → Bool) (kind : Option (Type_of_mount ℕ))
     → then_some kind (kind_from found) ≡ kind_from found (unwrap_or kind MeansPrivate)
 received found None = refl
@@ -22,10 +23,12 @@ received found (Some kind) = refl
 
 -- in order of attachment
 
+-- the numbers of the keys are the keys of the numbers
 pub keys_counted : (es : List (ℕ × Propagation)) → map counted (keys_of es) ≡ keys (map numbered_peer es)
 keys_counted [] = refl
 keys_counted (e ∷ es) = ap (λ rest. counted e.0 ∷ rest) (keys_counted es)
 
+-- the keys of the entries that receive are the mounts that do
 pub picked_keys : (found : ℕ → Bool) (peers : List (ℕ × Type_of_mount ℕ))
     → keys (filter_map (peer_from found) peers) ≡ picked found peers
 picked_keys found [] = refl

@@ -1,5 +1,5 @@
 -- What a group that has ended leaves under its names becomes its heir's.
-use Rattle.std.proofs.Common.{◌≡◌, Bool, true, false, List, [], ◌∷◌, Option, None, Some, is_some, option_map, refl, sym, ap, ◌∙◌, true≢false, eq-eqb}
+use Rattle.std.proofs.Common.{◌≡◌, Bool, true, false, List, [], ◌∷◌, Option, None, Some, is_some, option_map, refl, sym, ap, ◌∙◌, true≢false}
 use Rattle.std.proofs.lemmas.Option.{same_Some}
 use Rattle.std.specs.List.{list_any}
 use Rattle.std.specs.Map.{lookup}
@@ -13,9 +13,9 @@ use Rattle.vt_group.specs.Handing.{group_handed, kind_handed}
 use Rattle.vt_group.specs.Indexed.{is_listed, is_lower, is_relative}
 use Rattle.vt_group.specs.Names.{Named, names_of}
 use Rattle.vt_group.specs.Sets.{has, same_group, same_id}
-use Rattle.vt_group.proofs.IndexLemmas.{both}
+use Rattle.vt_group.proofs.IndexLemmas.{and_weaker}
 use Rattle.vt_group.proofs.SetsLemmas.{same_id as same_number}
-use Rattle.vt_group.proofs.Together.{eqb-swapped}
+use Rattle.vt_spec.proofs.Truths.{nat_eq-swapped}
 
 -- a group that has a name is named
 pub named_by : (names : Named) (group : GroupId) (test : GroupId → Bool) → list_any test (names_of names group) ≡ true
@@ -46,8 +46,9 @@ module _ (lost heir : GroupId) where
           (own (Rattle.std.proofs.Common.subst Q (sym (same_number was lost same)) holds))
       by false differ is =
           Rattle.std.proofs.Common.subst P (same_Some was upper is)
-          (kept was (eqb-swapped was.count lost.count false differ) holds)
+          (kept was (nat_eq-swapped was.count lost.count false differ) holds)
 
+  -- a mount stays listed where its type is handed on
   pub handed_kind : (old new : Index) (mount : MountId)
       → ((group : GroupId) → same_group lost group ≡ false → is_relative old mount group ≡ true
       → is_relative new mount group ≡ true)
@@ -57,7 +58,7 @@ module _ (lost heir : GroupId) where
       → is_listed old mount was ≡ true → is_listed new mount kind ≡ true
   handed_kind old new mount kept own members (Shared group) kind apart handed listed =
       ap (is_listed new mount) (sym (same_Some (Shared group) kind handed))
-      ∙ both _ _ _ _ (kept group (apart_from lost group apart)) (members group) listed
+      ∙ and_weaker _ _ _ _ (kept group (apart_from lost group apart)) (members group) listed
   handed_kind old new mount kept own members (Slave master) kind apart handed listed =
       slave (group_handed lost (Some heir) master) refl handed
     where
@@ -73,6 +74,7 @@ module _ (lost heir : GroupId) where
   handed_kind old new mount kept own members Unbindable kind apart handed listed =
       ap (is_listed new mount) (sym (same_Some Unbindable kind handed))
 
+  -- and a group where its master is
   pub handed_group : (old new : Index) (lower : GroupId)
       → ((group : GroupId) → same_group lost group ≡ false → is_lower old lower group ≡ true
       → is_lower new lower group ≡ true)

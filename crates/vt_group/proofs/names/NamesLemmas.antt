@@ -1,5 +1,5 @@
 -- The names of groups, once some of them changed.
-use Rattle.std.proofs.Common.{◌≡◌, ℕ, Bool, true, false, cond, ◌+◌, ◌<◌, ◌≤◌, List, [], ◌∷◌, ◌++◌, length, zero, suc, Option, None, Some, is_some, get_or, refl, sym, ap, ◌∙◌, arith, true≢false, slice_get, drop, take, sum_by, swap_remove, ◌||◌, Result, Ok, Err, is_ok, IsOk, length-append, ◌==◌}
+use Rattle.std.proofs.Common.{◌≡◌, ℕ, Bool, true, false, cond, ◌+◌, ◌<◌, ◌≤◌, List, [], ◌∷◌, ◌++◌, length, zero, suc, Option, None, Some, get_or, refl, sym, ap, ◌∙◌, arith, true≢false, slice_get, drop, take, sum_by, swap_remove, ◌||◌, Result, Ok, Err, is_ok, IsOk, length-append, ◌==◌}
 use Rattle.std.proofs.lemmas.List.Folds.{list_any-append}
 use Rattle.std.proofs.lemmas.List.Sums.{sum_by-cons, sum_by-swap_remove}
 use Rattle.std.proofs.lemmas.Bool.{eqb-true}
@@ -12,11 +12,12 @@ use Rattle.indexmap.proofs.MapLemmas.{Found-position, Missing-position, swap_rem
 use Rattle.vt_location.specs.declared.numbers.GroupId.{GroupId}
 use Rattle.vt_group.specs.Names.{Named, count_names, names_of}
 use Rattle.vt_group.specs.Sets.{same_group}
-use Rattle.vt_group.proofs.IndexLemmas.{or_true}
 use Rattle.vt_group.proofs.SetsLemmas.{same_id}
+use Rattle.std.proofs.Math.Bool.{or-true}
 
 -- how many names there are
 
+-- an entry adds no more names than its list has
 pub count_inserted : (names : Named) (group : GroupId) (list : List GroupId)
     → count_names (insert_entry same_group names group list) ≤ count_names names + length list
 count_inserted [] group list = omega arith
@@ -39,6 +40,7 @@ value_at [] i default less = absurd (omega (arith, less))
 value_at (entry ∷ names) zero default less = refl
 value_at (entry ∷ names) (suc i) default less = value_at names i default (omega (arith, less))
 
+-- an entry that is taken takes as many names as its list had
 pub count_taken : (test : GroupId → Bool) (names : Named) (found : Option (List GroupId)) → found ≡ lookup test names
     → count_names (swap_remove_entry test names) + length (unwrap_or found []) ≡ count_names names
 count_taken test names found is = by (position test (keys_of names)) refl
@@ -60,6 +62,7 @@ count_taken test names found is = by (position test (keys_of names)) refl
         let removed = sum_by-swap_remove (λ (e : GroupId × List GroupId). length e.1) names i default place.within in
         omega (arith, left, removed, same, summed names)
 
+-- and one that is written has as many as its new list
 pub count_written : (test : GroupId → Bool) (names : Named) (list now : List GroupId) → lookup test names ≡ Some list
     → count_names (set_value test names now) + length list ≡ count_names names + length now
 count_written test [] list now is = absurd cc
@@ -79,6 +82,7 @@ count_written test (entry ∷ names) list now is = by (test entry.0) (count_writ
 module _ (old new : Named) (group : GroupId) (found : Option (List GroupId))
     (updates : (at : GroupId) → lookup (same_group at) new
     ≡ cond (same_group group at) found (lookup (same_group at) old)) where
+  -- the names of a group whose entry is written are the new ones, and those of others stay
   pub names_updated : (at : GroupId)
       → names_of new at ≡ cond (same_group group at) (unwrap_or found []) (names_of old at)
   names_updated at = ap (λ o. unwrap_or o []) (updates at) ∙ by (same_group group at)
@@ -88,11 +92,13 @@ module _ (old new : Named) (group : GroupId) (found : Option (List GroupId))
       by true = refl
       by false = refl
 
+  -- other groups keep their names
   pub others_keep : (at : GroupId) (test : GroupId → Bool) → same_group group at ≡ false
       → list_any test (names_of old at) ≡ true → list_any test (names_of new at) ≡ true
   others_keep at test apart any =
       ap (list_any test) (names_updated at ∙ ap (λ b. cond b (unwrap_or found []) (names_of old at)) apart) ∙ any
 
+  -- each group keeps what this one does
   pub one_keeps : (test : GroupId → Bool) (at : GroupId)
       → (list_any test (names_of old group) ≡ true → list_any test (unwrap_or found []) ≡ true)
       → list_any test (names_of old at) ≡ true → list_any test (names_of new at) ≡ true
@@ -104,6 +110,7 @@ module _ (old new : Named) (group : GroupId) (found : Option (List GroupId))
           ∙ so (ap (λ (g : GroupId). list_any test (names_of old g)) (sym (same_id group at same)) ∙ any)
       by false apart = others_keep at test apart any
 
+  -- this group has what its new names have
   pub one_has : (test : GroupId → Bool) → list_any test (unwrap_or found []) ≡ true
       → list_any test (names_of new group) ≡ true
   one_has test any =
@@ -111,6 +118,7 @@ module _ (old new : Named) (group : GroupId) (found : Option (List GroupId))
       ∙ ap (λ b. cond b (unwrap_or found []) (names_of old group)) (Rattle.std.proofs.Common.eq-eqb group.count group.count refl))
       ∙ any
 
+-- an empty list has nothing to keep
 pub none_kept : (list : List GroupId) (now : List GroupId) (test : GroupId → Bool) → list ≡ []
     → list_any test list ≡ true → list_any test now ≡ true
 none_kept list now test empty any = absurd (true≢false (sym any ∙ ap (list_any test) empty))
@@ -121,11 +129,13 @@ module _ (old mid : Named) (group : GroupId) (was now : List GroupId) (found : S
     (updates : (at : GroupId) → lookup (same_group at) mid
     ≡ cond (same_group group at) (Some now) (lookup (same_group at) old))
     (test : GroupId → Bool) (so : list_any test was ≡ true → list_any test now ≡ true) where
+  -- what is named stays so where what is not used goes
   pub shorter_keeps : (at : GroupId) → list_any test (names_of old at) ≡ true → list_any test (names_of mid at) ≡ true
   shorter_keeps at =
       one_keeps old mid group (Some now) updates test at
       (λ any. so (ap (λ o. list_any test (unwrap_or o [])) found ∙ any))
 
+  -- and where the entry of a group without names goes
   pub empty_keeps : now ≡ [] → (new : Named)
       → ((at : GroupId) (test : GroupId → Bool) → same_group group at ≡ false
       → list_any test (names_of mid at) ≡ true → list_any test (names_of new at) ≡ true)
@@ -142,21 +152,25 @@ module _ (old mid : Named) (group : GroupId) (was now : List GroupId) (found : S
 
 -- a list that was appended to another, if that did not fail
 
+-- names are no more than those of both lists
 pub no_more : {T E : Type 0} (own list now : List GroupId) (r : Result T E) → now ≡ (if is_ok r then own ++ list else own)
     → length now ≤ length own + length list
 no_more own list now (Ok t) is = omega (arith, ap length is, length-append own list)
 no_more own list now (Err e) is = omega (arith, ap length is)
 
+-- and are those of both where the step succeeds
 pub all_of_both : {T E : Type 0} (own list now : List GroupId) (r : Result T E)
     → now ≡ (if is_ok r then own ++ list else own) → IsOk r → now ≡ own ++ list
 all_of_both own list now (Ok t) is ok = is
 all_of_both own list now (Err e) is ok = absurd (true≢false (sym ok))
 
+-- what passes in the second list passes in both
 pub any_of_second : (test : GroupId → Bool) (own list : List GroupId) → list_any test list ≡ true
     → list_any test (own ++ list) ≡ true
 any_of_second test own list any = list_any-append test own list ∙ ap (λ b. list_any test own || b) any
-    ∙ or_true (list_any test own)
+    ∙ or-true (list_any test own)
 
+-- what passes in the first list passes in what is left
 pub any_of_first : {T E : Type 0} (test : GroupId → Bool) (own list now : List GroupId) (r : Result T E)
     → now ≡ (if is_ok r then own ++ list else own) → list_any test own ≡ true → list_any test now ≡ true
 any_of_first test own list now (Ok t) is any =
@@ -170,9 +184,10 @@ any_turned test [] any = any
 any_turned test (name ∷ list) any = list_any-append test list (name ∷ []) ∙ by (test name) any
   where
     by : (b : Bool) → (b || list_any test list) ≡ true → (list_any test list || (b || false)) ≡ true
-    by true any = or_true (list_any test list)
+    by true any = or-true (list_any test list)
     by false any = ap (λ t. t || false) any
 
+-- a list of length zero is empty
 pub nil_from_none : (list : List GroupId) → (length list == 0) ≡ true → list ≡ []
 nil_from_none [] none = refl
 nil_from_none (name ∷ list) none = absurd (omega (arith, eqb-true (length (name ∷ list)) 0 none))

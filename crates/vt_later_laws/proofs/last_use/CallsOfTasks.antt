@@ -1,11 +1,11 @@
 -- A task that ends takes its namespace with it, and a descriptor that is closed its inode.
-use Rattle.std.proofs.Common.{◌≡◌, refl, sym, ap, subst, append_assoc, ◌∙◌, ⊎_elim, ℕ, nat_eq, eq-eqb, Bool, true, false, true≢false, cond, ◌+◌, ◌||◌, List, [], ◌∷◌, ◌++◌, flat_map, map, arith}
+use Rattle.std.proofs.Common.{◌≡◌, refl, sym, ap, subst, append_assoc, ◌∙◌, ⊎_elim, ℕ, nat_eq, eq-eqb, Bool, true, false, cond, ◌+◌, ◌||◌, List, [], ◌∷◌, ◌++◌, flat_map, map, arith}
 use Rattle.std.specs.Prelude.{Contains, nat_le, nat_lt, ◌==◌}
 use Rattle.std.proofs.lemmas.Bool.{and_parts}
 use Rattle.std.proofs.lemmas.Bool.Decides.{nat_tests}
 use Rattle.std.proofs.lemmas.Grind.{flat_map-append}
 use Rattle.std.proofs.lemmas.List.{map-append}
-use Rattle.vt_spec.specs.Language.Calls.{TaskName, same_name}
+use Rattle.vt_spec.specs.Language.Calls.{same_name}
 use Rattle.vt_spec.specs.Lists.{any_pair}
 use Rattle.vt_spec.specs.Machine.Invariants.{IsWorld, are_ascending_from, is_within_limits}
 use Rattle.vt_spec.specs.Machine.Mounts.{Location}
@@ -13,35 +13,27 @@ use Rattle.vt_spec.specs.Machine.Namespaces.{namespaces_ended}
 use Rattle.vt_spec.specs.Machine.Outcome.Descriptors.{without_descriptor}
 use Rattle.vt_spec.specs.Machine.World.{Descriptor, Task, World, all_locations, locations_of, replaced_if_called, with_task}
 use Rattle.vt_spec.proofs.Lists.{among_from_contains}
-use Rattle.vt_spec.proofs.Worlds.{same_name_itself, same_task_name}
+use Rattle.vt_spec.proofs.Worlds.{same_name_itself, same_name-swapped}
 use Rattle.vt_letting_go.specs.Ends.{without_namespace}
 use Rattle.vt_letting_go.specs.Leaving.{with_tasks}
 use Rattle.vt_letting_go.proofs.Lists.{Among, none_passes, passes}
-use Rattle.vt_count_laws.proofs.Listed.{turned}
 use Rattle.vt_later_laws.specs.LastUse.{CloseTakesItsFilesystem, CloseTakesItsInode, ExitEndsItsNamespace, task_count}
 use Rattle.vt_later_laws.proofs.Opened.{descriptors_in_order}
 use Rattle.vt_later_laws.proofs.last_use.LastLocations.{location_takes_its_filesystem}
 use Rattle.vt_later_laws.proofs.last_use.LocationsLeft.{location_takes_its_inode}
 use Rattle.vt_later_laws.proofs.last_use.Namespaces.{namespace_ends_with_its_last_task}
 use Rattle.vt_later_laws.proofs.last_use.OneLess.{IsSplit, split_around}
+use Rattle.vt_spec.proofs.Truths.{nat_eq-swapped}
 
 -- tasks have the same name
 abbrev called_alike : Task ℕ → Task ℕ → Bool
 called_alike a b = same_name a.name b.name
 
-turned_names : (a b : TaskName) → same_name a b ≡ false → same_name b a ≡ false
-turned_names a b e = by (same_name b a) refl
-  where
-    by : (c : Bool) → same_name b a ≡ c → c ≡ false
-    by false f = refl
-    by true f =
-        absurd (true≢false (sym (ap (λ n. same_name n b) (sym (same_task_name b a f)) ∙ same_name_itself b) ∙ e))
-
 -- the tasks around one of them
 around_task : (world : World ℕ) → IsWorld nat_eq world → (task : Task ℕ) → Contains world.tasks task
     → IsSplit called_alike world.tasks task
 around_task world whole task there =
-    split_around called_alike (λ a. same_name_itself a.name) (λ a b. turned_names a.name b.name) world.tasks
+    split_around called_alike (λ a. same_name_itself a.name) (λ a b. same_name-swapped a.name b.name) world.tasks
     whole.tasks.one_task task (among_from_contains world.tasks task there)
 
 pub exit_ends_its_namespace : ExitEndsItsNamespace
@@ -101,7 +93,7 @@ module _ (world : World ℕ) (whole : IsWorld nat_eq world) (task : Task ℕ) (t
 
   of : IsSplit numbered_alike task.descriptors descriptor
   of =
-      split_around numbered_alike (λ d. eq-eqb d.number d.number refl) (λ a b. turned a.number b.number false)
+      split_around numbered_alike (λ d. eq-eqb d.number d.number refl) (λ a b. nat_eq-swapped a.number b.number false)
       task.descriptors
       (no_two 0 task.descriptors (descriptors_in_order task
       (passes is_within_limits world.tasks whole.tasks.small_tasks task

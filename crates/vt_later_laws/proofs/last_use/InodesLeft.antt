@@ -12,7 +12,7 @@ use Rattle.vt_letting_go.specs.Counts.{inode_uses}
 use Rattle.vt_letting_go.specs.InUse.{HasTrees, InodesInUse, UppersArePlain, is_inode_used}
 use Rattle.vt_letting_go.specs.OneByOne.{Inode, InodesInUseBut, is_used_or_among, let_go_inode, let_go_inode_of, without_inode, without_inode_at}
 use Rattle.vt_letting_go.specs.Overlays.{RealsAreThere, is_plain, let_go_in, let_go_in_of, let_go_plain, uppers_in, uppers_of, uppers_of_inode, uppers_of_inode_in, without_inode_of, without_real}
-use Rattle.vt_letting_go.proofs.Lists.{Among, all_from_among, all_pass, among-from_map, among_from_all, flat_map_none, found_by, found_in, map_alike, map_same, passes}
+use Rattle.vt_letting_go.proofs.Lists.{Among, all_from_among, all_pass, among-from_map, among_from_all, flat_map_none, found_by, found_in, map_same, passes}
 use Rattle.vt_letting_go.proofs.sweeps.InUse.{inodes_stay}
 use Rattle.vt_letting_go.proofs.sweeps.Inodes.{inodes_go_one_by_one}
 use Rattle.vt_letting_go.proofs.sweeps.LookedUp.{inode_is_looked_up}
@@ -21,6 +21,7 @@ use Rattle.vt_letting_go.proofs.sweeps.WithOverlays.{all_inodes_go_one_by_one}
 use Rattle.vt_count_laws.specs.Using.{is_inode}
 use Rattle.vt_later_laws.specs.LastUse.{ExchangeOfOneLosesOneUse, InodeBesideOverlaysGoesWithItsLastUse, InodeGoesWithItsLastUse, InodeOfOverlayGoesWithItsLastUse, LosesOneUse, without_inode_of_any, without_merged_inode}
 use Rattle.vt_later_laws.proofs.last_use.OneLess.{some_left}
+use Rattle.vt_spec.proofs.Lists.{map_alike}
 
 pub exchange_of_one_loses_one_use : ExchangeOfOneLosesOneUse
 exchange_of_one_loses_one_use world after inode exchange = record {

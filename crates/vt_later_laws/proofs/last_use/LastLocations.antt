@@ -23,12 +23,12 @@ use Rattle.vt_letting_go.proofs.sweeps.OfWorlds.{all_in_use, locations_of_worlds
 use Rattle.vt_letting_go.proofs.sweeps.UsesCounted.{used_while_counted}
 use Rattle.vt_count_laws.specs.Counted as Counted
 use Rattle.vt_count_laws.specs.Using.{Exchanges}
-use Rattle.vt_count_laws.proofs.Listed.{turned}
 use Rattle.vt_count_laws.proofs.using.MountRoots.{mounts_leave_their_roots}
 use Rattle.vt_count_laws.proofs.using.Places.{exchanges_follow, locations_are_uses, others_use_nothing}
 use Rattle.vt_later_laws.specs.LastUse.{LocationTakesItsFilesystem}
 use Rattle.vt_later_laws.proofs.last_use.OneLess.{IsSplit, split_around}
 use Rattle.vt_later_laws.proofs.last_use.MountsAndFilesystems.{filesystem_goes_with_its_last_use, located_still, mount_goes_with_its_last_use}
+use Rattle.vt_spec.proofs.Truths.{nat_eq-swapped}
 
 -- what is found of the filesystems without another one
 found_beside : (filesystems : List (Filesystem ℕ)) (k gone : ℕ) → nat_eq k gone ≡ false
@@ -100,7 +100,7 @@ module _ (world : World ℕ) (tasks : List (Task ℕ)) (front back : List (Locat
   split : IsSplit (λ (a b : Mount ℕ). nat_eq a.number b.number) world.mounts its
   split =
       split_around (λ (a b : Mount ℕ). nat_eq a.number b.number) (λ m. eq-eqb m.number m.number refl)
-      (λ a b. turned a.number b.number false) world.mounts stand.one_number its its_there.0
+      (λ a b. nat_eq-swapped a.number b.number false) world.mounts stand.one_number its its_there.0
 
   mount_goes : without_dead_mounts nat_eq after ≡ unmounted
   mount_goes =
@@ -112,7 +112,7 @@ module _ (world : World ℕ) (tasks : List (Task ℕ)) (front back : List (Locat
       filesystem_goes_with_its_last_use world unmounted split.front split.back its in_use plain refl split.whole
       (filter_alike (λ mount. not (nat_eq mount.number location.mount)) (λ mount. not (nat_eq its.number mount.number))
       world.mounts (λ mount m. ap (λ n. not (nat_eq mount.number n)) (sym its_there.1)
-      ∙ ap not (turned its.number mount.number (nat_eq its.number mount.number) refl))
+      ∙ ap not (nat_eq-swapped its.number mount.number (nat_eq its.number mount.number) refl))
       ∙ split.left)
       ∙ ap (λ b. cond b unmounted freed) last
 

@@ -11,10 +11,10 @@ use Rattle.vt_letting_go.specs.Ends.{without_namespace}
 use Rattle.vt_letting_go.specs.Leaving.{with_tasks}
 use Rattle.vt_letting_go.proofs.Lists.{Among, all_pass, passes}
 use Rattle.vt_letting_go.proofs.ends.NamespacesEnd.{no_namespace_ends, one_namespace_ends}
-use Rattle.vt_count_laws.proofs.Listed.{turned}
 use Rattle.vt_later_laws.specs.LastUse.{NamespaceEndsWithItsLastTask, task_count}
 use Rattle.vt_later_laws.proofs.last_use.Groups.{none_lost}
 use Rattle.vt_later_laws.proofs.last_use.OneLess.{some_without_another, some_without_it}
+use Rattle.vt_spec.proofs.Truths.{nat_eq-swapped}
 
 module _ (world : World ℕ) (front back : List (Task ℕ)) (task : Task ℕ) (mounts : MountInvariants nat_eq world)
     (namespaces : NamespaceInvariants nat_eq world) (before : world.tasks ≡ front ++ (task ∷ back)) where
@@ -37,7 +37,7 @@ module _ (world : World ℕ) (front back : List (Task ℕ)) (task : Task ℕ) (m
       → nat_eq task.namespace namespace.number ≡ false → has_tasks nat_eq after namespace ≡ true
   entered_as_before namespace m differs =
       some_without_another (λ (other : Task ℕ). nat_eq namespace.number other.namespace) task
-      (turned task.namespace namespace.number false differs) front back
+      (nat_eq-swapped task.namespace namespace.number false differs) front back
       ∙ ap (list_any (λ (other : Task ℕ). nat_eq namespace.number other.namespace)) (sym before)
       ∙ passes (has_tasks nat_eq world) world.namespaces namespaces.namespaces_live namespace m
 

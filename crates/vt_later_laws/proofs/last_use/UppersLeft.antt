@@ -13,13 +13,14 @@ use Rattle.vt_letting_go.specs.Counts.{inode_uses, times}
 use Rattle.vt_letting_go.specs.InUse.{AllInUse, UppersArePlain, has_upper_in, is_inode_used}
 use Rattle.vt_letting_go.specs.OneByOne.{Inode, without_inode, without_inode_at, without_inode_in}
 use Rattle.vt_letting_go.specs.Overlays.{is_plain, let_go_in, let_go_in_of, let_go_plain, uppers_in, uppers_of, uppers_of_inode, uppers_of_inode_in, without_inode_of, without_real}
-use Rattle.vt_letting_go.proofs.Lists.{Among, among-from_map, among_from_all, fails, flat_map_none, found_in, map_alike, map_same}
+use Rattle.vt_letting_go.proofs.Lists.{Among, among-from_map, among_from_all, fails, flat_map_none, found_in, map_same}
 use Rattle.vt_letting_go.proofs.sweeps.UpperUses.{one_upper_use_less}
 use Rattle.vt_letting_go.proofs.sweeps.UsesCounted.{used_while_counted}
-use Rattle.vt_count_laws.proofs.Listed.{turned}
 use Rattle.vt_later_laws.specs.LastUse.{InodeOverLowersGoesAlone, LosesOneUse, UpperInodeGoesWithItsLastUse, without_inode_of_any, without_merged_inode}
 use Rattle.vt_later_laws.proofs.last_use.InodesLeft.{found_after, its_kind, of_overlay_left}
 use Rattle.vt_later_laws.proofs.last_use.OneLess.{IsSplit, some_left, split_around}
+use Rattle.vt_spec.proofs.Lists.{map_alike}
+use Rattle.vt_spec.proofs.Truths.{nat_eq-swapped}
 
 -- no other has the number of the first
 others_differ : (first : Filesystem ℕ) (rest : List (Filesystem ℕ))
@@ -39,7 +40,7 @@ given_by_one give [] one it m none = absurd m
 given_by_one give (first ∷ rest) one it m none =
     ⊎_elim
     (λ same. ap (λ l. give first ++ l)
-    (flat_map_none give rest (λ f n. none f (turned it.number f.number false
+    (flat_map_none give rest (λ f n. none f (nat_eq-swapped it.number f.number false
     (ap (λ (x : Filesystem ℕ). nat_eq x.number f.number) same
     ∙ fails (λ (b : Filesystem ℕ). nat_eq first.number b.number) rest parts.0 f n))))
     ∙ append-nil (give first) ∙ ap give (sym same))
@@ -160,13 +161,13 @@ module _ (after : World ℕ) (inode : Inode) (overlay : Overlay ℕ)
           split : IsSplit (λ (a b : Filesystem ℕ). nat_eq a.number b.number) after.filesystems merged
           split =
               split_around (λ (a b : Filesystem ℕ). nat_eq a.number b.number) (λ g. eq-eqb g.number g.number refl)
-              (λ a b. turned a.number b.number false) after.filesystems one merged there.0
+              (λ a b. nat_eq-swapped a.number b.number false) after.filesystems one merged there.0
 
           changed : map (without_inode_of_any inode) after.filesystems
               ≡ split.front ++ (without_inode_of_any inode merged ∷ split.back)
           changed = split.changed (without_inode_of_any inode)
               (λ g differs. ap (λ b. cond b (without_inode_of inode.1 g) g)
-              (sym (its_number g.number) ∙ turned merged.number g.number false differs))
+              (sym (its_number g.number) ∙ nat_eq-swapped merged.number g.number false differs))
 
           last : List (Filesystem ℕ)
           last = split.front ++ (without_inode_of inode.1 merged ∷ split.back)

@@ -31,6 +31,7 @@ use Rattle.vt_world_laws.proofs.kept.NamespacesListed.{AreNamespaces, are_namesp
 use Rattle.vt_world_laws.proofs.kept.NamespacesTasks.{called_there}
 use Rattle.vt_spec.proofs.Found.{is_among_left, is_among_right}
 use Rattle.vt_spec.proofs.Worlds.{number-mount_in, same_task_name}
+use Rattle.vt_letting_go.specs.Ends.{is_in}
 
 -- where no two of a list pass a test, those that do are one
 only_one : {A : Type 0} (test : A → A → Bool) (xs : List A) → any_pair test xs ≡ false → (a b : A) → Among a xs
@@ -69,9 +70,6 @@ module _ (world : World ℕ) (fresh : Fresh ℕ) (task : Task ℕ) (is : IsWorld
 
   abbrev pub new : Namespace ℕ
   new = record { number = evens fresh 0; change = 0 }
-
-  abbrev is_in : ℕ → Mount ℕ → Bool
-  is_in number mount = holds_of (nat_eq number) mount.namespace
 
   pub base_mounts : MountInvariants nat_eq base
   base_mounts = unshare_keeps_mounts world fresh task serves is.mounts

@@ -30,8 +30,8 @@ use Rattle.vt_spec.specs.Machine.Receives.{is_member_of}
 use Rattle.vt_spec.specs.Machine.Run.{Serves, numbers_in_use, used_by_filesystem, used_by_mount}
 use Rattle.vt_spec.specs.Machine.Settled.{mount_lives, settled, without_dead_groups}
 use Rattle.vt_spec.specs.Machine.World.{Filesystem, Namespace, Task, World, is_overlay, mount_numbered, mounts_of, no_filesystem, replaced_if_called, task_called}
-use Rattle.vt_letting_go.proofs.Lists.{Among, among-append_left, among-append_right, among-from_filter, among-map, any_passes, filter_here, filter_skip, flat_map_alike, map_alike}
-use Rattle.vt_spec.proofs.Lists.{is_among_numbers, map_same}
+use Rattle.vt_letting_go.proofs.Lists.{Among, among-append_left, among-append_right, among-from_filter, among-map, any_passes, filter_here, filter_skip, flat_map_alike}
+use Rattle.vt_spec.proofs.Lists.{is_among_numbers, map_same, map_alike}
 use Rattle.vt_letting_go.proofs.mounting.MountingTaken
 use Rattle.vt_mount_laws.specs.Mounts.Propagation.{UnshareListsOthersTheSame, UnshareListsTheSame}
 use Rattle.vt_mount_laws.proofs.GroupsKept.{shared_member}
@@ -46,6 +46,7 @@ use Rattle.vt_later_laws.proofs.Granted.{IsPermitted, permitted}
 use Rattle.vt_spec.proofs.Refusals.{passing, same_ok}
 use Rattle.vt_later_laws.proofs.tables.UnsharedLeft
 use Rattle.vt_spec.proofs.Worlds.{same_task_name}
+use Rattle.vt_letting_go.specs.Ends.{is_in}
 
 -- a list that is changed and then shortened, of which those that pass a test stay as they are
 filter_left : {A : Type 0} (p q : A → Bool) (f : A → A) (xs : List A)
@@ -220,9 +221,6 @@ module _ (world : World ℕ) (fresh : Fresh ℕ) (task : Task ℕ) (is : IsWorld
 
   abbrev last : World ℕ
   last = numbers_raised nat_eq world name [] (without_dead_groups nat_eq mounted)
-
-  abbrev is_in : ℕ → Mount ℕ → Bool
-  is_in number mount = holds_of (nat_eq number) mount.namespace
 
   base_is : MountInvariants nat_eq base
   base_is = UnsharedLeft.base_mounts world fresh task is serves called

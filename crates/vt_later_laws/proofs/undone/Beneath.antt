@@ -39,6 +39,7 @@ use Rattle.vt_mount_laws.proofs.mounts.Receivers.{receives_completely, receives_
 use Rattle.vt_mount_laws.proofs.ends.Unmounting.{root_mounts_stay, unmount_keeps_the_order, what_covered_falls, what_goes_is_detached, what_stays_keeps, what_stays_keeps_its_place, what_stays_keeps_its_type, groups_keep_their_masters, middle}
 use Rattle.vt_mount_laws.proofs.ends.UnmountingGoes.{what_goes_is_named}
 use Rattle.vt_spec.proofs.Worlds.{master-regrouped_by, number-mount_in}
+use Rattle.vt_mount_laws.proofs.mounts.Receivers.{receiver_receives}
 
 -- the attachment of one mount, of which no copy goes onto another mount
 abbrev pub one_of : World ℕ → Fresh ℕ → Location ℕ → Mount ℕ → Attachment
@@ -100,28 +101,6 @@ module _ (world : World ℕ) (fresh : Fresh ℕ) (place : Location ℕ) (first :
 
   of_first : Contains (first ∷ []) first
   of_first = contains_from_among (first ∷ []) first (inl refl)
-
-  receives_there : (part : Mount ℕ) → Among part (receivers_of nat_eq world destination)
-      → (group : ℕ) × (destination.propagation ≡ Shared group) × Among part world.mounts
-      × (receives nat_eq world group part ≡ true)
-  receives_there part m = by destination.propagation refl
-    where
-      none : receivers_of nat_eq world destination ≡ []
-          → (group : ℕ) × (destination.propagation ≡ Shared group) × Among part world.mounts
-          × (receives nat_eq world group part ≡ true)
-      none e = absurd (subst (λ l. Among part l) e m)
-
-      by : (kind : Propagation ℕ) → destination.propagation ≡ kind
-          → (group : ℕ) × (destination.propagation ≡ Shared group) × Among part world.mounts
-          × (receives nat_eq world group part ≡ true)
-      by (Shared group) e =
-          let t =
-          among-from_filter (receives nat_eq world group) world.mounts part
-          (subst (λ k. Among part (unwrap_or (option_map (receivers nat_eq world) (group_of k)) [])) e m) in
-          (group, e, t.0, t.1)
-      by (Slave master) e = none (ap (λ k. unwrap_or (option_map (receivers nat_eq world) (group_of k)) []) e)
-      by Private e = none (ap (λ k. unwrap_or (option_map (receivers nat_eq world) (group_of k)) []) e)
-      by Unbindable e = none (ap (λ k. unwrap_or (option_map (receivers nat_eq world) (group_of k)) []) e)
 
   abbrev push_it : Mount ℕ → Mount ℕ
   push_it = push world (copies_from nat_eq fresh (parts_of nat_eq world place) (first ∷ [])) place false (first ∷ [])
@@ -286,7 +265,7 @@ module _ (world : World ℕ) (fresh : Fresh ℕ) (place : Location ℕ) (first :
       (receives_from_source world group destination (ap source_of e)))
       (λ rest.
       let t =
-      receives_there part
+      receiver_receives world destination part
       (among-from_filter (takes_part nat_eq world place) (receivers_of nat_eq world destination) part rest).0 in
       subst (λ g. receives nat_eq world g part ≡ true)
       (same_Some t.0 group (ap group_of (sym t.1 ∙ e))) t.3)

@@ -6,8 +6,11 @@ use std.Equiv.{◌≃◌, id_equiv, iso_to_equiv}
 use std.Univalence.{equiv_j}
 use Rattle.vt_spec.specs.Machine.Renaming.{renamed_content, renamed_entry, renamed_node}
 use Rattle.vt_spec.specs.Tree.{Content, Node}
+use Rattle.vt_spec.specs.Inodes.{Inode, renamed_inode}
 use Rattle.vt_spec.specs.Tree.Content.{Directory, Regular, Symlink, Whiteout}
-use Rattle.vt_laws.specs.Renaming.{Renaming}
+use Rattle.vt_laws.specs.Renaming.{Renaming, renamed_change}
+use Rattle.vt_spec.specs.Language.Changes.{Change}
+use Rattle.vt_spec.specs.Language.Changes.Change.{AddName, CopyUp, Make, Move, Remove, SetAttr, SetBytes, SetMark}
 
 pub map_itself : {A : Type 0} (f : A → A) → ((a : A) → f a ≡ a) → (list : List A) → map f list ≡ list
 map_itself f same [] = refl
@@ -28,6 +31,20 @@ module _ {N : Type 0} where
 
   pub node_itself : (node : Node N) → renamed_node (λ n. n) (λ n. n) node ≡ node
   node_itself node = λ i. record { attr = node.attr; content = content_itself node.content i }
+
+  pub inode_itself : (inode : Option (Inode N)) → option_map (renamed_inode (λ n. n) (λ n. n)) inode ≡ inode
+  inode_itself None = refl
+  inode_itself (Some inode) = λ i. Some (record { node = node_itself inode.node i; uses = inode.uses })
+
+  pub change_itself : (change : Change N) → renamed_change (λ n. n) (λ n. n) change ≡ change
+  change_itself (Make directory name number node) = λ i. Make directory name number (node_itself node i)
+  change_itself (AddName directory name object) = refl
+  change_itself (Remove directory name object) = refl
+  change_itself (Move from old to new object) = refl
+  change_itself (SetBytes file bytes) = refl
+  change_itself (SetAttr object attr) = refl
+  change_itself (SetMark directory opaque) = refl
+  change_itself (CopyUp object) = refl
 
 -- What has numbers in it, and how they are renamed: with each number for itself, not at all
 pub record Named (T : Type 0 → Type 0) : Type 1 where

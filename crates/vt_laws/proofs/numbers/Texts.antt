@@ -127,36 +127,45 @@ module _ (grammar : Grammar) where
         let there : row (renaming.there (renaming.back number)) ≡ row number = ap (row) (renaming.there_back number) in
         omega arith
 
-    next_row : Allotment
-    next_row = stage m is_kept_there keeps_early
+    joined_row : Allotment
+    joined_row = stage m is_kept_there keeps_early
 
-    next : Renaming ℕ ℕ
-    unfolding is_kept_there next_row
-    next = joined allotment next_row renaming (λ number. stage_keeps m is_kept_there keeps_early number)
+    -- the renaming that takes what the supply hands out to the next row
+    pub joined_with_row : Renaming ℕ ℕ
+    unfolding is_kept_there joined_row
+    joined_with_row = joined allotment joined_row renaming (λ number. stage_keeps m is_kept_there keeps_early number)
 
-    next_kept : (number : ℕ) → is_kept allotment number ≡ true → next.there number ≡ renaming.there number
-    unfolding next joined
-    next_kept number is = allotted_kept allotment next_row renaming.there number (kept_lot (allotment.lot number) is)
+    -- it leaves what the line has in hand where it was
+    joined-kept : (number : ℕ) → is_kept allotment number ≡ true → joined_with_row.there number ≡ renaming.there number
+    unfolding joined_with_row joined
+    joined-kept number is = allotted_kept allotment joined_row renaming.there number
+        (kept_lot (allotment.lot number) is)
 
-    next_new : (number k : ℕ) → allotment.lot number ≡ New k → next.there number ≡ spread (suc m) k
-    unfolding next next_row joined
-    next_new number k e = allotted_new allotment next_row renaming.there number k e
+    -- takes each new number to one of the row
+    pub joined-new : (number k : ℕ) → allotment.lot number ≡ New k → joined_with_row.there number ≡ spread (suc m) k
+    unfolding joined_with_row joined_row joined
+    joined-new number k e = allotted_new allotment joined_row renaming.there number k e
         ∙ stage_new m is_kept_there keeps_early k
 
-    next_same : renamed next.there next.back world ≡ other
-    next_same = agree (is_kept allotment) world renaming next serves.keeps next_kept ∙ same
+    -- renames the world as before
+    pub joined-same : renamed joined_with_row.there joined_with_row.back world ≡ other
+    joined-same = agree (is_kept allotment) world renaming joined_with_row serves.keeps joined-kept ∙ same
 
-    next_early : (number : ℕ) → is_in_hand allotment number ≡ true → row (next.there number) ≤ suc m
-    next_early number = by (allotment.lot number) refl
+    -- and keeps what is in hand within the rows so far
+    pub joined-early : (number : ℕ) → is_in_hand allotment number ≡ true → row (joined_with_row.there number) ≤ suc m
+    joined-early number = by (allotment.lot number) refl
       where
-        by : (lot : Lot) → allotment.lot number ≡ lot → is_in_hand_lot lot ≡ true → row (next.there number) ≤ suc m
+        by : (lot : Lot) → allotment.lot number ≡ lot → is_in_hand_lot lot ≡ true
+            → row (joined_with_row.there number) ≤ suc m
         by Kept e is =
             let kept : is_kept allotment number ≡ true = ap is_kept_lot e in
             let low = early number (serves.from_hand number kept) in
-            let there : row (next.there number) ≡ row (renaming.there number) = ap (row) (next_kept number kept) in
+            let there : row (joined_with_row.there number) ≡ row (renaming.there number) =
+                ap (row) (joined-kept number kept) in
             omega arith
         by (New k) e is =
-            let there : row (next.there number) ≡ suc m = ap (row) (next_new number k e) ∙ row-spread (suc m) k in
+            let there : row (joined_with_row.there number) ≡ suc m = ap (row) (joined-new number k e)
+                ∙ row-spread (suc m) k in
             omega arith
         by (LeftOver k) e is = absurd (true≢false (sym is))
 
@@ -177,24 +186,25 @@ module _ (grammar : Grammar) where
       tells.1 ∙ (λ i. refused_alike renaming grammar world other same line number i ++ rest i)
   texts_alike (line ∷ lines) (false ∷ refused) m number renaming in_hand world other same early text tells =
       let allotment = tells.0 in
-      let joint = next m renaming in_hand world other same early allotment tells.1 in
-      let joint_same = next_same m renaming in_hand world other same early allotment tells.1 in
+      let joint = joined_with_row m renaming in_hand world other same early allotment tells.1 in
+      let joint_same = joined-same m renaming in_hand world other same early allotment tells.1 in
       let supplied =
-      λ (k : ℕ). next_new m renaming in_hand world other same early allotment tells.1 (allotment.new k) k
+      λ (k : ℕ). joined-new m renaming in_hand world other same early allotment tells.1 (allotment.new k) k
       (allotment.new_lot k) in
       let rest = texts_alike lines refused (suc m) (number + 1) joint (is_in_hand allotment) _ _
       (line_leads joint grammar world other joint_same line allotment.new (spread (suc m)) supplied)
-      (next_early m renaming in_hand world other same early allotment tells.1) tells.2 tells.4 in
+      (joined-early m renaming in_hand world other same early allotment tells.1) tells.2 tells.4 in
       tells.3 ∙ (λ i. line_alike joint grammar world other joint_same line allotment.new
       (spread (suc m)) supplied number i ++ rest i)
 
   -- a line that was refused memory changes nothing
-  refused_keeps : (in_hand : ℕ → Bool) (world : World ℕ) (line : List ℕ) → KeepsTo in_hand world
+  pub refused_keeps : (in_hand : ℕ → Bool) (world : World ℕ) (line : List ℕ) → KeepsTo in_hand world
       → KeepsTo in_hand (step_world world (line_step nat_eq grammar world line None))
   refused_keeps in_hand world line keeps renaming leaves =
       refused_leads renaming grammar world world (keeps renaming leaves) line
 
-  stage_serves : (m : ℕ) (in_hand : ℕ → Bool) (world : World ℕ) → KeepsTo in_hand world
+  -- the next row serves a line
+  pub stage_serves : (m : ℕ) (in_hand : ℕ → Bool) (world : World ℕ) → KeepsTo in_hand world
       → (early : (number : ℕ) → in_hand number ≡ true → row number ≤ m)
       → ServesWithRoom in_hand world (stage m in_hand early)
   stage_serves m in_hand world keeps early = record {

@@ -9,7 +9,7 @@ use Rattle.vt_spec.specs.FileTree.{is_kind_in, symlink_text}
 use Rattle.vt_spec.specs.Machine.Layers.{OpenLayer, Shown, at_path, shown}
 use Rattle.vt_spec.specs.Lists.{Fresh, is_among, odds}
 use Rattle.vt_spec.specs.Machine.Merging.{Merged, MergedInode, entry_below, inode_of, merged_content}
-use Rattle.vt_spec.specs.Language.Limits.{largest_file, longest_name, longest_path}
+use Rattle.vt_spec.specs.Language.Limits.{largest_file, longest_path}
 use Rattle.vt_spec.specs.Machine.Outcome.Mounting.{inode_count, overlay_filesystem}
 use Rattle.vt_spec.specs.Machine.World.{Filesystem, Overlay, World, open_layer, shown_layers}
 use Rattle.vt_spec.specs.Machine.Invariants.{IsWorld, ListsNumbers, is_fit_filesystem}
@@ -23,7 +23,7 @@ use Rattle.vt_layer_laws.specs.Layers.NewOverlays.{NewOverlayHasOwnParents, NewO
 use Rattle.vt_layer_laws.proofs.directories.Merged.{merged_is_tree, merged_lists_numbers, merged_own_parents}
 use Rattle.vt_layer_laws.proofs.layers.ShownDirectories.{AreOpen}
 use Rattle.vt_layer_laws.proofs.layers.ShownMerged.{entry_is_here, in_layer, inodes, node_of, objects}
-use Rattle.vt_layer_laws.proofs.layers.ShownMounted.{are_open, bounded, is_open, odd_distinct, root_shown}
+use Rattle.vt_layer_laws.proofs.layers.ShownMounted.{are_open, bounded, is_open, root_shown}
 use Rattle.vt_layer_laws.proofs.layers.ShownNames.{last_name}
 use Rattle.vt_layer_laws.proofs.layers.ShownObjects.{Among, from_filter_map, object_is}
 use Rattle.vt_layer_laws.proofs.layers.ShownWhole.{is_of_object}
@@ -31,10 +31,8 @@ use Rattle.vt_layer_laws.proofs.layers.UpperWorld.{all_found}
 use Rattle.std.proofs.lemmas.Option.{same_Some}
 use Rattle.vt_spec.proofs.Options.{none_is_some}
 use Rattle.vt_spec.proofs.Truths.{and_true_left, and_true_right}
-
--- The limits of one inode
-abbrev fit_name : List ℕ → Bool
-fit_name name = not (is_empty name) && nat_le (length name) longest_name
+use Rattle.vt_spec.proofs.FreshNumbers.{odds-distinct}
+use Rattle.vt_tree_laws.specs.Trees.Sizes.{is_fit_name}
 
 abbrev no_larger : Option (Node ℕ) → Bool
 no_larger node = not (is_kind_in File node) || nat_le (length (bytes_in node)) largest_file
@@ -44,7 +42,7 @@ fit_text node = list_all (λ text. not (is_empty text) && nat_le (length text) l
     (option_to_list (symlink_text node))
 
 abbrev fit_node : Option (Node ℕ) → Bool
-fit_node node = no_larger node && list_all fit_name (names_in node) && fit_text node
+fit_node node = no_larger node && list_all is_fit_name (names_in node) && fit_text node
 
 all_of_found : {A : Type 0} (p test : A → Bool) (list : List A) (a : A) → list_all p list ≡ true
     → find test list ≡ Some a → p a ≡ true
@@ -80,15 +78,16 @@ all_pass_map p f (first ∷ list) h =
     ap (λ b. b && list_all p (map f list)) (h first (inl refl)) ∙ all_pass_map p f list (λ a among. h a (inr among))
 
 -- a name that leads somewhere is one of the names
-named_fits : (name : List ℕ) (entries : Entries ℕ) (n : ℕ) → list_all fit_name (map (λ e. e.0) entries) ≡ true
-    → entry_named name entries ≡ Some n → fit_name name ≡ true
+named_fits : (name : List ℕ) (entries : Entries ℕ) (n : ℕ) → list_all is_fit_name (map (λ e. e.0) entries) ≡ true
+    → entry_named name entries ≡ Some n → is_fit_name name ≡ true
 named_fits name [] n all e = none_is_some n e
 named_fits name (entry ∷ entries) n all e =
-    by (eq_by_cmp name_cmp name entry.0) refl e (named_fits name entries n (and_true_right (fit_name entry.0) _ all))
+    by (eq_by_cmp name_cmp name entry.0) refl e
+    (named_fits name entries n (and_true_right (is_fit_name entry.0) _ all))
   where
     by : (b : Bool) → eq_by_cmp name_cmp name entry.0 ≡ b → cond b (Some entry.1) (entry_named name entries) ≡ Some n
-        → (entry_named name entries ≡ Some n → fit_name name ≡ true) → fit_name name ≡ true
-    by true t e rest = ap fit_name (same_name name entry.0 t) ∙ and_true_left (fit_name entry.0) _ all
+        → (entry_named name entries ≡ Some n → is_fit_name name ≡ true) → is_fit_name name ≡ true
+    by true t e rest = ap is_fit_name (same_name name entry.0 t) ∙ and_true_left (is_fit_name entry.0) _ all
     by false t e rest = rest e
 
 module _ (layers : List (OpenLayer ℕ)) (are_open : AreOpen layers) (longest : ℕ)
@@ -101,7 +100,7 @@ module _ (layers : List (OpenLayer ℕ)) (are_open : AreOpen layers) (longest : 
 
   -- a name of a merged directory is a name in some layer
   shown_name_fits : (path : List (List ℕ)) (name : List ℕ) (object : Merged ℕ) → Among all object
-      → object.path ≡ path ++ name ∷ [] → fit_name name ≡ true
+      → object.path ≡ path ++ name ∷ [] → is_fit_name name ≡ true
   shown_name_fits path name object among e =
       let found = in_layer layers are_open longest bounded fresh distinct has_upper object
       (object_is layers are_open longest bounded object among) in
@@ -110,18 +109,19 @@ module _ (layers : List (OpenLayer ℕ)) (are_open : AreOpen layers) (longest : 
     where
       by : (layer : OpenLayer ℕ) → ((o : ℕ) → fit_node (layer.tree.node o) ≡ true) → (o : Option ℕ)
           → option_and_then (λ directory. entry_at layer.tree directory name) o ≡ Some object.seen.object
-          → fit_name name ≡ true
+          → is_fit_name name ≡ true
       by layer fit None e = none_is_some object.seen.object e
       by layer fit (Some directory) e =
           named_fits name (entries_in (layer.tree.node directory)) object.seen.object
           (and_true_right (no_larger (layer.tree.node directory)) _
           (and_true_left (no_larger (layer.tree.node directory)
-          && list_all fit_name (names_in (layer.tree.node directory))) _ (fit directory))) e
+          && list_all is_fit_name (names_in (layer.tree.node directory))) _ (fit directory))) e
 
   merged_names_fit : (path : List (List ℕ))
-      → list_all fit_name (map (λ e. e.0) (filter_map (entry_below nat_eq fresh has_upper all path) all)) ≡ true
+      → list_all is_fit_name (map (λ e. e.0) (filter_map (entry_below nat_eq fresh has_upper all path) all)) ≡ true
   merged_names_fit path =
-      all_pass_map fit_name (λ e. e.0) (filter_map (entry_below nat_eq fresh has_upper all path) all) (λ entry among.
+      all_pass_map is_fit_name (λ e. e.0) (filter_map (entry_below nat_eq fresh has_upper all path) all)
+      (λ entry among.
       let from = from_filter_map (entry_below nat_eq fresh has_upper all path) all entry among in
       shown_name_fits path entry.0 from.0 from.1
       (entry_is_here layers are_open longest bounded fresh distinct has_upper path entry.0 from.0 entry from.2).0)
@@ -154,7 +154,7 @@ new_overlay_is_tree fresh world overlay conditions are_layers distinct =
     merged_is_tree (map (open_layer nat_eq world) (shown_layers overlay))
     (are_open world conditions overlay are_layers) (inode_count world)
     (bounded world conditions overlay are_layers) (odds fresh)
-    (odd_distinct world conditions overlay are_layers fresh distinct) (is_some overlay.upper)
+    (odds-distinct fresh distinct) (is_some overlay.upper)
     (root_shown world conditions overlay are_layers).0 (root_shown world conditions overlay are_layers).1
 
 pub new_overlay_has_own_parents : NewOverlayHasOwnParents
@@ -162,7 +162,7 @@ new_overlay_has_own_parents fresh world overlay conditions are_layers distinct =
     merged_own_parents (map (open_layer nat_eq world) (shown_layers overlay))
     (are_open world conditions overlay are_layers) (inode_count world)
     (bounded world conditions overlay are_layers) (odds fresh)
-    (odd_distinct world conditions overlay are_layers fresh distinct) (is_some overlay.upper)
+    (odds-distinct fresh distinct) (is_some overlay.upper)
     (root_shown world conditions overlay are_layers).0 (root_shown world conditions overlay are_layers).1
 
 pub new_overlay_lists_numbers : NewOverlayListsNumbers
@@ -170,7 +170,7 @@ new_overlay_lists_numbers fresh world overlay conditions are_layers distinct =
     merged_lists_numbers (odds fresh 0)
     (inodes (map (open_layer nat_eq world) (shown_layers overlay)) (are_open world conditions overlay are_layers)
     (inode_count world) (bounded world conditions overlay are_layers) (odds fresh)
-    (odd_distinct world conditions overlay are_layers fresh distinct) (is_some overlay.upper))
+    (odds-distinct fresh distinct) (is_some overlay.upper))
 
 -- each inode of a layer is within the limits
 layers_fit : (world : World ℕ) (conditions : IsWorld nat_eq world) (overlay : Overlay ℕ)
@@ -203,5 +203,5 @@ new_overlay_is_fit fresh world overlay conditions are_layers distinct =
     (overlay_filesystem nat_eq fresh world overlay).files.numbers
     (λ n among. merged_inode_fits (map (open_layer nat_eq world) (shown_layers overlay))
     (are_open world conditions overlay are_layers) (inode_count world) (bounded world conditions overlay are_layers)
-    (odds fresh) (odd_distinct world conditions overlay are_layers fresh distinct) (is_some overlay.upper)
+    (odds fresh) (odds-distinct fresh distinct) (is_some overlay.upper)
     (layers_fit world conditions overlay are_layers) n)

@@ -18,7 +18,7 @@ use Rattle.vt_spec.specs.TreeInvariant.{IsTree, led}
 use Rattle.vt_layer_laws.specs.Layers.Mounted.{AreLayers}
 use Rattle.vt_layer_laws.proofs.directories.Below.{led_below}
 use Rattle.vt_layer_laws.proofs.layers.ShownMerged.{InLayer, inodes}
-use Rattle.vt_layer_laws.proofs.layers.ShownMounted.{are_open, bounded, odd_distinct}
+use Rattle.vt_layer_laws.proofs.layers.ShownMounted.{are_open, bounded}
 use Rattle.vt_layer_laws.proofs.layers.ShownObjects.{Among}
 use Rattle.vt_layer_laws.proofs.layers.ShownWhole.{has_real}
 use Rattle.vt_layer_laws.proofs.layers.UpperWorld.{all_found}
@@ -26,6 +26,7 @@ use Rattle.std.proofs.lemmas.Option.{same_Some}
 use Rattle.vt_spec.proofs.Options.{none_is_some}
 use Rattle.vt_spec.proofs.Truths.{and_true_left, and_true_right}
 use Rattle.vt_spec.proofs.Worlds.{upper_real}
+use Rattle.vt_spec.proofs.FreshNumbers.{odds-distinct}
 
 find_skips : (test : Filesystem ℕ → Bool) (list : List (Filesystem ℕ)) (last : Filesystem ℕ) → test last ≡ false
     → find test (list ++ last ∷ []) ≡ find test list
@@ -148,7 +149,7 @@ module _ (world : World ℕ) (conditions : IsWorld nat_eq world) (overlay : Over
     real = real_of nat_eq
         (inodes (map (open_layer nat_eq world) (shown_layers overlay)) (are_open world conditions overlay are_layers)
         (inode_count world) (bounded world conditions overlay are_layers) (odds fresh)
-        (odd_distinct world conditions overlay are_layers fresh distinct) (is_some overlay.upper));
+        (odds-distinct fresh distinct) (is_some overlay.upper));
   }
 
   upper_in : Real ℕ → Option ℕ
@@ -164,7 +165,7 @@ module _ (world : World ℕ) (conditions : IsWorld nat_eq world) (overlay : Over
       let real = has_real (map (open_layer nat_eq world) (shown_layers overlay))
       (are_open world conditions overlay are_layers) (inode_count world)
       (bounded world conditions overlay are_layers) (odds fresh)
-      (odd_distinct world conditions overlay are_layers fresh distinct) (is_some overlay.upper) number
+      (odds-distinct fresh distinct) (is_some overlay.upper) number
       (Upper object) e in
       by real.object real.layer real.object.seen.layer refl
       (real.is ∙ ap (λ o. real_object (is_some o) real.object.seen.layer real.object) is)
@@ -172,7 +173,7 @@ module _ (world : World ℕ) (conditions : IsWorld nat_eq world) (overlay : Over
       by : (m : Merged ℕ) → InLayer (map (open_layer nat_eq world) (shown_layers overlay))
           (are_open world conditions overlay are_layers) (inode_count world)
           (bounded world conditions overlay are_layers) (odds fresh)
-          (odd_distinct world conditions overlay are_layers fresh distinct) (is_some overlay.upper) m → (l : ℕ)
+          (odds-distinct fresh distinct) (is_some overlay.upper) m → (l : ℕ)
           → m.seen.layer ≡ l → Upper object ≡ real_object true l m
           → (path : List (List ℕ)) × (led
           (filesystem_numbered nat_eq world upper.filesystem).files.tree upper.directory path ≡ Some object)

@@ -24,6 +24,7 @@ use Rattle.vt_layer_laws.proofs.layers.LowersCalls.{Stays, after_leads, change_s
 use Rattle.vt_layer_laws.proofs.layers.LowersMounts.{same_filesystems_without, same_mounted_without}
 use Rattle.std.proofs.lemmas.Bool.{not-false, or_from}
 use Rattle.vt_spec.proofs.Truths.{or_false_left, or_false_right}
+use Rattle.vt_spec.proofs.Worlds.{filesystems-without_replaced}
 
 module _ (world : World ℕ) (filesystem inode : ℕ) (own : HasNoUpperLayer world filesystem)
     (locked : is_locked nat_eq world filesystem inode ≡ true) (task : Task ℕ) where
@@ -126,11 +127,6 @@ module _ (world : World ℕ) (filesystem inode : ℕ) (own : HasNoUpperLayer wor
         (differs place.parent (or_false_right (is_locked_at nat_eq world (object_there place)) _ passed.1.1.1.1.0)
         (at ∙ same_mounted_without world (object_there place) place.parent)) refl))))
 
-    same_filesystems_replaced : (object : Option (Location ℕ))
-        → (without_replaced nat_eq world object).filesystems ≡ world.filesystems
-    same_filesystems_replaced None = refl
-    same_filesystems_replaced (Some object) = same_filesystems_without world object
-
     same_mounted_replaced : (object : Option (Location ℕ)) (location : Location ℕ)
         → (mount_at nat_eq (without_replaced nat_eq world object) location).filesystem
         ≡ (mount_at nat_eq world location).filesystem
@@ -144,7 +140,7 @@ module _ (world : World ℕ) (filesystem inode : ℕ) (own : HasNoUpperLayer wor
     renamed_stays false from to old =
         judged_leads Kept world kept (rename_rules nat_eq world task from to old) _ (λ passed.
         change_stays world filesystem inode own fresh (without_replaced nat_eq world to.object)
-        (same_filesystems_replaced to.object)
+        (filesystems-without_replaced world to.object)
         from.parent (moving from to old)
         (λ at. let there = at ∙ same_mounted_replaced to.object from.parent in
         or_from (nat_eq inode from.parent.node) _

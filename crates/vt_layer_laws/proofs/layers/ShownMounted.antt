@@ -31,6 +31,7 @@ use Rattle.vt_layer_laws.proofs.layers.UpperWorld.{all_found, overlay_layers}
 use Rattle.vt_spec.proofs.NodeChanges.{directory_no_whiteout}
 use Rattle.vt_spec.proofs.Options.{none_is_some}
 use Rattle.vt_spec.proofs.Truths.{and_true_left, and_true_right}
+use Rattle.vt_spec.proofs.FreshNumbers.{odds-distinct}
 
 -- a part of a sum is no more than the sum
 in_sum : (test : Filesystem ℕ → Bool) (list : List (Filesystem ℕ)) (filesystem : Filesystem ℕ)
@@ -203,9 +204,6 @@ module _ (world : World ℕ) (conditions : IsWorld nat_eq world) (overlay : Over
       by (Below layer path) (Some top) = in_lower layer path
 
   module _ (fresh : Fresh ℕ) (distinct : (j k : ℕ) → fresh j ≡ fresh k → j ≡ k) where
-    pub odd_distinct : (j k : ℕ) → odds fresh j ≡ odds fresh k → j ≡ k
-    odd_distinct j k e = let same = distinct (2 * j + 1) (2 * k + 1) e in omega arith
-
     abbrev pub made : Overlay ℕ
     made = record overlay {
       real = real_of nat_eq
@@ -215,26 +213,28 @@ module _ (world : World ℕ) (conditions : IsWorld nat_eq world) (overlay : Over
 
     pub made_merged : IsMerged nat_eq world (overlay_filesystem nat_eq fresh world overlay) made
     made_merged = record {
-      shows = shows_layers layers are_open (inode_count world) bounded (odds fresh) odd_distinct
+      shows = shows_layers layers are_open (inode_count world) bounded (odds fresh) (odds-distinct fresh distinct)
           (is_some overlay.upper) root_shown.0 root_shown.1;
-      names = real_shown_there layers are_open (inode_count world) bounded (odds fresh) odd_distinct
+      names = real_shown_there layers are_open (inode_count world) bounded (odds fresh) (odds-distinct fresh distinct)
           (is_some overlay.upper) root_shown.0 root_shown.1;
       real_objects = λ number.
           subst (SameObject ((overlay_filesystem nat_eq fresh world overlay).files.tree.node number))
           (behind_is_real (made.real number))
-          (merged_is_real layers are_open (inode_count world) bounded (odds fresh) odd_distinct
+          (merged_is_real layers are_open (inode_count world) bounded (odds fresh) (odds-distinct fresh distinct)
           (is_some overlay.upper) number);
       real_there = λ number none. merged_real_there layers are_open (inode_count world) bounded
-          (odds fresh) odd_distinct (is_some overlay.upper) number none;
-      no_whiteout = merged_no_whiteout layers are_open (inode_count world) bounded (odds fresh) odd_distinct
+          (odds fresh) (odds-distinct fresh distinct) (is_some overlay.upper) number none;
+      no_whiteout = merged_no_whiteout layers are_open (inode_count world) bounded (odds fresh)
+          (odds-distinct fresh distinct)
           (is_some overlay.upper);
-      no_mark = merged_no_mark layers are_open (inode_count world) bounded (odds fresh) odd_distinct
+      no_mark = merged_no_mark layers are_open (inode_count world) bounded (odds fresh) (odds-distinct fresh distinct)
           (is_some overlay.upper);
       upper_there = λ number object e.
-          let up = merged_upper layers are_open (inode_count world) bounded (odds fresh) odd_distinct
+          let up = merged_upper layers are_open (inode_count world) bounded (odds fresh) (odds-distinct fresh distinct)
           (is_some overlay.upper) number object e in
           by object overlay.upper up.0 (λ layer f. up.1 layer f);
-      one_to_one = merged_one_to_one layers are_open (inode_count world) bounded (odds fresh) odd_distinct
+      one_to_one = merged_one_to_one layers are_open (inode_count world) bounded (odds fresh)
+          (odds-distinct fresh distinct)
           (is_some overlay.upper);
     }
       where

@@ -114,21 +114,8 @@ lies_there world object filesystem layer e =
     by merged None h = absurd (true≢false (sym h))
     by merged (Some v) h = upper_by (list_any (is_real_upper nat_eq v object) merged.files.numbers) v.upper h
 
-module _ (world : World ℕ) (conditions : IsWorld nat_eq world) where
-  -- what is there has its number beside the tree
-  listed : (number inode : ℕ) → is_some (inode_in world number inode) ≡ true
-      → Among inode (filesystem_numbered nat_eq world number).files.numbers
-  listed number inode there = by (find (λ f. nat_eq number f.number) world.filesystems) refl there
-    where
-      by : (o : Option (Filesystem ℕ)) → find (λ f. nat_eq number f.number) world.filesystems ≡ o
-          → is_some ((unwrap_or o (no_filesystem number)).files.tree.node inode) ≡ true
-          → Among inode (unwrap_or o (no_filesystem number)).files.numbers
-      by None e h = absurd (true≢false (sym h))
-      by (Some filesystem) e h =
-          among_numbers filesystem.files.numbers inode
-          (all_found (λ f. ListsNumbers nat_eq f.files)
-          (λ f. nat_eq number f.number) world.filesystems conditions.files.numbers filesystem e inode ∙ h)
-
+module _ (world : World ℕ) where
+  -- an overlay is among the overlays
   pub merged_among : (number : ℕ) (overlay : Overlay ℕ)
       → (filesystem_numbered nat_eq world number).overlay ≡ Some overlay
       → Among (filesystem_numbered nat_eq world number) (overlays world)
@@ -146,6 +133,21 @@ module _ (world : World ℕ) (conditions : IsWorld nat_eq world) where
   layer_among layers number overlay is layer m =
       among-flat_map (of_overlay [] layers) (overlays world) (filesystem_numbered nat_eq world number) layer
       (merged_among number overlay is) (subst (λ o. Among layer (overlay_or [] layers o)) (sym is) m)
+
+module _ (world : World ℕ) (conditions : IsWorld nat_eq world) where
+  -- what is there has its number beside the tree
+  listed : (number inode : ℕ) → is_some (inode_in world number inode) ≡ true
+      → Among inode (filesystem_numbered nat_eq world number).files.numbers
+  listed number inode there = by (find (λ f. nat_eq number f.number) world.filesystems) refl there
+    where
+      by : (o : Option (Filesystem ℕ)) → find (λ f. nat_eq number f.number) world.filesystems ≡ o
+          → is_some ((unwrap_or o (no_filesystem number)).files.tree.node inode) ≡ true
+          → Among inode (unwrap_or o (no_filesystem number)).files.numbers
+      by None e h = absurd (true≢false (sym h))
+      by (Some filesystem) e h =
+          among_numbers filesystem.files.numbers inode
+          (all_found (λ f. ListsNumbers nat_eq f.files)
+          (λ f. nat_eq number f.number) world.filesystems conditions.files.numbers filesystem e inode ∙ h)
 
   -- layers are in plain trees
   pub layer_plain : (number : ℕ) (overlay : Overlay ℕ)
@@ -224,7 +226,7 @@ module _ (world : World ℕ) (conditions : IsWorld nat_eq world) where
           or_right (lies_in_layer nat_eq world upper.filesystem object upper) _
           (any_from_among (counts_in_layer nat_eq world upper.filesystem object upper) (overlays world)
           (filesystem_numbered nat_eq world number)
-          (merged_among number overlay is)
+          (merged_among world number overlay is)
           (subst (λ o. overlay_or false (λ v.
           holds_of (λ u. lies_in_layer nat_eq world u.filesystem u.directory upper) v.upper
           && is_object_of nat_eq upper.filesystem object (filesystem_numbered nat_eq world number) v) o ≡ true)
@@ -236,7 +238,7 @@ module _ (world : World ℕ) (conditions : IsWorld nat_eq world) where
       pub object_locked : is_locked nat_eq world upper.filesystem object ≡ true
       object_locked =
           any_from_among (lies_or_counts_under nat_eq world upper.filesystem object) (live_layers world) upper
-          (layer_among layers_of number overlay is upper upper_in_layers) object_counts
+          (layer_among world layers_of number overlay is upper upper_in_layers) object_counts
 
       pub object_listed : Among object (filesystem_numbered nat_eq world upper.filesystem).files.numbers
       object_listed = listed upper.filesystem object object_there
@@ -251,7 +253,7 @@ module _ (world : World ℕ) (conditions : IsWorld nat_eq world) where
           (filesystem_numbered nat_eq world upper.filesystem).files.numbers
           (none_among (overlaps_one_of nat_eq world (live_lowers nat_eq world))
           (live_upper_and_work world) conditions.overlays.lowers_apart upper
-          (layer_among upper_and_work number overlay is upper upper_is_layer))
+          (layer_among world upper_and_work number overlay is upper upper_is_layer))
           object object_listed)
           object_counts
           (any_from_among (lies_or_counts_under nat_eq world upper.filesystem object)
@@ -272,7 +274,7 @@ module _ (world : World ℕ) (conditions : IsWorld nat_eq world) where
           (filesystem_numbered nat_eq world number) (filesystem_numbered nat_eq world other)
           (λ e. differ (sym (number_of_filesystem world other) ∙ ap (λ f. f.number) (sym e)
           ∙ number_of_filesystem world number))
-          (merged_among number overlay is) (merged_among other overlay2 is2) upper layer
+          (merged_among world number overlay is) (merged_among world other overlay2 is2) upper layer
           (subst (λ o. Among upper (overlay_or [] upper_and_work o)) (sym is) upper_is_layer)
           (subst (λ o. Among layer (overlay_or [] upper_and_work o)) (sym is2) m))
         where

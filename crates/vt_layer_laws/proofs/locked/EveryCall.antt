@@ -168,7 +168,7 @@ module _ (fresh : Fresh ℕ) (world : World ℕ) (task : Task ℕ) (conditions :
     locked : is_locked nat_eq world layer.filesystem inode ≡ true
     locked =
         any_from_among (lies_or_counts_under nat_eq world layer.filesystem inode) (live_layers world) layer
-        (layer_among world conditions layers_of number overlay is layer m) lies
+        (layer_among world layers_of number overlay is layer m) lies
 
     plain : (filesystem_numbered nat_eq world layer.filesystem).overlay ≡ None
     plain = no_overlay_in world conditions layer (layer_plain world conditions number overlay is layer m)
@@ -200,7 +200,7 @@ lower_layers_stay_locked fresh world task call number overlay lower inode condit
     layer_stays fresh world task conditions called call c number overlay is lower in_layers inode lies new change
     (λ other upper i has at object.
     no_lower world conditions change.mounted other i upper has inode object lower
-    (layer_among world conditions (λ o. o.lowers) number overlay is lower m)
+    (layer_among world (λ o. o.lowers) number overlay is lower m)
     (subst (λ n. lies_or_counts_under nat_eq world n inode lower ≡ true) at lies)))
     (left_by_call fresh world task conditions called call c)
 

@@ -34,6 +34,7 @@ use Rattle.vt_layer_laws.proofs.mounting.Reached.{layers_are_reached}
 use Rattle.vt_layer_laws.proofs.mounting.Walked.{AreWalked, all_plain, are_walked, fit_layers, has_layers, none_refuses, shown_plain}
 use Rattle.vt_layer_laws.proofs.layers.ShownObjects.{Among}
 use Rattle.vt_spec.proofs.Truths.{nat_eq_itself}
+use Rattle.vt_spec.proofs.FreshNumbers.{evens-distinct}
 
 -- mounts and masters are not looked at
 abbrev WithMounts : World ℕ → List (Mount ℕ) → (ℕ → Option ℕ) → World ℕ
@@ -97,9 +98,6 @@ none_equal number (first ∷ list) e filesystem (inr among) = by (nat_eq number 
 
 module _ (world : World ℕ) (conditions : IsWorld nat_eq world) (fresh : Fresh ℕ) (are_new : AreNewNumbers fresh world)
     (task : Task ℕ) where
-  even_distinct : (j k : ℕ) → evens fresh j ≡ evens fresh k → j ≡ k
-  even_distinct j k e = let same = are_new.distinct _ _ e in omega (arith, same)
-
   abbrev AreReached : LayerPlaces ℕ → Type 0
   AreReached places =
       All (λ (layer : Layer ℕ). IsReached
@@ -128,11 +126,11 @@ module _ (world : World ℕ) (conditions : IsWorld nat_eq world) (fresh : Fresh 
         → is_plain_layer nat_eq later layer ≡ true
     plain_later layer plain =
         let old = Later.plain_is_old world conditions overlay are_layers
-        (evens fresh) even_distinct unused layer plain in
+        (evens fresh) (evens-distinct fresh are_new.distinct) unused layer plain in
         ap (λ f. Rattle.std.proofs.Common.not (Rattle.vt_spec.specs.Machine.World.is_overlay f)
         && Rattle.vt_spec.specs.Tree.is_directory_node (f.files.tree.node layer.directory))
         (Later.same_filesystem world conditions overlay are_layers
-        (evens fresh) even_distinct unused layer.filesystem old)
+        (evens fresh) (evens-distinct fresh are_new.distinct) unused layer.filesystem old)
         ∙ plain
 
     all_plain_later : (layers : List (Layer ℕ)) → list_all (is_plain_layer nat_eq world) layers ≡ true
@@ -186,11 +184,14 @@ module _ (world : World ℕ) (conditions : IsWorld nat_eq world) (fresh : Fresh 
     trees_later : TreeInvariants nat_eq later
     trees_later = record {
       trees = All-push (λ f. IsTree f.files.tree) world.filesystems new conditions.files.trees
-          (new_overlay_is_tree (evens fresh) world overlay conditions are_layers even_distinct);
+          (new_overlay_is_tree (evens fresh) world overlay conditions are_layers
+          (evens-distinct fresh are_new.distinct));
       own_parents = All-push (λ f. HasOwnParents f.files.tree) world.filesystems new conditions.files.own_parents
-          (new_overlay_has_own_parents (evens fresh) world overlay conditions are_layers even_distinct);
+          (new_overlay_has_own_parents (evens fresh) world overlay conditions are_layers
+          (evens-distinct fresh are_new.distinct));
       numbers = All-push (λ f. ListsNumbers nat_eq f.files) world.filesystems new conditions.files.numbers
-          (new_overlay_lists_numbers (evens fresh) world overlay conditions are_layers even_distinct);
+          (new_overlay_lists_numbers (evens fresh) world overlay conditions are_layers
+          (evens-distinct fresh are_new.distinct));
       one_filesystem =
           from_no_pair (λ a b. nat_eq a.number b.number) (λ a b. nat_eq a.number b.number)
           (world.filesystems ++ new ∷ [])
@@ -203,7 +204,8 @@ module _ (world : World ℕ) (conditions : IsWorld nat_eq world) (fresh : Fresh 
           (λ none. absurd none) in_new))
           (λ a b l r. refl);
       fit_filesystems = pushed is_fit_filesystem conditions.files.fit_filesystems
-          (new_overlay_is_fit (evens fresh) world overlay conditions are_layers even_distinct);
+          (new_overlay_is_fit (evens fresh) world overlay conditions are_layers
+          (evens-distinct fresh are_new.distinct));
     }
 
     -- names lead to an upper layer's directory as they did, and to that of the new overlay
@@ -213,9 +215,9 @@ module _ (world : World ℕ) (conditions : IsWorld nat_eq world) (fresh : Fresh 
     reached_later layer plain is =
         subst (λ (f : Filesystem ℕ). IsReached f.files.tree layer.directory)
         (sym (Later.same_filesystem world conditions overlay are_layers
-        (evens fresh) even_distinct unused layer.filesystem
+        (evens fresh) (evens-distinct fresh are_new.distinct) unused layer.filesystem
         (Later.plain_is_old world conditions overlay are_layers
-        (evens fresh) even_distinct unused layer plain))) is
+        (evens fresh) (evens-distinct fresh are_new.distinct) unused layer plain))) is
 
     own_upper : (layer : Layer ℕ) → overlay.upper ≡ Some layer → Lists.Among layer (layers_of overlay)
     own_upper layer has = subst (λ o.
@@ -232,7 +234,7 @@ module _ (world : World ℕ) (conditions : IsWorld nat_eq world) (fresh : Fresh 
         by false t =
             let was = sym (ap (λ (f : Filesystem ℕ). f.overlay)
             (Later.same_filesystem world conditions overlay are_layers
-            (evens fresh) even_distinct unused number t)) ∙ e in
+            (evens fresh) (evens-distinct fresh are_new.distinct) unused number t)) ∙ e in
             reached_later upper (layer_plain world conditions number some_overlay was upper
             (upper_in_layers world conditions number some_overlay was upper has))
             (conditions.overlays.uppers_reached number some_overlay upper was has)
@@ -261,16 +263,19 @@ module _ (world : World ℕ) (conditions : IsWorld nat_eq world) (fresh : Fresh 
         let passes = none_refuses (layer_rules nat_eq world places overlay) passed in
         record {
           overlays_merge = overlays_still_merge
-              (evens fresh) world overlay places conditions are_layers plain even_distinct unused passes;
+              (evens fresh) world overlay places conditions are_layers plain (evens-distinct fresh are_new.distinct)
+              unused passes;
           fit_layers = pushed (of_overlay true has_fit_layers) conditions.overlays.fit_layers
               (fit_layers world task places walked passed);
           plain_layers = pushed (of_overlay true (λ o. list_all (is_plain_layer nat_eq later) (layers_of o)))
               (plain_filesystems world.filesystems conditions.overlays.plain_layers)
               (all_plain_later (layers_of overlay) plain);
           changed_apart = changed_stay_apart
-              (evens fresh) world overlay places conditions are_layers plain even_distinct unused passes;
+              (evens fresh) world overlay places conditions are_layers plain (evens-distinct fresh are_new.distinct)
+              unused passes;
           lowers_apart = lowers_stay_apart
-              (evens fresh) world overlay places conditions are_layers plain even_distinct unused passes;
+              (evens fresh) world overlay places conditions are_layers plain (evens-distinct fresh are_new.distinct)
+              unused passes;
           uppers_reached = uppers_later;
         }
 

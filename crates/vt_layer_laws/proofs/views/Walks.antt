@@ -10,6 +10,7 @@ use Rattle.vt_layer_laws.specs.Layers.Views.{goes_through, names_entry}
 use Rattle.vt_layer_laws.proofs.layers.ShownFronts.{list_any_of_map}
 use Rattle.vt_layer_laws.proofs.views.Entries.{is_entry, is_that_entry}
 use Rattle.vt_spec.proofs.Options.{none_is_some, option_and_then-Some}
+use Rattle.vt_spec.proofs.Lists.{list_any-never}
 
 -- what starts at a directory of a tree
 abbrev pub view_from : Tree ℕ → ℕ → View ℕ
@@ -59,10 +60,6 @@ module _ (tree : Tree ℕ) (directory : ℕ) (name : List ℕ) where
   any_alike one other same [] = refl
   any_alike one other same (a ∷ list) = λ i. same a i || any_alike one other same list i
 
-  none_passes : {A : Type 0} (list : List A) → list_any (λ a. false) list ≡ false
-  none_passes [] = refl
-  none_passes (a ∷ list) = none_passes list
-
   -- fronts have a word
   fronts_alike : (one other : List (List ℕ) → Bool)
       → ((word : List ℕ) (rest : List (List ℕ)) → one (word ∷ rest) ≡ other (word ∷ rest))
@@ -90,7 +87,7 @@ module _ (tree : Tree ℕ) (directory : ℕ) (name : List ℕ) where
           → goes_through (view_from tree inner) directory name rest ≡ passes inner rest)
           → list_any (λ front. holds_of (λ inner. names_entry (view_from tree inner) directory name front) o)
           (fronts rest) ≡ holds_of (λ inner. passes inner rest) o
-      by None later = none_passes (fronts rest)
+      by None later = list_any-never (fronts rest)
       by (Some inner) later = later inner
 
   -- a path that passes has a way to the directory, and the name behind it

@@ -8,8 +8,9 @@ use Rattle.vt_spec.specs.Machine.Mounts.{Location, Mount, detached, is_shared, m
 use Rattle.vt_spec.specs.Machine.Receives.{regrouped}
 use Rattle.vt_spec.specs.Machine.World.{World, mount_at, mount_numbered, with_mounts}
 use Rattle.vt_letting_go.specs.Detaching.{StandsUnshared, UnmountIsOfOne, detached_if, without_place}
-use Rattle.vt_letting_go.proofs.Lists.{Among, fails, map_alike}
+use Rattle.vt_letting_go.proofs.Lists.{Among, fails}
 use Rattle.vt_spec.proofs.Worlds.{number-mount_in}
+use Rattle.vt_spec.proofs.Lists.{map_alike}
 
 -- The unmount of one mount
 module _ (world : World ℕ) (number : ℕ) (alone : has_child nat_eq world number ≡ false) where

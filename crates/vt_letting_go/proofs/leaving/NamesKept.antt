@@ -26,6 +26,7 @@ use Rattle.vt_letting_go.specs.InUse.{IsListedTree}
 use Rattle.vt_letting_go.specs.TreeChanges.{ChangesTree}
 use Rattle.vt_letting_go.proofs.Lists.{Among, all_pass, among-filter, among-flat_map, among-from_flat_map, among-from_map, among-map, among_numbers, is_among_numbers, or_first, or_second}
 use Rattle.vt_spec.proofs.NodeChanges.{entries-node_with_attr, entries-node_with_mark, entries-node_with_parent, is_directory-node_with_parent, is_directory-node_without_entry}
+use Rattle.vt_spec.proofs.Worlds.{root-without_parent, numbers-without_parent}
 
 abbrev Entry : Type 0
 Entry = List ℕ × ℕ
@@ -391,14 +392,6 @@ module _ (files : FileTree ℕ) (listed : IsListedTree files) where
     abbrev last : FileTree ℕ
     last = changed nat_eq files (Move from old to new object)
 
-    numbers_apart : (o : Option ℕ) → (without_parent nat_eq files o).numbers ≡ files.numbers
-    numbers_apart None = refl
-    numbers_apart (Some one) = refl
-
-    root_apart : (o : Option ℕ) → (without_parent nat_eq files o).tree.root ≡ files.tree.root
-    root_apart None = refl
-    root_apart (Some one) = refl
-
     same_apart : (d : ℕ) → entries_at apart d ≡ entries_at files d
     same_apart = same_entries_unparented files replaced
 
@@ -406,7 +399,7 @@ module _ (files : FileTree ℕ) (listed : IsListedTree files) where
     same_last = same_entries placed object (node_with_parent to) (entries-node_with_parent to)
 
     numbers_last : last.numbers ≡ files.numbers
-    numbers_last = numbers_apart replaced
+    numbers_last = numbers-without_parent files replaced
 
     -- what the new name leads to once the old one is taken, it led to before
     was_there : (number : ℕ) → entry_at left.tree to new ≡ Some number → replaced ≡ Some number
@@ -477,7 +470,7 @@ module _ (files : FileTree ℕ) (listed : IsListedTree files) where
     moves_so : IsListedTree last → ChangesTree files last (option_to_list replaced)
     moves_so after = record {
       tree = after;
-      root = root_apart replaced;
+      root = root-without_parent files replaced;
       inodes = same_numbers files last numbers_last;
       names = all_names files last (option_to_list replaced) left_so;
     }

@@ -85,10 +85,6 @@ nowhere_parts mount h e = by (is_some mount.namespace) e (is_some mount.mount_po
     by false f true k g = absurd (true≢false (sym g))
     by false f false k g = (refl, g)
 
-pub its_group : (group : ℕ) (own : Option ℕ) → holds_of (nat_eq group) own ≡ true → own ≡ Some group
-its_group group None e = absurd (true≢false (sym e))
-its_group group (Some one) e = ap Some (sym (eqb-true group one e))
-
 pub placed_is_attached : (mount : Mount ℕ) → is_nowhere_or_attached mount ≡ true → (place : Location ℕ)
     → mount.mount_point ≡ Some place → is_some mount.namespace ≡ true
 placed_is_attached mount h place p =

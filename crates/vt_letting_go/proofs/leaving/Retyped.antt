@@ -21,10 +21,11 @@ use Rattle.vt_letting_go.specs.Retyping.{SetTypesLetGo, groups_of_types}
 use Rattle.vt_letting_go.proofs.mounting.AttachedSwept.{of_tree}
 use Rattle.vt_letting_go.proofs.leaving.Detached.{found-map, not_found-map}
 use Rattle.vt_letting_go.proofs.mounting.Unmounted.{no_members}
-use Rattle.vt_letting_go.proofs.Lists.{Among, all_pass, among-from_filter, among-from_flat_map, among-from_map, among-map, any_passes, is_among_numbers, map_twice, one_passes, or_first, passes}
+use Rattle.vt_letting_go.proofs.Lists.{Among, all_pass, among-from_filter, among-from_flat_map, among-from_map, among-map, any_passes, is_among_numbers, one_passes, or_first, passes}
 use Rattle.vt_letting_go.proofs.mounting.MountingLosers.{Loses, changed}
 use Rattle.vt_letting_go.proofs.mounting.MountingOverlays.{only_groups_go}
 use Rattle.vt_letting_go.proofs.leaving.PlacesLeft.{found_is_there, found_itself, nowhere_parts}
+use Rattle.vt_spec.proofs.Lists.{map_twice}
 
 -- the masters of groups that are not new stay
 old_masters : (group : ℕ → ℕ) (mounts : List (Mount ℕ)) (master : ℕ → Option ℕ) (one : ℕ)

@@ -13,9 +13,10 @@ use Rattle.vt_letting_go.specs.InUse.{AllInUse, GroupsInUse, is_inode_used}
 use Rattle.vt_letting_go.specs.Keeping.{FlagsAreOfOne, FlagsKeepAll, KeepsUses, SetFlagsKeepAll, TypesKeepAll, flags_if}
 use Rattle.vt_letting_go.proofs.leaving.Detached.{found-map, not_found-map}
 use Rattle.vt_letting_go.proofs.sweeps.InUse.{nothing_goes}
-use Rattle.vt_letting_go.proofs.Lists.{Among, all_from_among, all_pass, among-from_map, among_from_all, any-map, map_alike, map_twice, passes}
+use Rattle.vt_letting_go.proofs.Lists.{Among, all_from_among, all_pass, among-from_map, among_from_all, any-map, passes}
 use Rattle.vt_letting_go.proofs.leaving.PlacesLeft.{found_itself}
 use Rattle.vt_spec.proofs.Worlds.{number-mount_in}
+use Rattle.vt_spec.proofs.Lists.{map_alike, map_twice}
 
 module _ (world : World ℕ) (change : Mount ℕ → Mount ℕ) (master : ℕ → Option ℕ) (keeps : KeepsUses change) where
   abbrev after : World ℕ

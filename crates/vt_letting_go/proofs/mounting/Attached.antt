@@ -16,11 +16,12 @@ use Rattle.vt_spec.specs.Machine.Invariants.{is_nowhere_or_attached}
 use Rattle.vt_letting_go.specs.InUse.{AllInUse, GroupsInUse}
 use Rattle.vt_letting_go.specs.Keeping.{LocationsStand}
 use Rattle.vt_letting_go.specs.Leaving.{MountsStand}
-use Rattle.vt_letting_go.proofs.Lists.{Among, all_pass, among-append, among-append_left, among-append_right, among-flat_map, among-from_filter, among-from_filter_map, among-from_flat_map, among-from_map, among-map, any_passes, found_in, map_twice, none_passes, or_first, passes}
+use Rattle.vt_letting_go.proofs.Lists.{Among, all_pass, among-append, among-append_left, among-append_right, among-flat_map, among-from_filter, among-from_filter_map, among-from_flat_map, among-from_map, among-map, any_passes, found_in, none_passes, or_first, passes}
 use Rattle.vt_letting_go.proofs.mounting.MountingLosers.{Loses, StillAPlace, places_of, places_stand}
 use Rattle.vt_letting_go.proofs.leaving.PlacesLeft.{found_itself, nowhere_parts}
 use Rattle.vt_spec.proofs.Worlds.{number-mount_in, same_location_is}
 use Rattle.std.proofs.lemmas.List.{map-id}
+use Rattle.vt_spec.proofs.Lists.{map_twice}
 
 -- Mounts that are replaced by those of their numbers
 abbrev swapped : List (Mount ℕ) → Mount ℕ → Mount ℕ

@@ -13,13 +13,12 @@ use Rattle.vt_spec.specs.Machine.Receives.{groups_up, receivers, receives}
 use Rattle.vt_spec.specs.Machine.Settled.{is_located, mount_lives, settled}
 use Rattle.vt_spec.specs.Machine.World.{World, mount_at, mount_numbered}
 use Rattle.vt_spec.proofs.Found.{filter_alike}
-use Rattle.vt_spec.proofs.Lists.{filter_skip}
 use Rattle.vt_spec.proofs.Options.{none_from_not_some}
 use Rattle.vt_spec.proofs.Worlds.{filesystems-taken_away, found_or_none, number-mount_in}
 use Rattle.vt_letting_go.specs.Leaving.{MountsStand}
 use Rattle.vt_letting_go.specs.Several.{GoingIsNotSwept, OneSweepForAllEvents, OneSweepForAllEventsWithOverlays, OneSweepForEvents, OneSweepForEventsWithOverlays}
 use Rattle.vt_letting_go.proofs.Chains.{chains_alike}
-use Rattle.vt_letting_go.proofs.Lists.{Among, among_from_all, passes}
+use Rattle.vt_letting_go.proofs.Lists.{Among, among_from_all, passes, filter_less}
 use Rattle.vt_letting_go.proofs.leaving.LeftOneByOne.{plain_reals, plain_uppers}
 use Rattle.vt_letting_go.proofs.leaving.PlacesLeft.{found_is_there, found_itself, nowhere_parts, place_attached}
 use Rattle.vt_letting_go.proofs.mounting.MountsSwept.{IsAttached, LivesIn, first_mounts, groups_there, mounts_stand, of_world, same_found, shorter, unused_private, way_up}
@@ -29,16 +28,6 @@ use Rattle.std.proofs.lemmas.Bool.{or_parts}
 
 -- A search that passes over what another test skips finds the same.
 module _ {A : Type 0} (p q : A → Bool) where
-  filter_less : (xs : List A) → ((x : A) → Among x xs → q x ≡ false → p x ≡ false)
-      → filter p (filter q xs) ≡ filter p xs
-  filter_less [] h = refl
-  filter_less (y ∷ ys) h = by (q y) refl (filter_less ys (λ x m. h x (inr m)))
-    where
-      by : (b : Bool) → q y ≡ b → filter p (filter q ys) ≡ filter p ys
-          → filter p (cond b (y ∷ filter q ys) (filter q ys)) ≡ filter p (y ∷ ys)
-      by true e later = ap (λ l. cond (p y) (y ∷ l) l) later
-      by false e later = later ∙ sym (filter_skip p y ys (h y (inl refl) e))
-
   find_less : (xs : List A) → ((x : A) → Among x xs → q x ≡ false → p x ≡ false)
       → find p (filter q xs) ≡ find p xs
   find_less [] h = refl

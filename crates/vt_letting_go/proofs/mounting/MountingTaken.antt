@@ -16,9 +16,10 @@ use Rattle.vt_letting_go.specs.Leaving.{IsSettledPlain, MountsStand}
 use Rattle.vt_letting_go.specs.Mounting.{EndingLetsGo, TakingAwayLetsGo, ended_mounts, loses_its_place, places_lost, used_by_mounts}
 use Rattle.vt_letting_go.specs.OneByOne.{GroupsInUseBut, let_go}
 use Rattle.vt_letting_go.proofs.leaving.Detached.{found-map, not_found-map}
-use Rattle.vt_letting_go.proofs.Lists.{all_pass, among-filter, among-filter_map, among-from_map, among-map, map_twice, passes}
+use Rattle.vt_letting_go.proofs.Lists.{all_pass, among-filter, among-filter_map, among-from_map, among-map, passes}
 use Rattle.vt_letting_go.proofs.mounting.MountingLosers.{Loses, changed, losers_go}
 use Rattle.vt_letting_go.proofs.leaving.PlacesLeft.{nowhere_parts}
+use Rattle.vt_spec.proofs.Lists.{map_twice}
 
 module _ (world : World ℕ) (gone : List ℕ) (namespaces : List (Namespace ℕ)) where
   abbrev pub without : World ℕ

@@ -15,8 +15,8 @@ use Rattle.vt_spec.specs.Machine.World.{World, mount_at, mount_numbered}
 use Rattle.vt_letting_go.specs.Leaving.{MountsStand, stands_on_attached}
 use Rattle.vt_letting_go.proofs.Chains.{Way}
 use Rattle.vt_letting_go.proofs.Chains.Way.{ends, goes_on}
-use Rattle.vt_letting_go.proofs.Lists.{Among, all_pass, among-filter, among-from_filter, among-map, among_from_all, any-filter, one_passes, or_first, passes}
-use Rattle.vt_letting_go.proofs.leaving.PlacesLeft.{found_in_filter, found_is_there, found_itself, its_group, nowhere_parts, placed_is_attached, private_is_no_member}
+use Rattle.vt_letting_go.proofs.Lists.{Among, all_pass, among-filter, among-from_filter, among-map, among_from_all, any-filter, one_passes, or_first, passes, held_number}
+use Rattle.vt_letting_go.proofs.leaving.PlacesLeft.{found_in_filter, found_is_there, found_itself, nowhere_parts, placed_is_attached, private_is_no_member}
 use Rattle.vt_spec.proofs.Worlds.{number-mount_in}
 
 -- By their invariants mounts stand, each on one of its namespace.
@@ -130,7 +130,7 @@ module _ (world : World ℕ) (kept : MountInvariants nat_eq world) where
   group_there group has =
       let t = one_passes (is_member_of nat_eq group) first_mounts (members_first group ∙ has) in
       subst (λ n. Among n groups_there)
-      (ap (λ o. unwrap_or o 0) (its_group group (group_of t.0.propagation) t.2))
+      (ap (λ o. unwrap_or o 0) (held_number group (group_of t.0.propagation) t.2))
       (among-map (λ (mount : Mount ℕ). unwrap_or (group_of mount.propagation) 0) first_mounts t.0 t.1)
 
   pub way_up : (group : ℕ) → LivesIn group

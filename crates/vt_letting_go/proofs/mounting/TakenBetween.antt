@@ -20,20 +20,17 @@ use Rattle.vt_letting_go.specs.Leaving.{MountsStand, comes_nowhere, with_tasks}
 use Rattle.vt_letting_go.specs.Overlays.{RealsAreThere}
 use Rattle.vt_letting_go.proofs.Chains.{Way, chains_alike}
 use Rattle.vt_letting_go.proofs.Chains.Way.{ends, goes_on}
-use Rattle.vt_letting_go.proofs.Lists.{Among, among-append, among-append_left, among-append_right, among-filter, among-filter_map, among-from_filter, among-from_filter_map, among-from_map, among-map, among_from_all, any-filter, any-map, any_passes, filter-map, filter_twice, map_alike, one_passes, or_first, or_second, passes}
+use Rattle.vt_letting_go.proofs.Lists.{Among, among-append, among-append_left, among-append_right, among-filter, among-filter_map, among-from_filter, among-from_filter_map, among-from_map, among-map, among_from_all, any-filter, any-map, any_passes, filter-map, filter_twice, one_passes, or_first, or_second, passes, held_number}
 use Rattle.vt_letting_go.proofs.SweptBetween.{SameUses, follows, one_sweep_after_both, with_parts}
-use Rattle.vt_letting_go.proofs.leaving.PlacesLeft.{found_in_filter, found_is_there, found_itself, its_group, place_attached, placed_is_attached, private_is_no_member, was_located}
+use Rattle.vt_letting_go.proofs.leaving.PlacesLeft.{found_in_filter, found_is_there, found_itself, place_attached, placed_is_attached, private_is_no_member, was_located}
 use Rattle.vt_letting_go.proofs.leaving.TreesWithOverlays.{any_changed}
 use Rattle.vt_letting_go.proofs.mounting.MountingTaken
 use Rattle.vt_letting_go.proofs.mounting.MountingTaken.{is_changed, same_filesystem, same_namespace, same_number, same_root, shows_the_same}
 use Rattle.vt_letting_go.proofs.mounting.MountsSwept
-use Rattle.vt_letting_go.proofs.mounting.MountsSwept.{attached_lives, master_kept, master_of, mounts_stand, number_there, of_world, same_found, shorter, standing_at, unused_private, members_first, way_up}
+use Rattle.vt_letting_go.proofs.mounting.MountsSwept.{attached_lives, master_kept, master_of, mounts_stand, number_there, of_world, same_found, shorter, standing_at, unused_private, way_up}
 use Rattle.vt_letting_go.proofs.mounting.Unmounted.{does_not_go}
-use Rattle.vt_spec.proofs.Lists.{chain_ends, chain_goes_on, find_agrees, last_of_chain}
-
-none_of : {A : Type 0} (b : Bool) (o : Option A) → o ≡ None → cond b o None ≡ None
-none_of true o e = e
-none_of false o e = refl
+use Rattle.vt_spec.proofs.Lists.{chain_ends, chain_goes_on, find_agrees, last_of_chain, map_alike}
+use Rattle.vt_spec.proofs.Options.{cond-None}
 
 module _ (world : World ℕ) (tasks : List (Task ℕ)) (namespaces : List (Namespace ℕ)) (gone : List ℕ)
     (kept : MountInvariants nat_eq world) (nowhere_new : comes_nowhere world tasks ≡ true) where
@@ -72,8 +69,8 @@ module _ (world : World ℕ) (tasks : List (Task ℕ)) (namespaces : List (Names
       → IsAttached place.mount → WayDown place
   way_down number (at_root it e) place same attached =
       ends place
-      (none_of (is_going nat_eq gone place.mount) (mount_in nat_eq world.mounts place.mount).mount_point root)
-      (none_of (is_going nat_eq gone place.mount) (mount_in nat_eq first_mounts place.mount).mount_point
+      (cond-None (is_going nat_eq gone place.mount) (mount_in nat_eq world.mounts place.mount).mount_point root)
+      (cond-None (is_going nat_eq gone place.mount) (mount_in nat_eq first_mounts place.mount).mount_point
       (ap (λ (x : Mount ℕ). x.mount_point) (same_found world kept place.mount attached) ∙ root))
     where
       root : (mount_in nat_eq world.mounts place.mount).mount_point ≡ None
@@ -347,14 +344,14 @@ module _ (world : World ℕ) (tasks : List (Task ℕ)) (namespaces : List (Names
 
       by : (kind : Propagation ℕ) → holds_of (nat_eq group) (group_of (inherited nat_eq before kind)) ≡ true
           → source_of kind ≡ Some group
-      by (Shared own) f = its_group group (Some own) f
+      by (Shared own) f = held_number group (Some own) f
       by (Slave master) f = absurd (true≢false (sym f ∙ no_member (heir nat_eq before (Some master))))
       by Private f = absurd (true≢false (sym f))
       by Unbindable f = absurd (true≢false (sym f))
   member_was false mount group e = by (going mount).propagation e
     where
       by : (kind : Propagation ℕ) → holds_of (nat_eq group) (group_of kind) ≡ true → source_of kind ≡ Some group
-      by (Shared own) f = its_group group (Some own) f
+      by (Shared own) f = held_number group (Some own) f
       by (Slave master) f = absurd (true≢false (sym f))
       by Private f = absurd (true≢false (sym f))
       by Unbindable f = absurd (true≢false (sym f))

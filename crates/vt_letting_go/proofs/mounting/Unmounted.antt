@@ -16,13 +16,14 @@ use Rattle.vt_letting_go.specs.Leaving.{IsSettledPlain, MountsStand}
 use Rattle.vt_letting_go.specs.Mounting.{loses_its_place, places_lost}
 use Rattle.vt_letting_go.specs.OneByOne.{GroupsInUseBut, let_go}
 use Rattle.vt_letting_go.proofs.leaving.Detached.{found-map, not_found-map}
-use Rattle.vt_letting_go.proofs.Lists.{Among, all_pass, among-filter, among-filter_map, among-from_map, among-map, any_passes, is_among_numbers, map_same, map_twice, none_passes, or_first, or_second, passes}
+use Rattle.vt_letting_go.proofs.Lists.{Among, all_pass, among-filter, among-filter_map, among-from_map, among-map, any_passes, is_among_numbers, map_same, none_passes, or_first, or_second, passes, held_number}
 use Rattle.vt_letting_go.proofs.mounting.MountingLosers.{Loses, StillAPlace, changed, losers_go}
 use Rattle.vt_letting_go.proofs.mounting.MountingTaken.{is_changed, nowhere_after, same_filesystem, same_namespace, same_namespaces, same_number, same_place, same_root, stays, taking_away_lets_go}
 use Rattle.vt_letting_go.proofs.mounting.MountingTaken
-use Rattle.vt_letting_go.proofs.leaving.PlacesLeft.{found_is_there, found_itself, its_group, nowhere_parts, placed_is_attached, private_is_no_member, place_attached}
+use Rattle.vt_letting_go.proofs.leaving.PlacesLeft.{found_is_there, found_itself, nowhere_parts, placed_is_attached, private_is_no_member, place_attached}
 use Rattle.std.proofs.lemmas.Bool.{or_parts}
 use Rattle.vt_spec.proofs.Worlds.{number-mount_in}
+use Rattle.vt_spec.proofs.Lists.{map_twice}
 
 -- Where the other mounts stay in their groups, a group that is none of those of the mounts that went and has no members
 -- had none, and no master
@@ -41,7 +42,7 @@ no_members world after gone in_use stay group among none =
     (among-filter_map (λ x. group_of x.propagation)
     (filter (λ x. is_among nat_eq x.number gone) world.mounts) mount group
     (among-filter (λ x. is_among nat_eq x.number gone) world.mounts mount m went)
-    (its_group group (group_of mount.propagation) is))) ∙ among))
+    (held_number group (group_of mount.propagation) is))) ∙ among))
     (λ kept. true≢false (sym (stay mount m kept group is) ∙ none))
     (cases_Bool (is_among nat_eq mount.number gone)))))
 

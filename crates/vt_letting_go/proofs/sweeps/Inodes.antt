@@ -17,11 +17,12 @@ use Rattle.vt_letting_go.proofs.sweeps.InUse.{UnusedAreEmpty, unused_are_empty}
 use Rattle.vt_letting_go.proofs.sweeps.Merged.{named_without}
 use Rattle.vt_spec.specs.Machine.Settled.{objects_of_overlay}
 use Rattle.vt_letting_go.proofs.sweeps.InUse.{no_objects}
-use Rattle.vt_letting_go.proofs.Lists.{Among, flat_map_none, any-filter, among-from_filter, among-from_map, among_from_all, among_numbers, fails, filter_twice, flat_map-map, map_alike, map_same, map_twice, none_passes, passes}
+use Rattle.vt_letting_go.proofs.Lists.{Among, flat_map_none, any-filter, among-from_filter, among-from_map, among_from_all, among_numbers, fails, filter_twice, flat_map-map, map_same, none_passes, passes}
 use Rattle.vt_letting_go.proofs.sweeps.OneByOne.{filesystems_go_one_by_one, groups_go_one_by_one, mounts_go_one_by_one}
 use Rattle.vt_spec.proofs.Options.{none_from_not_some}
 use Rattle.vt_spec.proofs.Found.{filter_alike, filter_all}
 use Rattle.std.proofs.Math.Bool.{not-not}
+use Rattle.vt_spec.proofs.Lists.{map_alike, map_twice}
 
 -- a filesystem without the inodes that a test names
 abbrev pub without_those : (ℕ → Bool) → Filesystem ℕ → Filesystem ℕ

@@ -6,9 +6,10 @@ use Rattle.vt_spec.specs.Machine.Settled.{filesystem_lives, is_located, mount_li
 use Rattle.vt_spec.specs.Machine.World.{Filesystem, filesystem_numbered, mount_numbered, no_filesystem, with_mounts}
 use Rattle.vt_letting_go.specs.InUse.{is_inode_used}
 use Rattle.vt_letting_go.specs.OneByOne.{FilesystemIsLookedUp, GroupIsLookedUp, InodeIsLookedUp, MountIsLookedUp, is_filesystem_used, is_inode_used_in, is_mount_used, let_go_filesystem, let_go_group, let_go_inode, let_go_inode_of, let_go_mount, without_filesystem, without_inode, without_inode_at, without_inode_in, without_master, without_mount}
-use Rattle.vt_letting_go.proofs.Lists.{Among, found_by, map_alike, map_same}
+use Rattle.vt_letting_go.proofs.Lists.{Among, found_by, map_same}
 use Rattle.vt_letting_go.proofs.leaving.PlacesLeft.{found_itself}
 use Rattle.vt_spec.proofs.Found.{filter_alike, filter_all}
+use Rattle.vt_spec.proofs.Lists.{map_alike}
 
 kept_used : (same lives : Bool) → (same ≡ true → lives ≡ true) → (not same || lives) ≡ true
 kept_used true lives h = h refl

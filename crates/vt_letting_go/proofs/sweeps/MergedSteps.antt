@@ -12,8 +12,9 @@ use Rattle.vt_letting_go.specs.OneByOne.{Inode, is_inode_among, is_used_or_among
 use Rattle.vt_letting_go.specs.Overlays.{let_go_in, let_go_in_of, without_inode_of}
 use Rattle.vt_letting_go.proofs.sweeps.InUse.{UnusedAreEmpty}
 use Rattle.vt_letting_go.proofs.sweeps.Inodes.{goes_of, goes_on}
-use Rattle.vt_letting_go.proofs.Lists.{Among, among-from_map, among_numbers, flat_map-step, map_alike, map_same, map_twice, passes}
+use Rattle.vt_letting_go.proofs.Lists.{Among, among-from_map, among_numbers, flat_map-step, map_same, passes}
 use Rattle.vt_letting_go.proofs.sweeps.Merged.{HasReals, left_of, named_without, reals_without, same_without, without_all, without_both, without_nothing}
+use Rattle.vt_spec.proofs.Lists.{map_alike, map_twice}
 
 pub layers_without : (gone : ℕ → Bool) (filesystem : Filesystem ℕ)
     → of_overlay [] layers_of (without_all gone filesystem) ≡ of_overlay [] layers_of filesystem

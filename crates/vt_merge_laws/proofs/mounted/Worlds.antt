@@ -50,6 +50,7 @@ use Rattle.vt_merge_laws.specs.MountedAnew.{MountingLeavesAWorld}
 use Rattle.vt_merge_laws.proofs.mounted.Left.{mounting_lets_nothing_go}
 use Rattle.vt_layer_laws.proofs.mounting.Kept.{mounting_keeps_overlays, mounting_keeps_trees}
 use Rattle.vt_spec.proofs.Truths.{nat_eq_itself}
+use Rattle.vt_spec.proofs.FreshNumbers.{evens-distinct, served-distinct, served-differ}
 
 -- each of a list is one of the numbers that are handed in
 abbrev AreOf : Fresh ℕ → List ℕ → Type 0
@@ -119,19 +120,9 @@ made_are fresh has_upper layers objects (object ∷ list) =
 module _ (world : World ℕ) (is : IsWorld nat_eq world) (fresh : Fresh ℕ) (serves : Serves nat_eq world fresh)
     (task : Task ℕ)
     (called : task_called world task.name ≡ Some task) where
-  distinct : (j k : ℕ) → fresh j ≡ fresh k → j ≡ k
-  distinct j k e = serves.apart j k (eq-eqb (fresh j) (fresh k) e)
-
-  differ : (j k : ℕ) → (j ≡ k → ⊥) → nat_eq (fresh j) (fresh k) ≡ false
-  differ j k apart = by (nat_eq (fresh j) (fresh k)) refl
-    where
-      by : (b : Bool) → nat_eq (fresh j) (fresh k) ≡ b → b ≡ false
-      by false e = refl
-      by true e = absurd (apart (serves.apart j k e))
-
   pub are_new : AreNewNumbers fresh world
   are_new = record {
-    distinct = distinct;
+    distinct = served-distinct world fresh serves;
     unused = λ k. none_from_among (nat_eq (fresh k)) (map (λ (f : Filesystem ℕ). f.number) world.filesystems)
         (λ number m.
         let from = among-from_map (λ (f : Filesystem ℕ). f.number) world.filesystems number m in
@@ -144,9 +135,6 @@ module _ (world : World ℕ) (is : IsWorld nat_eq world) (fresh : Fresh ℕ) (se
 
     abbrev larger : World ℕ
     larger = with_new_filesystem world new
-
-    even_distinct : (j k : ℕ) → evens fresh j ≡ evens fresh k → j ≡ k
-    even_distinct j k e = let same = distinct _ _ e in omega (arith, same)
 
     abbrev opened : List (OpenLayer ℕ)
     opened = map (open_layer nat_eq world) (shown_layers overlay)
@@ -166,7 +154,7 @@ module _ (world : World ℕ) (is : IsWorld nat_eq world) (fresh : Fresh ℕ) (se
     not_used : (k number : ℕ) → Among number (used_by_filesystem new) → nat_eq (odds fresh k) number ≡ false
     not_used k number m =
         let even = made_even number m in
-        ap (nat_eq (odds fresh k)) even.1 ∙ differ (2 * k + 1) (2 * even.0) (apart even.0)
+        ap (nat_eq (odds fresh k)) even.1 ∙ served-differ world fresh serves (2 * k + 1) (2 * even.0) (apart even.0)
       where
         apart : (j : ℕ) → 2 * k + 1 ≡ 2 * j → ⊥
         apart j e = omega (arith, e)
@@ -267,7 +255,8 @@ module _ (world : World ℕ) (is : IsWorld nat_eq world) (fresh : Fresh ℕ) (se
           ((unwrap_or o (no_filesystem new.number)).files.tree.node new.files.tree.root))
           (find_new (λ (f : Filesystem ℕ). nat_eq new.number f.number) world.filesystems new
           (not_found new.number world.filesystems (are_new.unused (2 * (2 * 0)))) (nat_eq_itself new.number))
-          ∙ (new_overlay_is_tree (evens fresh) world overlay is are_layers even_distinct).root_directory
+          ∙ (new_overlay_is_tree (evens fresh) world overlay is are_layers
+          (evens-distinct fresh (served-distinct world fresh serves))).root_directory
 
       at_place : IsPlace world place
       at_place = record { listed = there; directory = destination.directory.directory }

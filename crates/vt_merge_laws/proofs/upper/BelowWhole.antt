@@ -26,7 +26,7 @@ use Rattle.vt_overlay_laws.specs.WholeChanges.{IsAskedWell}
 use Rattle.vt_overlay_laws.proofs.whole.UpperWhole.{changes_keep_whole}
 use Rattle.vt_overlay_laws.proofs.steps.WholeLines.{object_copied}
 use Rattle.vt_overlay_laws.proofs.steps.WholeNames.{through_free}
-use Rattle.vt_overlay_laws.proofs.changes.WholeTogether.{IsReadyToMove, both_copied, is_copied, odd_distinct, stands_now, still_unused, twice}
+use Rattle.vt_overlay_laws.proofs.changes.WholeTogether.{IsReadyToMove, both_copied, is_copied, stands_now, still_unused, twice}
 use Rattle.vt_merge_laws.specs.UpperChanges.{AreNew, LeadsToDirectory, directory_below, layers_with, seen_below}
 use Rattle.vt_merge_laws.specs.UpperCalls.{Asks, ChangeAt}
 use Rattle.vt_merge_laws.specs.UpperCalls.Asks.{copies, links, makes, moves, removes, sets_attr, sets_bytes, sets_mark}
@@ -37,6 +37,7 @@ use Rattle.vt_merge_laws.proofs.upper.BelowRemoved.{moved_kept, new_ends, old_en
 use Rattle.vt_merge_laws.proofs.upper.UpperKinds.{even_new}
 use Rattle.vt_merge_laws.proofs.upper.Places.{directory_below_any}
 use Rattle.vt_merge_laws.proofs.upper.Worlds.{changes_are_by_layers}
+use Rattle.vt_spec.proofs.FreshNumbers.{odds-distinct}
 
 module _ (fresh : Fresh ℕ) (stack : Stack ℕ) (merge : Merge ℕ) (whole : IsWhole stack merge)
     (new : AreNew fresh merge.upper) where
@@ -53,7 +54,7 @@ module _ (fresh : Fresh ℕ) (stack : Stack ℕ) (merge : Merge ℕ) (whole : Is
   odds_new : (object : ℕ) → IsThere merge.files object
       → AreNew (odds fresh) (copied_up nat_eq (evens fresh) merge object).upper
   odds_new object there = record {
-    distinct = odd_distinct fresh new.distinct;
+    distinct = odds-distinct fresh new.distinct;
     unused = still_unused fresh stack merge whole new.distinct new.unused object there;
   }
 

@@ -35,6 +35,7 @@ use Rattle.std.proofs.lemmas.Option.{same_Some}
 use Rattle.vt_spec.proofs.Options.{none_is_some}
 use Rattle.vt_layer_laws.proofs.layers.CopyingLast.{copied_one_more}
 use Rattle.vt_spec.proofs.Worlds.{nothing_is_no_object}
+use Rattle.vt_spec.proofs.Lists.{folded-snoc}
 
 module _ (files : FileTree ℕ) (tree : IsTree files.tree) (numbers : ListsNumbers nat_eq files) where
   -- the directories above one are as many as there are steps to it
@@ -314,17 +315,12 @@ fronts_longer (first ∷ path) name =
     ap (λ l. (first ∷ []) ∷ map (λ front. first ∷ front) l) (fronts_longer path name)
     ∙ ap (λ l. (first ∷ []) ∷ l) (map-append (λ front. first ∷ front) (fronts path) ((path ++ name ∷ []) ∷ []))
 
-folded_last : {A B : Type 0} (add : B → A → B) (b : B) (list : List A) (last : A)
-    → folded add b (list ++ last ∷ []) ≡ add (folded add b list) last
-folded_last add b [] last = refl
-folded_last add b (a ∷ list) last = folded_last add (add b a) list last
-
 pub copied_longer : (fresh : Fresh ℕ) (stack : Stack ℕ) (upper : FileTree ℕ) (path : List (List ℕ)) (name : List ℕ)
     → copied_to fresh stack upper (path ++ name ∷ []) ≡ copied_at fresh stack (copied_to fresh stack upper path)
     (path ++ name ∷ [])
 copied_longer fresh stack upper path name =
     ap (folded (copied_at fresh stack) upper) (fronts_longer path name)
-    ∙ folded_last (copied_at fresh stack) upper (fronts path) (path ++ name ∷ [])
+    ∙ folded-snoc (copied_at fresh stack) upper (fronts path) (path ++ name ∷ [])
 
 -- where the upper layer has the object of a path, nothing is copied
 led_before : (tree : Tree ℕ) (from : ℕ) (path : List (List ℕ)) (name : List ℕ)

@@ -19,13 +19,14 @@ use Rattle.vt_overlay_laws.proofs.steps.WholeAttributes.{upper_real}
 use Rattle.vt_overlay_laws.proofs.steps.WholeLines.{IsCopied, object_copied, stands_copied}
 use Rattle.vt_overlay_laws.proofs.steps.WholeNames.{above_named, directory_above as directory_stands, named_above}
 use Rattle.vt_overlay_laws.proofs.steps.WholePlaces.{path_to_is}
-use Rattle.vt_overlay_laws.proofs.changes.WholeTogether.{even_distinct, odd_distinct, still_unused, twice}
+use Rattle.vt_overlay_laws.proofs.changes.WholeTogether.{still_unused, twice}
 use Rattle.vt_merge_laws.specs.UpperChanges.{AreNew, AttrIsSetAbove, BytesAreSetAbove, LeadsToDirectory, LinkedAbove, MadeAbove, object_of, MarkIsSetAbove, MovedAbove, OpenedIsCopied, RemovedAbove, copied_to, directory_above, directory_below, layers_with, led_above, linked_in, moved_in, object_above, seen_below, IsAt, Place, upper_with}
 use Rattle.vt_merge_laws.specs.UpperChanges.Place.{Named}
 use Rattle.vt_merge_laws.proofs.upper.Places.{at_place, copies_hide_nothing, path_there}
 use Rattle.std.proofs.lemmas.Option.{same_Some}
 use Rattle.vt_spec.proofs.NodeChanges.{directory_no_whiteout}
 use Rattle.vt_spec.proofs.Options.{none_is_some}
+use Rattle.vt_spec.proofs.FreshNumbers.{evens-distinct, odds-distinct}
 
 -- Of an overlay that is whole
 module _ (stack : Stack ℕ) (c : Merge ℕ) (whole : IsWhole stack c) where
@@ -134,7 +135,7 @@ real_stays fresh k m (first ∷ list) object stands =
 
 -- New numbers, in parts
 pub even_new : (fresh : Fresh ℕ) (upper : FileTree ℕ) → AreNew fresh upper → AreNew (evens fresh) upper
-even_new fresh upper new = record { distinct = even_distinct fresh new.distinct; unused = λ k. new.unused (2 * k) }
+even_new fresh upper new = record { distinct = evens-distinct fresh new.distinct; unused = λ k. new.unused (2 * k) }
 
 -- An object at a path is copied.
 module _ (fresh : Fresh ℕ) (stack : Stack ℕ) (merge : Merge ℕ) (whole : IsWhole stack merge)
@@ -258,7 +259,7 @@ linked_above fresh stack merge whole new old path directory object name is used 
     let says = at_place (evens fresh) stack merge whole one object used old at_old in
     let two : AreNew (odds fresh) first.upper =
     record {
-      distinct = odd_distinct fresh new.distinct;
+      distinct = odds-distinct fresh new.distinct;
       unused = still_unused fresh stack merge whole new.distinct
           new.unused object used;
     } in
@@ -298,7 +299,7 @@ moved_above fresh stack merge whole new from_path to_path from to object old new
     let two : AreNew (evens (odds fresh)) first.upper =
     even_new (odds fresh) first.upper
     (record {
-      distinct = odd_distinct fresh new.distinct;
+      distinct = odds-distinct fresh new.distinct;
       unused = still_unused fresh stack merge whole new.distinct
           new.unused object there;
     }) in

@@ -19,6 +19,7 @@ use Rattle.vt_mount_laws.proofs.ends.UnmountingNamespaces.{in_ended}
 use Rattle.vt_mount_laws.proofs.ends.UnmountingPlaces.{goes_or_may}
 use Rattle.std.proofs.Math.Bool.{and-false}
 use Rattle.vt_spec.proofs.Worlds.{number-after_going, number-mount_in}
+use Rattle.vt_mount_laws.proofs.mounts.MountsCounted.{is_in}
 
 -- Lists that are filtered
 module _ {A : Type 0} where
@@ -92,15 +93,12 @@ module _ (world : World ℕ) (gone : List ℕ) where
       by true e = inl (ap (λ m. m.namespace) (going_is_detached world gone mount e))
       by false e = inr (ap (λ m. m.namespace) (staying_is_placed world gone mount e))
 
-  abbrev lies_in : ℕ → Mount ℕ → Bool
-  lies_in namespace mount = holds_of (nat_eq namespace) mount.namespace
-
   pub taken_has_no_more : HasNoMoreMounts world (taken_away nat_eq world gone)
   taken_has_no_more namespace =
       le-leb _ _
-      (subst (λ mounts. length (filter (lies_in namespace) mounts) ≤ length (filter (lies_in namespace) world.mounts))
+      (subst (λ mounts. length (filter (is_in namespace) mounts) ≤ length (filter (is_in namespace) world.mounts))
       (sym mounts_after)
-      (no_higher_count (lies_in namespace) (lies_in namespace) after_it world.mounts (λ mount e.
+      (no_higher_count (is_in namespace) (is_in namespace) after_it world.mounts (λ mount e.
       ⊎_elim (λ none. absurd (true≢false (sym e ∙ ap (holds_of (nat_eq namespace)) none)))
       (λ same. ap (holds_of (nat_eq namespace)) (sym same) ∙ e)
       (namespace_after mount))))
@@ -121,23 +119,23 @@ module _ (world : World ℕ) (gone : List ℕ) where
       )
 
   abbrev is_root : ℕ → Mount ℕ → Bool
-  is_root namespace mount = lies_in namespace mount && is_root_mount nat_eq mount
+  is_root namespace mount = is_in namespace mount && is_root_mount nat_eq mount
 
   -- root mounts stay where those that go are none, or in another namespace
   pub taken_keeps_roots : (namespace : ℕ)
       → ((mount : Mount ℕ) → Among mount world.mounts → is_going nat_eq gone mount.number ≡ true
-      → (is_some mount.mount_point ≡ true) ⊎ (lies_in namespace mount ≡ false))
+      → (is_some mount.mount_point ≡ true) ⊎ (is_in namespace mount ≡ false))
       → root_mounts_in (taken_away nat_eq world gone) namespace ≡ root_mounts_in world namespace
   taken_keeps_roots namespace placed =
-      ap (λ mounts. length (filter (is_root_mount nat_eq) (filter (lies_in namespace) mounts))) mounts_after
-      ∙ ap length (filter_twice (is_root_mount nat_eq) (lies_in namespace) (map after_it world.mounts))
+      ap (λ mounts. length (filter (is_root_mount nat_eq) (filter (is_in namespace) mounts))) mounts_after
+      ∙ ap length (filter_twice (is_root_mount nat_eq) (is_in namespace) (map after_it world.mounts))
       ∙ same_count (is_root namespace) (is_root namespace) after_it world.mounts
       (λ mount m. by mount m (is_going nat_eq gone mount.number) refl)
-      ∙ sym (ap length (filter_twice (is_root_mount nat_eq) (lies_in namespace) world.mounts))
+      ∙ sym (ap length (filter_twice (is_root_mount nat_eq) (is_in namespace) world.mounts))
     where
-      no_root : (mount : Mount ℕ) → (is_some mount.mount_point ≡ true) ⊎ (lies_in namespace mount ≡ false)
+      no_root : (mount : Mount ℕ) → (is_some mount.mount_point ≡ true) ⊎ (is_in namespace mount ≡ false)
           → is_root namespace mount ≡ false
-      no_root mount (inl e) = ap (λ b. lies_in namespace mount && not b) e ∙ and-false (lies_in namespace mount)
+      no_root mount (inl e) = ap (λ b. is_in namespace mount && not b) e ∙ and-false (is_in namespace mount)
       no_root mount (inr e) = ap (λ b. b && is_root_mount nat_eq mount) e
 
       placed_alike : (place : Option (Location ℕ))
@@ -154,7 +152,7 @@ module _ (world : World ℕ) (gone : List ℕ) where
       by mount m false e =
           ap (λ x. holds_of (nat_eq namespace) x.namespace && not (is_some x.mount_point))
           (staying_is_placed world gone mount e)
-          ∙ ap (λ b. lies_in namespace mount && not b) (placed_alike mount.mount_point)
+          ∙ ap (λ b. is_in namespace mount && not b) (placed_alike mount.mount_point)
 
 -- a mount with the number of another is that one
 same_mount : (world : World ℕ) → OneNumberEach world → (a b : Mount ℕ) → Among a world.mounts → Among b world.mounts

@@ -23,7 +23,7 @@ use Rattle.vt_spec.specs.Machine.Types.{with_type}
 use Rattle.vt_spec.proofs.Worlds.{number-pivoted_mount}
 
 -- Numbers
-numbers_regrouped : (world : World ℕ) → numbers_of (regrouped nat_eq world).mounts ≡ numbers_of world.mounts
+pub numbers_regrouped : (world : World ℕ) → numbers_of (regrouped nat_eq world).mounts ≡ numbers_of world.mounts
 numbers_regrouped world = ap numbers_of (mounts-regrouped world)
     ∙ numbers-map (inheriting nat_eq world) (λ mount. refl) world.mounts
 

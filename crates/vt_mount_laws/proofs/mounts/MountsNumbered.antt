@@ -21,6 +21,7 @@ use Rattle.vt_mount_laws.proofs.mounts.MountsAttached.{numbers_attached, others}
 use Rattle.std.proofs.lemmas.Option.{same_Some, slice_get_within}
 use Rattle.vt_spec.proofs.Truths.{nat_eq_false_turned as apart}
 use Rattle.vt_spec.proofs.Worlds.{number-mount_in}
+use Rattle.vt_spec.proofs.FreshNumbers.{evens-distinct, odds-distinct, odds-no_evens, served-distinct}
 
 -- lists that are apart, and apart from one another
 pub pair-append : {A : Type 0} (test : A → A → Bool) (xs ys : List A) → any_pair test xs ≡ false
@@ -152,22 +153,6 @@ image_index parts mounts group origin =
     numbered (length mounts) (index_of_group nat_eq parts group) (index_of nat_eq mounts origin)
 
 module _ (world : World ℕ) (fresh : Fresh ℕ) (serves : Serves nat_eq world fresh) where
-  evens_apart : (j k : ℕ) → evens fresh j ≡ evens fresh k → j ≡ k
-  evens_apart j k e =
-      let same : 2 * j ≡ 2 * k = serves.apart (2 * j) (2 * k) (eq-eqb (evens fresh j) (evens fresh k) e) in
-      omega (arith, same)
-
-  pub odds_apart : (j k : ℕ) → odds fresh j ≡ odds fresh k → j ≡ k
-  odds_apart j k e =
-      let same : 2 * j + 1 ≡ 2 * k + 1 =
-      serves.apart (2 * j + 1) (2 * k + 1) (eq-eqb (odds fresh j) (odds fresh k) e) in
-      omega (arith, same)
-
-  evens_odds : (j k : ℕ) → odds fresh j ≡ evens fresh k → ⊥
-  evens_odds j k e =
-      let same : 2 * j + 1 ≡ 2 * k = serves.apart (2 * j + 1) (2 * k) (eq-eqb (odds fresh j) (evens fresh k) e) in
-      omega (arith, same)
-
   copies_serve : (parts mounts : List (Mount ℕ))
       → ServeAsCopies world parts mounts (copies_from nat_eq fresh parts mounts)
   copies_serve parts mounts = record {
@@ -177,7 +162,7 @@ module _ (world : World ℕ) (fresh : Fresh ℕ) (serves : Serves nat_eq world f
         numbered_apart (length mounts) (index_of nat_eq parts part) (index_of nat_eq mounts origin)
         (index_of nat_eq parts other_part) (index_of nat_eq mounts other)
         (index_below mounts origin n) (index_below mounts other p)
-        (evens_apart (copy_index parts mounts part origin)
+        (evens-distinct fresh (served-distinct world fresh serves) (copy_index parts mounts part origin)
         (copy_index parts mounts other_part other) e) in
         (one_index parts part other_part m o at.0, one_index mounts origin other n p at.1);
   }
@@ -191,11 +176,11 @@ module _ (world : World ℕ) (fresh : Fresh ℕ) (serves : Serves nat_eq world f
         numbered_apart (length mounts) (index_of_group nat_eq parts group) (index_of nat_eq mounts origin)
         (index_of_group nat_eq parts other_group) (index_of nat_eq mounts other)
         (index_below mounts origin n) (index_below mounts other p)
-        (odds_apart (image_index parts mounts group origin)
+        (odds-distinct fresh (served-distinct world fresh serves) (image_index parts mounts group origin)
         (image_index parts mounts other_group other) e) in
         (one_index_of_groups parts group other_group m o at.0, one_index mounts origin other n p at.1);
     not_copies = λ group origin part other m n e.
-        evens_odds (image_index parts mounts group origin)
+        odds-no_evens fresh (served-distinct world fresh serves) (image_index parts mounts group origin)
         (copy_index parts mounts part other) e;
   }
 

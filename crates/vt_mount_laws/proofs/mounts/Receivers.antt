@@ -1,11 +1,11 @@
 -- What the policy takes for the receivers of a group is what receives from it.
 use Rattle.std.proofs.Common.{◌≡◌, refl, sym, ap, subst, ◌∙◌, inl, ⊎_elim, ℕ, zero, suc, nat_eq, Bool, true, false, true≢false, ◌&&◌, [], ◌∷◌, length, Option, Some, None, is_some}
-use Rattle.std.specs.Prelude.{◌↔◌, option_to_list}
+use Rattle.std.specs.Prelude.{◌↔◌, option_map, option_to_list, unwrap_or}
 use Rattle.std.specs.List.{list_all}
 use Rattle.std.proofs.lemmas.Bool.{and_parts, not-true}
 use Rattle.std.proofs.lemmas.Option.{same_Some}
 use Rattle.vt_spec.specs.Lists.{chain, holds_of, is_among, last_or}
-use Rattle.vt_spec.specs.Machine.Mounts.{Mount, Propagation, source_of}
+use Rattle.vt_spec.specs.Machine.Mounts.{Mount, Propagation, group_of, source_of}
 use Rattle.vt_spec.specs.Machine.Mounts.Propagation.{Private, Shared, Slave, Unbindable}
 use Rattle.vt_spec.specs.Machine.Receives.{Receives, groups_up, has_members, receivers, receives}
 use Rattle.vt_spec.specs.Machine.Receives.Receives.{further_down, member, slave}
@@ -13,6 +13,7 @@ use Rattle.vt_spec.specs.Machine.World.{World}
 use Rattle.vt_spec.specs.Machine.Invariants.{has_living_groups, masters_end}
 use Rattle.vt_mount_laws.specs.Mounts.Receivers.{GroupsLive, IsClosed, ReceiversAreClosed, ReceiversAreLeast, ReceiversReceive, ReceivesIsComputed}
 use Rattle.vt_spec.proofs.Lists.{Among, all_from_among, among-filter, among-from_filter, among_cases, among_from_all, among_from_contains, among_from_list_all, chain_ends, chain_goes_on, contains_from_among, head_among, last_of_chain, tail_among}
+use Rattle.vt_spec.specs.Machine.Attach.{receivers_of}
 
 module _ (master : ℕ → Option ℕ) where
   -- what goes up the masters goes up a chain of them
@@ -205,3 +206,26 @@ pub receivers_are_least : ReceiversAreLeast
 receivers_are_least world set group closed =
     all_from_among (λ mount. receives nat_eq world group mount ≡ true → set group mount ≡ true) world.mounts
     (λ mount m h. in_closed world set closed group mount m (receives_soundly world group mount h))
+
+-- what receives from a mount is there, and receives from its group
+pub receiver_receives : (world : World ℕ) (mount part : Mount ℕ) → Among part (receivers_of nat_eq world mount)
+    → (group : ℕ) × (mount.propagation ≡ Shared group) × Among part world.mounts
+    × (receives nat_eq world group part ≡ true)
+receiver_receives world mount part m = by mount.propagation refl
+  where
+    none : receivers_of nat_eq world mount ≡ []
+        → (group : ℕ) × (mount.propagation ≡ Shared group) × Among part world.mounts
+        × (receives nat_eq world group part ≡ true)
+    none e = absurd (subst (λ l. Among part l) e m)
+
+    by : (kind : Propagation ℕ) → mount.propagation ≡ kind
+        → (group : ℕ) × (mount.propagation ≡ Shared group) × Among part world.mounts
+        × (receives nat_eq world group part ≡ true)
+    by (Shared group) e =
+        let t =
+        among-from_filter (receives nat_eq world group) world.mounts part
+        (subst (λ k. Among part (unwrap_or (option_map (receivers nat_eq world) (group_of k)) [])) e m) in
+        (group, e, t.0, t.1)
+    by (Slave master) e = none (ap (λ k. unwrap_or (option_map (receivers nat_eq world) (group_of k)) []) e)
+    by Private e = none (ap (λ k. unwrap_or (option_map (receivers nat_eq world) (group_of k)) []) e)
+    by Unbindable e = none (ap (λ k. unwrap_or (option_map (receivers nat_eq world) (group_of k)) []) e)

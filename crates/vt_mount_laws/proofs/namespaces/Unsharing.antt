@@ -14,11 +14,12 @@ use Rattle.vt_mount_laws.specs.Mounts.Namespaces.{UnshareKeepsMounts}
 use Rattle.vt_mount_laws.proofs.GroupsLiving.{all_live, tested_live}
 use Rattle.vt_mount_laws.proofs.GroupsKept.{unshare_keeps_groups}
 use Rattle.vt_mount_laws.proofs.mounts.MountsApart.{unshare_keeps_nowhere}
-use Rattle.vt_mount_laws.proofs.mounts.MountsNumbered.{is_one_of, number_is_old, odds_apart, one_index, pair-append, unshare_keeps_numbers}
+use Rattle.vt_mount_laws.proofs.mounts.MountsNumbered.{is_one_of, number_is_old, one_index, pair-append, unshare_keeps_numbers}
 use Rattle.vt_mount_laws.proofs.mounts.MountsPlaces.{one_place_of_two, place_of_both}
 use Rattle.vt_mount_laws.proofs.mounts.MountsReplaced.{found_itself}
 use Rattle.vt_mount_laws.specs.Mounts.Attaching.{is_mount}
 use Rattle.vt_spec.proofs.Worlds.{number-mount_in, found_or_none}
+use Rattle.vt_spec.proofs.FreshNumbers.{odds-distinct, served-distinct}
 
 -- A mount that stands on a parent
 pub record Parent (world : World ℕ) (mount : Mount ℕ) (place : Location ℕ) : Type 0 where
@@ -195,7 +196,8 @@ module _ (world : World ℕ) (fresh : Fresh ℕ) (task : Task ℕ) (serves : Ser
       let on_q = copied_parent b n q.0 q.1 in
       let same : location_on_copy new_number p.0 ≡ location_on_copy new_number q.0 = p.2 ∙ sym q.2 in
       let index : index_of nat_eq copied on_p.0.number ≡ index_of nat_eq copied on_q.0.number =
-      odds_apart world fresh serves (index_of nat_eq copied on_p.0.number) (index_of nat_eq copied on_q.0.number)
+      odds-distinct fresh (served-distinct world fresh serves) (index_of nat_eq copied on_p.0.number)
+      (index_of nat_eq copied on_q.0.number)
       (ap new_number on_p.2 ∙ ap (λ (l : Location ℕ). l.mount) same ∙ ap new_number (sym on_q.2)) in
       let mount_same : p.0.mount ≡ q.0.mount =
       sym on_p.2

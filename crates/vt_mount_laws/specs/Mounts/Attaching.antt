@@ -8,6 +8,7 @@ use Rattle.vt_spec.specs.Machine.Mounts.{Location, Mount, stands_at}
 use Rattle.vt_spec.specs.Machine.Outcome.Mounting.{moved_to}
 use Rattle.vt_spec.specs.Machine.World.{World, mount_at, mount_numbered}
 
+-- the numbers of mounts, in their order
 abbrev pub numbers_of : List (Mount ℕ) → List ℕ
 numbers_of mounts = map (λ mount. mount.number) mounts
 

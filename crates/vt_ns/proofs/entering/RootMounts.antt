@@ -41,6 +41,7 @@ none_so_far p (y ∷ ys) (suc n) x none at failed = by (p y) none (λ f. none_so
     by true f later = absurd cc
     by false f later = later f
 
+-- where one more does not pass none has yet
 pub none_passes_yet : {A : Type 0} (p : A → Bool) (xs : List A) (n : ℕ) (x : A) → find p (take n xs) ≡ None
     → slice_get xs n ≡ Some x → p x ≡ false
     → find p (take (n + 1) xs) ≡ None
@@ -90,6 +91,7 @@ listed_at entries namespace ids n id rising listed at = by (slice_get inside n) 
               ∙ ap Some (sym entry.2),
         )
 
+-- a mount that is got by its place in the list is the one that the definitions have there
 pub listed_got : (entries : List MountEntry) (namespace : ℕ) (ids : List MountId) (n : ℕ) (d : MountId)
     (o : Option Attached) → are_ascending (mounts_in entries) ≡ true
     → map (λ (id : MountId). counted id.count) ids
@@ -115,6 +117,7 @@ root_found entries namespace n found mount none at same nowhere =
     (filter (λ mount. holds_of (nat_eq namespace) mount.namespace) (mounts_in entries)) n (mount_of mount) none
     (at ∙ ap Some (sym same)) (ap not (is_some_mapped location_of mount.mount_point ∙ nowhere))
 
+-- a mount that stands somewhere is not the root of its namespace
 pub no_root_yet : (entries : List MountEntry) (namespace n : ℕ) (found : Mount ℕ) (mount : Attached)
     → find (λ mount. not (is_some mount.mount_point))
     (take n (filter (λ mount. holds_of (nat_eq namespace) mount.namespace) (mounts_in entries))) ≡ None
@@ -127,5 +130,6 @@ no_root_yet entries namespace n found mount none at same there =
     (filter (λ mount. holds_of (nat_eq namespace) mount.namespace) (mounts_in entries)) n (mount_of mount) none
     (at ∙ ap Some (sym same)) (ap not (is_some_mapped location_of mount.mount_point ∙ there))
 
+-- no mount is not some mount
 pub none_is_some : (mount : Mount ℕ) → None ≡ Some mount → ⊥
 none_is_some mount e = cc

@@ -1,6 +1,5 @@
 -- What code finds in what is kept of a world is what the definitions see of its value.
 use Rattle.std.proofs.Common.{◌≡◌, refl, sym, ap, subst, ◌∙◌, ℕ, ◌<◌, nat_eq, Bool, true, false, cond, ◌&&◌, List, [], ◌∷◌, zero, suc, length, Option, Some, None, filter, flat_map, map, option_map, unwrap_or}
-use Rattle.std.proofs.lemmas.Bool.{not-true}
 use Rattle.std.specs.Prelude.{find, option_to_list}
 use Rattle.std.specs.List.{list_any}
 use Rattle.vt_spec.specs.FileTree.{is_directory_under, is_removed}
@@ -36,14 +35,17 @@ use Rattle.vt_detach.proofs.LookLemmas.{any_point, missing_root, seen_filesystem
 module _ (value : WorldValue) (number : ℕ) (got : Option Mount)
     (is_found : option_map mount_of got
     ≡ find (λ (mount : meant.Mount ℕ). nat_eq number mount.number) (mounts_in value.mounts)) where
+  -- a mount that is got is that of the world
   pub mount_found : (mount : Mount) → got ≡ Some mount → mount_numbered nat_eq (world_of value) number ≡ mount_of mount
   mount_found mount is = ap (λ o. unwrap_or o (no_mount number)) (sym is_found ∙ ap (option_map mount_of) is)
 
+  -- where none is got the world has none
   pub mount_missing : got ≡ None → mount_numbered nat_eq (world_of value) number ≡ no_mount number
   mount_missing is = ap (λ o. unwrap_or o (no_mount number)) (sym is_found ∙ ap (option_map mount_of) is)
 
 module _ (kept value : WorldValue) (is : kept ≡ value) (held : IsHeld kept) (at : Location)
     (small : at.node.slot < 18446744073709551616) where
+  -- the inode at a location that is seen is that of the world
   pub node_is : is_seen value at ≡ true
       → (files_at kept.filesystems at.node.filesystem.count).tree.node (number_of at.node)
       ≡ node_at nat_eq (world_of value) (location_of at)
@@ -54,11 +56,13 @@ module _ (kept value : WorldValue) (is : kept ≡ value) (held : IsHeld kept) (a
       (λ seen. ap (λ (filesystem : Filesystem ℕ). filesystem.files.tree.node (number_of at.node))
       (sym (seen_filesystem kept held at small seen)))
 
+  -- at one that is not seen the world has none
   pub no_node : is_seen value at ≡ false → node_at nat_eq (world_of value) (location_of at) ≡ None
   no_node =
       subst (λ (v : WorldValue). is_seen v at ≡ false → node_at nat_eq (world_of v) (location_of at) ≡ None) is
       (unseen_node kept held at small)
 
+  -- a directory that is seen is removed just where that of the world is
   pub removed_is : is_seen value at ≡ true
       → is_removed nat_eq (files_at kept.filesystems at.node.filesystem.count).tree (number_of at.node)
       ≡ is_removed_at nat_eq (world_of value) (location_of at)
@@ -69,11 +73,13 @@ module _ (kept value : WorldValue) (is : kept ≡ value) (held : IsHeld kept) (a
       (λ seen. ap (λ (filesystem : Filesystem ℕ). is_removed nat_eq filesystem.files.tree (number_of at.node))
       (sym (seen_filesystem kept held at small seen)))
 
+  -- one that is not seen is removed
   pub removed_unseen : is_seen value at ≡ false → is_removed_at nat_eq (world_of value) (location_of at) ≡ true
   removed_unseen =
       subst (λ (v : WorldValue). is_seen v at ≡ false → is_removed_at nat_eq (world_of v) (location_of at) ≡ true) is
       (unseen_removed kept held at small)
 
+  -- a directory lies under another just where the world has it so
   pub under_is : (directory : NodeRef) → is_seen value at ≡ true
       → is_directory_under nat_eq (files_at kept.filesystems at.node.filesystem.count) (number_of at.node)
       (number_of directory)
@@ -89,6 +95,7 @@ module _ (kept value : WorldValue) (is : kept ≡ value) (held : IsHeld kept) (a
       (number_of directory))
       (sym (seen_filesystem kept held at small seen)))
 
+  -- none lies under one of another filesystem
   pub under_apart : (directory : NodeRef) → directory.slot < 18446744073709551616
       → (is_seen value at && nat_eq directory.filesystem.count at.node.filesystem.count) ≡ false
       → (nat_eq at.node.filesystem.count directory.filesystem.count && nat_eq at.node.slot directory.slot)
@@ -102,6 +109,7 @@ module _ (kept value : WorldValue) (is : kept ≡ value) (held : IsHeld kept) (a
       (λ apart. sym (under_another kept held at small directory directory_small apart
       ∙ nodes_test at.node directory small directory_small))
 
+  -- a mount that passes stands on an inode that is seen just where one does in the world
   pub points_seen : (test : meant.Mount ℕ → Bool) → is_seen value at ≡ true
       → list_any (λ mount. stands_over (number_of at.node) mount && test mount) (mounts_in kept.mounts)
       ≡ list_any test (mounts_on nat_eq (world_of value) (location_of at))
@@ -113,6 +121,7 @@ module _ (kept value : WorldValue) (is : kept ≡ value) (held : IsHeld kept) (a
       ∙ ap (λ b. b && list_any (λ mount. stands_over (number_of at.node) mount && test mount)
       (mounts_in kept.mounts)) seen))
 
+  -- none stands on one that is not seen
   pub no_points : (test : meant.Mount ℕ → Bool) → is_seen value at ≡ false
       → list_any test (mounts_on nat_eq (world_of value) (location_of at)) ≡ false
   no_points test =
@@ -131,6 +140,7 @@ module _ (kept value : WorldValue) (is : kept ≡ value) (held : IsHeld kept) (a
         answer ≡ is_directory_under nat_eq (filesystem_at nat_eq (world_of v) (location_of at)).files
         (mount_at nat_eq (world_of v) (location_of at)).root (number_of at.node)
 
+    -- a location lies under the root of its mount just where the tree has it so
     pub under_root : (mount : Mount) → got ≡ Some mount
         → UnderRoot (is_directory_under nat_eq (files_at kept.filesystems mount.root.filesystem.count)
         (number_of mount.root) (number_of at.node)) value
@@ -144,6 +154,7 @@ module _ (kept value : WorldValue) (is : kept ≡ value) (held : IsHeld kept) (a
         (number_of at.node))
         (found_by_number kept.filesystems mount.root.filesystem.count)))
 
+    -- not where that root is in another filesystem
     pub under_root_apart : (mount : Mount) → got ≡ Some mount
         → nat_eq mount.root.filesystem.count at.node.filesystem.count ≡ false → UnderRoot false value
     under_root_apart mount some other =
@@ -153,6 +164,7 @@ module _ (kept value : WorldValue) (is : kept ≡ value) (held : IsHeld kept) (a
         (mount_found kept (counted at.mount.count) got is_found mount some)
         ∙ counted_test mount.root.filesystem.count at.node.filesystem.count ∙ other)))
 
+    -- nor where the mount is not there
     pub under_root_missing : got ≡ None → UnderRoot false value
     under_root_missing none =
         subst (UnderRoot false) is (sym
@@ -178,6 +190,7 @@ last_of_chain zero next at none = refl
 last_of_chain (suc n) next at none = ap
     (λ o. last_or at (elim o [ None ↦ at ∷ [] | Some b ↦ at ∷ chain n next b ])) none
 
+-- where none stands on a mount its locations are topmost
 pub bare_top : (value : WorldValue) (mount : ℕ) → list_any (stands_on nat_eq mount) (mounts_in value.mounts) ≡ false
     → (at : meant.Location ℕ) → at.mount ≡ mount → topmost (looks_of_value value) at ≡ at
 bare_top value mount none at on =
@@ -199,6 +212,7 @@ no_overlays : (fs : Filesystems) → filter is_overlay (filesystems_seen fs) ≡
 no_overlays [] = refl
 no_overlays (x ∷ fs) = no_overlays fs
 
+-- no filesystem that is looked at is an overlay
 pub has_no_overlays : (value : WorldValue) → HasNoOverlays (looks_of_value value)
 has_no_overlays value =
     record {

@@ -1,16 +1,15 @@
 -- A mount is in the tree of another just if going up by parents meets that one.
 use Rattle.std.proofs.Common.{◌≡◌, refl, sym, ap, ◌∙◌, ⊎_elim, ℕ, zero, suc, nat_eq, eqb-true, eq-eqb, Bool, true, false, true≢false, ◌||◌, List, [], ◌∷◌, length, Option, Some, None}
-use Rattle.std.proofs.lemmas.List.Folds.{list_any-append}
-use Rattle.std.specs.Prelude.{flat_map}
 use Rattle.std.specs.List.{list_any}
 use Rattle.vt_spec.specs.Lists.{any_pair, holds_of}
 use Rattle.vt_spec.specs.Machine.Mounts.{Location, Mount, children, mount_in, mount_tree, stands_on, tree_from}
-use Rattle.vt_spec.proofs.Lists.{among-filter, among-from_filter, any_among, any_from_among}
+use Rattle.vt_spec.proofs.Lists.{among-filter, among-from_filter, any_among, any_from_among, list_any-never}
 use Rattle.vt_mount_laws.proofs.mounts.MountsFound.{found_or_none, number_found}
 use Rattle.vt_mount_laws.proofs.mounts.MountsReplaced.{found_itself}
 use Rattle.vt_detach.proofs.LookLemmas.{turned}
-use Rattle.vt_fs.proofs.TreesLookedAt.{or_nothing}
 use Rattle.vt_spec.proofs.Truths.{nat_eq_itself, same_truth}
+use Rattle.std.proofs.Math.Bool.{or-false}
+use Rattle.vt_group.proofs.IndexLemmas.{any_flat}
 
 -- going up from a mount meets another, in at most so many steps
 abbrev pub meets : List (Mount ℕ) → ℕ → ℕ → ℕ → Bool
@@ -19,12 +18,14 @@ meets mounts top (suc steps) number =
     nat_eq number top || holds_of (λ place. meets mounts top steps place.mount)
     (mount_in nat_eq mounts number).mount_point
 
+-- a climb that begins at the top meets it
 pub met_here : (mounts : List (Mount ℕ)) (top steps number : ℕ) → number ≡ top → meets mounts top steps number ≡ true
 met_here mounts top zero number same = eq-eqb number top same
 met_here mounts top (suc steps) number same = ap
     (λ b. b || holds_of (λ place. meets mounts top steps place.mount) (mount_in nat_eq mounts number).mount_point)
     (eq-eqb number top same)
 
+-- one that ends elsewhere does not
 pub met_nowhere : (mounts : List (Mount ℕ)) (top steps number : ℕ) → nat_eq number top ≡ false
     → (mount_in nat_eq mounts number).mount_point ≡ None
     → meets mounts top steps number ≡ false
@@ -32,17 +33,12 @@ met_nowhere mounts top zero number other none = other
 met_nowhere mounts top (suc steps) number other none = λ i. other i
     || holds_of (λ place. meets mounts top steps place.mount) (none i)
 
+-- one that goes on meets it where the rest does
 pub met_above : (mounts : List (Mount ℕ)) (top steps number : ℕ) (place : Location ℕ) → nat_eq number top ≡ false
     → (mount_in nat_eq mounts number).mount_point ≡ Some place
     → meets mounts top (suc steps) number ≡ meets mounts top steps place.mount
 met_above mounts top steps number place other is = λ i. other i
     || holds_of (λ place. meets mounts top steps place.mount) (is i)
-
-any_flat : {A B : Type 0} (test : B → Bool) (f : A → List B) (list : List A)
-    → list_any test (flat_map f list) ≡ list_any (λ a. list_any test (f a)) list
-any_flat test f [] = refl
-any_flat test f (a ∷ rest) = list_any-append test (f a) (flat_map f rest)
-    ∙ ap (λ b. list_any test (f a) || b) (any_flat test f rest)
 
 any_either : {A : Type 0} (one other : A → Bool) (list : List A)
     → list_any (λ a. one a || other a) list ≡ (list_any one list || list_any other list)
@@ -57,14 +53,11 @@ any_either one other (a ∷ rest) =
     mixed false true false q = refl
     mixed false false p q = refl
 
+-- tests that agree are passed by some alike
 pub any_alike : {A : Type 0} (one other : A → Bool) (list : List A) → ((a : A) → one a ≡ other a)
     → list_any one list ≡ list_any other list
 any_alike one other [] same = refl
 any_alike one other (a ∷ rest) same = λ i. same a i || any_alike one other rest same i
-
-any_never : {A : Type 0} (list : List A) → list_any (λ a. false) list ≡ false
-any_never [] = refl
-any_never (a ∷ rest) = any_never rest
 
 module _ (mounts : List (Mount ℕ)) (one : any_pair (λ (a b : Mount ℕ). nat_eq a.number b.number) mounts ≡ false) where
   -- a mount is a child just where its mount point is on that mount
@@ -119,16 +112,17 @@ module _ (mounts : List (Mount ℕ)) (one : any_pair (λ (a b : Mount ℕ). nat_
           ≡ holds_of (λ place. meets mounts top (suc steps) place.mount) o
       by None later first =
           any_either (λ child. nat_eq number child.number) (λ child. false) (children nat_eq mounts top)
-          ∙ (λ i. first i || any_never (children nat_eq mounts top) i)
+          ∙ (λ i. first i || list_any-never (children nat_eq mounts top) i)
       by (Some place) later first =
           any_either (λ child. nat_eq number child.number) (λ child. meets mounts child.number steps place.mount)
           (children nat_eq mounts top)
           ∙ (λ i. first i || later place i)
 
+  -- a mount is in a tree just where a climb from it meets the top
   pub met_in_tree : (steps : ℕ) (top : Mount ℕ) (number : ℕ)
       → list_any (λ other. nat_eq other.number number) (tree_from nat_eq steps mounts top)
       ≡ meets mounts top.number steps number
-  met_in_tree zero top number = or_nothing (nat_eq top.number number) ∙ turned top.number number
+  met_in_tree zero top number = or-false (nat_eq top.number number) ∙ turned top.number number
   met_in_tree (suc steps) top number =
       (λ i. turned top.number number i
       || (any_flat (λ other. nat_eq other.number number) (tree_from nat_eq steps mounts)

@@ -16,6 +16,7 @@ use Rattle.vt_fs.proofs.TreesLookedAt.{nowhere_under}
 use Rattle.vt_ns.specs.LyingUnder.{lies_under}
 
 module _ (value : WorldValue) (top directory : NodeRef) where
+  -- a directory lies under the root of a mount just where the tree has it so
   pub lies_so : lies_under value (counted top.filesystem.count) (number_of top) (number_of directory)
       ≡ is_directory_under nat_eq (files_at value.filesystems top.filesystem.count) (number_of top)
       (number_of directory)

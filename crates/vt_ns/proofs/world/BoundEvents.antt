@@ -31,6 +31,7 @@ place_mounted value place well =
     (and_parts (is_among nat_eq (counted place.mount.count)
     (map (λ (mount : meant.Mount ℕ). mount.number) (mounts_in value.mounts))) _ well).0
 
+-- the mount point of a bind is a location of the world
 pub bind_place_there : (value : WorldValue) → IsHeld value
     → (name : TaskName) (source place : Location) (recursive : Bool)
     → Permits value name (ToBind (location_of source) (location_of place) recursive)

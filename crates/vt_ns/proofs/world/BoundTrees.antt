@@ -12,6 +12,7 @@ use Rattle.vt_mount.proofs.PlaceLemmas.{counts, numbers}
 use Rattle.vt_mount_laws.proofs.mounts.MountsReplaced.{found_itself}
 use Rattle.vt_ns.specs.declared.trees.Branch.{Branch}
 use Rattle.vt_ns.specs.Trees.{bindable_numbers, bindable_to_come}
+use Rattle.vt_mount.proofs.TreeLemmas.{flat-numbers}
 
 -- numbers that pass a test, and mounts with these numbers that pass another
 filtered_alike : (p : MountId → Bool) (q : Mount ℕ → Bool) (ids : List MountId) (mounts : List (Mount ℕ))
@@ -55,17 +56,12 @@ filter_reverse {A} p (x ∷ xs) =
     by true = sym (reverse-append (x ∷ []) (filter p xs))
     by false = append-nil (reverse (filter p xs))
 
+-- a mount that is still to be taken, and how deep it may go on
 abbrev pub branch_of : ℕ → MountId → Branch
 branch_of depth id = record { mount = id; depth = depth }
 
 module _ (mounts : List (Mount ℕ)) where
-  flat-numbers : (f : Mount ℕ → List (Mount ℕ)) (g : ℕ → List ℕ)
-      → ((mount : Mount ℕ) → numbers (f mount) ≡ g mount.number) → (all : List (Mount ℕ))
-      → numbers (flat_map f all) ≡ flat_map g (numbers all)
-  flat-numbers f g same [] = refl
-  flat-numbers f g same (mount ∷ all) =
-      map-append (λ mount. mount.number) (f mount) (flat_map f all) ∙ (λ i. same mount i ++ flat-numbers f g same all i)
-
+  -- the numbers of a tree without unbindable mounts are those that code lists
   pub numbers-bindable : (depth : ℕ) (mount : Mount ℕ)
       → numbers (bindable_tree nat_eq depth mounts mount) ≡ bindable_numbers mounts depth mount.number
   numbers-bindable zero mount = refl
@@ -119,6 +115,7 @@ module _ (mounts : List (Mount ℕ)) where
       come-last waiting next ∙ ap (λ depth. bindable_numbers mounts depth (counted next.mount.count)
       ++ bindable_to_come mounts waiting) flat
 
+  -- one branch more is taken, with those that stand on it
   pub next-deep : (waiting : List Branch) (next : Branch) (depth : ℕ) (p : MountId → Bool) (ids : List MountId)
       → next.depth ≡ suc depth
       → counts (filter p ids) ≡ numbers (bindable_children nat_eq mounts (counted next.mount.count))
@@ -145,11 +142,13 @@ told-more tree id mounts before after whole next is =
     ∙ ap (λ l. counts tree ++ l) (sym next)
     ∙ is
 
+-- at last the list has the whole tree
 pub told-all : (tree : List MountId) (whole : List ℕ) → counts tree ++ [] ≡ whole → counts tree ≡ whole
 told-all tree whole is = sym (append-nil (counts tree)) ∙ is
 
 -- The children that a bind copies, by their numbers
 
+-- a mount that may be bound
 abbrev pub bindable : List (Mount ℕ) → MountId → Bool
 bindable mounts id = not (is_unbindable (mount_in nat_eq mounts (counted id.count)).propagation)
 
@@ -163,12 +162,14 @@ module _ (mounts : List (Mount ℕ)) (one : any_pair (λ (a b : Mount ℕ). nat_
       ap (mount_in nat_eq mounts) same
       ∙ found_itself mounts one mount (among-from_filter (stands_on nat_eq number) mounts mount m).0
 
+  -- the children that code keeps are those that may be bound
   pub bindable_kids : counts (filter (bindable mounts) ids) ≡ numbers (bindable_children nat_eq mounts number)
   bindable_kids =
       filtered_alike (bindable mounts) (λ mount. not (is_unbindable mount.propagation)) ids
       (children nat_eq mounts number) kids
       (λ id mount m same. ap (λ (x : Mount ℕ). not (is_unbindable x.propagation)) (child_is id mount m same))
 
+  -- and those of them under the source
   pub bound_kids : (under : Mount ℕ → Bool)
       → counts (filter (λ id. bindable mounts id && under (mount_in nat_eq mounts (counted id.count))) ids)
       ≡ numbers (filter under (bindable_children nat_eq mounts number))

@@ -20,7 +20,6 @@ use Rattle.vt_spec.specs.Machine.Invariants.{IsWorld, ListsNumbers, TreeInvarian
 use Rattle.vt_spec.specs.TreeInvariant.{IsTree}
 use Rattle.vt_count_laws.specs.Changing.{filesystem_of}
 use Rattle.vt_count_laws.specs.Counted.{IsPlain}
-use Rattle.vt_count_laws.specs.Sweeping.{living}
 use Rattle.vt_fs.specs.FilesystemsValue.{Filesystems, filesystem_seen, inodes_seen, no_entry}
 use Rattle.vt_group.specs.Grouping.{Grouping, Has}
 use Rattle.vt_group.specs.Together.{TakesAway}
@@ -56,7 +55,7 @@ use Rattle.vt_detach.specs.Uses.{kept}
 use Rattle.vt_detach.specs.WorldValue.{WorldValue, world_of}
 use Rattle.vt_detach.proofs.ChangedFiles.{ChangesFiles, change_is_held, change_is_swept, with_filesystems}
 use Rattle.vt_detach.proofs.Bridging.{swept_has, swept_is_counted, swept_is_same}
-use Rattle.vt_detach.proofs.DetachingBegins.{HasChildrenOf, detached_world, detaching_begins, filesystem_kept}
+use Rattle.vt_detach.proofs.DetachingBegins.{HasChildrenOf, detached_world, detaching_begins}
 use Rattle.vt_detach.proofs.DetachingEnds.{detached_counted, detached_is_private, detached_swept, held_is_kept, taken_regroups}
 use Rattle.vt_group.proofs.Others.{has_ordered}
 use Rattle.vt_detach.proofs.Finishing.{own_exchanged}
@@ -71,6 +70,8 @@ use Rattle.vt_detach.proofs.Staying.{IsDone, becomes_so, held_is_settled, world_
 use Rattle.vt_detach.proofs.TypedEvents.{counts_typed, swept_typed, typed_value}
 use Rattle.vt_detach.proofs.TypedWorlds.{settled_typed, settled_typed_has, typed_world}
 use Rattle.vt_detach.proofs.UnmountedLazily.{all_detached}
+use Rattle.vt_spec.proofs.Worlds.{shown-mapped}
+use Rattle.vt_letting_go.specs.TreesOverlays.{in_use_of}
 
 module _ (value : WorldValue) (held : IsHeld value) (location : Location ℕ) (change : Change ℕ)
     (filesystems : Filesystems)
@@ -92,6 +93,7 @@ module _ (value : WorldValue) (held : IsHeld value) (location : Location ℕ) (c
       ∙ found_by_number value.filesystems made.entry.count
       ∙ ap (λ found. filesystem_seen (unwrap_or found (no_entry made.entry.count))) made.found)
 
+  -- the change of the world is that of one filesystem
   pub changed_is : (fresh : Fresh ℕ) → changed_first fresh ≡ with_filesystem nat_eq world changed_files
   changed_is fresh = ap (λ overlay.
       filesystem_changed nat_eq fresh world (filesystem_at nat_eq world location) overlay change) no_overlay
@@ -102,7 +104,7 @@ module _ (value : WorldValue) (held : IsHeld value) (location : Location ℕ) (c
   changed_detached fresh gone =
       ap (λ n. filesystem_changed nat_eq fresh (detached_world gone world) (filesystem_numbered nat_eq world n)
       (filesystem_numbered nat_eq world n).overlay change)
-      (filesystem_kept (detached_in gone) (pending_number gone) (pending_filesystem gone) world.mounts location.mount)
+      (shown-mapped (detached_in gone) (pending_number gone) (pending_filesystem gone) world.mounts location.mount)
       ∙ ap (λ overlay. filesystem_changed nat_eq fresh (detached_world gone world)
       (filesystem_at nat_eq world location) overlay change) no_overlay
       ∙ ap (detached_world gone) (sym (changed_is fresh))
@@ -111,6 +113,7 @@ module _ (value : WorldValue) (held : IsHeld value) (location : Location ℕ) (c
   abbrev loses : World ℕ → Bool
   loses one = list_any (lost_a_group nat_eq one) one.mounts
 
+  -- it is the same before and after mounts are detached
   pub changed_regrouped : (fresh : Fresh ℕ) (gone : List ℕ)
       → with_change nat_eq fresh (regrouped nat_eq (detached_world gone world)) location change
       ≡ regrouped nat_eq (detached_world gone (changed_first fresh))
@@ -126,9 +129,9 @@ module _ (value : WorldValue) (held : IsHeld value) (location : Location ℕ) (c
           ap (λ n. filesystem_changed nat_eq fresh (regrouped_by nat_eq true (detached_world gone world))
           (filesystem_numbered nat_eq world n)
           (filesystem_numbered nat_eq world n).overlay change)
-          (filesystem_kept (inheriting nat_eq (detached_world gone world)) (λ mount. refl) (λ mount. refl)
+          (shown-mapped (inheriting nat_eq (detached_world gone world)) (λ mount. refl) (λ mount. refl)
           (detached_world gone world).mounts location.mount
-          ∙ filesystem_kept (detached_in gone) (pending_number gone)
+          ∙ shown-mapped (detached_in gone) (pending_number gone)
           (pending_filesystem gone) world.mounts location.mount)
           ∙ ap (λ overlay. filesystem_changed nat_eq fresh (regrouped_by nat_eq true (detached_world gone world))
           (filesystem_at nat_eq world location)
@@ -274,8 +277,9 @@ module _ (value : WorldValue) (held : IsHeld value) (location : Location ℕ) (c
           (worlds_have_trees world held.in_world) (filesystem_at nat_eq world location) seen_among)
           listed_after may)
 
-      there : is_among nat_eq number (map (λ (f : Filesystem ℕ). f.number) world.filesystems) ≡ true
-      there =
+      -- the filesystem that is changed is one of the world
+      filesystem_listed : is_among nat_eq number (map (λ (f : Filesystem ℕ). f.number) world.filesystems) ≡ true
+      filesystem_listed =
           is_among_numbers number (map (λ (f : Filesystem ℕ). f.number) world.filesystems)
           (subst (λ n. Among n (map (λ (f : Filesystem ℕ). f.number) world.filesystems)) (sym made.shows)
           (among-map (λ (f : Filesystem ℕ). f.number) world.filesystems (filesystem_seen made.entry)
@@ -320,11 +324,12 @@ module _ (value : WorldValue) (held : IsHeld value) (location : Location ℕ) (c
           by f true e = ap (λ c. cond (not c) (record f { files = without_inode object f.files }) f) (used f e)
           by f false e = refl
 
+      -- after the change nothing goes that nothing used before
       pub nothing_goes : settled nat_eq (changed_first fresh) ≡ changed_first fresh
       nothing_goes =
           subst (λ w. settled nat_eq w ≡ w) (sym (changed_is fresh))
           (unnamed_go world number changed_files.files (object ∷ [])
-          (held_is_settled value held.in_world) there changes_tree ∙ object_stays)
+          (held_is_settled value held.in_world) filesystem_listed changes_tree ∙ object_stays)
 
     -- Where nothing goes by the change alone, the mounts are detached in the world with the tree changed.
     module _ (still : settled nat_eq (changed_first fresh) ≡ changed_first fresh)
@@ -392,7 +397,7 @@ module _ (value : WorldValue) (held : IsHeld value) (location : Location ℕ) (c
             let untyped = remade value mounts others value.tasks in
             let new = typed_value groups untyped in
             let held_first = changed_first_is_held in
-            let detaching = all_detached value_changed [] (living after) gone (kept value.mounts filesystems)
+            let detaching = all_detached value_changed [] (in_use_of after) gone (kept value.mounts filesystems)
             (kept mounts others)
             (detaching_begins value_changed [] [] (world_of value_changed) (kept value.mounts filesystems)
             (held_is_kept value_changed held_first) gone closed) turn in
@@ -437,6 +442,7 @@ module _ (value : WorldValue) (held : IsHeld value) (location : Location ℕ) (c
                   (subst (λ w. SameWorlds (settled nat_eq w) (world_of new)) (sym (leaves fresh)) same);
             }
 
+      -- a change and then a detachment do what the permit does
       pub changed_then_detached : (mounts : List MountEntry) (groups : Grouping) (others : Filesystems)
           → LeaveTogether gone (kept value.mounts filesystems) value.groups (kept mounts others) groups
           → IsDone value name permit (record (remade value mounts others value.tasks) { groups = groups })

@@ -64,8 +64,9 @@ module _ (value : WorldValue) (held : IsHeld value) (name : TaskName) (parent : 
   names : NamesWhatIsThere world permits.task permit
   names = (permit_fits value held name permit permits).names
 
-  seen : IsLocated value parent
-  seen = located value held parent small names.0.reached.there
+  -- the parent stands where the world has it
+  parent_seen : IsLocated value parent
+  parent_seen = located value held parent small names.0.reached.there
 
   directory_seen : IsLocated value directory
   directory_seen = located value held directory small_directory names.1.reached.there
@@ -89,11 +90,12 @@ module _ (value : WorldValue) (held : IsHeld value) (name : TaskName) (parent : 
       ≡ with_change nat_eq supply (regrouped nat_eq (detached_world gone world)) (location_of parent) change
   applied supply = ap (λ w. with_change nat_eq supply w (location_of parent) change) (taken_regroups world gone closed)
 
-  fits : (inodes : Inodes ℕ) → inodes ≡ inodes_seen seen.entry → Fits inodes change
-  fits inodes same =
+  -- the change can be made to the inodes that are kept
+  change_fits : (inodes : Inodes ℕ) → inodes ≡ inodes_seen parent_seen.entry → Fits inodes change
+  change_fits inodes same =
       given_changes_fit world (supply_of value permit) permits.task permit (location_of parent)
       change inodes held.in_world (files_are_plain value.filesystems) permits.given refl
-      (ap tree_of same ∙ ap (λ filesystem. filesystem.files.tree) (sym (located_filesystem value parent seen)))
+      (ap tree_of same ∙ ap (λ filesystem. filesystem.files.tree) (sym (located_filesystem value parent parent_seen)))
 
   -- where no mount stands on it
   pub alone_is_removed : gone ≡ [] → (filesystems : Filesystems)
@@ -104,6 +106,7 @@ module _ (value : WorldValue) (held : IsHeld value) (name : TaskName) (parent : 
       removal_is_done value held name parent entry directory small small_directory permits
       (none_on world tops none) filesystems changes
 
+  -- a directory on which mounts stand is removed with them
   pub directory_is_removed : (filesystems others : Filesystems) (mounts : List MountEntry) (groups : Grouping)
       → gone ≢ []
       → ChangesInodes parent.node.filesystem.count
@@ -112,24 +115,24 @@ module _ (value : WorldValue) (held : IsHeld value) (name : TaskName) (parent : 
       → IsDone value name permit (record (remade value mounts others value.tasks) { groups = groups })
   directory_is_removed filesystems others mounts groups some changes together =
       let made : ChangesFiles value (location_of parent) change filesystems = record {
-        entry = seen.entry;
-        among = seen.among;
-        found = seen.found;
-        shows = seen.shows;
-        fits = fits (inodes_seen seen.entry) refl;
+        entry = parent_seen.entry;
+        among = parent_seen.among;
+        found = parent_seen.found;
+        shows = parent_seen.shows;
+        fits = change_fits (inodes_seen parent_seen.entry) refl;
         links = tt;
         changes =
             subst (λ count. ChangesInodes count (λ inodes. changed nat_eq inodes change) value.filesystems filesystems)
-            (sym seen.count_is) changes;
+            (sym parent_seen.count_is) changes;
         own = λ number other. tt;
       } in
       let reached : NamesWhatIsThere world permits.task (ToChange (location_of parent) change) =
       (names.0.reached, tt) in
       let named : permit_named (is_counted_before value.next) (ToChange (location_of parent) change) ≡ true =
-      (λ i. seen.named i && (inodes_named value.next parent.node.filesystem.count parent.node.slot i
+      (λ i. parent_seen.named i && (inodes_named value.next parent.node.filesystem.count parent.node.slot i
       && inodes_named value.next directory.node.filesystem.count directory.node.slot i)) in
       let is_named : permit_named (is_counted_before value.next) permit
-      ≡ true = (λ i. seen.named i && directory_seen.named i) in
+      ≡ true = (λ i. parent_seen.named i && directory_seen.named i) in
       let on = one_on value held directory small_directory (λ none. some (ap (trees_numbers world) none)) in
       changed_then_detached value held
       (location_of parent) change filesystems made name permit permits gone reached named is_named applied

@@ -1,5 +1,5 @@
 -- What the events that change files and names answer.
-use Rattle.std.proofs.Common.{◌≡◌, refl, sym, ap, subst, ◌∙◌, ℕ, ◌<◌, ◌&&◌, true, nat_eq, List, Option, Some, None, is_some, OnErr, OnOk}
+use Rattle.std.proofs.Common.{◌≡◌, sym, ap, subst, ◌∙◌, ℕ, ◌<◌, ◌&&◌, true, nat_eq, List, is_some, OnErr, OnOk}
 use Rattle.std.specs.Prelude.{Err, Ok, Result}
 use Rattle.vt_spec.specs.declared.errors.Deny.{Deny}
 use Rattle.vt_spec.specs.Language.Calls.{TaskName}
@@ -7,7 +7,7 @@ use Rattle.vt_spec.specs.Language.Changes.Change.{AddName, Remove, SetBytes}
 use Rattle.vt_spec.specs.Machine.Permits.{Permit}
 use Rattle.vt_spec.specs.Machine.Permits.Permit.{ToChange}
 use Rattle.vt_spec.specs.Machine.World.{filesystem_at}
-use Rattle.vt_spec.specs.Inodes.{Inode, changed, node_in}
+use Rattle.vt_spec.specs.Inodes.{changed}
 use Rattle.vt_spec.specs.TreeInvariant.{entry_at}
 use Rattle.vt_fs.specs.FilesystemsValue.{ChangesInodes, Filesystems, inodes_seen}
 use Rattle.vt_location.specs.declared.locations.Location.{Location}
@@ -19,6 +19,8 @@ use Rattle.vt_detach.specs.WorldValue.{WorldValue, world_of}
 use Rattle.vt_detach.proofs.ChangedFiles.{IsFilesEvent, with_filesystems}
 use Rattle.vt_detach.proofs.FileEvents.{IsSmall, change_at, change_is_done, change_sees}
 use Rattle.vt_detach.proofs.FilesSeen.{also_there, inodes_named, located_filesystem, tree_of_entry}
+use Rattle.vt_attach.proofs.AttachedWorlds.{inode_is_there}
+use Rattle.vt_spec.proofs.Options.{OnOk_then}
 
 -- what an event that is given a permit leaves, where it may be refused memory
 pub record IsAnswered (value : WorldValue) (name : TaskName) (permit : Permit ℕ) (new : WorldValue)
@@ -26,6 +28,7 @@ pub record IsAnswered (value : WorldValue) (name : TaskName) (permit : Permit �
   pub held : IsHeld new
   pub ok : OnOk result (Becomes value name permit new)
 
+-- a change of files is answered by its event
 pub answered : (value : WorldValue) → IsHeld value → (name : TaskName) (permit : Permit ℕ) (filesystems : Filesystems)
     (result : Result (Unit {0}) Deny)
     → OnOk result (IsFilesEvent value name permit (with_filesystems value filesystems))
@@ -35,14 +38,11 @@ answered value held name permit filesystems (Ok done) event kept = record { held
 answered value held name permit filesystems (Err deny) event kept =
     record { held = subst (λ fs. IsHeld (with_filesystems value fs)) (sym kept) held; ok = tt }
 
-pub if_ok : {P Q : Type 0} (result : Result (Unit {0}) Deny) → (P → Q) → OnOk result P → OnOk result Q
-if_ok (Ok done) step p = step p
-if_ok (Err deny) step p = tt
-
 -- write(2)
 module _ (value : WorldValue) (held : IsHeld value) (name : TaskName) (file : Location) (bytes : List ℕ)
     (small : IsSmall file)
     (permits : Permits value name (ToChange (location_of file) (SetBytes (number_of file.node) bytes))) where
+  -- bytes are written to the file
   pub write_is_done : (filesystems : Filesystems)
       → ChangesInodes file.node.filesystem.count
       (λ inodes. changed nat_eq inodes (SetBytes (number_of file.node) bytes))
@@ -64,16 +64,14 @@ module _ (value : WorldValue) (held : IsHeld value) (name : TaskName) (directory
   linked_there = (change_sees value held name directory small
       (AddName (number_of directory.node) entry (number_of object)) permits).1.is_there
 
+  -- a link stays in one filesystem
   pub linked_in : object.filesystem ≡ directory.node.filesystem
   linked_in =
       also_there value held directory
       (change_at value held name directory small (AddName (number_of directory.node) entry (number_of object)) permits)
       object small_object linked_there
 
-  there_in : (o : Option (Inode ℕ)) → is_some (node_in o) ≡ true → is_some o ≡ true
-  there_in None there = there
-  there_in (Some inode) there = refl
-
+  -- a link is made, or the tree stays
   pub link_is_answered : (filesystems : Filesystems) (result : Result (Unit {0}) Deny)
       → OnOk result (ChangesInodes directory.node.filesystem.count
       (λ inodes. changed nat_eq inodes
@@ -88,12 +86,12 @@ module _ (value : WorldValue) (held : IsHeld value) (name : TaskName) (directory
       answered value held name (ToChange (location_of directory)
       (AddName (number_of directory.node) entry (number_of object))) filesystems
       result
-      (if_ok result
+      (OnOk_then result
       (change_is_done value held name directory small
       (AddName (number_of directory.node) entry (number_of object)) permits filesystems
       (λ i. inodes_named value.next directory.node.filesystem.count directory.node.slot i
       && inodes_named value.next object.filesystem.count object.slot i)
-      (there_in ((inodes_seen seen.entry).inode (number_of object))
+      (inode_is_there ((inodes_seen seen.entry).inode (number_of object))
       (ap (λ filesystem. is_some (filesystem.files.tree.node (number_of object)))
       (sym (located_filesystem value directory seen)) ∙ linked_there))
       (λ number other. tt)) ok)
@@ -105,6 +103,7 @@ module _ (value : WorldValue) (held : IsHeld value) (name : TaskName) (directory
     (small : IsSmall directory) (small_object : object.slot < 18446744073709551616)
     (permits : Permits value name (ToChange (location_of directory)
     (Remove (number_of directory.node) entry (number_of object)))) where
+  -- the object of a removed name is in the filesystem of its directory
   pub unlinked_in : object.filesystem ≡ directory.node.filesystem
   unlinked_in =
       let seen = change_at value held name directory small
@@ -119,6 +118,7 @@ module _ (value : WorldValue) (held : IsHeld value) (name : TaskName) (directory
       (sym (located_filesystem value directory seen))
       ∙ sees.1.named))
 
+  -- a name is removed
   pub unlink_is_done : (filesystems : Filesystems)
       → ChangesInodes directory.node.filesystem.count
       (λ inodes. changed nat_eq inodes

@@ -58,6 +58,7 @@ new_in_slot count slot small node fits = by node.content fits
     by (Symlink text) new = inr refl
     by Whiteout new = inr refl
 
+-- what a new inode names is what its permit names
 pub new_is_named : (named : ℕ → Bool) (directory : ℕ) (node : Node ℕ) → named directory ≡ true → IsNewIn directory node
     → content_named named node.content ≡ true
 new_is_named named directory node there new =
@@ -77,34 +78,38 @@ module _ (value : WorldValue) (held : IsHeld value) (name : TaskName) (directory
   abbrev permit : Permit ℕ
   permit = ToMake (location_of directory) entry (node_seen directory.node.filesystem.count node)
 
-  seen : IsLocated value directory
-  seen = located value held directory small (permit_fits value held name permit permits).names.reached.there
+  -- the directory stands where the world has it
+  directory_seen : IsLocated value directory
+  directory_seen = located value held directory small (permit_fits value held name permit permits).names.reached.there
 
   sees : MayBeMade (world_of value) (location_of directory) entry (node_seen directory.node.filesystem.count node)
   sees =
       given_permits_are_seen_to (world_of value) (supply_of value permit) permits.task permit held.in_world
       (files_are_plain value.filesystems) permits.given
 
+  -- it is new in its directory
   pub new_in_directory : IsNewIn directory.node.slot node
   new_in_directory = new_in_slot directory.node.filesystem.count directory.node.slot small node sees.fits
 
   abbrev change : ℕ → Change ℕ
   change number = Make (number_of directory.node) entry number (node_seen directory.node.filesystem.count node)
 
-  fits_next : (inodes : Inodes ℕ) → inodes ≡ inodes_seen seen.entry
+  fits_next : (inodes : Inodes ℕ) → inodes ≡ inodes_seen directory_seen.entry
       → Fits inodes (change (next_inode value (location_of directory)))
   fits_next inodes same =
       given_changes_fit (world_of value) (supply_of value permit) permits.task permit (location_of directory)
       (change (next_inode value (location_of directory))) inodes held.in_world
       (files_are_plain value.filesystems) permits.given refl
-      (ap tree_of same ∙ ap (λ filesystem. filesystem.files.tree) (sym (located_filesystem value directory seen)))
+      (ap tree_of same ∙ ap (λ filesystem. filesystem.files.tree)
+      (sym (located_filesystem value directory directory_seen)))
 
   -- the parent is a directory, and the name is free
   pub make_fits : Fits (inodes_at value.filesystems directory.node.filesystem.count)
       (change (next_inode value (location_of directory)))
   make_fits = fits_next (inodes_at value.filesystems directory.node.filesystem.count)
-      (located_inodes value directory seen)
+      (located_inodes value directory directory_seen)
 
+  -- an inode is made under its name
   pub make_is_done : (filesystems : Filesystems) (made : NodeRef) → made.slot < 18446744073709551616
       → made.filesystem ≡ directory.node.filesystem
       → number_of made ≡ next_seen (entry_at value.filesystems directory.node.filesystem.count)
@@ -114,7 +119,7 @@ module _ (value : WorldValue) (held : IsHeld value) (name : TaskName) (directory
   make_is_done filesystems made small_made inside number changes =
       files_are_changed value name permit (location_of directory) (change (number_of made)) filesystems held permits
       (record {
-        named = λ i. seen.named i
+        named = λ i. directory_seen.named i
             && new_is_named (is_counted_before value.next) (number_of directory.node)
             (node_seen directory.node.filesystem.count node)
             (inodes_named value.next directory.node.filesystem.count directory.node.slot) sees.fits i;
@@ -128,21 +133,22 @@ module _ (value : WorldValue) (held : IsHeld value) (name : TaskName) (directory
         applied_named = refl;
       })
       (record {
-        entry = seen.entry;
-        among = seen.among;
-        found = seen.found;
-        shows = seen.shows;
-        fits = subst (λ n. Fits (inodes_seen seen.entry) (change n)) next_is (fits_next (inodes_seen seen.entry) refl);
+        entry = directory_seen.entry;
+        among = directory_seen.among;
+        found = directory_seen.found;
+        shows = directory_seen.shows;
+        fits = subst (λ n. Fits (inodes_seen directory_seen.entry) (change n)) next_is
+            (fits_next (inodes_seen directory_seen.entry) refl);
         links = tt;
         changes =
             subst (λ count. ChangesInodes count
             (λ inodes. changed nat_eq inodes (change (number_of made))) value.filesystems filesystems)
-            (sym seen.count_is) changes;
+            (sym directory_seen.count_is) changes;
         own = λ n other same.
             true≢false (sym (ap (λ count. is_inode_of count (number_of made))
-            (seen.count_is ∙ ap (λ filesystem. filesystem.count) (sym inside))
+            (directory_seen.count_is ∙ ap (λ filesystem. filesystem.count) (sym inside))
             ∙ is_inode made.filesystem.count made.slot small_made)
-            ∙ ap (is_inode_of seen.entry.count) (sym same) ∙ other);
+            ∙ ap (is_inode_of directory_seen.entry.count) (sym same) ∙ other);
       })
     where
       quarter : (count : ℕ) → counted count / 4 ≡ count
@@ -150,6 +156,7 @@ module _ (value : WorldValue) (held : IsHeld value) (name : TaskName) (directory
 
       next_is : next_inode value (location_of directory) ≡ number_of made
       next_is =
-          ap (λ n. next_seen (entry_at value.filesystems (n / 4))) seen.shows
-          ∙ ap (λ n. next_seen (entry_at value.filesystems n)) (quarter seen.entry.count ∙ seen.count_is)
+          ap (λ n. next_seen (entry_at value.filesystems (n / 4))) directory_seen.shows
+          ∙ ap (λ n. next_seen (entry_at value.filesystems n))
+          (quarter directory_seen.entry.count ∙ directory_seen.count_is)
           ∙ sym number

@@ -30,9 +30,10 @@ use Rattle.vt_detach.specs.Events.{Becomes, Permits, supply_of}
 use Rattle.vt_detach.specs.Held.{IsHeld}
 use Rattle.vt_detach.specs.WorldValue.{WorldValue, world_of}
 use Rattle.vt_detach.proofs.ChangedFiles.{files_are_changed, with_filesystems}
-use Rattle.vt_ns.proofs.world.FileAnswers.{IsAnswered, answered, if_ok}
+use Rattle.vt_ns.proofs.world.FileAnswers.{IsAnswered, answered}
 use Rattle.vt_detach.proofs.FileEvents.{IsSmall}
 use Rattle.vt_detach.proofs.FilesSeen.{IsLocated, files_are_plain, located, located_filesystem, located_inodes}
+use Rattle.vt_spec.proofs.Options.{OnOk_then}
 
 -- what a task has open is there
 pub open_there : (value : WorldValue) → IsHeld value
@@ -52,11 +53,13 @@ open_there value held name permit permits file fits held_open =
 
 -- whether there are bytes, as code asks it
 
+-- a list of length zero has no bytes
 pub no_bytes : (bytes : List ℕ) (b : Bool) → b ≡ (length bytes == 0) → b ≡ true → bytes ≡ []
 no_bytes [] b is e = refl
 no_bytes (byte ∷ bytes) b is e =
     let none = eqb-true (length (byte ∷ bytes)) 0 (sym is ∙ e) in absurd (omega (arith, none))
 
+-- and one of another length has some
 pub some_bytes : (bytes : List ℕ) (b : Bool) → b ≡ (length bytes == 0) → b ≡ false → length bytes ≡ 0 → ⊥
 some_bytes [] b is e none = true≢false (sym (is ∙ eq-eqb 0 0 refl) ∙ e)
 some_bytes (byte ∷ bytes) b is e none = omega (arith, none)
@@ -81,8 +84,9 @@ module _ (value : WorldValue) (held : IsHeld value) (name : TaskName) (file : Lo
       given_permits_are_seen_to (world_of value) (supply_of value permit) permits.task permit held.in_world
       (files_are_plain value.filesystems) permits.given
 
-  seen : IsLocated value file
-  seen =
+  -- the file stands where the world has it
+  file_seen : IsLocated value file
+  file_seen =
       located value held file small
       (open_there value held name permit permits (location_of file) (λ descriptor. descriptor.writes) sees.0)
 
@@ -90,11 +94,12 @@ module _ (value : WorldValue) (held : IsHeld value) (name : TaskName) (file : Lo
   change = SetBytes (number_of file.node)
       (overwritten offset (byte ∷ rest) (bytes_in (node_at nat_eq (world_of value) (location_of file))))
 
-  fits : (inodes : Inodes ℕ) → inodes ≡ inodes_seen seen.entry → Fits inodes change
-  fits inodes same =
+  -- the change can be made to the inodes that are kept
+  change_fits : (inodes : Inodes ℕ) → inodes ≡ inodes_seen file_seen.entry → Fits inodes change
+  change_fits inodes same =
       given_changes_fit (world_of value) (supply_of value permit) permits.task permit (location_of file)
       change inodes held.in_world (files_are_plain value.filesystems) permits.given refl
-      (ap tree_of same ∙ ap (λ filesystem. filesystem.files.tree) (sym (located_filesystem value file seen)))
+      (ap tree_of same ∙ ap (λ filesystem. filesystem.files.tree) (sym (located_filesystem value file file_seen)))
 
   abbrev here : Inodes ℕ
   here = inodes_at value.filesystems file.node.filesystem.count
@@ -102,15 +107,19 @@ module _ (value : WorldValue) (held : IsHeld value) (name : TaskName) (file : Lo
   same_node : (files_at value.filesystems file.node.filesystem.count).tree.node (number_of file.node)
       ≡ node_at nat_eq (world_of value) (location_of file)
   same_node =
-      ap (λ inodes. (tree_of inodes).node (number_of file.node)) (located_inodes value file seen)
-      ∙ ap (λ filesystem. filesystem.files.tree.node (number_of file.node)) (sym (located_filesystem value file seen))
+      ap (λ inodes. (tree_of inodes).node (number_of file.node)) (located_inodes value file file_seen)
+      ∙ ap (λ filesystem. filesystem.files.tree.node (number_of file.node))
+      (sym (located_filesystem value file file_seen))
 
   -- the file is no directory, and the bytes end within the limit
   part_fits : (is_directory_node
       ((files_at value.filesystems file.node.filesystem.count).tree.node (number_of file.node)) ≡ false)
       × (offset + length (byte ∷ rest) ≤ largest_file)
-  part_fits =
-      ((fits here (located_inodes value file seen)).0, ltb-false largest_file (offset + length (byte ∷ rest)) sees.1)
+  part_fits = (
+    (change_fits here (located_inodes value file file_seen)).0,
+    ltb-false largest_file
+        (offset + length (byte ∷ rest)) sees.1,
+  )
 
   part_is_answered : (filesystems : Filesystems) (result : Result (Unit {0}) Deny)
       → OnOk result (ChangesInodes file.node.filesystem.count
@@ -122,10 +131,10 @@ module _ (value : WorldValue) (held : IsHeld value) (name : TaskName) (file : Lo
       → IsAnswered value name permit (with_filesystems value filesystems) result
   part_is_answered filesystems result ok err =
       answered value held name permit filesystems result
-      (if_ok result (λ changes.
+      (OnOk_then result (λ changes.
       files_are_changed value name permit (location_of file) change filesystems held permits
       (record {
-        named = seen.named;
+        named = file_seen.named;
         rest = supply_of value permit;
         applied = refl;
         named_supply = λ k. 0;
@@ -134,14 +143,14 @@ module _ (value : WorldValue) (held : IsHeld value) (name : TaskName) (file : Lo
         applied_named = refl;
       })
       (record {
-        entry = seen.entry;
-        among = seen.among;
-        found = seen.found;
-        shows = seen.shows;
-        fits = fits (inodes_seen seen.entry) refl;
+        entry = file_seen.entry;
+        among = file_seen.among;
+        found = file_seen.found;
+        shows = file_seen.shows;
+        fits = change_fits (inodes_seen file_seen.entry) refl;
         links = tt;
         changes =
-            subst (λ node. ChangesInodes seen.entry.count
+            subst (λ node. ChangesInodes file_seen.entry.count
             (λ inodes. changed nat_eq inodes
             (SetBytes (number_of file.node) (overwritten offset (byte ∷ rest) (bytes_in node))))
             value.filesystems filesystems) same_node
@@ -149,11 +158,12 @@ module _ (value : WorldValue) (held : IsHeld value) (name : TaskName) (file : Lo
             (λ inodes. changed nat_eq inodes (SetBytes (number_of file.node)
             (overwritten offset (byte ∷ rest)
             (bytes_in ((files_at value.filesystems file.node.filesystem.count).tree.node (number_of file.node))))))
-            value.filesystems filesystems) (sym seen.count_is) changes);
+            value.filesystems filesystems) (sym file_seen.count_is) changes);
         own = λ number other. tt;
       })) ok)
       err
 
+-- a part of a file is written, or the file stays
 pub write_part_is_answered : (value : WorldValue) → IsHeld value
     → (name : TaskName) (file : Location) (offset : ℕ) (bytes : List ℕ) → IsSmall file
     → Permits value name (ToWritePart (location_of file) offset bytes) → (length bytes ≡ 0 → ⊥)
@@ -169,6 +179,7 @@ write_part_is_answered value held name file offset [] small permits some filesys
 write_part_is_answered value held name file offset (byte ∷ rest) small permits some filesystems result ok err =
     part_is_answered value held name file offset byte rest small permits filesystems result ok err
 
+-- the part can be written
 pub write_part_fits : (value : WorldValue) → IsHeld value
     → (name : TaskName) (file : Location) (offset : ℕ) (bytes : List ℕ) → IsSmall file
     → Permits value name (ToWritePart (location_of file) offset bytes) → (length bytes ≡ 0 → ⊥)

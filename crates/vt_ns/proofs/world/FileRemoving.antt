@@ -28,6 +28,7 @@ use Rattle.vt_detach.proofs.FilesSeen.{IsLocated, also_there, files_are_plain, l
 
 -- Where no mount stands nothing is detached
 
+-- where no mount stands on a location none is detached with it
 pub nothing_detached : (value : WorldValue) → IsHeld value → (at : meant.Location ℕ)
     → mounts_on nat_eq (world_of value) at ≡ []
     → without_mounts_on nat_eq (world_of value) at ≡ world_of value
@@ -43,8 +44,9 @@ module _ (value : WorldValue) (held : IsHeld value) (name : TaskName) (parent : 
   abbrev permit : Permit ℕ
   permit = ToRemoveDirectory (location_of parent) entry (location_of directory)
 
-  seen : IsLocated value parent
-  seen = located value held parent small (permit_fits value held name permit permits).names.0.reached.there
+  -- the parent stands where the world has it
+  parent_seen : IsLocated value parent
+  parent_seen = located value held parent small (permit_fits value held name permit permits).names.0.reached.there
 
   directory_seen : IsLocated value directory
   directory_seen = located value held directory small_directory
@@ -58,25 +60,31 @@ module _ (value : WorldValue) (held : IsHeld value) (name : TaskName) (parent : 
   abbrev change : Change ℕ
   change = Remove (number_of parent.node) entry (number_of directory.node)
 
+  -- a directory is in the filesystem of its parent
   pub removed_in : directory.node.filesystem ≡ parent.node.filesystem
   removed_in =
-      also_there value held parent seen directory.node small_directory
+      also_there value held parent parent_seen directory.node small_directory
       (ap (λ filesystem. is_some (filesystem.files.tree.node (number_of directory.node)))
-      (located_filesystem value parent seen)
-      ∙ (tree_of_entry value held seen.entry seen.among).alive (number_of parent.node) entry (number_of directory.node)
+      (located_filesystem value parent parent_seen)
+      ∙ (tree_of_entry value held parent_seen.entry parent_seen.among).alive (number_of parent.node) entry
+      (number_of directory.node)
       (ap (λ filesystem. entry_at filesystem.files.tree (number_of parent.node) entry)
-      (sym (located_filesystem value parent seen))
+      (sym (located_filesystem value parent parent_seen))
       ∙ sees.1.named))
 
-  fits : (inodes : Inodes ℕ) → inodes ≡ inodes_seen seen.entry → Fits inodes change
-  fits inodes same =
+  -- the change can be made to the inodes that are kept
+  change_fits : (inodes : Inodes ℕ) → inodes ≡ inodes_seen parent_seen.entry → Fits inodes change
+  change_fits inodes same =
       given_changes_fit (world_of value) (supply_of value permit) permits.task permit (location_of parent)
       change inodes held.in_world (files_are_plain value.filesystems) permits.given refl
-      (ap tree_of same ∙ ap (λ filesystem. filesystem.files.tree) (sym (located_filesystem value parent seen)))
+      (ap tree_of same ∙ ap (λ filesystem. filesystem.files.tree) (sym (located_filesystem value parent parent_seen)))
 
+  -- it can be removed
   pub removal_fits : Fits (inodes_at value.filesystems parent.node.filesystem.count) change
-  removal_fits = fits (inodes_at value.filesystems parent.node.filesystem.count) (located_inodes value parent seen)
+  removal_fits = change_fits (inodes_at value.filesystems parent.node.filesystem.count)
+      (located_inodes value parent parent_seen)
 
+  -- a directory on which no mount stands is removed
   pub removal_is_done : mounts_on nat_eq (world_of value) (location_of directory) ≡ [] → (filesystems : Filesystems)
       → ChangesInodes parent.node.filesystem.count
       (λ inodes. changed nat_eq inodes change) value.filesystems filesystems
@@ -84,7 +92,7 @@ module _ (value : WorldValue) (held : IsHeld value) (name : TaskName) (parent : 
   removal_is_done none filesystems changes =
       files_are_changed value name permit (location_of parent) change filesystems held permits
       (record {
-        named = λ i. seen.named i && directory_seen.named i;
+        named = λ i. parent_seen.named i && directory_seen.named i;
         rest = supply_of value permit;
         applied = ap (λ world. with_change nat_eq (supply_of value permit) world (location_of parent) change)
             (nothing_detached value held (location_of directory) none);
@@ -95,14 +103,14 @@ module _ (value : WorldValue) (held : IsHeld value) (name : TaskName) (parent : 
             (nothing_detached value held (location_of directory) none);
       })
       (record {
-        entry = seen.entry;
-        among = seen.among;
-        found = seen.found;
-        shows = seen.shows;
-        fits = fits (inodes_seen seen.entry) refl;
+        entry = parent_seen.entry;
+        among = parent_seen.among;
+        found = parent_seen.found;
+        shows = parent_seen.shows;
+        fits = change_fits (inodes_seen parent_seen.entry) refl;
         links = tt;
         changes =
             subst (λ count. ChangesInodes count (λ inodes. changed nat_eq inodes change) value.filesystems filesystems)
-            (sym seen.count_is) changes;
+            (sym parent_seen.count_is) changes;
         own = λ number other. tt;
       })

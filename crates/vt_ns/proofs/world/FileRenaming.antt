@@ -47,11 +47,13 @@ module _ (value : WorldValue) (held : IsHeld value) (name : TaskName) (from : Lo
   abbrev change : Change ℕ
   change = Move (number_of from.node) old (number_of to.node) new (number_of object.node)
 
+  -- the permit names what is there
   pub names : NamesWhatIsThere (world_of value) permits.task permit
   names = (permit_fits value held name permit permits).names
 
-  pub seen : IsLocated value from
-  seen = located value held from small names.0.reached.there
+  -- the directory of the old name stands where the world has it
+  pub from_seen : IsLocated value from
+  from_seen = located value held from small names.0.reached.there
 
   to_seen : IsLocated value to
   to_seen = located value held to small_to names.1.reached.there
@@ -59,6 +61,7 @@ module _ (value : WorldValue) (held : IsHeld value) (name : TaskName) (from : Lo
   object_seen : IsLocated value object
   object_seen = located value held object small_object names.2.there
 
+  -- the rename may be made
   pub sees : MayBeRenamed (world_of value) (location_of from) old (location_of to) new (location_of object)
       (option_map location_of replaced)
   sees =
@@ -70,7 +73,7 @@ module _ (value : WorldValue) (held : IsHeld value) (name : TaskName) (from : Lo
       → is_located_well nat_eq (world_of value) (location_of at) ≡ true
       → at.node.filesystem ≡ from.node.filesystem
   same_filesystem at small_at same well =
-      also_there value held from seen at.node small_at
+      also_there value held from from_seen at.node small_at
       (ap (λ mount. is_some ((filesystem_numbered nat_eq (world_of value)
       (mount_numbered nat_eq (world_of value) mount).filesystem).files.tree.node (number_of at.node)))
       (sym same) ∙ (and_parts (is_among nat_eq (location_of at).mount
@@ -78,23 +81,29 @@ module _ (value : WorldValue) (held : IsHeld value) (name : TaskName) (from : Lo
       (is_there nat_eq (world_of value) (mount_at nat_eq (world_of value) (location_of at)).filesystem
       (location_of at).node) well).1)
 
+  -- both directories are in one filesystem
   pub renamed_to : to.node.filesystem ≡ from.node.filesystem
   renamed_to = same_filesystem to small_to sees.to_mount names.1.reached.there
 
+  -- and so is the object
   pub renamed_object : object.node.filesystem ≡ from.node.filesystem
   renamed_object = same_filesystem object small_object sees.object_mount names.2.there
 
-  pub fits : (inodes : Inodes ℕ) → inodes ≡ inodes_seen seen.entry → Fits inodes change
-  fits inodes same =
+  -- the change can be made to the inodes that are kept
+  pub change_fits : (inodes : Inodes ℕ) → inodes ≡ inodes_seen from_seen.entry → Fits inodes change
+  change_fits inodes same =
       given_changes_fit (world_of value) (supply_of value permit) permits.task permit (location_of from)
       change inodes held.in_world (files_are_plain value.filesystems) permits.given refl
-      (ap tree_of same ∙ ap (λ filesystem. filesystem.files.tree) (sym (located_filesystem value from seen)))
+      (ap tree_of same ∙ ap (λ filesystem. filesystem.files.tree) (sym (located_filesystem value from from_seen)))
 
+  -- the rename can be made
   pub rename_fits : Fits (inodes_at value.filesystems from.node.filesystem.count) change
-  rename_fits = fits (inodes_at value.filesystems from.node.filesystem.count) (located_inodes value from seen)
+  rename_fits = change_fits (inodes_at value.filesystems from.node.filesystem.count)
+      (located_inodes value from from_seen)
 
+  -- the permit names numbers that were counted
   pub is_named : permit_named (is_counted_before value.next) permit ≡ true
-  is_named = λ i. seen.named i && to_seen.named i && object_seen.named i && by replaced names.3 i
+  is_named = λ i. from_seen.named i && to_seen.named i && object_seen.named i && by replaced names.3 i
     where
       by : (o : Option Location) → ((other : meant.Location ℕ) → option_map location_of o ≡ Some other
           → IsReached (world_of value) permits.task other)
@@ -108,6 +117,7 @@ module _ (value : WorldValue) (held : IsHeld value) (name : TaskName) (from : Lo
   nothing_replaced None none = refl
   nothing_replaced (Some other) none = nothing_detached value held (location_of other) none
 
+  -- an object is renamed where no mount stands on what it replaces
   pub rename_alone_is_done : IfSome replaced (λ other. mounts_on nat_eq (world_of value) (location_of other) ≡ [])
       → (filesystems : Filesystems)
       → ChangesInodes from.node.filesystem.count (λ inodes. changed nat_eq inodes change) value.filesystems filesystems
@@ -126,14 +136,14 @@ module _ (value : WorldValue) (held : IsHeld value) (name : TaskName) (from : Lo
             (nothing_replaced replaced none);
       })
       (record {
-        entry = seen.entry;
-        among = seen.among;
-        found = seen.found;
-        shows = seen.shows;
-        fits = fits (inodes_seen seen.entry) refl;
+        entry = from_seen.entry;
+        among = from_seen.among;
+        found = from_seen.found;
+        shows = from_seen.shows;
+        fits = change_fits (inodes_seen from_seen.entry) refl;
         links = tt;
         changes =
             subst (λ count. ChangesInodes count (λ inodes. changed nat_eq inodes change) value.filesystems filesystems)
-            (sym seen.count_is) changes;
+            (sym from_seen.count_is) changes;
         own = λ number other. tt;
       })

@@ -35,13 +35,15 @@ use Rattle.vt_permit_laws.proofs.sees.SeesTasks.{given_permits_are_seen_to}
 use Rattle.vt_detach.proofs.FileEvents.{permit_fits}
 use Rattle.vt_detach.proofs.FilesSeen.{files_are_plain}
 use Rattle.vt_detach.proofs.LocationsSeen.{seen_where_located}
-use Rattle.vt_detach.proofs.Closing.{Goes, around, place, times_around, used_by}
+use Rattle.vt_detach.proofs.Closing.{Goes, around, place, used_by}
 use Rattle.vt_detach.proofs.Moving.{Moves, only_left}
 use Rattle.vt_detach.proofs.Places.{located_is_named}
 use Rattle.vt_detach.proofs.Remaining.{remade, remains_done}
 use Rattle.vt_detach.proofs.Splits.{IsSplit, locations_around, replaced_split, times_replaced, writes_replaced}
 use Rattle.vt_detach.proofs.Staying.{IsDone, after}
+use Rattle.vt_letting_go.proofs.Lists.{times_around}
 
+-- a descriptor that is put in can be taken out
 pub inserted_goes : (new : Descriptor ℕ) (all : List (Descriptor ℕ)) → Goes new (inserted new all) all
 inserted_goes new [] = record { front = []; back = []; was = refl; is = refl }
 inserted_goes new (first ∷ rest) = by (nat_lt new.number first.number) (inserted_goes new rest)
@@ -69,6 +71,7 @@ module _ (value : WorldValue) (whole : IsHeld value) (name : TaskName) (task : T
   abbrev split : IsSplit task opens value.tasks (replaced opens value.tasks)
   split = replaced_split name value.tasks task opens whole.in_world.tasks.one_task found refl
 
+  -- the task with a descriptor more uses one location more
   pub opened_moves : Moves value (replaced opens value.tasks) (used_by descriptor ∷ []) []
   opened_moves = record {
     front = locations_in split.front ++ (task.root ∷ task.directory ∷ map place goes.front);
@@ -94,6 +97,7 @@ module _ (value : WorldValue) (whole : IsHeld value) (name : TaskName) (task : T
         omega (arith, moved, was, is);
   }
 
+  -- no mount goes where a file is opened
   pub opened_stays : without_dead_mounts nat_eq (world_of (after value (replaced opens value.tasks)))
       ≡ world_of (after value (replaced opens value.tasks))
   opened_stays =
@@ -102,6 +106,7 @@ module _ (value : WorldValue) (whole : IsHeld value) (name : TaskName) (task : T
       (mounts_of_worlds_stand (world_of value) whole.in_world)
       (only_left value whole (replaced opens value.tasks) (used_by descriptor ∷ []) [] opened_moves))
 
+  -- each namespace has as many tasks as before
   pub opened_tasks : (namespace : ℕ)
       → times (λ one. nat_eq namespace one.namespace) (replaced opens value.tasks)
       ≡ times (λ one. nat_eq namespace one.namespace) value.tasks

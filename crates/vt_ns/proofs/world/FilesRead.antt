@@ -16,6 +16,7 @@ use Rattle.vt_detach.proofs.FileEvents.{IsSmall}
 use Rattle.vt_ns.proofs.world.FileParts.{open_there}
 use Rattle.vt_detach.proofs.FilesSeen.{files_are_plain, looked_node}
 
+-- the directory that is listed is that of the world
 pub listed_node : (value : WorldValue) → IsHeld value → (name : TaskName) (directory : Location) → IsSmall directory
     → Permits value name (ToList (location_of directory))
     → (files_at value.filesystems directory.node.filesystem.count).tree.node (number_of directory.node)
@@ -25,6 +26,7 @@ listed_node value held name directory small permits =
     (given_permits_are_seen_to (world_of value) (supply_of value (ToList (location_of directory))) permits.task
     (ToList (location_of directory)) held.in_world (files_are_plain value.filesystems) permits.given))
 
+-- the file that is read is that of the world
 pub read_node : (value : WorldValue) → IsHeld value → (name : TaskName) (file : Location) (offset size : ℕ)
     → IsSmall file
     → Permits value name (ToReadPart (location_of file) offset size)

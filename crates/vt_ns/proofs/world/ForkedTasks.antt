@@ -15,7 +15,7 @@ use Rattle.vt_spec.specs.Rights.{Credentials}
 use Rattle.vt_location.proofs.NumberLemmas.{counted_test}
 use Rattle.vt_fs.specs.FilesystemsValue.{Filesystems}
 use Rattle.vt_letting_go.specs.Counts.{times}
-use Rattle.vt_letting_go.proofs.Lists.{Among, among-append_left, among-append_right, among-from_map, among_from_all, map_alike, map_twice, passes}
+use Rattle.vt_letting_go.proofs.Lists.{Among, among-append_left, among-append_right, among-from_map, among_from_all, passes}
 use Rattle.vt_letting_go.proofs.sweeps.OneByOne.{mounts_go_one_by_one}
 use Rattle.vt_letting_go.proofs.sweeps.OfWorlds.{mounts_of_worlds_stand}
 use Rattle.vt_letting_go.proofs.leaving.PlacesLeft.{mounts_but}
@@ -43,6 +43,7 @@ use Rattle.vt_detach.proofs.Places.{standing}
 use Rattle.vt_ns.proofs.world.RemainingTasks.{CountsTasks, remade_in, remains_done_in}
 use Rattle.vt_detach.proofs.Splits.{IsSplit, locations_around, locations_stay, replaced_split, times_replaced, writes_replaced}
 use Rattle.vt_detach.proofs.Staying.{IsDone, after}
+use Rattle.vt_spec.proofs.Lists.{map_alike, map_twice}
 
 writes_append : (mount : ℕ) (xs ys : Tasks) → writes_of mount (xs ++ ys) ≡ writes_of mount xs + writes_of mount ys
 writes_append mount [] ys = omega arith
@@ -53,6 +54,7 @@ writes_append mount (x ∷ xs) ys = let rest = writes_append mount xs ys in omeg
 module _ (value : WorldValue) (whole : IsHeld value) (count : ℕ) (tasks : Tasks)
     (more : (namespace : ℕ) → times (λ task. nat_eq namespace task.namespace) tasks
     ≡ times (λ task. nat_eq namespace task.namespace) value.tasks + one_if (nat_eq namespace (counted count))) where
+  -- a task more is counted in its namespace
   pub task_is_counted : CountsTasks value (with_task_more count value.namespaces) tasks
   task_is_counted = record {
     same = map_twice namespace_of (λ entry. cond (nat_eq count entry.count) (more_tasks entry) entry) value.namespaces
@@ -93,6 +95,7 @@ module _ (value : WorldValue) (whole : IsHeld value) (count : ℕ) (tasks : Task
 module _ (value : WorldValue) (whole : IsHeld value) (name : TaskName) (task : Task ℕ)
     (found : task_called (world_of value) name ≡ Some task)
     (credentials : Credentials) where
+  -- the tasks with a child behind its parent
   abbrev pub tasks_forked : Tasks
   tasks_forked = with_child_behind task (child_of task credentials) value.tasks
 
@@ -112,9 +115,11 @@ module _ (value : WorldValue) (whole : IsHeld value) (name : TaskName) (task : T
       (among-append_right (locations_in split.front) (locations_of task ++ locations_in split.back) place
       (among-append_left (locations_of task) (locations_in split.back) place m)))
 
+  -- the root of the parent is a location of the world
   pub root_there : is_located_well nat_eq (world_of value) task.root ≡ true
   root_there = place_there task.root (inl refl)
 
+  -- and so is its working directory
   pub directory_there : is_located_well nat_eq (world_of value) task.directory ≡ true
   directory_there = place_there task.directory (inr (inl refl))
 
@@ -151,6 +156,7 @@ module _ (value : WorldValue) (whole : IsHeld value) (name : TaskName) (task : T
       let all = times_append (λ (one : Task ℕ). nat_eq namespace one.namespace) once (child_of task credentials ∷ []) in
       omega (arith, moved, all)
 
+  -- a fork is done
   pub forked_done : (permit_given : Permits value name (ToFork credentials)) → permit_given.task ≡ task
       → (count : ℕ) → counted count ≡ task.namespace
       → (root directory : Location) → location_of root ≡ task.root → location_of directory ≡ task.directory

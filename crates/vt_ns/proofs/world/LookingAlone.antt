@@ -9,6 +9,7 @@ use Rattle.vt_detach.specs.Held.{IsHeld}
 use Rattle.vt_ns.specs.LookingAlone.{LookingChangesNothing, looks_alone}
 use Rattle.vt_detach.specs.WorldValue.{WorldValue, world_of}
 
+-- a call that only looks changes nothing
 pub looking_changes_nothing : (value : WorldValue) → IsHeld value → LookingChangesNothing value
 looking_changes_nothing value held name permit looks permits task called =
     subst (λ world. SameWorlds world (world_of value)) (sym (by permit looks))

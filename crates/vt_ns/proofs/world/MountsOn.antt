@@ -23,7 +23,7 @@ use Rattle.vt_detach.proofs.FileEvents.{IsSmall}
 use Rattle.vt_detach.proofs.LazilyUnmounted.{to_spec, trees_numbers}
 use Rattle.vt_detach.proofs.LocationsSeen.{seen_where_located}
 use Rattle.vt_detach.proofs.LookLemmas.{point_seen, points_are}
-use Rattle.vt_fs.proofs.TreesLookedAt.{or_nothing}
+use Rattle.std.proofs.Math.Bool.{or-false}
 
 -- Trees by the numbers of their mounts
 
@@ -43,21 +43,20 @@ trees_are_some : (depth : ℕ) (mounts : List (Mount ℕ)) (top : Mount ℕ) (re
 trees_are_some zero mounts top rest e = absurd cc
 trees_are_some (suc depth) mounts top rest e = absurd cc
 
+-- trees without mounts have no tops
 pub none_on : (world : World ℕ) (all : List (Mount ℕ)) → trees_numbers world all ≡ [] → all ≡ []
 none_on world [] e = refl
 none_on world (top ∷ rest) e =
     absurd (trees_are_some (length world.mounts) world.mounts top (flat_map (mount_tree nat_eq world.mounts) rest) e)
 
-pub none_counted : (ids : List MountId) → length ids ≡ 0 → map (λ id. counted id.count) ids ≡ []
-none_counted [] none = refl
-none_counted (id ∷ ids) none = absurd cc
-
+-- one that is not empty has some
 pub some_counted : (ids : List MountId) → length ids ≢ 0 → map (λ id. counted id.count) ids ≢ []
 some_counted [] some e = some refl
 some_counted (id ∷ ids) some e = absurd cc
 
 -- The mounts on a directory
 
+-- the mounts on a location
 abbrev pub tops_on : WorldValue → Location → List (Mount ℕ)
 tops_on value at = mounts_on nat_eq (world_of value) (location_of at)
 
@@ -95,6 +94,7 @@ module _ (value : WorldValue) (held : IsHeld value) (at : Location) (small : IsS
       found_itself (mounts_in value.mounts) held.in_world.mounts.one_number top
       (among-from_filter stands_there (mounts_in value.mounts) top m).0)
 
+  -- where the list is not empty a mount stands there
   pub one_on : tops_on value at ≢ [] → IsOn value at
   one_on = among_tops (tops_on value at) refl
     where
@@ -126,7 +126,7 @@ module _ (value : WorldValue) (held : IsHeld value) (at : Location) (small : IsS
           let from = among-from_filter stands_there world.mounts top
           (subst (λ all. Among top all) (sym is) (inl refl)) in
           by top from.0 top.mount_point refl
-          (sym (or_nothing (is_point nat_eq world (mount_at nat_eq world (location_of at)).filesystem
+          (sym (or-false (is_point nat_eq world (mount_at nat_eq world (location_of at)).filesystem
           (number_of at.node) top))
           ∙ ap (list_any (λ (point : ℕ × ℕ). is_point nat_eq world point.0 point.1 top))
           (sym (points_are value held at small)) ∙ from.1)

@@ -27,11 +27,13 @@ use Rattle.vt_detach.proofs.FileEvents.{permit_fits}
 
 module _ (value : WorldValue) (whole : IsHeld value) (name : TaskName) (number : ℕ) (place : Location)
     (permits : Permits value name (ToMove number (location_of place))) where
+  -- the new mount point is a location of the world
   pub move_place_there : is_located_well nat_eq (world_of value) (location_of place) ≡ true
   move_place_there =
       (permit_fits value whole name
       (ToMove number (location_of place)) permits).names.destination.directory.reached.there
 
+  -- the mount that moves is attached
   pub moved_there : is_some (mount_numbered nat_eq (world_of value) number).namespace ≡ true
   moved_there = ap is_some (permit_fits value whole name (ToMove number (location_of place)) permits).names.own
 
@@ -47,8 +49,9 @@ module _ (value : WorldValue) (number : ℕ)
   abbrev tree : List (Mount ℕ)
   tree = mount_tree nat_eq (mounts_in value.mounts) (mount_numbered nat_eq (world_of value) number)
 
-  there : (mount : Mount ℕ) → Among mount tree → Among mount (mounts_in value.mounts)
-  there mount m = of_tree (world_of value) number attached _ mount m
+  -- a mount of the tree is one of the world
+  tree_among : (mount : Mount ℕ) → Among mount tree → Among mount (mounts_in value.mounts)
+  tree_among mount m = of_tree (world_of value) number attached _ mount m
 
   top_is : mount_of top ≡ mount_numbered nat_eq (world_of value) number
   top_is = ap (λ o. unwrap_or o (no_mount number)) found
@@ -66,16 +69,17 @@ module _ (value : WorldValue) (number : ℕ)
       by true e =
           let same : mount ≡ mount_of top =
           same_numbered (mounts_in value.mounts) (ascending_once (mounts_in value.mounts) ascending) mount
-          (mount_numbered nat_eq (world_of value) number) (there mount m) top_there
+          (mount_numbered nat_eq (world_of value) number) (tree_among mount m) top_there
           (eqb-true mount.number (counted top.number.count) e ∙ ap (λ (x : Mount ℕ). x.number) top_is)
           ∙ sym top_is in
           ap (λ (x : Mount ℕ). record mount { filesystem = x.filesystem; root = x.root }) (sym same)
 
+  -- the tree that code lists is that of the mount that moves
   pub tree_below : (ids : List MountId)
       → AreOf ids (mount_tree nat_eq (mounts_in value.mounts) (mount_numbered nat_eq (world_of value) number))
       → bound_mounts (record { mount = top.number; node = top.root }) (mounts_in value.mounts) ids
       ≡ mount_tree nat_eq (mounts_in value.mounts) (mount_numbered nat_eq (world_of value) number)
   tree_below ids are =
       picked (rooted_at source) (mounts_in value.mounts) tree ids are
-      (λ mount m. ascending_found (mounts_in value.mounts) ascending mount (there mount m))
+      (λ mount m. ascending_found (mounts_in value.mounts) ascending mount (tree_among mount m))
       ∙ map_same (rooted_at source) tree same_rooted

@@ -103,17 +103,20 @@ module _ (value : WorldValue) (held : IsHeld value) (name : TaskName) (directory
   abbrev next_number : ℕ
   next_number = next_inode value (location_of directory)
 
-  fits : IsFitPermit handed (world_of value) permits.task permit
-  fits = permit_fits value held name permit permits
+  -- the permit names what is there
+  permit_is_fit : IsFitPermit handed (world_of value) permits.task permit
+  permit_is_fit = permit_fits value held name permit permits
 
-  seen : IsLocated value directory
-  seen = located value held directory small fits.names.0.reached.there
+  -- the directory stands where the world has it
+  directory_seen : IsLocated value directory
+  directory_seen = located value held directory small permit_is_fit.names.0.reached.there
 
   sees : MayBeMade (world_of value) (location_of directory) entry (node_seen count node) × HasRoom permits.task
   sees =
       given_permits_are_seen_to (world_of value) handed permits.task permit held.in_world
       (files_are_plain value.filesystems) permits.given
 
+  -- the new file is new in its directory
   pub new_in_directory : IsNewIn directory.node.slot node
   new_in_directory = new_in_slot count directory.node.slot small node sees.0.fits
 
@@ -124,38 +127,41 @@ module _ (value : WorldValue) (held : IsHeld value) (name : TaskName) (directory
   abbrev change : ℕ → Change ℕ
   change number = Make (number_of directory.node) entry number (node_seen count node)
 
-  fits_next : (inodes : Inodes ℕ) → inodes ≡ inodes_seen seen.entry → Fits inodes (change next_number)
+  fits_next : (inodes : Inodes ℕ) → inodes ≡ inodes_seen directory_seen.entry → Fits inodes (change next_number)
   fits_next inodes same =
       given_changes_fit (world_of value) handed permits.task permit (location_of directory)
       (change next_number) inodes held.in_world
       (files_are_plain value.filesystems) permits.given refl
-      (ap tree_of same ∙ ap (λ filesystem. filesystem.files.tree) (sym (located_filesystem value directory seen)))
+      (ap tree_of same ∙ ap (λ filesystem. filesystem.files.tree)
+      (sym (located_filesystem value directory directory_seen)))
 
   -- the parent is a directory, and the name is free
   pub make_fits : Fits (inodes_at value.filesystems count) (change next_number)
-  make_fits = fits_next (inodes_at value.filesystems count) (located_inodes value directory seen)
+  make_fits = fits_next (inodes_at value.filesystems count) (located_inodes value directory directory_seen)
 
   -- the filesystem is there, and has a number for one more inode
-  has_filesystem : entry_of value.filesystems count ≡ Some seen.entry
-  has_filesystem = ap (entry_of value.filesystems) (sym seen.count_is) ∙ seen.found
+  has_filesystem : entry_of value.filesystems count ≡ Some directory_seen.entry
+  has_filesystem = ap (entry_of value.filesystems) (sym directory_seen.count_is) ∙ directory_seen.found
 
+  -- a slot is free for it
   pub has_next : (next : Option NodeRef)
       → option_map number_of next ≡ option_map next_seen (entry_of value.filesystems count) → is_some next ≡ true
   has_next next is = sym (is_some_mapped number_of next) ∙ ap is_some is
       ∙ ap (λ o. is_some (option_map next_seen o)) has_filesystem
 
+  -- and it gets the number of that slot
   pub next_is_numbered : (next : Option NodeRef) (file : NodeRef)
       → option_map number_of next ≡ option_map next_seen (entry_of value.filesystems count)
       → next ≡ Some file → number_of file ≡ next_seen (entry_at value.filesystems count)
   next_is_numbered next file is some =
-      let same : Some (number_of file) ≡ Some (next_seen seen.entry) =
+      let same : Some (number_of file) ≡ Some (next_seen directory_seen.entry) =
       ap (option_map number_of) (sym some) ∙ is ∙ ap (option_map next_seen) has_filesystem in
-      same_Some (number_of file) (next_seen seen.entry) same
+      same_Some (number_of file) (next_seen directory_seen.entry) same
       ∙ ap (λ o. next_seen (unwrap_or o (no_entry count))) (sym has_filesystem)
 
   named : permit_named (is_counted_before value.next) making ≡ true
   named =
-      λ i. seen.named i
+      λ i. directory_seen.named i
       && new_is_named (is_counted_before value.next) (number_of directory.node) (node_seen count node)
       (inodes_named value.next count directory.node.slot) sees.0.fits i
 
@@ -165,7 +171,7 @@ module _ (value : WorldValue) (held : IsHeld value) (name : TaskName) (directory
       (files_are_plain value.filesystems) permits.given
 
   making_fits : IsFitPermit handed (world_of value) permits.task making
-  making_fits = record { names = fits.names.0; few_mounts = fits.few_mounts }
+  making_fits = record { names = permit_is_fit.names.0; few_mounts = permit_is_fit.few_mounts }
 
   -- the file is made
   module _ (made_in : Filesystems) (made : NodeRef) (small_made : made.slot < 18446744073709551616)
@@ -178,8 +184,9 @@ module _ (value : WorldValue) (held : IsHeld value) (name : TaskName) (directory
 
     next_is : next_number ≡ number_of made
     next_is =
-        ap (λ n. next_seen (entry_at value.filesystems (n / 4))) seen.shows
-        ∙ ap (λ n. next_seen (entry_at value.filesystems n)) (quarter seen.entry.count ∙ seen.count_is)
+        ap (λ n. next_seen (entry_at value.filesystems (n / 4))) directory_seen.shows
+        ∙ ap (λ n. next_seen (entry_at value.filesystems n))
+        (quarter directory_seen.entry.count ∙ directory_seen.count_is)
         ∙ sym number
       where
         quarter : (n : ℕ) → counted n / 4 ≡ n
@@ -187,21 +194,22 @@ module _ (value : WorldValue) (held : IsHeld value) (name : TaskName) (directory
 
     is_made : ChangesFiles value (location_of directory) (change (number_of made)) made_in
     is_made = record {
-      entry = seen.entry;
-      among = seen.among;
-      found = seen.found;
-      shows = seen.shows;
-      fits = subst (λ n. Fits (inodes_seen seen.entry) (change n)) next_is (fits_next (inodes_seen seen.entry) refl);
+      entry = directory_seen.entry;
+      among = directory_seen.among;
+      found = directory_seen.found;
+      shows = directory_seen.shows;
+      fits = subst (λ n. Fits (inodes_seen directory_seen.entry) (change n)) next_is
+          (fits_next (inodes_seen directory_seen.entry) refl);
       links = tt;
       changes =
           subst (λ n. ChangesInodes n (λ inodes.
           changed nat_eq inodes (change (number_of made))) value.filesystems made_in)
-          (sym seen.count_is) changes;
+          (sym directory_seen.count_is) changes;
       own = λ n other same.
           true≢false (sym (ap (λ k. is_inode_of k (number_of made))
-          (seen.count_is ∙ ap (λ filesystem. filesystem.count) (sym inside))
+          (directory_seen.count_is ∙ ap (λ filesystem. filesystem.count) (sym inside))
           ∙ is_inode made.filesystem.count made.slot small_made)
-          ∙ ap (is_inode_of seen.entry.count) (sym same) ∙ other);
+          ∙ ap (is_inode_of directory_seen.entry.count) (sym same) ∙ other);
     }
 
     -- the world once it is made, whatever numbers are left over
@@ -266,6 +274,7 @@ module _ (value : WorldValue) (held : IsHeld value) (name : TaskName) (directory
         (change_is_swept value held (location_of directory) (change (number_of made)) made_in is_made
         (odds handed)) left.1 left.0).0
 
+    -- what holds of each world holds once the file is made
     pub mid_held : IsHeld mid
     mid_held =
         change_is_held value held (location_of directory) (change (number_of made)) made_in is_made mid_is_world
@@ -278,11 +287,11 @@ module _ (value : WorldValue) (held : IsHeld value) (name : TaskName) (directory
 
     -- the new inode has one use
     pub used_once : uses_in ((inodes_at made_in count).inode (number_of made)) ≡ 1
-    unfolding is_made seen
+    unfolding is_made directory_seen
     used_once =
         let with_file = partner value held (location_of directory) (change (number_of made)) made_in is_made in
         let found : entry_of made_in count ≡ Some with_file.entry =
-        ap (entry_of made_in) (sym (with_file.is.count_is ∙ seen.count_is))
+        ap (entry_of made_in) (sym (with_file.is.count_is ∙ directory_seen.count_is))
         ∙ one_entry made_in mid_is_world.files.one_filesystem with_file.entry with_file.among in
         ap (λ o. uses_in ((inodes_seen (unwrap_or o (no_entry count))).inode (number_of made))) found
         ∙ ap (λ (inodes : Inodes ℕ). uses_in (inodes.inode (number_of made)))
@@ -334,8 +343,9 @@ module _ (value : WorldValue) (held : IsHeld value) (name : TaskName) (directory
         same_worlds_are_under_way (opened_at (odds handed)) next (opened_same (odds handed))
         (subst IsWorldButForUse opened_applied under_way)
 
-    there : is_located_well nat_eq (world_of mid) (location_of file) ≡ true
-    there =
+    -- the new file is a location of the world
+    file_located : is_located_well nat_eq (world_of mid) (location_of file) ≡ true
+    file_located =
         among_from_list_all (is_located_well nat_eq next) (all_locations next) under_next.tasks.locations_live
         (location_of file)
         (among-flat_map locations_of tasks opens (location_of file) opens_among (inr (inr file_among)))
@@ -354,10 +364,10 @@ module _ (value : WorldValue) (held : IsHeld value) (name : TaskName) (directory
             (among-append_right goes.front (descriptor ∷ goes.back) descriptor (inl refl)))
 
     moves : Moves mid tasks (used_by descriptor ∷ []) []
-    moves = opened_moves mid mid_held name permits.task permits.called descriptor there
+    moves = opened_moves mid mid_held name permits.task permits.called descriptor file_located
 
     stay : without_dead_mounts nat_eq next ≡ next
-    stay = opened_stays mid mid_held name permits.task permits.called descriptor there
+    stay = opened_stays mid mid_held name permits.task permits.called descriptor file_located
 
     opened_alike : (rest : Fresh ℕ) → SameWorlds (settled nat_eq (opened_at rest)) (settled nat_eq next)
     opened_alike rest =
@@ -366,8 +376,9 @@ module _ (value : WorldValue) (held : IsHeld value) (name : TaskName) (directory
         (same_worlds_are_plain_alike next (opened_at rest)
         (sameness_is_an_equivalence.back (opened_at rest) next (opened_same rest)) (files_are_plain made_in))))
 
-    left : IsWorld nat_eq (settled nat_eq next) × IsPlain (settled nat_eq next)
-    left =
+    -- the world that the sweep leaves has the invariants, and no overlays
+    settled_is_world : IsWorld nat_eq (settled nat_eq next) × IsPlain (settled nat_eq next)
+    settled_is_world =
         let given = subst (λ world. IsWorld nat_eq (settled nat_eq world)
         × IsPlain (settled nat_eq world)) opened_applied
         (given_permits_leave_worlds (world_of value) handed permits.task permit held.in_world
@@ -388,33 +399,37 @@ module _ (value : WorldValue) (held : IsHeld value) (name : TaskName) (directory
           (kept value.mounts made_in)
       moved =
           is_kept ∙ (λ i. with_use (counted directory.mount.count)
-          (sym (seen_where_located mid mid_held file small_made there) i, number_of made)
+          (sym (seen_where_located mid mid_held file small_made file_located) i, number_of made)
           (opens_for_writing access) (kept value.mounts made_in))
 
       swept : IsSwept mid next (inode_at (world_of mid) (location_of file) ∷ []) [] new
       swept = remains_swept mid mid_held tasks (used_by descriptor ∷ []) [] moves mounts filesystems moved stay
 
-      has : Has (settled nat_eq next) new.groups
-      has = left_has mid mid_held next refl (λ group. refl)
+      -- and has the groups that code has
+      settled_has_groups : Has (settled nat_eq next) new.groups
+      settled_has_groups = left_has mid mid_held next refl (λ group. refl)
 
-      same : (rest : Fresh ℕ) → SameWorlds (settled nat_eq (opened_at rest)) (world_of new)
-      same rest =
+      -- and is code's world but for change numbers
+      settled_same : (rest : Fresh ℕ) → SameWorlds (settled nat_eq (opened_at rest)) (world_of new)
+      settled_same rest =
           sameness_is_an_equivalence.onward (settled nat_eq (opened_at rest)) (settled nat_eq next) (world_of new)
           (opened_alike rest)
-          (swept_is_same mid mid_held next (inode_at (world_of mid) (location_of file) ∷ []) [] new swept has left)
+          (swept_is_same mid mid_held next (inode_at (world_of mid) (location_of file) ∷ []) [] new swept
+          settled_has_groups settled_is_world)
 
       new_is_opened : IsDone value name permit new
       new_is_opened = record {
-        held = swept_held mid mid_held next left (inode_at (world_of mid) (location_of file) ∷ []) [] new swept has
+        held = swept_held mid mid_held next settled_is_world (inode_at (world_of mid) (location_of file) ∷ []) [] new
+            swept settled_has_groups
             (remains_counted mid mid_held tasks (used_by descriptor ∷ []) [] moves mounts filesystems moved stay
-            (opened_tasks mid mid_held name permits.task permits.called descriptor there))
+            (opened_tasks mid mid_held name permits.task permits.called descriptor file_located))
             (same_keeps_to_numbers_too (is_counted_before value.next) (λ k. number_of made)
             (world_of value) permits.task permit (world_of new)
             permits.given.called held.given (λ k. inodes_named value.next made.filesystem.count made.slot) named
-            (same (λ k. number_of made)) (files_are_plain filesystems));
+            (settled_same (λ k. number_of made)) (files_are_plain filesystems));
         becomes = becomes_so value name permit new permits.task permits.called
             (subst (λ world. SameWorlds (settled nat_eq world) (world_of new)) (sym opened_applied)
-            (same (odds handed)));
+            (settled_same (odds handed)));
       }
 
       -- with the tasks as code opens the file

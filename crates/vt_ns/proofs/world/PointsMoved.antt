@@ -23,7 +23,7 @@ use Rattle.vt_letting_go.specs.InUse.{FilesystemsInUse}
 use Rattle.vt_letting_go.specs.Leaving.{MountsStand, stands_on_attached}
 use Rattle.vt_letting_go.specs.Mounting.{inode_at}
 use Rattle.vt_letting_go.specs.OneByOne.{Inode, MountsInUseBut}
-use Rattle.vt_letting_go.proofs.Lists.{Among, all_from_among, all_pass, among-append, among-from_map, among-map, among_from_all, any-map, map_twice, passes}
+use Rattle.vt_letting_go.proofs.Lists.{Among, all_from_among, all_pass, among-append, among-from_map, among-map, among_from_all, any-map, passes}
 use Rattle.vt_location.specs.declared.locations.Location.{Location as At}
 use Rattle.vt_location.specs.Locations.{location_of, number_of}
 use Rattle.vt_location.specs.Numbers.{counted}
@@ -40,7 +40,7 @@ use Rattle.vt_detach.specs.Held.{CountsItsMounts, CountsItsUses, IsHeld}
 use Rattle.vt_detach.specs.Uses.{Kept, kept}
 use Rattle.vt_detach.specs.WorldValue.{WorldValue, world_of}
 use Rattle.vt_letting_go.proofs.sweeps.OfWorlds.{found_filesystem}
-use Rattle.vt_detach.proofs.DetachingBegins.{filesystem_kept, pair_mapped}
+use Rattle.vt_detach.proofs.DetachingBegins.{pair_mapped}
 use Rattle.vt_detach.proofs.DetachingEnds.{point_located}
 use Rattle.vt_detach.proofs.Grouped.{stays_private}
 use Rattle.vt_detach.proofs.Keeping.{IsKeptBut, IsShownIn, lives_plainly}
@@ -50,6 +50,8 @@ use Rattle.vt_detach.proofs.MountsChanged.{times_map}
 use Rattle.vt_detach.proofs.MountsGone.{found_mapped}
 use Rattle.vt_detach.proofs.Moving.{map_itself}
 use Rattle.vt_detach.proofs.Staying.{world_is_plain}
+use Rattle.vt_spec.proofs.Lists.{map_twice}
+use Rattle.vt_spec.proofs.Worlds.{shown-mapped}
 
 -- what is looked up in a list stands there
 pub looked_up : {B : Type 0} (number : ℕ) (pairs : List (ℕ × B)) (b : B) → lookup (nat_eq number) pairs ≡ Some b
@@ -174,6 +176,7 @@ module _ (value : WorldValue) (whole : IsHeld value) where
 
 -- The mounts at their new mount points
 
+-- the world once mounts have their new mount points
 abbrev pub moved_world : WorldValue → List Point → World ℕ
 moved_world value points = with_mounts (world_of value) (map (moved_by (map point_seen points)) (world_of value).mounts)
 
@@ -265,9 +268,11 @@ module _ (value : WorldValue) (whole : IsHeld value) (points : List Point) (may 
   showing : (n : ℕ) → mounts_showing after n ≡ mounts_showing before n
   showing n = times_map (λ (mount : Mount ℕ). nat_eq n mount.filesystem) moved before.mounts
 
+  -- the inodes of the new mount points
   abbrev pub gained : List Inode
   gained = map (inode_at before) (map location_of (points_taken points value.mounts))
 
+  -- and those of the old ones
   abbrev pub lost : List Inode
   lost = map (inode_at before) (points_left points value.mounts)
 
@@ -336,6 +341,7 @@ module _ (value : WorldValue) (whole : IsHeld value) (points : List Point) (may 
               (sym (ap (λ (x : Shown). x.count) from.2 ∙ ap (λ (x : Shown). x.count) entry.2));
         }
 
+    -- the uses of both are counted
     pub moved_is_kept : IsKeptBut value [] [] gained lost after (kept mounts filesystems)
     moved_is_kept = record {
       mounts = mounts_are ∙ map_itself (mounts_in mounts);
@@ -359,5 +365,5 @@ module _ (value : WorldValue) (whole : IsHeld value) (points : List Point) (may 
           seen_where_located value whole point few
           (located_moved value whole points may.each from.0 from.1 (location_of point)
           (ap (λ (x : Mount ℕ). x.mount_point) (sym from.2) ∙ p));
-      places = λ mount m place p. filesystem_kept moved (λ one. refl) (λ one. refl) before.mounts place.mount;
+      places = λ mount m place p. shown-mapped moved (λ one. refl) (λ one. refl) before.mounts place.mount;
     }

@@ -74,6 +74,7 @@ module _ (value : WorldValue) (whole : IsHeld value) (tasks : Tasks) (more less 
         (λ entry m. record { tasks = inside.counts entry m });
   }
 
+  -- an event after which the namespaces remain is done
   pub remains_done_in : (name : TaskName) (permit : Permit ℕ) (task : Task ℕ) → IsApplied value name permit task next
       → IsDone value name permit new
   remains_done_in name permit task is =

@@ -10,7 +10,7 @@ use Rattle.vt_spec.specs.Machine.Apply.{apply}
 use Rattle.vt_spec.specs.Machine.Detach.{mounts_on}
 use Rattle.vt_spec.specs.Machine.Filesystems.{with_change}
 use Rattle.vt_spec.specs.Machine.Mounts as meant
-use Rattle.vt_spec.specs.Machine.Mounts.{Mount, mount_tree}
+use Rattle.vt_spec.specs.Machine.Mounts.{Mount}
 use Rattle.vt_spec.specs.Machine.Outcome.Removing.{without_replaced}
 use Rattle.vt_spec.specs.Machine.Permits.{Permit}
 use Rattle.vt_spec.specs.Machine.Permits.Permit.{ToChange, ToRename}
@@ -48,6 +48,7 @@ use Rattle.vt_detach.proofs.Moving.{map_itself}
 use Rattle.vt_detach.proofs.Remaining.{remade}
 use Rattle.vt_detach.proofs.Staying.{IsDone}
 
+-- the mounts on what is replaced
 abbrev pub tops_on_replaced : WorldValue → Option Location → List (Mount ℕ)
 tops_on_replaced value None = []
 tops_on_replaced value (Some other) = tops_on value other
@@ -78,6 +79,7 @@ module _ (value : WorldValue) (held : IsHeld value) (name : TaskName) (from : Lo
       (option_map location_of replaced)
   sees = Renaming.sees value held name from old to new object replaced small small_to small_object permits
 
+  -- what is collected are these, with their descendants
   pub replaced_collected : (numbers : List ℕ) → numbers ≡ trees_of_replaced (mounts_in value.mounts) replaced
       → numbers ≡ gone
   replaced_collected numbers is = is ∙ by replaced small_replaced names.3
@@ -89,6 +91,7 @@ module _ (value : WorldValue) (held : IsHeld value) (name : TaskName) (from : Lo
       by None few there = refl
       by (Some other) few there = trees_collected value held other few (there (location_of other) refl).there
 
+  -- where none is collected none stands on what is replaced
   pub nothing_on_replaced : gone ≡ []
       → IfSome replaced (λ other. mounts_on nat_eq (world_of value) (location_of other) ≡ [])
   nothing_on_replaced none = by replaced none
@@ -162,6 +165,7 @@ module _ (value : WorldValue) (held : IsHeld value) (name : TaskName) (from : Lo
         shows = on.shows ∙ ap (λ n. (mount_numbered nat_eq world n).filesystem) (facts other is).1;
       }
 
+  -- an object is renamed over one on which mounts stand
   pub rename_is_done : (filesystems others : Filesystems) (mounts : List MountEntry) (groups : Grouping) → gone ≢ []
       → ChangesInodes from.node.filesystem.count (λ inodes. changed nat_eq inodes change) value.filesystems filesystems
       → LeaveTogether gone (kept value.mounts filesystems) value.groups (kept mounts others) groups

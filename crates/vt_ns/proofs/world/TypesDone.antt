@@ -8,14 +8,13 @@ use Rattle.vt_spec.specs.Machine.Mounts.{Mount, Propagation, index_of, numbers_b
 use Rattle.vt_spec.specs.Machine.Permits.Permit.{ToSetType}
 use Rattle.vt_spec.specs.Machine.Types.{named_mounts, retyped as policy_retyped}
 use Rattle.vt_spec.specs.Machine.World.{World, mount_numbered}
-use Rattle.vt_spec.proofs.Lists.{contains_from_among}
-use Rattle.vt_group.specs.Grouping.{Grouping, Has, LacksGroup, numbers_of}
-use Rattle.vt_letting_go.proofs.Lists.{Among, all_from_among, map_twice}
+use Rattle.vt_spec.proofs.Lists.{contains_from_among, map_twice}
+use Rattle.vt_group.specs.Grouping.{Grouping, Has, LacksGroup}
+use Rattle.vt_letting_go.proofs.Lists.{Among, all_from_among}
 use Rattle.vt_letting_go.proofs.leaving.PlacesLeft.{found_is_there}
 use Rattle.vt_mount.specs.MountsValue.{MountEntry, mounts_in}
 use Rattle.vt_retype.specs.Retyping.{retyped as retyped_entry}
 use Rattle.vt_mount_laws.proofs.mounts.Standing.{trees_have_each_once}
-use Rattle.vt_propagate.specs.Pushing.{EachOnce}
 use Rattle.vt_run_laws.specs.Handed.{counts_from}
 use Rattle.vt_detach.specs.Events.{Permits}
 use Rattle.vt_detach.specs.Held.{IsHeld}
@@ -26,8 +25,9 @@ use Rattle.vt_detach.proofs.TypesKept.{counts_lack, group, types_are_changed, ty
 use Rattle.vt_detach.proofs.TreesInNamespaces.{in_tree}
 use Rattle.vt_ns.specs.Retyped.{IsRetyped, NumbersGroups, counted_after, with_counts}
 use Rattle.vt_ns.proofs.RetypedMounts.{places_are_counted}
-use Rattle.vt_ns.proofs.WorldSeen.{world_seen}
 use Rattle.vt_permit_laws.proofs.taken.TakenFirst.{tree_some}
+use Rattle.vt_mount_laws.specs.Mounts.Attaching.{numbers_of, OneNumberAMount}
+use Rattle.vt_attach.proofs.Binding.{is_seen}
 
 module _ (value : WorldValue) (whole : IsHeld value) (name : TaskName) (number : ℕ) (word : TypeWord) (recursive : Bool)
     (permits : Permits value name (ToSetType number word recursive)) where
@@ -40,8 +40,9 @@ module _ (value : WorldValue) (whole : IsHeld value) (name : TaskName) (number :
   own : (mount_numbered nat_eq (world_of value) number).namespace ≡ Some permits.task.namespace
   own = (permit_fits value whole name (ToSetType number word recursive) permits).names
 
-  there : All (Contains (mounts_in value.mounts)) (named_mounts nat_eq (world_of value) number recursive)
-  there = by recursive
+  -- the mounts that the call names are mounts of the world
+  named_contained : All (Contains (mounts_in value.mounts)) (named_mounts nat_eq (world_of value) number recursive)
+  named_contained = by recursive
     where
       by : (b : Bool) → All (Contains (mounts_in value.mounts)) (named_mounts nat_eq (world_of value) number b)
       by true =
@@ -55,15 +56,16 @@ module _ (value : WorldValue) (whole : IsHeld value) (name : TaskName) (number :
           (found_is_there (mounts_in value.mounts) number (ap is_some own))))
           (λ none. absurd none) m)
 
-  once : EachOnce (named_mounts nat_eq (world_of value) number recursive)
+  once : OneNumberAMount (named_mounts nat_eq (world_of value) number recursive)
   once = by recursive
     where
-      by : (b : Bool) → EachOnce (named_mounts nat_eq (world_of value) number b)
+      by : (b : Bool) → OneNumberAMount (named_mounts nat_eq (world_of value) number b)
       by true = trees_have_each_once world number whole.in_world.mounts.one_number whole.in_world.mounts.standing
       by false = refl
 
-  some : 0 < length (named_mounts nat_eq (world_of value) number recursive)
-  some = by recursive
+  -- and there is one at least
+  named_some : 0 < length (named_mounts nat_eq (world_of value) number recursive)
+  named_some = by recursive
     where
       by : (b : Bool) → 0 < length (named_mounts nat_eq (world_of value) number b)
       by true = tree_some (length world.mounts) world.mounts (mount_numbered nat_eq world number)
@@ -73,7 +75,7 @@ module _ (value : WorldValue) (whole : IsHeld value) (name : TaskName) (number :
       (retyped : IsRetyped word value.next next (numbers_of
       (named_mounts nat_eq (world_of value) number recursive)) value.groups groups value.mounts mounts) where
     kinds : (kind : ℕ → Propagation ℕ → Propagation ℕ) × (mounts ≡ map (retyped_entry kind) value.mounts)
-    kinds = retyped.kinds world (world_seen value whole)
+    kinds = retyped.kinds world (is_seen value whole)
 
     abbrev counted : ℕ → ℕ
     counted = group value whole name number word recursive permits kinds.0 groups
@@ -87,7 +89,7 @@ module _ (value : WorldValue) (whole : IsHeld value) (name : TaskName) (number :
         ≡ (policy_retyped nat_eq (world_of value) numbers word named).mounts)
         × Has (policy_retyped nat_eq (world_of value) numbers word named) groups
     seen_by numbers lacks are =
-        let seen = retyped.seen world numbers named (world_seen value whole) there refl lacks are in
+        let seen = retyped.seen world numbers named (is_seen value whole) named_contained refl lacks are in
         (ap mounts_in (sym kinds.1) ∙ seen.mounts, seen.groups)
 
     abbrev IsDoneBy : ℕ → Type 0
@@ -123,8 +125,9 @@ module _ (value : WorldValue) (whole : IsHeld value) (name : TaskName) (number :
     shared_done are same =
         let seen = seen_by counted lacking are in
         done_after (value.next + length named) same
-        (types_are_shared value whole name number word recursive permits kinds.0 groups seen.0 seen.1 some)
+        (types_are_shared value whole name number word recursive permits kinds.0 groups seen.0 seen.1 named_some)
 
+-- the named mounts get their type
 pub types_done : (value : WorldValue) → IsHeld value → (name : TaskName) (number : ℕ) (word : TypeWord) (recursive : Bool)
     → Permits value name (ToSetType number word recursive)
     → (mounts : List MountEntry) (groups : Grouping) (next : ℕ)

@@ -15,7 +15,7 @@ use Rattle.vt_spec.specs.Machine.Receives.{inheriting, lost_a_group, regrouped, 
 use Rattle.vt_spec.specs.Machine.Settled.{without_dead_groups}
 use Rattle.vt_spec.specs.Machine.World.{Task, World, mount_at, mount_numbered, with_mounts}
 use Rattle.vt_fs.specs.FilesystemsValue.{Filesystems}
-use Rattle.vt_group.specs.Grouping.{Grouping, Has, HasGroup, are_rising, numbers_of, peers_of}
+use Rattle.vt_group.specs.Grouping.{Grouping, Has, HasGroup, are_rising, peers_of}
 use Rattle.vt_group.specs.Together.{GrowsTo}
 use Rattle.vt_group.proofs.Showing.{has_one_grouping}
 use Rattle.vt_group.proofs.Typed.{regrouped_is_typed}
@@ -45,6 +45,7 @@ use Rattle.vt_detach.proofs.Staying.{IsDone}
 use Rattle.vt_detach.proofs.UnmountedAlone.{attached_is_named}
 use Rattle.vt_ns.specs.Unmounting.{GoTogether}
 use Rattle.vt_ns.proofs.world.UnmountedWorlds.{moved_then_detached}
+use Rattle.vt_mount_laws.specs.Mounts.Attaching.{numbers_of}
 
 -- groups that end leave mounts where they are
 pub regrouped_places : (world : World ℕ) (number : ℕ)
@@ -220,6 +221,7 @@ gone_in_any_order value whole name permit task policy is planned gone points sam
     (leaves_alike world planned gone (map point_seen points) same regroups)
     (falls_alike world planned gone (map point_seen points) same falls)
 
+-- a mount is unmounted with those at its receivers
 pub unmounted_everywhere : (value : WorldValue) → IsHeld value → (name : TaskName) (number : ℕ)
     → Permits value name (ToUnmount number)
     → (planned gone : List ℕ) (points : List Point) → IsPermutation planned gone

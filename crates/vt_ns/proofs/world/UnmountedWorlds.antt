@@ -15,12 +15,11 @@ use Rattle.vt_spec.specs.Machine.Settled.{is_located, settled, without_dead_grou
 use Rattle.vt_spec.specs.Machine.World.{Task, World, filesystem_numbered, is_directory_at, mount_at, mount_numbered, node_at, with_mounts}
 use Rattle.vt_spec.specs.Machine.Invariants.{Stands, has_its_root, is_located_well, is_nowhere_or_attached, is_private, is_there}
 use Rattle.vt_spec.specs.Tree.{is_directory_node}
-use Rattle.vt_count_laws.specs.Sweeping.{living}
 use Rattle.vt_fs.specs.FilesystemsValue.{Filesystems}
 use Rattle.vt_group.specs.Grouping.{Grouping, Has}
 use Rattle.vt_group.specs.Laws.{typed_by}
 use Rattle.vt_letting_go.specs.Leaving.{stands_on_attached}
-use Rattle.vt_letting_go.proofs.Lists.{Among, all_from_among, among-from_map, among-map, among_from_all, is_among_numbers, map_alike, map_twice, passes}
+use Rattle.vt_letting_go.proofs.Lists.{Among, all_from_among, among-from_map, among-map, among_from_all, is_among_numbers, passes}
 use Rattle.vt_letting_go.proofs.sweeps.OfWorlds.{mounts_of_worlds_stand}
 use Rattle.vt_letting_go.proofs.leaving.PlacesLeft.{found_is_there, found_itself, number_found}
 use Rattle.vt_location.specs.declared.locations.Location.{Location as At}
@@ -35,13 +34,13 @@ use Rattle.vt_attach.specs.Planned.{Point, is_small, points_left, points_taken, 
 use Rattle.vt_attach.specs.PlannedUses.{point_seen}
 use Rattle.vt_detach.specs.Detached.{LeaveInTurn}
 use Rattle.vt_detach.specs.Events.{supply_of}
-use Rattle.vt_detach.specs.Held.{CountsWhatIsInIt, IsHeld, is_ungrouped}
+use Rattle.vt_detach.specs.Held.{CountsWhatIsInIt, IsHeld}
 use Rattle.vt_detach.specs.Uses.{kept}
 use Rattle.vt_detach.specs.WorldValue.{WorldValue, world_of}
-use Rattle.vt_detach.proofs.DetachingBegins.{HasChildrenOf, detached_world, detaching_begins, filesystem_kept}
+use Rattle.vt_detach.proofs.DetachingBegins.{HasChildrenOf, detached_world, detaching_begins}
 use Rattle.vt_detach.proofs.DetachingEnds.{detached_counted, detached_swept}
 use Rattle.vt_detach.proofs.Finishing.{IsApplied, finished_as}
-use Rattle.vt_detach.proofs.Grouped.{not_attached, settled_has, stays_private}
+use Rattle.vt_detach.proofs.Grouped.{settled_has, stays_private}
 use Rattle.vt_detach.proofs.Keeping.{IsKeptBut, detached_in}
 use Rattle.vt_detach.proofs.Leaving.{found_it}
 use Rattle.vt_detach.proofs.MidwayBegins.{parent_inside}
@@ -49,10 +48,16 @@ use Rattle.vt_detach.proofs.MountsGone.{found_mapped}
 use Rattle.vt_detach.proofs.Remaining.{remade}
 use Rattle.vt_detach.proofs.Staying.{IsDone, world_is_plain}
 use Rattle.vt_detach.proofs.TypedEvents.{counts_typed, swept_typed, typed_value}
-use Rattle.vt_detach.proofs.TypedWorlds.{settled_without_groups, typed_world}
+use Rattle.vt_detach.proofs.TypedWorlds.{typed_world}
+use Rattle.vt_letting_go.proofs.SweptBetween.{settled_without_groups}
 use Rattle.vt_detach.proofs.UnmountedLazily.{all_detached}
 use Rattle.vt_mount_laws.proofs.mounts.MountsFound.{placed_among}
 use Rattle.vt_ns.proofs.world.PointsMoved.{MayMove, gained, looked_up, lost, moved_is_kept, moved_world}
+use Rattle.vt_spec.proofs.Lists.{map_alike, map_twice}
+use Rattle.vt_spec.proofs.Truths.{or_false_left}
+use Rattle.vt_spec.proofs.Worlds.{shown-mapped}
+use Rattle.vt_permit_laws.specs.Taken.{is_ungrouped}
+use Rattle.vt_letting_go.specs.TreesOverlays.{in_use_of}
 
 -- a mount with a mount point is in a namespace
 placed_is_attached : (mount : Mount ℕ) → is_nowhere_or_attached mount ≡ true → is_some mount.mount_point ≡ true
@@ -206,7 +211,7 @@ module _ (value : WorldValue) (whole : IsHeld value) (name : TaskName) (permit :
       shows : (mount_at nat_eq world place).filesystem ≡ (mount_at nat_eq policy place).filesystem
       shows =
           sym (ap (λ all. (mount_in nat_eq all place.mount).filesystem) same_mounts
-          ∙ filesystem_kept final final_number final_filesystem world.mounts place.mount)
+          ∙ shown-mapped final final_number final_filesystem world.mounts place.mount)
 
       there_before : is_there nat_eq world (mount_at nat_eq world place).filesystem place.node
           ≡ is_there nat_eq policy (mount_at nat_eq policy place).filesystem place.node
@@ -318,7 +323,7 @@ module _ (value : WorldValue) (whole : IsHeld value) (name : TaskName) (permit :
       ap is_ungrouped (stays_private mount
       (passes is_nowhere_or_attached policy.mounts under_way.mounts.nowhere mount
       (subst (Among mount) (sym (ap (λ (w : World ℕ). w.mounts) same_typed)) m)) false
-      (not_attached (is_some mount.namespace) (is_located nat_eq typed mount.number) dead)))
+      (or_false_left (is_some mount.namespace) (is_located nat_eq typed mount.number) dead)))
 
   alike : settled nat_eq policy ≡ settled nat_eq typed
   alike = sym (settled_without_groups policy) ∙ ap (settled nat_eq) same_typed
@@ -328,6 +333,7 @@ module _ (value : WorldValue) (whole : IsHeld value) (name : TaskName) (permit :
       (taken_small : list_all is_small (points_taken points value.mounts) ≡ true) (between : List MountEntry)
       (between_files : Filesystems)
       (is_kept : kept between between_files ≡ with_planned [] points left (kept value.mounts value.filesystems)) where
+    -- what is moved and then detached is what the unmount leaves
     pub moved_then_detached : (mounts : List MountEntry) (filesystems : Filesystems)
         → LeaveInTurn gone (kept between between_files) (kept mounts filesystems)
         → IsDone value name permit (typed_value groups (remade value mounts filesystems value.tasks))
@@ -335,7 +341,7 @@ module _ (value : WorldValue) (whole : IsHeld value) (name : TaskName) (permit :
         let come = gained value whole points may in
         let go = lost value whole points may in
         let untyped = remade value mounts filesystems value.tasks in
-        let detaching = all_detached value come (living start) gone (kept between between_files)
+        let detaching = all_detached value come (in_use_of start) gone (kept between between_files)
         (kept mounts filesystems)
         (detaching_begins value come go (moved_world value points) (kept between between_files)
         (moved_is_kept value whole points may left left_are left_small taken_small between between_files is_kept) gone closed) turn in

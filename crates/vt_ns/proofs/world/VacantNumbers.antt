@@ -28,6 +28,7 @@ module _ (count slot : ℕ) (small : slot < 18446744073709551616) where
   abbrev number : ℕ
   number = inode_number count slot
 
+  -- the number of an inode is even
   pub is_even : number % 2 ≡ 0
   is_even = omega arith
 
@@ -96,6 +97,7 @@ module _ (count slot : ℕ) (small : slot < 18446744073709551616) where
             ∙ one_entry value.filesystems whole.in_world.files.one_filesystem entry m)
         by false e = other (is_inode_of entry.count number) refl e
 
+    -- a number that is not counted yet is not in use
     pub is_unused : is_in_use (world_of value) number ≡ false
     is_unused =
         list_any-append (nat_eq number)

@@ -1,19 +1,13 @@
 -- Numbers do not matter to the machine of one tree.
-use Rattle.std.proofs.Common.{◌≡◌, refl, Option, Some, None}
-use Rattle.std.specs.Prelude.{option_map}
+use Rattle.std.proofs.Common.{◌≡◌, refl}
 use Rattle.vt_spec.specs.Language.Calls.{TaskName}
-use Rattle.vt_spec.specs.Inodes.{Inode, renamed_inode}
 use Rattle.vt_spec.specs.OneTree.Policy.{policy}
 use Rattle.vt_spec.specs.OneTree.World.{Outcome, Task, World}
 use Rattle.vt_one_text.specs.OneTreeNumbers.{OneTreeDoesNotSeeNumbers, renamed_descriptor, renamed_outcome, renamed_task, renamed_world}
-use Rattle.vt_laws.proofs.numbers.Commuting.{Named, commutes_nat, map_itself, node_itself}
+use Rattle.vt_laws.proofs.numbers.Commuting.{Named, commutes_nat, map_itself, inode_itself}
 
 -- With each number for itself nothing is renamed.
 module _ {N : Type 0} where
-  inode_itself : (inode : Option (Inode N)) → option_map (renamed_inode (λ n. n) (λ n. n)) inode ≡ inode
-  inode_itself None = refl
-  inode_itself (Some inode) = λ i. Some (record { node = node_itself inode.node i; uses = inode.uses })
-
   task_itself : (entry : TaskName × Task N) → renamed_task (λ n. n) (λ n. n) entry ≡ entry
   task_itself entry = λ i. (
     entry.0,

@@ -26,9 +26,10 @@ use Rattle.vt_overlay_laws.proofs.steps.WholeLines.{below_before, object_copied}
 use Rattle.vt_overlay_laws.proofs.steps.WholeMade.{new_bare}
 use Rattle.vt_overlay_laws.proofs.steps.WholeMoved.{below_stays}
 use Rattle.vt_overlay_laws.proofs.steps.WholeParts.{object_is_not_none, real_by}
-use Rattle.vt_overlay_laws.proofs.changes.WholeTogether.{both_copied, twice, changes_keep_shown, copied, is_copied, odd_distinct, stands_now, still_unused}
+use Rattle.vt_overlay_laws.proofs.changes.WholeTogether.{both_copied, twice, changes_keep_shown, copied, is_copied, stands_now, still_unused}
 use Rattle.std.proofs.lemmas.Option.{same_Some}
 use Rattle.vt_spec.proofs.Options.{none_is_some}
+use Rattle.vt_spec.proofs.FreshNumbers.{odds-distinct}
 
 -- nothing comes to lie below, and what lies below gets no name
 pub record Uncovers (merge later : Merge ℕ) : Type 0 where
@@ -124,7 +125,7 @@ module _ (fresh : Fresh ℕ) (stack : Stack ℕ) (merge : Merge ℕ) (whole : Is
       let may = subst (λ files. MayMake files.tree d w number node) (sym is.files) asked.0 in
       record {
         below = λ n layer way e. is.lower n layer way
-            (below_before stack (odds fresh) (odd_distinct fresh distinct) one number (odds fresh 0) n layer way e);
+            (below_before stack (odds fresh) (odds-distinct fresh distinct) one number (odds fresh 0) n layer way e);
         names = λ path n layer way f e.
             by path n layer way one is.files (names_entry (view_in one.files one.files.tree.root) d w path)
             (sym (make_adds_path one.files one.files.tree.root d number w node
@@ -151,7 +152,7 @@ module _ (fresh : Fresh ℕ) (stack : Stack ℕ) (merge : Merge ℕ) (whole : Is
       let one = copied fresh stack merge whole distinct unused object may.is_there in
       let there = subst (λ files. IsThere files d) (sym first.files)
       (directory_used merge.files.tree d may.name_is_free.in_directory) in
-      let second = object_copied stack (odds fresh) (odd_distinct fresh distinct) one d first.whole
+      let second = object_copied stack (odds fresh) (odds-distinct fresh distinct) one d first.whole
       (still_unused fresh stack merge whole distinct unused object may.is_there) there in
       let two = copied_up nat_eq (odds fresh) one d in
       let same = second.copied.files ∙ first.files in

@@ -11,7 +11,6 @@ use Rattle.vt_spec.specs.Machine.World.{Filesystem, Layer, Overlay, World, files
 use Rattle.vt_spec.specs.Machine.Invariants.{IsMerged, IsWorld, is_plain_layer}
 use Rattle.vt_spec.specs.Machine.Locked.{lies_or_counts_under, upper_and_work}
 use Rattle.vt_spec.specs.Tree.{is_directory_node}
-use Rattle.vt_spec.specs.TreeInvariant.{IsReached}
 use Rattle.vt_spec.proofs.Lists.{among-append_right}
 use Rattle.vt_spec.proofs.Lists
 use Rattle.vt_spec.proofs.Nodes.{directory_used}
@@ -148,7 +147,7 @@ module _ (fresh : Fresh ℕ) (world : World ℕ) (location : Location ℕ) (chan
           (no_new fresh world upper.filesystem inode (none upper.filesystem)
           (subst (λ n. is_some (inode_in world n inode) ≡ true) same there))
           (λ object. no_lower world conditions number overlay is upper has inode object lower
-          (layer_among world conditions (λ o. o.lowers) number overlay is lower m)
+          (layer_among world (λ o. o.lowers) number overlay is lower m)
           (subst (λ n. lies_or_counts_under nat_eq world n inode lower ≡ true) same lies)))
       by inode lies there false e =
           kept_same (inode_in world lower.filesystem inode) _

@@ -204,7 +204,7 @@ module _ (fresh : Fresh ℕ) (world : World ℕ) (location : Location ℕ) (chan
         → upper.filesystem ≡ layer.filesystem → ¬ (IsUpperObject overlay inode)
     apart_lower layer m inode lies same object =
         no_lower world conditions (mount_at nat_eq world location).filesystem overlay is upper has inode object layer
-        (layer_among world conditions (λ o. o.lowers) number other is_other layer m)
+        (layer_among world (λ o. o.lowers) number other is_other layer m)
         (subst (λ n. lies_or_counts_under nat_eq world n inode layer ≡ true) (sym same) lies)
 
     leads : (layer : Layer ℕ) → Lists.Among layer (shown_layers other) → LeadsAsBefore world later layer

@@ -1,5 +1,5 @@
 -- A whole change of an overlay: copies first, and then what is asked.
-use Rattle.std.proofs.Common.{true, arith, ◌⊎◌, ⊎_elim, inl, inr, ◌*◌, ◌+◌, ◌≡◌, ◌≢◌, sym, subst, ◌∙◌, ℕ, nat_eq, None, refl, ap, List, [], ◌∷◌, ◌++◌, ◌&&◌, ◌||◌, map, not, false, Option, Some, is_some, option_and_then, unwrap_or}
+use Rattle.std.proofs.Common.{true, ◌⊎◌, ⊎_elim, inl, inr, ◌*◌, ◌+◌, ◌≡◌, ◌≢◌, sym, subst, ◌∙◌, ℕ, nat_eq, None, refl, ap, List, [], ◌∷◌, ◌++◌, ◌&&◌, ◌||◌, map, not, false, Option, Some, is_some, option_and_then, unwrap_or}
 use Rattle.vt_spec.specs.Language.Changes.Change.{AddName, CopyUp, Make, Move, Remove, SetAttr, SetBytes, SetMark}
 use Rattle.vt_spec.specs.Lists.{Fresh, evens, odds}
 use Rattle.vt_spec.specs.Machine.CopyUp.{Merge, Stack, copied_up, path_to, upper_of}
@@ -34,16 +34,7 @@ use Rattle.vt_overlay_laws.proofs.steps.WholeRemoved.{remove_keeps_shown}
 use Rattle.std.proofs.lemmas.Option.{same_Some}
 use Rattle.vt_spec.proofs.NodeChanges.{directory_no_whiteout}
 use Rattle.vt_spec.proofs.Options.{none_is_some}
-
-module _ (fresh : Fresh ℕ) (distinct : (j k : ℕ) → fresh j ≡ fresh k → j ≡ k) where
-  pub even_distinct : (j k : ℕ) → evens fresh j ≡ evens fresh k → j ≡ k
-  even_distinct j k e = let same = distinct _ _ e in omega (arith, same)
-
-  pub odd_distinct : (j k : ℕ) → odds fresh j ≡ odds fresh k → j ≡ k
-  odd_distinct j k e = let same = distinct _ _ e in omega (arith, same)
-
-  pub odd_no_even : (j k : ℕ) → odds fresh j ≢ evens fresh k
-  odd_no_even j k e = let same = distinct _ _ e in let no : ⊥ = omega (arith, same) in no
+use Rattle.vt_spec.proofs.FreshNumbers.{evens-distinct, odds-distinct, odds-no_evens}
 
 -- an object copied by even numbers
 module _ (fresh : Fresh ℕ) (stack : Stack ℕ) (merge : Merge ℕ) (whole : IsWhole stack merge)
@@ -53,15 +44,15 @@ module _ (fresh : Fresh ℕ) (stack : Stack ℕ) (merge : Merge ℕ) (whole : Is
   copied = copied_up nat_eq (evens fresh) merge object
 
   pub is_copied : IsCopied stack (evens fresh) merge copied
-  is_copied = (object_copied stack (evens fresh) (even_distinct fresh distinct) merge object whole
+  is_copied = (object_copied stack (evens fresh) (evens-distinct fresh distinct) merge object whole
       (λ k. unused (2 * k)) there).copied
 
   pub stands_now : StandsInUpper copied object
-  stands_now = stands_copied stack (evens fresh) (even_distinct fresh distinct) merge object whole
+  stands_now = stands_copied stack (evens fresh) (evens-distinct fresh distinct) merge object whole
       (λ k. unused (2 * k)) there
 
   pub still_unused : (k : ℕ) → copied.upper.tree.node (odds fresh k) ≡ None
-  still_unused k = is_copied.vacant (odds fresh k) (unused (2 * k + 1)) (λ j. odd_no_even fresh distinct k j)
+  still_unused k = is_copied.vacant (odds fresh k) (unused (2 * k + 1)) (λ j. odds-no_evens fresh distinct k j)
 
 -- the directory of a name whose object stands in the upper layer does so too
 pub stands_above : (stack : Stack ℕ) (merge : Merge ℕ) → IsWhole stack merge → (d : ℕ) (w : List ℕ) (object : ℕ)
@@ -131,14 +122,14 @@ twice fresh stack merge whole distinct unused f old t new o may =
     let o_there = whole.tree.alive f old o may.named in
     let one = copied_up nat_eq (evens fresh) merge o in
     let two = both_copied fresh stack merge f old t new o in
-    let first = object_copied stack (evens fresh) (even_distinct fresh distinct) merge o whole
+    let first = object_copied stack (evens fresh) (evens-distinct fresh distinct) merge o whole
     (λ k. unused (2 * k)) o_there in
     let same = first.copied.files in
     let t_there = subst (λ files. IsThere files t) (sym same) (directory_used merge.files.tree t may.in_directory) in
     let spare : (k : ℕ) → one.upper.tree.node (evens (odds fresh) k) ≡ None =
     λ k. still_unused fresh stack merge whole distinct unused o o_there (2 * k) in
     let second = object_copied stack (evens (odds fresh))
-    (even_distinct (odds fresh) (odd_distinct fresh distinct)) one t first.copied.whole spare t_there in
+    (evens-distinct (odds fresh) (odds-distinct fresh distinct)) one t first.copied.whole spare t_there in
     let both = second.copied.files ∙ same in
     let own = second.copied.grows o (stands_now fresh stack merge whole distinct unused o o_there) in
     record {
@@ -146,11 +137,11 @@ twice fresh stack merge whole distinct unused f old t new o may =
       from = stands_above stack two second.copied.whole f old o
           (ap (λ files. entry_at files.tree f old) both ∙ may.named) own;
       to = stands_copied stack (evens (odds fresh))
-          (even_distinct (odds fresh) (odd_distinct fresh distinct)) one t first.copied.whole spare t_there;
+          (evens-distinct (odds fresh) (odds-distinct fresh distinct)) one t first.copied.whole spare t_there;
       object = own;
       vacant = second.copied.vacant (odds (odds fresh) 0)
           (still_unused fresh stack merge whole distinct unused o o_there 1)
-          (λ j. odd_no_even (odds fresh) (odd_distinct fresh distinct) 0 j);
+          (λ j. odds-no_evens (odds fresh) (odds-distinct fresh distinct) 0 j);
       may = subst (λ files. MayMove files.tree f old t new o) (sym both) may;
       was_directory = λ d. subst (λ files. IsDirectory files.tree o) both d;
       cut = λ d.
@@ -193,10 +184,10 @@ changes_keep_shown fresh stack merge (AddName d w object) whole distinct unused 
     let one = copied fresh stack merge whole distinct unused object may.is_there in
     let there = subst (λ files. IsThere files d) (sym first.files)
     (directory_used merge.files.tree d may.name_is_free.in_directory) in
-    let second = object_copied stack (odds fresh) (odd_distinct fresh distinct) one d first.whole
+    let second = object_copied stack (odds fresh) (odds-distinct fresh distinct) one d first.whole
     (still_unused fresh stack merge whole distinct unused object may.is_there) there in
     link_keeps_shown stack (copied_up nat_eq (odds fresh) one d) d w object second.copied.whole
-    (stands_copied stack (odds fresh) (odd_distinct fresh distinct) one d first.whole
+    (stands_copied stack (odds fresh) (odds-distinct fresh distinct) one d first.whole
     (still_unused fresh stack merge whole distinct unused object may.is_there) there)
     (second.copied.grows object (stands_now fresh stack merge whole distinct unused object may.is_there))
     (subst (λ files. MayAddName files.tree d w object) (sym (second.copied.files ∙ first.files)) may)

@@ -5,20 +5,20 @@ use Rattle.std.specs.List.{list_all, list_any}
 use Rattle.vt_spec.specs.Language.Changes.{Change}
 use Rattle.vt_spec.specs.Lists.{Fresh, any_pair}
 use Rattle.vt_spec.specs.Machine.Filesystems.{merge_of, stack_of, with_change}
-use Rattle.vt_spec.specs.Machine.Invariants.{IsMerged, IsWorld, ListsNumbers, OverlayInvariants, TreeInvariants, has_fit_layers, is_fit_filesystem, is_plain_layer, live_lowers}
+use Rattle.vt_spec.specs.Machine.Invariants.{IsMerged, IsWorld, ListsNumbers, OverlayInvariants, has_fit_layers, is_fit_filesystem, is_plain_layer}
 use Rattle.vt_spec.specs.Machine.Locked.{of_overlay, overlay_or, upper_and_work}
 use Rattle.vt_spec.specs.Machine.Mounts.{Location}
 use Rattle.vt_spec.specs.Machine.World.{Filesystem, Layer, Overlay, World, filesystem_at, filesystem_numbered, is_overlay, layers_of, mount_at, replaced_if_numbered}
 use Rattle.vt_spec.specs.Tree.{is_directory_node}
 use Rattle.vt_spec.specs.TreeInvariant.{HasOwnParents, IsReached, IsTree}
-use Rattle.vt_spec.proofs.Lists.{Among, all_from_among, among-append, among-flat_map, among-from_map, among_from_all, among_from_list_all, list_all_from_among}
+use Rattle.vt_spec.proofs.Lists.{Among, all_from_among, among-append, among-from_map, among_from_all, among_from_list_all, list_all_from_among}
 use Rattle.std.proofs.lemmas.List.Elements.{All-weaker}
 use Rattle.vt_tree_laws.specs.Trees.{IsFileTree}
 use Rattle.vt_tree_laws.specs.Trees.Sizes.{is_fit_tree}
 use Rattle.vt_tree_laws.proofs.trees.TreesOfWorlds.{numbered_anyhow}
 use Rattle.vt_overlay_laws.proofs.whole.UpperLimits.{sizes_stay}
 use Rattle.vt_layer_laws.specs.Layers.Locked.{AreNoInodes}
-use Rattle.vt_layer_laws.proofs.locked.Apart.{layer_among, layer_plain, no_overlay_in, upper_in_layers}
+use Rattle.vt_layer_laws.proofs.locked.Apart.{layer_among, no_overlay_in, upper_in_layers}
 use Rattle.vt_layer_laws.proofs.views.Names.{alike_kept}
 use Rattle.vt_overlay_laws.specs.LayersApart.{OverlayInvariantsStay, TreeInvariantsStay, TreesAfter, TreesStay}
 use Rattle.vt_overlay_laws.specs.WholeChanges.{IsAskedWell}
@@ -197,10 +197,10 @@ module _ (fresh : Fresh ℕ) (world : World ℕ) (location : Location ℕ) (chan
       asked layer
   live n v e layer m =
       ⊎_elim
-      (λ up. ⊎_elim inl (λ differ. inr (inl (layer_among world conditions upper_and_work n v e layer up, differ)))
+      (λ up. ⊎_elim inl (λ differ. inr (inl (layer_among world upper_and_work n v e layer up, differ)))
       (ApartLater.same_layer fresh world location change overlay upper conditions is has distinct none asked layer
       upper))
-      (λ low. inr (inr (layer_among world conditions (λ o. o.lowers) n v e layer low)))
+      (λ low. inr (inr (layer_among world (λ o. o.lowers) n v e layer low)))
       (among-append (upper_and_work v) v.lowers layer m)
 
   -- names lead to the directories of upper layers
@@ -313,7 +313,7 @@ module _ (fresh : Fresh ℕ) (world : World ℕ) (location : Location ℕ) (chan
           (filesystem_numbered nat_eq world n)
           (Rattle.vt_spec.proofs.Lists.among-from_filter is_overlay world.filesystems
           (filesystem_numbered nat_eq world n)
-          (Rattle.vt_layer_laws.proofs.locked.Apart.merged_among world conditions n v e)).0
+          (Rattle.vt_layer_laws.proofs.locked.Apart.merged_among world n v e)).0
 
   -- trees
   was_tree : (f : Filesystem ℕ) → Among f world.filesystems → IsFileTree f.files

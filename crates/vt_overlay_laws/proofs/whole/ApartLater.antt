@@ -23,7 +23,7 @@ use Rattle.vt_layer_laws.specs.Layers.Untouched.{inode_in}
 use Rattle.vt_layer_laws.specs.Layers.Upper.{IsUpperObject}
 use Rattle.vt_layer_laws.proofs.locked.Apart.{layer_among, layer_plain, lies_there, never_both, no_overlay_in, object_counts, upper_in_layers, upper_is_layer}
 use Rattle.vt_layer_laws.proofs.locked.Paths.{layer_tree, leads_as_before}
-use Rattle.vt_layer_laws.proofs.layers.LowersWorld.{filesystem_elsewhere, number_of_filesystem}
+use Rattle.vt_layer_laws.proofs.layers.LowersWorld.{number_of_filesystem}
 use Rattle.vt_layer_laws.proofs.layers.ShownDirectories.{led_is_there}
 use Rattle.vt_layer_laws.proofs.layers.UpperLine.{has_entries}
 use Rattle.vt_layer_laws.proofs.layers.UpperWorld.{overlay_merges}
@@ -106,7 +106,7 @@ module _ (fresh : Fresh ℕ) (world : World ℕ) (location : Location ℕ) (chan
 
   pub upper_live : Among upper (live_upper_and_work world)
   upper_live =
-      layer_among world conditions upper_and_work number overlay is upper
+      layer_among world upper_and_work number overlay is upper
       (upper_is_layer world conditions number overlay is upper has)
 
   pub upper_plain : is_plain_layer nat_eq world upper ≡ true

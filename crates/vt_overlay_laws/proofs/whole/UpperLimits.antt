@@ -16,7 +16,8 @@ use Rattle.vt_overlay_laws.specs.WholeStays.{AreNew, SizesStay}
 use Rattle.vt_overlay_laws.proofs.whole.UpperSizes.{above_fits_limits, emptied_sized, left_sized, marked_sized, moved_sized, name_fits, name_sized}
 use Rattle.vt_overlay_laws.proofs.whole.UpperWhole.{files_changed}
 use Rattle.vt_overlay_laws.proofs.steps.WholeLines.{object_copied}
-use Rattle.vt_overlay_laws.proofs.changes.WholeTogether.{both_copied, copied, is_copied, odd_distinct, still_unused, twice}
+use Rattle.vt_overlay_laws.proofs.changes.WholeTogether.{both_copied, copied, is_copied, still_unused, twice}
+use Rattle.vt_spec.proofs.FreshNumbers.{odds-distinct}
 
 -- each part of a change
 module _ (fresh : Fresh ℕ) (stack : Stack ℕ) (merge : Merge ℕ) (h : is_fit_tree merge.upper ≡ true) where
@@ -71,7 +72,7 @@ module _ (fresh : Fresh ℕ) (stack : Stack ℕ) (merge : Merge ℕ) (whole : Is
       let one = copied fresh stack merge whole distinct unused object may.is_there in
       let there = subst (λ files. IsThere files d) (sym first.files)
       (directory_used merge.files.tree d may.name_is_free.in_directory) in
-      let second = object_copied stack (odds fresh) (odd_distinct fresh distinct) one d first.whole
+      let second = object_copied stack (odds fresh) (odds-distinct fresh distinct) one d first.whole
       (still_unused fresh stack merge whole distinct unused object may.is_there) there in
       let two = copied_up nat_eq (odds fresh) one d in
       name_sized two.upper (upper_of two d) w (upper_of two object) fit

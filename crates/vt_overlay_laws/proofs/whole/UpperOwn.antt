@@ -24,8 +24,9 @@ use Rattle.vt_overlay_laws.proofs.steps.WholeAttributes.{upper_real}
 use Rattle.vt_overlay_laws.proofs.steps.WholeLines.{object_copied}
 use Rattle.vt_overlay_laws.proofs.steps.WholeMade.{new_bare}
 use Rattle.vt_overlay_laws.proofs.steps.WholeNames.{directory_above, named_above}
-use Rattle.vt_overlay_laws.proofs.changes.WholeTogether.{both_copied, copied, is_copied, new_of_evens, new_of_odds, odd_distinct, stands_now, still_unused, twice}
+use Rattle.vt_overlay_laws.proofs.changes.WholeTogether.{both_copied, copied, is_copied, new_of_evens, new_of_odds, stands_now, still_unused, twice}
 use Rattle.std.proofs.lemmas.Option.{same_Some}
+use Rattle.vt_spec.proofs.FreshNumbers.{odds-distinct}
 
 bare_above : (p : ℕ) (c : Content ℕ) → entries_of c ≡ [] → entries_of (content_with_parent p c) ≡ []
 bare_above p (Directory q n o) e = e
@@ -117,7 +118,7 @@ module _ (fresh : Fresh ℕ) (stack : Stack ℕ) (merge : Merge ℕ) (whole : Is
       let one = copied fresh stack merge whole distinct unused object may.is_there in
       let there = subst (λ files. IsThere files d) (sym first.files)
       (directory_used merge.files.tree d may.name_is_free.in_directory) in
-      let second = object_copied stack (odds fresh) (odd_distinct fresh distinct) one d first.whole
+      let second = object_copied stack (odds fresh) (odds-distinct fresh distinct) one d first.whole
       (still_unused fresh stack merge whole distinct unused object may.is_there) there in
       let two = copied_up nat_eq (odds fresh) one d in
       told_both Own merge.upper one.upper last (new_own (evens fresh) (new_of_evens fresh) merge one first.names)
@@ -191,7 +192,7 @@ module _ (fresh : Fresh ℕ) (stack : Stack ℕ) (merge : Merge ℕ) (whole : Is
       let one = copied fresh stack merge whole distinct unused o may.is_there in
       let there = subst (λ files. IsThere files d) (sym first.files)
       (directory_used merge.files.tree d may.name_is_free.in_directory) in
-      let second = object_copied stack (odds fresh) (odd_distinct fresh distinct) one d first.whole
+      let second = object_copied stack (odds fresh) (odds-distinct fresh distinct) one d first.whole
       (still_unused fresh stack merge whole distinct unused o may.is_there) there in
       ⊎_elim (λ f. ⊎_elim inl (λ g. inr (new_of_evens fresh object g)) (first.objects n object f))
       (λ g. inr (new_of_odds fresh object g))

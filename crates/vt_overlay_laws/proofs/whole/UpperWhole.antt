@@ -24,8 +24,9 @@ use Rattle.vt_overlay_laws.proofs.steps.WholeLinked.{link_keeps_shown}
 use Rattle.vt_overlay_laws.proofs.steps.WholeMade.{make_keeps_shown}
 use Rattle.vt_overlay_laws.proofs.steps.WholeMoved.{move_keeps_shown}
 use Rattle.vt_overlay_laws.proofs.steps.WholeRemoved.{remove_keeps_shown}
-use Rattle.vt_overlay_laws.proofs.changes.WholeTogether.{both_copied, changes_keep_shown, copied, is_copied, odd_distinct, stands_now, still_unused, twice}
+use Rattle.vt_overlay_laws.proofs.changes.WholeTogether.{both_copied, changes_keep_shown, copied, is_copied, stands_now, still_unused, twice}
 use Rattle.std.proofs.lemmas.Option.{same_Some}
+use Rattle.vt_spec.proofs.FreshNumbers.{odds-distinct}
 
 -- it is whole after a change of its tree, if the upper layer is good and it is what the layers show
 whole_by : (stack : Stack ℕ) (merge later : Merge ℕ) (change : Change ℕ) → IsWhole stack merge
@@ -108,13 +109,13 @@ module _ (fresh : Fresh ℕ) (stack : Stack ℕ) (merge : Merge ℕ) (whole : Is
       let one = copied fresh stack merge whole distinct unused object may.is_there in
       let there = subst (λ files. IsThere files d) (sym first.files)
       (directory_used merge.files.tree d may.name_is_free.in_directory) in
-      let second = object_copied stack (odds fresh) (odd_distinct fresh distinct) one d first.whole
+      let second = object_copied stack (odds fresh) (odds-distinct fresh distinct) one d first.whole
       (still_unused fresh stack merge whole distinct unused object may.is_there) there in
       let two = copied_up nat_eq (odds fresh) one d in
       goes_both stack.directory merge.upper one.upper _ first.upper
       (goes_both stack.directory one.upper two.upper _ second.copied.upper
       (linked_goes stack two d w object second.copied.whole
-      (stands_copied stack (odds fresh) (odd_distinct fresh distinct) one d first.whole
+      (stands_copied stack (odds fresh) (odds-distinct fresh distinct) one d first.whole
       (still_unused fresh stack merge whole distinct unused object may.is_there) there)
       (second.copied.grows object (stands_now fresh stack merge whole distinct unused object may.is_there))
       (subst (λ files. MayAddName files.tree d w object) (sym (second.copied.files ∙ first.files)) may)))
@@ -157,7 +158,7 @@ module _ (fresh : Fresh ℕ) (stack : Stack ℕ) (merge : Merge ℕ) (whole : Is
       let one = copied fresh stack merge whole distinct unused object may.is_there in
       let there = subst (λ files. IsThere files d) (sym first.files)
       (directory_used merge.files.tree d may.name_is_free.in_directory) in
-      let second = object_copied stack (odds fresh) (odd_distinct fresh distinct) one d first.whole
+      let second = object_copied stack (odds fresh) (odds-distinct fresh distinct) one d first.whole
       (still_unused fresh stack merge whole distinct unused object may.is_there) there in
       ap (λ files. changed nat_eq files (AddName d w object)) (sym (second.copied.files ∙ first.files))
   files_changed (Remove d w object) may =

@@ -1,5 +1,5 @@
 -- The change of an overlay that a permit asks for can be made.
-use Rattle.std.proofs.Common.{arith, eq-eqb, ◌≡◌, refl, ◌*◌, ◌+◌, ℕ, nat_eq, None}
+use Rattle.std.proofs.Common.{arith, ◌≡◌, refl, ◌*◌, ◌+◌, ℕ, nat_eq, None}
 use Rattle.vt_spec.specs.Language.Changes.{Change}
 use Rattle.vt_spec.specs.Language.Changes.Change.{AddName, CopyUp, Make, Move, Remove, SetAttr, SetBytes, SetMark}
 use Rattle.vt_spec.specs.Lists.{Fresh, odds}
@@ -22,6 +22,7 @@ use Rattle.vt_overlays_let_go.specs.OverlayChanges.{NameIsThere}
 use Rattle.vt_world_laws.proofs.worlds.CallsKept.{new_numbers}
 use Rattle.vt_overlay_permit_laws.specs.Changed.{AskedChangesCanBeMade, PermitsCanChange, numbers_left}
 use Rattle.vt_overlay_permit_laws.proofs.asked.AskedOverlays.{permits_ask_overlays_well}
+use Rattle.vt_spec.proofs.FreshNumbers.{served-distinct}
 
 may_change : (stack : Stack ℕ) (merge : Merge ℕ) (change : Change ℕ) → IsAskedWell stack merge change
     → MayChange merge.files change
@@ -78,9 +79,6 @@ asked_changes_can_be_made fresh world location change overlay upper conditions i
 -- The numbers that are left
 module _ (world : World ℕ) (fresh : Fresh ℕ) (conditions : IsWorld nat_eq world)
     (serves : Serves nat_eq world fresh) where
-  distinct : (j k : ℕ) → fresh j ≡ fresh k → j ≡ k
-  distinct j k e = serves.apart j k (eq-eqb (fresh j) (fresh k) e)
-
   unused : (filesystem k : ℕ) → inode_in world filesystem (fresh k) ≡ None
   unused filesystem k =
       numbered_anyhow (λ (f : Filesystem ℕ). (j : ℕ) → f.files.tree.node (fresh j) ≡ None) filesystem world.filesystems
@@ -91,11 +89,11 @@ module _ (world : World ℕ) (fresh : Fresh ℕ) (conditions : IsWorld nat_eq wo
       × ((filesystem k : ℕ) → inode_in world filesystem (supply k) ≡ None)
 
   all : AreLeft fresh
-  all = (distinct, unused)
+  all = (served-distinct world fresh serves, unused)
 
   every_second : AreLeft (odds fresh)
   every_second = (
-    λ j k e. let same = distinct _ _ e in omega (arith, same),
+    λ j k e. let same = served-distinct world fresh serves _ _ e in omega (arith, same),
     λ filesystem k. unused filesystem
         (2 * k + 1),
   )

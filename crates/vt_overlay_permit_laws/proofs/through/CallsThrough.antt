@@ -56,7 +56,7 @@ goes_by_change fresh world later conditions change = record {
       (upper_and_work overlay) overlay.lowers layer m in
       changed_stays world fresh conditions layer.filesystem inode
       (any_from_among (lies_or_counts_under nat_eq world layer.filesystem inode) (live_layers world) layer
-      (layer_among world conditions layers_of number overlay is layer in_layers) lies)
+      (layer_among world layers_of number overlay is layer in_layers) lies)
       new (no_overlay_in world conditions layer (layer_plain world conditions number overlay is layer in_layers))
       later change
       (λ other upper i has at object.

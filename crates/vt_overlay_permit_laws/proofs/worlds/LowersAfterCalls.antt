@@ -219,7 +219,7 @@ module _ (world : World ℕ) (is : IsWorld nat_eq world) (number : ℕ) (overlay
         (led (filesystem_numbered nat_eq world lower.filesystem).files.tree lower.directory path ≡ Some inode)
 
     live_lower : Among lower (live_lowers nat_eq world)
-    live_lower = layer_among world is (λ (o : Overlay ℕ). o.lowers) number overlay was lower m
+    live_lower = layer_among world (λ (o : Overlay ℕ). o.lowers) number overlay was lower m
 
     lies_led : lies_in_layer nat_eq world lower.filesystem inode lower ≡ true → Led
     lies_led e =

@@ -12,14 +12,13 @@ use Rattle.vt_spec.specs.Machine.World.{Filesystem, Layer, Overlay, World, files
 use Rattle.vt_spec.specs.Machine.World.Real.{Upper}
 use Rattle.vt_spec.specs.Tree.{Node, is_directory_node}
 use Rattle.vt_spec.specs.TreeInvariant.{IsReached, IsTree, led}
-use Rattle.vt_spec.proofs.Lists.{Among, among-append_left, among-append_right, among-filter, among-flat_map, among-from_filter, among-from_flat_map, among_from_list_all, among_numbers, any_among, any_from_among, list_all_from_among, none_among, none_from_among}
+use Rattle.vt_spec.proofs.Lists.{Among, among-append_left, among-append_right, among-from_filter, among-from_flat_map, among_from_list_all, among_numbers, any_among, any_from_among, list_all_from_among, none_among, none_from_among}
 use Rattle.vt_letting_go.proofs.sweeps.OfWorlds.{found_filesystem}
 use Rattle.vt_tree_laws.proofs.trees.TreesOfWorlds.{numbered_all, numbered_anyhow}
 use Rattle.vt_layer_laws.specs.Layers.Locked.{LeadsAsBefore}
 use Rattle.vt_layer_laws.specs.Layers.Untouched.{inode_in}
-use Rattle.vt_layer_laws.proofs.locked.Apart.{found_among}
+use Rattle.vt_layer_laws.proofs.locked.Apart.{layer_among, merged_among}
 use Rattle.vt_layer_laws.proofs.layers.ShownDirectories.{led_is_there}
-use Rattle.vt_layer_laws.proofs.layers.UpperWorld.{overlay_found}
 use Rattle.vt_layer_laws.proofs.views.Names.{alike_kept}
 use Rattle.vt_overlay_laws.proofs.whole.ApartPairs.{no_pair_later}
 use Rattle.vt_overlay_laws.proofs.whole.ApartPaths.{led_under, under_led}
@@ -56,24 +55,6 @@ module _ (world : World ℕ) (files : AreTrees world) where
       → Among inode (filesystem_numbered nat_eq world number).files.numbers
   inode_listed number inode there = among_numbers (filesystem_numbered nat_eq world number).files.numbers inode
       (numbers_listed number inode ∙ there)
-
-  pub overlay_among : (number : ℕ) (overlay : Overlay ℕ)
-      → (filesystem_numbered nat_eq world number).overlay ≡ Some overlay
-      → Among (filesystem_numbered nat_eq world number) (overlays world)
-  overlay_among number overlay is =
-      among-filter is_overlay world.filesystems (filesystem_numbered nat_eq world number)
-      (found_among (λ f. nat_eq number f.number) world.filesystems (filesystem_numbered nat_eq world number)
-      (overlay_found world number overlay is))
-      (ap is_some is)
-
-  pub live_layer : (layers : Overlay ℕ → List (Layer ℕ)) (number : ℕ) (overlay : Overlay ℕ)
-      → (filesystem_numbered nat_eq world number).overlay ≡ Some overlay
-      → (layer : Layer ℕ) → Among layer (layers overlay)
-      → Among layer (flat_map (of_overlay [] layers) (overlays world))
-  live_layer layers number overlay is layer m =
-      among-flat_map (of_overlay [] layers) (overlays world) (filesystem_numbered nat_eq world number) layer
-      (overlay_among number overlay is)
-      (subst (λ o. Among layer (overlay_or [] layers o)) (sym is) m)
 
   -- each live layer is one of an overlay
   pub record IsLayerOf (layers : Overlay ℕ → List (Layer ℕ)) (layer : Layer ℕ) : Type 0 where
@@ -112,7 +93,7 @@ module _ (world : World ℕ) (files : AreTrees world) where
         (λ o. list_all (is_plain_layer nat_eq world) (layers_of o))) world.filesystems are.plain_layers
         (filesystem_numbered nat_eq world number)
         (among-from_filter is_overlay world.filesystems (filesystem_numbered nat_eq world number)
-        (overlay_among number overlay is)).0)
+        (merged_among world number overlay is)).0)
         layer m
 
     pub fit_overlay : (number : ℕ) (overlay : Overlay ℕ)
@@ -122,7 +103,7 @@ module _ (world : World ℕ) (files : AreTrees world) where
         ∙ among_from_list_all (of_overlay true has_fit_layers) world.filesystems are.fit_layers
         (filesystem_numbered nat_eq world number)
         (among-from_filter is_overlay world.filesystems (filesystem_numbered nat_eq world number)
-        (overlay_among number overlay is)).0
+        (merged_among world number overlay is)).0
 
 -- an overlay of a later world is one that was there: its layers are the same, and so are paths in them
 pub record GoesOn (world later : World ℕ) (number : ℕ) (after : Overlay ℕ) : Type 0 where
@@ -229,7 +210,7 @@ module _ (world later : World ℕ) (files : AreTrees world) (are : OverlayInvari
       or_right (lies_in_layer nat_eq world n object layer) _
       (any_from_among (counts_in_layer nat_eq world n object layer) (overlays world)
       (filesystem_numbered nat_eq world number)
-      (overlay_among world files number on.before on.is)
+      (merged_among world number on.before on.is)
       (ap (overlay_or false (λ v. holds_of (λ u. lies_in_layer nat_eq world u.filesystem u.directory layer) v.upper
       && is_object_of nat_eq n object (filesystem_numbered nat_eq world number) v)) on.is
       ∙ and_from _ _
@@ -367,14 +348,14 @@ module _ (world later : World ℕ) (files : AreTrees world) (are : OverlayInvari
   changed_was layer m =
       let of = layer_of later files_later upper_and_work layer m in
       let on = goes of.number of.overlay of.is in
-      live_layer world files upper_and_work of.number on.before on.is layer
+      layer_among world upper_and_work of.number on.before on.is layer
       (subst (Among layer) (same_changed of.number of.overlay on) of.among)
 
   lower_was : (layer : Layer ℕ) → Among layer (live_lowers nat_eq later) → Among layer (live_lowers nat_eq world)
   lower_was layer m =
       let of = layer_of later files_later (λ o. o.lowers) layer m in
       let on = goes of.number of.overlay of.is in
-      live_layer world files (λ o. o.lowers) of.number on.before on.is layer (subst (Among layer) on.lowers of.among)
+      layer_among world (λ o. o.lowers) of.number on.before on.is layer (subst (Among layer) on.lowers of.among)
 
   one : (b : Layer ℕ) → IsLive b → (c : Layer ℕ) → Among c (b ∷ []) → IsLive c
   one b live c (inl same) = subst IsLive (sym same) live

@@ -220,7 +220,7 @@ module _ (fresh : Fresh ℕ) (world : World ℕ) (location : Location ℕ) (chan
         → is_locked nat_eq world layer.filesystem inode ≡ true
     locked_in layer m inode lies =
         any_from_among (lies_or_counts_under nat_eq world layer.filesystem inode) (live_layers world) layer
-        (layer_among world conditions layers_of number overlay is layer m) lies
+        (layer_among world layers_of number overlay is layer m) lies
 
     leads : (layer : Layer ℕ) → Among layer (layers_of overlay) → LeadsAsBefore world later layer
     leads layer m =

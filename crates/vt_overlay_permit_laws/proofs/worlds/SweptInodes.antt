@@ -29,7 +29,7 @@ use Rattle.vt_layer_laws.proofs.layers.LowersKept.{kept_same}
 use Rattle.vt_layer_laws.proofs.layers.LowersWorld.{number_of_filesystem}
 use Rattle.vt_overlay_laws.proofs.whole.ApartInvariants.{pair_same}
 use Rattle.vt_overlay_laws.proofs.changes.WholeOthers.{stays_merged}
-use Rattle.vt_overlay_permit_laws.proofs.worlds.OverlaysGoOn.{AreTrees, GoesOn, inode_listed, overlay_among, overlays_go_on, plain_layer}
+use Rattle.vt_overlay_permit_laws.proofs.worlds.OverlaysGoOn.{AreTrees, GoesOn, inode_listed, overlays_go_on, plain_layer}
 use Rattle.vt_overlay_permit_laws.proofs.worlds.SweptOverlays.{leads_same, shown_among, upper_among}
 use Rattle.vt_overlay_permit_laws.proofs.worlds.SweptTrees.{led_same, led_used, node_led_same, reached_still, used_node}
 use Rattle.std.proofs.lemmas.Bool.{not-true}
@@ -38,6 +38,7 @@ use Rattle.vt_spec.proofs.Found.{is_among_left, is_among_right}
 use Rattle.vt_spec.proofs.Options.{none_is_some}
 use Rattle.vt_spec.proofs.Truths.{and_true_left, and_true_right}
 use Rattle.vt_spec.proofs.Worlds.{number-only_used, layers_of_all}
+use Rattle.vt_layer_laws.proofs.locked.Apart.{merged_among}
 
 -- trees of which each filesystem is one
 pub file_trees_are : (world : World ℕ) → HasFileTrees world
@@ -385,7 +386,7 @@ module _ (world : World ℕ) (files : HasFileTrees world)
       (is : (filesystem_numbered nat_eq world number).overlay ≡ Some overlay) where
     overlay_there : Among (filesystem_numbered nat_eq world number) world.filesystems
     overlay_there = (among-from_filter is_overlay world.filesystems (filesystem_numbered nat_eq world number)
-        (overlay_among world all_trees number overlay is)).0
+        (merged_among world number overlay is)).0
 
     -- What uses an inode of the filesystem of a layer
     module _ (layer : Layer ℕ) (m : Among layer (layers_of overlay)) where

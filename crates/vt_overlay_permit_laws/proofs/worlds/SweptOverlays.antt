@@ -16,12 +16,12 @@ use Rattle.vt_letting_go.proofs.Lists.{or_second}
 use Rattle.vt_letting_go.proofs.sweeps.OfWorlds.{found_filesystem}
 use Rattle.vt_layer_laws.specs.Layers.Locked.{LeadsAsBefore}
 use Rattle.vt_layer_laws.specs.Layers.Untouched.{inode_in}
-use Rattle.vt_layer_laws.proofs.locked.Apart.{found_among}
+use Rattle.vt_layer_laws.proofs.locked.Apart.{found_among, merged_among}
 use Rattle.vt_layer_laws.proofs.layers.LowersKept.{kept_same}
 use Rattle.vt_layer_laws.proofs.layers.LowersWorld.{number_of_filesystem}
 use Rattle.vt_spec.proofs.Truths.{and_true_left, and_true_right}
 use Rattle.vt_overlay_laws.proofs.changes.WholeOthers.{stays_merged}
-use Rattle.vt_overlay_permit_laws.proofs.worlds.OverlaysGoOn.{AreTrees, GoesOn, overlay_among, overlays_go_on, plain_layer}
+use Rattle.vt_overlay_permit_laws.proofs.worlds.OverlaysGoOn.{AreTrees, GoesOn, overlays_go_on, plain_layer}
 use Rattle.vt_spec.proofs.Worlds.{layers_of_all}
 
 -- of which fewer pairs pass
@@ -142,7 +142,7 @@ module _ (world : World ℕ) (files : AreTrees world) (are : OverlayInvariants n
     merged_was =
         among-from_filter (filesystem_lives nat_eq world) world.filesystems (filesystem_numbered nat_eq living number)
         (among-from_filter is_overlay living.filesystems (filesystem_numbered nat_eq living number)
-        (overlay_among living living_files number overlay is)).0
+        (merged_among living number overlay is)).0
 
     same_one : filesystem_numbered nat_eq living number ≡ filesystem_numbered nat_eq world number
     unfolding merged
@@ -208,7 +208,7 @@ module _ (world : World ℕ) (files : AreTrees world) (are : OverlayInvariants n
         && is_mounted nat_eq world g.number) world.filesystems
         (filesystem_numbered nat_eq world number)
         (among-from_filter is_overlay world.filesystems (filesystem_numbered nat_eq world number)
-        (overlay_among world files number overlay was)).0
+        (merged_among world number overlay was)).0
         (and_from (has_layer_on nat_eq f.number (filesystem_numbered nat_eq world number)) _
         (ap (overlay_or false (λ v. list_any (λ (l : Layer ℕ). nat_eq f.number l.filesystem) (layers_of v))) was
         ∙ any_from_among (λ (l : Layer ℕ). nat_eq f.number l.filesystem) (layers_of overlay) layer m

@@ -1,25 +1,16 @@
 -- What copies and changes of an overlay add to its upper layer.
-use Rattle.std.proofs.Common.{◌≡◌, refl, sym, ap, subst, ◌∙◌, ◌⊎◌, inl, inr, ⊎_elim, true≢false, arith, ℕ, ◌+◌, ◌*◌, nat_eq, eq-eqb, Bool, true, false, cond, List, [], ◌∷◌, Option, Some, None, is_some}
+use Rattle.std.proofs.Common.{◌≡◌, refl, sym, ap, subst, ◌∙◌, ◌⊎◌, inl, inr, ⊎_elim, true≢false, ℕ, ◌+◌, ◌*◌, nat_eq, eq-eqb, Bool, true, false, cond, List, [], ◌∷◌, Option, Some, None, is_some}
 use Rattle.std.proofs.lemmas.Bool.Decides.{eqb_tells}
 use Rattle.vt_spec.specs.FileTree.{FileTree, a_name}
-use Rattle.vt_spec.specs.Language.Changes.{Change, changed, with_inode, with_moved, without_parent}
+use Rattle.vt_spec.specs.Language.Changes.{Change, changed, with_inode, with_moved}
 use Rattle.vt_spec.specs.Language.Changes.Change.{AddName, CopyUp, Make, Move, Remove, SetAttr, SetBytes, SetMark}
-use Rattle.vt_spec.specs.Lists.{Fresh, evens, odds}
+use Rattle.vt_spec.specs.Lists.{Fresh}
 use Rattle.vt_spec.specs.Machine.CopyUp.{Merge, copied_content, copied_each, copied_up, copy_named, copy_of, copy_of_node, copy_parent, emptied, is_in_upper, line_to, marked, with_real}
 use Rattle.vt_spec.specs.Machine.World.{Real, upper_object}
 use Rattle.vt_spec.specs.Machine.World.Real.{Upper}
 use Rattle.vt_spec.specs.Tree.{Node, entry_named, entries_in}
 use Rattle.vt_letting_go.proofs.Lists.{Among}
-use Rattle.vt_spec.proofs.Worlds.{root-without_parent}
-
--- one half of some numbers that are no number twice, and the other
-pub even_distinct : (fresh : Fresh ℕ) → ((j k : ℕ) → fresh j ≡ fresh k → j ≡ k) → (j k : ℕ)
-    → evens fresh j ≡ evens fresh k → j ≡ k
-even_distinct fresh distinct j k e = let same = distinct (2 * j) (2 * k) e in omega arith
-
-pub odd_distinct : (fresh : Fresh ℕ) → ((j k : ℕ) → fresh j ≡ fresh k → j ≡ k) → (j k : ℕ)
-    → odds fresh j ≡ odds fresh k → j ≡ k
-odd_distinct fresh distinct j k e = let same = distinct (2 * j + 1) (2 * k + 1) e in omega arith
+use Rattle.vt_spec.proofs.Worlds.{root-without_parent, numbers-without_parent}
 
 -- Copies are real objects of inodes that are there, and each real object in the upper layer stays.
 pub record Grows (before later : Merge ℕ) : Type 0 where
@@ -129,11 +120,6 @@ grows_up fresh merge object = grows_each fresh 0 merge (line_to nat_eq merge.fil
 
 -- Numbers and the root of a tree stay in changes of nodes
 
-pub numbers_parted : (files : FileTree ℕ) (object : Option ℕ)
-    → (without_parent nat_eq files object).numbers ≡ files.numbers
-numbers_parted files None = refl
-numbers_parted files (Some object) = refl
-
 pub numbers_emptied : (upper : FileTree ℕ) (object : Option ℕ) → (emptied nat_eq upper object).numbers ≡ upper.numbers
 numbers_emptied upper None = refl
 numbers_emptied upper (Some object) = refl
@@ -145,7 +131,8 @@ numbers_marked false upper object = refl
 
 pub numbers_moved : (files : FileTree ℕ) (from : ℕ) (old : List ℕ) (to : ℕ) (new : List ℕ) (object : ℕ)
     → (with_moved nat_eq files from old to new object).numbers ≡ files.numbers
-numbers_moved files from old to new object = numbers_parted files (entry_named new (entries_in (files.tree.node to)))
+numbers_moved files from old to new object =
+    numbers-without_parent files (entry_named new (entries_in (files.tree.node to)))
 
 pub root_moved : (files : FileTree ℕ) (from : ℕ) (old : List ℕ) (to : ℕ) (new : List ℕ) (object : ℕ)
     → (with_moved nat_eq files from old to new object).tree.root ≡ files.tree.root

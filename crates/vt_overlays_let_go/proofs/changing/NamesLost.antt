@@ -30,7 +30,7 @@ use Rattle.vt_letting_go.proofs.leaving.NamesKept.{found_entry}
 use Rattle.vt_letting_go.proofs.Trees.{named_among}
 use Rattle.vt_overlays_let_go.specs.OverlayChanges.{CanChange, inodes_lost_with_upper, merge_after, merge_at, unnamed_by}
 use Rattle.vt_overlays_let_go.specs.OverlayNames.{OnlyTheseLoseNames, OpenedCopiesKeepAll, OverlayChangesKeepAll, WrittenPartsInOverlaysKeepAll, names_under, under_name, upper_names_lost}
-use Rattle.vt_overlays_let_go.proofs.changing.Copied.{even_distinct, odd_distinct}
+use Rattle.vt_spec.proofs.FreshNumbers.{evens-distinct, odds-distinct}
 use Rattle.vt_overlays_let_go.proofs.changing.NamesCopied.{Fine, IsFine, line_fine, one_place, put_same, take_same}
 use Rattle.vt_overlays_let_go.proofs.changing.NamesFree.{names_free}
 use Rattle.vt_overlays_let_go.proofs.changing.OverlayCalls.{goes_with_task}
@@ -247,15 +247,15 @@ module _ (fresh : Fresh ℕ) (stack : Stack ℕ) (before : Merge ℕ) (fit : IsF
 
   -- by one half of the numbers, with the other left
   by_evens : (object : ℕ)
-      → Fine files fit.tree fit.numbers before.upper (evens fresh) (even_distinct fresh fit.distinct)
+      → Fine files fit.tree fit.numbers before.upper (evens fresh) (evens-distinct fresh fit.distinct)
       (IsNew (odds fresh))
       (not_odd fresh fit.distinct)
       (copied_up nat_eq (evens fresh) before object)
   by_evens object =
-      line_fine files fit.tree fit.numbers before.upper (evens fresh) (even_distinct fresh fit.distinct)
+      line_fine files fit.tree fit.numbers before.upper (evens fresh) (evens-distinct fresh fit.distinct)
       (IsNew (odds fresh))
       (not_odd fresh fit.distinct) object before.real before.upper
-      (begin (evens fresh) (even_distinct fresh fit.distinct) (IsNew (odds fresh)) (not_odd fresh fit.distinct)
+      (begin (evens fresh) (evens-distinct fresh fit.distinct) (IsNew (odds fresh)) (not_odd fresh fit.distinct)
       (λ k. (2 * k, refl))
       (λ number s. (2 * s.0 + 1, s.1)))
 
@@ -314,7 +314,7 @@ module _ (fresh : Fresh ℕ) (stack : Stack ℕ) (before : Merge ℕ) (fit : IsF
       → entry_at (copied_up nat_eq (odds fresh) (copied_up nat_eq (evens fresh) before object) directory).upper.tree d n
       ≡ Some k
   both_stay directory object d n k e =
-      let done = then_by object directory (odds fresh) (odd_distinct fresh fit.distinct) no_spare (λ j s. s)
+      let done = then_by object directory (odds fresh) (odds-distinct fresh fit.distinct) no_spare (λ j s. s)
       (λ j. (j, refl))
       (λ m s. absurd s) in
       subst (λ m. entry_at m.upper.tree d n ≡ Some k) (sym done.is) (done.fine.stays d n k e)
@@ -346,9 +346,9 @@ module _ (fresh : Fresh ℕ) (stack : Stack ℕ) (before : Merge ℕ) (fit : IsF
       (copied_up nat_eq (evens fresh) before directory) copied.empty_next directory name object d n k
       (copied.stays d n k e)
   loses (Move from old to new object) d n k e =
-      let done = then_by object to (evens (odds fresh)) (even_distinct (odds fresh) (odd_distinct fresh fit.distinct))
+      let done = then_by object to (evens (odds fresh)) (evens-distinct (odds fresh) (odds-distinct fresh fit.distinct))
       (IsNew (odds (odds fresh)))
-      (not_odd (odds fresh) (odd_distinct fresh fit.distinct)) (λ j. (2 * j, refl)) (λ m s. (2 * s.0 + 1, s.1)) in
+      (not_odd (odds fresh) (odds-distinct fresh fit.distinct)) (λ j. (2 * j, refl)) (λ m s. (2 * s.0 + 1, s.1)) in
       let copied = copied_up nat_eq (evens (odds fresh)) (copied_up nat_eq (evens fresh) before object) to in
       moved_loses (odds (odds fresh)) stack copied
       (subst (λ m. entries_in (m.upper.tree.node (odds (odds fresh) 0)) ≡ []) (sym done.is)

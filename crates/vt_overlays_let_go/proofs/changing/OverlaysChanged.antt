@@ -29,7 +29,7 @@ use Rattle.vt_letting_go.specs.Overlays.{RealsAreThere, let_go_all_inodes, real_
 use Rattle.vt_letting_go.specs.TreeChanges.{ChangesTree}
 use Rattle.vt_letting_go.specs.TreesOverlays.{ChangesFilesystem, upper_objects, with_filesystems}
 use Rattle.vt_letting_go.proofs.sweeps.InUse.{no_objects}
-use Rattle.vt_letting_go.proofs.Lists.{Among, all_from_among, all_pass, among-append_left, among-filter, among-filter_map, among-flat_map, among-from_filter_map, among-from_map, among-map, among_from_all, among_numbers, any_passes, found_in, is_among_numbers, map_twice, or_first, or_second, passes}
+use Rattle.vt_letting_go.proofs.Lists.{Among, all_from_among, all_pass, among-append_left, among-filter, among-filter_map, among-flat_map, among-from_filter_map, among-from_map, among-map, among_from_all, among_numbers, any_passes, found_in, is_among_numbers, or_first, or_second, passes}
 use Rattle.vt_letting_go.proofs.leaving.NamesKept.{changes_keep_names}
 use Rattle.vt_letting_go.proofs.sweeps.OfWorlds.{found_filesystem, worlds_are_settled}
 use Rattle.vt_letting_go.proofs.Trees.{named_among}
@@ -37,6 +37,7 @@ use Rattle.vt_letting_go.proofs.leaving.TreesWithOverlays.{changed_trees_let_go,
 use Rattle.vt_overlays_let_go.specs.OverlayChanges.{CanChange, OverlayChangesLetGo, inodes_lost_with_upper, merge_after, merge_at, unnamed_by}
 use Rattle.vt_overlays_let_go.proofs.changing.Added.{Adds, adds}
 use Rattle.vt_overlays_let_go.proofs.changing.Copied.{numbers_stay}
+use Rattle.vt_spec.proofs.Lists.{map_twice}
 
 -- an inode of a filesystem among those of one number
 of_number : (number : ℕ) (list : List ℕ) (filesystem inode : ℕ) → filesystem ≡ number → Among inode list

@@ -13,7 +13,7 @@ use Rattle.vt_spec.specs.TreeInvariant.{HasName, entry_at, led}
 use Rattle.vt_layer_laws.proofs.directories.Fit.{new_overlay_is_tree, new_overlay_lists_numbers}
 use Rattle.vt_layer_laws.proofs.layers.ShownDirectories.{AreOpen, last_of}
 use Rattle.vt_layer_laws.proofs.layers.ShownMerged.{inodes, number}
-use Rattle.vt_layer_laws.proofs.layers.ShownMounted.{are_open, bounded, layers, odd_distinct, root_shown}
+use Rattle.vt_layer_laws.proofs.layers.ShownMounted.{are_open, bounded, layers, root_shown}
 use Rattle.vt_layer_laws.proofs.layers.ShownNames.{last_name}
 use Rattle.vt_layer_laws.proofs.layers.ShownObjects.{object_is}
 use Rattle.vt_layer_laws.proofs.layers.ShownPaths.{not_empty}
@@ -24,10 +24,10 @@ use Rattle.vt_letting_go.proofs.mounting.AttachedSwept.{new_filesystems_keep_all
 use Rattle.vt_letting_go.proofs.Lists.{all_pass, is_among_numbers, or_first, or_second}
 use Rattle.vt_letting_go.proofs.sweeps.OfWorlds.{locations_of_worlds_stand, worlds_are_settled}
 use Rattle.vt_letting_go.proofs.Trees.{named_among}
-use Rattle.vt_overlays_let_go.proofs.changing.Copied.{even_distinct}
 use Rattle.vt_overlays_let_go.specs.NewOverlays.{NewMountsOfOverlaysKeepAll, NewOverlaysAreNamed}
 use Rattle.std.proofs.lemmas.Option.{same_Some}
 use Rattle.vt_spec.proofs.Options.{none_is_some}
+use Rattle.vt_spec.proofs.FreshNumbers.{odds-distinct, evens-distinct}
 
 -- what names lead to from the root is the root or has a name
 named_if_led : (tree : Tree ℕ) (path : List (List ℕ)) (n : ℕ) → n ≢ tree.root → led tree tree.root path ≡ Some n
@@ -101,7 +101,7 @@ new_overlays_are_named fresh world overlay conditions are_layers distinct =
         let leads = led_to (layers world conditions overlay are_layers) (are_open world conditions overlay are_layers)
         (inode_count world)
         (bounded world conditions overlay are_layers)
-        (odds fresh) (odd_distinct world conditions overlay are_layers fresh distinct) (is_some overlay.upper)
+        (odds fresh) (odds-distinct fresh distinct) (is_some overlay.upper)
         (root_shown world conditions overlay are_layers).0 (root_shown world conditions overlay are_layers).1 n there in
         named_if_led made.files.tree leads.0 n isnt leads.1
 
@@ -110,4 +110,4 @@ new_mounts_of_overlays_keep_all fresh world task place overlay flags conditions 
     let settles = worlds_are_settled world conditions in
     new_filesystems_keep_all (odds fresh) world place (overlay_filesystem nat_eq (evens fresh) world overlay) flags
     settles.in_use settles.mounts (locations_of_worlds_stand world conditions) at_attached
-    (new_overlays_are_named (evens fresh) world overlay conditions are_layers (even_distinct fresh distinct))
+    (new_overlays_are_named (evens fresh) world overlay conditions are_layers (evens-distinct fresh distinct))

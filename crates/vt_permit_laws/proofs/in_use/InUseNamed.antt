@@ -16,8 +16,7 @@ use Rattle.vt_spec.specs.Machine.Mounts.Propagation.{Private, Shared, Slave, Unb
 use Rattle.vt_spec.specs.Machine.Receives.{has_members, is_member_of}
 use Rattle.vt_spec.specs.Machine.Run.{numbers_in_use, used_by_filesystem, used_by_mount}
 use Rattle.vt_spec.specs.Machine.World.{Descriptor, Filesystem, Namespace, Overlay, Task, World, all_locations, filesystem_numbered, locations_of, mount_at, node_at}
-use Rattle.vt_spec.specs.Machine.Invariants.{HasLivingGroups, IsWorld, ListsNumbers, Lives, has_its_root, is_listed, is_located_well}
-use Rattle.vt_spec.specs.Machine.Invariants.Lives.{has_master, has_no_master}
+use Rattle.vt_spec.specs.Machine.Invariants.{HasLivingGroups, IsWorld, ListsNumbers, has_its_root, is_listed, is_located_well}
 use Rattle.vt_spec.specs.Tree.{Content, Entries, Node, Tree, entries_in, entry_named, is_directory_node, name_cmp, parent_in}
 use Rattle.vt_spec.specs.Tree.Content.{Directory, Regular, Symlink, Whiteout}
 use Rattle.vt_spec.specs.TreeInvariant.{IsTree}
@@ -30,6 +29,7 @@ use Rattle.vt_world_laws.specs.Worlds.Kept.{IsPlain}
 use Rattle.vt_letting_go.proofs.sweeps.OfWorlds.{all_in_use}
 use Rattle.vt_spec.proofs.NodeChanges.{directory_is_there, entry_named-below}
 use Rattle.vt_spec.proofs.Options.{none_from_not_some}
+use Rattle.vt_mount_laws.proofs.GroupsUp.{master_has_members}
 
 found_by_name : (entries : Entries ℕ) (entry : List ℕ × ℕ) → is_sorted name_cmp entries ≡ true → Among entry entries
     → entry_named entry.0 entries ≡ Some entry.1
@@ -54,20 +54,6 @@ found_by_name (first ∷ entries) entry sorted (inr among) =
         (sym named ∙ ap (λ n. entry_named n entries) (same_name entry.0 first.0 t)
         ∙ entry_named-below first.0 entries parts.0)))
     by false t named = named
-
--- A group that lives has a member, and so has its master.
-lives_with_members : (members : ℕ → Bool) (master : ℕ → Option ℕ) (group : ℕ) → Lives members master group
-    → members group ≡ true
-lives_with_members members master group (has_no_master it h e) = h
-lives_with_members members master group (has_master it above h e lives) = h
-
-master_has_members : (members : ℕ → Bool) (master : ℕ → Option ℕ) (group above : ℕ) → Lives members master group
-    → master group ≡ Some above → members above ≡ true
-master_has_members members master group above (has_no_master it h e) is =
-    absurd (true≢false (ap is_some (sym is ∙ e)))
-master_has_members members master group above (has_master it other h e lives) is =
-    let same : other ≡ above = cc in
-    subst (λ n. members n ≡ true) same (lives_with_members members master other lives)
 
 -- the group of a member is its source
 member_source : (number : ℕ) (kind : Propagation ℕ) → holds_of (nat_eq number) (group_of kind) ≡ true
@@ -192,7 +178,7 @@ module _ (world : World ℕ) (whole : IsWorld nat_eq world) (plain : IsPlain wor
       only number (Some above) e true f =
           let found = member_of number f in
           members_used above
-          (master_has_members (has_members nat_eq world.mounts) world.master number above
+          (master_has_members world.master (has_members nat_eq world.mounts) number above
           (among_from_all (HasLivingGroups nat_eq world) world.mounts whole.mounts.groups found.0 found.1 number
           found.2)
           e)

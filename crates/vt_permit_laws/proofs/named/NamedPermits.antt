@@ -3,10 +3,10 @@ use Rattle.std.proofs.Common.{◌≡◌, refl, ap, sym, true≢false, ℕ, Bool,
 use Rattle.std.specs.Prelude.{map, option_map}
 use Rattle.std.specs.List.{list_all}
 use Rattle.vt_laws.specs.Numbers.{content_named, location_named, node_named, none_or}
-use Rattle.vt_laws.proofs.numbers.Commuting.{Named, node_itself, option_itself}
+use Rattle.vt_laws.proofs.numbers.Commuting.{Named, node_itself, option_itself, change_itself}
 use Rattle.vt_laws.proofs.numbers.Renamings.{overlay_itself}
-use Rattle.vt_laws.specs.Renaming.{Leaves, Renaming}
-use Rattle.vt_permit_laws.specs.Named.{change_named, permit_named, renamed_change, renamed_permit}
+use Rattle.vt_laws.specs.Renaming.{Leaves, Renaming, renamed_change}
+use Rattle.vt_permit_laws.specs.Named.{change_named, permit_named, renamed_permit}
 use Rattle.vt_spec.specs.Language.Changes.{Change}
 use Rattle.vt_spec.specs.Language.Changes.Change.{AddName, CopyUp, Make, Move, Remove, SetAttr, SetBytes, SetMark}
 use Rattle.vt_spec.specs.Machine.Mounts.{Location}
@@ -19,16 +19,6 @@ use Rattle.std.proofs.lemmas.Bool.{and_parts}
 
 -- With each number for itself nothing is renamed.
 module _ {N : Type 0} where
-  change_itself : (change : Change N) → renamed_change (λ n. n) (λ n. n) change ≡ change
-  change_itself (Make directory name number node) = ap (Make directory name number) (node_itself node)
-  change_itself (AddName directory name object) = refl
-  change_itself (Remove directory name object) = refl
-  change_itself (Move from old to new object) = refl
-  change_itself (SetBytes file bytes) = refl
-  change_itself (SetAttr object attr) = refl
-  change_itself (SetMark directory opaque) = refl
-  change_itself (CopyUp object) = refl
-
   pub permit_itself : (permit : Permit N) → renamed_permit (λ n. n) (λ n. n) permit ≡ permit
   permit_itself Allowed = refl
   permit_itself (ToList directory) = refl

@@ -2,12 +2,12 @@
 use Rattle.std.proofs.Common.{◌≡◌, refl, sym, ap, ◌∙◌, ℕ, nat_eq, eq-eqb, Bool, true, false, cond, ◌&&◌, List, [], ◌∷◌, ◌++◌, map, Option, None, Some}
 use Rattle.std.specs.Prelude.{flat_map}
 use Rattle.std.proofs.lemmas.List.{map-append}
-use Rattle.vt_letting_go.proofs.Lists.{map_twice}
 use Rattle.vt_spec.specs.Lists.{folded, rest_of}
 use Rattle.vt_spec.specs.Machine.Attach.{Copies, Graft, attached_by, copies_at, copy_at, graft_of, parts_of, pushed_onto, pushed_up, receiver_below, twig_of}
 use Rattle.vt_spec.specs.Machine.Mounts.{Location, Mount, group_of, with_mount}
 use Rattle.vt_spec.specs.Machine.World.{World, mount_at}
 use Rattle.vt_spec.proofs.Worlds.{number-mount_in}
+use Rattle.vt_spec.proofs.Lists.{map_twice}
 
 abbrev pub namespaces_in : List (Mount ℕ) → List (Option ℕ)
 namespaces_in mounts = map (λ (mount : Mount ℕ). mount.namespace) mounts

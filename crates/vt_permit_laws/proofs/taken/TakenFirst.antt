@@ -87,14 +87,16 @@ pub numbers_same : (mounts : List (Mount ℕ)) → 0 < length mounts → (one ot
 numbers_same mounts some one other same =
     λ i number. same (index_of nat_eq mounts number) (index_bound mounts number some) i
 
+-- a bind has at least one mount
+pub bind_some : (world : World ℕ) (source : Location ℕ) (recursive : Bool)
+    → 0 < length (bind_tree nat_eq world source recursive)
+bind_some world source false = omega arith
+bind_some world source true = omega arith
+
 module _ (world : World ℕ) (whole : IsWorld nat_eq world) (plain : IsPlain world) (ungrouped : IsUngrouped world)
     (task : Task ℕ) (called : task_called world task.name ≡ Some task) where
   alone : (number : ℕ) → group_of (mount_numbered nat_eq world number).propagation ≡ None
   alone = found_ungrouped world.mounts ungrouped
-
-  bind_some : (source : Location ℕ) (recursive : Bool) → 0 < length (bind_tree nat_eq world source recursive)
-  bind_some source false = omega arith
-  bind_some source true = omega arith
 
   named_some : (mount : ℕ) (recursive : Bool) → 0 < length (named_mounts nat_eq world mount recursive)
   named_some mount false = omega arith
@@ -202,7 +204,7 @@ module _ (world : World ℕ) (whole : IsWorld nat_eq world) (plain : IsPlain wor
     applied_same (ToMountOverlay place overlay flags) is same = absurd (is place overlay flags refl)
     applied_same (ToBind source place recursive) is same =
         copied_same world place (bind_tree nat_eq world source recursive) (alone place.mount) fresh again
-        (bind_some source recursive) (λ k low. same (2 * k) (omega arith))
+        (bind_some world source recursive) (λ k low. same (2 * k) (omega arith))
     applied_same (ToMove mount place) is same =
         moved_same world place (mount_tree nat_eq world.mounts (mount_numbered nat_eq world mount)) (alone place.mount)
         fresh again

@@ -1,5 +1,5 @@
 -- What is made by the masters that are kept is what is made in the world.
-use Rattle.std.proofs.Common.{◌≡◌, ℕ, Bool, true, false, cond, ◌++◌, suc, zero, List, [], ◌∷◌, map, length, nat_eq, Option, None, Some, option_map, flat_map, is_some, refl, sym, ap, ◌∙◌, true≢false, inl, inr, ⊎_elim, subst}
+use Rattle.std.proofs.Common.{◌≡◌, ℕ, Bool, true, false, cond, ◌++◌, suc, zero, List, [], ◌∷◌, map, length, nat_eq, Option, None, Some, option_map, flat_map, is_some, refl, sym, ap, ◌∙◌, true≢false, ⊎_elim, subst}
 use Rattle.std.specs.Prelude.{find as seek, filter_map, if◌then◌else◌, not, slice_get, unwrap_or}
 use Rattle.std.specs.List.{cons_option}
 use Rattle.std.proofs.lemmas.Option.{same_Some}
@@ -12,7 +12,7 @@ use Rattle.vt_spec.specs.Machine.Receives.{groups_up, has_members, is_member_of,
 use Rattle.vt_spec.specs.Machine.World.{World, mount_at}
 use Rattle.vt_spec.specs.Machine.Invariants.{HasLivingGroups, Lives}
 use Rattle.vt_spec.specs.Machine.Invariants.Lives.{has_master, has_no_master}
-use Rattle.vt_spec.proofs.Lists.{Among, among-from_filter, among_from_all, chain_ends, chain_goes_on}
+use Rattle.vt_spec.proofs.Lists.{Among, among-from_filter, among_from_all, chain_ends, chain_goes_on, map_twice}
 use Rattle.vt_group.specs.Grouping.{Grouping, master_in}
 use Rattle.vt_location.specs.Locations.{location_of}
 use Rattle.vt_location.specs.MountValue.{mount_of}
@@ -24,27 +24,18 @@ use Rattle.vt_propagate.specs.Copying.{parts_seen, supply, tree_seen, twig, type
 use Rattle.vt_propagate.specs.Planned.{planned_copies, planned_groups}
 use Rattle.vt_propagate.specs.Seen.{IsSeen}
 use Rattle.vt_propagate.proofs.Found.{numbered}
-use Rattle.vt_propagate.proofs.Leaving.{found_one}
 use Rattle.vt_propagate.proofs.TakingPart.{receivers_there}
+use Rattle.vt_letting_go.proofs.Lists.{found_in, flat_map_alike}
 
 -- Lists
 
 module _ {A B C : Type 0} where
-  map_twice : (f : B → C) (g : A → B) (list : List A) → map f (map g list) ≡ map (λ a. f (g a)) list
-  map_twice f g [] = refl
-  map_twice f g (a ∷ list) = ap (λ rest. f (g a) ∷ rest) (map_twice f g list)
-
   filter_map_twice : (f : B → Option C) (g : A → B) (list : List A)
       → filter_map f (map g list) ≡ filter_map (λ a. f (g a)) list
   filter_map_twice f g [] = refl
   filter_map_twice f g (a ∷ list) = ap (cons_option (f (g a))) (filter_map_twice f g list)
 
 module _ {A B : Type 0} where
-  flat_alike : (f g : A → List B) (list : List A) → ((a : A) → Among a list → f a ≡ g a)
-      → flat_map f list ≡ flat_map g list
-  flat_alike f g [] same = refl
-  flat_alike f g (a ∷ list) same = λ i. same a (inl refl) i ++ flat_alike f g list (λ other m. same other (inr m)) i
-
   map_alike : (f g : A → B) → ((a : A) → f a ≡ g a) → (list : List A) → map f list ≡ map g list
   map_alike f g same [] = refl
   map_alike f g same (a ∷ list) = λ i. same a i ∷ map_alike f g same list i
@@ -130,7 +121,7 @@ module _ (world : World ℕ) (kept : List MountEntry) (grouping : Grouping) (see
       by : (o : Option (Mount ℕ)) → numbered world.mounts place.mount ≡ o → HasLife (unwrap_or o (no_mount place.mount))
       by None e = λ group none. absurd (true≢false (sym (ap is_some none)))
       by (Some mount) e = life_of mount
-          (found_one (λ (one : Mount ℕ). nat_eq place.mount one.number) world.mounts mount e).0
+          (found_in (λ (one : Mount ℕ). nat_eq place.mount one.number) world.mounts mount e).0
 
   life_of_parts : (place : Location ℕ) (part : Mount ℕ) → Among part (parts_of nat_eq world place) → HasLife part
   life_of_parts place part m = ⊎_elim
@@ -260,11 +251,12 @@ module _ (world : World ℕ) (kept : List MountEntry) (grouping : Grouping) (see
       life_of_part : (part : Mount ℕ) → Among part (parts_seen copying) → HasLife part
       life_of_part part m = life_of_parts place part (subst (Among part) are m)
 
+      -- the copies that code makes are those that are planned
       pub copies_planned : flat_map (λ part. map (copied (as_kept kept grouping) copying part) (tree_seen copying))
           (parts_seen copying)
           ≡ planned_copies world copying.graft copying.counts
       copies_planned =
-          flat_alike (λ part. map (copied (as_kept kept grouping) copying part) (tree_seen copying))
+          flat_map_alike (λ part. map (copied (as_kept kept grouping) copying part) (tree_seen copying))
           (copies_at nat_eq world (supply copying) graft (parts_seen copying)) (parts_seen copying) (λ part m.
           map_alike (copied (as_kept kept grouping) copying part)
           (λ origin. copy_at nat_eq world (supply copying) graft (parts_seen copying) part (grown origin))
@@ -276,11 +268,12 @@ module _ (world : World ℕ) (kept : List MountEntry) (grouping : Grouping) (see
           (graft_of nat_eq world (copies_from nat_eq (counts_from copying.counts) parts
           (tree_seen copying)) place copying.graft.moves (tree_seen copying)) parts) parts) are
 
+      -- and so are the groups
       pub groups_planned : flat_map (λ part. filter_map (made (as_kept kept grouping) copying part) (tree_seen copying))
           (parts_seen copying)
           ≡ planned_groups world copying.graft copying.counts
       groups_planned =
-          flat_alike (λ part. filter_map (made (as_kept kept grouping) copying part) (tree_seen copying))
+          flat_map_alike (λ part. filter_map (made (as_kept kept grouping) copying part) (tree_seen copying))
           (λ part. filter_map (group_made nat_eq world (supply copying) graft (parts_seen copying) part) graft.twigs)
           (parts_seen copying) (λ part m.
           filter_map_alike (made (as_kept kept grouping) copying part)
@@ -298,6 +291,7 @@ first_in : List (Mount ℕ) → Option (Mount ℕ)
 first_in [] = None
 first_in (mount ∷ rest) = Some mount
 
+-- the first part is the mount of the event
 pub first_part : (parts : List Kept) (first : Kept) → Some first ≡ slice_get parts 0
     → (at : Mount ℕ) (rest : List (Mount ℕ)) → map mount_of parts ≡ at ∷ rest
     → mount_of first ≡ at

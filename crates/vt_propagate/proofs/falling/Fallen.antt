@@ -2,23 +2,25 @@
 use Rattle.std.proofs.Common.{◌≡◌, ℕ, Bool, true, false, cond, List, [], ◌∷◌, ◌++◌, map, nat_eq, Option, None, Some, option_map, is_some, refl, sym, ap, subst, ◌∙◌, inl, inr, ⊎_elim, ◌⊎◌, eq-eqb, true≢false, length}
 use Rattle.std.proofs.lemmas.Bool.{eqb-true}
 use Rattle.std.proofs.lemmas.Option.{same_Some}
-use Rattle.std.specs.Prelude.{All, filter_map, flat_map, if◌then◌else◌, unwrap_or}
-use Rattle.std.specs.List.{cons_option}
+use Rattle.std.specs.Prelude.{All, if◌then◌else◌, unwrap_or}
 use Rattle.std.specs.Map.{lookup}
 use Rattle.vt_spec.specs.Lists.{holds_of, or_else, then_some}
 use Rattle.vt_spec.specs.Machine.Detach.{after_going, is_going, mount_point_left, mount_point_of_parent}
 use Rattle.vt_spec.specs.Machine.Mounts.{Location, Mount, children, detached, mount_in, no_mount, stands_on}
 use Rattle.vt_spec.specs.Machine.Receives.{regrouped}
 use Rattle.vt_spec.specs.Machine.World.{World, with_mounts}
-use Rattle.vt_spec.proofs.Lists.{Among, all_from_among, among-filter, among-map, among_numbers}
+use Rattle.vt_spec.proofs.Lists.{Among, all_from_among, among-filter, among-map, among_numbers, among-from_filter_map, among-filter_map, among-from_flat_map, among-flat_map}
 use Rattle.vt_mount.proofs.PointLemmas.{end-here}
 use Rattle.vt_mount.specs.MountsValue.{are_ascending}
 use Rattle.vt_propagate.specs.Falling.{FallsTo, LeavesBy, all_points_left, left_by, moved_by, of_mounts, point_left, point_left_of, points_left_on}
-use Rattle.vt_propagate.proofs.Found.{numbered, numbered_among, numbers}
-use Rattle.vt_propagate.proofs.Leaving.{found_one, numbered-number}
+use Rattle.vt_propagate.proofs.Found.{numbered, numbered_among}
+use Rattle.vt_propagate.proofs.Leaving.{numbered-number}
+use Rattle.vt_letting_go.proofs.Lists.{found_in}
+use Rattle.vt_mount_laws.specs.Mounts.Attaching.{numbers_of}
 
 module _ (mounts : List (Mount ℕ)) (gone : List ℕ) (number : ℕ) (mount : Mount ℕ) (found : Some mount
     ≡ numbered mounts number) where
+  -- a mount that goes gets no new mount point
   pub left_none : is_going nat_eq gone number ≡ true → None ≡ point_left_of mounts gone number
   left_none is =
       sym (ap (λ b. if b then None else option_map (λ place. (
@@ -29,6 +31,7 @@ module _ (mounts : List (Mount ℕ)) (gone : List ℕ) (number : ℕ) (mount : M
       (ap (is_going nat_eq gone) (sym (numbered-number mounts number mount found)) ∙ is))
       ∙ ap (λ o. then_some o (point_left mounts gone)) found
 
+  -- one that stays gets the place that is left below it
   pub left_some : is_going nat_eq gone number ≡ false → (place : Location ℕ) → mount.mount_point ≡ Some place
       → Some (number, mount_point_left nat_eq (of_mounts mounts) gone place) ≡ point_left_of mounts gone number
   left_some stays place at =
@@ -67,53 +70,6 @@ module _ {B : Type 0} where
       by true is later = refl
       by false is later = ⊎_elim (λ e. absurd (true≢false (sym (eq-eqb number pair.0 (ap (λ p. p.0) e)) ∙ is))) later m
 
-module _ {A B : Type 0} (f : A → Option B) where
-  among_kept : (list : List A) (b : B) → Among b (filter_map f list) → (a : A) × Among a list × (f a ≡ Some b)
-  among_kept [] b m = absurd m
-  among_kept (a ∷ rest) b m = by (f a) refl m (among_kept rest b)
-    where
-      by : (o : Option B) → f a ≡ o → Among b (cons_option o (filter_map f rest))
-          → (Among b (filter_map f rest) → (x : A) × Among x rest × (f x ≡ Some b)) → (x : A) × Among x (a ∷ rest)
-          × (f x ≡ Some b)
-      by None e m later = let t = later m in (t.0, inr t.1, t.2)
-      by (Some one) e m later =
-          ⊎_elim (λ same. (a, inl refl, e ∙ ap Some (sym same))) (λ l. let t = later l in (t.0, inr t.1, t.2)) m
-
-  kept_among : (list : List A) (a : A) (b : B) → Among a list → f a ≡ Some b → Among b (filter_map f list)
-  kept_among [] a b m e = absurd m
-  kept_among (first ∷ rest) a b m e = ⊎_elim here (λ l. further (f first) (kept_among rest a b l e)) m
-    where
-      further : (o : Option B) → Among b (filter_map f rest) → Among b (cons_option o (filter_map f rest))
-      further None l = l
-      further (Some one) l = inr l
-
-      here : a ≡ first → Among b (filter_map f (first ∷ rest))
-      here same = subst (λ o. Among b (cons_option o (filter_map f rest))) (sym (ap f (sym same) ∙ e)) (inl refl)
-
-module _ {A B : Type 0} (f : A → List B) where
-  among_flat : (list : List A) (b : B) → Among b (flat_map f list) → (a : A) × Among a list × Among b (f a)
-  among_flat [] b m = absurd m
-  among_flat (a ∷ rest) b m = ⊎_elim (λ l. (a, inl refl, l)) (λ l. let t = among_flat rest b l in
-      (t.0, inr t.1, t.2)) (either (f a) m)
-    where
-      either : (xs : List B) → Among b (xs ++ flat_map f rest) → (Among b xs) ⊎ (Among b (flat_map f rest))
-      either [] m = inr m
-      either (x ∷ xs) m = ⊎_elim (λ e. inl (inl e)) (λ l. ⊎_elim (λ k. inl (inr k)) (λ k. inr k) (either xs l)) m
-
-  flat_among : (list : List A) (a : A) (b : B) → Among a list → Among b (f a) → Among b (flat_map f list)
-  flat_among [] a b m l = absurd m
-  flat_among (first ∷ rest) a b m l =
-      ⊎_elim (λ e. front (f first) (subst (λ x. Among b (f x)) e l)) (λ k. behind (f first)
-      (flat_among rest a b k l)) m
-    where
-      front : (xs : List B) → Among b xs → Among b (xs ++ flat_map f rest)
-      front [] k = absurd k
-      front (x ∷ xs) k = ⊎_elim (λ e. inl e) (λ j. inr (front xs j)) k
-
-      behind : (xs : List B) → Among b (flat_map f rest) → Among b (xs ++ flat_map f rest)
-      behind [] k = k
-      behind (x ∷ xs) k = inr (behind xs k)
-
 -- New mount points of the mounts that stay
 
 module _ (world : World ℕ) (up : are_ascending world.mounts ≡ true) (gone : List ℕ) where
@@ -128,8 +84,9 @@ module _ (world : World ℕ) (up : are_ascending world.mounts ≡ true) (gone : 
       → Among (mount.number, place) points
       → option_map left mount.mount_point ≡ Some place
   entry_tells mount m place among =
-      let on = among_flat (points_left_on world.mounts gone) gone (mount.number, place) among in
-      let from = among_kept (point_left_of world.mounts gone) (numbers (children nat_eq world.mounts on.0))
+      let on = among-from_flat_map (points_left_on world.mounts gone) gone (mount.number, place) among in
+      let from = among-from_filter_map (point_left_of world.mounts gone)
+          (numbers_of (children nat_eq world.mounts on.0))
       (mount.number, place) on.2 in
       by from.0 (numbered world.mounts from.0) refl from.2
     where
@@ -156,7 +113,7 @@ module _ (world : World ℕ) (up : are_ascending world.mounts ≡ true) (gone : 
           → option_map left mount.mount_point ≡ Some place
       by number None f e = absurd (true≢false (sym (ap is_some e)))
       by number (Some other) f e =
-          told other (found_one (λ (x : Mount ℕ). nat_eq number x.number) world.mounts other f).0
+          told other (found_in (λ (x : Mount ℕ). nat_eq number x.number) world.mounts other f).0
           (is_going nat_eq gone other.number) e
 
   -- a mount on one that goes has an entry
@@ -165,9 +122,9 @@ module _ (world : World ℕ) (up : are_ascending world.mounts ≡ true) (gone : 
       → mount.mount_point ≡ Some place → is_going nat_eq gone place.mount ≡ true
       → Among (mount.number, left place) points
   has_entry mount m stays place at goes =
-      flat_among (points_left_on world.mounts gone) gone place.mount (mount.number, left place)
+      among-flat_map (points_left_on world.mounts gone) gone place.mount (mount.number, left place)
       (among_numbers gone place.mount goes)
-      (kept_among (point_left_of world.mounts gone) (numbers
+      (among-filter_map (point_left_of world.mounts gone) (numbers_of
       (children nat_eq world.mounts place.mount)) mount.number (mount.number, left place)
       (among-map (λ x. x.number) (children nat_eq world.mounts place.mount) mount
       (among-filter (stands_on nat_eq place.mount) world.mounts mount m
@@ -209,15 +166,16 @@ module _ (world : World ℕ) (up : are_ascending world.mounts ≡ true) (gone : 
       by true e = refl
       by false e = λ i. record mount { mount_point = same_point mount (within mount (inl refl)) e i }
 
+  -- the mounts that are left stand at the points that code has for them
   pub leaves : LeavesBy world gone points
   leaves = ap (λ mounts. regrouped nat_eq (with_mounts world mounts)) (same_mounts world.mounts (λ mount m. m))
 
   -- each entry is of a mount that stays
   pub each_falls : All (FallsTo world gone) points
   each_falls = all_from_among (FallsTo world gone) points (λ entry among.
-      let on = among_flat (points_left_on world.mounts gone) gone entry among in
-      let from = among_kept (point_left_of world.mounts gone)
-      (numbers (children nat_eq world.mounts on.0)) entry on.2 in
+      let on = among-from_flat_map (points_left_on world.mounts gone) gone entry among in
+      let from = among-from_filter_map (point_left_of world.mounts gone)
+      (numbers_of (children nat_eq world.mounts on.0)) entry on.2 in
       by entry from.0 (numbered world.mounts from.0) refl from.2)
     where
       told : (entry : ℕ × Location ℕ) (other : Mount ℕ) → Among other world.mounts → (b : Bool)
@@ -244,5 +202,5 @@ module _ (world : World ℕ) (up : are_ascending world.mounts ≡ true) (gone : 
           → then_some o (point_left world.mounts gone) ≡ Some entry → FallsTo world gone entry
       by entry number None f e = absurd (true≢false (sym (ap is_some e)))
       by entry number (Some other) f e =
-          told entry other (found_one (λ (x : Mount ℕ). nat_eq number x.number) world.mounts other f).0
+          told entry other (found_in (λ (x : Mount ℕ). nat_eq number x.number) world.mounts other f).0
           (is_going nat_eq gone other.number) refl e

@@ -71,6 +71,7 @@ parts_together : (numbers : List ℕ) → flat_map (λ part. part) (each_alone n
 parts_together [] = refl
 parts_together (number ∷ rest) = ap (λ list. number ∷ list) (parts_together rest)
 
+-- mounts that go one by one leave, once swept, what they leave at once
 pub one_by_one_are_swept_once : OneByOneAreSweptOnce
 one_by_one_are_swept_once world numbers trees uppers reals kept turns =
     swept_as_parts (settled nat_eq world) numbers
@@ -95,6 +96,7 @@ module _ (world : World ℕ) (goes : ℕ → Bool) where
   abbrev taken_by : World ℕ
   taken_by = regrouped nat_eq (with_mounts world (map after_by world.mounts))
 
+-- mounts leave the same world in whatever order they are listed
 pub taken_in_any_order : (world : World ℕ) (one other : List ℕ)
     → ((number : ℕ) → is_among nat_eq number one ≡ is_among nat_eq number other)
     → taken_away nat_eq world one ≡ taken_away nat_eq world other
@@ -102,6 +104,7 @@ taken_in_any_order world one other same = λ i. taken_by world (λ number. same 
 
 -- The ends of namespaces
 
+-- a namespace ends by its mounts in turn
 pub namespaces_end_in_turn : NamespacesEndInTurn
 namespaces_end_in_turn world numbers trees uppers reals kept turns are =
     ap (λ (now : World ℕ). record now { namespaces = filter (has_tasks nat_eq world) world.namespaces })
@@ -134,6 +137,7 @@ sweeps_do_not_count namespaces (number ∷ rest) now =
     (namespaces_do_not_count now namespaces (number ∷ []))
     ∙ sweeps_do_not_count namespaces rest (settled nat_eq (without_one now number))
 
+-- also where it is not listed any more
 pub unlisted_namespaces_end_in_turn : UnlistedNamespacesEndInTurn
 unlisted_namespaces_end_in_turn world numbers trees uppers reals kept turns are =
     sweeps_do_not_count (filter (has_tasks nat_eq world) world.namespaces) numbers (settled nat_eq world)
@@ -164,6 +168,7 @@ has_child_swept world kept number =
     (or_parts (is_some mount.namespace) (is_located nat_eq world mount.number) dead).0
     (among_from_list_all is_nowhere_or_attached world.mounts kept.nowhere mount m))
 
+-- code has the mounts and groups that the turns leave
 pub turns_are_seen_swept : TurnsAreSeenSwept
 turns_are_seen_swept world [] trees uppers reals kept turns = tt
 turns_are_seen_swept world (number ∷ rest) trees uppers reals kept turns =

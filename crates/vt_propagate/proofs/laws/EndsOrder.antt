@@ -195,12 +195,14 @@ module _ (start : World ℕ) (at_first : MountInvariants nat_eq start) where
       by false e true f = absurd (true≢false (sym (ends_with_sorted number f) ∙ e))
       by false e false f = e ∙ sym f
 
+-- the mounts of ended namespaces go in turn
 pub ended_go_in_turn : EndedGoInTurn
 ended_go_in_turn world kept = (
   left_in_turn world kept (sorted world kept) world (all_left world kept),
   sorted_are_ended world kept,
 )
 
+-- and those that stand deepest go first
 pub namespaces_end_deepest_first : NamespacesEndDeepestFirst
 namespaces_end_deepest_first world trees uppers reals kept =
     let turns = ended_go_in_turn world kept in

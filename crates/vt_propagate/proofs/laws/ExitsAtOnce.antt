@@ -24,7 +24,7 @@ use Rattle.vt_mount_laws.proofs.mounts.MountsReplaced.{found_itself}
 use Rattle.vt_propagate.specs.EndsInTurn.{with_namespaces}
 use Rattle.vt_propagate.specs.ExitsAtOnce.{ExitsAreAtOnce, without_tasks}
 use Rattle.vt_propagate.proofs.laws.EndsInTurn.{taken_in_any_order}
-use Rattle.vt_propagate.proofs.LazyUnmounts.{settled_without_groups}
+use Rattle.vt_letting_go.proofs.SweptBetween.{settled_without_groups}
 use Rattle.vt_propagate.proofs.TakenTwice.{taken_twice}
 
 -- the world with these tasks and namespaces
@@ -194,6 +194,7 @@ module _ (world : World ℕ) (tasks : List (Task ℕ)) (kept : MountInvariants n
           (kept_by_number world first number (ended_is_found world kept number ∙ e)).namespace
           ∙ ends_alike it.namespace
 
+  -- namespaces that end in turn leave the groups that they leave at once
   pub ends_at_once : MountInvariants nat_eq ended_before → MountInvariants nat_eq not_ended
       → without_dead_groups nat_eq (namespaces_ended nat_eq ended_before)
       ≡ without_dead_groups nat_eq (namespaces_ended nat_eq not_ended)
@@ -304,6 +305,7 @@ all_end_alike (name ∷ names) world kept =
     (ended_namespaces_keep_mounts world kept))
     ∙ tasks_then world (name ∷ names) kept
 
+-- tasks that exit in turn leave, once swept, what they leave at once
 pub exits_are_at_once : ExitsAreAtOnce
 exits_are_at_once world name names trees uppers reals kept =
     one_sweep_for_all_exits_with_overlays world (name ∷ names) trees uppers reals

@@ -20,7 +20,8 @@ use Rattle.vt_mount_laws.proofs.mounts.MountsReplaced.{found_itself}
 use Rattle.vt_mount_laws.proofs.mounts.Standing.{depth_by_rank, rank, rank_child}
 use Rattle.vt_propagate.specs.LazyEvents.{children_of, levels_from}
 use Rattle.vt_propagate.specs.LazyUnmounts.{lazy_events}
-use Rattle.vt_propagate.proofs.Found.{counts, numbers}
+use Rattle.vt_propagate.proofs.Found.{counts}
+use Rattle.vt_mount_laws.specs.Mounts.Attaching.{numbers_of}
 
 reverse-first : (x : ℕ) (xs : List ℕ) → reverse (x ∷ xs) ≡ reverse xs ++ (x ∷ [])
 reverse-first x xs = reverse-append (x ∷ []) xs
@@ -146,7 +147,7 @@ module _ (world : World ℕ) (kept : MountInvariants nat_eq world) where
   AllOf r list = (x : ℕ) → Among x list → key_of x ≡ r
 
   abbrev kids : ℕ → List ℕ
-  kids number = numbers (children nat_eq world.mounts number)
+  kids number = numbers_of (children nat_eq world.mounts number)
 
   abbrev levels : ℕ → List ℕ → List ℕ
   levels n list = levels_from n world.mounts list
@@ -201,15 +202,15 @@ module _ (world : World ℕ) (kept : MountInvariants nat_eq world) where
   under (suc n) x = x ∷ flat_map (under n) (kids x)
 
   tree_numbers : (n : ℕ) (mount : Mount ℕ)
-      → numbers (tree_from nat_eq n world.mounts mount) ≡ under n mount.number
+      → numbers_of (tree_from nat_eq n world.mounts mount) ≡ under n mount.number
   unfolding under
   tree_numbers zero mount = refl
   tree_numbers (suc n) mount =
       ap (λ list. mount.number ∷ list) (all_trees (tree_numbers n) (children nat_eq world.mounts mount.number))
     where
-      all_trees : ((x : Mount ℕ) → numbers (tree_from nat_eq n world.mounts x) ≡ under n x.number)
+      all_trees : ((x : Mount ℕ) → numbers_of (tree_from nat_eq n world.mounts x) ≡ under n x.number)
           → (list : List (Mount ℕ))
-          → numbers (flat_map (tree_from nat_eq n world.mounts) list) ≡ flat_map (under n) (numbers list)
+          → numbers_of (flat_map (tree_from nat_eq n world.mounts) list) ≡ flat_map (under n) (numbers_of list)
       all_trees each [] = refl
       all_trees each (x ∷ rest) =
           map-append (λ (y : Mount ℕ). y.number) (tree_from nat_eq n world.mounts x)
@@ -303,15 +304,15 @@ module _ (world : World ℕ) (kept : MountInvariants nat_eq world) where
 
   inserted_at : (d : ℕ) (mount : Mount ℕ) (sorted : List (Mount ℕ)) → IsDeep mount
       → ((x : Mount ℕ) → Among x sorted → IsDeep x)
-      → at key_of d (numbers (insert_deepest nat_eq world mount sorted))
-      ≡ at key_of d (mount.number ∷ numbers sorted)
+      → at key_of d (numbers_of (insert_deepest nat_eq world mount sorted))
+      ≡ at key_of d (mount.number ∷ numbers_of sorted)
   inserted_at d mount [] deep all = refl
   inserted_at d mount (other ∷ rest) deep all =
       by (nat_lt (depth_of nat_eq world mount) (depth_of nat_eq world other)) refl
       (inserted_at d mount rest deep (λ x m. all x (inr m)))
     where
       those : List ℕ
-      those = at key_of d (numbers rest)
+      those = at key_of d (numbers_of rest)
 
       turn : (a b : Bool) → (a ≡ true → b ≡ true → ⊥)
           → cond b (other.number ∷ cond a (mount.number ∷ those) those) (cond a (mount.number ∷ those) those)
@@ -322,10 +323,10 @@ module _ (world : World ℕ) (kept : MountInvariants nat_eq world) where
       turn false false never = refl
 
       by : (b : Bool) → nat_lt (depth_of nat_eq world mount) (depth_of nat_eq world other) ≡ b
-          → at key_of d (numbers (insert_deepest nat_eq world mount rest))
-          ≡ at key_of d (mount.number ∷ numbers rest)
-          → at key_of d (numbers (cond b (other ∷ insert_deepest nat_eq world mount rest) (mount ∷ other ∷ rest)))
-          ≡ at key_of d (mount.number ∷ other.number ∷ numbers rest)
+          → at key_of d (numbers_of (insert_deepest nat_eq world mount rest))
+          ≡ at key_of d (mount.number ∷ numbers_of rest)
+          → at key_of d (numbers_of (cond b (other ∷ insert_deepest nat_eq world mount rest) (mount ∷ other ∷ rest)))
+          ≡ at key_of d (mount.number ∷ other.number ∷ numbers_of rest)
       by true e later =
           ap (λ list. cond (nat_eq (key_of other.number) d) (other.number ∷ list) list) later
           ∙ turn (nat_eq (key_of mount.number) d) (nat_eq (key_of other.number) d) (λ f g.
@@ -339,22 +340,22 @@ module _ (world : World ℕ) (kept : MountInvariants nat_eq world) where
 
   all_inserted_at : (d : ℕ) (mounts sorted : List (Mount ℕ)) → ((x : Mount ℕ) → Among x mounts → IsDeep x)
       → ((x : Mount ℕ) → Among x sorted → IsDeep x)
-      → at key_of d (numbers (folded (λ sorted mount. insert_deepest nat_eq world mount sorted) sorted mounts))
-      ≡ reverse (at key_of d (numbers mounts)) ++ at key_of d (numbers sorted)
+      → at key_of d (numbers_of (folded (λ sorted mount. insert_deepest nat_eq world mount sorted) sorted mounts))
+      ≡ reverse (at key_of d (numbers_of mounts)) ++ at key_of d (numbers_of sorted)
   all_inserted_at d [] sorted all deep = refl
   all_inserted_at d (mount ∷ mounts) sorted all deep =
       all_inserted_at d mounts (insert_deepest nat_eq world mount sorted) (λ x m. all x (inr m))
       (λ x m. ⊎_elim (λ same. subst IsDeep (sym same) (all mount (inl refl))) (deep x)
       (among_inserted world mount sorted x m))
-      ∙ ap (λ list. reverse (at key_of d (numbers mounts)) ++ list)
+      ∙ ap (λ list. reverse (at key_of d (numbers_of mounts)) ++ list)
       (inserted_at d mount sorted (all mount (inl refl)) deep)
       ∙ by (nat_eq (key_of mount.number) d)
     where
       some : List ℕ
-      some = at key_of d (numbers mounts)
+      some = at key_of d (numbers_of mounts)
 
       rest : List ℕ
-      rest = at key_of d (numbers sorted)
+      rest = at key_of d (numbers_of sorted)
 
       by : (b : Bool) → reverse some ++ cond b (mount.number ∷ rest) rest
           ≡ reverse (cond b (mount.number ∷ some) some) ++ rest
@@ -364,7 +365,7 @@ module _ (world : World ℕ) (kept : MountInvariants nat_eq world) where
       by false = refl
 
   falls_by_depth : (list : List (Mount ℕ)) → AreDeepestFirst world list
-      → ((x : Mount ℕ) → Among x list → IsDeep x) → Falling key_of (numbers list)
+      → ((x : Mount ℕ) → Among x list → IsDeep x) → Falling key_of (numbers_of list)
   falls_by_depth [] order all = tt
   falls_by_depth (mount ∷ rest) order all = (
     λ y m.
@@ -390,16 +391,17 @@ module _ (world : World ℕ) (kept : MountInvariants nat_eq world) where
       (λ among. found_itself world.mounts kept.one_number mount among)
       (tree_among (length world.mounts) world.mounts (mount_numbered nat_eq world number) mount m)
 
+  -- a lazy unmount takes the levels of its tree, the deepest first
   pub lazy_levels : (number : ℕ)
-      → numbers (lazy_events world number) ≡ reverse (levels_from (length world.mounts) world.mounts (number ∷ []))
+      → numbers_of (lazy_events world number) ≡ reverse (levels_from (length world.mounts) world.mounts (number ∷ []))
   lazy_levels number =
-      falling_alike key_of (numbers (lazy_events world number)) (reverse (levels n (number ∷ [])))
+      falling_alike key_of (numbers_of (lazy_events world number)) (reverse (levels n (number ∷ [])))
       (falls_by_depth (taken_in_turn world number) (in_order world number) (λ x m.
       deep_itself x (is_itself world kept.one_number kept.standing number x m)))
       (levels_fall n (key_of number) (number ∷ []) one)
       (λ d.
       all_inserted_at d tree [] (λ x m. deep_itself x (in_tree number x m)) (λ x m. absurd m)
-      ∙ append-nil (reverse (at key_of d (numbers tree)))
+      ∙ append-nil (reverse (at key_of d (numbers_of tree)))
       ∙ ap (λ list. reverse (at key_of d list))
       (tree_numbers n (mount_numbered nat_eq world number) ∙ ap (under n) (number_found world.mounts number)
       ∙ sym (append-nil (under n number)))
@@ -420,6 +422,7 @@ no_more_levels : (n : ℕ) (mounts : List (Mount ℕ)) → levels_from n mounts 
 no_more_levels zero mounts = refl
 no_more_levels (suc n) mounts = no_more_levels n mounts
 
+-- the numbers of a list turned round are its numbers turned round
 pub counts-reverse : (ids : List MountId) → counts (reverse ids) ≡ reverse (counts ids)
 counts-reverse [] = refl
 counts-reverse (id ∷ ids) =
@@ -427,18 +430,21 @@ counts-reverse (id ∷ ids) =
     ∙ ap (λ front. front ++ (counted id.count ∷ [])) (counts-reverse ids)
     ∙ sym (reverse-append (counted id.count ∷ []) (counts ids))
 
+-- an empty list has no numbers
 pub none_counted : (ids : List MountId) → length ids ≡ 0 → counts ids ≡ []
 none_counted [] none = refl
 none_counted (id ∷ ids) none = absurd (omega (arith, none))
 
 -- the next level follows those that are there
 module _ (mounts : List (Mount ℕ)) (all level : List ℕ) (n : ℕ) where
+  -- one more level is taken from those that are left
   pub next_level : (more next : List ℕ) → more ≡ all ++ level → next ≡ children_of mounts level
       → more ++ levels_from n mounts next ≡ all ++ levels_from (suc n) mounts level
   next_level more next is children =
       (λ i. is i ++ levels_from n mounts (children i))
       ∙ append_assoc all level (levels_from n mounts (children_of mounts level))
 
+  -- and none where a level is empty
   pub no_next : level ≡ [] → all ≡ all ++ levels_from n mounts level
   no_next none =
       sym (append-nil all) ∙ ap (λ rest. all ++ rest) (sym (ap (levels_from n mounts) none ∙ no_more_levels n mounts))

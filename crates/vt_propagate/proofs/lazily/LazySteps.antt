@@ -11,7 +11,6 @@ use Rattle.vt_spec.specs.Machine.Receives.{has_members, is_member_of, receivers}
 use Rattle.vt_spec.specs.Machine.Settled.{without_dead_groups}
 use Rattle.vt_spec.specs.Machine.World.{World, mount_numbered}
 use Rattle.vt_spec.proofs.Lists.{among-filter, among-from_map, any_among, any_from_among, none_among}
-use Rattle.vt_group.proofs.GroupLemmas.{members-regrouped}
 use Rattle.vt_location.specs.declared.numbers.MountId.{MountId}
 use Rattle.vt_location.specs.Numbers.{counted}
 use Rattle.vt_mount_laws.proofs.ends.EndingLazy.{IsUnderWay, begun, childless, next}
@@ -24,19 +23,21 @@ use Rattle.vt_mount_laws.proofs.ends.UnmountingPlaces.{Falls, goes_or_may, stood
 use Rattle.vt_mount_laws.proofs.ends.UnmountingPlaces.Falls.{direct, down}
 use Rattle.vt_propagate.specs.LazyUnmounts.{going_if_there, gone_by, gone_lazily, lazy_events}
 use Rattle.vt_propagate.specs.Through.{going_then, going_then_if_there}
-use Rattle.vt_propagate.proofs.Found.{counts, numbers}
+use Rattle.vt_propagate.proofs.Found.{counts}
 use Rattle.vt_propagate.proofs.LazyUnmounts.{nothing_taken}
 use Rattle.vt_propagate.proofs.lazily.Looks.{IsLeft, covers, going_is_seen, gone_then, kept_then, on_its_parent, root_then}
 use Rattle.vt_propagate.proofs.lazily.Over.{Over, over_further, over_more}
 use Rattle.vt_propagate.proofs.lazily.Over.Over.{here}
 use Rattle.vt_propagate.proofs.lazily.ReceiversLeft.{receivers_left}
 use Rattle.vt_propagate.proofs.TakenTwice.{taken_twice}
+use Rattle.vt_mount_laws.proofs.Groups.{members-regrouped}
+use Rattle.vt_mount_laws.specs.Mounts.Attaching.{numbers_of}
 
 -- Lists
 
-stay_twice : (gone more : List ℕ) (numbers : List ℕ)
-    → filter (λ n. not (is_going nat_eq more n)) (filter (λ n. not (is_going nat_eq gone n)) numbers)
-    ≡ filter (λ n. not (is_going nat_eq (gone ++ more) n)) numbers
+stay_twice : (gone more : List ℕ) (numbers_of : List ℕ)
+    → filter (λ n. not (is_going nat_eq more n)) (filter (λ n. not (is_going nat_eq gone n)) numbers_of)
+    ≡ filter (λ n. not (is_going nat_eq (gone ++ more) n)) numbers_of
 stay_twice gone more [] = refl
 stay_twice gone more (n ∷ rest) =
     by (is_going nat_eq gone n) (is_going nat_eq more n) refl (stay_twice gone more rest)
@@ -59,7 +60,7 @@ stay_twice gone more (n ∷ rest) =
     by false false e later =
         ap (λ b. cond (not b) (n ∷ stay others) (stay others)) e ∙ ap (λ list. n ∷ list) later
 
-all_stay : (numbers : List ℕ) → numbers ≡ filter (λ n. not (is_going nat_eq [] n)) numbers
+all_stay : (numbers_of : List ℕ) → numbers_of ≡ filter (λ n. not (is_going nat_eq [] n)) numbers_of
 all_stay [] = refl
 all_stay (n ∷ rest) = ap (λ list. n ∷ list) (all_stay rest)
 
@@ -98,7 +99,7 @@ module _ (start : World ℕ) (at_first : MountInvariants nat_eq start) (one : �
       kept = at_first;
       mounts = ap (λ (w : World ℕ). w.mounts) (sym (nothing_taken start at_first));
       over = λ number place e. here place number e;
-      receivers_are = λ group has. all_stay (numbers (receivers nat_eq start group));
+      receivers_are = λ group has. all_stay (numbers_of (receivers nat_eq start group));
     };
     at_once = λ others. refl;
   }
@@ -132,15 +133,16 @@ module _ (start : World ℕ) (at_first : MountInvariants nat_eq start) (one : �
     abbrev more : List ℕ
     more = going nat_eq now (later mount.number)
 
-    both : (number : ℕ) → is_going nat_eq (gone ++ more) number
+    -- what goes with more is what goes, and the more
+    gone_with_more : (number : ℕ) → is_going nat_eq (gone ++ more) number
         ≡ (is_going nat_eq gone number || is_going nat_eq more number)
-    both number = list_any-append (nat_eq number) gone more
+    gone_with_more number = list_any-append (nat_eq number) gone more
 
     gone_still : (number : ℕ) → is_going nat_eq gone number ≡ true → is_going nat_eq (gone ++ more) number ≡ true
-    gone_still number goes = both number ∙ ap (λ b. b || is_going nat_eq more number) goes
+    gone_still number goes = gone_with_more number ∙ ap (λ b. b || is_going nat_eq more number) goes
 
     gone_too : (number : ℕ) → is_going nat_eq more number ≡ true → is_going nat_eq (gone ++ more) number ≡ true
-    gone_too number goes = both number ∙ ap (λ b. is_going nat_eq gone number || b) goes
+    gone_too number goes = gone_with_more number ∙ ap (λ b. is_going nat_eq gone number || b) goes
         ∙ whatever (is_going nat_eq gone number)
       where
         whatever : (b : Bool) → (b || true) ≡ true
@@ -209,7 +211,7 @@ module _ (start : World ℕ) (at_first : MountInvariants nat_eq start) (one : �
             receivers_left now reached.so.kept.groups more group has
             ∙ ap (filter (λ n. not (is_going nat_eq more n)))
             (reached.so.receivers_are group (had_members now more group has))
-            ∙ stay_twice gone more (numbers (receivers nat_eq start group));
+            ∙ stay_twice gone more (numbers_of (receivers nat_eq start group));
       };
       at_once = λ others.
           taken_twice now more others reached.so.kept ∙ reached.at_once (more ++ others)
@@ -233,12 +235,12 @@ pub record IsTaken (start : World ℕ) (at_first : MountInvariants nat_eq start)
     : Type 0 where
   pub now : World ℕ
   pub left : List (Mount ℕ)
-  pub left_are : numbers left ≡ rest
+  pub left_are : numbers_of left ≡ rest
   pub reached : IsReached start at_first one now left gone
   pub are_gone : gone ++ gone_by now left ≡ gone_lazily start one
 
 module _ (start : World ℕ) (at_first : MountInvariants nat_eq start) (one : ℕ) where
-  taken_begin : IsTaken start at_first one [] (numbers (lazy_events start one))
+  taken_begin : IsTaken start at_first one [] (numbers_of (lazy_events start one))
   taken_begin = record {
     now = start;
     left = lazy_events start one;
@@ -263,7 +265,7 @@ module _ (start : World ℕ) (at_first : MountInvariants nat_eq start) (one : �
       tail [] = []
       tail (n ∷ ns) = ns
 
-      by : (left : List (Mount ℕ)) → numbers left ≡ number ∷ rest → IsReached start at_first one so.now left gone
+      by : (left : List (Mount ℕ)) → numbers_of left ≡ number ∷ rest → IsReached start at_first one so.now left gone
           → gone ++ gone_by so.now left ≡ gone_lazily start one → IsTaken start at_first one (gone ++ more) rest
       by [] e reached are = absurd (none_more e)
       by (mount ∷ left) e reached are =
@@ -284,20 +286,22 @@ module _ (start : World ℕ) (at_first : MountInvariants nat_eq start) (one : �
   taken_end : (gone : List ℕ) → IsTaken start at_first one gone [] → gone ≡ gone_lazily start one
   taken_end gone so = by so.left so.left_are so.are_gone
     where
-      some_none : (mount : Mount ℕ) (left : List (Mount ℕ)) → numbers (mount ∷ left) ≡ [] → ⊥
+      some_none : (mount : Mount ℕ) (left : List (Mount ℕ)) → numbers_of (mount ∷ left) ≡ [] → ⊥
       some_none mount left e = cc
 
-      by : (left : List (Mount ℕ)) → numbers left ≡ [] → gone ++ gone_by so.now left ≡ gone_lazily start one
+      by : (left : List (Mount ℕ)) → numbers_of left ≡ [] → gone ++ gone_by so.now left ≡ gone_lazily start one
           → gone ≡ gone_lazily start one
       by [] e are = sym (append-nil gone) ∙ are
       by (mount ∷ left) e are = absurd (some_none mount left e)
 
   -- as code goes through its events
 
-  pub taken_first : (items : List MountId) → counts items ≡ numbers (lazy_events start one)
+  -- at first no mount of the tree is taken
+  pub taken_first : (items : List MountId) → counts items ≡ numbers_of (lazy_events start one)
       → IsTaken start at_first one [] (counts items)
   taken_first items are = subst (IsTaken start at_first one []) (sym are) taken_begin
 
+  -- one mount more is taken with those that go with it
   pub taken_step : (gone going new : List MountId) (items : List MountId) (i : ℕ) (default : MountId)
       → i < length items → counts new ≡ counts gone ++ counts going
       → IsTaken start at_first one (counts gone) (counts (drop i items))
@@ -310,6 +314,7 @@ module _ (start : World ℕ) (at_first : MountInvariants nat_eq start) (one : �
       (subst (λ list. IsTaken start at_first one (counts gone) (counts list)) (drop_more items i default less)
       so) is)
 
+  -- at last all that the unmount takes are taken
   pub taken_last : (gone : List MountId) (items : List MountId) (i : ℕ) → length items ≤ i
       → IsTaken start at_first one (counts gone) (counts (drop i items)) → counts gone ≡ gone_lazily start one
   taken_last gone items i all so =

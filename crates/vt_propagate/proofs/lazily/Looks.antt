@@ -13,7 +13,6 @@ use Rattle.vt_spec.specs.Machine.World.{World, mount_at, mount_numbered}
 use Rattle.vt_spec.proofs.Lists.{Among, among-filter, among-from_filter, among-map, among_from_list_all, any_from_among, list_all_from_among, none_among, pair-filter}
 use Rattle.vt_spec.proofs.Truths.{same_truth}
 use Rattle.vt_spec.proofs.Worlds.{found_or_none}
-use Rattle.vt_group.proofs.GroupLemmas.{group-inherited}
 use Rattle.vt_mount_laws.specs.Mounts.Unmounting.{KeepsAllButPlaceAndType}
 use Rattle.vt_mount_laws.specs.Mounts.Unmounting.FallsTo.{rests}
 use Rattle.vt_mount_laws.proofs.mounts.MountsFound.{found_in, number_found, placed_among}
@@ -23,8 +22,9 @@ use Rattle.vt_mount_laws.proofs.mounts.Standing.{standing_is_computed}
 use Rattle.vt_mount_laws.proofs.ends.Unmounting.{detached_by_number, kept_by_number, middle, place_fallen, staying_is_placed, taken}
 use Rattle.vt_propagate.specs.Going.{group_at}
 use Rattle.vt_propagate.specs.Through.{free_at_then, free_on_then, going_by, going_then, group_at_then, is_free_by_number, is_free_then, rests_on_root, standing_over}
-use Rattle.vt_propagate.proofs.Found.{numbers}
 use Rattle.vt_propagate.proofs.lazily.Over.{Over, found_over_place, over_falls, over_first, over_found}
+use Rattle.vt_mount_laws.proofs.Groups.{group-inherited}
+use Rattle.vt_mount_laws.specs.Mounts.Attaching.{numbers_of}
 
 -- A world that is left where these mounts are gone. What stands at a place then stood over it; who receives from a
 -- group that keeps a member did before.
@@ -34,8 +34,8 @@ pub record IsLeft (start : World ℕ) (now : World ℕ) (gone : List ℕ) : Type
   pub over : (number : ℕ) (place : Location ℕ) → (mount_numbered nat_eq now number).mount_point ≡ Some place
       → Over start gone place number
   pub receivers_are : (group : ℕ) → has_members nat_eq now.mounts group ≡ true
-      → numbers (receivers nat_eq now group)
-      ≡ filter (λ number. not (is_going nat_eq gone number)) (numbers (receivers nat_eq start group))
+      → numbers_of (receivers nat_eq now group)
+      ≡ filter (λ number. not (is_going nat_eq gone number)) (numbers_of (receivers nat_eq start group))
 
 -- where all that stands on a mount covers its root, it is one mount at most
 all_cover : (mount : Mount ℕ) (kids : List (Mount ℕ)) → any_pair (share_a_mount_point nat_eq) kids ≡ false
@@ -48,6 +48,7 @@ all_cover mount (one ∷ other ∷ rest) apart all =
     (stands_there (root_of mount) other (all other (inr (inl refl)))))
     ∙ none_among (share_a_mount_point nat_eq one) (other ∷ rest) (or_parts _ _ apart).0 other (inl refl)))
 
+-- of mounts of which each covers the root each does
 pub covers : (mount : Mount ℕ) (kids : List (Mount ℕ)) → only_cover nat_eq mount kids ≡ true → (x : Mount ℕ)
     → Among x kids → covers_root nat_eq mount x ≡ true
 covers mount [] only x m = absurd m
@@ -55,6 +56,7 @@ covers mount (one ∷ []) only x m =
     ⊎_elim (λ same. ap (covers_root nat_eq mount) same ∙ only) (λ none. absurd none) m
 covers mount (one ∷ other ∷ rest) only x m = absurd (true≢false (sym only))
 
+-- a mount stands on the mount of its mount point
 pub on_its_parent : (place : Location ℕ) (mount : Mount ℕ) (number : ℕ) → mount.mount_point ≡ Some place
     → place.mount ≡ number → stands_on nat_eq number mount ≡ true
 on_its_parent place mount number e same =
@@ -71,14 +73,17 @@ module _ (start : World ℕ) (at_first : MountInvariants nat_eq start) (now : Wo
   then_is : (number : ℕ) → later number ≡ mount_numbered nat_eq (taken_away nat_eq start gone) number
   then_is number = ap (λ mounts. mount_in nat_eq mounts number) so.mounts
 
+  -- a mount that is gone is detached then
   pub gone_then : (number : ℕ) → is_going nat_eq gone number ≡ true → later number ≡ detached (before number)
   gone_then number goes = then_is number ∙ detached_by_number start gone number goes
 
+  -- one that is not has kept all but its place and its type
   pub kept_then : (number : ℕ) → is_going nat_eq gone number ≡ false
       → KeepsAllButPlaceAndType (before number) (later number)
   kept_then number stays =
       subst (KeepsAllButPlaceAndType (before number)) (sym (then_is number)) (kept_by_number start gone number stays)
 
+  -- each keeps its root
   pub root_then : (number : ℕ) → root_of (later number) ≡ root_of (before number)
   root_then number = by (is_going nat_eq gone number) refl
     where
@@ -292,8 +297,8 @@ module _ (start : World ℕ) (at_first : MountInvariants nat_eq start) (now : Wo
 
   -- at all receivers
   all_go_then : (node : ℕ) (all : List ℕ) (left : List (Mount ℕ))
-      → numbers left ≡ filter (λ number. not (is_going nat_eq gone number)) all
-      → numbers (filter_map (goes_at nat_eq now node) left) ≡ free_on_then start.mounts gone node all
+      → numbers_of left ≡ filter (λ number. not (is_going nat_eq gone number)) all
+      → numbers_of (filter_map (goes_at nat_eq now node) left) ≡ free_on_then start.mounts gone node all
   all_go_then node all left are = each left (λ x m. stay x m) ∙ ap (filter_map free) are ∙ skipped all
     where
       free : ℕ → Option ℕ
@@ -313,16 +318,16 @@ module _ (start : World ℕ) (at_first : MountInvariants nat_eq start) (now : Wo
       stay x m = staying all x.number (subst (Among x.number) are (among-map (λ (y : Mount ℕ). y.number) left x m))
 
       each : (list : List (Mount ℕ)) → ((x : Mount ℕ) → Among x list → is_going nat_eq gone x.number ≡ false)
-          → numbers (filter_map (goes_at nat_eq now node) list) ≡ filter_map free (numbers list)
+          → numbers_of (filter_map (goes_at nat_eq now node) list) ≡ filter_map free (numbers_of list)
       each [] there = refl
       each (x ∷ rest) there =
           with_first (goes_at nat_eq now node x)
           ∙ (λ i. cons_option (goes_then node x (there x (inl refl)) i) (each rest (λ y m. there y (inr m)) i))
         where
           with_first : (o : Option (Mount ℕ))
-              → numbers (cons_option o (filter_map (goes_at nat_eq now node) rest))
+              → numbers_of (cons_option o (filter_map (goes_at nat_eq now node) rest))
               ≡ cons_option (option_map (λ (m : Mount ℕ). m.number) o)
-              (numbers (filter_map (goes_at nat_eq now node) rest))
+              (numbers_of (filter_map (goes_at nat_eq now node) rest))
           with_first None = refl
           with_first (Some y) = refl
 
@@ -388,9 +393,9 @@ module _ (start : World ℕ) (at_first : MountInvariants nat_eq start) (now : Wo
             ≡ going_by start gone number (option_map (λ group. (place, group)) o)
         with_group None e = own
         with_group (Some group) e =
-            ap (λ (o : Option ℕ). numbers (filter_map (goes_at nat_eq now place.node)
+            ap (λ (o : Option ℕ). numbers_of (filter_map (goes_at nat_eq now place.node)
             (unwrap_or (option_map (receivers nat_eq now) o) []))) e
-            ∙ all_go_then place.node (numbers (receivers nat_eq start group)) (receivers nat_eq now group)
+            ∙ all_go_then place.node (numbers_of (receivers nat_eq start group)) (receivers nat_eq now group)
             (so.receivers_are group (member group e))
 
         by : (b : Bool) → is_going nat_eq gone place.mount ≡ b

@@ -111,6 +111,7 @@ module _ (world : World ℕ) where
         (ap (is_going nat_eq gone) (number_found world.mounts under) ∙ goes)
         ∙ over_is_found gone (root_of (it under)) number later stays n (omega (arith, few, child_rank, same))
 
+    -- the mount over a place is found where what lies between is gone
     pub over_found : (gone : List ℕ) (place : Location ℕ) (child : ℕ) → Over world gone place child
         → is_going nat_eq gone child ≡ false → standing_over world.mounts gone place ≡ Some child
     over_found gone place child over stays =
@@ -161,6 +162,7 @@ module _ (world : World ℕ) where
         by None f g later = absurd (true≢false (sym (ap is_some g)))
         by (Some x) f g later = one x f (is_going nat_eq gone x.number) refl g later
 
+    -- what is found there stands over the place, and is not gone
     pub found_over_place : (gone : List ℕ) (place : Location ℕ) (child : ℕ)
         → standing_over world.mounts gone place ≡ Some child
         → Over world gone place child × (is_going nat_eq gone child ≡ false)

@@ -10,17 +10,16 @@ use Rattle.vt_spec.specs.Machine.Mounts.{Mount, Propagation, detached, group_of,
 use Rattle.vt_spec.specs.Machine.Mounts.Propagation.{Private, Shared, Slave, Unbindable}
 use Rattle.vt_spec.specs.Machine.Receives.{groups_up, has_members, heir, inherited, inheriting, is_member_of, receivers, receives, slave_of_heir}
 use Rattle.vt_spec.specs.Machine.World.{World}
-use Rattle.vt_spec.proofs.Lists.{Among, among-map, among_from_all, any_from_among, chain_ends, chain_goes_on, last_of_chain}
-use Rattle.vt_group.specs.Grouping.{GroupsLive}
-use Rattle.vt_group.proofs.GroupLemmas.{members-regrouped, mounts-regrouped}
+use Rattle.vt_spec.proofs.Lists.{Among, among-map, among_from_all, any_from_among, chain_ends, chain_goes_on, last_of_chain, map_twice}
 use Rattle.vt_group.proofs.Heirs.{heir_above, heir_itself, master_inherited}
 use Rattle.vt_group.proofs.Living.{group_lives}
 use Rattle.vt_group.proofs.Receiving.{Ends, chain_same, living_ends}
-use Rattle.vt_group.proofs.Together.{map-twice}
 use Rattle.vt_mount_laws.proofs.GroupsKept.{taking_away_keeps_groups}
 use Rattle.vt_mount_laws.proofs.GroupsLiving.{all_live, tested_live}
 use Rattle.vt_mount_laws.proofs.ends.Unmounting.{middle}
-use Rattle.vt_propagate.proofs.Found.{numbers}
+use Rattle.vt_mount_laws.proofs.Groups.{mounts-regrouped, members-regrouped}
+use Rattle.vt_mount_laws.specs.Mounts.Attaching.{numbers_of}
+use Rattle.vt_mount_laws.specs.Mounts.Receivers.{AllGroupsLive}
 
 -- a group is among those up from another if it is that one, or among those up from its master
 module _ (master : ℕ → Option ℕ) (group : ℕ) where
@@ -46,14 +45,14 @@ module _ (master : ℕ → Option ℕ) (group : ℕ) where
               sym (ap (λ g. is_some (master g)) (ap (last_or source) (chain_goes_on master n source next e)
               ∙ last_of_chain master n next source)) ∙ ends
 
-module _ (world : World ℕ) (live : GroupsLive world) (gone : List ℕ) where
+module _ (world : World ℕ) (live : AllGroupsLive world) (gone : List ℕ) where
   abbrev left : World ℕ
   left = taken_away nat_eq world gone
 
   abbrev between : World ℕ
   between = middle world gone
 
-  live_left : GroupsLive left
+  live_left : AllGroupsLive left
   live_left = all_live left (taking_away_keeps_groups world gone (tested_live world live))
 
   abbrev LivesAt : ℕ → Type 0
@@ -65,7 +64,7 @@ module _ (world : World ℕ) (live : GroupsLive world) (gone : List ℕ) where
   mounts_left : left.mounts ≡ map after world.mounts
   mounts_left =
       mounts-regrouped between
-      ∙ map-twice (inheriting nat_eq between) (after_going nat_eq world gone) world.mounts
+      ∙ map_twice (inheriting nat_eq between) (after_going nat_eq world gone) world.mounts
 
   module _ (group : ℕ) (has : has_members nat_eq left.mounts group ≡ true) where
     abbrev before_up : Option ℕ → Bool
@@ -167,11 +166,12 @@ module _ (world : World ℕ) (live : GroupsLive world) (gone : List ℕ) where
         by false = refl
 
     all_receive : (mounts : List (Mount ℕ)) → ((mount : Mount ℕ) → Among mount mounts → Among mount world.mounts)
-        → numbers (filter (receives nat_eq left group) (map after mounts))
-        ≡ filter (λ number. not (is_going nat_eq gone number)) (numbers (filter (receives nat_eq world group) mounts))
+        → numbers_of (filter (receives nat_eq left group) (map after mounts))
+        ≡ filter (λ number. not (is_going nat_eq gone number))
+        (numbers_of (filter (receives nat_eq world group) mounts))
     all_receive [] within = refl
     all_receive (mount ∷ mounts) within =
-        ap (λ b. numbers (cond b (after mount ∷ filter (receives nat_eq left group) (map after mounts))
+        ap (λ b. numbers_of (cond b (after mount ∷ filter (receives nat_eq left group) (map after mounts))
         (filter (receives nat_eq left group) (map after mounts)))) (receives_then mount (within mount (inl refl)))
         ∙ by (is_going nat_eq gone mount.number) refl (receives nat_eq world group mount)
         (all_receive mounts (λ x m. within x (inr m)))
@@ -186,27 +186,30 @@ module _ (world : World ℕ) (live : GroupsLive world) (gone : List ℕ) where
         rest = filter (receives nat_eq world group) mounts
 
         by : (goes : Bool) → is_going nat_eq gone mount.number ≡ goes → (b : Bool)
-            → numbers rest_then ≡ filter stay (numbers rest)
-            → numbers (cond (not (is_going nat_eq gone mount.number) && b) (after mount ∷ rest_then) rest_then)
-            ≡ filter stay (numbers (cond b (mount ∷ rest) rest))
+            → numbers_of rest_then ≡ filter stay (numbers_of rest)
+            → numbers_of (cond (not (is_going nat_eq gone mount.number) && b) (after mount ∷ rest_then) rest_then)
+            ≡ filter stay (numbers_of (cond b (mount ∷ rest) rest))
         by goes e false later =
-            ap (λ t. numbers (cond t (after mount ∷ rest_then) rest_then)) (none (is_going nat_eq gone mount.number))
+            ap (λ t. numbers_of (cond t (after mount ∷ rest_then) rest_then))
+            (none (is_going nat_eq gone mount.number))
             ∙ later
           where
             none : (t : Bool) → (not t && false) ≡ false
             none true = refl
             none false = refl
         by true e true later =
-            ap (λ t. numbers (cond (not t && true) (after mount ∷ rest_then) rest_then)) e ∙ later
-            ∙ sym (ap (λ t. cond (not t) (mount.number ∷ filter stay (numbers rest)) (filter stay (numbers rest))) e)
+            ap (λ t. numbers_of (cond (not t && true) (after mount ∷ rest_then) rest_then)) e ∙ later
+            ∙ sym (ap (λ t. cond (not t) (mount.number ∷ filter stay (numbers_of rest))
+            (filter stay (numbers_of rest))) e)
         by false e true later =
-            ap (λ t. numbers (cond (not t && true) (after mount ∷ rest_then) rest_then)) e
-            ∙ ap (λ n. n ∷ numbers rest_then) (number_after mount) ∙ ap (λ list. mount.number ∷ list) later
-            ∙ sym (ap (λ t. cond (not t) (mount.number ∷ filter stay (numbers rest)) (filter stay (numbers rest))) e)
+            ap (λ t. numbers_of (cond (not t && true) (after mount ∷ rest_then) rest_then)) e
+            ∙ ap (λ n. n ∷ numbers_of rest_then) (number_after mount) ∙ ap (λ list. mount.number ∷ list) later
+            ∙ sym (ap (λ t. cond (not t) (mount.number ∷ filter stay (numbers_of rest))
+            (filter stay (numbers_of rest))) e)
 
     -- Who receives from a group that keeps a member: those that did, and are not gone.
-    pub receivers_left : numbers (receivers nat_eq left group)
-        ≡ filter (λ number. not (is_going nat_eq gone number)) (numbers (receivers nat_eq world group))
+    pub receivers_left : numbers_of (receivers nat_eq left group)
+        ≡ filter (λ number. not (is_going nat_eq gone number)) (numbers_of (receivers nat_eq world group))
     receivers_left =
-        ap (λ mounts. numbers (filter (receives nat_eq left group) mounts)) mounts_left
+        ap (λ mounts. numbers_of (filter (receives nat_eq left group) mounts)) mounts_left
         ∙ all_receive world.mounts (λ mount m. m)

@@ -1,5 +1,5 @@
 -- The mounts that move onto copied trees are there, and each moves once.
-use Rattle.std.proofs.Common.{◌≡◌, refl, sym, ap, subst, ◌∙◌, ⊎_elim, inl, inr, true≢false, ℕ, nat_eq, eq-eqb, Bool, true, false, ◌||◌, List, [], ◌∷◌, map, take, drop, Option, None, Some, option_map, is_some}
+use Rattle.std.proofs.Common.{◌≡◌, refl, sym, ap, subst, ◌∙◌, ⊎_elim, inl, inr, true≢false, ℕ, nat_eq, eq-eqb, Bool, true, false, ◌||◌, List, [], ◌∷◌, map, take, drop, Option, None, Some, option_map}
 use Rattle.std.specs.Prelude.{if◌then◌else◌}
 use Rattle.std.specs.List.{cons_option, list_any}
 use Rattle.std.proofs.lemmas.Bool.{and_parts, eqb-true, ne_eqb, or_parts}
@@ -9,12 +9,11 @@ use Rattle.vt_spec.specs.Machine.Attach.{top_of_copies}
 use Rattle.vt_spec.specs.Machine.Mounts.{Location, Mount, child_at, same_location, stands_at}
 use Rattle.vt_spec.proofs.Lists.{Among, among-map, is_among_numbers, list_all_from_among, none_among, none_from_among}
 use Rattle.vt_mount.specs.MountsValue.{are_ascending}
-use Rattle.vt_propagate.specs.Pushing.{EachOnce, MovesOnce, pushed_at, pushes_from, stander}
+use Rattle.vt_propagate.specs.Pushing.{MovesOnce, pushed_at, pushes_from, stander}
 use Rattle.vt_propagate.proofs.Found.{numbered, numbered_among}
-use Rattle.vt_propagate.proofs.Leaving.{found_one}
-
-none_is_some : {A B : Type 0} (a : A) → None ≡ Some a → B
-none_is_some a e = absurd (true≢false (sym (ap is_some e)))
+use Rattle.vt_spec.proofs.Options.{none_is_some}
+use Rattle.vt_letting_go.proofs.Lists.{found_in}
+use Rattle.vt_mount_laws.specs.Mounts.Attaching.{OneNumberAMount}
 
 module _ (mounts : List (Mount ℕ)) (up : are_ascending mounts ≡ true) (left : Option ℕ) (place : Location ℕ) where
   abbrev at : ℕ → Location ℕ
@@ -40,7 +39,7 @@ module _ (mounts : List (Mount ℕ)) (up : are_ascending mounts ≡ true) (left 
           → IsPushed part point.0
       stays child f true e = none_is_some point e
       stays child f false e =
-          let found = found_one (stands_at nat_eq (at part)) mounts child f in
+          let found = found_in (stands_at nat_eq (at part)) mounts child f in
           record {
             child = child;
             there = found.0;
@@ -106,14 +105,14 @@ module _ (mounts : List (Mount ℕ)) (up : are_ascending mounts ≡ true) (left 
       ∙ numbered_among mounts up two.child two.there) in
       same_part p q two.child.mount_point (ap (stands_at nat_eq (at p)) (sym same) ∙ one.stands) two.stands
 
-  each_once : (size : ℕ) (parts copies : List (Mount ℕ)) → EachOnce parts
+  each_once : (size : ℕ) (parts copies : List (Mount ℕ)) → OneNumberAMount parts
       → any_pair (λ (a b : Point). nat_eq a.0 b.0) (pushes_from mounts left place size parts copies) ≡ false
   each_once size [] copies apart = refl
   each_once size (part ∷ parts) copies apart =
       by (pushed_at mounts left place part.number (take size copies)) refl
       (each_once size parts (drop size copies) split.1)
     where
-      split : (list_any (λ (b : Mount ℕ). nat_eq part.number b.number) parts ≡ false) × EachOnce parts
+      split : (list_any (λ (b : Mount ℕ). nat_eq part.number b.number) parts ≡ false) × OneNumberAMount parts
       split = or_parts (list_any (λ (b : Mount ℕ). nat_eq part.number b.number) parts) _ apart
 
       rest : List Point
@@ -138,7 +137,8 @@ module _ (mounts : List (Mount ℕ)) (up : are_ascending mounts ≡ true) (left 
       by (Some first) e later =
           λ i. none_from_among (λ (b : Point). nat_eq first.0 b.0) rest (differ first e) i || later i
 
-  pub pushed_once : (size : ℕ) (parts copies : List (Mount ℕ)) → EachOnce parts
+  -- no mount is pushed twice
+  pub pushed_once : (size : ℕ) (parts copies : List (Mount ℕ)) → OneNumberAMount parts
       → MovesOnce mounts (pushes_from mounts left place size parts copies)
   pushed_once size parts copies apart = record {
     once = each_once size parts copies apart;

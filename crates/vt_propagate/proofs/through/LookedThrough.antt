@@ -12,8 +12,10 @@ use Rattle.vt_location.specs.declared.numbers.MountId.{MountId}
 use Rattle.vt_location.specs.Numbers.{counted}
 use Rattle.vt_mount.specs.MountsValue.{are_ascending}
 use Rattle.vt_propagate.specs.Through.{is_free_by_number, is_free_then, over_from, rests_on_root}
-use Rattle.vt_propagate.proofs.Found.{counts, numbered, numbered_among, numbers}
-use Rattle.vt_propagate.proofs.Leaving.{found_one, numbered-number}
+use Rattle.vt_propagate.proofs.Found.{counts, numbered, numbered_among}
+use Rattle.vt_propagate.proofs.Leaving.{numbered-number}
+use Rattle.vt_letting_go.proofs.Lists.{found_in}
+use Rattle.vt_mount_laws.specs.Mounts.Attaching.{numbers_of}
 
 module _ (mounts : List (Mount ℕ)) (gone : List ℕ) where
   abbrev found_number : Location ℕ → Option ℕ
@@ -23,6 +25,7 @@ module _ (mounts : List (Mount ℕ)) (gone : List ℕ) where
   up_from most child =
       if is_going nat_eq gone child.number then over_from most mounts gone (root_of child) else Some child.number
 
+  -- where no mount stands at a place none is over it
   pub over_none : (most : ℕ) (place : Location ℕ) → None ≡ found_number place
       → None ≡ over_from (suc most) mounts gone place
   over_none most place none = by (child_at nat_eq mounts place) none
@@ -31,6 +34,7 @@ module _ (mounts : List (Mount ℕ)) (gone : List ℕ) where
       by None e = refl
       by (Some child) e = absurd (true≢false (sym (ap is_some e)))
 
+  -- one that stands there and stays is over it
   pub over_here : (most : ℕ) (place : Location ℕ) (number : ℕ) → Some number ≡ found_number place
       → is_going nat_eq gone number ≡ false → Some number ≡ over_from (suc most) mounts gone place
   over_here most place number some stays = by (child_at nat_eq mounts place) some
@@ -47,8 +51,9 @@ module _ (mounts : List (Mount ℕ)) (gone : List ℕ) where
   module _ (up : are_ascending mounts ≡ true) where
     found_child : (place : Location ℕ) (child : Mount ℕ) → child_at nat_eq mounts place ≡ Some child
         → numbered mounts child.number ≡ Some child
-    found_child place child e = numbered_among mounts up child (found_one (stands_at nat_eq place) mounts child e).0
+    found_child place child e = numbered_among mounts up child (found_in (stands_at nat_eq place) mounts child e).0
 
+    -- through one that goes is looked at what stands on its root
     pub over_next : (most : ℕ) (place : Location ℕ) (number : ℕ) (mount : Mount ℕ) → Some number ≡ found_number place
         → is_going nat_eq gone number ≡ true → Some mount ≡ numbered mounts number
         → over_from (suc most) mounts gone place ≡ over_from most mounts gone (root_of mount)
@@ -81,19 +86,20 @@ module _ (mounts : List (Mount ℕ)) (gone : List ℕ) where
     -- all mounts of some, by their numbers
     all_numbered : (test : Mount ℕ → Bool) (some : List (Mount ℕ))
         → ((mount : Mount ℕ) → Among mount some → Among mount mounts)
-        → list_all (λ n. holds_of test (numbered mounts n)) (numbers some) ≡ list_all test some
+        → list_all (λ n. holds_of test (numbered mounts n)) (numbers_of some) ≡ list_all test some
     all_numbered test [] within = refl
     all_numbered test (mount ∷ some) within =
         λ i. holds_of test (numbered_among mounts up mount (within mount (inl refl)) i)
         && all_numbered test some (λ x m. within x (inr m)) i
 
+    -- a mount is free where all that stand on it rest on its root
     pub free_if_all : (number : ℕ) (mount : Mount ℕ) → Some mount ≡ numbered mounts number → (kids : List ℕ)
-        → kids ≡ numbers (children nat_eq mounts number)
+        → kids ≡ numbers_of (children nat_eq mounts number)
         → list_all (λ n. holds_of (rests_on_root mounts gone mount) (numbered mounts n)) kids
         ≡ is_free_by_number mounts gone number
     free_if_all number mount found kids are =
         ap (list_all (λ n. holds_of (rests_on_root mounts gone mount) (numbered mounts n)))
-        (are ∙ ap (λ n. numbers (children nat_eq mounts n)) (numbered-number mounts number mount found))
+        (are ∙ ap (λ n. numbers_of (children nat_eq mounts n)) (numbered-number mounts number mount found))
         ∙ all_numbered (rests_on_root mounts gone mount) (children nat_eq mounts mount.number)
         (λ x m. (among-from_filter (stands_on nat_eq mount.number) mounts x m).0)
         ∙ ap (holds_of (is_free_then mounts gone)) found
@@ -103,6 +109,7 @@ module _ (mounts : List (Mount ℕ)) (gone : List ℕ) (mount : Mount ℕ) (kids
   abbrev rests : ℕ → Bool
   rests number = holds_of (rests_on_root mounts gone mount) (numbered mounts number)
 
+  -- where one does not rest on it not all do
   pub one_does_not : (default : MountId) → i < length kids → rests (counted (get_or kids i default).count) ≡ false
       → list_all rests (counts (drop i kids)) ≡ list_all rests (counts kids) → false ≡ list_all rests (counts kids)
   one_does_not default less fails sofar =
@@ -110,6 +117,7 @@ module _ (mounts : List (Mount ℕ)) (gone : List ℕ) (mount : Mount ℕ) (kids
       ∙ ap (λ b. b && list_all rests (counts (drop (i + 1) kids))) fails)
       ∙ sofar
 
+  -- where all were looked at all do
   pub all_rest : length kids ≤ i → list_all rests (counts (drop i kids)) ≡ list_all rests (counts kids)
       → true ≡ list_all rests (counts kids)
   all_rest all sofar = sym (ap (λ list. list_all rests (counts list)) (drop_all i kids all)) ∙ sofar

@@ -1,15 +1,13 @@
 -- A run that goes on from worlds that are the same writes a text that may be written, and so the one text.
-use Rattle.std.proofs.Common.{◌≡◌, refl, sym, ap, ◌∙◌, subst, true≢false, ℕ, suc, nat_eq, ◌+◌, ◌≤◌, Bool, true, false, List, [], ◌∷◌, ◌++◌, Some, None, arith}
+use Rattle.std.proofs.Common.{◌≡◌, refl, sym, ap, ◌∙◌, subst, ℕ, suc, nat_eq, ◌+◌, ◌≤◌, Bool, true, false, List, [], ◌∷◌, ◌++◌, Some, None, arith}
 use Rattle.std.specs.Prelude.{All}
 use Rattle.std.proofs.lemmas.List.Elements.{All-cons, All-head, All-tail}
-use Rattle.vt_laws.proofs.numbers.Allotments.{agree, allotted_kept, allotted_new, joined, kept_lot}
 use Rattle.vt_laws.proofs.numbers.Renamings.{named_world}
-use Rattle.vt_laws.proofs.numbers.Rows.{row, row-spread, spread}
-use Rattle.vt_laws.proofs.numbers.Stages.{stage, stage_keeps, stage_new, stage_rows}
+use Rattle.vt_laws.proofs.numbers.Rows.{row, spread}
+use Rattle.vt_laws.proofs.numbers.Stages.{stage, stage_rows}
 use Rattle.vt_laws.proofs.numbers.Supports.{opening_alike, opening_keeps_to_four}
-use Rattle.vt_laws.proofs.numbers.Texts.{first_early, line_alike, line_leads, refused_alike, refused_leads, whole_machine_has_one_text, worlds_keep_to_hand}
-use Rattle.vt_laws.specs.Numbers.{Allotment, KeepsTo, Lot, ServesWithRoom, TellsWithRoom, first_four, is_in_hand, is_in_hand_lot, is_kept, is_kept_lot}
-use Rattle.vt_laws.specs.Numbers.Lot.{Kept, LeftOver, New}
+use Rattle.vt_laws.proofs.numbers.Texts.{joined-early, joined-new, joined-same, joined_with_row, refused_keeps, stage_serves, first_early, line_alike, line_leads, refused_alike, refused_leads, whole_machine_has_one_text, worlds_keep_to_hand}
+use Rattle.vt_laws.specs.Numbers.{KeepsTo, TellsWithRoom, first_four, is_in_hand}
 use Rattle.vt_laws.proofs.numbers.Commuting.{Named, commutes_nat}
 use Rattle.vt_laws.specs.Renaming.{Renaming}
 use Rattle.vt_run_laws.proofs.answered.AlikeLines.{line_step_alike}
@@ -21,58 +19,10 @@ use Rattle.vt_run_laws.specs.Runs.{RunsHaveOneText, TellsAlike}
 use Rattle.vt_spec.specs.Language.Script.{Grammar, lines_of, request_of}
 use Rattle.vt_spec.specs.Lists.{Fresh}
 use Rattle.vt_spec.specs.Machine.Renaming.{renamed}
-use Rattle.vt_spec.specs.Machine.Run.{first_world, line_step, step_world}
+use Rattle.vt_spec.specs.Machine.Run.{first_world}
 use Rattle.vt_spec.specs.Machine.SameWorlds.{SameWorlds}
 use Rattle.vt_spec.specs.Machine.World.{Filesystem, World, is_overlay, new_plain, opening}
 use Rattle.vt_tree_laws.specs.Trees.Calls.{asks_for_overlay}
-
--- A line that is handed some supply, and the same line in the renamed world that is handed the next row
-module _ (m : ℕ) (renaming : Renaming ℕ ℕ) (in_hand : ℕ → Bool) (world : World ℕ)
-    (early : (number : ℕ) → in_hand number ≡ true → row (renaming.there number) ≤ m) (allotment : Allotment)
-    (serves : ServesWithRoom in_hand world allotment) where
-  is_kept_there : ℕ → Bool
-  is_kept_there number = is_kept allotment (renaming.back number)
-
-  keeps_early : (number : ℕ) → is_kept_there number ≡ true → row number ≤ m
-  unfolding is_kept_there
-  keeps_early number is =
-      let low = early (renaming.back number) (serves.from_hand (renaming.back number) is) in
-      let there : row (renaming.there (renaming.back number)) ≡ row number = ap row (renaming.there_back number) in
-      omega arith
-
-  next_row : Allotment
-  next_row = stage m is_kept_there keeps_early
-
-  next : Renaming ℕ ℕ
-  unfolding is_kept_there next_row
-  next = joined allotment next_row renaming (λ number. stage_keeps m is_kept_there keeps_early number)
-
-  next_kept : (number : ℕ) → is_kept allotment number ≡ true → next.there number ≡ renaming.there number
-  unfolding next joined
-  next_kept number is =
-      allotted_kept allotment next_row renaming.there number (kept_lot (allotment.lot number) is)
-
-  next_new : (number k : ℕ) → allotment.lot number ≡ New k → next.there number ≡ spread (suc m) k
-  unfolding next next_row joined
-  next_new number k e =
-      allotted_new allotment next_row renaming.there number k e ∙ stage_new m is_kept_there keeps_early k
-
-  next_same : renamed next.there next.back world ≡ renamed renaming.there renaming.back world
-  next_same = agree (is_kept allotment) world renaming next serves.keeps next_kept
-
-  next_early : (number : ℕ) → is_in_hand allotment number ≡ true → row (next.there number) ≤ suc m
-  next_early number = by (allotment.lot number) refl
-    where
-      by : (lot : Lot) → allotment.lot number ≡ lot → is_in_hand_lot lot ≡ true → row (next.there number) ≤ suc m
-      by Kept e is =
-          let kept : is_kept allotment number ≡ true = ap is_kept_lot e in
-          let low = early number (serves.from_hand number kept) in
-          let there : row (next.there number) ≡ row (renaming.there number) = ap row (next_kept number kept) in
-          omega arith
-      by (New k) e is =
-          let there : row (next.there number) ≡ suc m = ap row (next_new number k e) ∙ row-spread (suc m) k in
-          omega arith
-      by (LeftOver k) e is = absurd (true≢false (sym is))
 
 -- The next world, renamed, and the one that the row leads to
 module _ (renaming : Renaming ℕ ℕ) (left next reached there : World ℕ) (same : SameWorlds left next)
@@ -88,21 +38,6 @@ module _ (renaming : Renaming ℕ ℕ) (left next reached there : World ℕ) (sa
       alike
 
 module _ (grammar : Grammar) (in_hand : ℕ → Bool) where
-  -- a line that was refused memory changes nothing
-  refused_keeps : (mine : ℕ → Bool) (world : World ℕ) (line : List ℕ) → KeepsTo mine world
-      → KeepsTo mine (step_world world (line_step nat_eq grammar world line None))
-  refused_keeps mine world line keeps renaming leaves =
-      refused_leads renaming grammar world world (keeps renaming leaves) line
-
-  stage_serves : (m : ℕ) (mine : ℕ → Bool) (world : World ℕ) → KeepsTo mine world
-      → (early : (number : ℕ) → mine number ≡ true → row number ≤ m)
-      → ServesWithRoom mine world (stage m mine early)
-  stage_serves m mine world keeps early = record {
-    from_hand = λ number is. sym (stage_keeps m mine early number) ∙ is;
-    keeps = λ renaming leaves.
-        keeps renaming (λ number is. leaves number (stage_keeps m mine early number ∙ is));
-  }
-
   abbrev Asks : List ℕ → Type 0
   Asks line = asks_for_overlay (request_of grammar line) ≡ false
 
@@ -127,25 +62,28 @@ module _ (grammar : Grammar) (in_hand : ℕ → Bool) where
         told_alike lines refused (suc m) (number + 1) renaming tells.0 _ mine
             (goes_on_alike renaming _ tells.0 _ _ tells.1
             (refused_leads renaming grammar world here refl line) steps.worlds)
-            (λ k is. let low = early k is in omega arith) (refused_keeps mine other line keeps)
+            (λ k is. let low = early k is in omega arith) (refused_keeps grammar mine other line keeps)
             (λ k is. let low = mine_early k is in omega arith) (All-tail Asks line lines asks) tells.2 tells.4,
       )
   told_alike (line ∷ lines) (false ∷ refused) m number renaming world other mine alike early keeps mine_early asks text
       tells =
       let allotment = tells.0 in
-      let joint = next m renaming in_hand world early allotment tells.1.serves in
+      let joint = joined_with_row grammar m renaming in_hand world (renamed renaming.there renaming.back world) refl
+          early allotment tells.1.serves in
       let here : World ℕ = renamed joint.there joint.back world in
       let supplied = λ (k : ℕ).
-      next_new m renaming in_hand world early allotment tells.1.serves (allotment.new k) k (allotment.new_lot k) in
+      joined-new grammar m renaming in_hand world (renamed renaming.there renaming.back world) refl early allotment
+      tells.1.serves (allotment.new k) k (allotment.new_lot k) in
       let again : Alike here other =
       subst (λ there. Alike there other)
-      (sym (next_same m renaming in_hand world early allotment tells.1.serves)) alike in
+      (sym (joined-same grammar m renaming in_hand world (renamed renaming.there renaming.back world) refl early
+      allotment tells.1.serves)) alike in
       let steps = line_step_alike here other again grammar line (Some (spread (suc m)))
       (All-head Asks line lines asks) in
       let written =
       line_alike joint grammar world here refl line allotment.new (spread (suc m)) supplied number
       ∙ steps.text number in
-      let serves = stage_serves m mine other keeps mine_early in (
+      let serves = stage_serves grammar m mine other keeps mine_early in (
         stage m mine mine_early,
         serves,
         tells.4,
@@ -153,7 +91,8 @@ module _ (grammar : Grammar) (in_hand : ℕ → Bool) where
         told_alike lines refused (suc m) (number + 1) joint tells.2 _ (is_in_hand (stage m mine mine_early))
             (goes_on_alike joint _ tells.2 _ _ tells.3
             (line_leads joint grammar world here refl line allotment.new (spread (suc m)) supplied) steps.worlds)
-            (λ k is. next_early m renaming in_hand world early allotment tells.1.serves k (tells.1.stays k is))
+            (λ k is. joined-early grammar m renaming in_hand world (renamed renaming.there renaming.back world) refl
+            early allotment tells.1.serves k (tells.1.stays k is))
             (worlds_keep_to_hand grammar mine other (stage m mine mine_early) line serves)
             (stage_rows m mine mine_early) (All-tail Asks line lines asks) tells.4 tells.6,
       )

@@ -47,7 +47,7 @@ use Rattle.vt_tree_laws.proofs.trees.TreesTasks.{all_appended, all_mapped, both}
 use Rattle.vt_tree_laws.proofs.trees.TreesWalked.{Ends, Passed, after_any, after_ends, after_holds, ends_then, ends_unless, judged_holds}
 use Rattle.vt_spec.proofs.Options.{none_from_not_some}
 use Rattle.vt_spec.proofs.Truths.{or_false_left}
-use Rattle.vt_spec.proofs.Worlds.{filesystems-taken_away}
+use Rattle.vt_spec.proofs.Worlds.{filesystems-taken_away, filesystems-without_replaced}
 
 -- a new tree
 new_plain_fits : (number root : ℕ) → is_fit_filesystem (new_plain nat_eq number root) ≡ true
@@ -230,10 +230,6 @@ module _ (fresh : Fresh ℕ) (world : World ℕ) (task : Task ℕ) (conditions :
       (λ passed. fit_change_after fresh (without_mounts_on nat_eq world (object_there place))
       (filesystems-taken_away world _) place.parent (removing place (object_there place)) tt)))
 
-  replaced_filesystems : (o : Option (Location ℕ)) → (without_replaced nat_eq world o).filesystems ≡ world.filesystems
-  replaced_filesystems None = refl
-  replaced_filesystems (Some place) = filesystems-taken_away world _
-
   fit_renamed : (from to : Place ℕ) → HasFitLast world task to → is_special to.last ≡ false → (b : Bool)
       → IsFitWorld (renamed_by nat_eq b fresh world task from to (object_there from)).world
   fit_renamed from to last plain true =
@@ -242,7 +238,7 @@ module _ (fresh : Fresh ℕ) (world : World ℕ) (task : Task ℕ) (conditions :
   fit_renamed from to last plain false =
       judged_holds IsFitWorld world (rename_rules nat_eq world task from to (object_there from)) _ conditions
       (λ passed. fit_change_after fresh (without_replaced nat_eq world to.object)
-      (replaced_filesystems to.object) from.parent
+      (filesystems-without_replaced world to.object) from.parent
       (moving from to (object_there from)) (fit_name_of to.last plain last))
 
   fit_rename_walk : (path : List ℕ) (old_is_directory : Bool)

@@ -120,7 +120,7 @@ module _ (tree : Tree ℕ) (conditions : IsTree tree) where
       (conditions.one_parent directory name number entry is)
       ∙ ap (λ b. when b directory) (among_targets name (entries_in (tree.node directory)) number entry)
 
-  led_directory : (from : ℕ) (names : List (List ℕ)) (to : ℕ) → led tree from names ≡ Some to → IsDirectory tree to
+  pub led_directory : (from : ℕ) (names : List (List ℕ)) (to : ℕ) → led tree from names ≡ Some to → IsDirectory tree to
       → IsDirectory tree from
   led_directory from [] to e is = subst (IsDirectory tree) (sym (same_Some from to e)) is
   led_directory from (name ∷ names) to e is =

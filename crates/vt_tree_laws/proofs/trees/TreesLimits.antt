@@ -43,7 +43,7 @@ use Rattle.vt_tree_laws.proofs.trees.TreesTasks.{all_appended, all_mapped, child
 use Rattle.vt_tree_laws.proofs.trees.TreesWalked.{after_any, after_holds, judged_holds, ok_same}
 use Rattle.std.proofs.lemmas.Bool.{and_parts, or_parts}
 use Rattle.vt_spec.proofs.Truths.{or_false_left}
-use Rattle.vt_spec.proofs.Worlds.{tasks-regrouped, tasks-taken_away, tasks-with_change}
+use Rattle.vt_spec.proofs.Worlds.{tasks-regrouped, tasks-taken_away, tasks-with_change, tasks-without_replaced}
 
 -- Worlds with the same tasks
 pub same_tasks : (a b : World ℕ) → a.tasks ≡ b.tasks → HasSmallTasks b → HasSmallTasks a
@@ -221,10 +221,6 @@ module _ (fresh : Fresh ℕ) (world : World ℕ) (task : Task ℕ) (small : HasS
       (tasks-taken_away world _) place.parent
       (removing place (object_there place)))))
 
-  replaced_tasks : (o : Option (Location ℕ)) → (without_replaced nat_eq world o).tasks ≡ world.tasks
-  replaced_tasks None = refl
-  replaced_tasks (Some new) = tasks-taken_away world _
-
   renamed_small : (from to : Place ℕ) (b : Bool)
       → HasSmallTasks (renamed_by nat_eq b fresh world task from to (object_there from)).world
   renamed_small from to true =
@@ -232,7 +228,8 @@ module _ (fresh : Fresh ℕ) (world : World ℕ) (task : Task ℕ) (small : HasS
       (λ passed. small)
   renamed_small from to false =
       judged_holds HasSmallTasks world (rename_rules nat_eq world task from to (object_there from)) _ small
-      (λ passed. change_small fresh (without_replaced nat_eq world to.object) (replaced_tasks to.object) from.parent
+      (λ passed. change_small fresh (without_replaced nat_eq world to.object) (tasks-without_replaced world to.object)
+      from.parent
       (moving from to (object_there from)))
 
   rename_small : (old new : List ℕ) → HasSmallTasks (rename_outcome nat_eq fresh world task old new).world

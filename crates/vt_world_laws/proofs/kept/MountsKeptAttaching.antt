@@ -1,5 +1,5 @@
 -- What is attached in a namespace of a task keeps the invariants of mounts: binds, new mounts and moves.
-use Rattle.std.proofs.Common.{◌≡◌, ap, subst, ◌∙◌, sym, true, nat_eq, ℕ, Bool, List, [], inl, inr, ◌⊎◌, ◌∷◌, ◌++◌, arith, eq-eqb, flat_map, is_some, map, true≢false, ⊎_elim, ◌*◌, ◌+◌}
+use Rattle.std.proofs.Common.{◌≡◌, ap, subst, ◌∙◌, sym, true, nat_eq, ℕ, Bool, List, [], inl, inr, ◌⊎◌, ◌∷◌, ◌++◌, arith, flat_map, is_some, map, true≢false, ⊎_elim, ◌*◌, ◌+◌}
 use Rattle.std.proofs.lemmas.Bool.{and_parts, false_from_ne_true}
 use Rattle.vt_spec.specs.Lists.{Fresh, is_among, odds}
 use Rattle.vt_spec.specs.Machine.Mounts.{Location, Mount}
@@ -19,6 +19,7 @@ use Rattle.vt_mount_laws.proofs.attached.BindsStand.{binds_keep_numbers, binds_k
 use Rattle.vt_mount_laws.proofs.moves.Moving.{moves_keep_places, moves_keep_standing}
 use Rattle.vt_world_laws.specs.Worlds.Permits.{IsDestination, IsOwn, MayMoveTo}
 use Rattle.vt_spec.proofs.Worlds.{number-mount_in, found_or_none}
+use Rattle.vt_spec.proofs.FreshNumbers.{served-distinct}
 
 -- The supply for what a new filesystem is mounted with serves beside it: its number and its root are of the other half.
 module _ (world : World ℕ) (fresh : Fresh ℕ) (serves : Serves nat_eq world fresh) where
@@ -33,9 +34,6 @@ module _ (world : World ℕ) (fresh : Fresh ℕ) (serves : Serves nat_eq world f
 
   abbrev of_namespaces : List ℕ
   of_namespaces = map (λ (namespace : Namespace ℕ). namespace.number) world.namespaces
-
-  apart_by : (j k : ℕ) → fresh j ≡ fresh k → j ≡ k
-  apart_by j k e = serves.apart j k (eq-eqb (fresh j) (fresh k) e)
 
   abbrev in_use_with_new : List ℕ
   in_use_with_new = numbers_in_use (with_new_filesystem world new)
@@ -82,10 +80,12 @@ module _ (world : World ℕ) (fresh : Fresh ℕ) (serves : Serves nat_eq world f
       own : (k : ℕ) → Among (odds fresh k) (used_by_filesystem new) → ⊥
       own k m =
           ⊎_elim
-          (λ e. let same : 2 * k + 1 ≡ 2 * 0 = apart_by (2 * k + 1) (2 * 0) e in omega (arith, same))
+          (λ e. let same : 2 * k + 1 ≡ 2 * 0 = served-distinct world fresh serves (2 * k + 1) (2 * 0) e in
+          omega (arith, same))
           (λ later.
           ⊎_elim
-          (λ e. let same : 2 * k + 1 ≡ 2 * 1 = apart_by (2 * k + 1) (2 * 1) e in omega (arith, same))
+          (λ e. let same : 2 * k + 1 ≡ 2 * 1 = served-distinct world fresh serves (2 * k + 1) (2 * 1) e in
+          omega (arith, same))
           (λ none. none)
           later)
           m

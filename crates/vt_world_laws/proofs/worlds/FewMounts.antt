@@ -13,9 +13,7 @@ use Rattle.vt_spec.specs.Machine.Namespaces.{has_tasks, is_in_ended, namespaces_
 use Rattle.vt_spec.specs.Machine.Receives.{inheriting, lost_a_group, regrouped, regrouped_by}
 use Rattle.vt_spec.specs.Machine.World.{Filesystem, Layer, Namespace, Overlay, World, filesystem_at, mount_numbered, with_mounts}
 use Rattle.vt_spec.proofs.Lists.{Among, among-from_filter, none_among, none_from_among}
-
-abbrev pub is_in : ℕ → Mount ℕ → Bool
-is_in number mount = holds_of (nat_eq number) mount.namespace
+use Rattle.vt_letting_go.specs.Ends.{is_in}
 
 abbrev pub count : List (Mount ℕ) → ℕ → ℕ
 count mounts number = length (filter (is_in number) mounts)

@@ -23,10 +23,11 @@ use Rattle.vt_spec.specs.Machine.World.{Namespace, Task, World, mount_at, mount_
 use Rattle.vt_spec.specs.Machine.Invariants.{IsWorld, is_listed}
 use Rattle.vt_spec.proofs.Lists.{Among, among-append, among-append_right, among-from_map, among_from_list_all, among_numbers, is_among_numbers, none_from_among}
 use Rattle.vt_mount_laws.proofs.mounts.MountsReplaced.{found_itself}
-use Rattle.vt_world_laws.proofs.worlds.FewMounts.{Shrinks, StaysOrLeaves, change_shrinks, count, ended_few, few_of, filtered_no_more, is_in, lazily_shrinks, mapped_no_more, none_counted, not_too_many, regrouped_shrinks, shrinks_few, shrinks_itself, shrinks_then, taken_shrinks}
+use Rattle.vt_world_laws.proofs.worlds.FewMounts.{Shrinks, StaysOrLeaves, change_shrinks, count, ended_few, few_of, filtered_no_more, lazily_shrinks, mapped_no_more, none_counted, not_too_many, regrouped_shrinks, shrinks_few, shrinks_itself, shrinks_then, taken_shrinks}
 use Rattle.vt_world_laws.proofs.worlds.FitPermits.{attaches}
 use Rattle.vt_world_laws.proofs.worlds.ReachedWalks.{task_among}
 use Rattle.vt_spec.proofs.Worlds.{number-mount_in}
+use Rattle.vt_letting_go.specs.Ends.{is_in}
 
 and_first : (a : Bool) → (a && true) ≡ true → a ≡ true
 and_first true e = refl

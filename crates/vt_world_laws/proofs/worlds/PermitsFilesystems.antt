@@ -1,5 +1,5 @@
 -- A permit that fits keeps filesystems plain, with numbers of their own.
-use Rattle.std.proofs.Common.{◌≡◌, refl, sym, ap, subst, ◌∙◌, inl, inr, ⊎_elim, ℕ, nat_eq, Bool, true, false, List, [], ◌∷◌, ◌++◌, ◌||◌, Option, Some, None, map}
+use Rattle.std.proofs.Common.{◌≡◌, refl, sym, ap, subst, ◌∙◌, inl, inr, ⊎_elim, ℕ, nat_eq, Bool, true, false, List, [], ◌∷◌, ◌++◌, ◌||◌, map}
 use Rattle.std.specs.Prelude.{All}
 use Rattle.std.specs.List.{list_any}
 use Rattle.std.proofs.lemmas.Bool.{or_parts}
@@ -28,7 +28,7 @@ use Rattle.vt_world_laws.specs.Worlds.Permits.{NamesWhatIsThere}
 use Rattle.vt_world_laws.proofs.worlds.PermitsSeen.{gone_on, replaced_plain, taken_plain}
 use Rattle.vt_world_laws.proofs.worlds.SeenTrees.{change_of_plain, changed_one, numbers-replaced, unused_by_filesystem}
 use Rattle.vt_spec.proofs.Truths.{nat_eq_false_turned}
-use Rattle.vt_spec.proofs.Worlds.{filesystems-taken_away}
+use Rattle.vt_spec.proofs.Worlds.{filesystems-taken_away, filesystems-without_replaced}
 
 -- How the filesystems go on: as they were, with one in the place of the one with its number, or with one more
 pub data FilesystemsGoOn (before : List (Filesystem ℕ)) : List (Filesystem ℕ) → Type 0 where
@@ -128,11 +128,6 @@ module _ (world : World ℕ) (fresh : Fresh ℕ) (task : Task ℕ) (plain : IsPl
   writing file offset [] = same_ones world.filesystems refl
   writing file offset (byte ∷ bytes) = changing fresh world plain refl file _
 
-  replacing : (replaced : Option (Location ℕ))
-      → (without_replaced nat_eq world replaced).filesystems ≡ world.filesystems
-  replacing None = refl
-  replacing (Some location) = filesystems-taken_away world (gone_on world location)
-
   pub filesystems_go_on : (permit : Permit ℕ) → NamesWhatIsThere world task permit → Goes permit
   filesystems_go_on Allowed fits = same_ones world.filesystems refl
   filesystems_go_on (ToList directory) fits = same_ones world.filesystems refl
@@ -147,7 +142,7 @@ module _ (world : World ℕ) (fresh : Fresh ℕ) (task : Task ℕ) (plain : IsPl
       (filesystems-taken_away world (gone_on world directory)) parent (Remove parent.node name directory.node)
   filesystems_go_on (ToRename from old to new object replaced) fits =
       changing fresh (without_replaced nat_eq world replaced) (replaced_plain world replaced plain)
-      (replacing replaced) from
+      (filesystems-without_replaced world replaced) from
       (Move from.node old to.node new object.node)
   filesystems_go_on (ToOpen file access) fits = copying (is_copied_up nat_eq world file access) file
   filesystems_go_on (ToOpenNew directory name node access) fits =

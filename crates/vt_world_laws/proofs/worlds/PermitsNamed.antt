@@ -21,13 +21,14 @@ use Rattle.vt_mount_laws.proofs.mounts.MountsRetyped.{types_are_of_mounts}
 use Rattle.vt_mount_laws.proofs.ends.UnmountingEnds.{lazy_is_of_mounts}
 use Rattle.vt_world_laws.specs.Worlds.Kept.{KeptByAllPermits, KeptByPermits}
 use Rattle.vt_world_laws.specs.Worlds.Permits.{NamesWhatIsThere}
-use Rattle.vt_world_laws.specs.Worlds.Tasks.{OneTaskAName, TasksAreWithinLimits}
+use Rattle.vt_world_laws.specs.Worlds.Tasks.{OneTaskAName}
 use Rattle.vt_world_laws.proofs.worlds.PermitsPlaced.{permits_keep_directories, permits_keep_locations, permits_keep_open_files}
 use Rattle.vt_world_laws.proofs.worlds.PermitsSeen.{gone_on}
 use Rattle.vt_world_laws.proofs.TasksNamed.{GoOn, counted_among, counted_from, go_on_apart, go_on_counted}
 use Rattle.vt_world_laws.proofs.TasksNamed.GoOn.{all_moved, one_changed, one_left, one_more, same_ones}
 use Rattle.vt_spec.proofs.Found.{found_among}
 use Rattle.vt_spec.proofs.Worlds.{tasks-taken_away, tasks-with_change, tasks-without_replaced}
+use Rattle.vt_tree_laws.specs.Trees.Limits.{HasSmallTasks}
 
 module _ (world : World ℕ) (fresh : Fresh ℕ) (task : Task ℕ) where
   abbrev after : Permit ℕ → World ℕ
@@ -148,7 +149,7 @@ permits_keep_counting_forks world fresh task permit is plain serves called fits 
     all_permits_keep_counting_forks world fresh task permit is serves called fits
 
 -- All invariants of tasks, where tasks stay within their limits
-pub permits_keep_tasks : KeptByPermits (λ after. TasksAreWithinLimits after → TaskInvariants nat_eq after)
+pub permits_keep_tasks : KeptByPermits (λ after. HasSmallTasks after → TaskInvariants nat_eq after)
 permits_keep_tasks world fresh task permit is plain serves called fits limits = record {
   one_task = permits_keep_names world fresh task permit is plain serves called fits;
   small_tasks = limits;

@@ -24,6 +24,7 @@ use Rattle.vt_world_laws.proofs.worlds.Placed.{IsPlaced, StandsAt, opens_after, 
 use Rattle.vt_world_laws.proofs.worlds.Seen.{KeepsWhatIsSeen, is_in, mount_of_located}
 use Rattle.vt_spec.proofs.Nodes.{directory_is_there}
 use Rattle.vt_spec.proofs.Worlds.{number-mount_in, found_or_none}
+use Rattle.vt_letting_go.proofs.Lists.{held_number}
 pub use Rattle.vt_spec.proofs.NodeChanges.{directory_is_there as directory_there}
 
 -- what holds from step to step holds of the last
@@ -54,10 +55,6 @@ found_some {A = A} test (first ∷ rest) x m e = by (test first) refl (found_som
 one_is_some : {A : Type 0} (xs : List A) → (length xs == 1) ≡ true → (x : A) × Among x xs
 one_is_some [] e = absurd (true≢false (sym e))
 one_is_some (x ∷ xs) e = (x, inl refl)
-
-holds_is : (own : ℕ) (o : Option ℕ) → holds_of (nat_eq own) o ≡ true → o ≡ Some own
-holds_is own None e = absurd (true≢false (sym e))
-holds_is own (Some n) e = ap Some (sym (eqb-true own n e))
 
 pub in_own : (own : ℕ) (mount : Mount ℕ) → mount.namespace ≡ Some own → is_in own mount ≡ true
 in_own own mount e =
@@ -163,7 +160,7 @@ module _ (world : World ℕ) (is : IsWorld nat_eq world) where
       found_root namespace task.root (root_mount nat_eq world namespace) found.0 found.1
       (over_stands namespace (root_of found.0)
       (root_stands namespace found.0 mount.0
-      (in_own namespace found.0 (holds_is namespace found.0.namespace mount.1))))
+      (in_own namespace found.0 (held_number namespace found.0.namespace mount.1))))
 
 -- A pivot
 module _ (world : World ℕ) (after : World ℕ) (seen : KeepsWhatIsSeen world after) (root new : Mount ℕ) (namespace : ℕ)

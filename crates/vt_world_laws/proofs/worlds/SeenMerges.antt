@@ -21,6 +21,7 @@ use Rattle.vt_tree_laws.proofs.trees.ChangesNodes.{part_stays}
 use Rattle.vt_tree_laws.proofs.trees.TreesOfWorlds.{number_numbered, numbered, numbered_all}
 use Rattle.vt_world_laws.proofs.worlds.Seen.{KeepsKind, KeepsWhatIsSeen, kind_seen, node_in, same_kind, same_seen, seen_by_nodes, seen_on}
 use Rattle.vt_world_laws.proofs.worlds.SeenTrees.{MakesNew, found_new, made_kind, unused_inode, SameKinds, changes_keep_kinds, found_other, keeps-with_inode, kind-with_attr, kind-with_bytes, kind-with_entries, kind-with_mark, kind-with_parent, kinds-with_name, kinds-without_name, kinds-without_parent, numbers-replaced, replaced_keeps}
+use Rattle.vt_spec.proofs.FreshNumbers.{evens-distinct, odds-distinct, odds-no_evens}
 
 -- Trees of which the second has the inodes of the first
 abbrev pub Keeps : FileTree ℕ → FileTree ℕ → Type 0
@@ -219,26 +220,18 @@ module _ (fresh : Fresh ℕ) (stack : Stack ℕ) (merge : Merge ℕ) (vacant : I
 -- A whole change
 module _ (fresh : Fresh ℕ) (distinct : (i j : ℕ) → fresh i ≡ fresh j → i ≡ j) (stack : Stack ℕ) (merge : Merge ℕ)
     (vacant : (j : ℕ) → IsVacant merge.upper (fresh j)) where
-  even_apart : (i j : ℕ) → evens fresh i ≡ evens fresh j → i ≡ j
-  even_apart i j e = let same = distinct _ _ e in omega (arith, same)
-
-  odd_apart : (i j : ℕ) → odds fresh i ≡ odds fresh j → i ≡ j
-  odd_apart i j e = let same = distinct _ _ e in omega (arith, same)
-
-  odd_even : (i j : ℕ) → odds fresh i ≢ evens fresh j
-  odd_even i j e = let same = distinct _ _ e in omega (arith, same)
-
   odd_even_apart : (i j : ℕ) → evens (odds fresh) i ≡ evens (odds fresh) j → i ≡ j
-  odd_even_apart i j e = let same = odd_apart (2 * i) (2 * j) e in omega (arith, same)
+  odd_even_apart i j e = let same = odds-distinct fresh distinct (2 * i) (2 * j) e in omega (arith, same)
 
   last_apart : (i j : ℕ) → odds (odds fresh) i ≢ evens (odds fresh) j
-  last_apart i j e = let same = odd_apart (2 * i + 1) (2 * j) e in omega (arith, same)
+  last_apart i j e = let same = odds-distinct fresh distinct (2 * i + 1) (2 * j) e in omega (arith, same)
 
   first_copied : (object : ℕ) → IsCopied (evens fresh) merge (copied_up nat_eq (evens fresh) merge object)
-  first_copied object = up_copied (evens fresh) even_apart merge object (λ j. vacant (2 * j))
+  first_copied object = up_copied (evens fresh) (evens-distinct fresh distinct) merge object (λ j. vacant (2 * j))
 
   odd_vacant : (object j : ℕ) → IsVacant (copied_up nat_eq (evens fresh) merge object).upper (odds fresh j)
-  odd_vacant object j = (first_copied object).vacant (odds fresh j) (odd_even j) (vacant (2 * j + 1))
+  odd_vacant object j = (first_copied object).vacant (odds fresh j) (odds-no_evens fresh distinct j)
+      (vacant (2 * j + 1))
 
   merge_keeps : (change : Change ℕ) → MakesNew merge.files change
       → ((merge_changed nat_eq fresh stack merge change).files ≡ changed nat_eq merge.files change)
@@ -254,7 +247,7 @@ module _ (fresh : Fresh ℕ) (distinct : (i j : ℕ) → fresh i ≡ fresh j →
   merge_keeps (AddName directory name object) new =
       let one = first_copied object in
       let mid = copied_up nat_eq (evens fresh) merge object in
-      let two = up_copied (odds fresh) odd_apart mid directory (odd_vacant object) in
+      let two = up_copied (odds fresh) (odds-distinct fresh distinct) mid directory (odd_vacant object) in
       let last = copied_up nat_eq (odds fresh) mid directory in (
         ap (λ files. changed nat_eq files (AddName directory name object)) (two.files ∙ one.files),
         keeps_both merge.upper mid.upper

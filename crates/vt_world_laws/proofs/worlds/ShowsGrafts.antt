@@ -22,6 +22,7 @@ use Rattle.vt_world_laws.proofs.worlds.SeenTrees.{unused_by_filesystem, unused_n
 use Rattle.vt_world_laws.proofs.worlds.Shows.{AllShow, IsPlace, all_show_after, world_shows}
 use Rattle.vt_world_laws.proofs.worlds.ShowsAttached.{attached_show}
 use Rattle.vt_spec.proofs.Worlds.{number-mount_in, tree_among}
+use Rattle.vt_spec.proofs.FreshNumbers.{served-differ}
 
 module _ (world : World ℕ) (is : IsWorld nat_eq world) where
   -- the mount of a tree on which another one stands
@@ -206,17 +207,10 @@ module _ (world : World ℕ) (is : IsWorld nat_eq world) (fresh : Fresh ℕ) (se
   abbrev larger : World ℕ
   larger = with_new_filesystem world (plain_filesystem nat_eq fresh)
 
-  differ : (j k : ℕ) → (j ≡ k → ⊥) → nat_eq (fresh j) (fresh k) ≡ false
-  differ j k apart = by (nat_eq (fresh j) (fresh k)) refl
-    where
-      by : (b : Bool) → nat_eq (fresh j) (fresh k) ≡ b → b ≡ false
-      by false e = refl
-      by true e = absurd (apart (serves.apart j k e))
-
   not_used : (k : ℕ) (number : ℕ) → Among number (used_by_filesystem filesystem) → nat_eq (odds fresh k) number ≡ false
   not_used k number m =
-      ⊎_elim (λ e. ap (nat_eq (odds fresh k)) e ∙ differ (2 * k + 1) 0 (not_none k))
-      (λ later. ⊎_elim (λ e. ap (nat_eq (odds fresh k)) e ∙ differ (2 * k + 1) 2 (not_two k))
+      ⊎_elim (λ e. ap (nat_eq (odds fresh k)) e ∙ served-differ world fresh serves (2 * k + 1) 0 (not_none k))
+      (λ later. ⊎_elim (λ e. ap (nat_eq (odds fresh k)) e ∙ served-differ world fresh serves (2 * k + 1) 2 (not_two k))
       (λ none. absurd none) later) m
     where
       not_none : (j : ℕ) → 2 * j + 1 ≡ 0 → ⊥

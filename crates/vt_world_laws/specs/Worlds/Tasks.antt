@@ -4,13 +4,10 @@ use Rattle.std.specs.List.{list_all}
 use Rattle.vt_spec.specs.Lists.{any_pair}
 use Rattle.vt_spec.specs.Machine.World.{Task, World, all_locations}
 use Rattle.vt_spec.specs.Language.Calls.{same_name}
-use Rattle.vt_spec.specs.Machine.Invariants.{has_regular_files_open, is_located_well, is_within_limits, stands_on_directories}
+use Rattle.vt_spec.specs.Machine.Invariants.{has_regular_files_open, is_located_well, stands_on_directories}
 
 abbrev pub OneTaskAName : World ℕ → Type 0
 OneTaskAName world = any_pair (λ (a b : Task ℕ). same_name a.name b.name) world.tasks ≡ false
-
-abbrev pub TasksAreWithinLimits : World ℕ → Type 0
-TasksAreWithinLimits world = list_all is_within_limits world.tasks ≡ true
 
 abbrev pub LocationsAreThere : World ℕ → Type 0
 LocationsAreThere world = list_all (is_located_well nat_eq world) (all_locations world) ≡ true

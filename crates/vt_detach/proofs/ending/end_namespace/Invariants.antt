@@ -3,7 +3,7 @@ use Rattle.vt_fs.specs.FilesystemsValue.{shown}
 use Rattle.vt_spec.specs.Machine.Receives.{regrouped}
 use Rattle.vt_spec.specs.Machine.World.{World}
 use Rattle.vt_location.specs.Numbers.{counted}
-use Rattle.vt_group.specs.Grouping.{GroupsLive, Has}
+use Rattle.vt_group.specs.Grouping.{Has}
 use Rattle.vt_group.specs.Together.{as_private, with_changed}
 use Rattle.vt_mount.specs.MountsValue.{MountEntry}
 use Rattle.vt_retype.specs.Leaving.{OnlyTypesChange}
@@ -13,6 +13,7 @@ use Rattle.vt_detach.specs.NamespacesLeft.{AreDetached, Detached, is_attached_in
 use Rattle.vt_detach.specs.Uses.{kept}
 use Rattle.vt_detach.proofs.TypesAside.{gone_numbers}
 use Rattle.vt_detach.proofs.ending.end_namespace.Given as goal
+use Rattle.vt_mount_laws.specs.Mounts.Receivers.{AllGroupsLive}
 
 -- those that are gone were detached one after the other, and have left their groups; the mounts that their detaching
 -- alone leaves differ in types only
@@ -23,7 +24,7 @@ invariant-loop-last l = record {
   detached : AreDetached (counted l.fn.id.count) gone (kept l.initial.mounts l.initial.filesystems)
       (record { mounts = entries; filesystems = shown l.filesystems });
   only_types : OnlyTypesChange entries l.mounts;
-  groups : (world : World ℕ) → Has world l.initial.groups → GroupsLive world
+  groups : (world : World ℕ) → Has world l.initial.groups → AllGroupsLive world
       → Has (regrouped nat_eq (with_changed as_private world (gone_numbers gone))) l.groups;
   types : AreTyped l.initial.groups l.initial.mounts
       → StillTyped l.groups (gone_numbers gone) (gone_numbers gone) l.mounts;

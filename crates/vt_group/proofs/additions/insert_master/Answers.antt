@@ -5,13 +5,13 @@ use Rattle.std.specs.Ordering.{nat_cmp}
 use Rattle.std.specs.Prelude.{if◌then◌else◌}
 use Rattle.vt_group.specs.Additions.{master_left}
 use Rattle.vt_group.specs.Indexed.{group_at}
-use Rattle.vt_group.proofs.Answering.{on-ok}
 use Rattle.vt_group.proofs.Mastering.{master_inserted}
 use Rattle.vt_group.proofs.additions.insert_master.Goals as goal
+use Rattle.vt_spec.proofs.Options.{OnOk_then}
 
 pub returns-in-Some-clause-ok : goal.returns-in-Some-clause-ok
 returns-in-Some-clause-ok c =
-    on-ok c.insert.result
+    OnOk_then c.insert.result
     (λ writes group.
     master_inserted c.args.new.group.count group (list_any (λ id. nat_eq group id.count) c.swap_remove.new.self.keys)
     (list_any (λ id. nat_eq group id.count) c.args.leaving.now.keys) (get nat_cmp c.insert.new.map group)

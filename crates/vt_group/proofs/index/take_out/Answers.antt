@@ -1,12 +1,13 @@
 use Rattle.std.proofs.Common.{ap}
 use Rattle.std.specs.Prelude.{◌&&◌}
 use Rattle.vt_group.specs.Sets.{same_group}
-use Rattle.vt_group.proofs.IndexLemmas.{apart_from_each, neither_one}
+use Rattle.vt_group.proofs.IndexLemmas.{apart_from_each}
 use Rattle.vt_group.proofs.index.take_out.Goals as goal
+use Rattle.vt_spec.proofs.Truths.{and_false_right}
 
 pub returns-clause-others : goal.returns-clause-others
 returns-clause-others g c at other apart there =
-    c.remove.ensures at other (neither_one (same_group c.in_ok-name.name at) _ apart) there
+    c.remove.ensures at other (and_false_right (same_group c.in_ok-name.name at) _ apart) there
 
 pub returns-clause-own : goal.returns-clause-own
 returns-clause-own g c at other stays there =

@@ -4,8 +4,8 @@ use Rattle.std.specs.HashMap.{get}
 use Rattle.std.proofs.lemmas.Bool.{eqb-false, eqb-true}
 use Rattle.vt_spec.specs.Lists.{holds_of}
 use Rattle.vt_location.specs.declared.numbers.NamespaceId.{NamespaceId}
-use Rattle.vt_propagate.specs.Filling.{same_namespace}
 use Rattle.vt_propagate.proofs.filling.count_one.Goals as goal
+use Rattle.vt_mount.specs.Indexes.{same_namespace}
 
 raised : (before after : NamespaceId → Option ℕ) (namespace : NamespaceId) (count : ℕ)
     → ((q : NamespaceId) → after q ≡ cond (same_namespace namespace q) (Some (count + 1)) (before q))

@@ -1,8 +1,8 @@
 use Rattle.std.proofs.Common.{◌≡◌, count_by, take, unwrap_or}
 use Rattle.std.specs.HashMap.{get}
 use Rattle.vt_location.specs.declared.numbers.NamespaceId.{NamespaceId}
-use Rattle.vt_propagate.specs.Filling.{is_part_in, same_namespace}
 use Rattle.vt_propagate.proofs.filling.counts_of.Given as goal
+use Rattle.vt_mount.specs.Indexes.{same_namespace, is_in as is_part_in}
 
 abbrev pub invariant-loop-part : goal.invariant-loop-part
 invariant-loop-part l =

@@ -3,9 +3,9 @@ use Rattle.std.specs.Prelude.{unwrap_or}
 use Rattle.std.specs.HashMap.{get}
 use Rattle.vt_location.specs.declared.numbers.NamespaceId.{NamespaceId}
 use Rattle.vt_mount.specs.MountsValue.{mounts_in}
-use Rattle.vt_propagate.specs.Filling.{same_namespace}
 use Rattle.vt_propagate.proofs.Counting.{added_tell, more_tell, moves_tell}
 use Rattle.vt_propagate.proofs.filling.overfills.Goals as goal
+use Rattle.vt_mount.specs.Indexes.{same_namespace}
 
 pub returns-clause-added : goal.returns-clause-added
 returns-clause-added c world new place tree same invariants are size stay =

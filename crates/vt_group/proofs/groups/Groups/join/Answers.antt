@@ -3,13 +3,13 @@ use Rattle.vt_spec.specs.Machine.Mounts.Propagation.{Shared}
 use Rattle.vt_spec.specs.Machine.Receives.{regrouped}
 use Rattle.vt_group.specs.Grouping.{Has, with_propagation}
 use Rattle.vt_location.specs.Numbers.{counted}
-use Rattle.vt_group.proofs.Answering.{on-ok}
 use Rattle.vt_group.proofs.Changes.{join_regroups}
 use Rattle.vt_group.proofs.groups.Groups.join.Goals as goal
+use Rattle.vt_spec.proofs.Options.{OnOk_then}
 
 pub returns-clause-ok : goal.returns-clause-ok
 returns-clause-ok c =
-    on-ok c.set.result
+    OnOk_then c.set.result
     (λ new world has live is.
     subst (Has (regrouped nat_eq (with_propagation world (counted c.args.mount.count)
     (Shared (counted c.args.group.count))))) (sym new)

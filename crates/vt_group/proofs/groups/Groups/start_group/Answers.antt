@@ -16,10 +16,11 @@ use Rattle.vt_group.specs.Grouping.{Grouping, Has, HasGroup, below, master_in, w
 use Rattle.vt_location.specs.Numbers.{counted}
 use Rattle.vt_location.specs.MountValue.{propagation_of}
 use Rattle.vt_group.specs.Steps.{ended_if_lost, group_number, numbered_master, numbered_peer}
-use Rattle.vt_group.proofs.Answering.{listed_ok, on-ok, shown-type, undone}
+use Rattle.vt_group.proofs.Answering.{listed_ok, shown-type, undone}
 use Rattle.vt_group.proofs.Changes.{start_alone, start_below}
 use Rattle.vt_group.proofs.CountLemmas.{inserted-numbered, removed-numbered}
 use Rattle.vt_group.proofs.groups.Groups.start_group.Goals as goal
+use Rattle.vt_spec.proofs.Options.{OnOk_then}
 
 -- a group with a master has members
 has_master : (world : World ℕ) (groups : Grouping) (group : ℕ) (found : Option GroupId) → Has world groups
@@ -38,7 +39,7 @@ not_found groups group (Some master) is none = absurd (true≢false none)
 
 pub returns-in_default-clause-ok : goal.returns-in_default-clause-ok
 returns-in_default-clause-ok c =
-    on-ok c.set.result
+    OnOk_then c.set.result
     (λ new world has live is.
     let group = counted c.args.group.count in
     let number = counted c.args.mount.count in
@@ -51,7 +52,7 @@ returns-in_default-clause-ok c =
 
 pub returns-then-is_some-clause-ok : goal.returns-then-is_some-clause-ok
 returns-then-is_some-clause-ok c =
-    on-ok c.set-then-is_some.result
+    OnOk_then c.set-then-is_some.result
     (λ new world has live is.
     absurd (has_master world c.args.self.now
     (counted c.args.group.count) c.master_of.result has is.1 c.master_of.ensures

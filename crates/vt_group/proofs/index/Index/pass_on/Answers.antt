@@ -5,8 +5,8 @@ use Rattle.vt_group.specs.Indexed.{is_relative}
 use Rattle.vt_group.specs.Sets.{has, same_group, same_id}
 use Rattle.vt_group.proofs.index.Inheriting.{handed_group, handed_kind, named_by}
 use Rattle.vt_group.proofs.SetsLemmas.{same_id as same_number}
-use Rattle.vt_group.proofs.Together.{eqb-swapped}
 use Rattle.vt_group.proofs.index.Index.pass_on.Goals as goal
+use Rattle.vt_spec.proofs.Truths.{nat_eq-swapped}
 
 pub returns-then-eq-clause-mounts : goal.returns-then-eq-clause-mounts
 returns-then-eq-clause-mounts c mount was kind lower apart handed listed =
@@ -23,7 +23,7 @@ returns-clause-mounts c mount was kind lower apart handed listed =
     let new : Index = record old { names = c.inherit.new.self } in
     let lost = c.args.lost in
     let heir = c.args.heir in
-    let differ = eqb-swapped heir.count lost.count false (sym c.eq.ensures ∙ c.if-eq.false) in
+    let differ = nat_eq-swapped heir.count lost.count false (sym c.eq.ensures ∙ c.if-eq.false) in
     let named : is_some (lookup (same_group heir) old.names) ≡ true =
     named_by old.names heir (λ name. has same_group name lost old.lowers) lower in
     handed_kind lost heir old new mount
@@ -37,7 +37,7 @@ returns-clause-lowers c lower was upper is_lower handed under =
     let new : Index = record old { names = c.inherit.new.self } in
     let lost = c.args.lost in
     let heir = c.args.heir in
-    let differ = eqb-swapped heir.count lost.count false (sym c.eq.ensures ∙ c.if-eq.false) in
+    let differ = nat_eq-swapped heir.count lost.count false (sym c.eq.ensures ∙ c.if-eq.false) in
     let named : is_some (lookup (same_group heir) old.names) ≡ true =
     named_by old.names heir (λ name. has same_group name lost old.lowers) is_lower in
     handed_group lost heir old new lower

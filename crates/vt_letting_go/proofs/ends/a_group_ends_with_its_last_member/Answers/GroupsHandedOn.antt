@@ -8,8 +8,9 @@ use Rattle.vt_spec.specs.Machine.Mounts.Propagation.{Private, Shared, Slave, Unb
 use Rattle.vt_spec.specs.Machine.Receives.{has_members, heir, inherited, inheriting, is_lost_group, is_member_of, lost_a_group, regrouped, regrouped_by, slave_of_heir}
 use Rattle.vt_spec.specs.Machine.World.{World}
 use Rattle.vt_letting_go.specs.Groups.{GroupsLiveBut, NoGroupIsHandedOn, OneGroupIsHandedOn, hand_on, handed_on, is_group_or_lives, master_handed_on, mount_handed_on}
-use Rattle.vt_letting_go.proofs.Lists.{fails, map_alike, map_same, one_passes, or_second, passes}
+use Rattle.vt_letting_go.proofs.Lists.{fails, map_same, one_passes, or_second, passes}
 use Rattle.vt_spec.proofs.Found.{find-chain_start}
+use Rattle.vt_spec.proofs.Lists.{map_alike}
 
 find_after_start : (p : ℕ → Bool) (next : ℕ → Option ℕ) (n a : ℕ) → p a ≡ false
     → list_all p (option_to_list (next a)) ≡ true

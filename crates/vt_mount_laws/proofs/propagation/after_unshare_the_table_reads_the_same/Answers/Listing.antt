@@ -15,10 +15,11 @@ use Rattle.vt_spec.specs.Machine.Invariants.{MountInvariants}
 use Rattle.vt_mount_laws.specs.Mounts.Attaching.{OneNumberAMount}
 use Rattle.vt_mount_laws.specs.Mounts.Propagation.{UnshareListsOthersTheSame, UnshareListsTheSame}
 use Rattle.vt_mount_laws.proofs.mounts.MountsCounted.{is_in}
-use Rattle.vt_mount_laws.proofs.mounts.MountsNumbered.{is_one_of, odds_apart, one_index, unshare_keeps_numbers}
+use Rattle.vt_mount_laws.proofs.mounts.MountsNumbered.{is_one_of, one_index, unshare_keeps_numbers}
 use Rattle.vt_mount_laws.proofs.mounts.MountsReplaced.{found_itself}
 use Rattle.vt_mount_laws.proofs.namespaces.Unsharing.{itself, parent_of}
 use Rattle.vt_mount_laws.proofs.namespaces.UnsharingNamespaces.{unshare_copies_mounts, unshare_leaves_namespaces}
+use Rattle.vt_spec.proofs.FreshNumbers.{odds-distinct, served-distinct}
 
 pub map_alike : {A B C : Type 0} (f : A → C) (g : B → C) (h : A → B) (xs : List A)
     → ((x : A) → Among x xs → g (h x) ≡ f x) → map g (map h xs) ≡ map f xs
@@ -86,7 +87,8 @@ module _ (world : World ℕ) (fresh : Fresh ℕ) (task : Task ℕ) (serves : Ser
           true≢false
           (sym (eq-eqb a.number b.number
           (one_index copied a.number b.number (is_one_of copied a m) (is_one_of copied b n)
-          (odds_apart world fresh serves (index_of nat_eq copied a.number) (index_of nat_eq copied b.number)
+          (odds-distinct fresh (served-distinct world fresh serves) (index_of nat_eq copied a.number)
+          (index_of nat_eq copied b.number)
           (eqb-true (new_number a.number) (new_number b.number) same)))) ∙ e)) ∙ sym e
 
   -- the parent of a mount of a namespace is in the namespace

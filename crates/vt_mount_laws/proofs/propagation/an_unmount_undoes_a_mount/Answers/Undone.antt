@@ -1,5 +1,5 @@
 -- An unmount of a mount that was attached: the others are as they were before.
-use Rattle.std.proofs.Common.{◌≡◌, refl, sym, ap, subst, ◌∙◌, true, false, nat_eq, ℕ, List, None, Option, Some, [], filter, flat_map, inl, inr, is_some, map, option_map, true≢false, unwrap_or, ⊎_elim, ◌++◌, ◌∷◌, ◌⊎◌, eqb-true}
+use Rattle.std.proofs.Common.{◌≡◌, refl, sym, ap, subst, ◌∙◌, true, false, nat_eq, ℕ, List, None, Option, Some, [], filter, flat_map, inl, inr, is_some, map, true≢false, ⊎_elim, ◌++◌, ◌∷◌, ◌⊎◌, eqb-true}
 use Rattle.std.specs.Prelude.{Contains}
 use Rattle.std.proofs.lemmas.Bool.{false_from_ne_true}
 use Rattle.std.proofs.lemmas.Option.{same_Some}
@@ -10,7 +10,7 @@ use Rattle.vt_spec.specs.Machine.Detach.{may_go, only_cover, unmounted, going}
 use Rattle.vt_spec.specs.Lists.{Fresh, holds_of, is_among, rest_of}
 use Rattle.vt_spec.specs.Machine.Mounts.{Location, Mount, Propagation, detached, group_of, is_shared, source_of, stands_at, stands_on}
 use Rattle.vt_spec.specs.Machine.Mounts.Propagation.{Private, Shared, Slave, Unbindable}
-use Rattle.vt_spec.specs.Machine.Receives.{has_members, is_member_of, receivers, receives, lost_a_group}
+use Rattle.vt_spec.specs.Machine.Receives.{has_members, is_member_of, receives, lost_a_group}
 use Rattle.vt_spec.specs.Machine.World.{World, mount_at, mount_numbered}
 use Rattle.vt_mount_laws.specs.Mounts.Attaching.{OneNumberAMount, is_mount, numbers_of}
 use Rattle.vt_mount_laws.specs.Mounts.Places.{OneMountAPlace}
@@ -37,6 +37,7 @@ use Rattle.vt_mount_laws.proofs.mounts.Receivers.{receives_completely, receives_
 use Rattle.vt_mount_laws.proofs.ends.Unmounting.{root_mounts_stay, unmount_keeps_the_order, what_goes_is_detached, what_stays_keeps, what_stays_keeps_its_place, what_stays_keeps_its_type, groups_keep_their_masters, middle}
 use Rattle.vt_mount_laws.proofs.ends.UnmountingGoes.{what_goes_is_named}
 use Rattle.vt_spec.proofs.Worlds.{master-regrouped_by, number-mount_in}
+use Rattle.vt_mount_laws.proofs.mounts.Receivers.{receiver_receives}
 
 -- the attachment of one mount, of which no copy goes onto another mount
 abbrev pub one_of : World ℕ → Fresh ℕ → Location ℕ → Mount ℕ → Attachment
@@ -85,28 +86,6 @@ module _ (world : World ℕ) (fresh : Fresh ℕ) (place : Location ℕ) (first :
   of_first : Contains (first ∷ []) first
   of_first = contains_from_among (first ∷ []) first (inl refl)
 
-  receives_there : (part : Mount ℕ) → Among part (receivers_of nat_eq world destination)
-      → (group : ℕ) × (destination.propagation ≡ Shared group) × Among part world.mounts
-      × (receives nat_eq world group part ≡ true)
-  receives_there part m = by destination.propagation refl
-    where
-      none : receivers_of nat_eq world destination ≡ []
-          → (group : ℕ) × (destination.propagation ≡ Shared group) × Among part world.mounts
-          × (receives nat_eq world group part ≡ true)
-      none e = absurd (subst (λ l. Among part l) e m)
-
-      by : (kind : Propagation ℕ) → destination.propagation ≡ kind
-          → (group : ℕ) × (destination.propagation ≡ Shared group) × Among part world.mounts
-          × (receives nat_eq world group part ≡ true)
-      by (Shared group) e =
-          let t =
-          among-from_filter (receives nat_eq world group) world.mounts part
-          (subst (λ k. Among part (unwrap_or (option_map (receivers nat_eq world) (group_of k)) [])) e m) in
-          (group, e, t.0, t.1)
-      by (Slave master) e = none (ap (λ k. unwrap_or (option_map (receivers nat_eq world) (group_of k)) []) e)
-      by Private e = none (ap (λ k. unwrap_or (option_map (receivers nat_eq world) (group_of k)) []) e)
-      by Unbindable e = none (ap (λ k. unwrap_or (option_map (receivers nat_eq world) (group_of k)) []) e)
-
   -- the mounts that were there are as they were
   kept : (number : ℕ) → is_mount world number ≡ true
       → mount_numbered nat_eq after number ≡ mount_numbered nat_eq world number
@@ -118,7 +97,7 @@ module _ (world : World ℕ) (fresh : Fresh ℕ) (place : Location ℕ) (first :
       (filter (takes_part nat_eq world place) (receivers_of nat_eq world destination))
       (λ receiver m.
       let t =
-      receives_there receiver
+      receiver_receives world destination receiver
       (among-from_filter (takes_part nat_eq world place) (receivers_of nat_eq world destination) receiver m).0 in
       free t.0 receiver (mount_numbered nat_eq world number) t.1 t.2 t.3 (found_there world.mounts number is)))
 
@@ -361,7 +340,7 @@ module _ (world : World ℕ) (fresh : Fresh ℕ) (place : Location ℕ) (first :
       (receives_from_source world group destination (ap source_of e)))
       (λ rest.
       let t =
-      receives_there part
+      receiver_receives world destination part
       (among-from_filter (takes_part nat_eq world place) (receivers_of nat_eq world destination) part rest).0 in
       subst (λ g. receives nat_eq world g part ≡ true)
       (same_Some t.0 group (ap group_of (sym t.1 ∙ e))) t.3)

@@ -4,14 +4,15 @@ use Rattle.vt_spec.specs.Machine.Detach.{is_busy}
 use Rattle.vt_location.specs.Numbers.{counted}
 use Rattle.vt_detach.specs.WorldValue.{WorldValue, world_of}
 use Rattle.vt_ns.specs.contracts.world.World.{the_view}
-use Rattle.vt_ns.proofs.WorldSeen.{uses_seen, world_seen}
+use Rattle.vt_ns.proofs.WorldSeen.{uses_seen}
 use Rattle.vt_ns.proofs.mount_looks.WorldLookAtMounts.is_busy.Goals as goal
+use Rattle.vt_attach.proofs.Binding.{is_seen}
 
 pub returns-clause-ok : goal.returns-clause-ok
 returns-clause-ok c =
     IfOk-weaker c.is_busy.result _ _
     (λ busy tells.
-    tells (world_of (the_view c.self.inside)) (world_seen (the_view c.self.inside) c.self.invariant)
+    tells (world_of (the_view c.self.inside)) (is_seen (the_view c.self.inside) c.self.invariant)
     (uses_seen (the_view c.self.inside) c.self.invariant)
     ∙ ap (λ (value : WorldValue). is_busy nat_eq (world_of value) (counted c.args.mount.count)) c.self.view_is)
     c.is_busy.ensures.ok

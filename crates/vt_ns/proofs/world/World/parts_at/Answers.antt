@@ -3,8 +3,8 @@ use Rattle.std.proofs.lemmas.Result.{IfOk-weaker}
 use Rattle.vt_propagate.specs.Seen.{IsSeen}
 use Rattle.vt_detach.specs.WorldValue.{world_of}
 use Rattle.vt_ns.specs.contracts.world.World.{the_view}
-use Rattle.vt_ns.proofs.WorldSeen.{world_seen}
 use Rattle.vt_ns.proofs.world.World.parts_at.Goals as goal
+use Rattle.vt_attach.proofs.Binding.{is_seen}
 
 pub returns-clause-ok : goal.returns-clause-ok
 returns-clause-ok c =
@@ -12,6 +12,6 @@ returns-clause-ok c =
     (λ parts tells.
     tells (world_of c.args.self.now)
     (subst (λ value. IsSeen (world_of value) c.self.inside.mounts c.self.inside.groups) c.self.view_is
-    (world_seen (the_view c.self.inside) c.self.invariant))
+    (is_seen (the_view c.self.inside) c.self.invariant))
     (λ filesystem top directory. refl))
     c.parts.ensures.ok

@@ -1,7 +1,6 @@
 use Rattle.std.proofs.Common.{[], ◌∷◌, ap, map, nat_eq, subst, sym, ◌≡◌, ◌∙◌}
 use Rattle.vt_location.specs.declared.numbers.MountId.{MountId}
 use Rattle.vt_location.specs.Numbers.{counted}
-use Rattle.vt_group.specs.Grouping.{numbers_of}
 use Rattle.vt_letting_go.proofs.leaving.PlacesLeft.{number_found}
 use Rattle.vt_mount.specs.MountsValue.{mounts_in}
 use Rattle.vt_request.specs.Requests.{type_word_of}
@@ -13,6 +12,7 @@ use Rattle.vt_detach.specs.Events.{Becomes, Permits}
 use Rattle.vt_detach.specs.WorldValue.{world_of}
 use Rattle.vt_ns.proofs.world.TypesDone.{types_done}
 use Rattle.vt_ns.proofs.world.World.set_type.Goals as goal
+use Rattle.vt_mount_laws.specs.Mounts.Attaching.{numbers_of}
 
 pub invariant_of-self-then-recursive : goal.invariant_of-self-then-recursive
 invariant_of-self-then-recursive c =
