@@ -422,7 +422,7 @@ module _ (value : WorldValue) (whole : IsHeld value) (name : TaskName) (number :
         (none_passes (λ (b : meant.Mount ℕ). nat_eq mount.number b.number) own (λ b n.
         let from = own_number b n in
         let less = apart (mounts_in value.mounts) (map mount_of come) rising from.0 mount (tree_among from.0 from.1) m
-            in
+        in
         let number_is = from.2 in
         ne_eqb mount.number b.number (λ same. absurd (omega (arith, less, same, number_is)))))
 

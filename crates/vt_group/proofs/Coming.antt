@@ -137,8 +137,10 @@ kept_master es count master is =
     by : (found : Option GroupId) → option_map group_number found ≡ Some (group_number master) → found ≡ Some master
     by None is = absurd (true≢false (sym (ap is_some is)))
     by (Some one) is =
-        ap Some (λ i. record { count = counted_same one.count master.count
-            (same_Some (group_number one) (group_number master) is) i })
+        ap Some (λ i. record {
+          count = counted_same one.count master.count
+              (same_Some (group_number one) (group_number master) is) i;
+        })
 
 -- a type of the map is that of the groups
 pub seen_kind : (es : List (ℕ × Propagation)) (count : ℕ) (kind : Propagation)

@@ -112,40 +112,40 @@ detaching_is_seen world kept left after before now gone points seen leaves is ta
 -- Mounts get types
 
 module _ (world : World ℕ) (live : AllGroupsLive world) (group : ℕ → ℕ) (word : TypeWord) (named : List (Mount ℕ))
-    where
-  abbrev base : World ℕ
-  base = record world {
-    mounts = map (retyped_mount nat_eq group word named) world.mounts;
-    master = with_new_groups nat_eq group world.master named;
-  }
+  where
+    abbrev base : World ℕ
+    base = record world {
+      mounts = map (retyped_mount nat_eq group word named) world.mounts;
+      master = with_new_groups nat_eq group world.master named;
+    }
 
-  retyped_live : All (Contains world.mounts) named → ((number : ℕ) → LacksGroup world (group number))
-      → AllGroupsLive (retyped nat_eq world group word named)
-  retyped_live there lacks =
-      all_live (retyped nat_eq world group word named)
-      (retyping.all_live world group word named (tested_live world live) lacks (λ mount m source e.
-      among_from_contains world.mounts mount (among_from_all (Contains world.mounts) named there mount m)))
+    retyped_live : All (Contains world.mounts) named → ((number : ℕ) → LacksGroup world (group number))
+        → AllGroupsLive (retyped nat_eq world group word named)
+    retyped_live there lacks =
+        all_live (retyped nat_eq world group word named)
+        (retyping.all_live world group word named (tested_live world live) lacks (λ mount m source e.
+        among_from_contains world.mounts mount (among_from_all (Contains world.mounts) named there mount m)))
 
-  abbrev chosen : Mount ℕ → Bool
-  chosen mount = list_any (λ other. nat_eq mount.number other.number) named
+    abbrev chosen : Mount ℕ → Bool
+    chosen mount = list_any (λ other. nat_eq mount.number other.number) named
 
-  abbrev retyped_if : Mount ℕ → Bool → Mount ℕ
-  retyped_if mount b = if b then record mount { propagation = type_after (group mount.number) word mount.propagation }
-      else mount
+    abbrev retyped_if : Mount ℕ → Bool → Mount ℕ
+    retyped_if mount b = if b then record mount { propagation = type_after (group mount.number) word mount.propagation }
+        else mount
 
-  others_keep : (mount : Mount ℕ)
-      → is_among nat_eq (retyped_mount nat_eq group word named mount).number (numbers_of named) ≡ false
-      → ((retyped_mount nat_eq group word named mount).number ≡ mount.number)
-      × ((retyped_mount nat_eq group word named mount).propagation ≡ mount.propagation)
-  others_keep mount apart = by (chosen mount) refl
-    where
-      by : (b : Bool) → chosen mount ≡ b
-          → ((retyped_if mount (chosen mount)).number ≡ mount.number)
-          × ((retyped_if mount (chosen mount)).propagation ≡ mount.propagation)
-      by true e =
-          absurd (true≢false (sym e ∙ named_numbers world live mount.number named
-          ∙ sym (ap (λ b. is_among nat_eq (retyped_if mount b).number (numbers_of named)) e) ∙ apart))
-      by false e = (ap (λ b. (retyped_if mount b).number) e, ap (λ b. (retyped_if mount b).propagation) e)
+    others_keep : (mount : Mount ℕ)
+        → is_among nat_eq (retyped_mount nat_eq group word named mount).number (numbers_of named) ≡ false
+        → ((retyped_mount nat_eq group word named mount).number ≡ mount.number)
+        × ((retyped_mount nat_eq group word named mount).propagation ≡ mount.propagation)
+    others_keep mount apart = by (chosen mount) refl
+      where
+        by : (b : Bool) → chosen mount ≡ b
+            → ((retyped_if mount (chosen mount)).number ≡ mount.number)
+            × ((retyped_if mount (chosen mount)).propagation ≡ mount.propagation)
+        by true e =
+            absurd (true≢false (sym e ∙ named_numbers world live mount.number named
+            ∙ sym (ap (λ b. is_among nat_eq (retyped_if mount b).number (numbers_of named)) e) ∙ apart))
+        by false e = (ap (λ b. (retyped_if mount b).number) e, ap (λ b. (retyped_if mount b).propagation) e)
 
 -- where they get a type
 pub retyping_is_seen : RetypingIsSeen

@@ -161,11 +161,11 @@ module _ (grammar : Grammar) where
             let kept : is_kept allotment number ≡ true = ap is_kept_lot e in
             let low = early number (serves.from_hand number kept) in
             let there : row (joined_with_row.there number) ≡ row (renaming.there number) =
-                ap (row) (joined-kept number kept) in
+            ap (row) (joined-kept number kept) in
             omega arith
         by (New k) e is =
             let there : row (joined_with_row.there number) ≡ suc m = ap (row) (joined-new number k e)
-                ∙ row-spread (suc m) k in
+            ∙ row-spread (suc m) k in
             omega arith
         by (LeftOver k) e is = absurd (true≢false (sym is))
 

@@ -86,7 +86,7 @@ module _ (world : World ℕ) (up : are_ascending world.mounts ≡ true) (gone : 
   entry_tells mount m place among =
       let on = among-from_flat_map (points_left_on world.mounts gone) gone (mount.number, place) among in
       let from = among-from_filter_map (point_left_of world.mounts gone)
-          (numbers_of (children nat_eq world.mounts on.0))
+      (numbers_of (children nat_eq world.mounts on.0))
       (mount.number, place) on.2 in
       by from.0 (numbered world.mounts from.0) refl from.2
     where

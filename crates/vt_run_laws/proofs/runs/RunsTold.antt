@@ -69,7 +69,7 @@ module _ (grammar : Grammar) (in_hand : ℕ → Bool) where
       tells =
       let allotment = tells.0 in
       let joint = joined_with_row grammar m renaming in_hand world (renamed renaming.there renaming.back world) refl
-          early allotment tells.1.serves in
+      early allotment tells.1.serves in
       let here : World ℕ = renamed joint.there joint.back world in
       let supplied = λ (k : ℕ).
       joined-new grammar m renaming in_hand world (renamed renaming.there renaming.back world) refl early allotment
