@@ -16,7 +16,7 @@ use Rattle.vt_permit_laws.proofs.taken.TakenAttached.{index_bound}
 use Rattle.vt_propagate.specs.declared.copying.Counts.{Counts}
 use Rattle.vt_propagate.specs.declared.copying.Graft.{Graft}
 use Rattle.vt_propagate.specs.Planned.{graft_in, numbers_at, planned_copies}
-use Rattle.vt_spec.specs.Lists.{any_pair, place_from}
+use Rattle.vt_spec.specs.Lists.{any_pair, index_from}
 use Rattle.vt_spec.specs.Machine.Attach.{copies_at, copy_at, is_destination, parts_of, twig_of}
 use Rattle.vt_spec.specs.Machine.Mounts.{Mount, group_of, index_of}
 use Rattle.vt_spec.specs.Machine.World.{World, mount_at}
@@ -33,7 +33,7 @@ differs first rest each mount m =
     ne_eqb mount.number first.number (λ e. true≢false (sym (eq-eqb first.number mount.number (sym e)) ∙ apart))
 
 abbrev pub place_in : ℕ → List (Mount ℕ) → ℕ → ℕ
-place_in k all number = unwrap_or (place_from (λ (x : Mount ℕ). nat_eq number x.number) k all) 0
+place_in k all number = unwrap_or (index_from (λ (x : Mount ℕ). nat_eq number x.number) k all) 0
 
 place_low : (k : ℕ) (all : List (Mount ℕ)) (mount : Mount ℕ) → Among mount all → k ≤ place_in k all mount.number
 place_low k [] mount m = absurd m
@@ -43,19 +43,19 @@ place_low k (first ∷ rest) mount m =
     (λ later. low (nat_eq mount.number first.number) (place_low (k + 1) rest mount later)) m
   where
     by : (b : Bool) → b ≡ true → k ≤ unwrap_or
-        (cond b (Some k) (place_from (λ (x : Mount ℕ). nat_eq mount.number x.number) (k + 1) rest)) 0
+        (cond b (Some k) (index_from (λ (x : Mount ℕ). nat_eq mount.number x.number) (k + 1) rest)) 0
     by true is = omega arith
     by false is = absurd (true≢false (sym is))
 
     low : (b : Bool) → k + 1 ≤ place_in (k + 1) rest mount.number
-        → k ≤ unwrap_or (cond b (Some k) (place_from (λ (x : Mount ℕ). nat_eq mount.number x.number) (k + 1) rest)) 0
+        → k ≤ unwrap_or (cond b (Some k) (index_from (λ (x : Mount ℕ). nat_eq mount.number x.number) (k + 1) rest)) 0
     low true le = omega arith
     low false le = omega (arith, le)
 
 -- the first of a list, and each later one
 pub place_first : (k : ℕ) (first : Mount ℕ) (rest : List (Mount ℕ)) → place_in k (first ∷ rest) first.number ≡ k
 place_first k first rest =
-    ap (λ b. unwrap_or (cond b (Some k) (place_from (λ (x : Mount ℕ). nat_eq first.number x.number) (k + 1) rest)) 0)
+    ap (λ b. unwrap_or (cond b (Some k) (index_from (λ (x : Mount ℕ). nat_eq first.number x.number) (k + 1) rest)) 0)
     (eq-eqb first.number first.number refl)
 
 pub place_later : (k : ℕ) (first : Mount ℕ) (rest : List (Mount ℕ)) → OneNumberAMount (first ∷ rest)
@@ -63,7 +63,7 @@ pub place_later : (k : ℕ) (first : Mount ℕ) (rest : List (Mount ℕ)) → On
     → Among mount rest
     → place_in k (first ∷ rest) mount.number ≡ place_in (k + 1) rest mount.number
 place_later k first rest each mount m =
-    ap (λ b. unwrap_or (cond b (Some k) (place_from (λ (x : Mount ℕ). nat_eq mount.number x.number) (k + 1) rest)) 0)
+    ap (λ b. unwrap_or (cond b (Some k) (index_from (λ (x : Mount ℕ). nat_eq mount.number x.number) (k + 1) rest)) 0)
     (differs first rest each mount m)
 
 -- Numbers that grow with their places

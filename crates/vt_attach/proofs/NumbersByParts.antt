@@ -9,8 +9,8 @@ use Rattle.vt_permit_laws.proofs.taken.TakenNumbers.{counted_later}
 use Rattle.vt_permit_laws.specs.Left.{left_by}
 use Rattle.vt_permit_laws.specs.Named.{permit_named}
 use Rattle.vt_run_laws.specs.Handed.{counts_from, handed_from, is_counted_before}
-use Rattle.vt_spec.specs.Lists.{Fresh, odds, place_from}
-use Rattle.vt_spec.specs.Machine.Attach.{Copies, attach, attached_by, bind_tree, copies_from, index_of_group, numbered, parts_of}
+use Rattle.vt_spec.specs.Lists.{Fresh, odds, index_from}
+use Rattle.vt_spec.specs.Machine.Attach.{Copies, attach, attached_by, bind_tree, copies_from, index_of_group, index_in_rows, parts_of}
 use Rattle.vt_spec.specs.Machine.Mounts.{Location, Mount, index_of, mount_tree}
 use Rattle.vt_spec.specs.Machine.Outcome.Mounting.{mounted, new_mount, plain_filesystem, with_new_filesystem}
 use Rattle.vt_spec.specs.Machine.Permits.{Permit}
@@ -29,19 +29,19 @@ use Rattle.vt_permit_laws.proofs.taken.TakenHanded.{counted_here}
 -- places in a table
 
 place_bound : {A : Type 0} (test : A → Bool) (k : ℕ) (list : List A) → 0 < k + length list
-    → unwrap_or (place_from test k list) 0 < k + length list
+    → unwrap_or (index_from test k list) 0 < k + length list
 place_bound test k [] some = some
 place_bound test k (a ∷ list) some = by (test a) (place_bound test (k + 1) list (omega arith))
   where
-    by : (b : Bool) → unwrap_or (place_from test (k + 1) list) 0 < k + 1 + length list
-        → unwrap_or (cond b (Some k) (place_from test (k + 1) list)) 0 < k + length (a ∷ list)
+    by : (b : Bool) → unwrap_or (index_from test (k + 1) list) 0 < k + 1 + length list
+        → unwrap_or (cond b (Some k) (index_from test (k + 1) list)) 0 < k + length (a ∷ list)
     by true later = omega arith
     by false later = omega (arith, later)
 
-in_table : (size k i rows : ℕ) → k < rows → i < size → numbered size k i < rows * size
+in_table : (size k i rows : ℕ) → k < rows → i < size → index_in_rows size k i < rows * size
 in_table size k i rows low less =
     let all : rows ≡ k + 1 + (rows - (k + 1)) = omega (arith, low) in
-    subst (λ n. numbered size k i < n * size) (sym all) (omega (arith, less))
+    subst (λ n. index_in_rows size k i < n * size) (sym all) (omega (arith, less))
 
 -- Two supplies with the same first numbers
 
@@ -52,7 +52,8 @@ module _ (parts tree : List (Mount ℕ)) (some_parts : 0 < length parts) (some :
   copy_same part origin =
       let less = in_table (length tree) (index_of nat_eq parts part) (index_of nat_eq tree origin) (length parts)
       (index_bound parts part some_parts) (index_bound tree origin some) in
-      same (2 * numbered (length tree) (index_of nat_eq parts part) (index_of nat_eq tree origin)) (omega (arith, less))
+      same (2 * index_in_rows (length tree) (index_of nat_eq parts part) (index_of nat_eq tree origin)) (omega
+      (arith, less))
 
   image_same : (group origin : ℕ)
       → (copies_from nat_eq fresh parts tree).image group origin
@@ -61,7 +62,7 @@ module _ (parts tree : List (Mount ℕ)) (some_parts : 0 < length parts) (some :
       let low = place_bound (is_member_of nat_eq group) 0 parts (omega (arith, some_parts)) in
       let less = in_table (length tree) (index_of_group nat_eq parts group) (index_of nat_eq tree origin) (length parts)
       (omega (arith, low)) (index_bound tree origin some) in
-      same (2 * numbered (length tree) (index_of_group nat_eq parts group) (index_of nat_eq tree origin) + 1)
+      same (2 * index_in_rows (length tree) (index_of_group nat_eq parts group) (index_of nat_eq tree origin) + 1)
       (omega (arith, less))
 
   copies_same : copies_from nat_eq fresh parts tree ≡ copies_from nat_eq again parts tree

@@ -14,7 +14,7 @@ use Rattle.vt_location.specs.Locations.{location_of}
 use Rattle.vt_location.specs.Numbers.{counted}
 use Rattle.vt_mount.specs.MountsValue.{MountEntry, are_ascending, changed, entry_numbered, held, mounts_in, released, uses_of, writers_of}
 use Rattle.vt_run_laws.specs.Handed.{counts_from}
-use Rattle.vt_spec.specs.Lists.{place_from}
+use Rattle.vt_spec.specs.Lists.{index_from}
 use Rattle.vt_spec.specs.Machine.Mounts as meant
 use Rattle.vt_spec.specs.Machine.Mounts.{Mount, index_of}
 use Rattle.vt_spec.specs.Machine.Namespaces.{location_on_copy}
@@ -32,7 +32,7 @@ use Rattle.vt_mount.specs.Indexes.{same_namespace}
 -- Places in an ascending list
 
 abbrev place : ℕ → ℕ → List (Mount ℕ) → ℕ
-place number k all = unwrap_or (place_from (λ mount. nat_eq number mount.number) k all) 0
+place number k all = unwrap_or (index_from (λ mount. nat_eq number mount.number) k all) 0
 
 placed_after : (k : ℕ) (all : List (Mount ℕ)) (mount : Mount ℕ) → Among mount all → k ≤ place mount.number k all
 placed_after k [] mount m = absurd m
@@ -40,7 +40,7 @@ placed_after k (first ∷ rest) mount m = by (nat_eq mount.number first.number) 
   where
     by : (b : Bool) → nat_eq mount.number first.number ≡ b
         → (Among mount rest → k + 1 ≤ place mount.number (k + 1) rest)
-        → k ≤ unwrap_or (cond b (Some k) (place_from (λ (x : Mount ℕ). nat_eq mount.number x.number) (k + 1) rest)) 0
+        → k ≤ unwrap_or (cond b (Some k) (index_from (λ (x : Mount ℕ). nat_eq mount.number x.number) (k + 1) rest)) 0
     by true e after = omega arith
     by false e after =
         ⊎_elim
@@ -67,14 +67,14 @@ places_rise k (first ∷ rest) rising a b m n less =
     let not_b : nat_eq b.number first.number
     ≡ false = ne_eqb b.number first.number (λ e. absurd (omega (arith, more_b, e))) in
     subst (λ t. place a.number k (first ∷ rest) < unwrap_or
-    (cond t (Some k) (place_from (λ (x : Mount ℕ). nat_eq b.number x.number) (k + 1) rest)) 0) (sym not_b)
+    (cond t (Some k) (index_from (λ (x : Mount ℕ). nat_eq b.number x.number) (k + 1) rest)) 0) (sym not_b)
     (⊎_elim
     (λ same_a.
     let is_a : nat_eq a.number first.number
     ≡ true = eq-eqb a.number first.number (ap (λ (x : Mount ℕ). x.number) same_a) in
     let after = placed_after (k + 1) rest b later_b in
     subst (λ t. unwrap_or (cond t (Some k)
-    (place_from (λ (x : Mount ℕ). nat_eq a.number x.number) (k + 1) rest)) 0 < place b.number (k + 1) rest)
+    (index_from (λ (x : Mount ℕ). nat_eq a.number x.number) (k + 1) rest)) 0 < place b.number (k + 1) rest)
     (sym is_a)
     (omega (arith, after)))
     (λ later_a.
@@ -83,7 +83,7 @@ places_rise k (first ∷ rest) rising a b m n less =
     let not_a : nat_eq a.number first.number
     ≡ false = ne_eqb a.number first.number (λ e. absurd (omega (arith, more_a, e))) in
     subst (λ t. unwrap_or (cond t (Some k)
-    (place_from (λ (x : Mount ℕ). nat_eq a.number x.number) (k + 1) rest)) 0 < place b.number (k + 1) rest)
+    (index_from (λ (x : Mount ℕ). nat_eq a.number x.number) (k + 1) rest)) 0 < place b.number (k + 1) rest)
     (sym not_a)
     (places_rise (k + 1) rest parts.1 a b later_a later_b less)) m)) n
 

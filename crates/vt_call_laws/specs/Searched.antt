@@ -58,9 +58,9 @@ pub data Way (world : World ℕ) (task : Task ℕ)
 pub data WayToName (world : World ℕ) (task : Task ℕ)
     : Location ℕ → List (List ℕ) → List (Location ℕ) → Location ℕ → LastWord → Type 0 where
   no_name : (here : Location ℕ) → WayToName world task here [] [] here NoWord
-  name_in : (start directory : Location ℕ) (front : List (List ℕ)) (word : List ℕ) (passed : List (Location ℕ))
-      → Way world task start front passed directory
-      → WayToName world task start (front ++ word ∷ []) (passed ++ directory ∷ []) directory (last_word word)
+  name_in : (start directory : Location ℕ) (prefix : List (List ℕ)) (word : List ℕ) (passed : List (Location ℕ))
+      → Way world task start prefix passed directory
+      → WayToName world task start (prefix ++ word ∷ []) (passed ++ directory ∷ []) directory (last_word word)
 
 -- The way to the directory of a file that is opened or made: if the last word names a symlink, that of its text.
 pub data WayToFile (world : World ℕ) (task : Task ℕ)

@@ -21,16 +21,16 @@ pub(crate) fn change_mounts(
     ensures { EndsGiven world.old name.now permit result world.new }
 {
     match permit {
-        Permit::ToMountPlain { place, flags } => {
+        Permit::ToMountPlain { destination, flags } => {
             world.next_root_is_vacant();
-            done(world.mount_plain(name, place, flags))
+            done(world.mount_plain(name, destination, flags))
         }
         Permit::ToBind {
             source,
-            place,
+            destination,
             recursive,
-        } => done(world.bind(name, source, place, recursive)),
-        Permit::ToMove { mount, place } => done(world.move_mount(name, mount, place)),
+        } => done(world.bind(name, source, destination, recursive)),
+        Permit::ToMove { mount, destination } => done(world.move_mount(name, mount, destination)),
         Permit::ToUnmount { mount } => done(world.unmount(name, mount)),
         Permit::ToUnmountLazily { mount } => done(world.unmount_lazily(name, mount)),
         Permit::ToSetFlags { mount, flags } => {

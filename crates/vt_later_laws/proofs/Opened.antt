@@ -18,7 +18,7 @@ use Rattle.vt_spec.specs.Language.Answers.Answer.{Opened}
 use Rattle.vt_spec.specs.Machine.Permits.{Permit}
 use Rattle.vt_spec.specs.Machine.Permits.Permit.{ToOpen}
 use Rattle.vt_spec.specs.Machine.Rules.Descriptors.{descriptor_rules, open_rules}
-use Rattle.vt_spec.specs.Machine.Filesystems.{lies_below}
+use Rattle.vt_spec.specs.Machine.Filesystems.{lies_only_in_lowers}
 use Rattle.vt_spec.specs.Machine.Walking.{Here, Stop, object_walk, walk_end}
 use Rattle.vt_spec.specs.Machine.World.{Descriptor, Task, World, mount_at, replaced_if_called, task_called, with_task}
 use Rattle.vt_spec.specs.Machine.Invariants.{are_ascending_from, is_within_limits}
@@ -134,7 +134,7 @@ pub open_spent : (fresh : Fresh ℕ) (world : World ℕ) (plain : IsPlain world)
     (access : Access) → apply nat_eq fresh world task (ToOpen file access) ≡ opened world task file access
 open_spent fresh world plain task file access =
     ap (λ b. opened (with_copy nat_eq b fresh world file) task file access)
-    (ap (λ o. opens_for_writing access && overlay_or false (λ overlay. lies_below overlay file.node) o)
+    (ap (λ o. opens_for_writing access && overlay_or false (λ overlay. lies_only_in_lowers overlay file.node) o)
     (plain_numbered world plain (mount_at nat_eq world file).filesystem) ∙ and-false (opens_for_writing access))
 
 pub opened_number : (a b : ℕ) → Path (Result Answer Deny) (Ok (Opened a)) (Ok (Opened b)) → b ≡ a

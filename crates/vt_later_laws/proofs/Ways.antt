@@ -202,13 +202,14 @@ module _ (looks later : Looks ℕ) (task reader : Task ℕ) (Refused : Deny → 
         λ known steps. inl ((steps, λ i. Ok (at (same i) steps)), subst (λ (h : Here ℕ). Known h.location) same known),
       )
   words_too most follow other follows start (word ∷ front) end less e =
-      let fronts = both_walked (words_walked nat_eq looks task follow start front) _ end e in
-      let reached = fronts.0 in
+      let prefixes = both_walked (words_walked nat_eq looks task follow start front) _ end e in
+      let reached = prefixes.0 in
       let nexts = both_walked (word_walked nat_eq looks task reached (last_word word))
-      (λ next. if_symlink next (symlink_text (looks.node next.location)) (follow reached.location next)) end fronts.2 in
+      (λ next. if_symlink next (symlink_text (looks.node next.location))
+      (follow reached.location next)) end prefixes.2 in
       let next = nexts.0 in
       let gave = word_gave looks task reached next (last_word word) nexts.1 in
-      let before = words_too most follow other follows start front reached less fronts.1 in
+      let before = words_too most follow other follows start front reached less prefixes.1 in
       let fewer : reached.left ≤ start.left = before.0 in
       let same : next.left ≡ reached.left = gave.2 in
       let after = linked reached next end (symlink_text (looks.node next.location)) (omega arith) nexts.2 in (

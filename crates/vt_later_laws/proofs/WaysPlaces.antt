@@ -7,7 +7,7 @@ use Rattle.vt_spec.specs.FileTree.{symlink_text}
 use Rattle.vt_spec.specs.Language.Limits.{most_symlinks}
 use Rattle.vt_spec.specs.Machine.Looks.{Looks, is_directory_at}
 use Rattle.vt_spec.specs.Machine.Mounts.{Location}
-use Rattle.vt_spec.specs.Machine.Walking.{Here, LastWord, Place, Stop, directory_walk, final_word, followed, front_walked, if_symlink, is_special, last_walked, last_word, object_named, object_walk, path_text, path_walked, place_walk, placed, search_rules, slash_rules, stepped, steps_at, steps_with, stopped_by, symlink_walk, symlink_walk_by, then_walk, walk_start, walk_unless, word_walked, words_walked}
+use Rattle.vt_spec.specs.Machine.Walking.{Here, LastWord, Place, Stop, directory_walk, final_word, followed, prefix_walked, if_symlink, is_special, last_walked, last_word, object_named, object_walk, path_text, path_walked, place_walk, placed, search_rules, slash_rules, stepped, steps_at, steps_with, stopped_by, symlink_walk, symlink_walk_by, then_walk, walk_start, walk_unless, word_walked, words_walked}
 use Rattle.vt_spec.specs.Machine.Walking.LastWord.{Dot, DotDot, Named, NoWord}
 use Rattle.vt_spec.specs.Machine.World.{Task}
 use Rattle.vt_spec.specs.PathText.{ends_in_slash, parsed_path, path_rules, words}
@@ -84,28 +84,28 @@ named_place looks task path place e special =
     let texts = both_walked (path_text {N = ℕ} path) _ place e in
     let same : path ≡ texts.0 = path_parsed path texts.0 texts.1 in
     let rest = subst (λ text. then_walk
-    (front_walked nat_eq looks task (followed nat_eq looks task) (walk_start task text) (reverse
+    (prefix_walked nat_eq looks task (followed nat_eq looks task) (walk_start task text) (reverse
     (words text)))
     (λ here. placed nat_eq looks task here (final_word (reverse (words text))) (ends_in_slash text)) ≡ Ok place)
     (sym same) texts.2 in
     by (reverse (words path)) refl (texts.1 ∙ ap Ok (sym same)) rest
   where
     by : (list : List (List ℕ)) → reverse (words path) ≡ list → path_text {N = ℕ} path ≡ Ok path
-        → then_walk (front_walked nat_eq looks task (followed nat_eq looks task) (walk_start task path) list)
+        → then_walk (prefix_walked nat_eq looks task (followed nat_eq looks task) (walk_start task path) list)
         (λ here. placed nat_eq looks task here (final_word list) (ends_in_slash path)) ≡ Ok place
         → NamedPlace looks task path place
     by [] is parsed f = absurd (no_name NoWord place (ap (λ (p : Place ℕ). p.last) (same_end _ place f)) refl special)
     by (word ∷ front) is parsed f =
-        let fronts = both_walked (words_walked nat_eq looks task (followed nat_eq looks task)
+        let prefixes = both_walked (words_walked nat_eq looks task (followed nat_eq looks task)
         (walk_start task path) front) _ place f in
-        let ends = placed_at looks task fronts.0 (last_word word) (ends_in_slash path) place fronts.2 special in
+        let ends = placed_at looks task prefixes.0 (last_word word) (ends_in_slash path) place prefixes.2 special in
         record {
           parsed = parsed;
-          here = fronts.0;
+          here = prefixes.0;
           word = word;
           front = front;
           words_are = is;
-          walked = fronts.1;
+          walked = prefixes.1;
           searched = ends.searched;
           parent_is = ends.parent_is;
           last_is = ends.last_is;
@@ -287,10 +287,10 @@ module _ (looks later : Looks ℕ) (task reader : Task ℕ) (Refused : Deny → 
         (λ here. word_walked nat_eq later reader here (last_word parts.word))
     unfollowed_is =
         ap (λ r. then_walk r (λ text.
-        then_walk (front_walked nat_eq later reader (followed nat_eq later reader) (walk_start reader text)
+        then_walk (prefix_walked nat_eq later reader (followed nat_eq later reader) (walk_start reader text)
         (reverse (words text)))
         (λ here. last_walked nat_eq later reader here (final_word (reverse (words text)))))) parts.parsed
-        ∙ ap (λ list. then_walk (front_walked nat_eq later reader (followed nat_eq later reader)
+        ∙ ap (λ list. then_walk (prefix_walked nat_eq later reader (followed nat_eq later reader)
         (walk_start reader path) list)
         (λ here. last_walked nat_eq later reader here (final_word list))) parts.words_are
         ∙ (λ i. then_walk (words_walked nat_eq later reader (followed nat_eq later reader)

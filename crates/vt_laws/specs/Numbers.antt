@@ -15,7 +15,7 @@ use Rattle.vt_spec.specs.Language.Script.{Grammar, Who, lines_of}
 use Rattle.vt_spec.specs.Machine.Sealed.{directed}
 use Rattle.vt_spec.specs.Machine.Turns.{Progress, Sched, Turned, turn}
 use Rattle.vt_spec.specs.Machine.World.{Descriptor, Filesystem, Layer, Namespace, Overlay, Real, Task, World, opening}
-use Rattle.vt_spec.specs.Machine.World.Real.{Below, Upper}
+use Rattle.vt_spec.specs.Machine.World.Real.{Lower, Upper}
 use Rattle.vt_spec.specs.Tree.{Content, Node}
 use Rattle.vt_laws.specs.Renaming.{Leaves, Renaming}
 use Rattle.vt_spec.specs.Tree.Content.{Directory, Regular, Symlink, Whiteout}
@@ -149,7 +149,7 @@ module _ (named : ℕ → Bool) where
 
   abbrev pub real_named : Real ℕ → Bool
   real_named (Upper object) = named object
-  real_named (Below layer path) = true
+  real_named (Lower layer path) = true
 
   abbrev pub namespace_named : Namespace ℕ → Bool
   namespace_named namespace = named namespace.number

@@ -1,6 +1,6 @@
 -- What the proofs of src/directories.rt use.
 pub mod Apart
-pub mod Below
+pub mod Lower
 pub mod Fit
 pub mod Later
 pub mod Merged

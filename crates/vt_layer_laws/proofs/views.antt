@@ -1,6 +1,6 @@
 -- What the proofs of src/views.rt use.
 pub mod After
-pub mod Below
+pub mod Lower
 pub mod Entries
 pub mod Fronts
 pub mod Moves

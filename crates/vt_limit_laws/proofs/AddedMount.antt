@@ -6,7 +6,7 @@ use Rattle.std.specs.Prelude.{if◌then◌else◌, unwrap_or}
 use Rattle.vt_spec.specs.Language.Calls.{MountFlags}
 use Rattle.vt_spec.specs.Lists.{Fresh, folded, odds, then_some, when}
 use Rattle.vt_spec.specs.Machine.Apply.{apply}
-use Rattle.vt_spec.specs.Machine.Attach.{Copies, Graft, all_groups_made, copies_at, copies_from, copy_place, copy_type, graft_of, image, masters_with, nearest_image, pushed_up, receivers_of, takes_part, twig_master, twig_of, type_at, type_at_part}
+use Rattle.vt_spec.specs.Machine.Attach.{Copies, Graft, all_groups_made, copies_at, copies_from, copy_mount_point, copy_type, graft_of, image, masters_with, nearest_image, pushed_up, receivers_of, takes_part, twig_master, twig_of, type_at, type_at_part}
 use Rattle.vt_spec.specs.Machine.Mounts.{Location, Mount, group_of}
 use Rattle.vt_spec.specs.Machine.Mounts.Propagation.{Private}
 use Rattle.vt_spec.specs.Machine.Outcome.Mounting.{new_mount, plain_filesystem, with_new_filesystem}
@@ -101,7 +101,7 @@ module _ (fresh : Fresh ℕ) (world : World ℕ) (place : Location ℕ) (flags :
   alone_copies = copies_from nat_eq (odds fresh) (destination ∷ []) (origin ∷ [])
 
   -- the new mount stands at the destination
-  point_is_destination : copy_place nat_eq alone_copies alone_graft destination.number origin ≡ place
+  point_is_destination : copy_mount_point nat_eq alone_copies alone_graft destination.number origin ≡ place
   point_is_destination =
       ap (λ top. if top then (record { mount = destination.number; node = place.node }) else place)
       (eq-eqb added_filesystem.number added_filesystem.number refl)

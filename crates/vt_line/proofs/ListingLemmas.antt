@@ -4,7 +4,7 @@ use Rattle.std.proofs.lemmas.List.{drop_more}
 use Rattle.std.proofs.lemmas.List.Concat.{flat_map-append}
 use Rattle.std.specs.Global.{Vec}
 use Rattle.std.specs.List.{flat_map}
-use Rattle.vt_spec.specs.Language.Printed.{mount_line_words, place_words, printed_byte, printed_line, printed_path, spaced}
+use Rattle.vt_spec.specs.Language.Printed.{mount_line_words, mount_point_words, printed_byte, printed_line, printed_path, spaced}
 use Rattle.vt_spec.specs.Lists.{counted_from}
 use Rattle.vt_request.specs.Answers.{mount_line_of}
 use Rattle.vt_request.specs.declared.answer.MountLine.{MountLine}
@@ -38,13 +38,16 @@ printed_path-steps (name ∷ names) some = steps (name ∷ names)
 -- the line of a mount, piece by piece
 pub mount_text : (digits : List ℕ) (number place : ℕ) (line : Line) → digits ≡ decimal number →
     printed_line number (mount_line_words (place, line))
-    ≡ digits ++ ((32 ∷ decimal place) ++ (spaced (place_words line.mount_point) ++ (spaced (shown_words line) ++ codes "\n")))
+    ≡ digits ++ ((32 ∷ decimal place) ++ (spaced (mount_point_words line.mount_point)
+    ++ (spaced (shown_words line) ++ codes "\n")))
 mount_text digits number place line e =
     let first : List ℕ = 32 ∷ decimal place in
-    let point = spaced (place_words line.mount_point) in
+    let point = spaced (mount_point_words line.mount_point) in
     let shown = spaced (shown_words line) in
-    ap (λ digits. (digits ++ (first ++ spaced (place_words line.mount_point ++ shown_words line))) ++ codes "\n") (sym e)
-    ∙ append_assoc digits (first ++ spaced (place_words line.mount_point ++ shown_words line)) (codes "\n")
-    ∙ ap (λ words. digits ++ ((first ++ words) ++ codes "\n")) (flat_map-append (λ word. 32 ∷ word) (place_words line.mount_point) (shown_words line))
+    ap (λ digits. (digits ++ (first ++ spaced (mount_point_words line.mount_point ++ shown_words line)))
+    ++ codes "\n") (sym e)
+    ∙ append_assoc digits (first ++ spaced (mount_point_words line.mount_point ++ shown_words line)) (codes "\n")
+    ∙ ap (λ words. digits ++ ((first ++ words) ++ codes "\n")) (flat_map-append (λ word. 32
+    ∷ word) (mount_point_words line.mount_point) (shown_words line))
     ∙ ap (λ rest. digits ++ rest) (append_assoc first (point ++ shown) (codes "\n"))
     ∙ ap (λ rest. digits ++ (first ++ rest)) (append_assoc point shown (codes "\n"))

@@ -1,6 +1,6 @@
 //! How the list of mounts is printed, without taking memory.
 ghost use Rattle.std.specs.Prelude.{◌≡◌, ◌+◌, ◌^◌, ◌<◌, [], ◌∷◌, ◌++◌, codes, decimal, if◌then◌else◌, option_map};
-ghost use Rattle.vt_spec.specs.Language.Printed.{kind_word, mount_line_words, place_words, printed_flags, printed_line, printed_spot, printed_type, spaced};
+ghost use Rattle.vt_spec.specs.Language.Printed.{kind_word, mount_line_words, mount_point_words, printed_flags, printed_line, printed_spot, printed_type, spaced};
 ghost use Rattle.vt_io.specs.Sink.{Prints};
 ghost use Rattle.vt_cred.specs.MountFlags.{flags_of};
 ghost use Rattle.vt_request.specs.Answers.{mount_line_of, spot_of, type_line_of};
@@ -45,7 +45,7 @@ fn write_spot<W: Sink>(sink: &mut W, spot: &Spot) -> Result<(), SinkFailed>
 /// The mount that a mount stands on by its place in the list, and where it stands there; `- -` for a root mount.
 fn write_mount_point<W: Sink>(sink: &mut W, point: &Option<(usize, Spot)>) -> Result<(), SinkFailed>
     requires countable { W.failures sink.old + 1 < 2 ^ 64 }
-    ensures printed { let words = place_words (option_map mount_point_of point.now) in
+    ensures printed { let words = mount_point_words (option_map mount_point_of point.now) in
         Prints W.Sink (spaced words) result sink.old sink.new }
 {
     match point {

@@ -13,7 +13,7 @@ use Rattle.vt_location.specs.declared.numbers.FilesystemId.{FilesystemId}
 use Rattle.vt_location.specs.declared.numbers.GroupId.{GroupId}
 use Rattle.vt_location.specs.declared.numbers.MountId.{MountId}
 use Rattle.vt_location.specs.Numbers.{counted}
-use Rattle.vt_spec.specs.Lists.{each_once, place_from}
+use Rattle.vt_spec.specs.Lists.{each_once, index_from}
 use Rattle.vt_spec.specs.Machine.Listing.{number_among}
 use Rattle.vt_spec.specs.Machine.Mounts.{Mount}
 use Rattle.vt_mount.specs.Attached.{AreOf}
@@ -170,7 +170,7 @@ next_to a b m n up over = by (nat_lt m n) refl (nat_lt a b) refl
         (omega (arith, less, more, up, over))
 
 place_by_position : {A : Type 0} (test : A → Bool) (k : ℕ) (xs : List A)
-    → place_from test k xs ≡ option_map (λ i. k + i) (position test xs)
+    → index_from test k xs ≡ option_map (λ i. k + i) (position test xs)
 place_by_position test k [] = refl
 place_by_position {A} test k (x ∷ xs) = by (test x) (place_by_position test (k + 1) xs)
   where
@@ -185,8 +185,8 @@ place_by_position {A} test k (x ∷ xs) = by (test x) (place_by_position test (k
     later true = ap Some (let same : k + 1 + first ≡ k + (1 + first) = omega arith in same)
     later false = refl
 
-    by : (b : Bool) → place_from test (k + 1) xs ≡ option_map (λ i. k + 1 + i) (position test xs)
-        → cond b (Some k) (place_from test (k + 1) xs)
+    by : (b : Bool) → index_from test (k + 1) xs ≡ option_map (λ i. k + 1 + i) (position test xs)
+        → cond b (Some k) (index_from test (k + 1) xs)
         ≡ option_map (λ i. k + i) (cond (nat_lt (place b) (length (x ∷ xs))) (Some (place b)) None)
     by true rest =
         ap Some (let same : k ≡ k + 0 = omega arith in same)
@@ -199,7 +199,7 @@ place_by_position {A} test k (x ∷ xs) = by (test x) (place_by_position test (k
 module _ {A : Type 0} (number : A → ℕ) (same : A → A → Bool)
     (tested : (a b : A) → nat_eq (number a) (number b) ≡ same a b) where
   place_by_number : (id : A) (k : ℕ) (ids : List A)
-      → place_from (nat_eq (number id)) k (map number ids) ≡ place_from (same id) k ids
+      → index_from (nat_eq (number id)) k (map number ids) ≡ index_from (same id) k ids
   place_by_number id k [] = refl
   place_by_number id k (x ∷ ids) = λ i. cond (tested id x i) (Some k) (place_by_number id (k + 1) ids i)
 
@@ -219,8 +219,8 @@ pub grouped_index : (id : GroupId) (ids : List GroupId) (o : Option ℕ) → pos
 grouped_index id ids o is = index_by_number (λ (one : GroupId). counted one.count) group_eq groups_tested id ids o is
 
 mapped_places : (n k : ℕ) (all : List (Mount ℕ))
-    → place_from (λ (mount : Mount ℕ). nat_eq n mount.number) k all
-    ≡ place_from (nat_eq n) k (map (λ (mount : Mount ℕ). mount.number) all)
+    → index_from (λ (mount : Mount ℕ). nat_eq n mount.number) k all
+    ≡ index_from (nat_eq n) k (map (λ (mount : Mount ℕ). mount.number) all)
 mapped_places n k [] = refl
 mapped_places n k (mount ∷ all) = λ i. cond (nat_eq n mount.number) (Some k) (mapped_places n (k + 1) all i)
 

@@ -6,7 +6,7 @@ use Rattle.vt_spec.specs.Inodes.{node_in}
 use Rattle.vt_spec.specs.Lists.{before_first, when}
 use Rattle.vt_spec.specs.Language.Answers.{Spot}
 use Rattle.vt_spec.specs.Language.Answers.Spot.{Gone}
-use Rattle.vt_spec.specs.Machine.Listing.{place_spot, root_spot, spot_of}
+use Rattle.vt_spec.specs.Machine.Listing.{mount_point_spot, root_spot, spot_of}
 use Rattle.vt_spec.specs.Machine.Mounts as meant
 use Rattle.vt_spec.specs.Machine.Mounts.{no_mount}
 use Rattle.vt_spec.specs.Machine.World.{Filesystem, filesystem_numbered}
@@ -75,13 +75,13 @@ module _ (table : MountTable) (at : Location) (got : Option Mount)
       (filesystem_numbered nat_eq (world_shown table) mount.filesystem).files mount.root (number_of at.node))
 
   found_spot : spot_by (unwrap_or (option_map mount_of got) (no_mount (counted at.mount.count)))
-      ≡ place_spot nat_eq (world_shown table) (location_of at)
+      ≡ mount_point_spot nat_eq (world_shown table) (location_of at)
   found_spot = ap (λ o. spot_by (unwrap_or o (no_mount (counted at.mount.count)))) is_found
 
   pub place_there : (mount : Mount) → got ≡ Some mount
       → spot_of (path_down nat_eq (files_at table.filesystems.now mount.root.filesystem.count) (number_of mount.root)
       (number_of at.node))
-      ≡ place_spot nat_eq (world_shown table) (location_of at)
+      ≡ mount_point_spot nat_eq (world_shown table) (location_of at)
   place_there mount some =
       ap (λ (filesystem : Filesystem ℕ). spot_of
       (path_down nat_eq filesystem.files (number_of mount.root) (number_of at.node)))
@@ -90,7 +90,7 @@ module _ (table : MountTable) (at : Location) (got : Option Mount)
       ∙ found_spot
 
   pub place_missing : got ≡ None → HasOwnNumbers table.filesystems.now at.mount.count
-      → Gone ≡ place_spot nat_eq (world_shown table) (location_of at)
+      → Gone ≡ mount_point_spot nat_eq (world_shown table) (location_of at)
   place_missing none own =
       let number : ℕ = counted at.mount.count in
       let files = files_at table.filesystems.now at.mount.count in

@@ -177,12 +177,15 @@ impl MountTable<'_> {
             → option_map {U = ℕ × answers.Spot} (λ point. (point.0, spot_of point.1)) shown
             ≡ option_map (λ place. (
               listing.number_among nat_eq (map (λ other. other.number) mounts) place.mount,
-              listing.place_spot nat_eq (world_shown self.now) place,
+              listing.mount_point_spot nat_eq (world_shown self.now) place,
             )) (option_map location_of point)) }
         ensures memory { IfErr result (λ deny. deny ≡ denial S5) }
     {
         match point {
-            Some(place) => Ok(Some((mount_place(place.mount, listed), self.place_spot(place)?))),
+            Some(place) => Ok(Some((
+                mount_place(place.mount, listed),
+                self.mount_point_spot(place)?,
+            ))),
             None => Ok(None),
         }
     }

@@ -19,10 +19,10 @@ impl MountTable<'_> {
     /// Where a mount point is: its path from the root of the mount that it is on.
     ///
     /// S5 (ENOMEM): an allocation failed.
-    pub(crate) fn place_spot(&self, place: Location) -> Result<Spot, Deny>
+    pub(crate) fn mount_point_spot(&self, place: Location) -> Result<Spot, Deny>
         requires once { NameDirectoriesOnce self.now.filesystems.now }
         ensures ok { IfOk result (λ spot. spot_of spot
-            ≡ listing.place_spot nat_eq (world_shown self.now) (location_of place)) }
+            ≡ listing.mount_point_spot nat_eq (world_shown self.now) (location_of place)) }
         ensures memory { IfErr result (λ deny. deny ≡ denial S5) }
     {
         if let Some(mount) = self.mounts.get(place.mount) {

@@ -40,9 +40,9 @@ is_at_or_below looks top mount = list_any (λ other. nat_eq other.number mount) 
 
 -- the permit that attaches this
 abbrev pub permit_of : Attachment → Permit ℕ
-permit_of (Plain place flags) = ToMountPlain (location_of place) (flags_of flags)
-permit_of (Bind source place recursive) = ToBind (location_of source) (location_of place) recursive
-permit_of (Move mount place) = ToMove (counted mount.count) (location_of place)
+permit_of (Plain destination flags) = ToMountPlain (location_of destination) (flags_of flags)
+permit_of (Bind source destination recursive) = ToBind (location_of source) (location_of destination) recursive
+permit_of (Move mount destination) = ToMove (counted mount.count) (location_of destination)
 
 -- no location is in an overlay: no mounter's rights are checked, no lower layer has a directory, and nothing is locked
 pub record HasNoOverlays (looks : Looks ℕ) : Type 0 where

@@ -6,7 +6,7 @@ ghost use Rattle.vt_spec.specs.Machine.Looks.{Looks, mount_at, topmost};
 ghost use Rattle.std.specs.List.{list_any};
 ghost use Rattle.vt_spec.specs.Machine.Mounts.{is_unbindable};
 ghost use Rattle.vt_spec.specs.Machine.Permits.{Permit};
-ghost use Rattle.vt_spec.specs.Machine.Rules.Conditions.{is_point_anywhere, is_point_in};
+ghost use Rattle.vt_spec.specs.Machine.Rules.Conditions.{is_mount_point_anywhere, is_mount_point_in};
 ghost use Rattle.vt_location.specs.Locations.{location_of, number_of};
 ghost use Rattle.vt_location.specs.Numbers.{counted};
 ghost use Rattle.vt_looks.specs.Looking.{HasNoOverlays, IsGround, is_at_or_below, mount_seen, node_seen, permit_of};
@@ -22,19 +22,19 @@ use vt_spec::errors::Deny;
 pub enum Attachment {
     /// The mount of a new, empty filesystem: mount(2) of a tmpfs.
     Plain {
-        place: Location,
+        destination: Location,
         flags: MountFlags,
     },
     /// A copy of the mount of a source, or of its tree: mount(2) with `MS_BIND`, and `MS_REC`.
     Bind {
         source: Location,
-        place: Location,
+        destination: Location,
         recursive: bool,
     },
     /// A mount with its descendants: mount(2) with `MS_MOVE`.
     Move {
         mount: MountId,
-        place: Location,
+        destination: Location,
     },
 }
 
@@ -70,12 +70,12 @@ pub trait Look {
         ensures { location_of result ≡ topmost (looks self.now) (location_of at) };
 
     /// Whether a mount of this namespace stands on a directory, through whatever mount that is seen: EBUSY of rmdir(2).
-    fn is_point_in(&self, namespace: NamespaceId, at: Location) -> bool
-        ensures { result ≡ is_point_in nat_eq (looks self.now) (counted namespace.count) (location_of at) };
+    fn is_mount_point_in(&self, namespace: NamespaceId, at: Location) -> bool
+        ensures { result ≡ is_mount_point_in nat_eq (looks self.now) (counted namespace.count) (location_of at) };
 
     /// Whether a mount of any namespace stands on a directory: EBUSY of rename(2).
-    fn is_point_anywhere(&self, at: Location) -> bool
-        ensures { result ≡ is_point_anywhere (looks self.now) (location_of at) };
+    fn is_mount_point_anywhere(&self, at: Location) -> bool
+        ensures { result ≡ is_mount_point_anywhere (looks self.now) (location_of at) };
 
     /// The inode at a location.
     fn node(&self, at: Location) -> Option<&Node>

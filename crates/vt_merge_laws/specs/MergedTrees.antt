@@ -1,7 +1,7 @@
 -- The tree of an overlay is a function of what its layers show, of the numbers that objects have, and of what is held
 -- without a name: the kernel's overlayfs document, "upper and lower", "directories" and "non-directories".
 use Rattle.std.specs.Prelude.{List, Option, Some, [], false, filter_map, map, nat_eq, option_map, slice_get, unwrap_or, ℕ, ◌++◌, ◌∷◌, ◌≡◌, ◌≢◌}
-use Rattle.vt_spec.specs.Lists.{front_of, then_some}
+use Rattle.vt_spec.specs.Lists.{without_last, then_some}
 use Rattle.vt_spec.specs.Machine.Layers.{OpenLayer, names_shown}
 use Rattle.vt_spec.specs.Machine.World.{Filesystem, Overlay, Real, World, filesystem_numbered, open_layer, shown_layers}
 use Rattle.vt_spec.specs.Machine.Invariants.{IsMerged, IsWorld, ListsNumbers, node_shown, number_at_path, real_node, real_shown}
@@ -44,7 +44,7 @@ entries_shown number_of world overlay path =
     (names_shown (layers_shown world overlay) path)
 
 abbrev pub parent_shown : (Real ℕ → ℕ) → World ℕ → Overlay ℕ → List (List ℕ) → ℕ
-parent_shown number_of world overlay path = unwrap_or (number_shown number_of world overlay (front_of path)) 0
+parent_shown number_of world overlay path = unwrap_or (number_shown number_of world overlay (without_last path)) 0
 
 -- the inode at a path,
 abbrev pub content_as : ℕ → Entries ℕ → Content ℕ → Content ℕ

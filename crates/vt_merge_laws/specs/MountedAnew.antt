@@ -6,7 +6,7 @@ use Rattle.vt_spec.specs.Language.Calls.{MountFlags, OverlayWords, TaskName}
 use Rattle.vt_spec.specs.Language.Calls.Call.{MountOverlay}
 use Rattle.vt_spec.specs.Lists.{Fresh, evens}
 use Rattle.vt_spec.specs.Machine.Invariants.{IsWorld, OverlayInvariants, TreeInvariants, number_at_path}
-use Rattle.vt_spec.specs.Machine.Outcome.Mounting.{LayerPlaces, layers_walked, overlay_at}
+use Rattle.vt_spec.specs.Machine.Outcome.Mounting.{LayerLocations, layers_walked, overlay_at}
 use Rattle.vt_spec.specs.Machine.Policy.{call_outcome, numbers_raised, policy}
 use Rattle.vt_spec.specs.Machine.Run.{Serves}
 use Rattle.vt_spec.specs.Machine.Settled.{settled}
@@ -39,7 +39,7 @@ number_mounted fresh = evens (evens fresh) 0
 abbrev pub MountedAnewShowsTheSame : Type 0
 MountedAnewShowsTheSame =
     (fresh : Fresh ℕ) (before later : World ℕ) (number : ℕ) (left : Overlay ℕ) (task : Task ℕ) (path : List ℕ)
-    (words : OverlayWords) (flags : MountFlags) (places : LayerPlaces ℕ)
+    (words : OverlayWords) (flags : MountFlags) (places : LayerLocations ℕ)
     → IsWorld nat_eq before → (filesystem_numbered nat_eq before number).overlay ≡ Some left
     → IsWorld nat_eq later → AreNewNumbers fresh later → task_called later task.name ≡ Some task
     → (policy nat_eq fresh later task.name (MountOverlay path (Some words) flags)).answer ≡ Ok Done
@@ -59,7 +59,7 @@ AreKept before later layers =
 abbrev pub MountedOverTheSameLayers : Type 0
 MountedOverTheSameLayers =
     (fresh : Fresh ℕ) (before later : World ℕ) (number : ℕ) (left : Overlay ℕ) (task : Task ℕ) (path : List ℕ)
-    (words : OverlayWords) (flags : MountFlags) (places : LayerPlaces ℕ)
+    (words : OverlayWords) (flags : MountFlags) (places : LayerLocations ℕ)
     → IsWorld nat_eq before → (filesystem_numbered nat_eq before number).overlay ≡ Some left
     → IsWorld nat_eq later → AreNewNumbers fresh later → task_called later task.name ≡ Some task
     → (policy nat_eq fresh later task.name (MountOverlay path (Some words) flags)).answer ≡ Ok Done
@@ -80,7 +80,7 @@ LinkTheSame one other =
 abbrev pub MountedAnewLinksTheSame : Type 0
 MountedAnewLinksTheSame =
     (fresh : Fresh ℕ) (before later : World ℕ) (number : ℕ) (left : Overlay ℕ) (task : Task ℕ) (path : List ℕ)
-    (words : OverlayWords) (flags : MountFlags) (places : LayerPlaces ℕ)
+    (words : OverlayWords) (flags : MountFlags) (places : LayerLocations ℕ)
     → IsWorld nat_eq before → (filesystem_numbered nat_eq before number).overlay ≡ Some left
     → IsWorld nat_eq later → AreNewNumbers fresh later → task_called later task.name ≡ Some task
     → (policy nat_eq fresh later task.name (MountOverlay path (Some words) flags)).answer ≡ Ok Done
@@ -117,7 +117,7 @@ PolicyMountsAWorld =
 -- tree: W8 refuses one that was removed.
 abbrev pub LayersAreReached : Type 0
 LayersAreReached =
-    (world : World ℕ) (task : Task ℕ) (words : OverlayWords) (places : LayerPlaces ℕ)
+    (world : World ℕ) (task : Task ℕ) (words : OverlayWords) (places : LayerLocations ℕ)
     → IsWorld nat_eq world → layers_walked nat_eq world task words ≡ Ok places
     → All (λ (layer : Layer ℕ).
     IsReached (filesystem_numbered nat_eq world layer.filesystem).files.tree layer.directory)
@@ -127,7 +127,7 @@ LayersAreReached =
 abbrev pub MountedLayersAreReached : Type 0
 MountedLayersAreReached =
     (fresh : Fresh ℕ) (world : World ℕ) (task : Task ℕ) (path : List ℕ) (words : OverlayWords) (flags : MountFlags)
-    (places : LayerPlaces ℕ)
+    (places : LayerLocations ℕ)
     → IsWorld nat_eq world → AreNewNumbers fresh world → task_called world task.name ≡ Some task
     → (policy nat_eq fresh world task.name (MountOverlay path (Some words) flags)).answer ≡ Ok Done
     → layers_walked nat_eq world task words ≡ Ok places

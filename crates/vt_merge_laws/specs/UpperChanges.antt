@@ -6,12 +6,12 @@ use Rattle.vt_spec.specs.declared.attributes.Attr.{Attr}
 use Rattle.vt_spec.specs.Language.Changes.{changed, changed_node, content_with_parent, node_with_attr, node_with_mark, with_inode, with_moved}
 use Rattle.vt_spec.specs.Language.Changes.Change.{AddName, CopyUp, Make, Move, Remove, SetAttr, SetBytes, SetMark}
 use Rattle.vt_spec.specs.FileTree.{FileTree}
-use Rattle.vt_spec.specs.Lists.{Fresh, evens, folded, front_of, fronts, last_or, odds, then_some, when}
+use Rattle.vt_spec.specs.Lists.{Fresh, evens, folded, without_last, prefixes, last_or, odds, then_some, when}
 use Rattle.vt_spec.specs.Machine.CopyUp.{Merge, Stack, copied_content, copied_up, emptied, is_directory_shown, marked, merge_changed, name_left_by}
-use Rattle.vt_spec.specs.Machine.Layers.{OpenLayer, Shown, below, node_at_path, shown}
+use Rattle.vt_spec.specs.Machine.Layers.{OpenLayer, Shown, shown_in_lowers, node_at_path, shown}
 use Rattle.vt_spec.specs.Machine.Merging.{layer_node}
 use Rattle.vt_spec.specs.Machine.World.{Real, upper_object}
-use Rattle.vt_spec.specs.Machine.World.Real.{Below, Upper}
+use Rattle.vt_spec.specs.Machine.World.Real.{Lower, Upper}
 use Rattle.vt_spec.specs.Machine.Invariants.{number_at_path}
 use Rattle.vt_spec.specs.Tree.{Node, is_directory_node, node_with_bytes}
 use Rattle.vt_spec.specs.TreeInvariant.{IsDirectory, led}
@@ -40,7 +40,8 @@ directory_above stack upper path =
 
 -- what lower layers show at a path, and whether it is a directory
 abbrev pub seen_below : Stack ℕ → FileTree ℕ → List (List ℕ) → Option (Shown ℕ)
-seen_below stack upper path = below (record { tree = upper.tree; directory = stack.directory }) stack.lowers path
+seen_below stack upper path = shown_in_lowers
+    (record { tree = upper.tree; directory = stack.directory }) stack.lowers path
 
 abbrev pub directory_below : Stack ℕ → FileTree ℕ → List (List ℕ) → Bool
 directory_below stack upper path = is_directory_shown (layers_with stack upper) (seen_below stack upper path)
@@ -58,16 +59,16 @@ copy_over fresh stack upper path (Some object) seen = upper
 copy_over fresh stack upper path None None = upper
 copy_over fresh stack upper path None (Some node) =
     changed nat_eq upper
-    (Make (object_above stack upper (front_of path)) (last_or [] path) (fresh (length path))
-    (copy_node (object_above stack upper (front_of path)) node))
+    (Make (object_above stack upper (without_last path)) (last_or [] path) (fresh (length path))
+    (copy_node (object_above stack upper (without_last path)) node))
 
 abbrev pub copied_at : Fresh ℕ → Stack ℕ → FileTree ℕ → List (List ℕ) → FileTree ℕ
 copied_at fresh stack upper path = copy_over fresh stack upper path (led_above stack upper path)
     (node_seen stack upper path)
 
--- so is what is shown at each front of a path, the shortest first
+-- so is what is shown at each prefix of a path, the shortest first
 abbrev pub copied_to : Fresh ℕ → Stack ℕ → FileTree ℕ → List (List ℕ) → FileTree ℕ
-copied_to fresh stack upper path = folded (copied_at fresh stack) upper (fronts path)
+copied_to fresh stack upper path = folded (copied_at fresh stack) upper (prefixes path)
 
 -- An object at a path, or one without a name, with its real object.
 pub data Place : Type 0 where
@@ -90,20 +91,20 @@ held_over fresh upper (Some node) = with_inode nat_eq upper (fresh 0) (copy_node
 abbrev pub copied_for : Fresh ℕ → Stack ℕ → FileTree ℕ → Place → FileTree ℕ
 copied_for fresh stack upper (Named path) = copied_to fresh stack upper path
 copied_for fresh stack upper (Held (Upper object)) = upper
-copied_for fresh stack upper (Held (Below layer path)) = held_over fresh upper (node_below stack layer path)
+copied_for fresh stack upper (Held (Lower layer path)) = held_over fresh upper (node_below stack layer path)
 
 -- the upper object of what is copied
 abbrev pub object_of : Fresh ℕ → Stack ℕ → FileTree ℕ → Place → ℕ
 object_of fresh stack upper (Named path) = unwrap_or (led_above stack upper path) (fresh (length path))
 object_of fresh stack upper (Held (Upper object)) = object
-object_of fresh stack upper (Held (Below layer path)) = fresh 0
+object_of fresh stack upper (Held (Lower layer path)) = fresh 0
 
 -- new numbers differ, and no inode of the upper layer's tree has one
 pub record AreNew (fresh : Fresh ℕ) (upper : FileTree ℕ) : Type 0 where
   pub distinct : (j k : ℕ) → fresh j ≡ fresh k → j ≡ k
   pub unused : (k : ℕ) → upper.tree.node (fresh k) ≡ None
 
--- What copy-up makes of the upper layer: at a path those fronts are copied at which that has nothing.
+-- What copy-up makes of the upper layer: at a path those prefixes are copied at which that has nothing.
 abbrev pub CopiesAreOfFronts : Type 0
 CopiesAreOfFronts =
     (fresh : Fresh ℕ) (stack : Stack ℕ) (merge : Merge ℕ) (object : ℕ) (place : Place)
@@ -119,28 +120,28 @@ OfCopies Said =
     (fresh : Fresh ℕ) (stack : Stack ℕ) (merge : Merge ℕ) → IsWhole stack merge → AreNew fresh merge.upper
     → Said fresh stack merge
 
--- So each front leads to what it led to, or to its copy; and every other path leads where it led.
+-- So each prefix leads to what it led to, or to its copy; and every other path leads where it led.
 abbrev pub FrontsLeadToCopies : Type 0
 FrontsLeadToCopies =
     OfCopies (λ fresh stack merge.
     (path : List (List ℕ)) → is_some (number_at_path merge.files path) ≡ true
-    → ((front rest : List (List ℕ)) → front ++ rest ≡ path
-    → led_above stack (copied_to fresh stack merge.upper path) front
-    ≡ Some (unwrap_or (led_above stack merge.upper front) (fresh (length front))))
+    → ((prefix rest : List (List ℕ)) → prefix ++ rest ≡ path
+    → led_above stack (copied_to fresh stack merge.upper path) prefix
+    ≡ Some (unwrap_or (led_above stack merge.upper prefix) (fresh (length prefix))))
     × ((other : List (List ℕ)) → ((rest : List (List ℕ)) → other ++ rest ≢ path)
     → led_above stack (copied_to fresh stack merge.upper path) other ≡ led_above stack merge.upper other))
 
--- An inode at a front has for its real object what the front leads to then; every other inode keeps its own.
+-- An inode at a prefix has for its real object what the prefix leads to then; every other inode keeps its own.
 abbrev pub FrontsHaveTheirCopies : Type 0
 FrontsHaveTheirCopies =
     OfCopies (λ fresh stack merge.
     (path : List (List ℕ)) (object : ℕ) → number_at_path merge.files path ≡ Some object
-    → ((front rest : List (List ℕ)) (number : ℕ) → front ++ rest ≡ path
-    → number_at_path merge.files front ≡ Some number
+    → ((prefix rest : List (List ℕ)) (number : ℕ) → prefix ++ rest ≡ path
+    → number_at_path merge.files prefix ≡ Some number
     → (copied_up nat_eq fresh merge object).real number
-    ≡ Some (Upper (unwrap_or (led_above stack merge.upper front) (fresh (length front)))))
+    ≡ Some (Upper (unwrap_or (led_above stack merge.upper prefix) (fresh (length prefix)))))
     × ((number : ℕ)
-    → ((front rest : List (List ℕ)) → front ++ rest ≡ path → number_at_path merge.files front ≢ Some number)
+    → ((prefix rest : List (List ℕ)) → prefix ++ rest ≡ path → number_at_path merge.files prefix ≢ Some number)
     → (copied_up nat_eq fresh merge object).real number ≡ merge.real number))
 
 -- So with an object without a name.

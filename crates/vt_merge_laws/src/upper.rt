@@ -4,10 +4,10 @@ ghost use Rattle.vt_merge_laws.specs.UpperChanges.{HeldHaveTheirCopies, LinkedAb
 ghost use Rattle.vt_merge_laws.specs.BelowChanges.{BelowEnds, BelowNames, BelowNew, BelowStays};
 ghost use Rattle.vt_merge_laws.specs.UpperCalls.{AskedChangesHavePlaces, ChangesAreByLayers, UpperLayersAfterCalls, UpperLayersAfterWholeCalls};
 
-/// What a path leads to is copied up with what is shown at the fronts of the path, where the upper layer has nothing;
-/// an object without a name is copied alone. Each front then leads to its copy, every other path leads where it led,
+/// What a path leads to is copied up with what is shown at the prefixes of the path, where the upper layer has nothing;
+/// an object without a name is copied alone. Each prefix then leads to its copy, every other path leads where it led,
 /// and what lower layers show at a name is the same before the copies and after them.
-pub fn copies_are_of_fronts()
+pub fn copies_are_of_prefixes()
     ensures copies { CopiesAreOfFronts }
     ensures lead { FrontsLeadToCopies }
     ensures real { FrontsHaveTheirCopies }

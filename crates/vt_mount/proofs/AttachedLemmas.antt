@@ -16,7 +16,7 @@ use Rattle.vt_location.specs.declared.numbers.MountId.{MountId}
 use Rattle.vt_location.specs.Numbers.{counted}
 use Rattle.vt_location.proofs.NumberLemmas.{counted_test}
 use Rattle.vt_spec.proofs.Lists.{Among, among-from_filter, among_from_list_all as passes, list_all_from_among as all_pass, none_from_among as none_passes}
-use Rattle.vt_spec.specs.Lists.{holds_of, place_from}
+use Rattle.vt_spec.specs.Lists.{holds_of, index_from}
 use Rattle.vt_spec.specs.Machine.Mounts.{Mount}
 use Rattle.vt_mount.specs.Attached.{AreOf, are_rising, attached_in}
 use Rattle.vt_mount.specs.MountsValue.{MountEntry, are_ascending, mounts_in}
@@ -44,7 +44,7 @@ rises (suc i) (suc j) d (id ∷ ids) rising le within =
     (omega (arith, le)) (omega (arith, within))
 
 abbrev pub place_of : ℕ → ℕ → List MountId → Option ℕ
-place_of count k ids = place_from (λ (other : MountId). nat_eq count other.count) k ids
+place_of count k ids = index_from (λ (other : MountId). nat_eq count other.count) k ids
 
 placed : (count k i : ℕ) (d : MountId) (ids : List MountId) → are_rising ids ≡ true → i < length ids
     → (get_or ids i d).count ≡ count
@@ -109,7 +109,7 @@ module _ (ids : List MountId) (rising : are_rising ids ≡ true) (count : ℕ) w
       by (Err i) = refl
 
 pub places_alike : (count k : ℕ) (originals : List MountId) (all : List (Mount ℕ)) → AreOf originals all
-    → place_of count k originals ≡ place_from (λ mount. nat_eq (counted count) mount.number) k all
+    → place_of count k originals ≡ index_from (λ mount. nat_eq (counted count) mount.number) k all
 places_alike count k [] [] are = refl
 places_alike count k [] (mount ∷ all) are = absurd cc
 places_alike count k (id ∷ originals) [] are = absurd cc

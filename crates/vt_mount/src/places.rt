@@ -71,7 +71,7 @@ impl Mounts {
     }
 
     /// Whether an inode is a mount point in this namespace, through whatever mount it is seen: EBUSY of rmdir(2).
-    pub fn is_point_in(&self, namespace: NamespaceId, inode: NodeRef) -> bool
+    pub fn is_mount_point_in(&self, namespace: NamespaceId, inode: NodeRef) -> bool
         ensures { result
             ≡ list_any (λ mount. stands_over (number_of inode) mount
             && holds_of (nat_eq (counted namespace.count)) mount.namespace)
@@ -85,7 +85,7 @@ impl Mounts {
     }
 
     /// Whether an inode is a mount point in any namespace, through whatever mount it is seen: EBUSY of rename(2).
-    pub fn is_point_anywhere(&self, inode: NodeRef) -> bool
+    pub fn is_mount_point_anywhere(&self, inode: NodeRef) -> bool
         ensures { result ≡ list_any (λ mount. stands_over (number_of inode) mount && is_some mount.namespace)
             (mounts_in self.now) }
     {

@@ -9,7 +9,7 @@ pub mod FileCalls
 pub mod Granted
 pub mod Namespaces
 pub mod Moving
-pub mod Places
+pub mod MountPoints
 pub mod Propagation
 pub mod Receivers
 pub mod Standing

@@ -2,18 +2,18 @@
 ghost use Rattle.vt_mount_laws.specs.Mounts.Attaching.{NewMountsFollow, AttachKeepsMounts, AttachLeavesMounts, MoveKeepsMounts, MoveLeavesMounts, MovedMountsShow};
 ghost use Rattle.vt_mount_laws.specs.Mounts.Changing.{FlagsAreSet, FlagsAreOfOne, TypeIsAllThatChanges, TypeIsOfTheNamed, TypeIsTaken, AloneIsPrivate, TypesAreOfMounts};
 ghost use Rattle.vt_mount_laws.specs.Mounts.Copies.{CopiesKeepNumbers, SuppliesServeAsCopies, SuppliesServeAsImages};
-ghost use Rattle.vt_mount_laws.specs.Mounts.Invariants.{KeptByTakingAway, OneNumberEach, KeptByUnmount, KeptByEndedNamespaces, KeptByInheritance, KeptByType, KeptByFlags, AttachKeepsNumbers, UnshareKeepsNumbers, KeptByPivot, KeptByLazyUnmount, KeptBySettling, NowhereOrAttached, FlagsKeepNowhere, KeptByUnshare, UnmountLeavesOneMountAPlace, TreesLeaveOneMountAPlace, EndedNamespacesLeaveOneMountAPlace, AreApart, TypeKeepsGroups, FlagsKeepGroups, SettlingKeepsGroups, TypeKeepsPlacesEnding, FlagsKeepPlacesEnding, InheritanceKeepsPlacesEnding};
-ghost use Rattle.vt_mount_laws.specs.Mounts.Ends.{TheMountItselfGoes, TakenAreDetached, OthersAreKept, OthersKeepTheirPlaces, OthersKeepTheirTypes, LazyDetachesOrKeeps, LazyIsOfMounts};
+ghost use Rattle.vt_mount_laws.specs.Mounts.Invariants.{KeptByTakingAway, OneNumberEach, KeptByUnmount, KeptByEndedNamespaces, KeptByInheritance, KeptByType, KeptByFlags, AttachKeepsNumbers, UnshareKeepsNumbers, KeptByPivot, KeptByLazyUnmount, KeptBySettling, NowhereOrAttached, FlagsKeepNowhere, KeptByUnshare, UnmountLeavesOneMountAMountPoint, TreesLeaveOneMountAMountPoint, EndedNamespacesLeaveOneMountAMountPoint, AreApart, TypeKeepsGroups, FlagsKeepGroups, SettlingKeepsGroups, TypeKeepsChainsEnding, FlagsKeepChainsEnding, InheritanceKeepsChainsEnding};
+ghost use Rattle.vt_mount_laws.specs.Mounts.Ends.{TheMountItselfGoes, TakenAreDetached, OthersAreKept, OthersKeepTheirMountPoints, OthersKeepTheirTypes, LazyDetachesOrKeeps, LazyIsOfMounts};
 ghost use Rattle.vt_mount_laws.specs.Mounts.FileCalls.{FileCallsLeaveMounts};
 ghost use Rattle.vt_mount_laws.specs.Mounts.Granted.{BindBinds, MoveMoves, MountMounts, OverlayMounts, LazyUnmounts, RemountSetsFlags, TypeIsSet, PivotPivots, RmdirTakesMounts, RenameReplaces, RenameOfOneObject, ExitEnds, UnshareCopies, SetnsEnters};
-ghost use Rattle.vt_mount_laws.specs.Mounts.Places.{StandsAloneAtItsPlace};
+ghost use Rattle.vt_mount_laws.specs.Mounts.MountPoints.{StandsAloneAtItsMountPoint};
 ghost use Rattle.vt_mount_laws.specs.Mounts.Receivers.{ReceivesIsComputed, ReceiversReceive, ReceiversAreClosed, ReceiversAreLeast, GroupsLive, LivingIsComputed};
-ghost use Rattle.vt_mount_laws.specs.Mounts.Standing.{BindsKeepNumbers, BindsKeepPlaces, BindsKeepStanding, BindsTakeEachOnce, MovesKeepNumbers, NewMountsKeepNumbers, NewMountsKeepPlaces, NewMountsKeepStanding, StandingIsComputed, TreesHaveEachOnce};
-ghost use Rattle.vt_mount_laws.specs.Mounts.Unmounting.{WhatGoesIsNamed, UnmountKeepsTheOrder, WhatGoesIsDetached, WhatStaysKeeps, WhatStaysKeepsItsPlace, RootMountsStay, WhatCoveredFalls, WhatStaysKeepsItsType, SlavesAreInherited, GroupsKeepTheirMasters, UnmountIsOfMounts, UmountUnmounts};
+ghost use Rattle.vt_mount_laws.specs.Mounts.Standing.{BindsKeepNumbers, BindsKeepMountPoints, BindsKeepStanding, BindsTakeEachOnce, MovesKeepNumbers, NewMountsKeepNumbers, NewMountsKeepMountPoints, NewMountsKeepStanding, StandingIsComputed, TreesHaveEachOnce};
+ghost use Rattle.vt_mount_laws.specs.Mounts.Unmounting.{WhatGoesIsNamed, UnmountKeepsTheOrder, WhatGoesIsDetached, WhatStaysKeeps, WhatStaysKeepsItsMountPoint, RootMountsStay, WhatCoveredFalls, WhatStaysKeepsItsType, SlavesAreInherited, GroupsKeepTheirMasters, UnmountIsOfMounts, UmountUnmounts};
 
-/// At most one mount stands at a place.
-pub fn one_mount_stands_at_a_place()
-    ensures { StandsAloneAtItsPlace }
+/// No two mounts have one mount point.
+pub fn one_mount_stands_at_a_mount_point()
+    ensures { StandsAloneAtItsMountPoint }
 {}
 
 /// What receives from a group is the least set that holds its members, its slaves, and what receives from every group
@@ -25,14 +25,14 @@ pub fn receivers_are_the_closure()
     ensures least { ReceiversAreLeast }
 {}
 
-/// An unmount takes just the mounts that propagation names, and leaves all else of every other mount but its place,
-/// where that was on what goes, and its master, where that lost its last member.
+/// An unmount takes just the mounts that propagation names, and leaves all else of every other mount but its mount
+/// point, where that was on what goes, and its master, where that lost its last member.
 pub fn an_unmount_takes_just_what_propagation_names()
     ensures named { WhatGoesIsNamed }
     ensures order { UnmountKeepsTheOrder }
     ensures gone { WhatGoesIsDetached }
     ensures kept { WhatStaysKeeps }
-    ensures place { WhatStaysKeepsItsPlace }
+    ensures place { WhatStaysKeepsItsMountPoint }
     ensures root_mounts { RootMountsStay }
     ensures covered { WhatCoveredFalls }
     ensures kind { WhatStaysKeepsItsType }
@@ -52,16 +52,16 @@ pub fn calls_on_files_are_of_no_mount()
     ensures { FileCallsLeaveMounts }
 {}
 
-/// A bind or a new mount leaves each mount that was there all that it had, but for the place of one that stood at the
-/// place of a receiver. New mounts come last.
+/// A bind or a new mount leaves each mount that was there all that it had, but for the mount point of one that had the
+/// destination's directory as mount point at a receiver. New mounts come last.
 pub fn a_bind_leaves_the_other_mounts()
     ensures order { NewMountsFollow }
     ensures kept { AttachKeepsMounts }
     ensures left { AttachLeavesMounts }
 {}
 
-/// A move leaves each mount that does not move all that it had, but for the place of one that stood at the place of a
-/// receiver. What moves goes on showing what it showed.
+/// A move leaves each mount that does not move all that it had, but for the mount point of one that had the
+/// destination's directory as mount point at a receiver. What moves goes on showing what it showed.
 pub fn a_move_leaves_the_other_mounts()
     ensures kept { MoveKeepsMounts }
     ensures left { MoveLeavesMounts }
@@ -102,27 +102,27 @@ pub fn mounts_keep_numbers_of_their_own()
     ensures settling { KeptBySettling OneNumberEach }
 {}
 
-/// Each mount stands on one that stands, in its namespace; that is what the test of it computes, and so a mount and all
-/// below it, and what a bind takes of them, are each once in their tree.
+/// Each mount stands on one that stands, in its namespace; that is what the test of it computes, and so a mount with
+/// its descendants, and what a bind takes of them, are each once in their tree.
 pub fn mounts_stand_on_one_another()
     ensures computed { StandingIsComputed }
     ensures trees { TreesHaveEachOnce }
     ensures binds { BindsTakeEachOnce }
 {}
 
-/// A bind and a new mount leave each mount standing and at most one at a place, and these and a move leave each mount
-/// with a number of its own: the copies at all receivers included, and what they push up.
+/// A bind and a new mount leave each mount standing and no two with one mount point, and these and a move leave each
+/// mount with a number of its own: the copies at all receivers included, and what they push up.
 pub fn attaching_keeps_mounts_standing()
     ensures bind { BindsKeepStanding }
     ensures bind_numbers { BindsKeepNumbers }
     ensures new_mount { NewMountsKeepStanding }
     ensures new_mount_numbers { NewMountsKeepNumbers }
     ensures move_numbers { MovesKeepNumbers }
-    ensures bind_places { BindsKeepPlaces }
-    ensures new_mount_places { NewMountsKeepPlaces }
+    ensures bind_places { BindsKeepMountPoints }
+    ensures new_mount_places { NewMountsKeepMountPoints }
 {}
 
-/// A mount outside every namespace has no place and is private: changes of mounts keep that.
+/// A mount outside every namespace has no mount point and is private: changes of mounts keep that.
 pub fn mounts_outside_stay_nowhere()
     ensures taking_away { KeptByTakingAway NowhereOrAttached }
     ensures unmount { KeptByUnmount NowhereOrAttached }
@@ -134,11 +134,11 @@ pub fn mounts_outside_stay_nowhere()
     ensures settling { KeptBySettling NowhereOrAttached }
 {}
 
-/// At most one mount stands at a place: changes of mounts keep that.
-pub fn places_keep_one_mount()
-    ensures unmount { UnmountLeavesOneMountAPlace }
-    ensures trees { TreesLeaveOneMountAPlace }
-    ensures ended { EndedNamespacesLeaveOneMountAPlace }
+/// No two mounts have one mount point: changes of mounts keep that.
+pub fn mount_points_keep_one_mount()
+    ensures unmount { UnmountLeavesOneMountAMountPoint }
+    ensures trees { TreesLeaveOneMountAMountPoint }
+    ensures ended { EndedNamespacesLeaveOneMountAMountPoint }
     ensures inheritance { KeptByInheritance AreApart }
     ensures types { KeptByType AreApart }
     ensures flags { KeptByFlags AreApart }
@@ -146,15 +146,15 @@ pub fn places_keep_one_mount()
 {}
 
 /// Mounts that end without propagation, with a directory or a namespace, are just those: every other mount keeps all
-/// but its place, where that was on one of them, and its master, where that lost its last member.
+/// but its mount point, where that was on one of them, and its master, where that lost its last member.
 pub fn mounts_that_end_are_just_those()
     ensures taken { TakenAreDetached }
     ensures kept { OthersAreKept }
-    ensures places { OthersKeepTheirPlaces }
+    ensures places { OthersKeepTheirMountPoints }
     ensures types { OthersKeepTheirTypes }
 {}
 
-/// A lazy unmount detaches a mount, or leaves it all but its place and its type.
+/// A lazy unmount detaches a mount, or leaves it all but its mount point and its type.
 pub fn a_lazy_unmount_detaches_or_keeps()
     ensures mounts { LazyDetachesOrKeeps }
     ensures others { LazyIsOfMounts }
@@ -194,10 +194,10 @@ pub fn groups_live_on()
     ensures settling { SettlingKeepsGroups }
 {}
 
-/// The places below a mount come to an end, at a mount without a place, in its namespace: these changes of mounts keep
-/// that.
-pub fn places_below_come_to_an_end()
-    ensures types { TypeKeepsPlacesEnding }
-    ensures flags { FlagsKeepPlacesEnding }
-    ensures inheritance { InheritanceKeepsPlacesEnding }
+/// The chain of parents of a mount comes to an end, at a mount without a mount point, in its namespace: these changes
+/// of mounts keep that.
+pub fn chains_of_mount_points_end()
+    ensures types { TypeKeepsChainsEnding }
+    ensures flags { FlagsKeepChainsEnding }
+    ensures inheritance { InheritanceKeepsChainsEnding }
 {}

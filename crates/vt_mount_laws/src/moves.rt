@@ -1,5 +1,5 @@
 //! Where mounts stand after a move, and root mounts after an attachment.
-ghost use Rattle.vt_mount_laws.specs.Mounts.Moving.{BindsKeepRootMounts, BindsStayInNamespaces, MovesKeepPlaces, MovesKeepRootMounts, MovesKeepStanding, MovesStayInNamespaces, NewMountsKeepRootMounts, NewMountsStayInNamespaces};
+ghost use Rattle.vt_mount_laws.specs.Mounts.Moving.{BindsKeepRootMounts, BindsStayInNamespaces, MovesKeepMountPoints, MovesKeepRootMounts, MovesKeepStanding, MovesStayInNamespaces, NewMountsKeepRootMounts, NewMountsStayInNamespaces};
 
 /// A bind, a new mount and a move of a mount that has a mount point leave each namespace as many root mounts as it had,
 /// and no mount comes to a namespace in which there was none. For a move each mount has a number of its own.
@@ -17,5 +17,5 @@ pub fn attaching_keeps_root_mounts()
 /// handed in are unused, and mounts had their invariants.
 pub fn moves_keep_mounts_standing()
     ensures standing { MovesKeepStanding }
-    ensures places { MovesKeepPlaces }
+    ensures places { MovesKeepMountPoints }
 {}

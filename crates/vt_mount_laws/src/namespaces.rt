@@ -1,8 +1,8 @@
-//! Mounts of namespaces: the topmost over a place, and what an unshare, a pivot of the root, a type and flags keep.
+//! Mounts of namespaces: the topmost over a location, and what an unshare, a pivot of the root, a type and flags keep.
 ghost use Rattle.vt_mount_laws.specs.Mounts.Namespaces.{NewNamespaceIsEmpty, NumberedMountsCanPivot, PivotKeepsCounts, PivotKeepsMounts, SetFlagsKeepCounts, SetFlagsKeepMounts, SetTypeKeepsCounts, SetTypeKeepsMounts, TopmostIsFree, UnshareCopiesMounts, UnshareKeepsCounts, UnshareKeepsMounts, UnshareLeavesNamespaces};
 
-/// No mount stands over the topmost one over a place.
-pub fn the_topmost_place_is_free()
+/// No mount stands over the topmost one over a location.
+pub fn the_topmost_location_is_free()
     ensures { TopmostIsFree }
 {}
 

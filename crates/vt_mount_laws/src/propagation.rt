@@ -4,7 +4,7 @@ ghost use Rattle.vt_mount_laws.specs.Mounts.Propagation.{BindsCan, CopiesAreNew,
 /// A bind, a new mount and a move give each part, the destination and each receiver that takes part, a copy of each
 /// mount of the tree, with a number of its own: what it shows, and where it stands. At the destination of a move it
 /// is the mount itself.
-pub fn copies_take_their_place()
+pub fn copies_take_their_mount_points()
     ensures binds { BindsCan }
     ensures new_mounts { NewMountsCan }
     ensures moves { MovesCan }
@@ -36,14 +36,15 @@ pub fn copies_hear_as_receivers_do()
     ensures origins { CopiesHearAsTheirOrigins }
 {}
 
-/// The unmount of a new mount, or of a bind of one mount, undoes it where no mount stands at the place of a receiver:
-/// each mount that was there has its record back, all copies are detached, and groups have the masters that they had.
+/// The unmount of a new mount, or of a bind of one mount, undoes it where no mount has the destination's directory as
+/// mount point on a receiver: each mount that was there has its record back, all copies are detached, and groups have
+/// the masters that they had.
 pub fn an_unmount_undoes_a_mount()
     ensures new_mount { UnmountUndoesNewMount }
     ensures bind { UnmountUndoesBind }
 {}
 
-/// After an unshare the list of the caller's mounts reads as it did, the same text: order, places, filesystems,
+/// After an unshare the list of the caller's mounts reads as it did, the same text: order, mount points, filesystems,
 /// roots, flags and types; and so does the list of each other namespace.
 pub fn after_unshare_the_table_reads_the_same()
     ensures caller { UnshareListsTheSame }

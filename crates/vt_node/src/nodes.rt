@@ -179,7 +179,7 @@ impl Node {
     }
 
     /// Whether it is a directory with entries.
-    pub fn is_filled(&self) -> bool
+    pub fn is_nonempty(&self) -> bool
         ensures { result ≡ not (is_empty_list (entries_of self.now.content)) }
     {
         match &self.content {

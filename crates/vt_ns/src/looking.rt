@@ -55,12 +55,12 @@ impl Look for World {
         self.mounts.topmost(at)
     }
 
-    fn is_point_in(&self, namespace: NamespaceId, at: Location) -> bool {
-        self.is_seen(at) && self.mounts.is_point_in(namespace, at.node)
+    fn is_mount_point_in(&self, namespace: NamespaceId, at: Location) -> bool {
+        self.is_seen(at) && self.mounts.is_mount_point_in(namespace, at.node)
     }
 
-    fn is_point_anywhere(&self, at: Location) -> bool {
-        self.is_seen(at) && self.mounts.is_point_anywhere(at.node)
+    fn is_mount_point_anywhere(&self, at: Location) -> bool {
+        self.is_seen(at) && self.mounts.is_mount_point_anywhere(at.node)
     }
 
     #[inline(always)]

@@ -60,16 +60,16 @@ impl LookAtMounts for World {
     fn overfills(&self, attachment: Attachment) -> Result<bool, Deny> {
         self.is_held();
         match attachment {
-            Attachment::Plain { place, .. } => self.has_too_many_with(place, 1),
+            Attachment::Plain { destination, .. } => self.has_too_many_with(destination, 1),
             Attachment::Bind {
                 source,
-                place,
+                destination,
                 recursive,
             } => {
                 let tree = self.bind_tree(source, recursive)?;
-                self.has_too_many_with(place, tree.len())
+                self.has_too_many_with(destination, tree.len())
             }
-            Attachment::Move { mount, place } => self.has_too_many_moved(mount, place),
+            Attachment::Move { mount, destination } => self.has_too_many_moved(mount, destination),
         }
     }
 }

@@ -10,7 +10,7 @@ use Rattle.vt_spec.specs.Machine.CopyUp.{Merge, Stack, changed_both, copied_up, 
 use Rattle.vt_spec.specs.Machine.Layers.{OpenLayer, has_lower_directory, lowers_have_directory, node_at_path, shown}
 use Rattle.vt_spec.specs.Machine.Merging.{layer_node, merged_at, real_object}
 use Rattle.vt_spec.specs.Machine.World.{Real, upper_object}
-use Rattle.vt_spec.specs.Machine.World.Real.{Below, Upper}
+use Rattle.vt_spec.specs.Machine.World.Real.{Lower, Upper}
 use Rattle.vt_spec.specs.Machine.Invariants.{ListsNumbers, SameObject, number_at_path}
 use Rattle.vt_spec.specs.Tree.{Node, kind_of, node_with_bytes}
 use Rattle.vt_spec.specs.TreeInvariant.{IsDirectory, IsReached, IsTree}
@@ -30,7 +30,7 @@ real_seen stack merge path =
 -- the inode of a real object
 abbrev pub inode_behind : Stack ℕ → Merge ℕ → Real ℕ → Option (Node ℕ)
 inode_behind stack merge (Upper object) = merge.upper.tree.node object
-inode_behind stack merge (Below layer path) =
+inode_behind stack merge (Lower layer path) =
     then_some (slice_get stack.lowers layer) (λ lower. node_at_path lower path)
 
 -- The tree is what the layers show: what `IsMerged` says of an overlay of a world.

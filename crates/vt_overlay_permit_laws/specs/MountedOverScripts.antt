@@ -6,7 +6,7 @@ use Rattle.vt_spec.specs.Language.Calls.{MountFlags, OverlayWords}
 use Rattle.vt_spec.specs.Language.Calls.Call.{MountOverlay}
 use Rattle.vt_spec.specs.Language.Script.{Grammar}
 use Rattle.vt_spec.specs.Lists.{Fresh}
-use Rattle.vt_spec.specs.Machine.Outcome.Mounting.{LayerPlaces, layers_walked, overlay_at}
+use Rattle.vt_spec.specs.Machine.Outcome.Mounting.{LayerLocations, layers_walked, overlay_at}
 use Rattle.vt_spec.specs.Machine.Policy.{policy}
 use Rattle.vt_spec.specs.Machine.World.{Overlay, Task, World, filesystem_numbered, open_layer, opening, shown_layers, task_called}
 use Rattle.vt_layer_laws.specs.Layers.Mounted.{AreAsOthers, ShowTheSame}
@@ -29,7 +29,7 @@ pub record IsLedTo (world : World ℕ) : Type 0 where
 abbrev pub MountedAnewOverScripts : Type 0
 MountedAnewOverScripts =
     (fresh : Fresh ℕ) (before later : World ℕ) (number : ℕ) (left : Overlay ℕ) (task : Task ℕ) (path : List ℕ)
-    (words : OverlayWords) (flags : MountFlags) (places : LayerPlaces ℕ)
+    (words : OverlayWords) (flags : MountFlags) (places : LayerLocations ℕ)
     → IsLedTo before → (filesystem_numbered nat_eq before number).overlay ≡ Some left
     → IsLedTo later → AreNewNumbers fresh later → task_called later task.name ≡ Some task
     → (policy nat_eq fresh later task.name (MountOverlay path (Some words) flags)).answer ≡ Ok Done
@@ -43,7 +43,7 @@ MountedAnewOverScripts =
 abbrev pub SameLayersOverScripts : Type 0
 SameLayersOverScripts =
     (fresh : Fresh ℕ) (before later : World ℕ) (number : ℕ) (left : Overlay ℕ) (task : Task ℕ) (path : List ℕ)
-    (words : OverlayWords) (flags : MountFlags) (places : LayerPlaces ℕ)
+    (words : OverlayWords) (flags : MountFlags) (places : LayerLocations ℕ)
     → IsLedTo before → (filesystem_numbered nat_eq before number).overlay ≡ Some left
     → IsLedTo later → AreNewNumbers fresh later → task_called later task.name ≡ Some task
     → (policy nat_eq fresh later task.name (MountOverlay path (Some words) flags)).answer ≡ Ok Done
@@ -57,7 +57,7 @@ SameLayersOverScripts =
 abbrev pub LinksOverScripts : Type 0
 LinksOverScripts =
     (fresh : Fresh ℕ) (before later : World ℕ) (number : ℕ) (left : Overlay ℕ) (task : Task ℕ) (path : List ℕ)
-    (words : OverlayWords) (flags : MountFlags) (places : LayerPlaces ℕ)
+    (words : OverlayWords) (flags : MountFlags) (places : LayerLocations ℕ)
     → IsLedTo before → (filesystem_numbered nat_eq before number).overlay ≡ Some left
     → IsLedTo later → AreNewNumbers fresh later → task_called later task.name ≡ Some task
     → (policy nat_eq fresh later task.name (MountOverlay path (Some words) flags)).answer ≡ Ok Done

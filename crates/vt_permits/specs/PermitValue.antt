@@ -55,9 +55,10 @@ permit_of task (ToFork cred) = meant.Permit.ToFork cred
 permit_of task ToExit = meant.Permit.ToExit
 permit_of task ToUnshare = meant.Permit.ToUnshare
 permit_of task (ToEnterNamespace namespace) = meant.Permit.ToEnterNamespace (counted namespace.count)
-permit_of task (ToMountPlain place flags) = meant.Permit.ToMountPlain (location_of place) (flags_of flags)
-permit_of task (ToBind source place recursive) = meant.Permit.ToBind (location_of source) (location_of place) recursive
-permit_of task (ToMove mount place) = meant.Permit.ToMove (counted mount.count) (location_of place)
+permit_of task (ToMountPlain destination flags) = meant.Permit.ToMountPlain (location_of destination) (flags_of flags)
+permit_of task (ToBind source destination recursive) = meant.Permit.ToBind (location_of source)
+    (location_of destination) recursive
+permit_of task (ToMove mount destination) = meant.Permit.ToMove (counted mount.count) (location_of destination)
 permit_of task (ToUnmount mount) = meant.Permit.ToUnmount (counted mount.count)
 permit_of task (ToUnmountLazily mount) = meant.Permit.ToUnmountLazily (counted mount.count)
 permit_of task (ToSetFlags mount flags) = meant.Permit.ToSetFlags (counted mount.count) (flags_of flags)

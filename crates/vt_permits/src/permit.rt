@@ -123,19 +123,19 @@ pub enum Permit {
     },
     /// mount(2) of a tmpfs
     ToMountPlain {
-        place: Location,
+        destination: Location,
         flags: MountFlags,
     },
     /// mount(2) with `MS_BIND`, and `MS_REC`
     ToBind {
         source: Location,
-        place: Location,
+        destination: Location,
         recursive: bool,
     },
     /// mount(2) with `MS_MOVE`
     ToMove {
         mount: MountId,
-        place: Location,
+        destination: Location,
     },
     /// umount(2)
     ToUnmount {

@@ -10,9 +10,9 @@ use Rattle.vt_spec.specs.Lists.{holds_of}
 use Rattle.vt_spec.specs.Machine.Outcome.Making.{linking}
 use Rattle.vt_spec.specs.Machine.Permits.{Permit}
 use Rattle.vt_spec.specs.Machine.Permits.Permit.{ToChange, ToRemoveDirectory}
-use Rattle.vt_spec.specs.Machine.Rules.Conditions.{is_kept, is_point_in, is_read_only, may_not}
+use Rattle.vt_spec.specs.Machine.Rules.Conditions.{is_kept, is_mount_point_in, is_read_only, may_not}
 use Rattle.vt_spec.specs.Machine.Rules.Making.{make_rules}
-use Rattle.vt_spec.specs.Machine.Rules.Removing.{is_filled, is_one_object, object_there, old_word_rules, removing, rename_new_walk}
+use Rattle.vt_spec.specs.Machine.Rules.Removing.{is_nonempty, is_one_object, object_there, old_word_rules, removing, rename_new_walk}
 use Rattle.vt_spec.specs.Machine.Walking.{Here, Place, is_directory_there, is_dot, is_dot_dot, is_no_word, is_special, name_of, new_leaf_walk, old_leaf_walk, old_walk, symlink_walk, walk_end}
 use Rattle.vt_spec.specs.Machine.Walking.LastWord.{Named}
 use Rattle.vt_spec.specs.Machine.World.{Task}
@@ -87,8 +87,8 @@ pub rmdir_asked : (looks : Looks ℕ) → HasNoOverlays looks
     → (task : Task ℕ) (path : List ℕ) (seen : Place ℕ) (parent object : meant.Location ℕ) (name : List ℕ)
     → walk_end (old_walk nat_eq looks task path) ≡ Ok seen → seen.last ≡ Named name
     → seen.parent ≡ parent → object_there seen ≡ object
-    → is_directory_at looks object ≡ true → is_filled looks object ≡ false → is_read_only looks parent ≡ false
-    → is_point_in nat_eq looks task.namespace object ≡ false
+    → is_directory_at looks object ≡ true → is_nonempty looks object ≡ false → is_read_only looks parent ≡ false
+    → is_mount_point_in nat_eq looks task.namespace object ≡ false
     → rmdir_permit nat_eq looks task path
     ≡ unless (remove_rules looks task parent object)
     (Ok (ToRemoveDirectory seen.parent (name_of seen.last) (object_there seen)))
@@ -100,11 +100,11 @@ rmdir_asked looks plain task path seen parent object name walked named at there 
     ∙ skipped (is_dot seen.last) E5 _ _ (ap is_dot named)
     ∙ skipped (is_no_word seen.last) P1 [] _ (ap is_no_word named)
     ∙ skipped _ E3 _ answer (ap not (ap (is_directory_at looks) there ∙ directory))
-    ∙ skipped _ E4 _ answer (ap (is_filled looks) there ∙ empty)
+    ∙ skipped _ E4 _ answer (ap (is_nonempty looks) there ∙ empty)
     ∙ skipped _ F1 _ answer (ap (is_read_only looks) at ∙ writable)
     ∙ skipped _ F2 _ answer (has_an_upper looks plain seen.parent)
     ∙ skipped _ L1 _ answer (or_from _ _ (plain.unlocked (object_there seen)) (plain.unlocked seen.parent))
-    ∙ skipped _ P1 _ answer (ap (is_point_in nat_eq looks task.namespace) there ∙ pointless)
+    ∙ skipped _ P1 _ answer (ap (is_mount_point_in nat_eq looks task.namespace) there ∙ pointless)
     ∙ rights (may_not looks task seen.parent write_right)
     (is_kept looks task seen.parent (object_there seen)) _ _ answer
     (mounter_may looks plain seen.parent write_right) (plain.mounter seen.parent (removing seen (object_there seen)))

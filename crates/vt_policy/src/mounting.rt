@@ -52,14 +52,14 @@ pub fn mount_plain<L: LookAtMounts>(
     if lacks(who, Caps::CAP_SYS_ADMIN) {
         return Err(Rule::K1.denial());
     }
-    let place = destination_at(world, who, path)?;
-    if is_elsewhere(world, who, place) {
+    let destination = destination_at(world, who, path)?;
+    if is_elsewhere(world, who, destination) {
         return Err(Rule::M2.denial());
     }
-    if world.overfills(Attachment::Plain { place, flags })? {
+    if world.overfills(Attachment::Plain { destination, flags })? {
         return Err(Rule::M9.denial());
     }
-    Ok(Permit::ToMountPlain { place, flags })
+    Ok(Permit::ToMountPlain { destination, flags })
 }
 
 /// K1 (EPERM), and after the rules of both walks M2 (EINVAL), M3 (EINVAL), M9 (ENOSPC).
@@ -79,8 +79,8 @@ pub fn bind<L: LookAtMounts>(
         return Err(Rule::K1.denial());
     }
     let source = source_at(world, who, source)?;
-    let place = destination_at(world, who, path)?;
-    if is_elsewhere(world, who, source) || is_elsewhere(world, who, place) {
+    let destination = destination_at(world, who, path)?;
+    if is_elsewhere(world, who, source) || is_elsewhere(world, who, destination) {
         return Err(Rule::M2.denial());
     }
     if is_unbindable(world, source.mount) {
@@ -88,7 +88,7 @@ pub fn bind<L: LookAtMounts>(
     }
     let attachment = Attachment::Bind {
         source,
-        place,
+        destination,
         recursive,
     };
     if world.overfills(attachment)? {
@@ -96,7 +96,7 @@ pub fn bind<L: LookAtMounts>(
     }
     Ok(Permit::ToBind {
         source,
-        place,
+        destination,
         recursive,
     })
 }
@@ -117,16 +117,16 @@ pub fn move_mount<L: LookAtMounts>(
         return Err(Rule::K1.denial());
     }
     let source = source_at(world, who, source)?;
-    let place = destination_at(world, who, path)?;
-    may_move(world, who, source, place)?;
+    let destination = destination_at(world, who, path)?;
+    may_move(world, who, source, destination)?;
     let mount = source.mount;
-    if world.overfills(Attachment::Move { mount, place })? {
+    if world.overfills(Attachment::Move { mount, destination })? {
         return Err(Rule::M9.denial());
     }
     if !is_attached_somewhere(world, mount) {
         return Err(Rule::M10.denial());
     }
-    Ok(Permit::ToMove { mount, place })
+    Ok(Permit::ToMove { mount, destination })
 }
 
 /// K1 (EPERM), and after the rules of the walk M2 (EINVAL), M7 (EINVAL), M8 (EBUSY), M10 (EINVAL).

@@ -9,7 +9,7 @@ use std::alloc::Global;
 use vt_looks::{LastWord, Look};
 use vt_permits::Permit;
 use vt_rules::{
-    is_directory, is_filled, is_name_of, is_read_only, may_remove, may_rename, may_stay, name_at,
+    is_directory, is_name_of, is_nonempty, is_read_only, may_remove, may_rename, may_stay, name_at,
 };
 use vt_spec::errors::{Deny, Rule};
 use vt_tasks::Task;
@@ -54,13 +54,13 @@ pub fn rmdir<L: Look>(alloc: Global, world: &L, who: &Task, path: &[u8]) -> Resu
     if !is_directory(world, directory) {
         return Err(Rule::E3.denial());
     }
-    if is_filled(world, directory) {
+    if is_nonempty(world, directory) {
         return Err(Rule::E4.denial());
     }
     if is_read_only(world, place.parent) {
         return Err(Rule::F1.denial());
     }
-    if world.is_point_in(who.namespace, directory) {
+    if world.is_mount_point_in(who.namespace, directory) {
         return Err(Rule::P1.denial());
     }
     may_remove(world, who, place.parent, directory)?;

@@ -2,7 +2,7 @@
 use Rattle.std.proofs.Common.{◌≡◌, ℕ, Bool, true, false, ◌&&◌, List, [], ◌∷◌, ◌⊎◌, inl, inr, ⊎_elim, map, nat_eq, Option, None, Some, is_some, refl, sym, ap, subst, true≢false, cond, ◌∙◌, eq-eqb}
 use Rattle.std.specs.Prelude.{Contains, find as seek, if◌then◌else◌, option_map, unwrap_or}
 use Rattle.vt_spec.specs.Lists.{first_of_list, folded, holds_of, or_else, rest_of}
-use Rattle.vt_spec.specs.Machine.Attach.{Copies, Twig, copies_at, copy_at, copy_number, is_top, parts_of, place_on_copy, pushed_onto, pushed_up, twig_of}
+use Rattle.vt_spec.specs.Machine.Attach.{Copies, Twig, copies_at, copy_at, copy_number, is_top, parts_of, mount_point_on_copy, pushed_onto, pushed_up, twig_of}
 use Rattle.vt_spec.specs.Machine.Attach as meant
 use Rattle.vt_spec.specs.Machine.Mounts.{Location, Mount, group_of, replaced_if_same, same_location, stands_at, with_mount}
 use Rattle.vt_spec.specs.Machine.World.{World, mount_at}
@@ -145,7 +145,7 @@ module _ (world : World ℕ) (graft : Graft) (counts : Counts) (points : List (�
       apart part m =
           ap (λ b. same_location nat_eq (record { mount = part.number; node = place.node })
           (if b then record { mount = destination.number; node = place.node }
-          else unwrap_or (option_map (place_on_copy nat_eq new seen destination.number) origin.mount_point) place)) e
+          else unwrap_or (option_map (mount_point_on_copy nat_eq new seen destination.number) origin.mount_point) place)) e
           ∙ ap (λ n. nat_eq part.number n && nat_eq place.node place.node) own
           ∙ ap (λ b. b && nat_eq place.node place.node) (receivers_apart world place part m)
 
@@ -158,14 +158,14 @@ module _ (world : World ℕ) (graft : Graft) (counts : Counts) (points : List (�
       (map mount_of graft.tree.now) is.there origin m)
       (top_leaves origin.number ∙ e) (number_kept origin.number)
       (ap (λ b. Some (if b then record { mount = destination.number; node = place.node }
-      else unwrap_or (option_map (place_on_copy nat_eq new seen destination.number) origin.mount_point) place)) e
+      else unwrap_or (option_map (mount_point_on_copy nat_eq new seen destination.number) origin.mount_point) place)) e
       ∙ by origin.mount_point (among_from_all (λ mount. is_some mount.mount_point ≡ true)
       (rest_of (map mount_of graft.tree.now))
       is.standing origin
       (in_rest new (group_of destination.propagation) origin (map mount_of graft.tree.now) e m)))
     where
       by : (point : Option (Location ℕ)) → is_some point ≡ true
-          → Some (unwrap_or (option_map (place_on_copy nat_eq new seen destination.number) point) place) ≡ point
+          → Some (unwrap_or (option_map (mount_point_on_copy nat_eq new seen destination.number) point) place) ≡ point
       by None some = absurd (true≢false (sym some))
       by (Some point) some = λ i. Some (record { mount = number_kept point.mount i; node = point.node })
 

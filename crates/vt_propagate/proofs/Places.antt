@@ -5,7 +5,7 @@ use Rattle.std.specs.List.{list_any}
 use Rattle.std.proofs.lemmas.Option.{same_Some}
 use Rattle.std.proofs.lemmas.Bool.{eqb-false, eqb-true}
 use Rattle.std.proofs.lemmas.List.{length-map, length-take-le, map-append, take_more}
-use Rattle.vt_spec.specs.Lists.{or_else, place_from}
+use Rattle.vt_spec.specs.Lists.{or_else, index_from}
 use Rattle.vt_spec.specs.Machine.Mounts.{Mount}
 use Rattle.vt_location.specs.declared.mounts.Mount.{Mount as Kept}
 use Rattle.vt_location.specs.MountValue.{mount_of}
@@ -35,15 +35,15 @@ module _ {K : Type 0} (count : K → ℕ) (one : (a b : K) → count a ≡ count
           ∙ sym (or_none (before q))
 
 module _ {A : Type 0} (test : A → Bool) where
-  place_from-last : (k : ℕ) (list : List A) (a : A)
-      → place_from test k (list ++ a ∷ [])
-      ≡ or_else (place_from test k list) (if test a then Some (k + length list) else None)
-  place_from-last k [] a = by (test a)
+  index_from-last : (k : ℕ) (list : List A) (a : A)
+      → index_from test k (list ++ a ∷ [])
+      ≡ or_else (index_from test k list) (if test a then Some (k + length list) else None)
+  index_from-last k [] a = by (test a)
     where
       by : (b : Bool) → (if b then Some k else None) ≡ (if b then Some (k + 0) else None)
       by true = ap Some (omega arith)
       by false = refl
-  place_from-last k (first ∷ list) a = by (test first) (place_from-last (k + 1) list a)
+  index_from-last k (first ∷ list) a = by (test first) (index_from-last (k + 1) list a)
     where
       later : (b : Bool) → (if b then Some ((k + 1) + length list) else None)
           ≡ (if b then Some (k + length (first ∷ list)) else None)
@@ -51,24 +51,24 @@ module _ {A : Type 0} (test : A → Bool) where
       later false = refl
 
       by : (b : Bool)
-          → place_from test (k + 1) (list ++ a ∷ [])
-          ≡ or_else (place_from test (k + 1) list) (if test a then Some ((k + 1) + length list) else None)
-          → (if b then Some k else place_from test (k + 1) (list ++ a ∷ []))
-          ≡ or_else (if b then Some k else place_from test (k + 1) list)
+          → index_from test (k + 1) (list ++ a ∷ [])
+          ≡ or_else (index_from test (k + 1) list) (if test a then Some ((k + 1) + length list) else None)
+          → (if b then Some k else index_from test (k + 1) (list ++ a ∷ []))
+          ≡ or_else (if b then Some k else index_from test (k + 1) list)
           (if test a then Some (k + length (first ∷ list)) else None)
       by true rest = refl
-      by false rest = rest ∙ ap (or_else (place_from test (k + 1) list)) (later (test a))
+      by false rest = rest ∙ ap (or_else (index_from test (k + 1) list)) (later (test a))
 
 -- one more of the mounts
 pub place_more : (test : Mount ℕ → Bool) (mounts : List Kept) (i : ℕ) (default : Kept) → i < length mounts
-    → place_from test 0 (map mount_of (take (i + 1) mounts))
-    ≡ or_else (place_from test 0 (map mount_of (take i mounts)))
+    → index_from test 0 (map mount_of (take (i + 1) mounts))
+    ≡ or_else (index_from test 0 (map mount_of (take i mounts)))
     (if test (mount_of (get_or mounts i default)) then Some i else None)
 place_more test mounts i default less =
-    ap (λ l. place_from test 0 (map mount_of l)) (take_more mounts i default less)
-    ∙ ap (place_from test 0) (map-append mount_of (take i mounts) (get_or mounts i default ∷ []))
-    ∙ place_from-last test 0 (map mount_of (take i mounts)) (mount_of (get_or mounts i default))
-    ∙ ap (λ n. or_else (place_from test 0 (map mount_of (take i mounts))) (if test (mount_of (get_or mounts i default))
+    ap (λ l. index_from test 0 (map mount_of l)) (take_more mounts i default less)
+    ∙ ap (index_from test 0) (map-append mount_of (take i mounts) (get_or mounts i default ∷ []))
+    ∙ index_from-last test 0 (map mount_of (take i mounts)) (mount_of (get_or mounts i default))
+    ∙ ap (λ n. or_else (index_from test 0 (map mount_of (take i mounts))) (if test (mount_of (get_or mounts i default))
     then Some n else None)) sized
   where
     sized : 0 + length (map mount_of (take i mounts)) ≡ i
@@ -78,37 +78,37 @@ place_more test mounts i default less =
 pub place_noted : (test : Mount ℕ → Bool) (mounts : List Kept) (i : ℕ) (default : Kept) → i < length mounts
     → (before after : Option ℕ) (b : Bool)
     → after ≡ or_else before (if b then Some i else None) → b ≡ test (mount_of (get_or mounts i default))
-    → before ≡ place_from test 0 (map mount_of (take i mounts))
-    → after ≡ place_from test 0 (map mount_of (take (i + 1) mounts))
+    → before ≡ index_from test 0 (map mount_of (take i mounts))
+    → after ≡ index_from test 0 (map mount_of (take (i + 1) mounts))
 place_noted test mounts i default less before after b is tested sofar =
     is ∙ (λ j. or_else (sofar j) (if tested j then Some i else None)) ∙ sym (place_more test mounts i default less)
 
 -- a place is found just where some element passes
 pub is_some-place : {A : Type 0} (test : A → Bool) (k : ℕ) (list : List A)
-    → is_some (place_from test k list) ≡ list_any test list
+    → is_some (index_from test k list) ≡ list_any test list
 is_some-place test k [] = refl
 is_some-place test k (a ∷ list) = by (test a) (is_some-place test (k + 1) list)
   where
-    by : (b : Bool) → is_some (place_from test (k + 1) list) ≡ list_any test list
-        → is_some (if b then Some k else place_from test (k + 1) list) ≡ (b || list_any test list)
+    by : (b : Bool) → is_some (index_from test (k + 1) list) ≡ list_any test list
+        → is_some (if b then Some k else index_from test (k + 1) list) ≡ (b || list_any test list)
     by true rest = refl
     by false rest = rest
 
 below_length : (test : Mount ℕ → Bool) (k : ℕ) (list : List Kept) (i : ℕ)
-    → place_from test k (map mount_of list) ≡ Some i → i < k + length list
+    → index_from test k (map mount_of list) ≡ Some i → i < k + length list
 below_length test k [] i e = absurd (true≢false (sym (ap is_some e)))
 below_length test k (a ∷ list) i e = by (test (mount_of a)) e (below_length test (k + 1) list i)
   where
-    by : (b : Bool) → (if b then Some k else place_from test (k + 1) (map mount_of list)) ≡ Some i
-        → (place_from test (k + 1) (map mount_of list) ≡ Some i → i < (k + 1) + length list) → i < k + length (a ∷ list)
+    by : (b : Bool) → (if b then Some k else index_from test (k + 1) (map mount_of list)) ≡ Some i
+        → (index_from test (k + 1) (map mount_of list) ≡ Some i → i < (k + 1) + length list) → i < k + length (a ∷ list)
     by true same later = let at : k ≡ i = same_Some k i same in omega (arith, at)
     by false found later = let rest : i < (k + 1) + length list = later found in omega (arith, rest)
 
 -- the place of a mount, or 0, is a place of the list
 pub place_within : (test : Mount ℕ → Bool) (mounts : List Kept) (n : ℕ)
-    → n ≡ unwrap_or (place_from test 0 (map mount_of mounts)) 0
+    → n ≡ unwrap_or (index_from test 0 (map mount_of mounts)) 0
     → 0 < length mounts → n < length mounts
-place_within test mounts n is some = by (place_from test 0 (map mount_of mounts)) (below_length test 0 mounts) is
+place_within test mounts n is some = by (index_from test 0 (map mount_of mounts)) (below_length test 0 mounts) is
   where
     by : (o : Option ℕ) → ((i : ℕ) → o ≡ Some i → i < 0 + length mounts) → n ≡ unwrap_or o 0 → n < length mounts
     by None within same = omega (arith, same, some)

@@ -2,7 +2,7 @@
 use Rattle.std.specs.Prelude.{List, None, Option, Some, [], find, length, map, nat_eq, not, option_map, if◌then◌else◌, ℕ, ◌*◌, ◌+◌, ◌<◌}
 use Rattle.vt_spec.specs.Lists.{Fresh, then_some, when}
 use Rattle.vt_spec.specs.Machine.Attach as meant
-use Rattle.vt_spec.specs.Machine.Attach.{Copies, Twig, copies_from, copy_number, copy_place, image, is_destination}
+use Rattle.vt_spec.specs.Machine.Attach.{Copies, Twig, copies_from, copy_number, copy_mount_point, image, is_destination}
 use Rattle.vt_spec.specs.Machine.Attach.{twig_master, twig_of}
 use Rattle.vt_spec.specs.Machine.Mounts.{Mount, Propagation, group_of}
 use Rattle.vt_spec.specs.Machine.Mounts.Propagation.{Private, Shared, Slave, Unbindable}
@@ -100,7 +100,7 @@ abbrev pub copied_by : Copying → Option ℕ → Mount ℕ → Mount ℕ → Mo
 copied_by copying nearest part origin = record origin {
   number = copy_number nat_eq (supply copying) (graft_seen copying) part.number origin.number;
   namespace = part.namespace;
-  mount_point = Some (copy_place nat_eq (supply copying) (graft_seen copying) part.number origin);
+  mount_point = Some (copy_mount_point nat_eq (supply copying) (graft_seen copying) part.number origin);
   propagation =
       if is_destination nat_eq (graft_seen copying) part.number then (twig copying origin).propagation
       else type_by_master copying nearest origin part.propagation;

@@ -1,7 +1,7 @@
 -- Where the mounts and the groups of an attachment stand.
 use Rattle.std.specs.Prelude.{List, Option, map, nat_eq, ℕ, ◌≡◌}
 use Rattle.std.specs.HashMap.{get}
-use Rattle.vt_spec.specs.Lists.{place_from}
+use Rattle.vt_spec.specs.Lists.{index_from}
 use Rattle.vt_spec.specs.Machine.Mounts.{Mount}
 use Rattle.vt_spec.specs.Machine.Receives.{is_member_of}
 use Rattle.vt_location.specs.declared.numbers.GroupId.{GroupId}
@@ -15,10 +15,10 @@ use Rattle.vt_group.specs.Sets.{same_group}
 
 -- where the first mount with a number stands, and the first in a group
 abbrev pub place_of : List (Mount ℕ) → ℕ → Option ℕ
-place_of mounts number = place_from (λ mount. nat_eq number mount.number) 0 mounts
+place_of mounts number = index_from (λ mount. nat_eq number mount.number) 0 mounts
 
 abbrev pub place_of_group : List (Mount ℕ) → ℕ → Option ℕ
-place_of_group mounts group = place_from (is_member_of nat_eq group) 0 mounts
+place_of_group mounts group = index_from (is_member_of nat_eq group) 0 mounts
 
 -- these are the indexes of a graft
 pub record IsIndexed (indexes : Indexes) (graft : Graft) : Type 0 where

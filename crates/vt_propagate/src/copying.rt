@@ -2,7 +2,7 @@
 ghost use Rattle.std.specs.Prelude.{◌≡◌, ◌<◌, ◌*◌, ◌++◌, IfErr, IfOk, OnOk, filter_map, flat_map, length, map, nat_eq, option_map, ℕ};
 ghost use Rattle.vt_spec.specs.declared.errors.Rule.TheVariants.{S5};
 ghost use Rattle.vt_spec.specs.Errors.{denial};
-ghost use Rattle.vt_spec.specs.Machine.Attach.{copy_place as copy_place_of, is_top as is_top_of, parts_of, twig_master};
+ghost use Rattle.vt_spec.specs.Machine.Attach.{copy_mount_point as copy_mount_point_of, is_top as is_top_of, parts_of, twig_master};
 ghost use Rattle.vt_spec.specs.Machine.Types.{master_after as master_after_of};
 ghost use Rattle.vt_spec.specs.Machine.World.{World};
 ghost use Rattle.vt_group.specs.Steps.{group_number};
@@ -172,7 +172,7 @@ impl<'a> Copying<'a> {
         Mount {
             number: self.copy_number(part.number, origin.number),
             namespace: part.namespace,
-            mount_point: Some(self.copy_place(part.number, origin)),
+            mount_point: Some(self.copy_mount_point(part.number, origin)),
             propagation,
             ..*origin
         }
@@ -180,12 +180,13 @@ impl<'a> Copying<'a> {
 
     // Where the copy of a mount at a part stands: the first of the tree at the destination, each other one on the copy
     // of its parent.
-    fn copy_place(&self, part: MountId, origin: &Mount) -> Location
+    fn copy_mount_point(&self, part: MountId, origin: &Mount) -> Location
         requires ready { IsReady self.now }
         requires parts { 0 < length self.now.graft.parts.now }
         requires tree { 0 < length self.now.graft.tree.now }
         ensures { location_of result
-            ≡ copy_place_of nat_eq (supply self.now) (graft_seen self.now) (counted part.count) (mount_of origin.now) }
+            ≡ copy_mount_point_of nat_eq (supply self.now) (graft_seen self.now) (counted part.count)
+            (mount_of origin.now) }
     {
         if self.is_top(origin.number) {
             return Location {

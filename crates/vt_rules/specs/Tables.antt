@@ -7,9 +7,9 @@ use Rattle.vt_spec.specs.Lists.{holds_of}
 use Rattle.vt_spec.specs.Machine.Looks.{Looks, is_directory_at, mount_at}
 use Rattle.vt_spec.specs.Machine.Mounts as meant
 use Rattle.vt_spec.specs.Machine.Mounts.{is_shared, is_unbindable}
-use Rattle.vt_spec.specs.Machine.Rules.Conditions.{is_elsewhere, is_kept, is_no_root, is_point_anywhere, is_point_in, is_read_only, may_not}
+use Rattle.vt_spec.specs.Machine.Rules.Conditions.{is_elsewhere, is_kept, is_no_root, is_mount_point_anywhere, is_mount_point_in, is_read_only, may_not}
 use Rattle.vt_spec.specs.Machine.Rules.Mounting.{has_shared_parent}
-use Rattle.vt_spec.specs.Machine.Rules.Removing.{changes_parent, is_filled, same_filesystem}
+use Rattle.vt_spec.specs.Machine.Rules.Removing.{changes_parent, is_nonempty, same_filesystem}
 use Rattle.vt_spec.specs.Machine.Walking.{Place}
 use Rattle.vt_spec.specs.Machine.World.{Task}
 use Rattle.vt_spec.specs.Rights.{write_right}
@@ -24,7 +24,7 @@ abbrev pub kind_rules : (ℕ → ℕ → Bool) → Looks ℕ → Place ℕ → m
 kind_rules eq looks to old =
     (not (is_directory_at looks old) && holds_of (is_directory_at looks) to.object, E2)
     ∷ (is_directory_at looks old && holds_of (λ new. not (is_directory_at looks new)) to.object, E3)
-    ∷ (is_directory_at looks old && holds_of (is_filled looks) to.object, E4)
+    ∷ (is_directory_at looks old && holds_of (is_nonempty looks) to.object, E4)
     ∷ (
       is_directory_at looks old && same_filesystem eq looks old to.parent
           && looks.is_under (mount_at looks old).filesystem old.node to.parent.node,
@@ -36,7 +36,7 @@ kind_rules eq looks to old =
 abbrev pub way_rules : (ℕ → ℕ → Bool) → Looks ℕ → Task ℕ → Place ℕ → Place ℕ → meant.Location ℕ → Rules
 way_rules eq looks task from to old =
     (is_read_only looks from.parent || is_read_only looks to.parent, F1)
-    ∷ (is_point_anywhere looks old || holds_of (is_point_in eq looks task.namespace) to.object, P1)
+    ∷ (is_mount_point_anywhere looks old || holds_of (is_mount_point_in eq looks task.namespace) to.object, P1)
     ∷ (not (eq from.parent.mount to.parent.mount), P2)
     ∷ []
 

@@ -15,7 +15,7 @@ pub use making::{empty_directory, may_make, new_file_permit, rewrite_permit};
 pub use mounting::{is_attached_somewhere, may_move};
 pub use removing::{is_name_of, may_remove, may_rename, may_stay};
 pub use rights::{
-    attr_at, is_directory, is_elsewhere, is_filled, is_kind, is_no_root, is_noexec, is_read_only,
+    attr_at, is_directory, is_elsewhere, is_kind, is_no_root, is_noexec, is_nonempty, is_read_only,
     is_unbindable, lacks, may, name_at, new_attr, symlink_attr,
 };
 pub use tasks::{is_barren, may_enter, may_fork, named};

@@ -2,7 +2,7 @@
 ghost use Rattle.std.specs.Prelude.{◌≡◌, ◌||◌, nat_eq, option_map, Ok, ℕ};
 ghost use Rattle.vt_spec.specs.Errors.{unless};
 ghost use Rattle.vt_spec.specs.Lists.{holds_of};
-ghost use Rattle.vt_spec.specs.Machine.Rules.Conditions.{is_kept, is_point_anywhere, is_point_in};
+ghost use Rattle.vt_spec.specs.Machine.Rules.Conditions.{is_kept, is_mount_point_anywhere, is_mount_point_in};
 ghost use Rattle.vt_spec.specs.Machine.Rules.Removing.{changes_parent, is_one_object, rename_rules, same_object_rules};
 ghost use Rattle.vt_spec.specs.Machine.Walking.{Place as PlaceMeant};
 ghost use Rattle.vt_location.specs.Locations.{location_of};
@@ -11,7 +11,7 @@ ghost use Rattle.vt_rules.specs.Places.{IsPlaceOf};
 ghost use Rattle.vt_rules.specs.Tables.{kind_rules, remove_rules, right_rules, way_rules};
 
 use crate::rights::{
-    is_directory, is_filled, is_kept, is_read_only, is_same_filesystem, is_same_inode,
+    is_directory, is_kept, is_nonempty, is_read_only, is_same_filesystem, is_same_inode,
     is_same_location, may,
 };
 use vt_cred::Rights;
@@ -86,7 +86,7 @@ fn may_replace<L: Look>(world: &L, to: &Place, object: Location) -> Result<(), D
         if moves_directory && !is_directory(world, replaced) {
             return Err(Rule::E3.denial());
         }
-        if moves_directory && is_filled(world, replaced) {
+        if moves_directory && is_nonempty(world, replaced) {
             return Err(Rule::E4.denial());
         }
     }
@@ -101,15 +101,15 @@ fn may_replace<L: Look>(world: &L, to: &Place, object: Location) -> Result<(), D
 
 // Whether a mount stands in the way of a rename: on the old object in any namespace, or on the new one in the caller's.
 fn is_point<L: Look>(world: &L, who: &Task, object: Location, replaced: Option<Location>) -> bool
-    ensures { result ≡ (is_point_anywhere (L.looks world.now) (location_of object)
-        || holds_of (is_point_in nat_eq (L.looks world.now) (task_of who.now).namespace)
+    ensures { result ≡ (is_mount_point_anywhere (L.looks world.now) (location_of object)
+        || holds_of (is_mount_point_in nat_eq (L.looks world.now) (task_of who.now).namespace)
         (option_map location_of replaced)) }
 {
-    if world.is_point_anywhere(object) {
+    if world.is_mount_point_anywhere(object) {
         return true;
     }
     match replaced {
-        Some(replaced) => world.is_point_in(who.namespace, replaced),
+        Some(replaced) => world.is_mount_point_in(who.namespace, replaced),
         None => false,
     }
 }

@@ -7,7 +7,7 @@ ghost use Rattle.vt_spec.specs.Machine.Mounts.{is_shared, is_unbindable, same_lo
 ghost use Rattle.vt_spec.specs.Machine.Rows.{exact_attr, new_attr};
 ghost use Rattle.vt_spec.specs.Machine.Rules.Attributes.{attr_at};
 ghost use Rattle.vt_spec.specs.Machine.Rules.Conditions.{is_elsewhere, is_kept, is_no_root, is_read_only, kind_at, lacks};
-ghost use Rattle.vt_spec.specs.Machine.Rules.Removing.{is_filled, same_filesystem};
+ghost use Rattle.vt_spec.specs.Machine.Rules.Removing.{is_nonempty, same_filesystem};
 ghost use Rattle.vt_spec.specs.Machine.Walking.{name_of};
 ghost use Rattle.vt_cred.specs.Caps.{capability_bits};
 ghost use Rattle.vt_cred.specs.Rights.{right_bits};
@@ -50,11 +50,11 @@ pub fn is_directory<L: Look>(world: &L, at: Location) -> bool
 
 /// Whether a directory with entries is there.
 #[inline(always)]
-pub fn is_filled<L: Look>(world: &L, at: Location) -> bool
-    ensures { result ≡ is_filled (L.looks world.now) (location_of at) }
+pub fn is_nonempty<L: Look>(world: &L, at: Location) -> bool
+    ensures { result ≡ is_nonempty (L.looks world.now) (location_of at) }
 {
     match world.node(at) {
-        Some(node) => node.is_filled(),
+        Some(node) => node.is_nonempty(),
         None => false,
     }
 }

@@ -41,7 +41,7 @@ pub cut_at_newline : (bytes front back rest : List ℕ) (n : ℕ) → n < length
     → ((k : ℕ) → k < n → get_or bytes k 0 ≢ 10) →
     front ≡ take n bytes → back ≡ drop n bytes → rest ≡ take (length back - 1) (drop 1 back)
     → (bytes ≡ front ++ 10 ∷ rest) × HasNoNewline front
-cut_at_newline bytes front back rest n within newline before is_front is_back is_rest =
+cut_at_newline bytes front back rest n within newline before is_prefix is_back is_rest =
     let at : drop n bytes ≡ 10 ∷ drop (n + 1) bytes = drop_more bytes n 0 within
     ∙ ap (λ byte. byte ∷ drop (n + 1) bytes) newline in
     let whole : rest ≡ drop (n + 1) bytes = is_rest ∙ take_rest back 1 ∙ ap (drop 1) (is_back ∙ at) in
@@ -50,8 +50,8 @@ cut_at_newline bytes front back rest n within newline before is_front is_back is
     λ e. before k low (sym (get_or-take n bytes k 0 low) ∙ e) in (
       sym (take-append-drop n bytes) ∙ ap (λ back. take n bytes ++ back) at
           ∙ ap (λ rest. take n bytes ++ 10 ∷ rest) (sym whole)
-          ∙ ap (λ front. front ++ 10 ∷ rest) (sym is_front),
-      subst HasNoNewline (sym is_front) (HasNoNewline-each (take n bytes) other),
+          ∙ ap (λ front. front ++ 10 ∷ rest) (sym is_prefix),
+      subst HasNoNewline (sym is_prefix) (HasNoNewline-each (take n bytes) other),
     )
 
 pub HasNoNewline-append : (line more : List ℕ) → HasNoNewline line → HasNoNewline more → HasNoNewline (line ++ more)

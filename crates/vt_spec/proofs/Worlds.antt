@@ -25,7 +25,7 @@ use Rattle.vt_spec.specs.Machine.Settled.{only_used, only_used_by, used_in}
 use Rattle.vt_spec.specs.Machine.Walk.{LastWord, is_dot, is_dot_dot, is_no_word, is_special}
 use Rattle.vt_spec.specs.Machine.Walk.LastWord.{Dot, DotDot, Named, NoWord}
 use Rattle.vt_spec.specs.Machine.World.{Filesystem, Layer, Overlay, Real, Task, World, filesystem_at, layers_of, mount_at, mount_numbered, replaced_if_called, replaced_if_numbered, upper_object, with_mounts}
-use Rattle.vt_spec.specs.Machine.World.Real.{Below, Upper}
+use Rattle.vt_spec.specs.Machine.World.Real.{Lower, Upper}
 use Rattle.std.proofs.Common.{zero, suc, ◌++◌, filter}
 use Rattle.vt_spec.specs.Machine.Mounts.{children, stands_on, tree_from}
 use Rattle.vt_spec.proofs.Lists.{among-from_filter, among-from_flat_map}
@@ -333,7 +333,7 @@ pub upper_real : (o : Option (Real ℕ)) (object : ℕ) → holds_of (nat_eq obj
     → o ≡ Some (Upper object)
 upper_real None object e = absurd (true≢false (sym e))
 upper_real (Some (Upper other)) object e = ap (λ n. Some (Upper n)) (sym (eqb-true object other e))
-upper_real (Some (Below depth path)) object e = absurd (true≢false (sym e))
+upper_real (Some (Lower depth path)) object e = absurd (true≢false (sym e))
 
 -- what stands in an upper layer stands where what has an upper object keeps it
 pub stands_still : (real : ℕ → Option (Real ℕ)) (grown : ℕ → Option (Real ℕ))

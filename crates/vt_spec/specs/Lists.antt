@@ -27,10 +27,10 @@ abbrev pub is_among : {A : Type 0} → (A → A → Bool) → A → List A → B
 is_among eq a list = list_any (eq a) list
 
 -- the list without its last
-abbrev pub front_of : {A : Type 0} → List A → List A
-front_of [] = []
-front_of (a ∷ []) = []
-front_of (a ∷ b ∷ rest) = a ∷ front_of (b ∷ rest)
+abbrev pub without_last : {A : Type 0} → List A → List A
+without_last [] = []
+without_last (a ∷ []) = []
+without_last (a ∷ b ∷ rest) = a ∷ without_last (b ∷ rest)
 
 -- the last element, or a given one where there is none
 abbrev pub last_or : {A : Type 0} → A → List A → A
@@ -48,9 +48,9 @@ rest_of [] = []
 rest_of (a ∷ rest) = rest
 
 -- the non-empty prefixes of a list, the shortest first
-abbrev pub fronts : {A : Type 0} → List A → List (List A)
-fronts [] = []
-fronts (a ∷ rest) = (a ∷ []) ∷ map (λ front. a ∷ front) (fronts rest)
+abbrev pub prefixes : {A : Type 0} → List A → List (List A)
+prefixes [] = []
+prefixes (a ∷ rest) = (a ∷ []) ∷ map (λ prefix. a ∷ prefix) (prefixes rest)
 
 -- each with its place in the list, from a number on
 abbrev pub counted_from : {A : Type 0} → ℕ → List A → List (ℕ × A)
@@ -58,9 +58,9 @@ counted_from k [] = []
 counted_from k (a ∷ rest) = (k, a) ∷ counted_from (k + 1) rest
 
 -- the place of the first that passes, from a number on
-abbrev pub place_from : {A : Type 0} → (A → Bool) → ℕ → List A → Option ℕ
-place_from test k [] = None
-place_from test k (a ∷ rest) = if test a then Some k else place_from test (k + 1) rest
+abbrev pub index_from : {A : Type 0} → (A → Bool) → ℕ → List A → Option ℕ
+index_from test k [] = None
+index_from test k (a ∷ rest) = if test a then Some k else index_from test (k + 1) rest
 
 -- some two of the list pass
 abbrev pub any_pair : {A : Type 0} → (A → A → Bool) → List A → Bool

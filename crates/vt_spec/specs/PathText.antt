@@ -7,7 +7,7 @@ use Rattle.vt_spec.specs.declared.errors.Rule.TheVariants.{W1, W2}
 use Rattle.vt_spec.specs.Errors.{Rules, unless}
 
 -- the parts with one byte more before them; a separator ends a part
-abbrev pub with_byte : Bool → ℕ → List (List ℕ) → List (List ℕ)
+abbrev pub with_byte : (slash : Bool) → ℕ → List (List ℕ) → List (List ℕ)
 with_byte true byte parts = [] ∷ parts
 with_byte false byte [] = (byte ∷ []) ∷ []
 with_byte false byte (part ∷ parts) = (byte ∷ part) ∷ parts

@@ -5,13 +5,13 @@ use Rattle.vt_spec.specs.Lists.{Fresh}
 use Rattle.vt_spec.specs.Machine.Mounts.{Location, Mount}
 use Rattle.vt_spec.specs.Machine.Namespaces.{pivoted, pivoted_task}
 use Rattle.vt_spec.specs.Machine.Outcome.Tasks.{with_child}
-use Rattle.vt_spec.specs.Machine.World.{Task, World, all_locations, first_place, opening, task_called, with_task, without_task}
+use Rattle.vt_spec.specs.Machine.World.{Task, World, all_locations, first_location, opening, task_called, with_task, without_task}
 use Rattle.vt_tasks.specs.Counts.{locations_in}
 use Rattle.vt_tasks.specs.TasksValue.{Tasks, called, changed_called, first_task_at, replaced, with_child_behind, without_called}
 
 abbrev pub OpensWithTheFirst : Type 0
 OpensWithTheFirst =
-    (fresh : Fresh ℕ) → (opening nat_eq fresh).tasks ≡ first_task_at (fresh 1) (first_place nat_eq fresh) ∷ []
+    (fresh : Fresh ℕ) → (opening nat_eq fresh).tasks ≡ first_task_at (fresh 1) (first_location nat_eq fresh) ∷ []
 
 abbrev pub OneIsCalled : Type 0
 OneIsCalled = (world : World ℕ) (name : TaskName) → task_called world name ≡ called name world.tasks

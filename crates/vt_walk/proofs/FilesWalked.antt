@@ -2,7 +2,7 @@
 use Rattle.std.proofs.Common.{nat_eq, true, not, is_some, ◌&&◌, [], ◌∷◌, refl, ◌≡◌, ℕ, suc, ◌+◌, ◌-◌, ◌<◌, ◌≤◌, Bool, false, List, None, Some, Result, Ok, Err, sym, ap, ◌∙◌, arith, reverse, ◌||◌}
 use Rattle.vt_spec.specs.Machine.Walking
 use Rattle.vt_spec.specs.Machine.Walking.{file_walk, new_name_rules, stopped_by, then_walk, walk_end, walk_unless, Here, LastWord, Place, final_word, follow_rules, symlink_of, symlink_there, walk_start}
-use Rattle.vt_walk.specs.PlainWalks.{entered, file_or_symlink, file_walked, front_walked, placed, symlink_start}
+use Rattle.vt_walk.specs.PlainWalks.{entered, file_or_symlink, file_walked, prefix_walked, placed, symlink_start}
 use Rattle.vt_spec.specs.declared.errors.Deny.{Deny}
 use Rattle.vt_spec.specs.declared.errors.Rule.TheVariants.{W7, W8}
 use Rattle.vt_spec.specs.Errors.{and_then, denial, unless}
@@ -12,7 +12,7 @@ use Rattle.vt_spec.specs.Machine.World.{Task}
 use Rattle.vt_spec.specs.Machine.Looks.{Looks}
 use Rattle.vt_walk.proofs.RefusalLemmas.{unless-answer}
 use Rattle.vt_walk.proofs.Trails.{file-plain, place-checked}
-use Rattle.vt_walk.proofs.WalksOfPaths.{front_walked-split, parsed-walkable, walked_from}
+use Rattle.vt_walk.proofs.WalksOfPaths.{prefix_walked-split, parsed-walkable, walked_from}
 use Rattle.vt_text.specs.Walkable.{IsWalkable}
 use Rattle.vt_walk.specs.WalkValue.{place_end}
 use Rattle.vt_spec.proofs.Refusals.{unless-passed, unless-refused}
@@ -43,7 +43,7 @@ module _ (looks : Looks ℕ) (task : Task ℕ) where
 
   module _ (turn : ℕ) (below : turn < 41) (start : Here ℕ) (text : List ℕ) (slash : Bool) where
     one-turn : file_walked looks task (41 - turn) start text slash
-        ≡ and_then (front_walked looks task start (reverse (words text)))
+        ≡ and_then (prefix_walked looks task start (reverse (words text)))
         (last_put (41 - (turn + 1)) (slash || ends_in_slash text) (final_word (reverse (words text))))
     one-turn =
         let some : 41 - turn ≡ suc (41 - (turn + 1)) = omega arith in
@@ -54,7 +54,7 @@ module _ (looks : Looks ℕ) (task : Task ℕ) where
       pub file_walked-by : (r : Result (Here ℕ) Deny) → r ≡ walked_from looks task start front
           → and_then r (last_put (41 - (turn + 1)) wanted last) ≡ file_walked looks task (41 - turn) start text slash
       file_walked-by r walked =
-          (λ i. and_then ((walked ∙ front_walked-split looks task start text front split) i)
+          (λ i. and_then ((walked ∙ prefix_walked-split looks task start text front split) i)
           (last_put (41 - (turn + 1)) (asked i) (ends i))) ∙ sym one-turn
 
       module _ (here : Here ℕ) (walked : Ok here ≡ walked_from looks task start front) where

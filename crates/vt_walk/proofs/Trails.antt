@@ -11,7 +11,7 @@ use Rattle.vt_spec.specs.Machine.Walking.LastWord.{Dot, DotDot, Named, NoWord}
 use Rattle.vt_spec.specs.Machine.World.{Task}
 use Rattle.vt_spec.specs.PathText.{ends_in_slash, words}
 use Rattle.vt_walk.proofs.RefusalLemmas.{unless-and_then}
-use Rattle.vt_walk.specs.PlainWalks.{Follow, file_or_symlink, file_walked, followed, front_walked, if_symlink, last_walked, placed, standing, symlink_start, symlink_walked, word_walked, words_walked}
+use Rattle.vt_walk.specs.PlainWalks.{Follow, file_or_symlink, file_walked, followed, prefix_walked, if_symlink, last_walked, placed, standing, symlink_start, symlink_walked, word_walked, words_walked}
 use Rattle.vt_walk.specs.WalkValue.{location_end, place_end, without_steps}
 
 abbrev pub plain : Here ℕ → Here ℕ
@@ -169,8 +169,8 @@ module _ (looks : Looks ℕ) (task : Task ℕ) where
   all-plain here ws = words-plain (Walking.followed nat_eq looks task) (followed looks task) followed-plain here ws
 
   pub front-plain : (here : Here ℕ) (ws : List (List ℕ))
-      → plain_end (Walking.front_walked nat_eq looks task (Walking.followed nat_eq looks task) here ws)
-      ≡ front_walked looks task (plain here) ws
+      → plain_end (Walking.prefix_walked nat_eq looks task (Walking.followed nat_eq looks task) here ws)
+      ≡ prefix_walked looks task (plain here) ws
   front-plain here [] = refl
   front-plain here (word ∷ front) = all-plain here front
 
@@ -233,7 +233,7 @@ module _ (looks : Looks ℕ) (task : Task ℕ) where
       let last : LastWord = final_word (reverse (words text)) in
       let put : Here ℕ → Result (Place ℕ) Deny = λ here.
       and_then (placed looks task here.location last wanted) (linked depth here wanted) in
-      then-place (Walking.front_walked nat_eq looks task (Walking.followed nat_eq looks task) start
+      then-place (Walking.prefix_walked nat_eq looks task (Walking.followed nat_eq looks task) start
       (reverse (words text))) _ put
       (λ here. place-then (Walking.placed nat_eq looks task here last wanted) _ (linked depth (plain here) wanted)
       (λ place. file-or-plain place (symlink_there nat_eq looks place) _ _

@@ -18,7 +18,7 @@ use Rattle.vt_text.proofs.Limits.{IsTooLong-from_test, not_walkable}
 use Rattle.vt_text.specs.Walkable.{IsWalkable}
 use Rattle.vt_walk.proofs.RefusalLemmas.{unless-stopped}
 use Rattle.vt_walk.proofs.Trails.{all-plain, front-plain, last-of-plain, location-checked, location-plain, placed-of-plain}
-use Rattle.vt_walk.specs.PlainWalks.{followed, front_walked, last_walked, placed, words_walked}
+use Rattle.vt_walk.specs.PlainWalks.{followed, prefix_walked, last_walked, placed, words_walked}
 use Rattle.vt_walk.specs.WalkValue.{location_end, place_end}
 use Rattle.vt_spec.proofs.Refusals.{unless-let_through}
 
@@ -44,17 +44,17 @@ module _ (looks : Looks ℕ) (task : Task ℕ) where
   abbrev pub walked_from : Here ℕ → List (List ℕ) → Result (Here ℕ) Deny
   walked_from start ws = words_walked looks task (followed looks task) start (reverse ws)
 
-  front_walked-rest : (start : Here ℕ) (ws : List (List ℕ))
-      → front_walked looks task start ws ≡ words_walked looks task (followed looks task) start (rest_of ws)
-  front_walked-rest start [] = refl
-  front_walked-rest start (word ∷ front) = refl
+  prefix_walked-rest : (start : Here ℕ) (ws : List (List ℕ))
+      → prefix_walked looks task start ws ≡ words_walked looks task (followed looks task) start (rest_of ws)
+  prefix_walked-rest start [] = refl
+  prefix_walked-rest start (word ∷ front) = refl
 
-  pub front_walked-split : (start : Here ℕ) (text : List ℕ) (front : List (List ℕ))
+  pub prefix_walked-split : (start : Here ℕ) (text : List ℕ) (front : List (List ℕ))
       → reverse front ≡ rest_of (reverse (words text))
-      → walked_from start front ≡ front_walked looks task start (reverse (words text))
-  front_walked-split start text front split =
+      → walked_from start front ≡ prefix_walked looks task start (reverse (words text))
+  prefix_walked-split start text front split =
       ap (words_walked looks task (followed looks task) start) split
-      ∙ sym (front_walked-rest start (reverse (words text)))
+      ∙ sym (prefix_walked-rest start (reverse (words text)))
 
   -- what is asked at the end of a walk
   abbrev pub slash_checked : List ℕ → Location ℕ → Result (Location ℕ) Deny
@@ -114,9 +114,9 @@ module _ (looks : Looks ℕ) (task : Task ℕ) where
     module _ (r : Result (Here ℕ) Deny) (front : List (List ℕ)) (last : LastWord)
         (split : reverse front ≡ rest_of (reverse (words bytes))) (ends : last ≡ final_word (reverse (words bytes)))
         (walked : r ≡ walked_from start front) where
-      front_walked-by : r ≡ front_walked looks task (walk_start task path) (reverse (words path))
-      front_walked-by = walked ∙ front_walked-split start bytes front split
-          ∙ (λ i. front_walked looks task (begun-path i) (reverse (words (same i))))
+      prefix_walked-by : r ≡ prefix_walked looks task (walk_start task path) (reverse (words path))
+      prefix_walked-by = walked ∙ prefix_walked-split start bytes front split
+          ∙ (λ i. prefix_walked looks task (begun-path i) (reverse (words (same i))))
 
       last-by : last ≡ final_word (reverse (words path))
       last-by = ends ∙ ap (λ text. final_word (reverse (words text))) same
@@ -125,17 +125,17 @@ module _ (looks : Looks ℕ) (task : Task ℕ) where
           → location_end (and_then r (λ here. last_walked looks task here last))
           ≡ location_end (walk_end (symlink_walk nat_eq looks task path))
       symlink_walk-by no_slash =
-          (λ i. location_end (and_then ((front_walked-by
+          (λ i. location_end (and_then ((prefix_walked-by
           ∙ sym (front-plain looks task (walk_start task path) (reverse (words path)))) i)
           (λ here. last_walked looks task here (last-by i))))
           ∙ ap location_end (sym (last-of-plain looks task
-          (Walking.front_walked nat_eq looks task (Walking.followed nat_eq looks task) (walk_start task path)
+          (Walking.prefix_walked nat_eq looks task (Walking.followed nat_eq looks task) (walk_start task path)
           (reverse (words path))) (final_word (reverse (words path)))))
-          ∙ location-plain (then_walk (Walking.front_walked nat_eq looks task (Walking.followed nat_eq looks task)
+          ∙ location-plain (then_walk (Walking.prefix_walked nat_eq looks task (Walking.followed nat_eq looks task)
           (walk_start task path) (reverse (words path))) (λ here.
           Walking.last_walked nat_eq looks task here (final_word (reverse (words path)))))
           ∙ sym (ap (λ r. location_end (walk_end (then_walk (stopped_by [] r) (λ text.
-          then_walk (Walking.front_walked nat_eq looks task (Walking.followed nat_eq looks task) (walk_start task text)
+          then_walk (Walking.prefix_walked nat_eq looks task (Walking.followed nat_eq looks task) (walk_start task text)
           (reverse (words text))) (λ here.
           Walking.last_walked nat_eq looks task here (final_word (reverse (words text))))))))
           (parsed-walkable path walkable))
@@ -144,14 +144,14 @@ module _ (looks : Looks ℕ) (task : Task ℕ) where
       pub place_walk-by : and_then r (λ here. placed looks task here.location last (ends_in_slash path))
           ≡ place_end (walk_end (place_walk nat_eq looks task path))
       place_walk-by =
-          (λ i. and_then ((front_walked-by
+          (λ i. and_then ((prefix_walked-by
           ∙ sym (front-plain looks task (walk_start task path) (reverse (words path)))) i)
           (λ here. placed looks task here.location (last-by i) (ends_in_slash path)))
           ∙ sym (placed-of-plain looks task
-          (Walking.front_walked nat_eq looks task (Walking.followed nat_eq looks task) (walk_start task path)
+          (Walking.prefix_walked nat_eq looks task (Walking.followed nat_eq looks task) (walk_start task path)
           (reverse (words path))) (final_word (reverse (words path))) (ends_in_slash path))
           ∙ sym (ap (λ r. place_end (walk_end (then_walk (stopped_by [] r) (λ text.
-          then_walk (Walking.front_walked nat_eq looks task (Walking.followed nat_eq looks task) (walk_start task text)
+          then_walk (Walking.prefix_walked nat_eq looks task (Walking.followed nat_eq looks task) (walk_start task text)
           (reverse (words text))) (λ here.
           Walking.placed nat_eq looks task here (final_word (reverse (words text))) (ends_in_slash text))))))
           (parsed-walkable path walkable))

@@ -50,8 +50,8 @@ module _ (looks : Looks ℕ) (task : Task ℕ) where
   -- the words walked, of which the last comes first; every symlink is followed
   abbrev pub words_walked : Follow → Here ℕ → List (List ℕ) → Result (Here ℕ) Deny
   words_walked follow here [] = Ok here
-  words_walked follow here (word ∷ front) =
-      and_then (words_walked follow here front) (λ reached.
+  words_walked follow here (word ∷ prefix) =
+      and_then (words_walked follow here prefix) (λ reached.
       and_then (word_walked reached (last_word word)) (λ next.
       if_symlink next (symlink_text (looks.node next.location)) (follow reached.location next)))
 
@@ -71,9 +71,9 @@ module _ (looks : Looks ℕ) (task : Task ℕ) where
   followed directory link text = symlink_walked (most_symlinks + 1) directory link text
 
   -- all words but the last
-  abbrev pub front_walked : Here ℕ → List (List ℕ) → Result (Here ℕ) Deny
-  front_walked here [] = Ok here
-  front_walked here (word ∷ front) = words_walked followed here front
+  abbrev pub prefix_walked : Here ℕ → List (List ℕ) → Result (Here ℕ) Deny
+  prefix_walked here [] = Ok here
+  prefix_walked here (word ∷ prefix) = words_walked followed here prefix
 
   -- what a last word names in a directory, with no symlink followed and no mount entered
   abbrev pub placed : Location ℕ → LastWord → Bool → Result (Place ℕ) Deny
@@ -87,7 +87,7 @@ module _ (looks : Looks ℕ) (task : Task ℕ) where
   abbrev pub file_walked : ℕ → Here ℕ → List ℕ → Bool → Result (Place ℕ) Deny
   file_walked zero start text slash = Err (denial W7)
   file_walked (suc depth) start text slash =
-      and_then (front_walked start (reverse (words text))) (λ here.
+      and_then (prefix_walked start (reverse (words text))) (λ here.
       and_then (placed here.location (final_word (reverse (words text))) (slash || ends_in_slash text)) (λ place.
       file_or_symlink looks place (symlink_there nat_eq looks place) (λ inner.
       unless (follow_rules nat_eq looks (symlink_of here place) inner)

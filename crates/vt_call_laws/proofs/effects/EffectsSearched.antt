@@ -5,7 +5,7 @@ use Rattle.vt_spec.specs.Machine.Mounts.{Location}
 use Rattle.vt_spec.specs.Machine.Looks.{looks_of}
 use Rattle.vt_spec.specs.Machine.Rightful.{node_allows}
 use Rattle.vt_spec.specs.Machine.Rules.Removing.{rename_new_walk}
-use Rattle.vt_spec.specs.Machine.Walk.{Here, LastWord, Place, Stop, file_or_symlink, file_walk, file_walked, final_word, followed, follow_rules, front_walked, is_directory_there, is_special, symlink_of, symlink_start, symlink_there, new_leaf_walk, new_name_rules, new_walk, object_named, old_leaf_walk, old_walk, path_text, place_walk, placed, search_rules, steps_at, then_walk, walk_start, walk_unless}
+use Rattle.vt_spec.specs.Machine.Walk.{Here, LastWord, Place, Stop, file_or_symlink, file_walk, file_walked, final_word, followed, follow_rules, prefix_walked, is_directory_there, is_special, symlink_of, symlink_start, symlink_there, new_leaf_walk, new_name_rules, new_walk, object_named, old_leaf_walk, old_walk, path_text, place_walk, placed, search_rules, steps_at, then_walk, walk_start, walk_unless}
 use Rattle.vt_spec.specs.Machine.Walk.LastWord.{Dot, DotDot, Named, NoWord}
 use Rattle.vt_spec.specs.Language.Limits.{most_symlinks}
 use Rattle.vt_spec.specs.Machine.World.{Task, World, node_at}
@@ -36,7 +36,7 @@ module _ (world : World ℕ) (task : Task ℕ) where
   searched_place_walk : (path : List ℕ) → Ends IsSearched (place_walk nat_eq world task path)
   searched_place_walk path =
       ends_next IsSearched (path_text path) _ (λ text.
-      ends_next IsSearched (front_walked nat_eq world task (followed nat_eq world task) (walk_start task text)
+      ends_next IsSearched (prefix_walked nat_eq world task (followed nat_eq world task) (walk_start task text)
       (reverse (words text)))
       (λ here. placed nat_eq world task here (final_word (reverse (words text))) (ends_in_slash text))
       (λ here. searched_placed here (final_word (reverse (words text))) (ends_in_slash text)))
@@ -94,7 +94,7 @@ module _ (world : World ℕ) (task : Task ℕ) where
       → Ends IsSearched (file_walked nat_eq depth world task start text slash)
   searched_file_walked zero start text slash = tt
   searched_file_walked (suc depth) start text slash =
-      ends_next IsSearched (front_walked nat_eq world task (followed nat_eq world task) start (reverse (words text)))
+      ends_next IsSearched (prefix_walked nat_eq world task (followed nat_eq world task) start (reverse (words text)))
       (λ here. file_from depth text slash here) (λ here.
       ends_then IsSearched IsSearched
       (placed nat_eq world task here (final_word (reverse (words text))) (slash || ends_in_slash text))

@@ -1,14 +1,14 @@
 -- Each directory on the way of a walk is searched: walks to files that are opened or made.
 use Rattle.std.proofs.Common.{◌≡◌, refl, sym, subst, ℕ, zero, suc, ◌+◌, nat_eq, Bool, false, ◌||◌, List, ◌++◌, Option, Some, None, Ok, Err, Result, reverse}
 use Rattle.std.proofs.lemmas.List.Elements.{All-append}
-use Rattle.vt_call_laws.proofs.ways.WaysNamed.{IsFront, front_searched, text_name_searched}
+use Rattle.vt_call_laws.proofs.ways.WaysNamed.{IsFront, prefix_searched, text_name_searched}
 use Rattle.vt_call_laws.proofs.ways.WaysSearched.{IsNamedAt, at_end, placed_step}
 use Rattle.vt_call_laws.proofs.ways.WaysWalked.{path_text_same}
 use Rattle.vt_call_laws.specs.Searched.{FileWaysAreSearched, IsSearchable, IsSearchedToFile, IsSearchedWayToFile, IsSearchedWayToName}
 use Rattle.vt_call_laws.specs.Searched.WayToFile.{file_in, through_symlink}
 use Rattle.vt_spec.specs.Language.Limits.{most_symlinks}
 use Rattle.vt_spec.specs.Machine.Mounts.{Location}
-use Rattle.vt_spec.specs.Machine.Walk.{Here, Place, Stop, file_or_symlink, file_walk, file_walked, final_word, follow_rules, followed, front_walked, new_name_rules, path_text, placed, start_of, symlink_of, symlink_start, symlink_there, then_walk, walk_start, walk_unless}
+use Rattle.vt_spec.specs.Machine.Walk.{Here, Place, Stop, file_or_symlink, file_walk, file_walked, final_word, follow_rules, followed, prefix_walked, new_name_rules, path_text, placed, start_of, symlink_of, symlink_start, symlink_there, then_walk, walk_start, walk_unless}
 use Rattle.vt_spec.specs.Machine.World.{Task, World}
 use Rattle.vt_spec.specs.PathText.{ends_in_slash, words}
 use Rattle.vt_tree_laws.proofs.trees.TreesWalked.{Ends, ends_then, ends_unless}
@@ -59,8 +59,8 @@ module _ (world : World ℕ) (task : Task ℕ) where
   file_searched (suc depth) start text slash =
       ends_then (λ here. IsFront world task start.location (reverse (words text)) here.location)
       (IsFileOf start.location text)
-      (front_walked nat_eq world task (followed nat_eq world task) start (reverse (words text))) _
-      (front_searched world task start (reverse (words text))) (λ here before.
+      (prefix_walked nat_eq world task (followed nat_eq world task) start (reverse (words text))) _
+      (prefix_searched world task start (reverse (words text))) (λ here before.
       ends_then (IsNamedAt world task here.location (final_word (reverse (words text)))) (IsFileOf start.location text)
       (placed nat_eq world task here (final_word (reverse (words text))) (slash || ends_in_slash text)) _
       (placed_step world task here (final_word (reverse (words text))) (slash || ends_in_slash text)) (λ place named.

@@ -14,7 +14,7 @@ use Rattle.vt_spec.specs.declared.errors.Rule.TheVariants.{W3, W6}
 use Rattle.vt_spec.specs.Machine.Looks.{looks_of}
 use Rattle.vt_spec.specs.Machine.Mounts.{Location}
 use Rattle.vt_spec.specs.Machine.Rules.Removing.{rename_new_walk}
-use Rattle.vt_spec.specs.Machine.Walk.{Here, LastWord, Place, Stop, final_word, followed, front_walked, is_directory_there, is_no_word, last_walked, last_word, new_leaf_walk, new_name_rules, new_walk, old_leaf_walk, old_walk, path_text, place_walk, placed, stepped, symlink_walk_by, walk_start, word_walked}
+use Rattle.vt_spec.specs.Machine.Walk.{Here, LastWord, Place, Stop, final_word, followed, prefix_walked, is_directory_there, is_no_word, last_walked, last_word, new_leaf_walk, new_name_rules, new_walk, old_leaf_walk, old_walk, path_text, place_walk, placed, stepped, symlink_walk_by, walk_start, word_walked}
 use Rattle.vt_spec.specs.Machine.Walk.LastWord.{Dot, DotDot, Named, NoWord}
 use Rattle.vt_spec.specs.Machine.World.{Task, World}
 use Rattle.vt_spec.specs.PathText.{ends_in_slash, words}
@@ -32,11 +32,11 @@ module _ (world : World ℕ) (task : Task ℕ) where
   IsFront start [] here = here ≡ start
   IsFront start (word ∷ front) here = IsSearchedWay world task start (reverse front) here
 
-  pub front_searched : (start : Here ℕ) (ws : List (List ℕ))
+  pub prefix_searched : (start : Here ℕ) (ws : List (List ℕ))
       → Ends (λ here. IsFront start.location ws here.location)
-      (front_walked nat_eq world task (followed nat_eq world task) start ws)
-  front_searched start [] = refl
-  front_searched start (word ∷ front) =
+      (prefix_walked nat_eq world task (followed nat_eq world task) start ws)
+  prefix_searched start [] = refl
+  prefix_searched start (word ∷ front) =
       words_searched world task (followed nat_eq world task) (followed_searched world task) start front
 
   -- the last word too, where it was looked up in a directory that may be searched
@@ -109,8 +109,8 @@ module _ (world : World ℕ) (task : Task ℕ) where
     symlink_named =
         ends_then (λ text. text ≡ path) IsNamed (path_text path) _ (path_text_same path) (λ text e.
         ends_then (λ here. IsFront (walk_start task text).location (reverse (words text)) here.location) IsNamed
-        (front_walked nat_eq world task (followed nat_eq world task) (walk_start task text) (reverse (words text))) _
-        (front_searched (walk_start task text) (reverse (words text))) (λ here before.
+        (prefix_walked nat_eq world task (followed nat_eq world task) (walk_start task text) (reverse (words text))) _
+        (prefix_searched (walk_start task text) (reverse (words text))) (λ here before.
         ends_last text e here before (last_walked nat_eq world task here (final_word (reverse (words text))))
         (last_searched here (final_word (reverse (words text))))))
       where
@@ -135,8 +135,8 @@ module _ (world : World ℕ) (task : Task ℕ) where
     place_searched =
         ends_then (λ text. text ≡ path) IsNamePlace (path_text path) _ (path_text_same path) (λ text e.
         ends_then (λ here. IsFront (walk_start task text).location (reverse (words text)) here.location) IsNamePlace
-        (front_walked nat_eq world task (followed nat_eq world task) (walk_start task text) (reverse (words text))) _
-        (front_searched (walk_start task text) (reverse (words text))) (λ here before.
+        (prefix_walked nat_eq world task (followed nat_eq world task) (walk_start task text) (reverse (words text))) _
+        (prefix_searched (walk_start task text) (reverse (words text))) (λ here before.
         ends_placed text e here before
         (placed nat_eq world task here (final_word (reverse (words text))) (ends_in_slash text))
         (placed_step world task here (final_word (reverse (words text))) (ends_in_slash text))))

@@ -9,7 +9,7 @@ use Rattle.vt_spec.specs.Lists.{any_pair, is_among}
 use Rattle.vt_spec.specs.Machine.Locked.{of_overlay}
 use Rattle.vt_spec.specs.Machine.Mounts.{Location, Mount, mount_in, no_mount, root_of}
 use Rattle.vt_spec.specs.Machine.Settled.{layers_in, located_in, named_in, objects_of_overlay}
-use Rattle.vt_spec.specs.Machine.World.{first_mount, first_place, opening, Filesystem, World, all_locations, filesystem_numbered, layers_of, new_plain, no_filesystem, root_attr}
+use Rattle.vt_spec.specs.Machine.World.{first_mount, first_location, opening, Filesystem, World, all_locations, filesystem_numbered, layers_of, new_plain, no_filesystem, root_attr}
 use Rattle.vt_spec.specs.Inodes.{node_in, uses_in}
 use Rattle.vt_spec.specs.Tree.{new_directory}
 use Rattle.vt_letting_go.specs.Counts.{inode_uses, mounts_showing, times}
@@ -540,7 +540,7 @@ opening_is_counted fresh = subst (λ f. IsCounted world f (one_counted root 4)) 
     nodes false = refl
 
     here : Location ℕ
-    here = first_place nat_eq fresh
+    here = first_location nat_eq fresh
 
     is_shown : shown world.mounts (fresh 2) 0 here ≡ true
     is_shown =

@@ -44,7 +44,7 @@ use Rattle.vt_spec.specs.Language.Changes.{Change, changed}
 use Rattle.vt_spec.specs.Language.Changes.Change.{AddName, CopyUp, Make, Move, Remove, SetAttr, SetBytes, SetMark}
 use Rattle.vt_spec.specs.Lists.{Fresh, evens, is_among, when}
 use Rattle.vt_spec.specs.Machine.Apply.{apply}
-use Rattle.vt_spec.specs.Machine.Filesystems.{filesystem_changed, lies_below, overlay_changed, with_change}
+use Rattle.vt_spec.specs.Machine.Filesystems.{filesystem_changed, lies_only_in_lowers, overlay_changed, with_change}
 use Rattle.vt_spec.specs.Machine.Invariants.{IsWorld, is_there}
 use Rattle.vt_spec.specs.Machine.Judge.{Judgement, judge_in}
 use Rattle.vt_spec.specs.Machine.Locked.{overlay_or}
@@ -296,7 +296,8 @@ module _ (world : World ℕ) (fresh : Fresh ℕ) (task : Task ℕ) (is : IsWorld
           → is_copied_up nat_eq world file access ≡ true → KeepsAll opens
       in_overlay None e copied =
           absurd (true≢false (sym copied
-          ∙ ap (λ o. opens_for_writing access && overlay_or false (λ overlay. lies_below overlay file.node) o) e
+          ∙ ap (λ o. opens_for_writing access
+          && overlay_or false (λ overlay. lies_only_in_lowers overlay file.node) o) e
           ∙ and-false (opens_for_writing access)))
       in_overlay (Some overlay) e copied = over overlay e overlay.upper refl copied
 

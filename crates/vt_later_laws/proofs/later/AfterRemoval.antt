@@ -21,7 +21,7 @@ use Rattle.vt_spec.specs.Machine.Mounts.{Location, Mount}
 use Rattle.vt_spec.specs.Machine.Permits.Permit.{ToRemoveDirectory}
 use Rattle.vt_spec.specs.Machine.Policy.{policy, raised_task}
 use Rattle.vt_spec.specs.Machine.Rightful.{node_allows}
-use Rattle.vt_spec.specs.Machine.Rules.Conditions.{is_point_in}
+use Rattle.vt_spec.specs.Machine.Rules.Conditions.{is_mount_point_in}
 use Rattle.vt_spec.specs.Machine.Run.{Serves}
 use Rattle.vt_spec.specs.Machine.Settled.{is_located, mount_lives}
 use Rattle.vt_spec.specs.Machine.World.{Filesystem, Task, World, files_at, filesystem_numbered, mount_at, mount_numbered, no_filesystem, node_at, task_called}
@@ -97,7 +97,7 @@ module _ (world : World ℕ) (fresh : Fresh ℕ) (name : TaskName) (call : Call)
 
   -- the parent is reached, and no mount of the task's namespace stands on the directory
   pub reaches : IsReached world did.task parent
-      × (is_point_in nat_eq (looks_of nat_eq world) did.task.namespace object ≡ false)
+      × (is_mount_point_in nat_eq (looks_of nat_eq world) did.task.namespace object ≡ false)
   reaches =
       parent_reached fresh world is did.task own_task call parent word object (did.judged ∙ ap Ok permit_is)
 

@@ -21,7 +21,7 @@ use Rattle.vt_spec.specs.Machine.Mounts.{Location, Mount, child_at, root_of, sta
 use Rattle.vt_spec.specs.Machine.Outcome.Removing.{without_replaced}
 use Rattle.vt_spec.specs.Machine.Permits.Permit.{ToRename}
 use Rattle.vt_spec.specs.Machine.Policy.{policy}
-use Rattle.vt_spec.specs.Machine.Rules.Conditions.{is_point_anywhere}
+use Rattle.vt_spec.specs.Machine.Rules.Conditions.{is_mount_point_anywhere}
 use Rattle.vt_spec.specs.Machine.Run.{Serves}
 use Rattle.vt_spec.specs.Machine.Settled.{mount_lives}
 use Rattle.vt_spec.specs.Machine.World.{Filesystem, World, files_at, filesystem_at, filesystem_numbered, mount_at, mount_numbered, no_filesystem}
@@ -64,7 +64,7 @@ use Rattle.vt_spec.proofs.Worlds.{filesystems-without_replaced, number-mount_in}
 
 -- Mounts that stand on an object, as its filesystem shows it
 module _ (world : World ℕ) (is : IsWorld nat_eq world) (object : Location ℕ)
-    (uncovered : is_point_anywhere (looks_of nat_eq world) object ≡ false) where
+    (uncovered : is_mount_point_anywhere (looks_of nat_eq world) object ≡ false) where
   -- there is none
   pub none_on_it : (mount : Mount ℕ) (place : Location ℕ) → Among mount world.mounts → mount.mount_point ≡ Some place
       → (mount_at nat_eq world place).filesystem ≡ (mount_at nat_eq world object).filesystem → place.node ≡ object.node
@@ -117,7 +117,7 @@ module _ (world : World ℕ) (fresh : Fresh ℕ) (name : TaskName) (call : Call)
     (did : IsPermitted world fresh name call answer) (from : Location ℕ) (old : List ℕ) (to : Location ℕ) (new : List ℕ)
     (object : Location ℕ) (replaced : Option (Location ℕ))
     (permit_is : did.permit ≡ ToRename from old to new object replaced)
-    (uncovered : is_point_anywhere (looks_of nat_eq world) object ≡ false) where
+    (uncovered : is_mount_point_anywhere (looks_of nat_eq world) object ≡ false) where
   abbrev pub left : World ℕ
   left = (policy nat_eq fresh world name call).world
 

@@ -29,7 +29,7 @@ use Rattle.vt_spec.specs.Machine.Rules.Descriptors.{descriptor_rules, exclusive_
 use Rattle.vt_spec.specs.Machine.Rules.Making.{make_rules}
 use Rattle.vt_spec.specs.Machine.Run.{Serves}
 use Rattle.vt_spec.specs.Machine.Settled.{settled}
-use Rattle.vt_spec.specs.Machine.Walking.{Place, Stop, entry_location, final_word, followed, front_walked, is_special, last_word, name_of, new_name_rules, new_walk, place_walk, placed, search_rules, steps_at, stopped_by, then_walk, walk_end, walk_start, walk_unless, words_walked}
+use Rattle.vt_spec.specs.Machine.Walking.{Place, Stop, entry_location, final_word, followed, prefix_walked, is_special, last_word, name_of, new_name_rules, new_walk, place_walk, placed, search_rules, steps_at, stopped_by, then_walk, walk_end, walk_start, walk_unless, words_walked}
 use Rattle.vt_spec.specs.Machine.Walking.LastWord.{Named}
 use Rattle.vt_spec.specs.Machine.World.{Task, World, files_at, filesystem_numbered, is_directory_at, mount_at, node_at, task_called, with_task}
 use Rattle.vt_spec.specs.Machine.Invariants.{IsWorld}
@@ -143,10 +143,10 @@ module _ (looks later : Looks ℕ) (task reader : Task ℕ) (Refused : Deny → 
       (λ here. placed nat_eq later reader here (Named (name_of place.last)) (ends_in_slash path))
   place_is =
       ap (λ r. then_walk r (λ text.
-      then_walk (front_walked nat_eq later reader (followed nat_eq later reader) (walk_start reader text)
+      then_walk (prefix_walked nat_eq later reader (followed nat_eq later reader) (walk_start reader text)
       (reverse (words text)))
       (λ here. placed nat_eq later reader here (final_word (reverse (words text))) (ends_in_slash text)))) parts.parsed
-      ∙ ap (λ list. then_walk (front_walked nat_eq later reader (followed nat_eq later reader)
+      ∙ ap (λ list. then_walk (prefix_walked nat_eq later reader (followed nat_eq later reader)
       (walk_start reader path) list)
       (λ here. placed nat_eq later reader here (final_word list) (ends_in_slash path))) parts.words_are
       ∙ ap (λ last. then_walk (words_walked nat_eq later reader (followed nat_eq later reader)

@@ -22,7 +22,7 @@ use Rattle.vt_spec.specs.Machine.Mounts.{Location, Mount, child_at, root_of, sta
 use Rattle.vt_spec.specs.Machine.Permits.Permit.{ToRename}
 use Rattle.vt_spec.specs.Machine.Policy.{raised_task}
 use Rattle.vt_spec.specs.Machine.Rightful.{node_allows}
-use Rattle.vt_spec.specs.Machine.Rules.Conditions.{is_point_anywhere}
+use Rattle.vt_spec.specs.Machine.Rules.Conditions.{is_mount_point_anywhere}
 use Rattle.vt_spec.specs.Machine.Run.{Serves}
 use Rattle.vt_spec.specs.Machine.Walk.{hop}
 use Rattle.vt_spec.specs.Machine.World.{Task, World, files_at, filesystem_numbered, mount_at, node_at, task_called}
@@ -148,7 +148,7 @@ module _ (world : World ℕ) (fresh : Fresh ℕ) (name : TaskName) (call : Call)
     (other : mounts_overlay call ≡ false) (few : names_few_groups call ≡ true)
     (did : IsPermitted world fresh name call answer) (from : Location ℕ) (old : List ℕ) (to : Location ℕ) (new : List ℕ)
     (object : Location ℕ) (permit_is : did.permit ≡ ToRename from old to new object None)
-    (uncovered : is_point_anywhere (looks_of nat_eq world) object ≡ false)
+    (uncovered : is_mount_point_anywhere (looks_of nat_eq world) object ≡ false)
     (is_directory : is_directory_node ((files_at nat_eq world from).tree.node object.node) ≡ true)
     (outside : StandsOutside world did.task object) where
   abbrev pub later : World ℕ

@@ -13,7 +13,7 @@ use Rattle.vt_spec.specs.Machine.Invariants.{IsWorld}
 use Rattle.vt_spec.specs.Machine.Looks.{looks_of}
 use Rattle.vt_spec.specs.Machine.Mounts.{Location, Mount, mount_in, same_location, topmost}
 use Rattle.vt_spec.specs.Machine.Permits.Permit.{ToRename}
-use Rattle.vt_spec.specs.Machine.Rules.Conditions.{is_point_anywhere}
+use Rattle.vt_spec.specs.Machine.Rules.Conditions.{is_mount_point_anywhere}
 use Rattle.vt_spec.specs.Machine.Run.{Serves}
 use Rattle.vt_spec.specs.Machine.Walk.{hop, is_lost, parent_location}
 use Rattle.vt_spec.specs.Machine.World.{Task, World, files_at, filesystem_numbered, mount_at, mount_numbered, node_at}
@@ -55,7 +55,7 @@ module _ (world : World ℕ) (fresh : Fresh ℕ) (name : TaskName) (call : Call)
     (other : mounts_overlay call ≡ false) (few : names_few_groups call ≡ true)
     (did : IsPermitted world fresh name call answer) (from : Location ℕ) (old : List ℕ) (to : Location ℕ) (new : List ℕ)
     (object : Location ℕ) (permit_is : did.permit ≡ ToRename from old to new object None)
-    (uncovered : is_point_anywhere (looks_of nat_eq world) object ≡ false)
+    (uncovered : is_mount_point_anywhere (looks_of nat_eq world) object ≡ false)
     (is_directory : is_directory_node ((files_at nat_eq world from).tree.node object.node) ≡ true)
     (outside : StandsOutside world did.task object) (reader : Task ℕ) (roots : reader.root ≡ did.task.root) where
   abbrev left_world : World ℕ

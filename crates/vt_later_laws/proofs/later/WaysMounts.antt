@@ -14,7 +14,7 @@ use Rattle.vt_spec.proofs.Lists.{Among, among-filter, among-from_filter, among_f
 use Rattle.vt_spec.proofs.Nodes.{none_is_not}
 use Rattle.vt_mount_laws.specs.Mounts.Attaching.{numbers_of}
 use Rattle.vt_mount_laws.specs.Mounts.Invariants.{OneNumberEach}
-use Rattle.vt_mount_laws.specs.Mounts.Unmounting.{KeepsAllButPlaceAndType}
+use Rattle.vt_mount_laws.specs.Mounts.Unmounting.{KeepsAllButMountPointAndType}
 use Rattle.vt_mount_laws.proofs.mounts.MountsFound.{found_in, found_there, placed_among, unfound}
 use Rattle.vt_mount_laws.proofs.mounts.MountsKept.{taking_away_keeps_numbers}
 use Rattle.vt_mount_laws.proofs.mounts.MountsNumbered.{is_one_of}
@@ -200,7 +200,7 @@ module _ (world later : World ℕ) (is : IsWorld nat_eq world) (is_later : IsWor
       same : mount_numbered nat_eq later number ≡ mount_numbered nat_eq taken number
       same = later_mount number listed
 
-      kept : KeepsAllButPlaceAndType (mount_numbered nat_eq world number) (mount_numbered nat_eq taken number)
+      kept : KeepsAllButMountPointAndType (mount_numbered nat_eq world number) (mount_numbered nat_eq taken number)
       kept = kept_by_number world gone number (stays number own)
 
       by : (o : Option (Location ℕ)) → (mount_numbered nat_eq world number).mount_point ≡ o

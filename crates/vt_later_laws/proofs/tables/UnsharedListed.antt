@@ -17,7 +17,7 @@ use Rattle.vt_spec.specs.Machine.Detach.{is_going, mount_point_left}
 use Rattle.vt_spec.specs.Machine.Filesystems.{raised, raised_if_changed}
 use Rattle.vt_spec.specs.Machine.Apply.{apply, filesystems_changed}
 use Rattle.vt_spec.specs.Machine.Invariants.{IsWorld, MountInvariants, is_listed}
-use Rattle.vt_spec.specs.Machine.Listing.{filesystems_seen, groups_in_type, groups_seen, groups_shown, mount_line, mount_lines, mounts_outcome, number_among, place_spot, spot_of, type_line}
+use Rattle.vt_spec.specs.Machine.Listing.{filesystems_seen, groups_in_type, groups_seen, groups_shown, mount_line, mount_lines, mounts_outcome, number_among, mount_point_spot, spot_of, type_line}
 use Rattle.vt_spec.specs.Machine.Mounts.{Location, Mount, Propagation}
 use Rattle.vt_spec.specs.Machine.Mounts.Propagation.{Private, Shared, Slave, Unbindable}
 use Rattle.vt_spec.specs.Machine.Outcome.Mounting.{admin_rules}
@@ -120,7 +120,7 @@ module _ (before later : World ℕ) (namespace : ℕ) (filesystems : later.files
 
   abbrev cell : World ℕ → Location ℕ → ℕ × Spot
   cell world place =
-      (number_among nat_eq (map (λ (other : Mount ℕ). other.number) list) place.mount, place_spot nat_eq world place)
+      (number_among nat_eq (map (λ (other : Mount ℕ). other.number) list) place.mount, mount_point_spot nat_eq world place)
 
   place_alike : (mount : Mount ℕ) → Among mount list
       → option_map (cell later) mount.mount_point ≡ option_map (cell before) mount.mount_point

@@ -5,7 +5,7 @@ use Rattle.std.proofs.lemmas.Bool.{false_from_ne_true, or_parts}
 use Rattle.std.proofs.lemmas.Option.{same_Some}
 use Rattle.std.specs.List.{list_any}
 use Rattle.vt_spec.proofs.Lists.{chain_ends, none_among, pair-filter, among-filter, Among, among-append, among-append_left, among-from_filter, among-from_flat_map, among-from_map, among_from_contains, among_numbers, any_among, any_from_among, contains_from_among, is_among_numbers}
-use Rattle.vt_spec.specs.Machine.Attach.{copies_from, graft_of, parts_of, pushed_onto, receiver_below, receivers_of, takes_part}
+use Rattle.vt_spec.specs.Machine.Attach.{copies_from, graft_of, parts_of, pushed_onto, receiver_stood_on, receivers_of, takes_part}
 use Rattle.vt_spec.specs.Machine.Detach.{may_go, only_cover, unmounted, going}
 use Rattle.vt_spec.specs.Lists.{Fresh, any_pair, holds_of, is_among, last_or, rest_of}
 use Rattle.vt_spec.specs.Machine.Invariants.{share_a_mount_point}
@@ -13,11 +13,11 @@ use Rattle.vt_spec.specs.Machine.Mounts.{Location, Mount, Propagation, child_at,
 use Rattle.vt_spec.specs.Machine.Mounts.Propagation.{Private, Shared, Slave, Unbindable}
 use Rattle.vt_spec.specs.Machine.Receives.{groups_up, has_members, is_member_of, receivers, receives, lost_a_group}
 use Rattle.vt_spec.specs.Machine.World.{World, mount_at, mount_numbered}
-use Rattle.vt_mount_laws.specs.Mounts.Attaching.{KeepsAllButPlace, OneNumberAMount, is_mount, numbers_of}
-use Rattle.vt_mount_laws.specs.Mounts.Places.{OneMountAPlace}
+use Rattle.vt_mount_laws.specs.Mounts.Attaching.{KeepsAllButMountPoint, OneNumberAMount, is_mount, numbers_of}
+use Rattle.vt_mount_laws.specs.Mounts.MountPoints.{OneMountAMountPoint}
 use Rattle.vt_mount_laws.specs.Mounts.Propagation.{Attachment, CanAttach, IsPart, copy_of, number_at, world_after}
 use Rattle.vt_mount_laws.specs.Mounts.Receivers.{GroupsLive}
-use Rattle.vt_mount_laws.specs.Mounts.Unmounting.{Goes, PlacesEnd, goes_with, has_its_master, mount_left}
+use Rattle.vt_mount_laws.specs.Mounts.Unmounting.{Goes, ChainsEnd, goes_with, has_its_master, mount_left}
 use Rattle.vt_mount_laws.specs.Mounts.Unmounting.FallsTo.{falls, rests}
 use Rattle.vt_mount_laws.specs.Mounts.Unmounting.Goes.{alone, at_receiver, from_nowhere}
 use Rattle.vt_mount_laws.proofs.attached.AttachedMasters.{old_master}
@@ -55,7 +55,7 @@ top_alone mount e =
     (ap (λ b. option_map root_of (cond b (Some mount) None)) e))
 
 -- mounts that all stand at the root of another, no two at one place, are one at most
-only_one : (mount : Mount ℕ) (list : List (Mount ℕ)) → OneMountAPlace list
+only_one : (mount : Mount ℕ) (list : List (Mount ℕ)) → OneMountAMountPoint list
     → ((x : Mount ℕ) → Among x list → x.mount_point ≡ Some (root_of mount)) → only_cover nat_eq mount list ≡ true
 only_one mount [] apart all = refl
 only_one mount (x ∷ []) apart all = stands_at_its_place (root_of mount) x (all x (inl refl))
@@ -70,8 +70,8 @@ module _ (world : World ℕ) (fresh : Fresh ℕ) (place : Location ℕ) (first :
     (can : CanAttach (one_of world fresh place first)) (there : is_mount world place.mount ≡ true)
     (on_old : (mount : Mount ℕ) → Among mount world.mounts → (at : Location ℕ) → mount.mount_point ≡ Some at
     → is_mount world at.mount ≡ true)
-    (ends : PlacesEnd (world_after (one_of world fresh place first)))
-    (one_place : OneMountAPlace (world_after (one_of world fresh place first)).mounts) where
+    (ends : ChainsEnd (world_after (one_of world fresh place first)))
+    (one_place : OneMountAMountPoint (world_after (one_of world fresh place first)).mounts) where
   abbrev it : Attachment
   it = one_of world fresh place first
 
@@ -106,7 +106,7 @@ module _ (world : World ℕ) (fresh : Fresh ℕ) (place : Location ℕ) (first :
   push_it = push world (copies_from nat_eq fresh (parts_of nat_eq world place) (first ∷ [])) place false (first ∷ [])
 
   -- a mount that is pushed up keeps all but its place
-  keeps : (mount : Mount ℕ) → KeepsAllButPlace mount (push_it mount)
+  keeps : (mount : Mount ℕ) → KeepsAllButMountPoint mount (push_it mount)
   keeps mount = push_keeps world (copies_from nat_eq fresh (parts_of nat_eq world place) (first ∷ []))
       (graft_of nat_eq world (copies_from nat_eq fresh (parts_of nat_eq world place) (first ∷ [])) place false
       (first ∷ []))
@@ -215,7 +215,7 @@ module _ (world : World ℕ) (fresh : Fresh ℕ) (place : Location ℕ) (first :
   rises_or_stays : (mount : Mount ℕ) → StaysOrRises mount
   rises_or_stays mount = by _ refl
     where
-      by : (o : Option (Mount ℕ)) → receiver_below nat_eq (graft_of nat_eq world
+      by : (o : Option (Mount ℕ)) → receiver_stood_on nat_eq (graft_of nat_eq world
           (copies_from nat_eq fresh (parts_of nat_eq world place) (first ∷ [])) place false (first ∷ [])) parts mount
           ≡ o
           → StaysOrRises mount

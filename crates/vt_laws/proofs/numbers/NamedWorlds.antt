@@ -8,7 +8,7 @@ use Rattle.vt_spec.specs.Machine.Mounts.{Location, Mount, Propagation}
 use Rattle.vt_spec.specs.Machine.Mounts.Propagation.{Private, Shared, Slave, Unbindable}
 use Rattle.vt_spec.specs.Machine.Renaming.{renamed, renamed_content, renamed_descriptor, renamed_entry, renamed_filesystem, renamed_layer, renamed_location, renamed_mount, renamed_namespace, renamed_node, renamed_overlay, renamed_propagation, renamed_real, renamed_task}
 use Rattle.vt_spec.specs.Machine.World.{Descriptor, Filesystem, Layer, Namespace, Overlay, Real, Task, World}
-use Rattle.vt_spec.specs.Machine.World.Real.{Below, Upper}
+use Rattle.vt_spec.specs.Machine.World.Real.{Lower, Upper}
 use Rattle.vt_laws.specs.Renaming.{Leaves, Renaming}
 use Rattle.vt_laws.specs.Numbers.{FilesystemNamed, IsFoundAmong, NamedIsKept, OverlayIfAnyNamed, OverlayNamed, WorldNamed, content_named, descriptor_named, layer_named, location_named, mount_named, namespace_named, node_named, none_or, propagation_named, real_named, task_named}
 use Rattle.std.proofs.lemmas.Bool.{and_parts}
@@ -116,7 +116,7 @@ module _ (named : ℕ → Bool) (renaming : Renaming ℕ ℕ) (leaves : Leaves r
 
   real_left : (real : Real ℕ) → real_named named real ≡ true → renamed_real there back real ≡ real
   real_left (Upper object) e = ap Upper (leaves object e)
-  real_left (Below layer path) e = refl
+  real_left (Lower layer path) e = refl
 
   overlay_left : (overlay : Overlay ℕ) → OverlayNamed named overlay → renamed_overlay there back overlay ≡ overlay
   overlay_left overlay h = λ i. record {

@@ -12,7 +12,7 @@ use Rattle.vt_spec.specs.Machine.Run.{Step, line_step}
 use Rattle.vt_spec.specs.Machine.Run.Step.{Answered, Silent}
 use Rattle.vt_spec.specs.Machine.Turns.{Progress, Sched, Turned}
 use Rattle.vt_spec.specs.Machine.World.{Filesystem, Layer, Overlay, Real, Task, World}
-use Rattle.vt_spec.specs.Machine.World.Real.{Below, Upper}
+use Rattle.vt_spec.specs.Machine.World.Real.{Lower, Upper}
 use Rattle.vt_laws.specs.Renaming.{Renaming}
 use Rattle.vt_laws.proofs.numbers.Commuting.{Named, commutes_nat, map_itself, node_itself, option_itself}
 use Rattle.vt_laws.specs.Numbers.{CallsDoNotSeeNumbers, LinesDoNotSeeNumbers, renamed_held, renamed_outcome, renamed_progress, renamed_sched, renamed_step, renamed_supply, renamed_turned, SameWorldsAnswerAlike}
@@ -30,7 +30,7 @@ module _ {N : Type 0} where
 
   pub real_itself : (real : Real N) → renamed_real (λ n. n) (λ n. n) real ≡ real
   real_itself (Upper object) = refl
-  real_itself (Below layer path) = refl
+  real_itself (Lower layer path) = refl
 
   layers_itself : (layers : List (Layer N)) → map (renamed_layer (λ n. n) (λ n. n)) layers ≡ layers
   layers_itself = map_itself (renamed_layer (λ n. n) (λ n. n)) (λ layer. refl)

@@ -11,7 +11,7 @@ use Rattle.vt_spec.specs.Lists.{last_or}
 use Rattle.vt_spec.specs.Machine.Mounts.{Location, topmost}
 use Rattle.vt_spec.specs.Machine.Outcome.Mounting.{destination_walk, each_walked, layers_walked, source_walk, walked_if_given, work_walked}
 use Rattle.vt_spec.specs.Machine.Outcome.Removing.{rename_new_walk}
-use Rattle.vt_spec.specs.Machine.Walk.{Follow, Here, LastWord, Place, Stop, stopped_by, directory_walk, entry_location, file_or_symlink, file_walk, file_walked, final_word, follow_rules, followed, front_walked, hops, if_symlink, is_top, last_walked, last_word, symlink_of, symlink_start, symlink_there, symlink_walk, symlink_walk_by, symlink_walked, new_leaf_walk, new_walk, object_named, object_walk, old_leaf_walk, old_walk, path_text, path_walked, place_walk, placed, search_rules, slash_rules, stepped, up_from, walk_start, word_walked, words_walked}
+use Rattle.vt_spec.specs.Machine.Walk.{Follow, Here, LastWord, Place, Stop, stopped_by, directory_walk, entry_location, file_or_symlink, file_walk, file_walked, final_word, follow_rules, followed, prefix_walked, hops, if_symlink, is_top, last_walked, last_word, symlink_of, symlink_start, symlink_there, symlink_walk, symlink_walk_by, symlink_walked, new_leaf_walk, new_walk, object_named, object_walk, old_leaf_walk, old_walk, path_text, path_walked, place_walk, placed, search_rules, slash_rules, stepped, up_from, walk_start, word_walked, words_walked}
 use Rattle.vt_spec.specs.Language.Limits.{most_symlinks}
 use Rattle.vt_spec.specs.Machine.Walk.LastWord.{Dot, DotDot, Named, NoWord}
 use Rattle.vt_spec.specs.Machine.World.{Task, World}
@@ -98,10 +98,10 @@ module _ {N : Type 0} (eq : N → N → Bool) (world : World N) (task : Task N) 
       then_walk_own walk_rules (path_walked eq world task path) _ (path_walks path) (λ here.
       walk_unless_own walk_rules here.steps (_ ∷ []) here refl)
 
-  front_walks : (here : Here N) (words : List (List ℕ))
-      → StopsAsWalk (front_walked eq world task (followed eq world task) here words)
-  front_walks here [] = tt
-  front_walks here (word ∷ front) = words_walk (followed eq world task) follows here front
+  prefix_walks : (here : Here N) (words : List (List ℕ))
+      → StopsAsWalk (prefix_walked eq world task (followed eq world task) here words)
+  prefix_walks here [] = tt
+  prefix_walks here (word ∷ front) = words_walk (followed eq world task) follows here front
 
   last_walks : (here : Here N) (word : LastWord) → StopsAsWalk (last_walked eq world task here word)
   last_walks here NoWord = tt
@@ -113,7 +113,7 @@ module _ {N : Type 0} (eq : N → N → Bool) (world : World N) (task : Task N) 
   link_walks_by true path = object_walks path
   link_walks_by false path =
       then_walk_own walk_rules (path_text path) _ (text_walks path) (λ text.
-      then_walk_own walk_rules _ _ (front_walks (walk_start task text) (reverse (words text))) (λ here.
+      then_walk_own walk_rules _ _ (prefix_walks (walk_start task text) (reverse (words text))) (λ here.
       last_walks here (final_word (reverse (words text)))))
 
   pub leaf_walks : (path : List ℕ) → StopsAsWalk (symlink_walk eq world task path)
@@ -147,7 +147,7 @@ module _ {N : Type 0} (eq : N → N → Bool) (world : World N) (task : Task N) 
   pub place_walks : (path : List ℕ) → StopsAsWalk (place_walk eq world task path)
   place_walks path =
       then_walk_own walk_rules (path_text path) _ (text_walks path) (λ text.
-      then_walk_own walk_rules _ _ (front_walks (walk_start task text) (reverse (words text))) (λ here.
+      then_walk_own walk_rules _ _ (prefix_walks (walk_start task text) (reverse (words text))) (λ here.
       places here (final_word (reverse (words text))) (ends_in_slash text)))
 
   pub new_walks : (path : List ℕ) → StopsAsWalk (new_walk eq world task path)
@@ -184,7 +184,7 @@ module _ {N : Type 0} (eq : N → N → Bool) (world : World N) (task : Task N) 
       → StopsAsWalk (file_walked eq depth world task start text slash)
   file_walks_by zero start text slash = (refl, refl)
   file_walks_by (suc depth) start text slash =
-      then_walk_own walk_rules _ _ (front_walks start (reverse (words text))) (λ here.
+      then_walk_own walk_rules _ _ (prefix_walks start (reverse (words text))) (λ here.
       then_walk_own walk_rules _ _ (places here (final_word (reverse (words text))) (slash || ends_in_slash text))
       (λ place.
       file_or_link_walks place (symlink_there eq world place) _ (λ inner.

@@ -9,14 +9,14 @@ use Rattle.vt_spec.specs.declared.errors.Rule.TheVariants.{B1, B2}
 use Rattle.vt_spec.specs.Language.Changes.{Change}
 use Rattle.vt_spec.specs.Machine.Detach.{is_point, upper_points}
 use Rattle.vt_spec.specs.FileTree.{attr_in, has_entry_to, is_kind_in, is_removed}
-use Rattle.vt_spec.specs.Machine.Filesystems.{can_give_owner, directories_asked, directories_changed, directory_of_name, has_lower_directory_at, lies_below, mounter_rules, object_copied, overlay_rules, path_of_name}
+use Rattle.vt_spec.specs.Machine.Filesystems.{can_give_owner, directories_asked, directories_changed, directory_of_name, has_lower_directory_at, lies_only_in_lowers, mounter_rules, object_copied, overlay_rules, path_of_name}
 use Rattle.vt_spec.specs.Machine.Layers.{has_lower_directory}
 use Rattle.vt_spec.specs.Lists.{before_first, holds_of}
 use Rattle.vt_spec.specs.Machine.Locked.{counts_in_layer, in_use, is_locked, is_real_upper, lies_in_layer, lies_or_counts_under, live_layers, live_upper_and_work, of_overlay, overlaps_one_of, overlay_or, upper_and_work}
 use Rattle.vt_spec.specs.Machine.Looks.{looks_of}
 use Rattle.vt_spec.specs.Machine.Mounts.{Location, Mount}
 use Rattle.vt_spec.specs.Machine.Rightful.{node_allows}
-use Rattle.vt_spec.specs.Machine.SameWorlds.{BelowHasOneName, SameFilesystem, SameFilesystems}
+use Rattle.vt_spec.specs.Machine.SameWorlds.{LowerObjectsHaveOneName, SameFilesystem, SameFilesystems}
 use Rattle.vt_spec.specs.Machine.World.{Filesystem, Layer, Overlay, World, filesystem_at, filesystem_numbered, is_overlay, layers_of, mount_at, no_filesystem, open_layer}
 use Rattle.vt_spec.specs.Errors.{Rules}
 use Rattle.vt_spec.specs.Rights.{execute_right, read_right, write_right}
@@ -89,21 +89,22 @@ any_same test again alike (one ∷ ones) (other ∷ others) same =
 
 -- what the mounter of an overlay is asked
 module _ (one other : Filesystem ℕ) (same : SameFilesystem one other) (overlay : Overlay ℕ) (change : Change ℕ)
-    (alone : (object a b : ℕ) → lies_below overlay object ≡ true → has_entry_to nat_eq one.files.tree a object ≡ true
+    (alone : (object a b : ℕ) → lies_only_in_lowers overlay object ≡ true
+    → has_entry_to nat_eq one.files.tree a object ≡ true
     → has_entry_to nat_eq one.files.tree b object ≡ true → a ≡ b) where
   named_same : (objects : List ℕ)
-      → flat_map (directory_of_name nat_eq one.files) (filter (lies_below overlay) objects)
-      ≡ flat_map (directory_of_name nat_eq other.files) (filter (lies_below overlay) objects)
+      → flat_map (directory_of_name nat_eq one.files) (filter (lies_only_in_lowers overlay) objects)
+      ≡ flat_map (directory_of_name nat_eq other.files) (filter (lies_only_in_lowers overlay) objects)
   named_same [] = refl
-  named_same (object ∷ rest) = by (lies_below overlay object) refl (named_same rest)
+  named_same (object ∷ rest) = by (lies_only_in_lowers overlay object) refl (named_same rest)
     where
-      by : (b : Bool) → lies_below overlay object ≡ b
-          → flat_map (directory_of_name nat_eq one.files) (filter (lies_below overlay) rest)
-          ≡ flat_map (directory_of_name nat_eq other.files) (filter (lies_below overlay) rest)
+      by : (b : Bool) → lies_only_in_lowers overlay object ≡ b
+          → flat_map (directory_of_name nat_eq one.files) (filter (lies_only_in_lowers overlay) rest)
+          ≡ flat_map (directory_of_name nat_eq other.files) (filter (lies_only_in_lowers overlay) rest)
           → flat_map (directory_of_name nat_eq one.files)
-          (cond b (object ∷ filter (lies_below overlay) rest) (filter (lies_below overlay) rest))
+          (cond b (object ∷ filter (lies_only_in_lowers overlay) rest) (filter (lies_only_in_lowers overlay) rest))
           ≡ flat_map (directory_of_name nat_eq other.files)
-          (cond b (object ∷ filter (lies_below overlay) rest) (filter (lies_below overlay) rest))
+          (cond b (object ∷ filter (lies_only_in_lowers overlay) rest) (filter (lies_only_in_lowers overlay) rest))
       by true below later = λ i.
           directory_same one.files other.files same.files object (λ a b. alone object a b below) i ++ later i
       by false below later = later
@@ -114,11 +115,11 @@ module _ (one other : Filesystem ℕ) (same : SameFilesystem one other) (overlay
   abbrev rules_by : Tree ℕ → (ℕ → List ℕ) → List ℕ → Rules
   rules_by tree above asked =
       let parents : List ℕ =
-      flat_map (λ directory. before_first (λ d. not (lies_below overlay d)) (above directory)
-      ++ option_to_list (find (λ d. not (lies_below overlay d)) (above directory))) asked
+      flat_map (λ directory. before_first (λ d. not (lies_only_in_lowers overlay d)) (above directory)
+      ++ option_to_list (find (λ d. not (lies_only_in_lowers overlay d)) (above directory))) asked
       in
       let copied : List ℕ =
-      filter (lies_below overlay) (object_copied change) ++ filter (lies_below overlay) parents
+      filter (lies_only_in_lowers overlay) (object_copied change) ++ filter (lies_only_in_lowers overlay) parents
       in (
         list_any (λ number. is_kind_in File (tree.node number)
             && not (node_allows overlay.mounter read_right (tree.node number))) copied,
@@ -220,7 +221,7 @@ module _ (world : World ℕ) (others : List (Filesystem ℕ)) (same : SameFilesy
       (map (λ layer. opened_same layer i) overlay.lowers) (path_of_name_same directory name i))
       ((here directory).overlay i)
 
-  mounter_same : BelowHasOneName nat_eq world → (location : Location ℕ) (change : Change ℕ)
+  mounter_same : LowerObjectsHaveOneName nat_eq world → (location : Location ℕ) (change : Change ℕ)
       → mounter_rules nat_eq world location change ≡ mounter_rules nat_eq other location change
   mounter_same alone location change =
       by (filesystem_at nat_eq world location).overlay refl
@@ -245,7 +246,8 @@ module _ (world : World ℕ) (others : List (Filesystem ℕ)) (same : SameFilesy
       ∷ overlay_or [] (λ overlay. upper_points world (filesystem_at nat_eq world location) overlay location.node)
       ((here location).overlay i))) world.mounts
 
-  pub others_look_alike : BelowHasOneName nat_eq world → LookAlike (looks_of nat_eq world) (looks_of nat_eq other)
+  pub others_look_alike : LowerObjectsHaveOneName nat_eq world
+      → LookAlike (looks_of nat_eq world) (looks_of nat_eq other)
   others_look_alike alone = record {
     namespace_called = λ name. refl;
     mount = λ number. refl;

@@ -8,7 +8,7 @@ use Rattle.vt_laws.proofs.same.SameJudged.{same_worlds_are_judged_alike}
 use Rattle.vt_laws.proofs.same.SameLooks.{found_same}
 use Rattle.vt_laws.specs.Same.{SameWorldsJudgeAlike}
 use Rattle.vt_spec.specs.Machine.Apply.{overfills}
-use Rattle.vt_spec.specs.Machine.Attach.{Copies, Graft, Twig, added_mounts, all_groups_made, attach, attached_at, bindable_children, bindable_tree, bound, copies_at, copies_from, copy_at, copy_number, copy_place, copy_type, graft_of, has_too_many, is_destination, nearest_image, parts_of, pushed_onto, pushed_up, reaches, receiver_below, receivers_of, stands_under, takes_part, top_of_copies, with_moved_mounts}
+use Rattle.vt_spec.specs.Machine.Attach.{Copies, Graft, Twig, added_mounts, all_groups_made, attach, attached_at, bindable_children, bindable_tree, bound, copies_at, copies_from, copy_at, copy_number, copy_mount_point, copy_type, graft_of, has_too_many, is_destination, nearest_image, parts_of, pushed_onto, pushed_up, reaches, receiver_stood_on, receivers_of, stands_under, takes_part, top_of_copies, with_moved_mounts}
 use Rattle.vt_spec.specs.Language.Limits.{most_mounts}
 use Rattle.vt_spec.specs.Language.Calls.{Call, MountFlags}
 use Rattle.vt_spec.specs.Language.Calls.Call.{Bind, MountOverlay, MountPlain, MoveMount}
@@ -117,7 +117,7 @@ module _ (world : World ℕ) (others : List (Filesystem ℕ)) (namespaces : List
     copy_same part twig = λ i. record twig.origin {
       number = copy_number nat_eq new graft part.number twig.origin.number;
       namespace = part.namespace;
-      mount_point = Some (copy_place nat_eq new graft part.number twig.origin);
+      mount_point = Some (copy_mount_point nat_eq new graft part.number twig.origin);
       propagation =
           cond (is_destination nat_eq graft part.number) twig.propagation
           (type_same new parts (mount_at nat_eq world graft.destination) twig part.propagation i);
@@ -136,7 +136,7 @@ module _ (world : World ℕ) (others : List (Filesystem ℕ)) (namespaces : List
 
     mounts_same : (attached_at nat_eq world new graft parts).mounts ≡ (attached_at nat_eq other new graft parts).mounts
     mounts_same = λ i.
-        map (λ mount. pushed_same mount (receiver_below nat_eq graft parts mount) i)
+        map (λ mount. pushed_same mount (receiver_stood_on nat_eq graft parts mount) i)
         (with_moved_mounts nat_eq graft.moves world.mounts (copies_same (mount_at nat_eq world graft.destination) i))
         ++ added_mounts graft.moves (copies_same (mount_at nat_eq world graft.destination) i)
         ++ flat_map (λ part. copies_same part i) (rest_of parts)

@@ -14,13 +14,13 @@ use Rattle.vt_spec.proofs.Trees.{led-append, root_reached}
 use Rattle.vt_spec.proofs.Worlds.{nothing_is_no_object}
 use Rattle.vt_spec.specs.FileTree.{has_entry_to}
 use Rattle.vt_spec.specs.Lists.{then_some}
-use Rattle.vt_spec.specs.Machine.Filesystems.{lies_below}
+use Rattle.vt_spec.specs.Machine.Filesystems.{lies_only_in_lowers}
 use Rattle.vt_spec.specs.Machine.Invariants.{IsMerged, SameObject, real_node, real_shown}
 use Rattle.vt_spec.specs.Machine.Layers.{shown}
 use Rattle.vt_spec.specs.Machine.Merging.{real_object}
 use Rattle.vt_spec.specs.Machine.Views.{Shown}
 use Rattle.vt_spec.specs.Machine.World.{Filesystem, Overlay, Real, World, filesystem_numbered, is_overlay, no_filesystem, open_layer, shown_layers, upper_object}
-use Rattle.vt_spec.specs.Machine.World.Real.{Below, Upper}
+use Rattle.vt_spec.specs.Machine.World.Real.{Lower, Upper}
 use Rattle.vt_spec.specs.Tree.{Tree, entry_named}
 use Rattle.vt_spec.specs.TreeInvariant.{IsReached, IsTree, entry_at, led}
 
@@ -65,7 +65,7 @@ names_before one other a b e =
 abbrev path_or : List (List ℕ) → Option (Real ℕ) → List (List ℕ)
 path_or default None = default
 path_or default (Some (Upper object)) = default
-path_or default (Some (Below layer path)) = path
+path_or default (Some (Lower layer path)) = path
 
 -- what lies below, and is there, lies below at the path where it is shown
 path_shown : (world : World ℕ) (overlay : Overlay ℕ) (path default : List (List ℕ))
@@ -109,7 +109,7 @@ module _ (world : World ℕ) (filesystem : Filesystem ℕ) (overlay : Overlay �
           (merged.real_objects object)))
 
   -- so names that lead to what lies below are the path of its real object
-  path_of_names : (object : ℕ) (path : List (List ℕ)) → lies_below overlay object ≡ true
+  path_of_names : (object : ℕ) (path : List (List ℕ)) → lies_only_in_lowers overlay object ≡ true
       → is_some (tree.node object) ≡ true → led tree tree.root path ≡ Some object
       → path_or [] (overlay.real object) ≡ path
   path_of_names object path below there leads =
@@ -119,7 +119,7 @@ module _ (world : World ℕ) (filesystem : Filesystem ℕ) (overlay : Overlay �
       (sym (ap is_some same) ∙ real_there object there)
       (sym (ap (λ o. is_some (upper_object o)) same) ∙ not-true (is_some (upper_object (overlay.real object))) below)
 
-  one_directory : (object one other : ℕ) → lies_below overlay object ≡ true
+  one_directory : (object one other : ℕ) → lies_only_in_lowers overlay object ≡ true
       → has_entry_to nat_eq tree one object ≡ true → has_entry_to nat_eq tree other object ≡ true → one ≡ other
   one_directory object one other below in_one in_other =
       let first = entry_from tree conditions one object in_one in

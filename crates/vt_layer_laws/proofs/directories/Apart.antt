@@ -7,7 +7,7 @@ use Rattle.std.proofs.lemmas.List.Elements.{filter-append}
 use Rattle.vt_spec.specs.Lists.{Fresh, any_pair, evens, holds_of, is_among}
 use Rattle.vt_spec.specs.Machine.Locked.{counts_in_layer, in_use, is_object_of, lies_in_layer, lies_or_counts_under, live_layers, live_upper_and_work, of_overlay, overlay_or, overlaps_one_of, overlays, upper_and_work}
 use Rattle.vt_spec.specs.declared.errors.Rule.TheVariants.{O2, O3, O5}
-use Rattle.vt_spec.specs.Machine.Outcome.Mounting.{LayerPlaces, layer_rules}
+use Rattle.vt_spec.specs.Machine.Outcome.Mounting.{LayerLocations, layer_rules}
 use Rattle.vt_spec.specs.Machine.World.{Filesystem, Layer, Overlay, World, filesystem_numbered, is_overlay, layers_of}
 use Rattle.vt_spec.specs.Machine.Invariants.{IsWorld, is_plain_layer, live_lowers, overlap}
 use Rattle.vt_layer_laws.specs.Layers.Mounted.{AreLayers}
@@ -316,7 +316,7 @@ module _ (world : World ℕ) (conditions : IsWorld nat_eq world) (overlay : Over
           (upper_and_work overlay) lowers_apart a own) low
 
 -- The rules on layers
-module _ (world : World ℕ) (places : LayerPlaces ℕ) (overlay : Overlay ℕ)
+module _ (world : World ℕ) (places : LayerLocations ℕ) (overlay : Overlay ℕ)
     (passed : NoneRefuses (layer_rules nat_eq world places overlay)) where
   work_lies_apart : list_any (overlaps_one_of nat_eq world (option_to_list overlay.work))
       (option_to_list overlay.upper) ≡ false

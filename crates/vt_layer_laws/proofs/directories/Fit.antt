@@ -8,7 +8,7 @@ use Rattle.vt_spec.specs.declared.attributes.Kind.TheVariants.{File}
 use Rattle.vt_spec.specs.FileTree.{is_kind_in, symlink_text}
 use Rattle.vt_spec.specs.Machine.Layers.{OpenLayer, Shown, at_path, shown}
 use Rattle.vt_spec.specs.Lists.{Fresh, is_among, odds}
-use Rattle.vt_spec.specs.Machine.Merging.{Merged, MergedInode, entry_below, inode_of, merged_content}
+use Rattle.vt_spec.specs.Machine.Merging.{Merged, MergedInode, entry_in_directory, inode_of, merged_content}
 use Rattle.vt_spec.specs.Language.Limits.{largest_file, longest_path}
 use Rattle.vt_spec.specs.Machine.Outcome.Mounting.{inode_count, overlay_filesystem}
 use Rattle.vt_spec.specs.Machine.World.{Filesystem, Overlay, World, open_layer, shown_layers}
@@ -118,11 +118,12 @@ module _ (layers : List (OpenLayer ℕ)) (are_open : AreOpen layers) (longest : 
           && list_all is_fit_name (names_in (layer.tree.node directory))) _ (fit directory))) e
 
   merged_names_fit : (path : List (List ℕ))
-      → list_all is_fit_name (map (λ e. e.0) (filter_map (entry_below nat_eq fresh has_upper all path) all)) ≡ true
+      → list_all is_fit_name (map (λ e. e.0) (filter_map (entry_in_directory nat_eq fresh has_upper all path) all))
+      ≡ true
   merged_names_fit path =
-      all_pass_map is_fit_name (λ e. e.0) (filter_map (entry_below nat_eq fresh has_upper all path) all)
+      all_pass_map is_fit_name (λ e. e.0) (filter_map (entry_in_directory nat_eq fresh has_upper all path) all)
       (λ entry among.
-      let from = from_filter_map (entry_below nat_eq fresh has_upper all path) all entry among in
+      let from = from_filter_map (entry_in_directory nat_eq fresh has_upper all path) all entry among in
       shown_name_fits path entry.0 from.0 from.1
       (entry_is_here layers are_open longest bounded fresh distinct has_upper path entry.0 from.0 entry from.2).0)
 

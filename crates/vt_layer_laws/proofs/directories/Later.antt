@@ -11,12 +11,12 @@ use Rattle.vt_spec.specs.Machine.Locked.{counts_in_layer, is_object_of, is_real_
 use Rattle.vt_spec.specs.Machine.Merging.{Merged, real_object, real_of}
 use Rattle.vt_spec.specs.Machine.Outcome.Mounting.{inode_count, overlay_filesystem, with_new_filesystem}
 use Rattle.vt_spec.specs.Machine.World.{Filesystem, Layer, Overlay, Real, World, filesystem_numbered, is_overlay, no_filesystem, open_layer, shown_layers}
-use Rattle.vt_spec.specs.Machine.World.Real.{Below, Upper}
+use Rattle.vt_spec.specs.Machine.World.Real.{Lower, Upper}
 use Rattle.vt_spec.specs.Machine.Invariants.{IsWorld, ListsNumbers, is_plain_layer}
 use Rattle.vt_spec.specs.Tree.{is_directory_node}
 use Rattle.vt_spec.specs.TreeInvariant.{IsTree, led}
 use Rattle.vt_layer_laws.specs.Layers.Mounted.{AreLayers}
-use Rattle.vt_layer_laws.proofs.directories.Below.{led_below}
+use Rattle.vt_layer_laws.proofs.directories.Lower.{led_below}
 use Rattle.vt_layer_laws.proofs.layers.ShownMerged.{InLayer, inodes}
 use Rattle.vt_layer_laws.proofs.layers.ShownMounted.{are_open, bounded}
 use Rattle.vt_layer_laws.proofs.layers.ShownObjects.{Among}
@@ -154,7 +154,7 @@ module _ (world : World ℕ) (conditions : IsWorld nat_eq world) (overlay : Over
 
   upper_in : Real ℕ → Option ℕ
   upper_in (Upper o) = Some o
-  upper_in (Below layer path) = None
+  upper_in (Lower layer path) = None
 
   upper_led : (upper : Layer ℕ) → overlay.upper ≡ Some upper → (number object : ℕ)
       → made.real number ≡ Some (Upper object)

@@ -4,8 +4,8 @@ use Rattle.std.specs.List.{filter_map, find, list_any}
 use Rattle.std.specs.FinMap.Entries.{is_sorted}
 use Rattle.std.specs.Prelude.{option_map}
 use Rattle.vt_spec.specs.Machine.Layers.{OpenLayer, Shown, at_path, shown}
-use Rattle.vt_spec.specs.Lists.{Fresh, each_once, front_of, is_among, last_or, place_from}
-use Rattle.vt_spec.specs.Machine.Merging.{Merged, MergedInode, entry_below, inode_of, is_one_inode, merged_content, number_at, same_path, tree_of}
+use Rattle.vt_spec.specs.Lists.{Fresh, each_once, without_last, is_among, last_or, index_from}
+use Rattle.vt_spec.specs.Machine.Merging.{Merged, MergedInode, entry_in_directory, inode_of, is_one_inode, merged_content, number_at, same_path, tree_of}
 use Rattle.vt_spec.specs.Machine.Invariants.{ListsNumbers}
 use Rattle.vt_spec.specs.Rights.{is_directory}
 use Rattle.vt_spec.specs.Tree.{Content, Tree, entries_in, entries_of, entry_named, is_directory_node, kind_of, name_cmp, parent_in, parent_of}
@@ -20,7 +20,7 @@ use Rattle.vt_layer_laws.proofs.layers.ShownPaths.{last_of_longer, not_empty, on
 use Rattle.vt_layer_laws.proofs.layers.ShownTree.{Arrives, arrives, directory_above, inode_at, merged_tree, object_at, root_number}
 use Rattle.vt_layer_laws.proofs.layers.ShownWhole.{is_of_object}
 use Rattle.vt_layer_laws.proofs.layers.UpperLine.{has_entries}
-use Rattle.vt_layer_laws.proofs.layers.UpperShown.{front_of_longer}
+use Rattle.vt_layer_laws.proofs.layers.UpperShown.{without_last_of_longer}
 use Rattle.std.proofs.lemmas.Option.{same_Some}
 use Rattle.vt_spec.proofs.NodeChanges.{entries_in-no_directory}
 use Rattle.vt_spec.proofs.Options.{none_is_some}
@@ -28,10 +28,10 @@ use Rattle.vt_spec.proofs.Truths.{same_truth}
 
 -- tests that agree on a list find one place
 same_place : {A : Type 0} (test other : A → Bool) (k : ℕ) (list : List A) → ((a : A) → Among list a → test a ≡ other a)
-    → place_from test k list ≡ place_from other k list
+    → index_from test k list ≡ index_from other k list
 same_place test other k [] same = refl
 same_place test other k (first ∷ list) same =
-    ap (λ b. cond b (Some k) (place_from test (k + 1) list)) (same first (inl refl))
+    ap (λ b. cond b (Some k) (index_from test (k + 1) list)) (same first (inl refl))
     ∙ ap (cond (other first) (Some k)) (same_place test other (k + 1) list (λ a among. same a (inr among)))
 
 -- a list without repetitions has what the list has
@@ -143,7 +143,7 @@ module _ (layers : List (OpenLayer ℕ)) (are_open : AreOpen layers) (longest : 
   -- what the merged tree has of a directory
   merged_entries : (path : List (List ℕ)) (content : Content ℕ) → is_directory (kind_of content) ≡ true
       → entries_of (merged_content nat_eq fresh has_upper all path content)
-      ≡ filter_map (entry_below nat_eq fresh has_upper all path) all
+      ≡ filter_map (entry_in_directory nat_eq fresh has_upper all path) all
   merged_entries path (Directory parent entries opaque) d = refl
   merged_entries path (Regular bytes) d = absurd (true≢false (sym d))
   merged_entries path (Symlink text) d = absurd (true≢false (sym d))
@@ -151,7 +151,7 @@ module _ (layers : List (OpenLayer ℕ)) (are_open : AreOpen layers) (longest : 
 
   merged_parent : (own : ℕ) (path : List (List ℕ)) (content : Content ℕ) → is_directory (kind_of content) ≡ true
       → parent_of own (merged_content nat_eq fresh has_upper all path content)
-      ≡ number_at fresh has_upper all (front_of path)
+      ≡ number_at fresh has_upper all (without_last path)
   merged_parent own path (Directory parent entries opaque) d = refl
   merged_parent own path (Regular bytes) d = absurd (true≢false (sym d))
   merged_parent own path (Symlink text) d = absurd (true≢false (sym d))
@@ -172,8 +172,8 @@ module _ (layers : List (OpenLayer ℕ)) (are_open : AreOpen layers) (longest : 
     found : Lies (at path seen)
     directory : is_directory (kind_of found.node.content) ≡ true
     numbered : n ≡ num (at path seen)
-    entries : entries_in (tree.node n) ≡ filter_map (entry_below nat_eq fresh has_upper all path) all
-    parent : parent_in n (tree.node n) ≡ number_at fresh has_upper all (front_of path)
+    entries : entries_in (tree.node n) ≡ filter_map (entry_in_directory nat_eq fresh has_upper all path) all
+    parent : parent_in n (tree.node n) ≡ number_at fresh has_upper all (without_last path)
 
   of_directory : (n : ℕ) → IsDirectory tree n → IsShownDirectory n
   of_directory n d = by (inode_of (inodes layers are_open longest bounded fresh distinct has_upper) n nat_eq) refl d
@@ -228,8 +228,8 @@ module _ (layers : List (OpenLayer ℕ)) (are_open : AreOpen layers) (longest : 
     where
       by : (above : IsShownDirectory directory) (o : Option (Shown ℕ)) → shown layers (above.path ++ name ∷ []) ≡ o
           → LeadsTo layers are_open longest bounded fresh distinct has_upper above.path name o
-          (entry_named name (filter_map (entry_below nat_eq fresh has_upper all above.path) all))
-          → entry_named name (filter_map (entry_below nat_eq fresh has_upper all above.path) all) ≡ Some n
+          (entry_named name (filter_map (entry_in_directory nat_eq fresh has_upper all above.path) all))
+          → entry_named name (filter_map (entry_in_directory nat_eq fresh has_upper all above.path) all) ≡ Some n
           → IsEntry directory name n
       by above None s leads e = none_is_some n (sym leads ∙ e)
       by above (Some seen) s leads e =
@@ -263,7 +263,7 @@ module _ (layers : List (OpenLayer ℕ)) (are_open : AreOpen layers) (longest : 
   root_own_parent : parent_in (fresh 0) (tree.node (fresh 0)) ≡ fresh 0
   root_own_parent =
       let root = of_directory (fresh 0) root_is_directory in
-      root.parent ∙ ap (λ p. number_at fresh has_upper all (front_of p))
+      root.parent ∙ ap (λ p. number_at fresh has_upper all (without_last p))
       (sym (root_path root.path root.seen root.is_shown root.numbered)) ∙ root_number_at
 
   -- a directory is the root, or has a name in a directory
@@ -312,12 +312,12 @@ module _ (layers : List (OpenLayer ℕ)) (are_open : AreOpen layers) (longest : 
           (shown_directory front over shows.is found d)
 
       by : (path : List (List ℕ)) (seen : Shown ℕ) → shown layers path ≡ Some seen
-          → IsDirectory tree (number_at fresh has_upper all (front_of path))
+          → IsDirectory tree (number_at fresh has_upper all (without_last path))
       by [] seen s = subst (IsDirectory tree) (sym root_number_at) root_is_directory
       by (first ∷ rest) seen s =
           let last = last_of (first ∷ rest) (not_empty first rest) in
-          subst (λ p. IsDirectory tree (number_at fresh has_upper all (front_of p))) last.2
-          (subst (λ p. IsDirectory tree (number_at fresh has_upper all p)) (sym (front_of_longer last.0 last.1))
+          subst (λ p. IsDirectory tree (number_at fresh has_upper all (without_last p))) last.2
+          (subst (λ p. IsDirectory tree (number_at fresh has_upper all p)) (sym (without_last_of_longer last.0 last.1))
           (above last.0 last.1 seen (ap (shown layers) last.2 ∙ s)))
 
   -- the path of a directory under a name
@@ -344,8 +344,8 @@ module _ (layers : List (OpenLayer ℕ)) (are_open : AreOpen layers) (longest : 
     one_parent = λ directory name n e d.
         let entry = is_entry directory name n e in
         let own = of_directory n d in
-        own.parent ∙ ap (λ p. number_at fresh has_upper all (front_of p)) (path_of_entry directory name n entry own)
-        ∙ ap (number_at fresh has_upper all) (front_of_longer entry.above.path name)
+        own.parent ∙ ap (λ p. number_at fresh has_upper all (without_last p)) (path_of_entry directory name n entry own)
+        ∙ ap (number_at fresh has_upper all) (without_last_of_longer entry.above.path name)
         ∙ path_number entry.above.path entry.above.seen entry.above.is_shown entry.above.found entry.above.directory
         ∙ sym entry.above.numbered;
     one_name = λ directory name other n e f d.

@@ -8,7 +8,7 @@ use Rattle.std.specs.Ordering.{is_lt}
 use Rattle.std.specs.Prelude.{option_map, ⊤}
 use Rattle.vt_spec.specs.Machine.Layers.{OpenLayer, shown, view_of}
 use Rattle.vt_spec.specs.Lists.{Fresh, folded}
-use Rattle.vt_spec.specs.Machine.Merging.{Merged, entry_below, merged_at, merged_objects}
+use Rattle.vt_spec.specs.Machine.Merging.{Merged, entry_in_directory, merged_at, merged_objects}
 use Rattle.vt_spec.specs.Machine.Views.{Shown, View, names_at, names_shown, node_led, paths_from}
 use Rattle.vt_spec.specs.Tree.{Entries, entries_in, name_cmp, with_entry}
 use Rattle.vt_layer_laws.proofs.layers.ShownDirectories.{AreOpen, append_assoc}
@@ -206,13 +206,14 @@ module _ (layers : List (OpenLayer ℕ)) (are_open : AreOpen layers) (longest : 
     (bounded : (path : List (List ℕ)) (seen : Shown ℕ) → shown layers path ≡ Some seen → length path ≤ longest)
     (fresh : Fresh ℕ) (distinct : (j k : ℕ) → fresh j ≡ fresh k → j ≡ k) (has_upper : Bool) where
   pub entries_in_order : (path : List (List ℕ))
-      → is_sorted name_cmp (filter_map (entry_below nat_eq fresh has_upper (merged_objects layers longest) path)
+      → is_sorted name_cmp (filter_map (entry_in_directory nat_eq fresh has_upper (merged_objects layers longest) path)
       (merged_objects layers longest)) ≡ true
   entries_in_order path =
-      passes _ (rising_sorted (filter_map (entry_below nat_eq fresh has_upper (merged_objects layers longest) path)
+      passes _ (rising_sorted (filter_map (entry_in_directory nat_eq fresh has_upper
+      (merged_objects layers longest) path)
       (merged_objects layers longest))
       (pairwise_filter_map (λ a b. PathBelow a.path b.path) (λ a b. NameBelow a.0 b.0)
-      (entry_below nat_eq fresh has_upper (merged_objects layers longest) path)
+      (entry_in_directory nat_eq fresh has_upper (merged_objects layers longest) path)
       (λ a b x y e f h.
       last_parent path x.0 y.0
       (subst (PathBelow (path ++ x.0 ∷ []))

@@ -7,7 +7,7 @@ use Rattle.vt_spec.specs.Lists.{Fresh, evens, holds_of, is_among, then_some}
 use Rattle.vt_spec.specs.Machine.Merging.{layer_node, merged_at, real_object}
 use Rattle.vt_spec.specs.Machine.Outcome.Mounting.{overlay_filesystem}
 use Rattle.vt_spec.specs.Machine.World.{Filesystem, Layer, Overlay, Real, World, filesystem_numbered, no_filesystem, open_layer, shown_layers}
-use Rattle.vt_spec.specs.Machine.World.Real.{Below, Upper}
+use Rattle.vt_spec.specs.Machine.World.Real.{Lower, Upper}
 use Rattle.vt_spec.specs.Machine.Invariants.{IsMerged, IsWorld, SameObject, is_plain_layer, is_there, number_at_path, real_node}
 use Rattle.vt_layer_laws.specs.Layers.Mounted.{AreLayers}
 use Rattle.vt_layer_laws.specs.Layers.NewOverlays.{OverlaysStillMerge}
@@ -80,7 +80,7 @@ module _ (world : World ℕ) (conditions : IsWorld nat_eq world) (overlay : Over
             ap (λ f. f.files.tree.node object)
             (same_filesystem world conditions overlay are_layers fresh distinct unused layer.filesystem
             (olds layer refl))
-    real_same (Below k path) =
+    real_same (Lower k path) =
         by (slice_get some_overlay.lowers k)
         (λ layer e. old layer (among_append_right (option_to_list some_overlay.upper) some_overlay.lowers layer
         (among_slice some_overlay.lowers k layer e)))

@@ -4,14 +4,14 @@ use Rattle.std.specs.Prelude.{option_map}
 use Rattle.vt_spec.specs.declared.attributes.Kind.TheVariants.{White}
 use Rattle.std.proofs.lemmas.List.Elements.{All-cons, All-head, All-nil, All-tail}
 use Rattle.vt_spec.specs.FileTree.{is_kind_in, opaque_of}
-use Rattle.vt_spec.specs.Lists.{fronts, then_some, when}
+use Rattle.vt_spec.specs.Lists.{prefixes, then_some, when}
 use Rattle.vt_spec.specs.Machine.Views.{Shown, View, cuts, hides, node_led, shown, shown_from, shown_over}
 use Rattle.vt_spec.specs.Rights.{is_directory}
 use Rattle.vt_spec.specs.Tree.{Node, Tree, is_directory_node, kind_of}
 use Rattle.vt_spec.specs.TreeInvariant.{entry_at, led}
 use Rattle.vt_layer_laws.specs.Layers.Directories.{AreViews, DirectoriesAreMerged, IsView, LayersAreViews, MergedAreViews, PlacedShowTheSame, PlacedView, PlacesAreCountedBack, ShownUnderName, counted_back, directories_under, directory_over, merged_over, merged_under, placed_from, placed_view, shown_in, view_under}
 use Rattle.vt_layer_laws.proofs.layers.ShownDirectories.{led_is_there}
-use Rattle.vt_layer_laws.proofs.layers.ShownFronts.{front_found, list_any_of_map}
+use Rattle.vt_layer_laws.proofs.layers.ShownFronts.{prefix_found, list_any_of_map}
 use Rattle.vt_layer_laws.proofs.layers.UpperLine.{has_entries}
 use Rattle.vt_spec.proofs.Options.{none_is_some}
 
@@ -35,7 +35,7 @@ never_cuts view path none = by (cuts view path) refl
     by : (b : Bool) → cuts view path ≡ b → b ≡ false
     by false c = refl
     by true c =
-        let found = front_found (λ front. hides (node_led view front)) path c in
+        let found = prefix_found (λ front. hides (node_led view front)) path c in
         sym found.2 ∙ ap (λ o. hides (then_some o view.node)) (none found.0 found.1.2)
 
 -- what is shown under a name of one layer, and of those below it
@@ -58,7 +58,7 @@ module _ (top : PlacedView ℕ) (is : IsView top.view) (name : List ℕ) where
   cuts_under : (rest : List (List ℕ)) → cuts top.view (name ∷ rest) ≡ (hides node || cuts own.view rest)
   cuts_under rest =
       ap (λ b. hides node || b) (list_any_of_map (λ front. hides (node_led top.view front)) (λ front. name ∷ front)
-      (fronts rest))
+      (prefixes rest))
 
   opaque_shows : (found : Option ℕ) (cut : Bool) (lower : Option (Shown ℕ))
       → shown_over top.view top.layer found true lower ≡ shown_over own.view top.layer found cut None

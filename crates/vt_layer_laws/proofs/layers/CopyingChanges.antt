@@ -1,7 +1,7 @@
 -- A change of an overlay does to its upper layer what it is asked, clause by clause.
 use Rattle.std.proofs.Common.{◌≡◌, ◌≢◌, refl, sym, ap, ◌∙◌, true≢false, arith, ℕ, suc, nat_eq, eq-eqb, ne_eqb, Bool, true, false, cond, ◌||◌, List, [], ◌∷◌, ◌++◌, Option, Some, None, is_some, unwrap_or}
 use Rattle.vt_spec.specs.Language.Changes.{content_with_parent, node_with_parent, node_without_entry, with_inode, with_moved, with_name, without_name, without_parent}
-use Rattle.vt_spec.specs.Machine.CopyUp.{Merge, Stack, emptied, hides_directory, made, marked, moved, name_left_by, removed, shown_below, upper_directory_named, upper_of}
+use Rattle.vt_spec.specs.Machine.CopyUp.{Merge, Stack, emptied, hides_directory, made, marked, moved, name_left_by, removed, shown_in_lowers_at, upper_directory_named, upper_of}
 use Rattle.vt_spec.specs.FileTree.{FileTree, is_opaque_in}
 use Rattle.vt_spec.specs.Lists.{Fresh, then_some}
 use Rattle.vt_spec.specs.Machine.World.{Real, upper_object}
@@ -89,22 +89,22 @@ module _ (files : FileTree ℕ) (tree : IsTree files.tree) (first : ℕ → Opti
   -- what is left of a name, with the number of the whiteout
   pub removed_with : (directory : ℕ) (name : List ℕ) (object seen : ℕ)
       → entry_at files.tree directory name ≡ Some object → upper_object (real directory) ≡ Some seen
-      → LeftWith (fresh 0) (shown_below nat_eq stack here directory name) stack
+      → LeftWith (fresh 0) (shown_in_lowers_at nat_eq stack here directory name) stack
       (removed nat_eq fresh stack here directory name object).upper (upper_of here directory) name
   removed_with directory name object seen e has =
-      let left = name_left_by nat_eq (is_some (shown_below nat_eq stack here directory name)) fresh stack upper
+      let left = name_left_by nat_eq (is_some (shown_in_lowers_at nat_eq stack here directory name)) fresh stack upper
       (upper_of here directory) name in
       let kind = ap (λ n. is_directory_node (upper.tree.node n)) (upper_of_is here directory seen has)
       ∙ sound.kinds (path_to files tree directory name object e).0 directory seen
       (path_to files tree directory name object e).1 has ∙ has_entries files.tree directory name object e in
       let new = λ (same : upper_of here directory ≡ fresh 0). old_differs directory seen has
       (sym (upper_of_is here directory seen has) ∙ same) in
-      left_stays (fresh 0) (shown_below nat_eq stack here directory name) stack left
+      left_stays (fresh 0) (shown_in_lowers_at nat_eq stack here directory name) stack left
       (emptied nat_eq left (upper_directory_named here directory name)) (upper_of here directory) name
       (ap entries_in (emptied_other left (upper_directory_named here directory name)
       (upper_of here directory) not_itself))
       (emptied_other left (upper_directory_named here directory name) (fresh 0) not_new)
-      (left_where fresh (shown_below nat_eq stack here directory name) stack upper
+      (left_where fresh (shown_in_lowers_at nat_eq stack here directory name) stack upper
       (upper_of here directory) name kind new)
     where
       not_itself : upper_directory_named here directory name ≢ Some (upper_of here directory)
@@ -123,7 +123,7 @@ module _ (files : FileTree ℕ) (tree : IsTree files.tree) (first : ℕ → Opti
       → entry_at files.tree directory name ≡ Some object → upper_object (real directory) ≡ Some seen
       → IsLeft stack here (removed nat_eq fresh stack here directory name object) directory name
   removed_left directory name object seen e has =
-      is_left_by (fresh 0) (shown_below nat_eq stack here directory name) stack
+      is_left_by (fresh 0) (shown_in_lowers_at nat_eq stack here directory name) stack
       (removed nat_eq fresh stack here directory name object).upper (upper_of here directory) name
       (removed_with directory name object seen e has)
 
@@ -131,7 +131,8 @@ module _ (files : FileTree ℕ) (tree : IsTree files.tree) (first : ℕ → Opti
       → upper_directory_named here directory name ≡ Some replaced
       → entries_in ((removed nat_eq fresh stack here directory name object).upper.tree.node replaced) ≡ []
   removed_empty directory name object replaced e =
-      emptied_is_empty (name_left_by nat_eq (is_some (shown_below nat_eq stack here directory name)) fresh stack upper
+      emptied_is_empty (name_left_by nat_eq (is_some
+      (shown_in_lowers_at nat_eq stack here directory name)) fresh stack upper
       (upper_of here directory) name) (upper_directory_named here directory name) replaced e
 
   pub made_marked : (directory : ℕ) (name : List ℕ) (number : ℕ) (node : Node ℕ) (seen : ℕ)
@@ -175,7 +176,7 @@ module _ (files : FileTree ℕ) (tree : IsTree files.tree) (first : ℕ → Opti
     away = with_moved nat_eq freed (upper_of here from) old (upper_of here to) name (upper_of here object)
 
     abbrev left : FileTree ℕ
-    left = name_left_by nat_eq (is_some (shown_below nat_eq stack here from old)) fresh stack away
+    left = name_left_by nat_eq (is_some (shown_in_lowers_at nat_eq stack here from old)) fresh stack away
         (upper_of here from) old
 
     kind_away : (inode : ℕ) → is_directory_node (away.tree.node inode) ≡ is_directory_node (upper.tree.node inode)
@@ -197,16 +198,16 @@ module _ (files : FileTree ℕ) (tree : IsTree files.tree) (first : ℕ → Opti
     object_new : upper_of here object ≢ fresh 0
     object_new same = old_differs object seen has (sym (upper_of_is here object seen has) ∙ same)
 
-    pub moved_with : LeftWith (fresh 0) (shown_below nat_eq stack here from old) stack
+    pub moved_with : LeftWith (fresh 0) (shown_in_lowers_at nat_eq stack here from old) stack
         (moved nat_eq fresh stack here from old to name object).upper (upper_of here from) old
     moved_with =
-        left_stays (fresh 0) (shown_below nat_eq stack here from old) stack left
+        left_stays (fresh 0) (shown_in_lowers_at nat_eq stack here from old) stack left
         (marked nat_eq (hides_directory nat_eq stack here to name) left (upper_of here object))
         (upper_of here from) old
         (marked_entries (hides_directory nat_eq stack here to name) left (upper_of here object) (upper_of here from))
         (marked_other (hides_directory nat_eq stack here to name) left (upper_of here object) (fresh 0)
         (λ same. object_new (sym same)))
-        (left_where fresh (shown_below nat_eq stack here from old) stack away (upper_of here from) old
+        (left_where fresh (shown_in_lowers_at nat_eq stack here from old) stack away (upper_of here from) old
         (kind_away (upper_of here from)
         ∙ ap (λ n. is_directory_node (upper.tree.node n)) (upper_of_is here from seen_from has_from)
         ∙ sound.kinds (path_to files tree from old object e).0 from seen_from
@@ -215,7 +216,7 @@ module _ (files : FileTree ℕ) (tree : IsTree files.tree) (first : ℕ → Opti
 
     pub moved_left : IsLeft stack here (moved nat_eq fresh stack here from old to name object) from old
     moved_left =
-        is_left_by (fresh 0) (shown_below nat_eq stack here from old) stack
+        is_left_by (fresh 0) (shown_in_lowers_at nat_eq stack here from old) stack
         (moved nat_eq fresh stack here from old to name object).upper (upper_of here from) old moved_with
 
     pub moved_marked : IsDirectory files.tree object
@@ -224,7 +225,7 @@ module _ (files : FileTree ℕ) (tree : IsTree files.tree) (first : ℕ → Opti
     moved_marked d =
         marked_itself (hides_directory nat_eq stack here to name) left (upper_of here object)
         (left_part is_directory_node (λ change keeps. keeps.directory)
-        (is_some (shown_below nat_eq stack here from old)) fresh stack away (upper_of here from) old
+        (is_some (shown_in_lowers_at nat_eq stack here from old)) fresh stack away (upper_of here from) old
         (upper_of here object) object_new
         ∙ kind_away (upper_of here object)
         ∙ ap (λ n. is_directory_node (upper.tree.node n)) (upper_of_is here object seen has)
@@ -233,7 +234,7 @@ module _ (files : FileTree ℕ) (tree : IsTree files.tree) (first : ℕ → Opti
         (path_to files tree from old object e).1 e) has ∙ d)
         ∙ ap (λ b. hides_directory nat_eq stack here to name || b)
         (left_part is_opaque_in (λ change keeps. keeps.mark)
-        (is_some (shown_below nat_eq stack here from old)) fresh stack away (upper_of here from) old
+        (is_some (shown_in_lowers_at nat_eq stack here from old)) fresh stack away (upper_of here from) old
         (upper_of here object) object_new
         ∙ mark_away (upper_of here object))
 
@@ -259,7 +260,7 @@ module _ (files : FileTree ℕ) (tree : IsTree files.tree) (first : ℕ → Opti
         (without_parent nat_eq freed (entry_named name (entries_in (freed.tree.node (upper_of here to)))))
         (upper_of here from) old in
         marked_entries (hides_directory nat_eq stack here to name) left (upper_of here object) replaced
-        ∙ ap entries_in (left_elsewhere (is_some (shown_below nat_eq stack here from old)) fresh stack away
+        ∙ ap entries_in (left_elsewhere (is_some (shown_in_lowers_at nat_eq stack here from old)) fresh stack away
         (upper_of here from) old replaced not_from (old_differs found.0 replaced found.2))
         ∙ part-changed_node entries_in (with_name nat_eq base (upper_of here to) name (upper_of here object))
         (upper_of here object) (node_with_parent (upper_of here to))

@@ -2,7 +2,7 @@
 use Rattle.std.proofs.Common.{◌≡◌, ◌≢◌, refl, sym, ap, subst, ◌∙◌, ℕ, nat_eq, eq-eqb, ne_eqb, Bool, true, false, cond, List, Option, Some, None, is_some, unwrap_or, ⊎_elim}
 use Rattle.std.proofs.lemmas.Bool.Decides.{eqb_tells}
 use Rattle.vt_spec.specs.Language.Changes.{content_with_mark, content_with_parent, node_with_mark, node_with_parent, node_without_entry, with_inode, with_moved, with_name, without_name, without_parent}
-use Rattle.vt_spec.specs.Machine.CopyUp.{Merge, Stack, emptied, hides_directory, linked, made, marked, moved, name_left_by, shown_below, upper_directory_named, upper_of, whiteout_of}
+use Rattle.vt_spec.specs.Machine.CopyUp.{Merge, Stack, emptied, hides_directory, linked, made, marked, moved, name_left_by, shown_in_lowers_at, upper_directory_named, upper_of, whiteout_of}
 use Rattle.vt_spec.specs.FileTree.{FileTree}
 use Rattle.vt_spec.specs.Lists.{Fresh}
 use Rattle.vt_spec.specs.Machine.World.{Real, upper_object}
@@ -213,8 +213,9 @@ module _ (files : FileTree ℕ) (first : ℕ → Option (Real ℕ)) (fresh : Fre
     moved_named =
         ap (entry_named name)
         (marked_entries (hides_directory nat_eq stack there to name)
-        (name_left_by nat_eq (is_some (shown_below nat_eq stack there from old)) fresh stack away
+        (name_left_by nat_eq (is_some (shown_in_lowers_at nat_eq stack there from old)) fresh stack away
         (upper_of there from) old) (upper_of there object) (upper_of there to))
-        ∙ other_name_stays (is_some (shown_below nat_eq stack there from old)) fresh stack away (upper_of there from)
+        ∙ other_name_stays (is_some (shown_in_lowers_at nat_eq stack there from old)) fresh stack away
+        (upper_of there from)
         (upper_of there to) old name apart (is_old to seen_to has_to)
         ∙ away_named

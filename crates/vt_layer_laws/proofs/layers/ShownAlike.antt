@@ -5,7 +5,7 @@ use Rattle.std.specs.Cmp.Lexicographic.{bytes_decides}
 use Rattle.vt_spec.specs.declared.attributes.Kind.TheVariants.{White}
 use Rattle.vt_spec.specs.FileTree.{is_kind, is_kind_in}
 use Rattle.vt_spec.specs.Machine.Layers.{OpenLayer, Shown, at_path, cuts, hides, node_at_path, shown, shown_from, shown_over}
-use Rattle.vt_spec.specs.Lists.{fronts, then_some, when}
+use Rattle.vt_spec.specs.Lists.{prefixes, then_some, when}
 use Rattle.vt_spec.specs.Machine.Merging.{layer_node}
 use Rattle.vt_spec.specs.Machine.Invariants.{SameObject, same_content}
 use Rattle.vt_spec.specs.Rights.{is_directory}
@@ -126,7 +126,7 @@ show_alike (layer ∷ layers) (other ∷ others) as_others are_open others_open 
     (depth + 1) path)
   where
     cut_alike : cuts other path ≡ cuts layer path
-    cut_alike = λ i. list_any (λ front. hides_alike _ _ (as_others.0 front) i) (fronts path)
+    cut_alike = λ i. list_any (λ front. hides_alike _ _ (as_others.0 front) i) (prefixes path)
 
     alive : (one : OpenLayer ℕ) → IsTree one.tree × (Rattle.vt_spec.specs.TreeInvariant.IsDirectory one.tree one.directory)
         → (object : ℕ) → at_path one path ≡ Some object → is_some (node_at_path one path) ≡ true

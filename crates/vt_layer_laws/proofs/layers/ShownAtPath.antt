@@ -7,7 +7,7 @@ use Rattle.vt_spec.specs.Lists.{then_some}
 use Rattle.vt_spec.specs.Tree.{Content, Node, kind_of}
 use Rattle.vt_spec.specs.Tree.Content.{Directory, Regular, Symlink, Whiteout}
 use Rattle.vt_layer_laws.specs.Layers.Shown.{HasAt, HasInodeAt, HasUncut, IsCut, IsShown}
-use Rattle.vt_layer_laws.proofs.layers.ShownFronts.{cuts_by, front_found, hides_inode}
+use Rattle.vt_layer_laws.proofs.layers.ShownFronts.{cuts_by, prefix_found, hides_inode}
 use Rattle.std.proofs.lemmas.Option.{same_Some}
 use Rattle.vt_spec.proofs.Options.{none_is_some}
 
@@ -32,13 +32,13 @@ module _ (layer : OpenLayer ℕ) (lower : List (OpenLayer ℕ)) (path : List (Li
   -- a lower layer is cut where the top one cuts, or where it is cut among the lower ones
   cut_by_top : (depth : ℕ) → cuts layer path ≡ true → IsCut (layer ∷ lower) (suc depth) path
   cut_by_top depth e =
-      let found = front_found (λ front. hides (node_at_path layer front)) path e in
+      let found = prefix_found (λ prefix. hides (node_at_path layer prefix)) path e in
       let inode = hides_inode (node_at_path layer found.0) found.2 in
       record {
         higher = 0;
         is_higher = omega arith;
-        front = found.0;
-        is_front = found.1;
+        prefix = found.0;
+        is_prefix = found.1;
         inode = inode.0;
         stands = (layer, refl, inode.1);
         hides = inode.2;
@@ -48,8 +48,8 @@ module _ (layer : OpenLayer ℕ) (lower : List (OpenLayer ℕ)) (path : List (Li
   cut_by_lower depth cut = record {
     higher = suc cut.higher;
     is_higher = let h = cut.is_higher in omega arith;
-    front = cut.front;
-    is_front = cut.is_front;
+    prefix = cut.prefix;
+    is_prefix = cut.is_prefix;
     inode = cut.inode;
     stands = cut.stands;
     hides = cut.hides;
@@ -59,16 +59,16 @@ module _ (layer : OpenLayer ℕ) (lower : List (OpenLayer ℕ)) (path : List (Li
       → ¬ (IsCut (layer ∷ lower) (suc depth) path)
   lower_uncut depth e uncut cut = by cut.higher cut.is_higher cut.stands
     where
-      by : (higher : ℕ) → higher < suc depth → HasInodeAt (layer ∷ lower) higher cut.front cut.inode → ⊥
+      by : (higher : ℕ) → higher < suc depth → HasInodeAt (layer ∷ lower) higher cut.prefix cut.inode → ⊥
       by zero h stands =
-          true≢false (sym (cuts_by layer path cut.front cut.inode cut.is_front
-          (ap (λ l. node_at_path l cut.front) (same_Some layer stands.0 stands.1) ∙ stands.2) cut.hides) ∙ e)
+          true≢false (sym (cuts_by layer path cut.prefix cut.inode cut.is_prefix
+          (ap (λ l. node_at_path l cut.prefix) (same_Some layer stands.0 stands.1) ∙ stands.2) cut.hides) ∙ e)
       by (suc higher) h stands =
           uncut (record {
             higher = higher;
             is_higher = omega arith;
-            front = cut.front;
-            is_front = cut.is_front;
+            prefix = cut.prefix;
+            is_prefix = cut.is_prefix;
             inode = cut.inode;
             stands = stands;
             hides = cut.hides;

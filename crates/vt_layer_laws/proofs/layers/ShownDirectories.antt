@@ -7,7 +7,7 @@ use Rattle.vt_spec.specs.Rights.{is_directory}
 use Rattle.vt_spec.specs.Tree.{Content, Node, is_directory_node, kind_of}
 use Rattle.vt_spec.specs.Tree.Content.{Directory, Regular, Symlink, Whiteout}
 use Rattle.vt_spec.specs.TreeInvariant.{IsDirectory, IsTree, entry_at, led}
-use Rattle.vt_layer_laws.proofs.layers.ShownFronts.{front_found, front_passes}
+use Rattle.vt_layer_laws.proofs.layers.ShownFronts.{prefix_found, prefix_passes}
 use Rattle.vt_layer_laws.proofs.layers.ShownNames.{last_name}
 use Rattle.vt_layer_laws.proofs.layers.UpperLine.{has_entries}
 use Rattle.std.proofs.lemmas.Option.{same_Some}
@@ -45,8 +45,8 @@ cuts_not_before layer path name e = by (cuts layer path) refl
     by : (b : Bool) → cuts layer path ≡ b → cuts layer path ≡ false
     by false c = c
     by true c =
-        let found = front_found (λ front. hides (node_at_path layer front)) path c in
-        absurd (true≢false (sym (front_passes (λ front. hides (node_at_path layer front)) (path ++ name ∷ []) found.0
+        let found = prefix_found (λ front. hides (node_at_path layer front)) path c in
+        absurd (true≢false (sym (prefix_passes (λ front. hides (node_at_path layer front)) (path ++ name ∷ []) found.0
         (found.1.0 ++ name ∷ [])
         (sym (append_assoc found.0 found.1.0 (name ∷ [])) ∙ ap (λ p. p ++ name ∷ []) found.1.1) found.1.2 found.2) ∙ e))
 
@@ -57,7 +57,7 @@ hides_not_at layer path name nonempty e = by (hides (node_at_path layer path)) r
     by : (b : Bool) → hides (node_at_path layer path) ≡ b → hides (node_at_path layer path) ≡ false
     by false c = c
     by true c = absurd (true≢false
-        (sym (front_passes (λ front. hides (node_at_path layer front)) (path ++ name ∷ []) path
+        (sym (prefix_passes (λ front. hides (node_at_path layer front)) (path ++ name ∷ []) path
         (name ∷ []) refl nonempty c) ∙ e))
 
 -- what is there and does not hide is a directory

@@ -6,8 +6,8 @@ use Rattle.std.specs.Cmp.Lexicographic.{nat_list_cmp_total}
 use Rattle.std.specs.Ordering.{eq_by_cmp, is_eq}
 use Rattle.std.specs.Prelude.{option_map}
 use Rattle.vt_spec.specs.Machine.Layers.{OpenLayer, Shown, at_path, shown}
-use Rattle.vt_spec.specs.Lists.{Fresh, front_of, last_or, then_some, when}
-use Rattle.vt_spec.specs.Machine.Merging.{Merged, MergedInode, entry_below, inode_of, is_one_inode, is_root_path, layer_node, merged_content, merged_inode, merged_inodes, merged_number, merged_objects, real_object, real_of, same_path}
+use Rattle.vt_spec.specs.Lists.{Fresh, without_last, last_or, then_some, when}
+use Rattle.vt_spec.specs.Machine.Merging.{Merged, MergedInode, entry_in_directory, inode_of, is_one_inode, is_root_path, layer_node, merged_content, merged_inode, merged_inodes, merged_number, merged_objects, real_object, real_of, same_path}
 use Rattle.vt_spec.specs.Rights.{is_directory}
 use Rattle.vt_spec.specs.Tree.{Node, entry_named, is_directory_node, kind_of, name_cmp}
 use Rattle.vt_spec.proofs.Nodes.{same_name}
@@ -15,7 +15,7 @@ use Rattle.vt_layer_laws.proofs.layers.ShownAtPath.{computed}
 use Rattle.vt_layer_laws.proofs.layers.ShownDirectories.{AreOpen, last_of, led_is_there}
 use Rattle.vt_layer_laws.proofs.layers.ShownObjects.{Among, Found, IsOne, among_filter_map, found_among, from_filter_map, is_object, is_one, object_is, one_itself, path_itself, path_same, placed_among}
 use Rattle.vt_layer_laws.proofs.layers.ShownPaths.{last_of_longer, not_empty, one_path, root_of_longer}
-use Rattle.vt_layer_laws.proofs.layers.UpperShown.{front_of_longer}
+use Rattle.vt_layer_laws.proofs.layers.UpperShown.{without_last_of_longer}
 use Rattle.std.proofs.lemmas.Option.{same_Some}
 use Rattle.vt_spec.proofs.Options.{none_is_some}
 
@@ -166,7 +166,7 @@ module _ (layers : List (OpenLayer ℕ)) (are_open : AreOpen layers) (longest : 
   -- The entries of a merged directory lead to what is shown under their names.
   module _ (path : List (List ℕ)) (name : List ℕ) where
     abbrev pub entry : Merged ℕ → Option (List ℕ × ℕ)
-    entry object = entry_below nat_eq fresh has_upper objects path object
+    entry object = entry_in_directory nat_eq fresh has_upper objects path object
 
     entry_here : (object : Merged ℕ) → object.path ≡ path ++ name ∷ [] → entry object ≡ Some (name, number object)
     entry_here object e =
@@ -174,29 +174,30 @@ module _ (layers : List (OpenLayer ℕ)) (are_open : AreOpen layers) (longest : 
         ∙ ap (λ n. Some (n, number object)) (ap (last_or []) e ∙ last_of_longer path name [])
       where
         tested : object.path ≡ path ++ name ∷ []
-            → (not (is_root_path object.path) && same_path path (front_of object.path)) ≡ true
+            → (not (is_root_path object.path) && same_path path (without_last object.path)) ≡ true
         tested e =
-            ap (λ p. not (is_root_path p) && same_path path (front_of p)) e
-            ∙ ap (λ b. not b && same_path path (front_of (path ++ name ∷ []))) (root_of_longer path name)
-            ∙ ap (same_path path) (front_of_longer path name) ∙ path_itself path
+            ap (λ p. not (is_root_path p) && same_path path (without_last p)) e
+            ∙ ap (λ b. not b && same_path path (without_last (path ++ name ∷ []))) (root_of_longer path name)
+            ∙ ap (same_path path) (without_last_of_longer path name) ∙ path_itself path
 
     pub entry_is_here : (object : Merged ℕ) (found : List ℕ × ℕ) → entry object ≡ Some found
         → (object.path ≡ path ++ found.0 ∷ []) × (found.1 ≡ number object)
     entry_is_here object found e =
-        by object.path refl (not (is_root_path object.path) && same_path path (front_of object.path)) refl e
+        by object.path refl (not (is_root_path object.path) && same_path path (without_last object.path)) refl e
       where
-        parted : (p : List (List ℕ)) → (not (is_root_path p) && same_path path (front_of p)) ≡ true
+        parted : (p : List (List ℕ)) → (not (is_root_path p) && same_path path (without_last p)) ≡ true
             → p ≡ path ++ last_or [] p ∷ []
         parted [] e = absurd (true≢false (sym e))
         parted (first ∷ rest) e =
             let last = last_of (first ∷ rest) (not_empty first rest) in
-            let front = path_same path (front_of (first ∷ rest)) e in
+            let front = path_same path (without_last (first ∷ rest)) e in
             sym last.2
-            ∙ ap (λ l. l ++ last.1 ∷ []) (sym (front_of_longer last.0 last.1) ∙ ap front_of last.2 ∙ sym front)
+            ∙ ap (λ l. l ++ last.1 ∷ []) (sym (without_last_of_longer last.0 last.1) ∙ ap without_last last.2
+            ∙ sym front)
             ∙ ap (λ n. path ++ n ∷ []) (sym (last_of_longer last.0 last.1 []) ∙ ap (last_or []) last.2)
 
         by : (p : List (List ℕ)) → object.path ≡ p → (b : Bool)
-            → (not (is_root_path object.path) && same_path path (front_of object.path)) ≡ b
+            → (not (is_root_path object.path) && same_path path (without_last object.path)) ≡ b
             → when b (last_or [] object.path, number object) ≡ Some found
             → (object.path ≡ path ++ found.0 ∷ []) × (found.1 ≡ number object)
         by p is false t e = none_is_some found e

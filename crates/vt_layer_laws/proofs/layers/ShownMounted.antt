@@ -12,7 +12,7 @@ use Rattle.vt_spec.specs.Lists.{Fresh, holds_of, odds, then_some, when}
 use Rattle.vt_spec.specs.Machine.Merging.{merged_inodes, merged_objects, real_of}
 use Rattle.vt_spec.specs.Machine.Outcome.Mounting.{inode_count, overlay_filesystem}
 use Rattle.vt_spec.specs.Machine.World.{Filesystem, Layer, Overlay, Real, World, filesystem_numbered, is_overlay, no_filesystem, open_layer, shown_layers}
-use Rattle.vt_spec.specs.Machine.World.Real.{Below, Upper}
+use Rattle.vt_spec.specs.Machine.World.Real.{Lower, Upper}
 use Rattle.vt_spec.specs.Machine.Invariants.{IsMerged, IsWorld, ListsNumbers, SameObject, is_plain_layer, is_there, node_shown, real_node, same_content}
 use Rattle.vt_spec.specs.Tree.{Content, Node, is_directory_node}
 use Rattle.vt_spec.specs.Tree.Content.{Directory, Regular, Symlink, Whiteout}
@@ -200,8 +200,8 @@ module _ (world : World ℕ) (conditions : IsWorld nat_eq world) (overlay : Over
           ≡ real_node nat_eq world (record overlay { upper = upper }) real
       by (Upper object) None = refl
       by (Upper object) (Some layer) = refl
-      by (Below layer path) None = in_lower layer path
-      by (Below layer path) (Some top) = in_lower layer path
+      by (Lower layer path) None = in_lower layer path
+      by (Lower layer path) (Some top) = in_lower layer path
 
   module _ (fresh : Fresh ℕ) (distinct : (j k : ℕ) → fresh j ≡ fresh k → j ≡ k) where
     abbrev pub made : Overlay ℕ

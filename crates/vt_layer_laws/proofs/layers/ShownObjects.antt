@@ -5,7 +5,7 @@ use Rattle.std.specs.Prelude.{option_map}
 use Rattle.std.specs.Str.{bytes_eq}
 use Rattle.std.specs.Cmp.Lexicographic.{bytes_decides}
 use Rattle.vt_spec.specs.Machine.Layers.{OpenLayer, Shown, names_shown, paths_from, shown}
-use Rattle.vt_spec.specs.Lists.{place_from}
+use Rattle.vt_spec.specs.Lists.{index_from}
 use Rattle.vt_spec.specs.Machine.Merging.{Merged, is_one_inode, merged_at, merged_objects, real_object, same_path, same_real}
 use Rattle.vt_spec.specs.Machine.World.Real.{Upper}
 use Rattle.vt_layer_laws.proofs.layers.ShownAtPath.{computed}
@@ -101,7 +101,7 @@ module _ {A : Type 0} where
   pub record Placed (test : A → Bool) (k : ℕ) (list : List A) : Type 0 where
     pub place : ℕ
     pub element : A
-    pub is : place_from test k list ≡ Some (k + place)
+    pub is : index_from test k list ≡ Some (k + place)
     pub there : slice_get list place ≡ Some element
     pub among : Among list element
     pub passes : test element ≡ true
@@ -117,7 +117,7 @@ module _ {A : Type 0} where
       by true t among rest = record {
         place = 0;
         element = first;
-        is = ap (λ b. cond b (Some k) (place_from test (k + 1) list)) t ∙ ap Some (omega arith);
+        is = ap (λ b. cond b (Some k) (index_from test (k + 1) list)) t ∙ ap Some (omega arith);
         there = refl;
         among = inl refl;
         passes = t;
@@ -128,7 +128,7 @@ module _ {A : Type 0} where
           record {
             place = suc found.place;
             element = found.element;
-            is = ap (λ b. cond b (Some k) (place_from test (k + 1) list)) t ∙ found.is ∙ ap Some (omega arith);
+            is = ap (λ b. cond b (Some k) (index_from test (k + 1) list)) t ∙ found.is ∙ ap Some (omega arith);
             there = found.there;
             among = inr found.among;
             passes = found.passes;

@@ -3,8 +3,8 @@ use Rattle.std.proofs.Common.{◌≡◌, ◌≢◌, ◌≤◌, refl, sym, ap, su
 use Rattle.std.specs.List.{cons_option, filter_map}
 use Rattle.std.specs.Prelude.{option_map}
 use Rattle.vt_spec.specs.Machine.Layers.{OpenLayer, Shown, paths_from, shown}
-use Rattle.vt_spec.specs.Lists.{Fresh, place_from, then_some}
-use Rattle.vt_spec.specs.Machine.Merging.{Merged, MergedInode, entry_below, is_one_inode, layer_node, merged_at, merged_content, real_object, real_of, tree_of}
+use Rattle.vt_spec.specs.Lists.{Fresh, index_from, then_some}
+use Rattle.vt_spec.specs.Machine.Merging.{Merged, MergedInode, entry_in_directory, is_one_inode, layer_node, merged_at, merged_content, real_object, real_of, tree_of}
 use Rattle.vt_spec.specs.Machine.Invariants.{SameObject}
 use Rattle.vt_spec.specs.Rights.{is_directory}
 use Rattle.vt_spec.specs.Tree.{Content, Entries, Node, Tree, entries_in, entries_of, entry_named, kind_of}
@@ -50,11 +50,11 @@ module _ (layers : List (OpenLayer ℕ)) (are_open : AreOpen layers) (longest : 
   pub root_number : num (object_at [] top) ≡ fresh 0
   root_number =
       let paths = first_path longest in
-      ap (λ l. fresh (unwrap_or (place_from (is_one_inode nat_eq has_upper (object_at [] top)) 0 l) 0))
+      ap (λ l. fresh (unwrap_or (index_from (is_one_inode nat_eq has_upper (object_at [] top)) 0 l) 0))
       (ap (filter_map (merged_at layers)) paths.1
       ∙ ap (λ o. cons_option (option_map (λ seen. object_at [] seen) o) (filter_map (merged_at layers) paths.0)) is_top)
       ∙ ap (λ b. fresh (unwrap_or (cond b (Some 0)
-      (place_from (is_one_inode nat_eq has_upper (object_at [] top)) (0 + 1)
+      (index_from (is_one_inode nat_eq has_upper (object_at [] top)) (0 + 1)
       (filter_map (merged_at layers) paths.0))) 0)) (one_itself has_upper (object_at [] top))
 
   pub inode_at : (path : List (List ℕ)) (seen : Shown ℕ) → shown layers path ≡ Some seen
@@ -109,7 +109,7 @@ module _ (layers : List (OpenLayer ℕ)) (are_open : AreOpen layers) (longest : 
           (entry_named name (entries_of (merged_content nat_eq fresh has_upper all inode.other.path content)))
       from_directory seen s inode (Directory parent entries opaque) e =
           subst (λ p. Arrives (shown layers (path ++ name ∷ [])) (path ++ name ∷ [])
-          (entry_named name (filter_map (entry_below nat_eq fresh has_upper all p) all)))
+          (entry_named name (filter_map (entry_in_directory nat_eq fresh has_upper all p) all)))
           (sym (one_directory layers are_open longest bounded fresh distinct has_upper (object_at path seen)
           (is_object layers are_open longest bounded path seen s) inode (ap (λ c. is_directory (kind_of c)) e)))
           (as_arrives (shown layers (path ++ name ∷ [])) _

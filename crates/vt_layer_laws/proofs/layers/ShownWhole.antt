@@ -5,11 +5,11 @@ use Rattle.std.specs.Prelude.{option_map}
 use Rattle.vt_spec.specs.declared.attributes.Kind.TheVariants.{White}
 use Rattle.vt_spec.specs.FileTree.{is_kind, is_kind_in, is_opaque_in, opaque_of}
 use Rattle.vt_spec.specs.Machine.Layers.{OpenLayer, Shown, node_at_path, shown}
-use Rattle.vt_spec.specs.Lists.{Fresh, place_from, then_some}
+use Rattle.vt_spec.specs.Lists.{Fresh, index_from, then_some}
 use Rattle.vt_spec.specs.Machine.Merging.{Merged, MergedInode, inode_of, merged_content, merged_inode, real_object, real_of, same_real}
 use Rattle.vt_spec.specs.Machine.World.{Real}
 use Rattle.vt_spec.specs.Machine.Invariants.{SameObject, same_content}
-use Rattle.vt_spec.specs.Machine.World.Real.{Below, Upper}
+use Rattle.vt_spec.specs.Machine.World.Real.{Lower, Upper}
 use Rattle.vt_spec.specs.Tree.{Content, Node, kind_of}
 use Rattle.vt_spec.specs.Tree.Content.{Directory, Regular, Symlink, Whiteout}
 use Rattle.vt_layer_laws.proofs.layers.ShownAtPath.{computed}
@@ -35,8 +35,8 @@ found_in_list test (first ∷ list) a e = by (test first) refl e (found_in_list 
 abbrev pub behind : List (OpenLayer ℕ) → Bool → Real ℕ → Option (Node ℕ)
 behind layers true (Upper object) = then_some (slice_get layers 0) (λ layer. layer.tree.node object)
 behind layers false (Upper object) = None
-behind layers true (Below layer path) = then_some (slice_get layers (suc layer)) (λ lower. node_at_path lower path)
-behind layers false (Below layer path) = then_some (slice_get layers layer) (λ lower. node_at_path lower path)
+behind layers true (Lower layer path) = then_some (slice_get layers (suc layer)) (λ lower. node_at_path lower path)
+behind layers false (Lower layer path) = then_some (slice_get layers layer) (λ lower. node_at_path lower path)
 
 module _ (layers : List (OpenLayer ℕ)) (are_open : AreOpen layers) (longest : ℕ)
     (bounded : (path : List (List ℕ)) (seen : Shown ℕ) → shown layers path ≡ Some seen → length path ≤ longest)
@@ -228,7 +228,7 @@ module _ (layers : List (OpenLayer ℕ)) (are_open : AreOpen layers) (longest : 
           let two = has_real b real (sym e ∙ r) in
           one.numbered
           ∙ ap (λ real. fresh (unwrap_or
-          (place_from (λ x. same_real nat_eq real (real_object has_upper x.seen.layer x)) 0 all) 0))
+          (index_from (λ x. same_real nat_eq real (real_object has_upper x.seen.layer x)) 0 all) 0))
           (sym one.is ∙ two.is)
           ∙ sym two.numbered
 
@@ -242,7 +242,7 @@ module _ (layers : List (OpenLayer ℕ)) (are_open : AreOpen layers) (longest : 
     where
       upper_in : Real ℕ → Option ℕ
       upper_in (Upper o) = Some o
-      upper_in (Below layer path) = None
+      upper_in (Lower layer path) = None
 
       by : (m : Merged ℕ) → InLayer layers are_open longest bounded fresh distinct has_upper m → (u : Bool)
           → has_upper ≡ u → (l : ℕ) → m.seen.layer ≡ l → Upper object ≡ real_object u l m

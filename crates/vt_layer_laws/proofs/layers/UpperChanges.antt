@@ -2,7 +2,7 @@
 use Rattle.std.proofs.Common.{◌≡◌, ◌≢◌, refl, sym, ap, subst, ◌∙◌, true≢false, ℕ, ◌+◌, ◌*◌, nat_eq, ne_eqb, Bool, true, false, cond, List, Option, Some, None, is_some}
 use Rattle.vt_spec.specs.Language.Changes.{Change, changed_node, node_with_attr, node_with_mark, node_with_parent, node_without_entries, node_without_entry, with_inode, with_moved, with_name, without_name, without_parent}
 use Rattle.vt_spec.specs.Language.Changes.Change.{AddName, CopyUp, Make, Move, Remove, SetAttr, SetBytes, SetMark}
-use Rattle.vt_spec.specs.Machine.CopyUp.{Merge, Stack, changed_both, copied_up, emptied, hides_directory, linked, made, marked, merge_changed, moved, name_left_by, removed, shown_below, upper_directory_named, upper_of, whiteout_of}
+use Rattle.vt_spec.specs.Machine.CopyUp.{Merge, Stack, changed_both, copied_up, emptied, hides_directory, linked, made, marked, merge_changed, moved, name_left_by, removed, shown_in_lowers_at, upper_directory_named, upper_of, whiteout_of}
 use Rattle.vt_spec.specs.FileTree.{FileTree, a_name}
 use Rattle.vt_spec.specs.Lists.{Fresh, evens, odds, then_some}
 use Rattle.vt_spec.specs.Machine.World.{Real, upper_object}
@@ -117,7 +117,8 @@ module _ (files : FileTree ℕ) (tree : IsTree files.tree) (numbers : ListsNumbe
     removed_keeps directory name object has =
         emptied_elsewhere inode _ (upper_directory_named (With real upper) directory name)
         (replaced_differs real upper fine directory name)
-        ∙ left_elsewhere inode (is_some (shown_below nat_eq stack (With real upper) directory name)) fresh stack upper
+        ∙ left_elsewhere inode (is_some (shown_in_lowers_at nat_eq stack
+        (With real upper) directory name)) fresh stack upper
         (upper_of (With real upper) directory) name
         (ne_eqb inode (fresh 0) (new 0)) (upper_differs files tree numbers inode node real upper fine directory has)
         ∙ fine.here
@@ -142,7 +143,7 @@ module _ (files : FileTree ℕ) (tree : IsTree files.tree) (numbers : ListsNumbe
         (marked_elsewhere inode (hides_directory nat_eq stack (With real upper) to name) _
         (upper_of (With real upper) object)
         (upper_differs files tree numbers inode node real upper fine object o)
-        ∙ left_elsewhere inode (is_some (shown_below nat_eq stack (With real upper) from old)) fresh stack away
+        ∙ left_elsewhere inode (is_some (shown_in_lowers_at nat_eq stack (With real upper) from old)) fresh stack away
         (upper_of (With real upper) from) old
         (ne_eqb inode (fresh 0) (new 0)) from_differs)))
 
@@ -161,7 +162,7 @@ module _ (files : FileTree ℕ) (tree : IsTree files.tree) (numbers : ListsNumbe
         (upper_of (With real upper) object) in
         marked_elsewhere inode (hides_directory nat_eq stack (With real upper) to name) _
         (upper_of (With real upper) object) object_differs
-        ∙ left_elsewhere inode (is_some (shown_below nat_eq stack (With real upper) from old)) fresh stack away
+        ∙ left_elsewhere inode (is_some (shown_in_lowers_at nat_eq stack (With real upper) from old)) fresh stack away
         (upper_of (With real upper) from) old
         (ne_eqb inode (fresh 0) (new 0)) from_differs
         ∙ moved_elsewhere inode freed (upper_of (With real upper) from) old (upper_of (With real upper) to) name

@@ -6,7 +6,7 @@ use Rattle.vt_spec.specs.Machine.Layers.{OpenLayer, Shown, shown}
 use Rattle.vt_spec.specs.Lists.{Fresh, holds_of, then_some}
 use Rattle.vt_spec.specs.Machine.Merging.{layer_node, real_object}
 use Rattle.vt_spec.specs.Machine.World.{Filesystem, Layer, Overlay, Real, World, filesystem_numbered, open_layer, upper_object}
-use Rattle.vt_spec.specs.Machine.World.Real.{Below, Upper}
+use Rattle.vt_spec.specs.Machine.World.Real.{Lower, Upper}
 use Rattle.vt_spec.specs.Machine.Invariants.{IsWorld, SameObject, is_there, number_at_path}
 use Rattle.vt_spec.specs.Tree.{Node, is_directory_node}
 use Rattle.vt_layer_laws.specs.Layers.ChangesUpper.{IsFitToChange}
@@ -20,7 +20,7 @@ use Rattle.vt_spec.proofs.Options.{none_is_some}
 pub upper_is : (real : Option (Real ℕ)) (object : ℕ) → upper_object real ≡ Some object → real ≡ Some (Upper object)
 upper_is None object e = none_is_some object e
 upper_is (Some (Upper other)) object e = ap (λ o. Some (Upper o)) (same_Some other object e)
-upper_is (Some (Below layer path)) object e = none_is_some object e
+upper_is (Some (Lower layer path)) object e = none_is_some object e
 
 pub same_directory : (a b : Option (Node ℕ)) → SameObject a b → is_directory_node b ≡ is_directory_node a
 same_directory None None same = refl

@@ -5,10 +5,10 @@ use Rattle.std.specs.List.{cons_option, filter_map, find, list_any}
 use Rattle.std.specs.Prelude.{option_map}
 use Rattle.vt_spec.specs.FileTree.{FileTree, a_name, name_in}
 use Rattle.vt_spec.specs.Machine.Layers.{OpenLayer, Shown, at_path, shown}
-use Rattle.vt_spec.specs.Lists.{first_of_list, front_of, then_some}
+use Rattle.vt_spec.specs.Lists.{first_of_list, without_last, then_some}
 use Rattle.vt_spec.specs.Machine.Merging.{merged_at, real_object}
 use Rattle.vt_spec.specs.Machine.World.{Real, upper_object}
-use Rattle.vt_spec.specs.Machine.World.Real.{Below, Upper}
+use Rattle.vt_spec.specs.Machine.World.Real.{Lower, Upper}
 use Rattle.vt_spec.specs.Machine.Invariants.{ListsNumbers}
 use Rattle.vt_spec.specs.Tree.{Entries, Tree, entries_in}
 use Rattle.vt_spec.specs.TreeInvariant.{IsDirectory, entry_at, led}
@@ -31,10 +31,10 @@ way_to tree (suc steps) directory r =
     (before.0 ++ r.1 ∷ [], led-append tree tree.root before.0 r.1 r.0 directory before.1 r.3)
 
 -- a path with one name more, without it
-pub front_of_longer : (path : List (List ℕ)) (name : List ℕ) → front_of (path ++ name ∷ []) ≡ path
-front_of_longer [] name = refl
-front_of_longer (first ∷ []) name = refl
-front_of_longer (first ∷ second ∷ path) name = ap (λ p. first ∷ p) (front_of_longer (second ∷ path) name)
+pub without_last_of_longer : (path : List (List ℕ)) (name : List ℕ) → without_last (path ++ name ∷ []) ≡ path
+without_last_of_longer [] name = refl
+without_last_of_longer (first ∷ []) name = refl
+without_last_of_longer (first ∷ second ∷ path) name = ap (λ p. first ∷ p) (without_last_of_longer (second ∷ path) name)
 
 -- an object with an entry that leads to it has a name
 pub has_a_name : (files : FileTree ℕ) → ListsNumbers nat_eq files → (directory : ℕ) (name : List ℕ) (object : ℕ)
@@ -150,7 +150,7 @@ module _ (top : OpenLayer ℕ) (lower : List (OpenLayer ℕ)) where
       path_in : List (List ℕ) → Option (Real ℕ) → List (List ℕ)
       path_in default None = default
       path_in default (Some (Upper object)) = default
-      path_in default (Some (Below layer path)) = path
+      path_in default (Some (Lower layer path)) = path
 
       told : (layer object : ℕ) → is_some
           (upper_object (real_by path (Some (record { layer = layer; object = object })))) ≡ false

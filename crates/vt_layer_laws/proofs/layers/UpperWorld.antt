@@ -8,14 +8,14 @@ use Rattle.vt_spec.specs.Machine.CopyUp.{Merge, merge_changed}
 use Rattle.vt_spec.specs.FileTree.{FileTree, a_name}
 use Rattle.vt_spec.specs.Machine.Filesystems.{filesystem_changed, merge_of, overlay_changed, stack_of, with_change, with_files, with_merge}
 use Rattle.vt_spec.specs.Machine.Layers.{OpenLayer, shown}
-use Rattle.vt_spec.specs.Lists.{Fresh, front_of, is_empty_list, then_some}
+use Rattle.vt_spec.specs.Lists.{Fresh, without_last, is_empty_list, then_some}
 use Rattle.vt_spec.specs.Machine.Locked.{of_overlay, overlay_or}
 use Rattle.vt_spec.specs.Machine.Merging.{layer_node, merged_at, real_object}
 use Rattle.vt_spec.specs.Machine.Mounts.{Location}
 use Rattle.vt_spec.specs.Language.Limits.{most_lowers}
 use Rattle.vt_spec.specs.Machine.Policy.{same_bool}
 use Rattle.vt_spec.specs.Machine.World.{Filesystem, Layer, Overlay, Real, World, filesystem_at, filesystem_numbered, files_at, is_overlay, layers_of, mount_at, no_filesystem, open_layer, upper_object, with_filesystem}
-use Rattle.vt_spec.specs.Machine.World.Real.{Below, Upper}
+use Rattle.vt_spec.specs.Machine.World.Real.{Lower, Upper}
 use Rattle.vt_spec.specs.Machine.Invariants.{IsMerged, IsWorld, ListsNumbers, SameObject, has_fit_layers, is_plain_layer, number_at_path}
 use Rattle.vt_spec.specs.Tree.{Node, is_directory_node}
 use Rattle.vt_spec.specs.TreeInvariant.{IsTree, entry_at, led}
@@ -28,7 +28,7 @@ use Rattle.vt_layer_laws.proofs.layers.LowersWorld.{filesystem_elsewhere, filesy
 use Rattle.vt_layer_laws.proofs.layers.UpperChanges.{changes_keep}
 use Rattle.vt_layer_laws.proofs.layers.UpperCopies.{HasUpper}
 use Rattle.vt_layer_laws.proofs.layers.UpperLine.{is_reached_in, named_so}
-use Rattle.vt_layer_laws.proofs.layers.UpperShown.{below_is_at, front_of_longer, has_a_name, real_at, real_is_upper, upper_is_real, way_to}
+use Rattle.vt_layer_laws.proofs.layers.UpperShown.{below_is_at, without_last_of_longer, has_a_name, real_at, real_is_upper, upper_is_real, way_to}
 use Rattle.std.proofs.lemmas.Option.{same_Some}
 use Rattle.vt_spec.proofs.Options.{none_is_some}
 use Rattle.vt_spec.proofs.Truths.{and_true_left, and_true_right}
@@ -222,7 +222,8 @@ module _ (world : World ℕ) (conditions : IsWorld nat_eq world) (number : ℕ) 
         (sym (real_named (way.0 ++ old ∷ []) object here) ∙ real_named (way_other.0 ++ name ∷ []) object there) in
         same_Some from other
         (sym way.1 ∙ ap (led files.tree files.tree.root)
-        (sym (front_of_longer way.0 old) ∙ ap front_of same ∙ front_of_longer way_other.0 name) ∙ way_other.1)
+        (sym (without_last_of_longer way.0 old) ∙ ap without_last same ∙ without_last_of_longer way_other.0 name)
+        ∙ way_other.1)
 
     -- so where an object that has a name is copied, the directory that it leaves is there
     pub from_too : (from : ℕ) (old : List ℕ) (object : ℕ) → entry_at files.tree from old ≡ Some object
@@ -255,7 +256,7 @@ module _ (world : World ℕ) (conditions : IsWorld nat_eq world) (number : ℕ) 
           by : (o : Option (Real ℕ)) → overlay.real n ≡ o → upper_object o ≡ Some inode → ⊥
           by None r e = none_is_some inode e
           by (Some (Upper object)) r e = not_object (n, r ∙ ap (λ o. Some (Upper o)) (same_Some object inode e))
-          by (Some (Below layer path)) r e = none_is_some inode e
+          by (Some (Lower layer path)) r e = none_is_some inode e
 
       merge_keeps : IsKept before ((merge_changed nat_eq fresh (stack_of nat_eq world overlay upper)
           (merge_of nat_eq world merged overlay upper) change).upper.tree.node inode)

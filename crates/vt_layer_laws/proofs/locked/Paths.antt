@@ -13,7 +13,7 @@ use Rattle.vt_spec.specs.TreeInvariant.{IsDirectory, IsTree}
 use Rattle.vt_spec.proofs.Lists.{Among, among-append_left, among-append_right, among_from_contains}
 use Rattle.vt_layer_laws.specs.Layers.Locked.{AreNoInodes, LeadsAsBefore, LowerPathsAreLocked, OtherPathsStay}
 use Rattle.vt_layer_laws.specs.Layers.Untouched.{IsKept, inode_in}
-use Rattle.vt_layer_laws.proofs.directories.Below.{led_below}
+use Rattle.vt_layer_laws.proofs.directories.Lower.{led_below}
 use Rattle.vt_layer_laws.proofs.locked.Apart.{layer_plain, under_itself}
 use Rattle.vt_layer_laws.proofs.locked.EveryCall.{lower_layers_stay_locked}
 use Rattle.vt_layer_laws.proofs.layers.LowersKept.{kept_itself}

@@ -9,7 +9,7 @@ use Rattle.vt_spec.specs.PathText.{ends_in_slash, is_absolute, words}
 use Rattle.vt_spec.specs.FileTree.{symlink_text}
 use Rattle.vt_spec.specs.Machine.Mounts.{Location}
 use Rattle.vt_spec.specs.Machine.Outcome.Descriptors.{descriptor_at, descriptor_numbered}
-use Rattle.vt_spec.specs.Machine.Walk.{Follow, Here, LastWord, Stop, final_word, follow_rules, followed, front_walked, if_symlink, last_walked, last_word, symlink_walk_by, symlink_start, symlink_walk, symlink_walked, object_walk, path_text, path_walked, slash_rules, start_of, walk_start, walk_unless, word_walked, words_walked}
+use Rattle.vt_spec.specs.Machine.Walk.{Follow, Here, LastWord, Stop, final_word, follow_rules, followed, prefix_walked, if_symlink, last_walked, last_word, symlink_walk_by, symlink_start, symlink_walk, symlink_walked, object_walk, path_text, path_walked, slash_rules, start_of, walk_start, walk_unless, word_walked, words_walked}
 use Rattle.vt_spec.specs.Language.Limits.{most_symlinks}
 use Rattle.vt_spec.specs.Machine.Walk.LastWord.{Dot, DotDot, Named, NoWord}
 use Rattle.vt_spec.specs.Machine.World.{Descriptor, Task, World, all_locations, files_at, is_directory_at, locations_of, node_at, task_called}
@@ -108,7 +108,7 @@ module _ (world : World ℕ) (conditions : IsWorld nat_eq world) (task : Task �
       (slash_rules nat_eq world path here.location) here (λ passed. end))
 
   front_there : (here : Here ℕ) → There here.location → (list : List (List ℕ))
-      → EndsThere (front_walked nat_eq world task (followed nat_eq world task) here list)
+      → EndsThere (prefix_walked nat_eq world task (followed nat_eq world task) here list)
   front_there here is [] = is
   front_there here is (word ∷ front) =
       words_there (followed nat_eq world task)
@@ -126,7 +126,7 @@ module _ (world : World ℕ) (conditions : IsWorld nat_eq world) (task : Task �
   link_walk_by_there false path =
       ends_next (λ here. There here.location) (path_text path) _ (λ text.
       ends_then (λ here. There here.location) (λ here. There here.location)
-      (front_walked nat_eq world task (followed nat_eq world task) (walk_start task text) (reverse (words text))) _
+      (prefix_walked nat_eq world task (followed nat_eq world task) (walk_start task text) (reverse (words text))) _
       (front_there (walk_start task text) (start_there task.directory text own_there) (reverse (words text)))
       (λ here is. last_there here (final_word (reverse (words text))) is))
 

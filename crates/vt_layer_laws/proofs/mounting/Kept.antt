@@ -13,7 +13,7 @@ use Rattle.vt_spec.specs.Errors.{Rules}
 use Rattle.vt_spec.specs.Lists.{Fresh, evens, is_among}
 use Rattle.vt_spec.specs.Machine.Locked.{of_overlay}
 use Rattle.vt_spec.specs.Machine.Mounts.{Location, Mount}
-use Rattle.vt_spec.specs.Machine.Outcome.Mounting.{LayerPlaces, admin_rules, destination_walk, layer_rules, layers_walked, mount_overlay_outcome, new_mount_rules, overlay_at, overlay_by, overlay_filesystem, overlay_mounted, with_new_filesystem}
+use Rattle.vt_spec.specs.Machine.Outcome.Mounting.{LayerLocations, admin_rules, destination_walk, layer_rules, layers_walked, mount_overlay_outcome, new_mount_rules, overlay_at, overlay_by, overlay_filesystem, overlay_mounted, with_new_filesystem}
 use Rattle.vt_spec.specs.Machine.Outcomes.{Outcome, after, granted, judged}
 use Rattle.vt_spec.specs.Machine.Walk.{Here, walk_end}
 use Rattle.vt_spec.specs.Machine.World.{Filesystem, Layer, Overlay, Task, World, filesystem_numbered, layers_of, no_filesystem}
@@ -98,13 +98,13 @@ none_equal number (first ∷ list) e filesystem (inr among) = by (nat_eq number 
 
 module _ (world : World ℕ) (conditions : IsWorld nat_eq world) (fresh : Fresh ℕ) (are_new : AreNewNumbers fresh world)
     (task : Task ℕ) where
-  abbrev AreReached : LayerPlaces ℕ → Type 0
+  abbrev AreReached : LayerLocations ℕ → Type 0
   AreReached places =
       All (λ (layer : Layer ℕ). IsReached
       (filesystem_numbered nat_eq world layer.filesystem).files.tree layer.directory)
       (layers_of (overlay_at nat_eq world task places))
 
-  module _ (places : LayerPlaces ℕ) (walked : AreWalked world task places) (reached : AreReached places)
+  module _ (places : LayerLocations ℕ) (walked : AreWalked world task places) (reached : AreReached places)
       (passed : Passed (layer_rules nat_eq world places (overlay_at nat_eq world task places))) where
     abbrev overlay : Overlay ℕ
     overlay = overlay_at nat_eq world task places
@@ -293,7 +293,7 @@ module _ (world : World ℕ) (conditions : IsWorld nat_eq world) (fresh : Fresh 
 
   -- what the call leaves
   mounting : (Said : World ℕ → Type 0) → Said world
-      → ((places : LayerPlaces ℕ) → AreWalked world task places → AreReached places
+      → ((places : LayerLocations ℕ) → AreWalked world task places → AreReached places
       → Passed (layer_rules nat_eq world places (overlay_at nat_eq world task places))
       → (place : Location ℕ) (flags : MountFlags) → Said (overlay_mounted nat_eq fresh world task place places flags))
       → (path : List ℕ) (options : Option OverlayWords) (flags : MountFlags)
@@ -340,7 +340,7 @@ judged_passes world ((true, rule) ∷ rows) outcome e = absurd (true≢false (sy
 judged_passes world ((false, rule) ∷ rows) outcome e = judged_passes world rows outcome e
 
 module _ (world : World ℕ) (fresh : Fresh ℕ) (are_new : AreNewNumbers fresh world) (task : Task ℕ)
-    (words : OverlayWords) (flags : MountFlags) (places : LayerPlaces ℕ)
+    (words : OverlayWords) (flags : MountFlags) (places : LayerLocations ℕ)
     (walked : layers_walked nat_eq world task words ≡ Ok places) where
   abbrev Has : World ℕ → Type 0
   Has later = filesystem_numbered nat_eq later (evens (evens fresh) 0)

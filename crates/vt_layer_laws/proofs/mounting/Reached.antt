@@ -10,7 +10,7 @@ use Rattle.vt_spec.specs.Lists.{when}
 use Rattle.vt_spec.specs.Machine.Invariants.{IsWorld}
 use Rattle.vt_spec.specs.Machine.Looks.{looks_of}
 use Rattle.vt_spec.specs.Machine.Mounts.{Location}
-use Rattle.vt_spec.specs.Machine.Outcome.Mounting.{LayerPlaces, each_walked, layers_walked, overlay_at, source_walk, walked_if_given, work_walked}
+use Rattle.vt_spec.specs.Machine.Outcome.Mounting.{LayerLocations, each_walked, layers_walked, overlay_at, source_walk, walked_if_given, work_walked}
 use Rattle.vt_spec.specs.Machine.Rules.Mounting.{layer_at}
 use Rattle.vt_spec.specs.Machine.Walk.{directory_walk, path_walked, walk_end}
 use Rattle.vt_spec.specs.Machine.World.{Filesystem, Layer, Task, World, filesystem_numbered, is_directory_at, is_removed_at, layers_of, mount_at}
@@ -122,7 +122,7 @@ module _ (world : World ℕ) (conditions : IsWorld nat_eq world) (task : Task �
       both (option_to_list (option_map at upper) ++ option_to_list (option_map at work)) (map at lowers)
       (both (option_to_list (option_map at upper)) (option_to_list (option_map at work)) up beside) low)))
 
-pub layers_are_reached : (world : World ℕ) (task : Task ℕ) (words : OverlayWords) (places : LayerPlaces ℕ)
+pub layers_are_reached : (world : World ℕ) (task : Task ℕ) (words : OverlayWords) (places : LayerLocations ℕ)
     → IsWorld nat_eq world → layers_walked nat_eq world task words ≡ Ok places
     → All (λ (layer : Layer ℕ). IsReached
     (filesystem_numbered nat_eq world layer.filesystem).files.tree layer.directory)

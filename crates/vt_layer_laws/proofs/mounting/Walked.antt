@@ -14,7 +14,7 @@ use Rattle.vt_spec.specs.Language.Limits.{most_lowers}
 use Rattle.vt_spec.specs.Lists.{is_empty_list}
 use Rattle.vt_spec.specs.Machine.Looks.{looks_of}
 use Rattle.vt_spec.specs.Machine.Mounts.{Location}
-use Rattle.vt_spec.specs.Machine.Outcome.Mounting.{LayerPlaces, all_places, each_walked, layer_rules, layers_walked, overlay_at, source_walk, walked_if_given, work_walked}
+use Rattle.vt_spec.specs.Machine.Outcome.Mounting.{LayerLocations, layer_locations, each_walked, layer_rules, layers_walked, overlay_at, source_walk, walked_if_given, work_walked}
 use Rattle.vt_spec.specs.Machine.Policy.{same_bool}
 use Rattle.vt_spec.specs.Machine.Rules.Conditions.{is_overlay_at}
 use Rattle.vt_spec.specs.Machine.Rules.Mounting.{layer_at}
@@ -78,7 +78,7 @@ module _ (world : World ℕ) (task : Task ℕ) where
       (gives_end _ (source_walk nat_eq world task path) (source_ends path)) (λ here is. (ap (λ b. b && true) is, refl))
 
   -- the places of layers: directories, and a work directory only beside an upper one
-  pub record AreWalked (places : LayerPlaces ℕ) : Type 0 where
+  pub record AreWalked (places : LayerLocations ℕ) : Type 0 where
     pub lowers : AreDirectories places.lowers
     pub upper : AreDirectories (option_to_list places.upper)
     pub work : AreDirectories (option_to_list places.work)
@@ -98,11 +98,12 @@ module _ (world : World ℕ) (task : Task ℕ) where
       (walked_if_given nat_eq world task (work_walked words)) _ (given_ends (work_walked words)) (λ work at.
       record { lowers = low; upper = up.0; work = at.0; beside = λ e. at.1 ∙ no_work words (sym up.1 ∙ e) })))
 
-  pub are_walked : (words : OverlayWords) (places : LayerPlaces ℕ) → layers_walked nat_eq world task words ≡ Ok places
+  pub are_walked : (words : OverlayWords) (places : LayerLocations ℕ) → layers_walked nat_eq world task words
+      ≡ Ok places
       → AreWalked places
   are_walked words places e = given_is AreWalked (layers_walked nat_eq world task words) places e (layers_end words)
 
-  module _ (places : LayerPlaces ℕ) (walked : AreWalked places)
+  module _ (places : LayerLocations ℕ) (walked : AreWalked places)
       (passed : Passed (layer_rules nat_eq world places (overlay_at nat_eq world task places))) where
     abbrev overlay : Overlay ℕ
     overlay = overlay_at nat_eq world task places
@@ -151,7 +152,7 @@ module _ (world : World ℕ) (task : Task ℕ) where
         by false e rest = rest e
 
     -- no place is in an overlay
-    none_in_overlay : list_any lies_in_overlay (all_places places) ≡ false
+    none_in_overlay : list_any lies_in_overlay (layer_locations places) ≡ false
     none_in_overlay = passed.1.1.1.1.0
 
     plain_option : (place : Option (Location ℕ)) → list_any lies_in_overlay (option_to_list place) ≡ false

@@ -8,7 +8,7 @@ use Rattle.vt_spec.specs.declared.attributes.Kind.TheVariants.{White}
 use Rattle.vt_spec.specs.Language.Changes.{Change, changed, changed_node, content_with_mark, node_with_attr, node_with_mark}
 use Rattle.vt_spec.specs.Language.Changes.Change.{AddName, CopyUp, Make, Move, Remove, SetAttr, SetBytes, SetMark}
 use Rattle.vt_spec.specs.FileTree.{FileTree, is_kind, is_kind_in, opaque_of}
-use Rattle.vt_spec.specs.Lists.{fronts, same_option, then_some, when}
+use Rattle.vt_spec.specs.Lists.{prefixes, same_option, then_some, when}
 use Rattle.vt_spec.specs.Machine.Views.{View, cuts, node_led, shown_from, shown_over}
 use Rattle.vt_spec.specs.Tree.{Content, Node, Tree, kind_of, node_with_bytes, with_bytes}
 use Rattle.vt_spec.specs.Tree.Content.{Directory, Regular, Symlink, Whiteout}
@@ -20,8 +20,8 @@ use Rattle.vt_layer_laws.specs.Layers.Views.{goes_through, names_entry, view_aft
 use Rattle.vt_layer_laws.proofs.layers.LowersKept.{kept_elsewhere}
 use Rattle.vt_layer_laws.proofs.layers.ShownAlike.{white_alike}
 use Rattle.vt_layer_laws.proofs.layers.ShownDirectories.{append_assoc}
-use Rattle.vt_layer_laws.proofs.layers.ShownFronts.{cons_is_not_empty, front_found, front_passes}
-use Rattle.vt_layer_laws.proofs.views.Fronts.{hides_so, shown_below_alike}
+use Rattle.vt_layer_laws.proofs.layers.ShownFronts.{cons_is_not_empty, prefix_found, prefix_passes}
+use Rattle.vt_layer_laws.proofs.views.Fronts.{hides_so, shown_in_lowers_at_alike}
 use Rattle.vt_layer_laws.proofs.views.Moves.{old_leads_nowhere}
 use Rattle.vt_layer_laws.proofs.views.Names.{add_name_adds_path, make_adds_inode, make_adds_path, make_is_seen, names_leave_inodes, remove_ends_paths}
 use Rattle.vt_layer_laws.proofs.views.Stay.{attr_changes_one_inode, bytes_change_one_inode, mark_changes_one_inode}
@@ -35,13 +35,13 @@ fails false not_so = refl
 
 -- a test that fails at all fronts of a path fails at each, and at all fronts of each
 front_fails : (test : List (List ℕ) → Bool) (path front : List (List ℕ)) → IsFrontOf front path
-    → list_any test (fronts path) ≡ false → test front ≡ false
+    → list_any test (prefixes path) ≡ false → test front ≡ false
 front_fails test path front is none =
-    fails (test front) (λ e. true≢false (sym (front_passes test path front is.0 is.1 is.2 e) ∙ none))
+    fails (test front) (λ e. true≢false (sym (prefix_passes test path front is.0 is.1 is.2 e) ∙ none))
 
-pub fronts_fail : (test : List (List ℕ) → Bool) (path front : List (List ℕ)) → IsFrontOf front path
-    → list_any test (fronts path) ≡ false → list_any test (fronts front) ≡ false
-fronts_fail test path front is none = fails (list_any test (fronts front)) (λ e. found (front_found test front e))
+pub prefixes_fail : (test : List (List ℕ) → Bool) (path front : List (List ℕ)) → IsFrontOf front path
+    → list_any test (prefixes path) ≡ false → list_any test (prefixes front) ≡ false
+prefixes_fail test path front is none = fails (list_any test (prefixes front)) (λ e. found (prefix_found test front e))
   where
     found : (inner : List (List ℕ)) × IsFrontOf inner front × (test inner ≡ true) → ⊥
     found there = true≢false (sym there.2 ∙ front_fails test path there.0 (
@@ -52,7 +52,7 @@ fronts_fail test path front is none = fails (list_any test (fronts front)) (λ e
     ) none)
 
 pub itself_fails : (test : List (List ℕ) → Bool) (path : List (List ℕ)) → test [] ≡ false
-    → list_any test (fronts path) ≡ false → test path ≡ false
+    → list_any test (prefixes path) ≡ false → test path ≡ false
 itself_fails test [] start none = start
 itself_fails test (word ∷ path) start none =
     front_fails test (word ∷ path) (word ∷ path) ([], append-nil (word ∷ path), cons_is_not_empty word path) none
@@ -174,7 +174,7 @@ module _ (files : FileTree ℕ) (top : ℕ) where
         → (path : List (List ℕ)) → goes_through (view_in files top) directory name path ≡ false → Alike change path
     through_none change directory name stays path none =
         all_stay change path (stays path none)
-        (λ front is. stays front (fronts_fail (names_entry (view_in files top) directory name) path front is none))
+        (λ front is. stays front (prefixes_fail (names_entry (view_in files top) directory name) path front is none))
 
     pub lead_alike : (change : Change ℕ) → IsPlainChange files.tree change → (path : List (List ℕ))
         → may_show (view_in files top) change path ≡ false → Alike change path
@@ -206,8 +206,8 @@ module _ (files : FileTree ℕ) (top : ℕ) where
     lead_alike (Move from old to new object) plain path none =
         all_stay (Move from old to new object) path (stays path no_new no_old)
         (λ front is. stays front
-        (fronts_fail (names_entry (view_in files top) to new) path front is no_new)
-        (fronts_fail (names_entry (view_in files top) from old) path front is no_old))
+        (prefixes_fail (names_entry (view_in files top) to new) path front is no_new)
+        (prefixes_fail (names_entry (view_in files top) from old) path front is no_old))
       where
         no_new : goes_through (view_in files top) to new path ≡ false
         no_new = or_false_left (goes_through (view_in files top) to new path) _ none
@@ -263,7 +263,7 @@ module _ (files : FileTree ℕ) (top : ℕ) where
 
 pub shown_elsewhere_stays : ShownElsewhereStays
 shown_elsewhere_stays files change top lowers tree is_top plain path none =
-    shown_below_alike path (view_in files top) (view_after files change top)
+    shown_in_lowers_at_alike path (view_in files top) (view_after files change top)
     (lead_alike files top tree is_top change plain path none) lowers
 
 -- what the upper layer has is shown, unless it is a whiteout

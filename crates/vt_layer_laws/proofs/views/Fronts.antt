@@ -3,7 +3,7 @@ use Rattle.std.proofs.Common.{◌≡◌, refl, sym, ap, subst, ◌∙◌, true�
 use Rattle.std.specs.List.{list_any}
 use Rattle.vt_spec.specs.declared.attributes.Kind.TheVariants.{White}
 use Rattle.vt_spec.specs.FileTree.{is_kind, is_kind_in}
-use Rattle.vt_spec.specs.Lists.{fronts, then_some, when}
+use Rattle.vt_spec.specs.Lists.{prefixes, then_some, when}
 use Rattle.vt_spec.specs.Machine.Views.{Shown, View, cuts, hides, node_led, shown_from, shown_over}
 use Rattle.vt_spec.specs.Rights.{is_directory}
 use Rattle.vt_spec.specs.Tree.{Node}
@@ -29,22 +29,22 @@ white_of_kind (Some here) None is = absurd (true≢false (sym is.there))
 white_of_kind (Some here) (Some there) is = ap (is_kind White) is.kind
 
 -- tests that agree on the fronts of a path
-pub fronts_agree : (one other : List (List ℕ) → Bool) (path : List (List ℕ))
+pub prefixes_agree : (one other : List (List ℕ) → Bool) (path : List (List ℕ))
     → ((front : List (List ℕ)) → IsFrontOf front path → other front ≡ one front)
-    → list_any other (fronts path) ≡ list_any one (fronts path)
-fronts_agree one other [] same = refl
-fronts_agree one other (word ∷ path) same =
-    ap (λ b. other (word ∷ []) || b) (list_any_of_map other (λ front. word ∷ front) (fronts path)
-    ∙ fronts_agree (λ front. one (word ∷ front)) (λ front. other (word ∷ front)) path
+    → list_any other (prefixes path) ≡ list_any one (prefixes path)
+prefixes_agree one other [] same = refl
+prefixes_agree one other (word ∷ path) same =
+    ap (λ b. other (word ∷ []) || b) (list_any_of_map other (λ front. word ∷ front) (prefixes path)
+    ∙ prefixes_agree (λ front. one (word ∷ front)) (λ front. other (word ∷ front)) path
     (λ front is. same (word ∷ front) (is.0, ap (λ p. word ∷ p) is.1, cons_is_not_empty word front))
-    ∙ sym (list_any_of_map one (λ front. word ∷ front) (fronts path)))
-    ∙ ap (λ b. b || list_any one (map (λ front. word ∷ front) (fronts path)))
+    ∙ sym (list_any_of_map one (λ front. word ∷ front) (prefixes path)))
+    ∙ ap (λ b. b || list_any one (map (λ front. word ∷ front) (prefixes path)))
     (same (word ∷ []) (path, refl, cons_is_not_empty word []))
 
 module _ (path : List (List ℕ)) where
   pub cuts_alike : (one other : View ℕ) → LeadAlikeTo path one other → cuts other path ≡ cuts one path
   cuts_alike one other is =
-      fronts_agree (λ front. hides (node_led one front)) (λ front. hides (node_led other front)) path
+      prefixes_agree (λ front. hides (node_led one front)) (λ front. hides (node_led other front)) path
       (λ front f. hiding_alike (node_led one front) (node_led other front) (is.on_the_way front f))
 
   over_alike : (one other : View ℕ) → LeadAlikeTo path one other → (depth : ℕ) (lower : Option (Shown ℕ))
@@ -78,12 +78,12 @@ module _ (path : List (List ℕ)) where
       ∙ ap (shown_over view depth (view.leads path) (cuts view path)) (all_shown views others are.1 (depth + 1))
 
   -- one view over the same others
-  pub shown_below_alike : (one other : View ℕ) → LeadAlikeTo path one other → (lowers : List (View ℕ))
+  pub shown_in_lowers_at_alike : (one other : View ℕ) → LeadAlikeTo path one other → (lowers : List (View ℕ))
       → shown_from 0 (other ∷ lowers) path ≡ shown_from 0 (one ∷ lowers) path
-  shown_below_alike one other is lowers = over_alike one other is 0 (shown_from 1 lowers path)
+  shown_in_lowers_at_alike one other is lowers = over_alike one other is 0 (shown_from 1 lowers path)
 
-pub shown_by_fronts : ShownByFronts
-shown_by_fronts views others path are = all_shown path views others are 0
+pub shown_by_prefixes : ShownByFronts
+shown_by_prefixes views others path are = all_shown path views others are 0
 
 -- views that lead alike everywhere
 all_lead_alike : (path : List (List ℕ)) (views others : List (View ℕ)) → AllLeadAlike views others
@@ -101,4 +101,4 @@ all_lead_alike path (view ∷ views) (other ∷ others) are = (
 )
 
 pub shown_by_views : ShownByViews
-shown_by_views views others are path = shown_by_fronts views others path (all_lead_alike path views others are)
+shown_by_views views others are path = shown_by_prefixes views others path (all_lead_alike path views others are)

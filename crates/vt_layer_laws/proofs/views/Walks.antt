@@ -2,7 +2,7 @@
 use Rattle.std.proofs.Common.{◌≡◌, ◌≢◌, refl, sym, ap, ◌∙◌, true≢false, ℕ, nat_eq, Bool, true, false, cond, ◌&&◌, ◌||◌, List, [], ◌∷◌, ◌++◌, map, Option, Some, None, option_and_then}
 use Rattle.std.specs.List.{list_any}
 use Rattle.std.specs.Str.{bytes_eq}
-use Rattle.vt_spec.specs.Lists.{front_of, fronts, holds_of, last_or, same_option}
+use Rattle.vt_spec.specs.Lists.{without_last, prefixes, holds_of, last_or, same_option}
 use Rattle.vt_spec.specs.Machine.Views.{View}
 use Rattle.vt_spec.specs.Tree.{Tree}
 use Rattle.vt_spec.specs.TreeInvariant.{entry_at, led}
@@ -35,7 +35,7 @@ module _ (tree : Tree ℕ) (directory : ℕ) (name : List ℕ) where
   deeper start word next rest = by (entry_at tree start word)
     where
       by : (o : Option ℕ) →
-          (same_option nat_eq (option_and_then (λ inner. led tree inner (front_of (next ∷ rest))) o)
+          (same_option nat_eq (option_and_then (λ inner. led tree inner (without_last (next ∷ rest))) o)
           (Some directory) && bytes_eq (last_or next rest) name)
           ≡ holds_of (λ inner. names_entry (view_from tree inner) directory name (next ∷ rest)) o
       by None = refl
@@ -61,23 +61,23 @@ module _ (tree : Tree ℕ) (directory : ℕ) (name : List ℕ) where
   any_alike one other same (a ∷ list) = λ i. same a i || any_alike one other same list i
 
   -- fronts have a word
-  fronts_alike : (one other : List (List ℕ) → Bool)
+  prefixes_alike : (one other : List (List ℕ) → Bool)
       → ((word : List ℕ) (rest : List (List ℕ)) → one (word ∷ rest) ≡ other (word ∷ rest))
-      → (path : List (List ℕ)) → list_any one (fronts path) ≡ list_any other (fronts path)
-  fronts_alike one other same [] = refl
-  fronts_alike one other same (word ∷ path) =
-      ap (λ b. one (word ∷ []) || b) (list_any_of_map one (λ front. word ∷ front) (fronts path)
-      ∙ any_alike (λ front. one (word ∷ front)) (λ front. other (word ∷ front)) (same word) (fronts path)
-      ∙ sym (list_any_of_map other (λ front. word ∷ front) (fronts path)))
-      ∙ ap (λ b. b || list_any other (map (λ front. word ∷ front) (fronts path))) (same word [])
+      → (path : List (List ℕ)) → list_any one (prefixes path) ≡ list_any other (prefixes path)
+  prefixes_alike one other same [] = refl
+  prefixes_alike one other same (word ∷ path) =
+      ap (λ b. one (word ∷ []) || b) (list_any_of_map one (λ front. word ∷ front) (prefixes path)
+      ∙ any_alike (λ front. one (word ∷ front)) (λ front. other (word ∷ front)) (same word) (prefixes path)
+      ∙ sym (list_any_of_map other (λ front. word ∷ front) (prefixes path)))
+      ∙ ap (λ b. b || list_any other (map (λ front. word ∷ front) (prefixes path))) (same word [])
 
   pub goes_through_it : (path : List (List ℕ)) (start : ℕ)
       → goes_through (view_from tree start) directory name path ≡ passes start path
   goes_through_it [] start = refl
   goes_through_it (word ∷ rest) start =
       ap (λ b. is_entry directory name start word || b)
-      (list_any_of_map (names_entry (view_from tree start) directory name) (λ front. word ∷ front) (fronts rest)
-      ∙ fronts_alike (λ front. names_entry (view_from tree start) directory name (word ∷ front))
+      (list_any_of_map (names_entry (view_from tree start) directory name) (λ front. word ∷ front) (prefixes rest)
+      ∙ prefixes_alike (λ front. names_entry (view_from tree start) directory name (word ∷ front))
       (λ front. holds_of (λ inner. names_entry (view_from tree inner) directory name front)
       (entry_at tree start word))
       (deeper start word) rest
@@ -86,8 +86,8 @@ module _ (tree : Tree ℕ) (directory : ℕ) (name : List ℕ) where
       by : (o : Option ℕ) → ((inner : ℕ)
           → goes_through (view_from tree inner) directory name rest ≡ passes inner rest)
           → list_any (λ front. holds_of (λ inner. names_entry (view_from tree inner) directory name front) o)
-          (fronts rest) ≡ holds_of (λ inner. passes inner rest) o
-      by None later = list_any-never (fronts rest)
+          (prefixes rest) ≡ holds_of (λ inner. passes inner rest) o
+      by None later = list_any-never (prefixes rest)
       by (Some inner) later = later inner
 
   -- a path that passes has a way to the directory, and the name behind it

@@ -3,7 +3,7 @@
 use Rattle.std.specs.Prelude.{List, None, Option, Some, [], false, is_some, nat_eq, true, ℕ, ⊤, ◌++◌, ◌||◌, ◌≡◌, ◌≢◌, ◌⊎◌}
 use Rattle.vt_spec.specs.Language.Changes.{Change, changed, node_with_attr, node_with_mark}
 use Rattle.vt_spec.specs.Language.Changes.Change.{AddName, CopyUp, Make, Move, Remove, SetAttr, SetBytes, SetMark}
-use Rattle.vt_spec.specs.Machine.CopyUp.{Merge, Stack, copied_up, hides_directory, line_to, merge_changed, shown_below, upper_directory_named, upper_of, whiteout_of}
+use Rattle.vt_spec.specs.Machine.CopyUp.{Merge, Stack, copied_up, hides_directory, line_to, merge_changed, shown_in_lowers_at, upper_directory_named, upper_of, whiteout_of}
 use Rattle.vt_spec.specs.FileTree.{FileTree, a_name, attr_in, is_opaque_in, kind_in}
 use Rattle.vt_spec.specs.Machine.Layers.{Shown}
 use Rattle.vt_spec.specs.Lists.{Fresh, evens, is_among, odds}
@@ -129,7 +129,7 @@ IsLeftBy (Some seen) stack upper directory name =
 
 abbrev pub IsLeft : Stack ℕ → Merge ℕ → Merge ℕ → ℕ → List ℕ → Type 0
 IsLeft stack copied later directory name =
-    IsLeftBy (shown_below nat_eq stack copied directory name) stack later.upper (upper_of copied directory) name
+    IsLeftBy (shown_in_lowers_at nat_eq stack copied directory name) stack later.upper (upper_of copied directory) name
 
 -- the names that a change removes or leaves
 abbrev pub NamesLeft : Stack ℕ → Merge ℕ → Merge ℕ → Change ℕ → Type 0

@@ -79,8 +79,8 @@ module _ {N : Type 0} where
 pub record IsView (view : View ℕ) : Type 0 where
   pub there : (path : List (List ℕ)) (object : ℕ)
       → view.leads path ≡ Some object → is_some (view.node object) ≡ true
-  pub through : (front rest : List (List ℕ)) (object : ℕ)
-      → rest ≢ [] → view.leads (front ++ rest) ≡ Some object → is_directory_node (node_led view front) ≡ true
+  pub through : (prefix rest : List (List ℕ)) (object : ℕ)
+      → rest ≢ [] → view.leads (prefix ++ rest) ≡ Some object → is_directory_node (node_led view prefix) ≡ true
 
 abbrev pub AreViews : List (PlacedView ℕ) → Type 0
 AreViews views = All (λ top. IsView top.view) views

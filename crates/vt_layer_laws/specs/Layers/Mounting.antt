@@ -5,7 +5,7 @@ use Rattle.vt_spec.specs.Language.Answers.Answer.{Done}
 use Rattle.vt_spec.specs.Language.Calls.{MountFlags, OverlayWords}
 use Rattle.vt_spec.specs.Language.Calls.Call.{MountOverlay}
 use Rattle.vt_spec.specs.Lists.{Fresh, evens, is_among}
-use Rattle.vt_spec.specs.Machine.Outcome.Mounting.{LayerPlaces, layers_walked, overlay_at, overlay_filesystem}
+use Rattle.vt_spec.specs.Machine.Outcome.Mounting.{LayerLocations, layers_walked, overlay_at, overlay_filesystem}
 use Rattle.vt_spec.specs.Machine.Policy.{call_outcome}
 use Rattle.vt_spec.specs.Machine.World.{Task, World, filesystem_numbered}
 use Rattle.vt_spec.specs.Machine.Invariants.{IsWorld, OverlayInvariants, TreeInvariants}
@@ -36,7 +36,7 @@ MountingKeepsOverlays = OfMounting (OverlayInvariants nat_eq)
 abbrev pub MountingMakesOverlay : Type 0
 MountingMakesOverlay =
     (fresh : Fresh ℕ) (world : World ℕ) (task : Task ℕ) (path : List ℕ) (words : OverlayWords) (flags : MountFlags)
-    (places : LayerPlaces ℕ)
+    (places : LayerLocations ℕ)
     → IsWorld nat_eq world → AreNewNumbers fresh world → layers_walked nat_eq world task words ≡ Ok places
     → (call_outcome nat_eq fresh world task (MountOverlay path (Some words) flags)).answer ≡ Ok Done
     → filesystem_numbered nat_eq (call_outcome nat_eq fresh world task (MountOverlay path (Some words) flags)).world

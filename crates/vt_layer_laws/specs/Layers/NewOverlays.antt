@@ -5,7 +5,7 @@ use Rattle.std.specs.Prelude.{Some, false, map, nat_eq, true, ℕ, ◌≡◌}
 use Rattle.vt_spec.specs.Errors.{Rules}
 use Rattle.vt_spec.specs.Machine.Locked.{live_upper_and_work, overlaps_one_of}
 use Rattle.vt_spec.specs.Lists.{Fresh, any_pair, evens, is_among}
-use Rattle.vt_spec.specs.Machine.Outcome.Mounting.{LayerPlaces, layer_rules, overlay_filesystem, with_new_filesystem}
+use Rattle.vt_spec.specs.Machine.Outcome.Mounting.{LayerLocations, layer_rules, overlay_filesystem, with_new_filesystem}
 use Rattle.vt_spec.specs.Machine.World.{Filesystem, Overlay, World, filesystem_numbered, layers_of}
 use Rattle.vt_spec.specs.Machine.Invariants.{IsMerged, IsWorld, ListsNumbers, is_fit_filesystem, is_plain_layer, live_lowers, overlap}
 use Rattle.vt_spec.specs.TreeInvariant.{HasOwnParents, IsTree}
@@ -38,7 +38,7 @@ NoneRefuses rules = list_any (λ row. row.0) rules ≡ false
 -- what is said of a world with an overlay that the rules on layers let be mounted, under a number that no other has
 abbrev pub OfNewlyMounted : (World ℕ → Type 0) → Type 0
 OfNewlyMounted Said =
-    (fresh : Fresh ℕ) (world : World ℕ) (overlay : Overlay ℕ) (places : LayerPlaces ℕ)
+    (fresh : Fresh ℕ) (world : World ℕ) (overlay : Overlay ℕ) (places : LayerLocations ℕ)
     → IsWorld nat_eq world → AreLayers world overlay
     → list_all (is_plain_layer nat_eq world) (layers_of overlay) ≡ true
     → ((j k : ℕ) → fresh j ≡ fresh k → j ≡ k)

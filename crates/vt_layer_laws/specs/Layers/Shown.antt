@@ -23,19 +23,19 @@ pub data HidesLower : Content ℕ → Type 0 where
   a_link : (text : List ℕ) → HidesLower (Symlink text)
   an_opaque_directory : (parent : ℕ) (entries : Entries ℕ) → HidesLower (Directory parent entries true)
 
--- a non-empty front of a path, or the path itself
+-- a non-empty prefix of a path, or the path itself
 abbrev pub IsFrontOf : List (List ℕ) → List (List ℕ) → Type 0
-IsFrontOf front path = (rest : List (List ℕ)) × (front ++ rest ≡ path) × (front ≢ [])
+IsFrontOf prefix path = (rest : List (List ℕ)) × (prefix ++ rest ≡ path) × (prefix ≢ [])
 
--- A layer is cut at a path if a higher layer has, at a non-empty front of the path or at the path itself, a whiteout,
+-- A layer is cut at a path if a higher layer has, at a non-empty prefix of the path or at the path itself, a whiteout,
 -- an object that is no directory, or an opaque directory.
 pub record IsCut (layers : List (OpenLayer ℕ)) (depth : ℕ) (path : List (List ℕ)) : Type 0 where
   pub higher : ℕ
   pub is_higher : higher < depth
-  pub front : List (List ℕ)
-  pub is_front : IsFrontOf front path
+  pub prefix : List (List ℕ)
+  pub is_prefix : IsFrontOf prefix path
   pub inode : Node ℕ
-  pub stands : HasInodeAt layers higher front inode
+  pub stands : HasInodeAt layers higher prefix inode
   pub hides : HidesLower inode.content
 
 -- a layer has an object at a path, and is not cut there

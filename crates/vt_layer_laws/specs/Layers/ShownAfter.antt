@@ -1,12 +1,12 @@
--- What layers show at a path, by what each has at its fronts, and so what a change of the upper layer changes in that.
+-- What layers show at a path, by what each has at its prefixes, so what a change of the upper layer changes in that.
 use Rattle.std.specs.Prelude.{Bool, List, None, Option, Some, [], false, is_some, nat_eq, not, true, ℕ, ⊤, ◌||◌, ◌∷◌, ◌≡◌}
 use Rattle.std.specs.List.{list_any}
 use Rattle.vt_spec.specs.declared.attributes.Kind.TheVariants.{White}
 use Rattle.vt_spec.specs.Language.Changes.{Change}
 use Rattle.vt_spec.specs.Language.Changes.Change.{AddName, CopyUp, Make, Move, Remove, SetAttr, SetBytes, SetMark}
 use Rattle.vt_spec.specs.FileTree.{FileTree, is_kind, is_kind_in, is_opaque_in, kind_in}
-use Rattle.vt_spec.specs.Lists.{fronts, same_option, when}
-use Rattle.vt_spec.specs.Machine.Views.{View, below, node_led, shown}
+use Rattle.vt_spec.specs.Lists.{prefixes, same_option, when}
+use Rattle.vt_spec.specs.Machine.Views.{View, shown_in_lowers, node_led, shown}
 use Rattle.vt_spec.specs.Tree.{Node, Tree, entries_of, is_directory_node, kind_of}
 use Rattle.vt_spec.specs.TreeInvariant.{IsDirectory, IsTree, entry_at}
 use Rattle.vt_layer_laws.specs.Layers.Shown.{IsFrontOf}
@@ -22,12 +22,12 @@ pub record HidesAlike (one other : Option (Node ℕ)) : Type 0 where
   pub of_kind : IsOneKind one other
   pub mark : is_opaque_in other ≡ is_opaque_in one
 
--- Two views lead alike along a path: to one number, and at its fronts to what hides lower layers alike.
+-- Two views lead alike along a path: to one number, and at its prefixes to what hides lower layers alike.
 pub record LeadAlikeTo (path : List (List ℕ)) (one other : View ℕ) : Type 0 where
   pub leads : other.leads path ≡ one.leads path
   pub inode : IsOneKind (node_led one path) (node_led other path)
-  pub on_the_way : (front : List (List ℕ)) → IsFrontOf front path
-      → HidesAlike (node_led one front) (node_led other front)
+  pub on_the_way : (prefix : List (List ℕ)) → IsFrontOf prefix path
+      → HidesAlike (node_led one prefix) (node_led other prefix)
 
 abbrev pub AllLeadAlikeTo : List (List ℕ) → List (View ℕ) → List (View ℕ) → Type 0
 AllLeadAlikeTo path [] [] = ⊤
@@ -42,10 +42,10 @@ ShownByFronts =
     (views others : List (View ℕ)) (path : List (List ℕ)) → AllLeadAlikeTo path views others
     → shown others path ≡ shown views path
 
--- the path, or a front of it, leads to this inode
+-- the path, or a prefix of it, leads to this inode
 abbrev pub leads_over : View ℕ → ℕ → List (List ℕ) → Bool
 leads_over view inode path =
-    list_any (λ front. same_option nat_eq (view.leads front) (Some inode)) (fronts path)
+    list_any (λ prefix. same_option nat_eq (view.leads prefix) (Some inode)) (prefixes path)
 
 -- where a change of a layer may change what is shown: at its names and below them, and below a directory whose mark
 -- it sets
@@ -105,7 +105,7 @@ RemovedShowsBelow =
     → entry_at files.tree directory name ≡ Some object
     → (path : List (List ℕ)) → names_entry (view_in files top) directory name path ≡ true
     → shown (view_after files (Remove directory name object) top ∷ lowers) path
-    ≡ below (view_in files top) lowers path
+    ≡ shown_in_lowers (view_in files top) lowers path
 
 -- and so at a name from which an object was moved away.
 abbrev pub MovedShowsBelow : Type 0
@@ -115,4 +115,4 @@ MovedShowsBelow =
     → (path : List (List ℕ)) → names_entry (view_in files top) from old path ≡ true
     → goes_through (view_in files top) to new path ≡ false
     → shown (view_after files (Move from old to new object) top ∷ lowers) path
-    ≡ below (view_in files top) lowers path
+    ≡ shown_in_lowers (view_in files top) lowers path

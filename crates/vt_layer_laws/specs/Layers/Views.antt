@@ -8,7 +8,7 @@ use Rattle.vt_spec.specs.Language.Changes.{Change, changed, node_with_attr, node
 use Rattle.vt_spec.specs.Language.Changes.Change.{AddName, CopyUp, Make, Move, Remove, SetAttr, SetBytes, SetMark}
 use Rattle.vt_spec.specs.FileTree.{FileTree}
 use Rattle.vt_spec.specs.Machine.Layers.{View, view_of}
-use Rattle.vt_spec.specs.Lists.{front_of, fronts, is_among, is_empty_list, last_or, same_option}
+use Rattle.vt_spec.specs.Lists.{without_last, prefixes, is_among, is_empty_list, last_or, same_option}
 use Rattle.vt_spec.specs.Machine.Views.{node_led, shown}
 use Rattle.vt_spec.specs.Tree.{Node, Tree, entries_in, entries_of, is_directory_node, node_with_bytes}
 use Rattle.vt_spec.specs.TreeInvariant.{IsDirectory, IsTree, entry_at, led}
@@ -25,11 +25,11 @@ view_after files change top = view_in (changed nat_eq files change) top
 abbrev pub names_entry : View ℕ → ℕ → List ℕ → List (List ℕ) → Bool
 names_entry view directory name path =
     not (is_empty_list path)
-    && (same_option nat_eq (view.leads (front_of path)) (Some directory) && bytes_eq (last_or [] path) name)
+    && (same_option nat_eq (view.leads (without_last path)) (Some directory) && bytes_eq (last_or [] path) name)
 
--- some front of the path, or the path itself, is that of an entry
+-- some prefix of the path, or the path itself, is that of an entry
 abbrev pub goes_through : View ℕ → ℕ → List ℕ → List (List ℕ) → Bool
-goes_through view directory name path = list_any (names_entry view directory name) (fronts path)
+goes_through view directory name path = list_any (names_entry view directory name) (prefixes path)
 
 -- such a path is a way to the directory, the name, and what follows
 abbrev pub ThroughIsSplit : Type 0

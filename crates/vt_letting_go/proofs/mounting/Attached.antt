@@ -5,7 +5,7 @@ use Rattle.std.specs.List.{list_all, list_any}
 use Rattle.std.proofs.lemmas.Bool.{false_from_ne_true}
 use Rattle.std.proofs.lemmas.Option.{same_Some}
 use Rattle.vt_spec.specs.Lists.{folded, holds_of, is_among, rest_of, then_some, when}
-use Rattle.vt_spec.specs.Machine.Attach.{Copies, Graft, Twig, added_mounts, all_groups_made, attached_by, copies_at, copy_at, copy_type, graft_of, group_made, image, is_destination, masters_with, nearest_image, parts_of, place_on_copy, pushed_onto, pushed_up, receiver_below, receivers_of, takes_part, top_of_copies, twig_of, twig_master, type_at, with_moved_mounts}
+use Rattle.vt_spec.specs.Machine.Attach.{Copies, Graft, Twig, added_mounts, all_groups_made, attached_by, copies_at, copy_at, copy_type, graft_of, group_made, image, is_destination, masters_with, nearest_image, parts_of, mount_point_on_copy, pushed_onto, pushed_up, receiver_stood_on, receivers_of, takes_part, top_of_copies, twig_of, twig_master, type_at, with_moved_mounts}
 use Rattle.vt_spec.specs.Machine.Mounts.{Location, Mount, Propagation, group_of, is_shared, mount_in, no_mount, replaced_if_same, stands_at, with_mount}
 use Rattle.vt_spec.specs.Machine.Mounts.Propagation.{Private, Shared, Slave, Unbindable}
 use Rattle.vt_spec.specs.Machine.Receives.{is_member_of}
@@ -233,7 +233,7 @@ module _ (world : World ℕ) (filesystems : List (Filesystem ℕ)) (new : Copies
   push_keeps : {A : Type 0} (part : Mount ℕ → A) → ((mount : Mount ℕ) (at : Option (Location ℕ))
       → part (record mount { mount_point = at }) ≡ part mount)
       → (mount : Mount ℕ) → part (push mount) ≡ part mount
-  push_keeps part same mount = by (receiver_below nat_eq tree parts mount)
+  push_keeps part same mount = by (receiver_stood_on nat_eq tree parts mount)
     where
       by : (below : Option (Mount ℕ)) → part (pushed_onto nat_eq base new tree parts mount below) ≡ part mount
       by None = refl
@@ -243,7 +243,7 @@ module _ (world : World ℕ) (filesystems : List (Filesystem ℕ)) (new : Copies
   pushed : (mount : Mount ℕ) → (push mount ≡ mount)
       ⊎ ((part : Mount ℕ) × Among part (rest_of parts) ×
       (mount.mount_point ≡ Some (record { mount = part.number; node = place.node })))
-  pushed mount = by (receiver_below nat_eq tree parts mount) refl
+  pushed mount = by (receiver_stood_on nat_eq tree parts mount) refl
     where
       stands : (part : Mount ℕ) (at : Option (Location ℕ)) → mount.mount_point ≡ at
           → stands_at nat_eq (record { mount = part.number; node = place.node }) mount ≡ true
@@ -254,7 +254,7 @@ module _ (world : World ℕ) (filesystems : List (Filesystem ℕ)) (new : Copies
           e ∙ ap Some (sym (same_location_is (record { mount = part.number; node = place.node }) at
           (sym (ap (holds_of (λ l. nat_eq part.number l.mount && nat_eq place.node l.node)) e) ∙ h)))
 
-      by : (below : Option (Mount ℕ)) → receiver_below nat_eq tree parts mount ≡ below
+      by : (below : Option (Mount ℕ)) → receiver_stood_on nat_eq tree parts mount ≡ below
           → (push mount ≡ mount)
           ⊎ ((part : Mount ℕ) × Among part (rest_of parts) ×
           (mount.mount_point ≡ Some (record { mount = part.number; node = place.node })))
@@ -268,7 +268,7 @@ module _ (world : World ℕ) (filesystems : List (Filesystem ℕ)) (new : Copies
       ≡ Some (record { mount = part.number; node = place.node })
   first_copy part =
       ap (λ b. Some (cond b (record { mount = part.number; node = place.node })
-      (unwrap_or (option_map (place_on_copy nat_eq new tree part.number) first.mount_point) place)))
+      (unwrap_or (option_map (mount_point_on_copy nat_eq new tree part.number) first.mount_point) place)))
       (eq-eqb first.number first.number refl)
 
   -- each mount keeps its number, what it shows, and the namespace or another one
@@ -405,8 +405,8 @@ module _ (world : World ℕ) (filesystems : List (Filesystem ℕ)) (new : Copies
       by_first g n false f is =
           inl (ap (λ (x : Mount ℕ). x.mount_point) is
           ∙ ap (λ b. Some (cond b (record { mount = destination.number; node = place.node })
-          (unwrap_or (option_map (place_on_copy nat_eq new tree destination.number) mount.mount_point) place))) f
-          ∙ ap (λ o. Some (unwrap_or (option_map (place_on_copy nat_eq new tree destination.number) o) place)) e
+          (unwrap_or (option_map (mount_point_on_copy nat_eq new tree destination.number) mount.mount_point) place))) f
+          ∙ ap (λ o. Some (unwrap_or (option_map (mount_point_on_copy nat_eq new tree destination.number) o) place)) e
           ∙ ap (λ b. Some (record {
             mount = cond (b && is_destination nat_eq tree destination.number) at.mount
                 (new.copy destination.number at.mount);

@@ -7,7 +7,7 @@ use Rattle.std.specs.List.{cons_option, filter_map, list_any}
 use Rattle.std.specs.Ordering.{is_eq}
 use Rattle.std.specs.Prelude.{option_map, unwrap_or}
 use Rattle.vt_spec.specs.FileTree.{FileTree, a_name, is_opaque_in, opaque_of}
-use Rattle.vt_spec.specs.Lists.{front_of, then_some}
+use Rattle.vt_spec.specs.Lists.{without_last, then_some}
 use Rattle.vt_spec.specs.Machine.Invariants.{SameObject, node_shown, number_at_path, real_node, real_shown, same_content}
 use Rattle.vt_spec.specs.Machine.Layers.{OpenLayer, Shown, names_at, names_shown, shown, view_of}
 use Rattle.vt_spec.specs.Machine.Merging.{layer_node, real_object}
@@ -26,7 +26,7 @@ use Rattle.vt_layer_laws.proofs.layers.ShownMounted.{are_open}
 use Rattle.vt_layer_laws.proofs.layers.ShownNames.{is_name, last_name, name_found, names_are_those_shown}
 use Rattle.vt_layer_laws.proofs.layers.ShownPaths.{not_empty}
 use Rattle.vt_layer_laws.proofs.layers.UpperLine.{is_reached_in, named_so}
-use Rattle.vt_layer_laws.proofs.layers.UpperShown.{front_of_longer, has_a_name, way_to}
+use Rattle.vt_layer_laws.proofs.layers.UpperShown.{without_last_of_longer, has_a_name, way_to}
 use Rattle.vt_layer_laws.proofs.layers.UpperWorld.{all_found, overlay_found, overlay_layers, overlay_numbers, overlay_tree}
 use Rattle.vt_overlay_laws.proofs.steps.WholeParts.{object_is_not_none, shown_is_there}
 use Rattle.std.proofs.lemmas.Option.{same_Some}
@@ -250,13 +250,13 @@ module _ (number_of : Real ℕ → ℕ) (held : ℕ → Option (Real ℕ)) (worl
             let root = same_Some filesystem.files.tree.root number (sym (ap at e) ∙ leads) in
             subst (λ n. parent_in n (filesystem.files.tree.node n) ≡ n) root is.tree.root_parent
             ∙ ap (λ o. unwrap_or o 0) (sym leads ∙ numbers_are_shown path)
-            ∙ ap (λ p. unwrap_or (number_shown number_of world overlay p) 0) (e ∙ sym (ap front_of e))
+            ∙ ap (λ p. unwrap_or (number_shown number_of world overlay p) 0) (e ∙ sym (ap without_last e))
         by (word ∷ way) e =
             let last = lastly path number (λ empty. not_empty word way (sym e ∙ empty)) leads in
             is.tree.one_parent last.directory last.name number last.entry is_directory
             ∙ ap (λ o. unwrap_or o 0) (sym last.leads ∙ numbers_are_shown last.front)
             ∙ ap (λ p. unwrap_or (number_shown number_of world overlay p) 0)
-            (sym (front_of_longer last.front last.name) ∙ ap front_of last.split)
+            (sym (without_last_of_longer last.front last.name) ∙ ap without_last last.split)
 
     pub inode_is : filesystem.files.tree.node number ≡ inode_shown number_of world overlay path
     inode_is =

@@ -14,7 +14,7 @@ use Rattle.vt_spec.specs.Machine.Filesystems.{raised, raised_if_changed}
 use Rattle.vt_spec.specs.Machine.Invariants.{IsWorld, SameObject, number_at_path}
 use Rattle.vt_spec.specs.Machine.Layers.{node_at_path}
 use Rattle.vt_spec.specs.Machine.Mounts.{Location}
-use Rattle.vt_spec.specs.Machine.Outcome.Mounting.{LayerPlaces, admin_rules, destination_walk, layer_rules, layers_walked, mount_overlay_outcome, new_mount_rules, overlay_at, overlay_by, overlay_filesystem, overlay_mounted}
+use Rattle.vt_spec.specs.Machine.Outcome.Mounting.{LayerLocations, admin_rules, destination_walk, layer_rules, layers_walked, mount_overlay_outcome, new_mount_rules, overlay_at, overlay_by, overlay_filesystem, overlay_mounted}
 use Rattle.vt_spec.specs.Machine.Outcomes.{Outcome, after, granted, judged}
 use Rattle.vt_spec.specs.Machine.Policy.{call_outcome, filesystems_changed_by, finished, finished_by, numbers_raised, only_looks, policy}
 use Rattle.vt_spec.specs.Machine.Judge.{judge_in}
@@ -44,7 +44,7 @@ passed_rules world ((false, rule) ∷ rows) outcome e = let rest = passed_rules 
 
 -- and so has a mount of an overlay seen to its layers
 module _ (world : World ℕ) (fresh : Fresh ℕ) (task : Task ℕ) (words : OverlayWords) (flags : MountFlags)
-    (places : LayerPlaces ℕ)
+    (places : LayerLocations ℕ)
     (walked : layers_walked nat_eq world task words ≡ Ok places) where
   layers_of_granted : (path : List ℕ)
       → (mount_overlay_outcome nat_eq fresh world task path (Some words) flags).answer ≡ Ok Done
@@ -137,7 +137,7 @@ module _ (fresh : Fresh ℕ) (later : World ℕ) (conditions : IsWorld nat_eq la
       (mounting_lets_nothing_go fresh later task path (Some words) flags conditions are_new)
 
   -- the overlay is there, with the files that it was made with
-  module _ (places : LayerPlaces ℕ) (walked : layers_walked nat_eq later task words ≡ Ok places) where
+  module _ (places : LayerLocations ℕ) (walked : layers_walked nat_eq later task words ≡ Ok places) where
     pub files_are : (filesystem_numbered nat_eq (world_mounted fresh later task path words flags)
         (number_mounted fresh)).files
         ≡ (overlay_filesystem nat_eq (evens fresh) later (overlay_at nat_eq later task places)).files

@@ -5,7 +5,7 @@ use Rattle.vt_spec.specs.Language.Calls.{MountFlags, OverlayWords}
 use Rattle.vt_spec.specs.Lists.{Fresh, holds_of}
 use Rattle.vt_spec.specs.Machine.Invariants.{IsWorld, OverlayInvariants, TreeInvariants}
 use Rattle.vt_spec.specs.Machine.Mounts.{Location}
-use Rattle.vt_spec.specs.Machine.Outcome.Mounting.{LayerPlaces, admin_rules, destination_walk, layer_rules, layers_walked, mount_overlay_outcome, new_mount_rules, overlay_at, overlay_by, overlay_mounted}
+use Rattle.vt_spec.specs.Machine.Outcome.Mounting.{LayerLocations, admin_rules, destination_walk, layer_rules, layers_walked, mount_overlay_outcome, new_mount_rules, overlay_at, overlay_by, overlay_mounted}
 use Rattle.vt_spec.specs.Machine.Outcomes.{granted}
 use Rattle.vt_spec.specs.Machine.Settled.{settled}
 use Rattle.vt_spec.specs.Machine.World.{Task, World, mount_at}
@@ -23,7 +23,7 @@ is_own namespace (Some other) e = refl
 
 module _ (world : World ℕ) (conditions : IsWorld nat_eq world) (fresh : Fresh ℕ)
     (are_new : AreNewNumbers fresh world) (task : Task ℕ) where
-  mounted_keeps : (places : LayerPlaces ℕ) → AreWalked world task places
+  mounted_keeps : (places : LayerLocations ℕ) → AreWalked world task places
       → Passed (layer_rules nat_eq world places (overlay_at nat_eq world task places))
       → (place : Location ℕ) (flags : MountFlags)
       → Passed (new_mount_rules nat_eq world task place (overlay_mounted nat_eq fresh world task place places flags))

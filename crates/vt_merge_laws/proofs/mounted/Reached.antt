@@ -13,7 +13,7 @@ use Rattle.vt_spec.specs.Lists.{Fresh, evens}
 use Rattle.vt_spec.specs.Machine.Invariants.{is_plain_layer}
 use Rattle.vt_spec.specs.Machine.Judge.{judge_in}
 use Rattle.vt_spec.specs.Machine.Mounts.{Location}
-use Rattle.vt_spec.specs.Machine.Outcome.Mounting.{LayerPlaces, admin_rules, destination_walk, layer_rules, layers_walked, mount_overlay_outcome, new_mount_rules, overlay_at, overlay_by, overlay_mounted}
+use Rattle.vt_spec.specs.Machine.Outcome.Mounting.{LayerLocations, admin_rules, destination_walk, layer_rules, layers_walked, mount_overlay_outcome, new_mount_rules, overlay_at, overlay_by, overlay_mounted}
 use Rattle.vt_spec.specs.Machine.Outcomes.{Outcome, after, granted, judged}
 use Rattle.vt_spec.specs.Machine.Policy.{filesystems_changed_by}
 use Rattle.vt_spec.specs.Machine.Walk.{Here, walk_end}
@@ -46,7 +46,7 @@ let_pass world ((false, rule) ∷ rows) outcome e =
     }
 
 module _ (world : World ℕ) (fresh : Fresh ℕ) (task : Task ℕ) (words : OverlayWords) (flags : MountFlags)
-    (places : LayerPlaces ℕ)
+    (places : LayerLocations ℕ)
     (walked : layers_walked nat_eq world task words ≡ Ok places) where
   pub record IsMounted (later : World ℕ) : Type 0 where
     pub place : Location ℕ

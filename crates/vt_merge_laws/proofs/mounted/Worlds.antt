@@ -5,7 +5,7 @@ use Rattle.std.specs.Prelude.{option_map, ⊤}
 use Rattle.std.proofs.lemmas.Bool.{and_parts}
 use Rattle.vt_spec.specs.Language.Answers.Answer.{Done}
 use Rattle.vt_spec.specs.Language.Calls.{MountFlags, OverlayWords}
-use Rattle.vt_spec.specs.Lists.{Fresh, each_once, evens, holds_of, odds, place_from}
+use Rattle.vt_spec.specs.Lists.{Fresh, each_once, evens, holds_of, odds, index_from}
 use Rattle.vt_spec.specs.Machine.Attach.{has_too_many}
 use Rattle.vt_spec.specs.Machine.Invariants.{IsWorld, MountInvariants, NamespaceInvariants, TaskInvariants, has_its_root, is_there}
 use Rattle.vt_spec.specs.Machine.Layers.{OpenLayer}
@@ -115,7 +115,7 @@ made_are fresh has_upper layers objects (object ∷ list) =
           real = Rattle.vt_spec.specs.Machine.Merging.real_object has_upper object.seen.layer object;
         }) o) (filter_map (merged_inode nat_eq fresh has_upper layers objects) list)))
     by None later = later
-    by (Some node) later = ((unwrap_or (place_from (is_one_inode nat_eq has_upper object) 0 objects) 0, refl), later)
+    by (Some node) later = ((unwrap_or (index_from (is_one_inode nat_eq has_upper object) 0 objects) 0, refl), later)
 
 module _ (world : World ℕ) (is : IsWorld nat_eq world) (fresh : Fresh ℕ) (serves : Serves nat_eq world fresh)
     (task : Task ℕ)

@@ -18,7 +18,7 @@ use Rattle.vt_spec.specs.Machine.Judge.{judge_in}
 use Rattle.vt_spec.specs.Machine.Outcomes.{after}
 use Rattle.vt_spec.specs.Machine.Settled.{settled}
 use Rattle.vt_spec.specs.Machine.World.{Filesystem, Layer, Namespace, Overlay, Real, Task, World, filesystem_numbered, is_overlay, layers_of, no_filesystem, shown_layers, task_called}
-use Rattle.vt_spec.specs.Machine.World.Real.{Below, Upper}
+use Rattle.vt_spec.specs.Machine.World.Real.{Lower, Upper}
 use Rattle.vt_spec.specs.Tree.{is_directory_node}
 use Rattle.vt_spec.specs.TreeInvariant.{IsReached}
 use Rattle.vt_spec.proofs.Lists.{all-map}
@@ -169,7 +169,7 @@ module _ (of_filesystem : Filesystem ℕ → ℕ) (of_namespace : Namespace ℕ 
           subst (λ files. SameObject ((files number).tree.node n)
           (then_some overlay.upper (λ layer. (files layer.filesystem).tree.node object)))
           (sym files_same) same
-      by n (Some (Below layer path)) same =
+      by n (Some (Lower layer path)) same =
           subst (λ files. SameObject ((files number).tree.node n)
           (then_some (slice_get overlay.lowers layer) (λ lower. node_at_path (opened files lower) path)))
           (sym files_same) same

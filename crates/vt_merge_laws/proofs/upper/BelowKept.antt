@@ -2,7 +2,7 @@
 use Rattle.std.proofs.Common.{◌≡◌, refl, sym, ap, subst, ◌∙◌, true≢false, ℕ, suc, ◌+◌, nat_eq, Bool, true, false, cond, List, [], ◌∷◌, ◌++◌, map, Option, Some, None, is_some, option_and_then, slice_get}
 use Rattle.std.proofs.lemmas.List.{append-nil}
 use Rattle.std.specs.List.{list_any}
-use Rattle.vt_spec.specs.Lists.{fronts, holds_of, then_some}
+use Rattle.vt_spec.specs.Lists.{prefixes, holds_of, then_some}
 use Rattle.vt_spec.specs.Machine.CopyUp.{Merge, Stack, hides_directory, is_directory_shown, is_in_upper, upper_of}
 use Rattle.vt_spec.specs.Machine.Invariants.{SameObject, number_at_path}
 use Rattle.vt_spec.specs.Machine.Layers.{OpenLayer, Shown, shown, view_of}
@@ -18,12 +18,12 @@ use Rattle.vt_layer_laws.specs.Layers.Mounted.{IsAlike}
 use Rattle.vt_layer_laws.specs.Layers.Views.{view_in}
 use Rattle.vt_spec.proofs.NodeChanges.{directory_no_whiteout}
 use Rattle.vt_layer_laws.proofs.layers.ShownDirectories.{AreOpen, ShowsDirectory, append_assoc, last_of, led_is_there, longer_is_not_empty}
-use Rattle.vt_layer_laws.proofs.layers.ShownFronts.{cons_is_not_empty, front_passes}
+use Rattle.vt_layer_laws.proofs.layers.ShownFronts.{cons_is_not_empty, prefix_passes}
 use Rattle.vt_layer_laws.proofs.layers.ShownPaths.{not_empty}
 use Rattle.vt_layer_laws.proofs.layers.UpperFit.{same_directory}
-use Rattle.vt_layer_laws.proofs.layers.UpperShown.{front_of_longer}
-use Rattle.vt_layer_laws.proofs.views.After.{fronts_fail}
-use Rattle.vt_layer_laws.proofs.views.Fronts.{fronts_agree, hides_so, hiding_alike}
+use Rattle.vt_layer_laws.proofs.layers.UpperShown.{without_last_of_longer}
+use Rattle.vt_layer_laws.proofs.views.After.{prefixes_fail}
+use Rattle.vt_layer_laws.proofs.views.Fronts.{prefixes_agree, hides_so, hiding_alike}
 use Rattle.vt_overlay_laws.specs.WhatIsShown.{IsWhole, layers_under}
 use Rattle.vt_overlay_laws.proofs.steps.WholeAttributes.{top_open, upper_real}
 use Rattle.vt_overlay_laws.proofs.steps.WholeLinked.{file_hides}
@@ -35,12 +35,12 @@ use Rattle.vt_merge_laws.proofs.upper.Copying.{led_none}
 use Rattle.vt_merge_laws.proofs.upper.Places.{path_there, seen_same}
 
 -- a way that is not cut is not cut at its fronts
-pub uncut_front : (test : List (List ℕ) → Bool) (way front rest : List (List ℕ)) → front ++ rest ≡ way
-    → list_any test (fronts way) ≡ false
-    → list_any test (fronts front) ≡ false
-uncut_front test way [] rest e none = refl
-uncut_front test way (word ∷ front) rest e none =
-    fronts_fail test way (word ∷ front) (rest, e, cons_is_not_empty word front) none
+pub uncut_prefix : (test : List (List ℕ) → Bool) (way front rest : List (List ℕ)) → front ++ rest ≡ way
+    → list_any test (prefixes way) ≡ false
+    → list_any test (prefixes front) ≡ false
+uncut_prefix test way [] rest e none = refl
+uncut_prefix test way (word ∷ front) rest e none =
+    prefixes_fail test way (word ∷ front) (rest, e, cons_is_not_empty word front) none
 
 -- the fronts of a path that leads somewhere lead somewhere
 pub front_leads : (tree : Tree ℕ) (front rest : List (List ℕ)) (from to : ℕ) → led tree from (front ++ rest) ≡ Some to
@@ -141,7 +141,7 @@ module _ (stack : Stack ℕ) (m : Merge ℕ) (whole : IsWhole stack m) where
               → is_directory_node (m.upper.tree.node u) ≡ true
           kind true d = d
           kind false d =
-              absurd (true≢false (sym (front_passes (λ front. hides (node_led view front)) (word ∷ way) (word ∷ way) []
+              absurd (true≢false (sym (prefix_passes (λ front. hides (node_led view front)) (word ∷ way) (word ∷ way) []
               (append-nil (word ∷ way)) (cons_is_not_empty word way)
               (ap (λ o. hides (then_some o m.upper.tree.node)) e ∙ file_hides (m.upper.tree.node u) there d)) ∙ none))
 
@@ -159,7 +159,7 @@ module _ (stack : Stack ℕ) (m : Merge ℕ) (whole : IsWhole stack m) where
   pub cut_none : (way : List (List ℕ)) (name : List ℕ) → cuts view way ≡ true
       → seen_below stack m.upper (way ++ name ∷ []) ≡ None
   cut_none way name cut =
-      ap (λ p. cond (cuts view p) None (shown_from 1 lowers (way ++ name ∷ []))) (front_of_longer way name)
+      ap (λ p. cond (cuts view p) None (shown_from 1 lowers (way ++ name ∷ []))) (without_last_of_longer way name)
       ∙ ap (λ b. cond b None (shown_from 1 lowers (way ++ name ∷ []))) cut
 
   -- nor, unless lower layers show a directory above,
@@ -167,7 +167,7 @@ module _ (stack : Stack ℕ) (m : Merge ℕ) (whole : IsWhole stack m) where
       → (cuts view way ≡ false → (seen : Shown ℕ) → shown_from 1 lowers (way ++ name ∷ []) ≡ Some seen → ⊥)
       → seen_below stack m.upper (way ++ name ∷ []) ≡ None
   shown_none way name out =
-      ap (λ p. cond (cuts view p) None (shown_from 1 lowers (way ++ name ∷ []))) (front_of_longer way name)
+      ap (λ p. cond (cuts view p) None (shown_from 1 lowers (way ++ name ∷ []))) (without_last_of_longer way name)
       ∙ by (cuts view way) refl (shown_from 1 lowers (way ++ name ∷ [])) refl
     where
       by : (b : Bool) → cuts view way ≡ b → (o : Option (Shown ℕ)) → shown_from 1 lowers (way ++ name ∷ []) ≡ o
@@ -231,7 +231,7 @@ module _ (stack : Stack ℕ) (m later : Merge ℕ) (whole : IsWhole stack m) (wh
       by None e = refl
       by (Some (Upper u)) e = hiding_alike (m.upper.tree.node u) (later.upper.tree.node u)
           (hides_so (m.upper.tree.node u) (later.upper.tree.node u) (alike u e))
-      by (Some (Rattle.vt_spec.specs.Machine.World.Real.Below layer path)) e = refl
+      by (Some (Rattle.vt_spec.specs.Machine.World.Real.Lower layer path)) e = refl
 
   -- A way is cut alike if its fronts lead to the same inodes, and these hide what they hid.
   pub same_cuts : (way : List (List ℕ)) (to : ℕ) → number_at_path m.files way ≡ Some to
@@ -241,7 +241,7 @@ module _ (stack : Stack ℕ) (m later : Merge ℕ) (whole : IsWhole stack m) (wh
       → HidesAsBefore n)
       → cuts after way ≡ cuts before way
   same_cuts way to leads same hiding =
-      fronts_agree (λ front. hides (node_led before front)) (λ front. hides (node_led after front)) way
+      prefixes_agree (λ front. hides (node_led before front)) (λ front. hides (node_led after front)) way
       (λ front is.
       let found = front_leads m.files.tree front is.0 m.files.tree.root to
       (ap (number_at_path m.files) is.1 ∙ leads) in
@@ -286,12 +286,12 @@ module _ (stack : Stack ℕ) (m later : Merge ℕ) (whole : IsWhole stack m) (wh
           word seen
           (ap (shown_from 1 (map view_of stack.lowers)) (append_assoc path (name ∷ []) (word ∷ rest) ∙ sym split)
           ∙ e) in
-          let uncut_path = sym cut ∙ uncut_front (λ front. hides (node_led after front)) (path ++ name ∷ last.0) path
+          let uncut_path = sym cut ∙ uncut_prefix (λ front. hides (node_led after front)) (path ++ name ∷ last.0) path
           (name ∷ last.0) refl uncut in
           let hidden = ap (is_directory_shown (layers_under stack m))
           (below_name stack m whole d name path is.0 is.1 uncut_path)
           ∙ directory_below_top (record { tree = m.upper.tree; directory = stack.directory }) stack.lowers
           (path ++ name ∷ []) shows in
-          true≢false (sym (front_passes (λ front. hides (node_led after front)) (path ++ name ∷ last.0)
+          true≢false (sym (prefix_passes (λ front. hides (node_led after front)) (path ++ name ∷ last.0)
           (path ++ name ∷ []) last.0 (append_assoc path (name ∷ []) last.0) (longer_is_not_empty path name)
           (ap (λ o. hides (then_some o later.upper.tree.node)) leads ∙ marks hidden)) ∙ uncut)

@@ -8,7 +8,7 @@ use Rattle.vt_spec.specs.Machine.CopyUp.{Merge, Stack, copied_up, hides_director
 use Rattle.vt_spec.specs.Machine.Invariants.{number_at_path}
 use Rattle.vt_spec.specs.Machine.Views.{cuts, hides}
 use Rattle.vt_spec.specs.Machine.World.{upper_object}
-use Rattle.vt_spec.specs.Machine.World.Real.{Below, Upper}
+use Rattle.vt_spec.specs.Machine.World.Real.{Lower, Upper}
 use Rattle.vt_spec.specs.Tree.{Node}
 use Rattle.vt_spec.specs.TreeInvariant.{IsDirectory}
 use Rattle.vt_spec.proofs.Nodes.{node_other, node_set}
@@ -21,7 +21,7 @@ use Rattle.vt_layer_laws.proofs.layers.LowersKept.{kept_elsewhere}
 use Rattle.std.proofs.lemmas.Option.{same_Some}
 use Rattle.vt_spec.proofs.Options.{none_is_some}
 use Rattle.vt_layer_laws.proofs.layers.ShownDirectories.{append_assoc, last_of}
-use Rattle.vt_layer_laws.proofs.layers.ShownFronts.{cons_is_not_empty, front_passes}
+use Rattle.vt_layer_laws.proofs.layers.ShownFronts.{cons_is_not_empty, prefix_passes}
 use Rattle.vt_layer_laws.proofs.layers.ShownPaths.{not_empty}
 use Rattle.vt_layer_laws.proofs.views.After.{fails, lead_alike}
 use Rattle.vt_layer_laws.proofs.views.Fronts.{cuts_alike}
@@ -65,11 +65,11 @@ module _ (fresh : Fresh ℕ) (stack : Stack ℕ) (merge : Merge ℕ) (whole : Is
       → cuts (view_in c.upper stack.directory) way ≡ cuts (view_in merge.upper stack.directory) way
   cut way directory is = at (place_of stack merge whole object there)
     where
-      held_alike : (layer : ℕ) (path : List (List ℕ)) → IsAt merge object (Held (Below layer path)) → (u : ℕ)
+      held_alike : (layer : ℕ) (path : List (List ℕ)) → IsAt merge object (Held (Lower layer path)) → (u : ℕ)
           → is_some (merge.upper.tree.node u) ≡ true → IsAlike (merge.upper.tree.node u) (c.upper.tree.node u)
       held_alike layer path e u used =
           alike_same (merge.upper.tree.node u) (c.upper.tree.node u)
-          (ap (λ t. t.tree.node u) (at_place fresh stack merge whole new object there (Held (Below layer path)) e).0
+          (ap (λ t. t.tree.node u) (at_place fresh stack merge whole new object there (Held (Lower layer path)) e).0
           ∙ by (node_below stack layer path))
         where
           by : (o : Option (Node ℕ)) → (held_over fresh merge.upper o).tree.node u ≡ merge.upper.tree.node u
@@ -85,12 +85,12 @@ module _ (fresh : Fresh ℕ) (stack : Stack ℕ) (merge : Merge ℕ) (whole : Is
       at (Held (Upper u), e) =
           ap (λ m. cuts (view_in m.upper stack.directory) way)
           (stays fresh stack merge whole object (ap (λ o. is_some (upper_object o)) e.0))
-      at (Held (Below layer path), e) =
+      at (Held (Lower layer path), e) =
           same_cuts stack merge c whole whole_now way directory is.0
           (λ front rest f. ap (λ files. number_at_path files front) files_now)
           (λ front rest n f leads.
           hides_kept stack merge c whole whole_now n
-          (held_have_their_copies fresh stack merge whole new object n (Below layer path) there e
+          (held_have_their_copies fresh stack merge whole new object n (Lower layer path) there e
           (λ same. e.1 front (leads ∙ ap Some same)))
           (λ u r. held_alike layer path e u (whole.shown.upper_there n u r)))
 
@@ -110,7 +110,7 @@ pub not_named : (files : FileTree ℕ) (d : ℕ) (w : List ℕ) (way front rest 
 not_named files d w way [] rest e none = refl
 not_named files d w way (word ∷ front) rest e none =
     fails (names_entry (view_in files files.tree.root) d w (word ∷ front))
-    (λ t. true≢false (sym (front_passes (names_entry (view_in files files.tree.root) d w) way (word ∷ front) rest e
+    (λ t. true≢false (sym (prefix_passes (names_entry (view_in files files.tree.root) d w) way (word ∷ front) rest e
     (cons_is_not_empty word front) t) ∙ none))
 
 pub marked_hides : (files : FileTree ℕ) (c : ℕ) (b : Bool) → b ≡ true → is_some (files.tree.node c) ≡ true

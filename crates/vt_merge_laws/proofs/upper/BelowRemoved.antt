@@ -4,7 +4,7 @@ use Rattle.vt_spec.specs.FileTree.{FileTree}
 use Rattle.vt_spec.specs.Language.Changes.{changed, node_with_mark, node_without_entry, with_inode, without_parent}
 use Rattle.vt_spec.specs.Language.Changes.Change.{Move}
 use Rattle.vt_spec.specs.Lists.{Fresh, then_some}
-use Rattle.vt_spec.specs.Machine.CopyUp.{Merge, Stack, emptied, hides_directory, marked, moved, name_left_by, removed, shown_below, upper_directory_named, upper_of, whiteout_of}
+use Rattle.vt_spec.specs.Machine.CopyUp.{Merge, Stack, emptied, hides_directory, marked, moved, name_left_by, removed, shown_in_lowers_at, upper_directory_named, upper_of, whiteout_of}
 use Rattle.vt_spec.specs.Machine.Invariants.{number_at_path}
 use Rattle.vt_spec.specs.Machine.Views.{hides}
 use Rattle.vt_spec.specs.Machine.World.{upper_object}
@@ -21,10 +21,10 @@ use Rattle.vt_layer_laws.proofs.layers.CopyingParts.{entry_keeps, without_entry_
 use Rattle.vt_layer_laws.proofs.layers.LowersKept.{kept_elsewhere}
 use Rattle.vt_spec.proofs.Options.{none_is_some}
 use Rattle.vt_layer_laws.proofs.layers.ShownDirectories.{append_assoc, last_of, longer_is_not_empty}
-use Rattle.vt_layer_laws.proofs.layers.ShownFronts.{front_passes}
+use Rattle.vt_layer_laws.proofs.layers.ShownFronts.{prefix_passes}
 use Rattle.vt_layer_laws.proofs.layers.ShownPaths.{not_empty, one_path}
 use Rattle.vt_layer_laws.proofs.views.After.{fails}
-use Rattle.vt_layer_laws.proofs.views.Below.{way_goes_elsewhere}
+use Rattle.vt_layer_laws.proofs.views.Lower.{way_goes_elsewhere}
 use Rattle.vt_layer_laws.proofs.views.Moves.{led_parts, moved_leads_on, old_leads_nowhere, through_is_split}
 use Rattle.vt_layer_laws.proofs.views.Names.{alike_after, alike_both, alike_same, names_leave_inodes, no_entries, remove_takes_path}
 use Rattle.vt_overlay_laws.specs.WhatIsShown.{IsWhole}
@@ -35,7 +35,7 @@ use Rattle.vt_overlay_laws.proofs.steps.WholeLinked.{file_hides}
 use Rattle.vt_overlay_laws.proofs.steps.WholeNames.{directory_above, entry_named_so, through_bare, through_free}
 use Rattle.vt_merge_laws.specs.UpperChanges.{LeadsToDirectory, seen_below}
 use Rattle.vt_merge_laws.specs.BelowChanges.{LiesUnder}
-use Rattle.vt_merge_laws.proofs.upper.BelowKept.{HidesAsBefore, hides_kept, kept_below, led_is, none_below, same_cuts, uncut_front, under_mark}
+use Rattle.vt_merge_laws.proofs.upper.BelowKept.{HidesAsBefore, hides_kept, kept_below, led_is, none_below, same_cuts, uncut_prefix, under_mark}
 use Rattle.vt_merge_laws.proofs.upper.BelowMade.{marked_hides, not_named}
 
 -- Paths under a name of a directory go through its entry, and the other way.
@@ -49,7 +49,7 @@ module _ (stack : Stack ℕ) (m : Merge ℕ) (whole : IsWhole stack m) (path : L
         (path ++ w ∷ []) ++ last.0,
         last.1,
         append_assoc (path ++ w ∷ []) last.0 (last.1 ∷ []) ∙ ap (λ r. (path ++ w ∷ []) ++ r) last.2 ∙ under.2,
-        front_passes (names_entry (view_in m.files m.files.tree.root) d w) ((path ++ w ∷ []) ++ last.0)
+        prefix_passes (names_entry (view_in m.files m.files.tree.root) d w) ((path ++ w ∷ []) ++ last.0)
             (path ++ w ∷ []) last.0 refl (longer_is_not_empty path w)
             (entry_named_so m.files m.files.tree.root d w path is.0),
       )
@@ -97,9 +97,10 @@ module _ (fresh : Fresh ℕ) (stack : Stack ℕ) (m : Merge ℕ) (whole : IsWhol
 
   alike : (u : ℕ) → is_some (m.upper.tree.node u) ≡ true → IsAlike (m.upper.tree.node u) (later.upper.tree.node u)
   alike u used =
-      let left = name_left_by nat_eq (is_some (shown_below nat_eq stack m d w)) fresh stack m.upper (upper_of m d) w in
+      let left = name_left_by nat_eq (is_some (shown_in_lowers_at nat_eq stack m d w)) fresh stack m.upper
+      (upper_of m d) w in
       alike_both (m.upper.tree.node u) (left.tree.node u) _
-      (left_alike fresh stack m.upper (is_some (shown_below nat_eq stack m d w)) (upper_of m d) w u
+      (left_alike fresh stack m.upper (is_some (shown_in_lowers_at nat_eq stack m d w)) (upper_of m d) w u
       (λ same. true≢false (sym used ∙ ap (λ k. is_some (m.upper.tree.node k)) same ∙ ap is_some vacant)))
       (emptied_alike left (upper_directory_named m d w) u)
 
@@ -146,7 +147,7 @@ module _ (fresh : Fresh ℕ) (stack : Stack ℕ) (m : Merge ℕ) (whole : IsWhol
   empty = emptied nat_eq m.upper (upper_directory_named m t new)
 
   abbrev unmarked : FileTree ℕ
-  unmarked = name_left_by nat_eq (is_some (shown_below nat_eq stack m f old)) fresh stack
+  unmarked = name_left_by nat_eq (is_some (shown_in_lowers_at nat_eq stack m f old)) fresh stack
       (changed nat_eq empty (Move (upper_of m f) old (upper_of m t) new uo)) (upper_of m f) old
 
   unmarked_alike : (u : ℕ) → u ≢ fresh 0 → IsAlike (m.upper.tree.node u) (unmarked.tree.node u)
@@ -156,7 +157,7 @@ module _ (fresh : Fresh ℕ) (stack : Stack ℕ) (m : Merge ℕ) (whole : IsWhol
       (alike_both (m.upper.tree.node u) (empty.tree.node u) (at_new.tree.node u)
       (emptied_alike m.upper (upper_directory_named m t new) u)
       (names_leave_inodes empty (Move (upper_of m f) old (upper_of m t) new uo) empty.tree.root u refl))
-      (left_alike fresh stack at_new (is_some (shown_below nat_eq stack m f old)) (upper_of m f) old u differ)
+      (left_alike fresh stack at_new (is_some (shown_in_lowers_at nat_eq stack m f old)) (upper_of m f) old u differ)
 
   not_white : (u : ℕ) → is_some (m.upper.tree.node u) ≡ true → u ≢ fresh 0
   not_white u used same =
@@ -200,9 +201,9 @@ module _ (fresh : Fresh ℕ) (stack : Stack ℕ) (m : Merge ℕ) (whole : IsWhol
       → number_at_path then_moved.files front ≡ number_at_path m.files front
   elsewhere way no_new no_old front rest is =
       number_else front
-      (uncut_front (names_entry (view_in m.files m.files.tree.root) t new) way front rest is no_new)
+      (uncut_prefix (names_entry (view_in m.files m.files.tree.root) t new) way front rest is no_new)
       ∙ ap (λ b. cond b None (number_at_path m.files front))
-      (uncut_front (names_entry (view_in m.files m.files.tree.root) f old) way front rest is no_old)
+      (uncut_prefix (names_entry (view_in m.files m.files.tree.root) f old) way front rest is no_old)
 
   -- what is moved is at no front of another way, if it is a directory, and hides what it hid, if it is none
   hiding : (way : List (List ℕ)) → through_old way ≡ false → (front rest : List (List ℕ)) (n : ℕ) → front ++ rest ≡ way
@@ -215,7 +216,7 @@ module _ (fresh : Fresh ℕ) (stack : Stack ℕ) (m : Merge ℕ) (whole : IsWhol
           let here = one_path m.files.tree whole.tree m.files.tree.root front (from ++ old ∷ []) o
           (leads ∙ ap Some same)
           (led-append m.files.tree m.files.tree.root from old f o from_leads may.named) d in
-          absurd (true≢false (sym (front_passes (names_entry (view_in m.files m.files.tree.root) f old) way
+          absurd (true≢false (sym (prefix_passes (names_entry (view_in m.files m.files.tree.root) f old) way
           (from ++ old ∷ []) rest (ap (λ p. p ++ rest) (sym here) ∙ is) (longer_is_not_empty from old)
           (entry_named_so m.files m.files.tree.root f old from from_leads)) ∙ no_old))
       own false d same =

@@ -3,7 +3,7 @@ use Rattle.std.proofs.Common.{◌≡◌, refl, sym, ap, subst, ◌∙◌, true�
 use Rattle.vt_spec.specs.FileTree.{FileTree}
 use Rattle.vt_spec.specs.Language.Changes.{Change}
 use Rattle.vt_spec.specs.Language.Changes.Change.{AddName, Make, Move, Remove}
-use Rattle.vt_spec.specs.Lists.{Fresh, evens, front_of, odds}
+use Rattle.vt_spec.specs.Lists.{Fresh, evens, without_last, odds}
 use Rattle.vt_spec.specs.Machine.CopyUp.{Merge, Stack, copied_up, is_directory_shown, merge_changed, upper_of}
 use Rattle.vt_spec.specs.Machine.Invariants.{number_at_path}
 use Rattle.vt_spec.specs.Machine.Views.{cuts}
@@ -17,7 +17,7 @@ use Rattle.vt_spec.proofs.Options.{none_is_some}
 use Rattle.vt_layer_laws.proofs.layers.ShownDirectories.{append_assoc, last_of}
 use Rattle.vt_layer_laws.proofs.layers.ShownFronts.{cons_is_not_empty}
 use Rattle.vt_layer_laws.proofs.layers.ShownPaths.{not_empty}
-use Rattle.vt_layer_laws.proofs.layers.UpperShown.{front_of_longer}
+use Rattle.vt_layer_laws.proofs.layers.UpperShown.{without_last_of_longer}
 use Rattle.vt_layer_laws.proofs.views.Moves.{led_parts}
 use Rattle.vt_layer_laws.proofs.views.Names.{no_entries}
 use Rattle.vt_layer_laws.proofs.layers.UpperLine.{has_entries}
@@ -268,7 +268,7 @@ below_stays fresh stack merge whole new change at path asked asks out =
           ∙ ap (is_directory_shown (layers_with stack later.upper)) seen
           ∙ directory_below_any (record { tree = later.upper.tree; directory = stack.directory })
           (record { tree = merge.upper.tree; directory = stack.directory }) stack.lowers path
-          (cuts (view_in merge.upper stack.directory) (front_of path)),
+          (cuts (view_in merge.upper stack.directory) (without_last path)),
     )
 
 pub below_ends : BelowEnds
@@ -329,8 +329,8 @@ under_front one other a b under =
     append_assoc (one ++ a ∷ []) last.0 (last.1 ∷ []) ∙ ap (λ r. (one ++ a ∷ []) ++ r) last.2 ∙ under.2 in (
       last.0,
       sym (append_assoc one (a ∷ []) last.0)
-          ∙ sym (front_of_longer ((one ++ a ∷ []) ++ last.0) last.1)
-          ∙ ap front_of split ∙ front_of_longer other b,
+          ∙ sym (without_last_of_longer ((one ++ a ∷ []) ++ last.0) last.1)
+          ∙ ap without_last split ∙ without_last_of_longer other b,
     )
 
 module _ (merge : Merge ℕ) (from_path to_path : List (List ℕ)) (f t o : ℕ) (old new : List ℕ)

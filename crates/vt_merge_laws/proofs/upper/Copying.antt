@@ -2,13 +2,13 @@
 use Rattle.std.proofs.Common.{arith, ◌≡◌, ◌≤◌, refl, sym, ap, subst, ◌∙◌, true≢false, ℕ, zero, suc, ◌+◌, nat_eq, Bool, true, false, List, [], ◌∷◌, ◌++◌, length, map, reverse, Option, Some, None, is_some, option_and_then, unwrap_or}
 use mathlib.Core.List.{reverse-cons}
 use Rattle.vt_spec.specs.FileTree.{FileTree, a_name, named_parent}
-use Rattle.vt_spec.specs.Lists.{Fresh, chain, folded, front_of, fronts, then_some}
+use Rattle.vt_spec.specs.Lists.{Fresh, chain, folded, without_last, prefixes, then_some}
 use Rattle.vt_spec.specs.Machine.CopyUp.{Merge, Stack, copied_content, copied_each, copied_up, copy_named, copy_of, copy_of_node, copy_parent, directories_to, is_in_upper, line_by, line_to, upper_of}
 use Rattle.vt_spec.specs.Machine.Invariants.{ListsNumbers, SameObject, number_at_path, same_content}
 use Rattle.vt_spec.specs.TreeInvariant.{IsDirectory, IsTree, entry_at, led}
 use Rattle.vt_layer_laws.proofs.layers.UpperChain.{depth_bound, up_at_root, up_from}
 use Rattle.vt_layer_laws.proofs.layers.UpperLine.{ReachedIn, has_entries, is_reached_in, named_so}
-use Rattle.vt_layer_laws.proofs.layers.UpperShown.{front_of_longer, has_a_name}
+use Rattle.vt_layer_laws.proofs.layers.UpperShown.{without_last_of_longer, has_a_name}
 use Rattle.vt_layer_laws.specs.Layers.ChangesUpper.{StandsInUpper}
 use Rattle.vt_layer_laws.proofs.layers.ShownDirectories.{last_of}
 use Rattle.vt_layer_laws.proofs.layers.ShownNames.{last_name}
@@ -258,9 +258,9 @@ module _ (fresh : Fresh ℕ) (stack : Stack ℕ) (m : Merge ℕ) (whole : IsWhol
   abbrev path : List (List ℕ)
   path = front ++ name ∷ []
 
-  parent_is : object_above stack m.upper (front_of path) ≡ upper_of m parent
+  parent_is : object_above stack m.upper (without_last path) ≡ upper_of m parent
   parent_is =
-      ap (object_above stack m.upper) (front_of_longer front name)
+      ap (object_above stack m.upper) (without_last_of_longer front name)
       ∙ ap (λ o. unwrap_or o 0) (named_above stack m whole front parent (upper_of m parent) above
       (upper_real m parent stands))
 
@@ -308,19 +308,19 @@ module _ (fresh : Fresh ℕ) (stack : Stack ℕ) (m : Merge ℕ) (whole : IsWhol
           (led_none fresh stack m whole object there path leads low))
 
 -- Fronts of a longer path
-fronts_longer : (path : List (List ℕ)) (name : List ℕ)
-    → fronts (path ++ name ∷ []) ≡ fronts path ++ (path ++ name ∷ []) ∷ []
-fronts_longer [] name = refl
-fronts_longer (first ∷ path) name =
-    ap (λ l. (first ∷ []) ∷ map (λ front. first ∷ front) l) (fronts_longer path name)
-    ∙ ap (λ l. (first ∷ []) ∷ l) (map-append (λ front. first ∷ front) (fronts path) ((path ++ name ∷ []) ∷ []))
+prefixes_longer : (path : List (List ℕ)) (name : List ℕ)
+    → prefixes (path ++ name ∷ []) ≡ prefixes path ++ (path ++ name ∷ []) ∷ []
+prefixes_longer [] name = refl
+prefixes_longer (first ∷ path) name =
+    ap (λ l. (first ∷ []) ∷ map (λ front. first ∷ front) l) (prefixes_longer path name)
+    ∙ ap (λ l. (first ∷ []) ∷ l) (map-append (λ front. first ∷ front) (prefixes path) ((path ++ name ∷ []) ∷ []))
 
 pub copied_longer : (fresh : Fresh ℕ) (stack : Stack ℕ) (upper : FileTree ℕ) (path : List (List ℕ)) (name : List ℕ)
     → copied_to fresh stack upper (path ++ name ∷ []) ≡ copied_at fresh stack (copied_to fresh stack upper path)
     (path ++ name ∷ [])
 copied_longer fresh stack upper path name =
-    ap (folded (copied_at fresh stack) upper) (fronts_longer path name)
-    ∙ folded-snoc (copied_at fresh stack) upper (fronts path) (path ++ name ∷ [])
+    ap (folded (copied_at fresh stack) upper) (prefixes_longer path name)
+    ∙ folded-snoc (copied_at fresh stack) upper (prefixes path) (path ++ name ∷ [])
 
 -- where the upper layer has the object of a path, nothing is copied
 led_before : (tree : Tree ℕ) (from : ℕ) (path : List (List ℕ)) (name : List ℕ)

@@ -3,14 +3,14 @@ use Rattle.std.proofs.Common.{arith, ◌≡◌, ◌≢◌, ◌<◌, refl, sym, a
 use Rattle.vt_spec.specs.FileTree.{FileTree, a_name}
 use Rattle.vt_spec.specs.Language.Changes.{changed, with_inode}
 use Rattle.vt_spec.specs.Language.Changes.Change.{Make}
-use Rattle.vt_spec.specs.Lists.{Fresh, front_of, last_or, then_some}
+use Rattle.vt_spec.specs.Lists.{Fresh, without_last, last_or, then_some}
 use Rattle.vt_spec.specs.Machine.Layers.{Shown, shown}
 use Rattle.vt_spec.specs.Machine.Merging.{real_object}
 use Rattle.vt_spec.specs.Machine.Views.{cuts, hides, node_led}
 use Rattle.vt_spec.specs.Machine.CopyUp.{Merge, Stack, copied_up, copy_of, directories_to, is_in_upper, line_to, upper_of}
 use Rattle.vt_spec.specs.Machine.Invariants.{SameObject, number_at_path}
 use Rattle.vt_spec.specs.Machine.World.{Real, upper_object}
-use Rattle.vt_spec.specs.Machine.World.Real.{Below, Upper}
+use Rattle.vt_spec.specs.Machine.World.Real.{Lower, Upper}
 use Rattle.vt_spec.specs.Tree.{Node, is_directory_node, node_with_entry}
 use Rattle.vt_spec.specs.TreeInvariant.{IsDirectory, IsTree, entry_at, led}
 use Rattle.vt_spec.proofs.Nodes.{directory_used, is_some-node_with_entry, node_other}
@@ -20,9 +20,9 @@ use Rattle.vt_layer_laws.proofs.layers.ShownDirectories.{append_assoc, last_of, 
 use Rattle.vt_layer_laws.proofs.layers.ShownNames.{last_name}
 use Rattle.vt_layer_laws.proofs.layers.ShownPaths.{last_of_longer, length_longer, not_empty, one_path}
 use Rattle.vt_layer_laws.proofs.layers.UpperLine.{has_entries, is_reached_in, named_so}
-use Rattle.vt_layer_laws.proofs.layers.UpperShown.{front_of_longer, has_a_name, way_to}
-use Rattle.vt_layer_laws.proofs.views.Below.{is_named}
-use Rattle.vt_layer_laws.proofs.views.Fronts.{fronts_agree, hides_so, hiding_alike}
+use Rattle.vt_layer_laws.proofs.layers.UpperShown.{without_last_of_longer, has_a_name, way_to}
+use Rattle.vt_layer_laws.proofs.views.Lower.{is_named}
+use Rattle.vt_layer_laws.proofs.views.Fronts.{prefixes_agree, hides_so, hiding_alike}
 use Rattle.vt_layer_laws.proofs.views.Moves.{led_parts}
 use Rattle.vt_layer_laws.proofs.views.Names.{make_adds_inode, make_adds_path}
 use Rattle.vt_overlay_laws.specs.WhatIsShown.{IsWhole, inode_behind, layers_under}
@@ -153,7 +153,7 @@ module _ (fresh : Fresh ℕ) (distinct : (j k : ℕ) → fresh j ≡ fresh k →
       → ((rest : List (List ℕ)) → path ++ rest ≢ other)
       → cuts (view_in one_more stack.directory) other ≡ cuts (view_in before stack.directory) other
   cut_elsewhere top other out =
-      fronts_agree (λ f. hides (node_led (view_in before stack.directory) f))
+      prefixes_agree (λ f. hides (node_led (view_in before stack.directory) f))
       (λ f. hides (node_led (view_in one_more stack.directory) f)) other
       (λ f is. at f (λ same. out is.0 (ap (λ p. p ++ is.0) (sym same) ∙ is.1)))
     where
@@ -186,8 +186,9 @@ module _ (fresh : Fresh ℕ) (distinct : (j k : ℕ) → fresh j ≡ fresh k →
       let last = last_of (word ∷ rest) (not_empty word rest) in
       let split : (other ++ last.0) ++ last.1 ∷ [] ≡ path = append_assoc other last.0 (last.1 ∷ [])
       ∙ ap (λ r. other ++ r) last.2 ∙ is in
-      let before_is : other ++ last.0 ≡ front = sym (front_of_longer (other ++ last.0) last.1) ∙ ap front_of split
-      ∙ front_of_longer front name in
+      let before_is : other ++ last.0 ≡ front = sym (without_last_of_longer (other ++ last.0) last.1)
+      ∙ ap without_last split
+      ∙ without_last_of_longer front name in
       other_leads other
       (λ same. let all = sym (longer_by other (word ∷ rest))
       ∙ ap length (is ∙ sym same) in let no : ⊥ = omega (arith, all) in no)
@@ -208,7 +209,7 @@ module _ (stack : Stack ℕ) (merge : Merge ℕ) (whole : IsWhole stack merge) (
     (low : is_in_upper merge object ≡ false) where
   below_is : (path : List (List ℕ)) → is_some (merge.files.tree.node object) ≡ true
       → number_at_path merge.files path ≡ Some object
-      → (layer : ℕ) × (merge.real object ≡ Some (Below layer path))
+      → (layer : ℕ) × (merge.real object ≡ Some (Lower layer path))
   below_is path there leads = by (shown (layers_under stack merge) path) refl
     where
       no_real : (o : Option (Real ℕ)) → merge.real object ≡ o → o ≡ None → ⊥
@@ -219,12 +220,12 @@ module _ (stack : Stack ℕ) (merge : Merge ℕ) (whole : IsWhole stack merge) (
 
       at : (layer found : ℕ) → merge.real object ≡ Some
           (real_object true layer (record { path = path; seen = record { layer = layer; object = found } }))
-          → (depth : ℕ) × (merge.real object ≡ Some (Below depth path))
+          → (depth : ℕ) × (merge.real object ≡ Some (Lower depth path))
       at zero found e = absurd (true≢false (sym (ap (λ r. is_some (upper_object r)) e) ∙ low))
       at (suc layer) found e = (layer, e)
 
       by : (o : Option (Shown ℕ)) → shown (layers_under stack merge) path ≡ o
-          → (layer : ℕ) × (merge.real object ≡ Some (Below layer path))
+          → (layer : ℕ) × (merge.real object ≡ Some (Lower layer path))
       by None e = absurd (no_real (merge.real object) refl (whole.shown.names path object leads ∙ ap (real_by path) e))
       by (Some seen) e = at seen.layer seen.object (whole.shown.names path object leads ∙ ap (real_by path) e)
 
@@ -238,7 +239,7 @@ module _ (stack : Stack ℕ) (merge : Merge ℕ) (whole : IsWhole stack merge) (
     where
       way_in : List (List ℕ) → Real ℕ → List (List ℕ)
       way_in default (Upper u) = default
-      way_in default (Below layer way) = way
+      way_in default (Lower layer way) = way
 
 -- An object at a path is copied with what is shown at its fronts.
 module _ (fresh : Fresh ℕ) (distinct : (j k : ℕ) → fresh j ≡ fresh k → j ≡ k) (stack : Stack ℕ) (merge : Merge ℕ)
@@ -310,10 +311,11 @@ module _ (fresh : Fresh ℕ) (distinct : (j k : ℕ) → fresh j ≡ fresh k →
             found in
             let same = one_way stack merge whole object low (way.0 ++ other.1 ∷ [])
             (front ++ name ∷ []) there other_leads leads in
-            let fronts_same = sym (front_of_longer way.0 other.1) ∙ ap front_of same ∙ front_of_longer front name in
+            let prefixes_same = sym (without_last_of_longer way.0 other.1) ∙ ap without_last same
+            ∙ without_last_of_longer front name in
             let names_same = sym (last_of_longer way.0 other.1 []) ∙ ap (last_or []) same
             ∙ last_of_longer front name [] in
-            let parents_same = same_Some other.0 parent (sym way.1 ∙ ap at fronts_same ∙ above) in
+            let parents_same = same_Some other.0 parent (sym way.1 ∙ ap at prefixes_same ∙ above) in
             λ i. (parents_same i, names_same i)
 
         by : (o : Option (ℕ × List ℕ)) → a_name nat_eq merge.files object ≡ o → o ≡ Some (parent, name)
@@ -348,8 +350,8 @@ module _ (fresh : Fresh ℕ) (distinct : (j k : ℕ) → fresh j ≡ fresh k →
     up : led_above stack m.upper front ≡ Some (upper_of m parent)
     up = named_above stack m line.copied.whole front parent (upper_of m parent) above_now (upper_real m parent stands)
 
-    above_is : object_above stack m.upper (front_of (front ++ name ∷ [])) ≡ upper_of m parent
-    above_is = ap (object_above stack m.upper) (front_of_longer front name) ∙ ap (λ o. unwrap_or o 0) up
+    above_is : object_above stack m.upper (without_last (front ++ name ∷ [])) ≡ upper_of m parent
+    above_is = ap (object_above stack m.upper) (without_last_of_longer front name) ∙ ap (λ o. unwrap_or o 0) up
 
     up_directory : IsDirectory m.upper.tree (upper_of m parent)
     up_directory =

@@ -3,17 +3,17 @@
 use Rattle.std.proofs.Common.{arith, ◌≡◌, ◌≢◌, refl, sym, ap, subst, ◌∙◌, true≢false, ℕ, suc, ◌+◌, nat_eq, eq-eqb, ne_eqb, Bool, true, false, cond, not, List, [], ◌∷◌, ◌++◌, length, map, Option, Some, None, is_some, slice_get, unwrap_or}
 use Rattle.vt_spec.specs.FileTree.{FileTree, a_name, is_kind_in}
 use Rattle.vt_spec.specs.Language.Changes.{with_inode}
-use Rattle.vt_spec.specs.Lists.{Fresh, front_of, holds_of, then_some, when}
+use Rattle.vt_spec.specs.Lists.{Fresh, without_last, holds_of, then_some, when}
 use Rattle.vt_spec.specs.Machine.CopyUp.{Merge, Stack, copied_content, copied_each, copied_up, copy_named, copy_of, copy_parent, is_directory_shown, is_in_upper, line_by, upper_of}
 use Rattle.vt_spec.specs.Machine.Invariants.{SameObject, number_at_path}
 use Rattle.vt_spec.specs.Machine.Layers.{OpenLayer, Shown, view_of}
 use Rattle.vt_spec.specs.Machine.Views.{View, cuts, shown_from, shown_over}
 use Rattle.vt_spec.specs.Machine.World.{Real, upper_object}
-use Rattle.vt_spec.specs.Machine.World.Real.{Below, Upper}
+use Rattle.vt_spec.specs.Machine.World.Real.{Lower, Upper}
 use Rattle.vt_spec.specs.Tree.{Node, is_directory_node}
 use Rattle.vt_layer_laws.specs.Layers.Views.{view_in}
 use Rattle.vt_layer_laws.proofs.layers.UpperLine.{is_reached_in, named_so}
-use Rattle.vt_layer_laws.proofs.layers.UpperShown.{front_of_longer, way_to}
+use Rattle.vt_layer_laws.proofs.layers.UpperShown.{without_last_of_longer, way_to}
 use Rattle.vt_spec.proofs.Trees.{led-append}
 use Rattle.vt_overlay_laws.specs.WhatIsShown.{IsWhole, inode_behind}
 use Rattle.vt_overlay_laws.proofs.steps.WholeAttributes.{upper_real}
@@ -71,7 +71,7 @@ module _ (fresh : Fresh ℕ) (stack : Stack ℕ) (merge : Merge ℕ) (whole : Is
   held (Upper u) is =
       let same = stays fresh stack merge whole object (ap (λ o. is_some (upper_object o)) is.0) in
       (ap (λ m. m.upper) same, ap (λ m. upper_object (m.real object)) same ∙ ap upper_object is.0)
-  held (Below layer way) is = by (merge.files.tree.node object) refl (node_below stack layer way) refl
+  held (Lower layer way) is = by (merge.files.tree.node object) refl (node_below stack layer way) refl
       (subst (λ o. SameObject (merge.files.tree.node object) (then_some o (inode_behind stack merge))) is.0
       (whole.shown.real_objects object))
     where
@@ -86,7 +86,7 @@ module _ (fresh : Fresh ℕ) (stack : Stack ℕ) (merge : Merge ℕ) (whole : Is
 
       by : (o : Option (Node ℕ)) → merge.files.tree.node object ≡ o → (s : Option (Node ℕ))
           → node_below stack layer way ≡ s
-          → SameObject (merge.files.tree.node object) (node_below stack layer way) → Says (Held (Below layer way))
+          → SameObject (merge.files.tree.node object) (node_below stack layer way) → Says (Held (Lower layer way))
       by None e s f same = absurd (true≢false (sym there ∙ ap is_some e))
       by (Some node) e None f same = absurd
           (λ-no (subst (λ o. SameObject o None) e (subst (SameObject (merge.files.tree.node object)) f same)))
@@ -116,8 +116,8 @@ module _ (fresh : Fresh ℕ) (stack : Stack ℕ) (merge : Merge ℕ) (whole : Is
   at_place (Named path) is = at_path path is
   at_place (Held real) is = held real is
 
-pub copies_are_of_fronts : CopiesAreOfFronts
-copies_are_of_fronts fresh stack merge object place whole new there is =
+pub copies_are_of_prefixes : CopiesAreOfFronts
+copies_are_of_prefixes fresh stack merge object place whole new there is =
     at_place fresh stack merge whole new object there place is
 
 -- what a path of an overlay leads to is there
@@ -128,8 +128,8 @@ path_there stack merge whole path object leads =
     led_is_there (record { tree = merge.files.tree; directory = merge.files.tree.root }) whole.tree
     whole.tree.root_directory path object leads
 
-pub fronts_lead_to_copies : FrontsLeadToCopies
-fronts_lead_to_copies fresh stack merge whole new path some = by (number_at_path merge.files path) refl some
+pub prefixes_lead_to_copies : FrontsLeadToCopies
+prefixes_lead_to_copies fresh stack merge whole new path some = by (number_at_path merge.files path) refl some
   where
     by : (o : Option ℕ) → number_at_path merge.files path ≡ o → is_some o ≡ true
         → ((front rest : List (List ℕ)) → front ++ rest ≡ path
@@ -192,16 +192,16 @@ module _ (stack : Stack ℕ) (one other : FileTree ℕ) (way : List (List ℕ)) 
 
   pub seen_same : seen_below stack other (way ++ name ∷ []) ≡ seen_below stack one (way ++ name ∷ [])
   seen_same =
-      ap (λ p. cond (cuts (view_in other stack.directory) p) None lower_seen) (front_of_longer way name)
+      ap (λ p. cond (cuts (view_in other stack.directory) p) None lower_seen) (without_last_of_longer way name)
       ∙ ap (λ b. cond b None lower_seen) cut
-      ∙ ap (λ p. cond (cuts (view_in one stack.directory) p) None lower_seen) (sym (front_of_longer way name))
+      ∙ ap (λ p. cond (cuts (view_in one stack.directory) p) None lower_seen) (sym (without_last_of_longer way name))
 
   pub directory_same : directory_below stack other (way ++ name ∷ []) ≡ directory_below stack one (way ++ name ∷ [])
   directory_same =
       ap (is_directory_shown (layers_with stack other)) seen_same
       ∙ directory_below_any (record { tree = other.tree; directory = stack.directory })
       (record { tree = one.tree; directory = stack.directory })
-      stack.lowers (way ++ name ∷ []) (cuts (view_in one stack.directory) (front_of (way ++ name ∷ [])))
+      stack.lowers (way ++ name ∷ []) (cuts (view_in one stack.directory) (without_last (way ++ name ∷ [])))
 
 pub copies_hide_nothing : CopiesHideNothing
 copies_hide_nothing fresh stack merge whole new path way directory name some leads = by
@@ -242,8 +242,8 @@ led_real stack merge whole path number u leads led = by (is_in_upper merge numbe
         (upper_real merge number stands)) ∙ led))
     by false low = none_is_some u (sym (led_none (λ k. k) stack merge whole number there path leads low) ∙ led)
 
-pub fronts_have_their_copies : FrontsHaveTheirCopies
-fronts_have_their_copies fresh stack merge whole new path object leads =
+pub prefixes_have_their_copies : FrontsHaveTheirCopies
+prefixes_have_their_copies fresh stack merge whole new path object leads =
     let there = path_there stack merge whole path object leads in
     let copied = copied_along fresh new.distinct stack merge whole new.unused
     (length path) path object refl there leads in

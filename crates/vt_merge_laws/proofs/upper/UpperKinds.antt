@@ -4,9 +4,9 @@ use Rattle.vt_spec.specs.FileTree.{FileTree}
 use Rattle.vt_spec.specs.Language.Changes.{changed, changed_node, content_with_parent, node_with_attr, node_with_mark, with_moved}
 use Rattle.vt_spec.specs.Language.Changes.Change.{AddName, Make}
 use Rattle.vt_spec.specs.Lists.{Fresh, evens, odds, then_some, when}
-use Rattle.vt_spec.specs.Machine.CopyUp.{Merge, Stack, changed_both, copied_each, copied_up, copy_of, emptied, hides_directory, is_directory_shown, is_in_upper, line_to, marked, name_left_by, path_to, shown_below, upper_directory_named, upper_of}
+use Rattle.vt_spec.specs.Machine.CopyUp.{Merge, Stack, changed_both, copied_each, copied_up, copy_of, emptied, hides_directory, is_directory_shown, is_in_upper, line_to, marked, name_left_by, path_to, shown_in_lowers_at, upper_directory_named, upper_of}
 use Rattle.vt_spec.specs.Machine.Invariants.{number_at_path}
-use Rattle.vt_spec.specs.Machine.Layers.{below}
+use Rattle.vt_spec.specs.Machine.Layers.{shown_in_lowers}
 use Rattle.vt_spec.specs.Machine.World.{upper_object}
 use Rattle.vt_spec.specs.Machine.World.Real.{Upper}
 use Rattle.vt_spec.specs.Tree.{Node, is_directory_node, node_with_bytes}
@@ -42,8 +42,9 @@ module _ (stack : Stack ℕ) (c : Merge ℕ) (whole : IsWhole stack c) where
     path_is : path_to nat_eq c directory name ≡ path ++ name ∷ []
     path_is = path_to_is c whole.tree whole.numbers path directory name leads.0 leads.1
 
-    pub below_is : shown_below nat_eq stack c directory name ≡ seen_below stack c.upper (path ++ name ∷ [])
-    below_is = ap (λ p. below (record { tree = c.upper.tree; directory = stack.directory }) stack.lowers p) path_is
+    pub below_is : shown_in_lowers_at nat_eq stack c directory name ≡ seen_below stack c.upper (path ++ name ∷ [])
+    below_is = ap (λ p. shown_in_lowers
+        (record { tree = c.upper.tree; directory = stack.directory }) stack.lowers p) path_is
 
     pub hides_is : hides_directory nat_eq stack c directory name ≡ directory_below stack c.upper (path ++ name ∷ [])
     hides_is = ap (is_directory_shown (layers_with stack c.upper)) below_is

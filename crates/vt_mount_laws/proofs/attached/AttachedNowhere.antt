@@ -2,7 +2,7 @@
 use Rattle.std.proofs.Common.{◌≡◌, refl, sym, ap, ◌∙◌, true, false, nat_eq, ℕ, Bool, List, None, Option, Some, [], flat_map, is_some, map, not, true≢false, ⊎_elim, ◌&&◌, ◌++◌, ◌∷◌, ◌||◌}
 use Rattle.std.proofs.lemmas.Bool.{and_parts}
 use Rattle.vt_spec.proofs.Lists.{Among, among-append, among-from_filter, among-from_flat_map, among-from_map, among_from_list_all, list_all_from_among}
-use Rattle.vt_spec.specs.Machine.Attach.{Copies, added_mounts, attached_by, bind_tree, copies_at, copy_at, pushed_onto, reaches, receiver_below, receivers_of, takes_part, with_moved_mounts}
+use Rattle.vt_spec.specs.Machine.Attach.{Copies, added_mounts, attached_by, bind_tree, copies_at, copy_at, pushed_onto, reaches, receiver_stood_on, receivers_of, takes_part, with_moved_mounts}
 use Rattle.vt_spec.specs.Lists.{holds_of, rest_of}
 use Rattle.vt_spec.specs.Machine.Mounts.{Location, Mount, same_location, stands_at}
 use Rattle.vt_spec.specs.Machine.Outcome.Mounting.{moved_tree, new_mount, with_new_filesystem}
@@ -46,14 +46,14 @@ module _ (world : World ℕ) (new : Copies ℕ) (place : Location ℕ) (moves : 
 
   -- what is pushed up stood at a place
   push_fits : (mount : Mount ℕ) → IsFit mount → IsFit (push world new place moves mounts mount)
-  push_fits mount e = by (receiver_below nat_eq (graft world new place moves mounts) part_list mount) refl
+  push_fits mount e = by (receiver_stood_on nat_eq (graft world new place moves mounts) part_list mount) refl
     where
       is_there : {A : Type 0} (test : A → Bool) (found : Option A) → holds_of test found ≡ true → is_some found ≡ true
       is_there test None h = absurd (true≢false (sym h))
       is_there test (Some a) h = refl
 
       by : (part : Option (Mount ℕ))
-          → receiver_below nat_eq (graft world new place moves mounts) part_list mount ≡ part
+          → receiver_stood_on nat_eq (graft world new place moves mounts) part_list mount ≡ part
           → IsFit (pushed_onto nat_eq world new (graft world new place moves mounts) part_list mount part)
       by None f = e
       by (Some part) f =

@@ -4,7 +4,7 @@ use Rattle.std.specs.List.{list_any}
 use Rattle.std.specs.Prelude.{if◌then◌else◌, unwrap_or}
 use Rattle.std.proofs.lemmas.Option.{same_Some}
 use Rattle.vt_spec.proofs.Lists.{Among, all_from_among, among-append, chain_ends, chain_goes_on, last_of_chain, among-append_left, among-append_right, among-flat_map, among-from_filter, among-from_flat_map, among-from_map, among-map, among_from_all, among_from_list_all}
-use Rattle.vt_spec.specs.Machine.Attach.{Copies, Graft, Twig, attached_by, copies_at, copy_at, copy_number, graft_of, is_top, parts_of, place_on_copy, pushed_onto, pushed_up, receiver_below, receivers_of, takes_part, top_of_copies, twig_of}
+use Rattle.vt_spec.specs.Machine.Attach.{Copies, Graft, Twig, attached_by, copies_at, copy_at, copy_number, graft_of, is_top, parts_of, mount_point_on_copy, pushed_onto, pushed_up, receiver_stood_on, receivers_of, takes_part, top_of_copies, twig_of}
 use Rattle.vt_spec.specs.Lists.{chain, first_of_list, holds_of, last_or, rest_of}
 use Rattle.vt_spec.specs.Machine.Mounts.{Location, Mount, child_at, group_of, mount_in, root_of, same_location, stands_at}
 use Rattle.vt_spec.specs.Machine.Receives.{receivers, receives}
@@ -114,7 +114,8 @@ module _ (world : World ℕ) (new : Copies ℕ) (place : Location ℕ) (mounts :
   -- where the copy at a part stands: at the part for the top, else on the copy of its parent
   abbrev landing : Mount ℕ → Option (Location ℕ) → Bool → Location ℕ
   landing part parent first =
-      if first then place_at part else unwrap_or (option_map (place_on_copy nat_eq new tree part.number) parent) place
+      if first then place_at part else unwrap_or (option_map
+      (mount_point_on_copy nat_eq new tree part.number) parent) place
 
   abbrev after : World ℕ
   after = attached_by nat_eq world new place false mounts
@@ -182,7 +183,7 @@ module _ (world : World ℕ) (new : Copies ℕ) (place : Location ℕ) (mounts :
             ∙ found_itself mounts own origin m in
             let parent = hanging mounts on.mount later in
             let place_is : origin.mount_point ≡ Some on = ap (λ (x : Mount ℕ). x.mount_point) (sym it) ∙ f in
-            on_parent (copy part origin).number (place_on_copy nat_eq new tree part.number on)
+            on_parent (copy part origin).number (mount_point_on_copy nat_eq new tree part.number on)
             (ap (λ (x : Mount ℕ). x.mount_point) found
             ∙ ap (λ b. Some (landing part origin.mount_point b)) e
             ∙ ap (λ p. Some (landing part p false)) place_is)
@@ -238,10 +239,11 @@ module _ (world : World ℕ) (new : Copies ℕ) (place : Location ℕ) (mounts :
           ∙ at_no_place list
   stands_after nowhere number (on_parent it on e f stands) is =
       let parent_is = parent_there nowhere it on e f in
-      by (receiver_below nat_eq tree parts (mount_numbered nat_eq world it)) refl parent_is
+      by (receiver_stood_on nat_eq tree parts (mount_numbered nat_eq world it)) refl parent_is
       (stands_after nowhere on.mount stands parent_is)
     where
-      by : (receiver : Option (Mount ℕ)) → receiver_below nat_eq tree parts (mount_numbered nat_eq world it) ≡ receiver
+      by : (receiver : Option (Mount ℕ)) → receiver_stood_on nat_eq tree parts (mount_numbered nat_eq world it)
+          ≡ receiver
           → is_mount world on.mount ≡ true → Stands nat_eq after on.mount → Stands nat_eq after it
       by None none parent_is parent =
           on_parent it on

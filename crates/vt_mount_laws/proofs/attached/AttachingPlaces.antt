@@ -6,7 +6,7 @@ use Rattle.std.proofs.lemmas.Bool.{false_from_ne_true, or_from}
 use Rattle.std.proofs.lemmas.List.{length-map}
 use Rattle.std.proofs.lemmas.Option.{same_Some}
 use Rattle.vt_spec.proofs.Lists.{Among, among-append_left, among-append_right, among-flat_map, among-from_flat_map, among-from_map, among-map, among_from_all, chain_ends, chain_goes_on, is_among_numbers, last_of_chain, none_from_among, pair-map}
-use Rattle.vt_spec.specs.Machine.Attach.{Copies, Graft, Twig, attached_by, copies_at, copy_at, graft_of, is_top, parts_of, place_on_copy, pushed_onto, pushed_up, receiver_below, top_of_copies, twig_of}
+use Rattle.vt_spec.specs.Machine.Attach.{Copies, Graft, Twig, attached_by, copies_at, copy_at, graft_of, is_top, parts_of, mount_point_on_copy, pushed_onto, pushed_up, receiver_stood_on, top_of_copies, twig_of}
 use Rattle.vt_spec.specs.Lists.{any_pair, chain, first_of_list, holds_of, last_or, rest_of, same_option}
 use Rattle.vt_spec.specs.Machine.Mounts.{Location, Mount, child_at, group_of, mount_in, root_of, same_location, stands_at}
 use Rattle.vt_spec.specs.Machine.Run.{numbers_in_use}
@@ -16,7 +16,7 @@ use Rattle.vt_spec.specs.Machine.Invariants.Stands.{at_root, on_parent}
 use Rattle.vt_mount_laws.specs.Mounts.Attaching.{OneNumberAMount, is_mount, numbers_of}
 use Rattle.vt_mount_laws.specs.Mounts.Invariants.{NowhereOrAttached}
 use Rattle.vt_mount_laws.specs.Mounts.Copies.{ServeAsCopies}
-use Rattle.vt_mount_laws.specs.Mounts.Places.{OneMountAPlace}
+use Rattle.vt_mount_laws.specs.Mounts.MountPoints.{OneMountAMountPoint}
 use Rattle.vt_mount_laws.specs.Mounts.Standing.{AllStand}
 use Rattle.vt_mount_laws.proofs.attached.Attaching.{Hangs, all_stand_after, cover, hanging, parent_there, taker_there, top_among}
 use Rattle.vt_mount_laws.proofs.attached.Attaching.Hangs.{from_parent, from_top}
@@ -63,7 +63,7 @@ pub stand_together : (a b : Mount ℕ) (p : Location ℕ) → a.mount_point ≡ 
 stand_together a b p e f = one_place_of_two p a b e f
 
 -- of the mounts of a list no two have one place
-pub two_of : (mounts : List (Mount ℕ)) → OneMountAPlace mounts → (a b : Mount ℕ) → Among a mounts → Among b mounts
+pub two_of : (mounts : List (Mount ℕ)) → OneMountAMountPoint mounts → (a b : Mount ℕ) → Among a mounts → Among b mounts
     → nat_eq a.number b.number ≡ false → test a b ≡ false
 two_of mounts places a b m n differ = false_from_ne_true (test a b) (λ h.
     let t = one_place a b h in
@@ -231,7 +231,8 @@ module _ (world : World ℕ) (new : Copies ℕ) (place : Location ℕ) (mounts :
   -- where the copy at a part stands: at the part for the top, else on the copy of its parent
   abbrev landing : Mount ℕ → Option (Location ℕ) → Bool → Location ℕ
   landing part parent first =
-      if first then place_at part else unwrap_or (option_map (place_on_copy nat_eq new tree part.number) parent) place
+      if first then place_at part else unwrap_or (option_map
+      (mount_point_on_copy nat_eq new tree part.number) parent) place
 
   abbrev after : World ℕ
   after = attached_by nat_eq world new place false mounts
@@ -277,8 +278,8 @@ module _ (world : World ℕ) (new : Copies ℕ) (place : Location ℕ) (mounts :
   top_test origin =
       ap (λ (ms : List (Mount ℕ)). holds_of (same_origin (twig origin)) (first_of_list (map twig ms))) is_tree
 
-  copy_place_of : (part origin : Mount ℕ) → Among origin mounts → CopyPlace part origin
-  copy_place_of part origin m = by (nat_eq origin.number top.number) refl origin.number (hangs origin m) refl
+  copy_mount_point_of : (part origin : Mount ℕ) → Among origin mounts → CopyPlace part origin
+  copy_mount_point_of part origin m = by (nat_eq origin.number top.number) refl origin.number (hangs origin m) refl
     where
       placed : (b : Bool) → nat_eq origin.number top.number ≡ b
           → (copy part origin).mount_point ≡ Some (landing part origin.mount_point b)
@@ -343,7 +344,7 @@ module _ (world : World ℕ) (new : Copies ℕ) (place : Location ℕ) (mounts :
       let s = copied p x k in
       let t = copied q y l in
       subst (λ z. test z y ≡ false) (sym s.2) (subst (λ z. test (copy p s.0) z ≡ false) (sym t.2)
-      (by s.0 s.1 (copy_place_of p s.0 s.1) t.0 t.1 (copy_place_of q t.0 t.1)))
+      (by s.0 s.1 (copy_mount_point_of p s.0 s.1) t.0 t.1 (copy_mount_point_of q t.0 t.1)))
     where
       by : (a : Mount ℕ) → Among a mounts → CopyPlace p a → (b : Mount ℕ) → Among b mounts → CopyPlace q b
           → test (copy p a) (copy q b) ≡ false
@@ -369,7 +370,7 @@ module _ (world : World ℕ) (new : Copies ℕ) (place : Location ℕ) (mounts :
       → nat_eq b.number top.number ≡ false → nat_eq a.number b.number ≡ false → test a b ≡ false) where
     two_at_one : (part : Mount ℕ) → Among part parts → (a b : Mount ℕ) → Among a mounts → Among b mounts
         → nat_eq a.number b.number ≡ false → test (copy part a) (copy part b) ≡ false
-    two_at_one part m a b i j differ = by (copy_place_of part a i) (copy_place_of part b j)
+    two_at_one part m a b i j differ = by (copy_mount_point_of part a i) (copy_mount_point_of part b j)
       where
         by : CopyPlace part a → CopyPlace part b → test (copy part a) (copy part b) ≡ false
         by (at_part e f) (at_part g h) =
@@ -423,7 +424,7 @@ module _ (world : World ℕ) (new : Copies ℕ) (place : Location ℕ) (mounts :
 
     -- What was there: it stays, or goes onto the copy at the receiver where it stood
     data PushCase (mount : Mount ℕ) : Type 0 where
-      stays : push mount ≡ mount → receiver_below nat_eq tree parts mount ≡ None → PushCase mount
+      stays : push mount ≡ mount → receiver_stood_on nat_eq tree parts mount ≡ None → PushCase mount
       goes : (receiver origin : Mount ℕ) → Among receiver (rest_of parts) → Among origin mounts
           → mount.mount_point ≡ Some (place_at receiver)
           → (push mount).mount_point ≡ Some (top_at receiver)
@@ -436,9 +437,9 @@ module _ (world : World ℕ) (new : Copies ℕ) (place : Location ℕ) (mounts :
     top_copy part = among-map (made part) tree.twigs (twig top) (among-map twig mounts top top_in)
 
     push_case : (mount : Mount ℕ) → PushCase mount
-    push_case mount = by (receiver_below nat_eq tree parts mount) refl
+    push_case mount = by (receiver_stood_on nat_eq tree parts mount) refl
       where
-        by : (found : Option (Mount ℕ)) → receiver_below nat_eq tree parts mount ≡ found → PushCase mount
+        by : (found : Option (Mount ℕ)) → receiver_stood_on nat_eq tree parts mount ≡ found → PushCase mount
         by None e = stays (ap (pushed_onto nat_eq world new tree parts mount) e) e
         by (Some receiver) e =
             let found = found_in (λ part. stands_at nat_eq (place_at part) mount) (rest_of parts) receiver e in
@@ -468,7 +469,7 @@ module _ (world : World ℕ) (new : Copies ℕ) (place : Location ℕ) (mounts :
             subst (λ n. is_mount world n ≡ true) same
             (parent_there world new place mounts serve own one there hangs top others is_tree nowhere number at f g)
 
-    two_old : OneMountAPlace world.mounts → (a b : Mount ℕ) → Among a world.mounts → Among b world.mounts
+    two_old : OneMountAMountPoint world.mounts → (a b : Mount ℕ) → Among a world.mounts → Among b world.mounts
         → test a b ≡ false → test (push a) (push b) ≡ false
     two_old places a b m n differ = by (push_case a) (push_case b)
       where
@@ -538,7 +539,7 @@ module _ (world : World ℕ) (new : Copies ℕ) (place : Location ℕ) (mounts :
     old_and_copy free a m part x n k =
         let of = copied part x k in
         subst (λ z. test (push a) z ≡ false) (sym of.2)
-        (by of.0 of.1 (copy_place_of part of.0 of.1) (push_case a) (subst (λ z. Among z (copies part)) of.2 k))
+        (by of.0 of.1 (copy_mount_point_of part of.0 of.1) (push_case a) (subst (λ z. Among z (copies part)) of.2 k))
       where
         by : (origin : Mount ℕ) → Among origin mounts → CopyPlace part origin → PushCase a
             → Among (copy part origin) (copies part) → test (push a) (copy part origin) ≡ false
@@ -597,8 +598,8 @@ module _ (world : World ℕ) (new : Copies ℕ) (place : Location ℕ) (mounts :
                 ∙ subst (λ q. nat_eq (new.copy receiver.number second.number) (new.copy part.number q) ≡ false) same
                 (two_parts receiver part second parent (inr r) n u there_is differ))
 
-    pub places_after : OneMountAPlace world.mounts → child_at nat_eq world.mounts place ≡ None
-        → OneMountAPlace after.mounts
+    pub places_after : OneMountAMountPoint world.mounts → child_at nat_eq world.mounts place ≡ None
+        → OneMountAMountPoint after.mounts
     places_after places free =
         let old = map push world.mounts in
         let first = copies (mount_at nat_eq world place) in

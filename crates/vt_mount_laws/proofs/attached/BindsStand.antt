@@ -8,7 +8,7 @@ use Rattle.vt_spec.specs.Machine.Outcome.Mounting.{moved_tree, new_mount, with_n
 use Rattle.vt_spec.specs.Machine.World.{Filesystem, World}
 use Rattle.vt_spec.specs.Machine.Invariants.{Stands}
 use Rattle.vt_spec.specs.Machine.Invariants.Stands.{at_root, on_parent}
-use Rattle.vt_mount_laws.specs.Mounts.Standing.{AllStand, BindsKeepNumbers, BindsKeepPlaces, BindsKeepStanding, MovesKeepNumbers, NewMountsKeepNumbers, NewMountsKeepPlaces, NewMountsKeepStanding}
+use Rattle.vt_mount_laws.specs.Mounts.Standing.{AllStand, BindsKeepNumbers, BindsKeepMountPoints, BindsKeepStanding, MovesKeepNumbers, NewMountsKeepNumbers, NewMountsKeepMountPoints, NewMountsKeepStanding}
 use Rattle.vt_mount_laws.proofs.attached.Attaching.{Hangs, all_stand_after}
 use Rattle.vt_mount_laws.proofs.attached.Attaching.Hangs.{from_parent, from_top}
 use Rattle.vt_mount_laws.proofs.attached.AttachingPlaces.{places_after, two_of}
@@ -197,7 +197,7 @@ bind_there world source recursive x m differ =
     (λ l. l)
     (bind_there_or_source world source recursive x m)
 
-pub binds_keep_places : BindsKeepPlaces
+pub binds_keep_places : BindsKeepMountPoints
 binds_keep_places world fresh source place recursive serves one nowhere all there free places =
     let mounts = bind_tree nat_eq world source recursive in
     let top = bind_top world source recursive in
@@ -210,7 +210,7 @@ binds_keep_places world fresh source place recursive serves one nowhere all ther
     (bind_there world source recursive b n nor_top) differ)
     places free
 
-pub new_mounts_keep_places : NewMountsKeepPlaces
+pub new_mounts_keep_places : NewMountsKeepMountPoints
 new_mounts_keep_places world fresh place filesystem flags serves one nowhere all there free places =
     let larger = with_new_filesystem world filesystem in
     let mount = new_mount filesystem.number filesystem.files.tree.root flags in

@@ -7,10 +7,10 @@ use Rattle.vt_spec.specs.Machine.Mounts.{Location, Mount, mount_tree, stands_on}
 use Rattle.vt_spec.specs.Machine.Namespaces.{namespaces_ended}
 use Rattle.vt_spec.specs.Machine.World.{World, mount_numbered}
 use Rattle.vt_spec.specs.Machine.Invariants.{MountInvariants, Stands}
-use Rattle.vt_mount_laws.specs.Mounts.Invariants.{AreApart, OneMountEachPlace}
+use Rattle.vt_mount_laws.specs.Mounts.Invariants.{AreApart, OneMountEachMountPoint}
 use Rattle.vt_mount_laws.specs.Mounts.Ending.{EndedNamespacesKeepMounts, PointsKeepMounts, ReplacedKeepsMounts, TreesKeepMounts, UnmountKeepsMounts}
 use Rattle.vt_mount_laws.specs.Mounts.Standing.{AllStand}
-use Rattle.vt_mount_laws.specs.Mounts.Unmounting.{PlacesEnd}
+use Rattle.vt_mount_laws.specs.Mounts.Unmounting.{ChainsEnd}
 use Rattle.vt_mount_laws.proofs.GroupsLiving.{all_live, tested_live}
 use Rattle.vt_mount_laws.proofs.ends.EndingStanding.{lands_by_closed, lands_by_places, taken_stand}
 use Rattle.vt_mount_laws.proofs.GroupsKept.{taking_away_keeps_groups}
@@ -34,12 +34,12 @@ none_stands world one childless x place m e same =
 apart_in : (world : World ℕ) → MountInvariants nat_eq world → AreApart world
 apart_in world kept = record { by_number = kept.one_number; by_place = kept.one_child }
 
-places_end_in : (world : World ℕ) → MountInvariants nat_eq world → PlacesEnd world
+places_end_in : (world : World ℕ) → MountInvariants nat_eq world → ChainsEnd world
 places_end_in world kept = (standing_is_computed world kept.one_number).0 kept.standing
 
 -- where mounts stand, and no two at a place, the rest is kept whatever goes
 taken_keeps : (world : World ℕ) (gone : List ℕ) → MountInvariants nat_eq world
-    → OneMountEachPlace (taken_away nat_eq world gone)
+    → OneMountEachMountPoint (taken_away nat_eq world gone)
     → AllStand (taken_away nat_eq world gone) → MountInvariants nat_eq (taken_away nat_eq world gone)
 taken_keeps world gone kept places stand = record {
   one_number = taking_away_keeps_numbers world gone kept.one_number;

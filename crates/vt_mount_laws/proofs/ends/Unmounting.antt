@@ -11,7 +11,7 @@ use Rattle.vt_spec.specs.Machine.Mounts.Propagation.{Private, Shared, Slave, Unb
 use Rattle.vt_spec.specs.Machine.Receives.{groups_up, has_members, inherited, inheriting, lost_a_group, regrouped_by, slave_of_heir}
 use Rattle.vt_spec.specs.Machine.World.{World, mount_at, mount_numbered, with_mounts}
 use Rattle.vt_spec.specs.Machine.Invariants.{stands_in_its_namespace}
-use Rattle.vt_mount_laws.specs.Mounts.Unmounting.{FallsTo, GroupsKeepTheirMasters, KeepsAllButMounts, KeepsAllButPlaceAndType, PlacesEnd, RootMountsStay, SlavesAreInherited, UnmountIsOfMounts, UnmountKeepsTheOrder, WhatCoveredFalls, WhatGoesIsDetached, WhatStaysKeeps, WhatStaysKeepsItsPlace, WhatStaysKeepsItsType, has_its_master}
+use Rattle.vt_mount_laws.specs.Mounts.Unmounting.{FallsTo, GroupsKeepTheirMasters, KeepsAllButMounts, KeepsAllButMountPointAndType, ChainsEnd, RootMountsStay, SlavesAreInherited, UnmountIsOfMounts, UnmountKeepsTheOrder, WhatCoveredFalls, WhatGoesIsDetached, WhatStaysKeeps, WhatStaysKeepsItsMountPoint, WhatStaysKeepsItsType, has_its_master}
 use Rattle.vt_mount_laws.specs.Mounts.Unmounting.FallsTo.{falls, rests}
 use Rattle.vt_mount_laws.proofs.Groups.{inherited_kept, master-regrouped, members-regrouped, mounts-regrouped}
 use Rattle.vt_spec.proofs.Lists.{among_from_list_all, chain_ends, chain_goes_on, find_agrees, last_of_chain}
@@ -143,7 +143,7 @@ module _ (world : World ℕ) (gone : List ℕ) where
           ∙ later next
           ∙ sym (ap down (ap (last_or place) (chain_goes_on down n place next e) ∙ last_of_chain down n next place))
 
-  ends_below : PlacesEnd world → (place : Location ℕ) → EndsBelow (length world.mounts) place
+  ends_below : ChainsEnd world → (place : Location ℕ) → EndsBelow (length world.mounts) place
   ends_below ends place =
       ap is_some (sym (same_end (length world.mounts) place))
       ∙ ⊎_elim
@@ -174,7 +174,7 @@ module _ (world : World ℕ) (gone : List ℕ) where
   detached_by_number number e = taken_going number (goes_so number true e)
 
   pub kept_by_number : (number : ℕ) → is_going nat_eq gone number ≡ false
-      → KeepsAllButPlaceAndType (before_it number) (left number)
+      → KeepsAllButMountPointAndType (before_it number) (left number)
   kept_by_number number e =
       let it = taken_staying number (goes_so number false e) in
       record {
@@ -198,7 +198,7 @@ module _ (world : World ℕ) (gone : List ℕ) where
   place_kept number place e at stays =
       place_by_number number place e at ∙ ap Some (left_at_rest (length world.mounts) place stays)
 
-  pub place_fallen : PlacesEnd world → (number : ℕ) (place rest : Location ℕ) → is_going nat_eq gone number ≡ false
+  pub place_fallen : ChainsEnd world → (number : ℕ) (place rest : Location ℕ) → is_going nat_eq gone number ≡ false
       → (before_it number).mount_point ≡ Some place → FallsTo world gone place rest
       → (left number).mount_point ≡ Some rest
   place_fallen ends number place rest e at fall =
@@ -274,7 +274,7 @@ what_goes_is_detached world one number e = detached_by_number world (gone_with w
 pub what_stays_keeps : WhatStaysKeeps
 what_stays_keeps world one number e = kept_by_number world (gone_with world one) number e
 
-pub what_stays_keeps_its_place : WhatStaysKeepsItsPlace
+pub what_stays_keeps_its_place : WhatStaysKeepsItsMountPoint
 what_stays_keeps_its_place world one number place e at stays =
     place_kept world (gone_with world one) number place e at stays
 

@@ -1,8 +1,8 @@
 -- Mounts that end with something else, and lazy unmounts.
 use Rattle.std.proofs.Common.{◌≡◌, refl, sym, ap, subst, ◌∙◌, true, false, Bool, List, None, Some, [], is_some, map, nat_eq, true≢false, ⊎_elim, ◌∷◌, ◌⊎◌, ℕ, inr, inl}
 use Rattle.vt_spec.proofs.Lists.{Among, among-filter, among-filter_map, among-map, filter_none, head_among, is_among_numbers}
-use Rattle.vt_mount_laws.specs.Mounts.Unmounting.{KeepsAllButMounts, KeepsAllButPlaceAndType}
-use Rattle.vt_mount_laws.specs.Mounts.Ends.{LazyDetachesOrKeeps, LazyIsOfMounts, OthersAreKept, OthersKeepTheirPlaces, OthersKeepTheirTypes, TakenAreDetached, TheMountItselfGoes}
+use Rattle.vt_mount_laws.specs.Mounts.Unmounting.{KeepsAllButMounts, KeepsAllButMountPointAndType}
+use Rattle.vt_mount_laws.specs.Mounts.Ends.{LazyDetachesOrKeeps, LazyIsOfMounts, OthersAreKept, OthersKeepTheirMountPoints, OthersKeepTheirTypes, TakenAreDetached, TheMountItselfGoes}
 use Rattle.vt_spec.specs.Machine.Mounts.Propagation.{Private, Shared, Slave, Unbindable}
 use Rattle.vt_spec.specs.Machine.Mounts.{Propagation, child_at, children, detached, group_of, is_shared, mount_tree, source_of, stands_on, Mount}
 use Rattle.vt_spec.specs.Machine.World.{World, mount_at, mount_numbered}
@@ -23,7 +23,7 @@ taken_are_detached world gone number e = detached_by_number world gone number e
 pub others_are_kept : OthersAreKept
 others_are_kept world gone number e = kept_by_number world gone number e
 
-pub others_keep_their_places : OthersKeepTheirPlaces
+pub others_keep_their_places : OthersKeepTheirMountPoints
 others_keep_their_places world gone number place e at stays = place_kept world gone number place e at stays
 
 pub others_keep_their_types : OthersKeepTheirTypes
@@ -31,7 +31,7 @@ others_keep_their_types world gone number e has = type_kept world gone number e 
 
 -- Lazily
 abbrev DetachedOrKept : Mount ℕ → Mount ℕ → Type 0
-DetachedOrKept before later = (later ≡ detached before) ⊎ KeepsAllButPlaceAndType before later
+DetachedOrKept before later = (later ≡ detached before) ⊎ KeepsAllButMountPointAndType before later
 
 -- a mount after one event, by the world before
 event : (world : World ℕ) (gone : List ℕ) (number : ℕ)
@@ -45,7 +45,7 @@ event world gone number = by (is_going nat_eq gone number) refl
     by false e = inr (kept_by_number world gone number e)
 
 -- what is detached twice, or kept and then detached
-detached_of_kept : (a b : Mount ℕ) → KeepsAllButPlaceAndType a b → detached b ≡ detached a
+detached_of_kept : (a b : Mount ℕ) → KeepsAllButMountPointAndType a b → detached b ≡ detached a
 detached_of_kept a b r = λ i. record {
   number = r.number i;
   namespace = None;

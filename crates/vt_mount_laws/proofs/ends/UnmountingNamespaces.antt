@@ -2,8 +2,8 @@
 use Rattle.std.proofs.Common.{◌≡◌, refl, sym, ap, subst, ◌∙◌, true, false, zero, suc, nat_eq, ℕ, List, None, Option, Some, eqb-true, filter, is_some, map, not, option_map, true≢false, ◌&&◌}
 use Rattle.vt_spec.specs.Machine.Mounts.{Location, Mount, mount_in}
 use Rattle.vt_spec.proofs.Lists.{Among, among-filter, among-from_filter, among-from_map, among-map, among_from_list_all, among_numbers, chain_ends, chain_goes_on, is_among_numbers, last_of_chain}
-use Rattle.vt_mount_laws.specs.Mounts.Invariants.{EndedNamespacesLeaveOneMountAPlace, OneNumberEach}
-use Rattle.vt_mount_laws.specs.Mounts.Unmounting.{PlacesEnd}
+use Rattle.vt_mount_laws.specs.Mounts.Invariants.{EndedNamespacesLeaveOneMountAMountPoint, OneNumberEach}
+use Rattle.vt_mount_laws.specs.Mounts.Unmounting.{ChainsEnd}
 use Rattle.vt_spec.specs.Machine.World.{World, mount_at, Namespace}
 use Rattle.std.proofs.lemmas.Bool.{and_parts, not-true}
 use Rattle.vt_spec.specs.Lists.{chain, holds_of, last_or, same_option}
@@ -39,7 +39,7 @@ one_namespace None (Some b) e = absurd (true≢false (sym e))
 one_namespace (Some a) None e = absurd (true≢false (sym e))
 one_namespace (Some a) (Some b) e = ap Some (eqb-true a b e)
 
-module _ (world : World ℕ) (ends : PlacesEnd world) where
+module _ (world : World ℕ) (ends : ChainsEnd world) where
   abbrev under : Mount ℕ → Option (Mount ℕ)
   under mount = option_map (mount_at nat_eq world) mount.mount_point
 
@@ -83,7 +83,7 @@ module _ (world : World ℕ) (ends : PlacesEnd world) where
 abbrev pub in_ended : World ℕ → List ℕ
 in_ended world = map (λ (mount : Mount ℕ). mount.number) (filter (is_in_ended nat_eq world) world.mounts)
 
-pub ended_closed : (world : World ℕ) → PlacesEnd world → OneNumberEach world → AreClosed world (in_ended world)
+pub ended_closed : (world : World ℕ) → ChainsEnd world → OneNumberEach world → AreClosed world (in_ended world)
 ended_closed world ends one x place m e goes =
     let from =
     among-from_map (λ (mount : Mount ℕ). mount.number) (filter (is_in_ended nat_eq world) world.mounts) place.mount
@@ -102,7 +102,7 @@ ended_closed world ends one x place m e goes =
     (list_any (λ (listed : Namespace ℕ). nat_eq number listed.number
     && has_tasks nat_eq world listed) world.namespaces))) namespace ∙ end.1)))
 
-pub ended_namespaces_leave_one_mount_a_place : EndedNamespacesLeaveOneMountAPlace
+pub ended_namespaces_leave_one_mount_a_place : EndedNamespacesLeaveOneMountAMountPoint
 ended_namespaces_leave_one_mount_a_place world ends both =
     let kept = closed_keeps_apart world (in_ended world) (ended_closed world ends both.by_number) both in
     record { by_number = kept.by_number; by_place = kept.by_place }

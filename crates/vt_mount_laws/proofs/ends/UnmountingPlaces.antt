@@ -1,7 +1,7 @@
 -- An unmount leaves at most one mount at a place.
 use Rattle.std.proofs.Common.{◌≡◌, refl, sym, ap, subst, ◌∙◌, true, false, zero, suc, Bool, List, None, Option, Some, [], eq-eqb, is_some, length, nat_eq, option_map, true≢false, ⊎_elim, ◌∷◌, ◌⊎◌, ℕ, inl, inr}
 use Rattle.vt_spec.proofs.Lists.{Among, among-filter, among-from_filter_map, among-from_map, among_numbers, chain_ends, chain_goes_on, last_of_chain, none_among, pair-map}
-use Rattle.vt_mount_laws.specs.Mounts.Invariants.{AreApart, OneMountEachPlace, UnmountLeavesOneMountAPlace}
+use Rattle.vt_mount_laws.specs.Mounts.Invariants.{AreApart, OneMountEachMountPoint, UnmountLeavesOneMountAMountPoint}
 use Rattle.vt_spec.specs.Machine.Mounts.{Location, children, is_shared, mount_in, stands_at, stands_on, Mount}
 use Rattle.vt_spec.specs.Machine.World.{World, mount_at, mount_numbered}
 use Rattle.vt_spec.specs.Machine.Detach.{after_going, goes_at, going, going_at, going_from, is_going, may_go, only_cover, mount_point_of_parent, mount_point_left, taken_away}
@@ -161,7 +161,7 @@ module _ (world : World ℕ) (gone : List ℕ) (apart_all : AreApart world)
       had_place x place (direct rest e) = (rest, e)
       had_place x place (down at rest fall goes under) = had_place x at fall
 
-  pub taking_away_leaves_one : OneMountEachPlace (taken_away nat_eq world gone)
+  pub taking_away_leaves_one : OneMountEachMountPoint (taken_away nat_eq world gone)
   taking_away_leaves_one =
       ap (any_pair (share_a_mount_point nat_eq)) (mounts-regrouped (middle world gone))
       ∙ pair-map (share_a_mount_point nat_eq) (share_a_mount_point nat_eq) (inheriting nat_eq (middle world gone))
@@ -212,7 +212,7 @@ goes_or_may world mount number h = by mount.mount_point refl
         (listed (going_from nat_eq world mount place (is_shared (mount_at nat_eq world place).propagation))
         (ap (going_at nat_eq world mount) e))
 
-pub unmount_leaves_one_mount_a_place : UnmountLeavesOneMountAPlace
+pub unmount_leaves_one_mount_a_place : UnmountLeavesOneMountAMountPoint
 unmount_leaves_one_mount_a_place world one apart_all childless = record {
   by_number = unmount_keeps_numbers world one apart_all.by_number;
   by_place = taking_away_leaves_one world (going nat_eq world (mount_numbered nat_eq world one)) apart_all

@@ -2,8 +2,8 @@
 use Rattle.std.proofs.Common.{◌≡◌, refl, sym, ap, subst, ◌∙◌, true, false, zero, suc, nat_eq, ℕ, Bool, List, None, Option, Some, arith, eq-eqb, eqb-true, flat_map, inl, inr, is_some, length, map, option_map, true≢false, ⊎_elim, ◌⊎◌}
 use Rattle.vt_spec.specs.Machine.Mounts.{Location, Mount, children, mount_tree, stands_on, tree_from}
 use Rattle.vt_spec.proofs.Lists.{Among, among-filter, among-flat_map, among-from_filter, among-from_flat_map, among-from_map, among-map, among_from_list_all, among_numbers, chain_goes_on, is_among_numbers, last_of_chain, pair-map}
-use Rattle.vt_mount_laws.specs.Mounts.Invariants.{AreApart, OneNumberEach, TreesLeaveOneMountAPlace}
-use Rattle.vt_mount_laws.specs.Mounts.Unmounting.{PlacesEnd}
+use Rattle.vt_mount_laws.specs.Mounts.Invariants.{AreApart, OneNumberEach, TreesLeaveOneMountAMountPoint}
+use Rattle.vt_mount_laws.specs.Mounts.Unmounting.{ChainsEnd}
 use Rattle.vt_spec.specs.Machine.World.{World, mount_at, mount_numbered}
 use Rattle.vt_spec.specs.Machine.Detach.{after_going, is_going, mount_point_left, taken_away}
 use Rattle.std.proofs.lemmas.Bool.{and_parts, false_from_ne_true, not-true}
@@ -92,7 +92,7 @@ module _ (world : World ℕ) where
       ∙ last_of_chain mount_below n (mount_at nat_eq world at) it)
       ∙ not_ended n j (mount_at nat_eq world at) last later (omega (arith, e))
 
-  module _ (one : OneNumberEach world) (ends : PlacesEnd world) where
+  module _ (one : OneNumberEach world) (ends : ChainsEnd world) where
     ended : (mount end : Mount ℕ) → Among mount world.mounts → Reaches (suc (length world.mounts)) mount end → ⊥
     ended mount end m r =
         true≢false
@@ -165,7 +165,7 @@ module _ (world : World ℕ) where
         (λ deep. absurd (ended x (mount_numbered nat_eq world tree.0.number) m deep))
         (in_tree (length world.mounts) tree.0 gone.0 x place tree.2 m e gone.2)
 
-pub trees_leave_one_mount_a_place : TreesLeaveOneMountAPlace
+pub trees_leave_one_mount_a_place : TreesLeaveOneMountAMountPoint
 trees_leave_one_mount_a_place world tops ends both =
     closed_keeps_apart world (map (λ (mount : Mount ℕ). mount.number) (flat_map (mount_tree nat_eq world.mounts) tops))
     (trees_closed world both.by_number ends tops) both

@@ -4,7 +4,7 @@ use Rattle.vt_spec.specs.Machine.Mounts.{Mount, mount_in, mount_tree, replaced_i
 use Rattle.vt_spec.proofs.Lists.{Among, pair-filter, pair-map, among-append, among-from_map, among_from_list_all, list_all_from_among}
 use Rattle.vt_mount_laws.specs.Mounts.Invariants.{AreApart, KeptByFlags, KeptByInheritance, KeptByLazyUnmount, KeptBySettling, KeptByType, NowhereOrAttached, OneNumberEach, FlagsKeepNowhere, KeptByUnshare}
 use Rattle.vt_spec.specs.Lists.{any_pair, folded, same_option, evens, odds}
-use Rattle.vt_mount_laws.specs.Mounts.Places.{OneMountAPlace}
+use Rattle.vt_mount_laws.specs.Mounts.MountPoints.{OneMountAMountPoint}
 use Rattle.vt_mount_laws.specs.Mounts.Attaching.{OneNumberAMount}
 use Rattle.vt_spec.specs.Machine.World.{World, mount_at, mount_numbered, mounts_of}
 use Rattle.vt_mount_laws.proofs.mounts.MountsRetyped.{between, groups_by, retype, retype_keeps}
@@ -23,7 +23,7 @@ use Rattle.vt_spec.proofs.Worlds.{number-mount_in}
 -- places that stay the same stay apart
 places_same : (f : Mount ℕ → Mount ℕ) (mounts : List (Mount ℕ))
     → ((mount : Mount ℕ) → Among mount mounts → (f mount).mount_point ≡ mount.mount_point)
-    → OneMountAPlace mounts → OneMountAPlace (map f mounts)
+    → OneMountAMountPoint mounts → OneMountAMountPoint (map f mounts)
 places_same f mounts same one =
     pair-map (share_a_mount_point nat_eq) (share_a_mount_point nat_eq) f mounts
     (λ a b m n differ.

@@ -2,8 +2,8 @@
 use Rattle.std.specs.List.{list_any}
 use Rattle.std.proofs.lemmas.List.{map-append}
 use Rattle.std.proofs.Common.{◌≡◌, refl, sym, ap, ◌∙◌, Bool, List, None, Option, Some, [], ℕ, ◌∷◌, nat_eq, append_assoc, cond, eq-eqb, find, flat_map, inl, inr, map, subst, ◌++◌, false, true, length, ◌⊎◌}
-use Rattle.vt_spec.specs.Machine.Attach.{Copies, Graft, added_mounts, attached_by, copies_at, copies_from, copy_at, copy_number, graft_of, parts_of, pushed_onto, pushed_up, receiver_below, twig_of, with_moved_mounts}
-use Rattle.vt_mount_laws.specs.Mounts.Attaching.{KeepsAllButPlace, AttachKeepsMounts, AttachLeavesMounts, KeepsWhatItShows, MoveKeepsMounts, MoveLeavesMounts, NewMountsFollow, is_mount, numbers_of, stands_at_a_receiver, MovedMountsShow}
+use Rattle.vt_spec.specs.Machine.Attach.{Copies, Graft, added_mounts, attached_by, copies_at, copies_from, copy_at, copy_number, graft_of, parts_of, pushed_onto, pushed_up, receiver_stood_on, twig_of, with_moved_mounts}
+use Rattle.vt_mount_laws.specs.Mounts.Attaching.{KeepsAllButMountPoint, AttachKeepsMounts, AttachLeavesMounts, KeepsWhatItShows, MoveKeepsMounts, MoveLeavesMounts, NewMountsFollow, is_mount, numbers_of, stands_at_a_receiver, MovedMountsShow}
 use Rattle.vt_spec.specs.Machine.Mounts.{Mount, group_of, no_mount, stands_at, Location, mount_in, with_mount}
 use Rattle.vt_spec.specs.Machine.World.{World, mount_at, mount_numbered}
 use Rattle.vt_spec.specs.Lists.{folded, rest_of, Fresh, is_among}
@@ -25,10 +25,10 @@ none_found test (x ∷ xs) h =
 
 module _ (world : World ℕ) (new : Copies ℕ) (graft : Graft ℕ) (parts : List (Mount ℕ)) where
   -- a receiver moves a mount up, or none does
-  pub push_keeps : (mount : Mount ℕ) → KeepsAllButPlace mount (pushed_up nat_eq world new graft parts mount)
-  push_keeps mount = by (receiver_below nat_eq graft parts mount)
+  pub push_keeps : (mount : Mount ℕ) → KeepsAllButMountPoint mount (pushed_up nat_eq world new graft parts mount)
+  push_keeps mount = by (receiver_stood_on nat_eq graft parts mount)
     where
-      by : (part : Option (Mount ℕ)) → KeepsAllButPlace mount (pushed_onto nat_eq world new graft parts mount part)
+      by : (part : Option (Mount ℕ)) → KeepsAllButMountPoint mount (pushed_onto nat_eq world new graft parts mount part)
       by None =
           record { number = refl; namespace = refl; filesystem = refl; root = refl; flags = refl; propagation = refl }
       by (Some part) =
@@ -139,7 +139,7 @@ new_mounts_follow world fresh place moves mounts =
 pub attach_keeps_mounts : AttachKeepsMounts
 attach_keeps_mounts world fresh place mounts number there =
     let new = supplied world fresh place mounts in
-    subst (KeepsAllButPlace (mount_numbered nat_eq world number))
+    subst (KeepsAllButMountPoint (mount_numbered nat_eq world number))
     (sym (found_attached world new place false mounts number there))
     (push_keeps world new (graft_of nat_eq world new place false mounts) (parts_of nat_eq world place)
     (mount_numbered nat_eq world number))
@@ -195,7 +195,7 @@ module _ (world : World ℕ) (new : Copies ℕ) (place : Location ℕ) (mounts :
 pub move_keeps_mounts : MoveKeepsMounts
 move_keeps_mounts world fresh place mounts number there other =
     let new = supplied world fresh place mounts in
-    subst (KeepsAllButPlace (mount_numbered nat_eq world number))
+    subst (KeepsAllButMountPoint (mount_numbered nat_eq world number))
     (sym (found_attached world new place true mounts number there
     ∙ ap (push world new place true mounts) (stays_put world new place mounts number other)))
     (push_keeps world new (graft_of nat_eq world new place true mounts) (parts_of nat_eq world place)

@@ -2,8 +2,8 @@
 use Rattle.std.proofs.Common.{◌≡◌, refl, sym, ap, subst, ◌∙◌, zero, suc, nat_eq, ℕ, None, Option, Some, is_some, length, not, option_map, ◌&&◌}
 use Rattle.vt_spec.specs.Machine.Mounts.{Location, Mount, mount_in}
 use Rattle.vt_spec.proofs.Lists.{Among, among-map, among_from_list_all, chain_ends, chain_goes_on, is_among_numbers, last_of_chain, list_all_from_among}
-use Rattle.vt_mount_laws.specs.Mounts.Invariants.{FlagsKeepPlacesEnding, InheritanceKeepsPlacesEnding, OneNumberEach, TypeKeepsPlacesEnding}
-use Rattle.vt_mount_laws.specs.Mounts.Unmounting.{PlacesEnd}
+use Rattle.vt_mount_laws.specs.Mounts.Invariants.{FlagsKeepChainsEnding, InheritanceKeepsChainsEnding, OneNumberEach, TypeKeepsChainsEnding}
+use Rattle.vt_mount_laws.specs.Mounts.Unmounting.{ChainsEnd}
 use Rattle.vt_spec.specs.Machine.World.{World, mount_at, mount_numbered}
 use Rattle.vt_spec.specs.Lists.{chain, is_among, last_or, same_option}
 use Rattle.vt_mount_laws.proofs.mounts.MountsFound.{found-map, found_there, numbers-map}
@@ -58,8 +58,8 @@ module _ (world after : World ℕ)
           ∙ last_of_chain below_after n y b))
           (later x y (alike at.mount)))
 
-  pub places_end_alike : OneNumberEach world → numbers_of after.mounts ≡ numbers_of world.mounts → PlacesEnd world
-      → PlacesEnd after
+  pub places_end_alike : OneNumberEach world → numbers_of after.mounts ≡ numbers_of world.mounts → ChainsEnd world
+      → ChainsEnd after
   places_end_alike one numbers ends =
       list_all_from_among (stands_in_its_namespace nat_eq after) after.mounts (λ mount m.
       let old = mount_numbered nat_eq world mount.number in
@@ -85,14 +85,14 @@ module _ (world after : World ℕ)
       (last_parent nat_eq world old).namespace) r.namespace
       ∙ among_from_list_all (stands_in_its_namespace nat_eq world) world.mounts ends old there)
 
-pub type_keeps_places_ending : TypeKeepsPlacesEnding
+pub type_keeps_places_ending : TypeKeepsChainsEnding
 type_keeps_places_ending world fresh number word recursive one ends =
     places_end_alike world (with_type nat_eq fresh world number word recursive)
     (λ other. let r = type_is_all_that_changes world fresh number word recursive other in
     record { mount_point = r.mount_point; namespace = r.namespace })
     one (numbers_with_type world fresh number word recursive) ends
 
-pub flags_keep_places_ending : FlagsKeepPlacesEnding
+pub flags_keep_places_ending : FlagsKeepChainsEnding
 flags_keep_places_ending world here flags one ends =
     let new = record (mount_at nat_eq world here) { flags = flags } in
     places_end_alike world (with_flags nat_eq world here flags)
@@ -101,7 +101,7 @@ flags_keep_places_ending world here flags one ends =
     (record { mount_point = refl; namespace = refl })))
     one (numbers-with_mount new world.mounts) ends
 
-pub inheritance_keeps_places_ending : InheritanceKeepsPlacesEnding
+pub inheritance_keeps_places_ending : InheritanceKeepsChainsEnding
 inheritance_keeps_places_ending world one ends =
     places_end_alike world (regrouped nat_eq world)
     (λ number.

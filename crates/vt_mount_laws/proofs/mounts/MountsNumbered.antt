@@ -4,8 +4,8 @@ use Rattle.std.specs.List.{list_any}
 use Rattle.vt_spec.specs.Machine.Mounts.{Mount, Location, group_of, numbers_by, index_of}
 use Rattle.vt_spec.proofs.Lists.{Among, among-append, among-append_left, among-flat_map, among-from_filter, among-from_flat_map, among-from_map, any_among, is_among_numbers, none_among, none_from_among, among-map, pair-filter, pair-map}
 use Rattle.vt_mount_laws.proofs.GroupsKept.{member_shared}
-use Rattle.vt_spec.specs.Lists.{Fresh, any_pair, evens, holds_of, odds, place_from}
-use Rattle.vt_spec.specs.Machine.Attach.{Copies, Graft, Twig, attached_by, copies_at, copies_from, copy_at, graft_of, index_of_group, is_destination, numbered, parts_of, reaches, receivers_of, takes_part, twig_of}
+use Rattle.vt_spec.specs.Lists.{Fresh, any_pair, evens, holds_of, odds, index_from}
+use Rattle.vt_spec.specs.Machine.Attach.{Copies, Graft, Twig, attached_by, copies_at, copies_from, copy_at, graft_of, index_of_group, is_destination, index_in_rows, parts_of, reaches, receivers_of, takes_part, twig_of}
 use Rattle.vt_spec.specs.Machine.Receives.{has_members, is_member_of, receivers, receives}
 use Rattle.vt_spec.specs.Machine.Run.{Serves, numbers_in_use, used_by_filesystem, used_by_mount}
 use Rattle.vt_spec.specs.Machine.World.{World, Namespace, mount_at, mounts_of}
@@ -65,15 +65,15 @@ number_is_old world fresh serves number m k =
 
 -- What is found at the place of a number in a list
 place_found : {A : Type 0} (p : A → Bool) (k : ℕ) (xs : List A) (a : A) → Among a xs → p a ≡ true
-    → (i : ℕ) × (x : A) × (place_from p k xs ≡ Some (i + k)) × (slice_get xs i ≡ Some x) × (p x ≡ true)
+    → (i : ℕ) × (x : A) × (index_from p k xs ≡ Some (i + k)) × (slice_get xs i ≡ Some x) × (p x ≡ true)
 place_found p k [] a m e = absurd m
 place_found p k (y ∷ ys) a m e = by (p y) refl (place_found p (k + 1) ys a)
   where
     by : (b : Bool) → p y ≡ b
-        → (Among a ys → p a ≡ true → (i : ℕ) × (x : _) × (place_from p (k + 1) ys ≡ Some (i + (k + 1)))
+        → (Among a ys → p a ≡ true → (i : ℕ) × (x : _) × (index_from p (k + 1) ys ≡ Some (i + (k + 1)))
         × (slice_get ys i ≡ Some x) × (p x ≡ true))
-        → (i : ℕ) × (x : _) × (place_from p k (y ∷ ys) ≡ Some (i + k)) × (slice_get (y ∷ ys) i ≡ Some x) × (p x ≡ true)
-    by true f later = (0, y, ap (λ b. if b then Some k else place_from p (k + 1) ys) f ∙ ap Some (omega arith), refl, f)
+        → (i : ℕ) × (x : _) × (index_from p k (y ∷ ys) ≡ Some (i + k)) × (slice_get (y ∷ ys) i ≡ Some x) × (p x ≡ true)
+    by true f later = (0, y, ap (λ b. if b then Some k else index_from p (k + 1) ys) f ∙ ap Some (omega arith), refl, f)
     by false f later =
         ⊎_elim
         (λ same. absurd (true≢false (sym e ∙ ap p same ∙ f)))
@@ -81,7 +81,7 @@ place_found p k (y ∷ ys) a m e = by (p y) refl (place_found p (k + 1) ys a)
         let t = later l e in (
           suc t.0,
           t.1,
-          ap (λ b. if b then Some k else place_from p (k + 1) ys) f ∙ t.2 ∙ ap Some (omega arith),
+          ap (λ b. if b then Some k else index_from p (k + 1) ys) f ∙ t.2 ∙ ap Some (omega arith),
           t.3,
           t.4,
         ))
@@ -137,7 +137,8 @@ one_index_of_groups parts group other m n e =
     one_group group other s.1 s.4 (ap (is_member_of nat_eq other) same ∙ t.4)
 
 -- the i-th of the k-th is no other, where each has so many
-numbered_apart : (size k i m j : ℕ) → i < size → j < size → numbered size k i ≡ numbered size m j → (k ≡ m) × (i ≡ j)
+numbered_apart : (size k i m j : ℕ) → i < size → j < size → index_in_rows size k i ≡ index_in_rows size m j → (k
+    ≡ m) × (i ≡ j)
 numbered_apart size k i m j l n e =
     let same : k ≡ m = sym (div-mul-add k size i l) ∙ ap (λ x. x / size) e ∙ div-mul-add m size j n in
     let above : k * size ≡ m * size = ap (λ x. x * size) same in
@@ -146,11 +147,11 @@ numbered_apart size k i m j l n e =
 -- the index of the copy of a mount at a part, and of its image for a group
 abbrev copy_index : List (Mount ℕ) → List (Mount ℕ) → ℕ → ℕ → ℕ
 copy_index parts mounts part origin =
-    numbered (length mounts) (index_of nat_eq parts part) (index_of nat_eq mounts origin)
+    index_in_rows (length mounts) (index_of nat_eq parts part) (index_of nat_eq mounts origin)
 
 abbrev image_index : List (Mount ℕ) → List (Mount ℕ) → ℕ → ℕ → ℕ
 image_index parts mounts group origin =
-    numbered (length mounts) (index_of_group nat_eq parts group) (index_of nat_eq mounts origin)
+    index_in_rows (length mounts) (index_of_group nat_eq parts group) (index_of nat_eq mounts origin)
 
 module _ (world : World ℕ) (fresh : Fresh ℕ) (serves : Serves nat_eq world fresh) where
   copies_serve : (parts mounts : List (Mount ℕ))

@@ -6,7 +6,7 @@ use Rattle.std.proofs.lemmas.Option.{same_Some}
 use Rattle.vt_spec.specs.Lists.{any_pair, holds_of, same_option}
 use Rattle.vt_spec.specs.Machine.Mounts.{Location, Mount, child_at, same_location, stands_at}
 use Rattle.vt_spec.specs.Machine.Invariants.{share_a_mount_point}
-use Rattle.vt_mount_laws.specs.Mounts.Places.{OneMountAPlace, StandsAloneAtItsPlace}
+use Rattle.vt_mount_laws.specs.Mounts.MountPoints.{OneMountAMountPoint, StandsAloneAtItsMountPoint}
 use Rattle.vt_spec.proofs.Lists.{Among, all_from_among, none_among}
 use Rattle.vt_spec.proofs.Worlds.{same_location_is}
 
@@ -37,7 +37,7 @@ one_place_of_two place a b e f =
     ∙ same_location_itself place
 
 -- where no two stand at one place, one that stands there is found there
-pub found_at_its_place : (mounts : List (Mount ℕ)) → OneMountAPlace mounts → (mount : Mount ℕ) → Among mount mounts
+pub found_at_its_place : (mounts : List (Mount ℕ)) → OneMountAMountPoint mounts → (mount : Mount ℕ) → Among mount mounts
     → (place : Location ℕ)
     → mount.mount_point ≡ Some place → child_at nat_eq mounts place ≡ Some mount
 found_at_its_place [] one mount m place e = absurd m
@@ -59,7 +59,7 @@ found_at_its_place (first ∷ rest) one mount m place e =
         (true≢false (sym (one_place_of_two place first mount (stands_there place first here) e) ∙ differ))
     by false here differ found = ap (λ b. cond b (Some first) (find (stands_at nat_eq place) rest)) here ∙ found
 
-pub stands_alone : StandsAloneAtItsPlace
+pub stands_alone : StandsAloneAtItsMountPoint
 stands_alone mounts one =
     all_from_among
     (λ mount. (place : Location ℕ) → mount.mount_point ≡ Some place → child_at nat_eq mounts place ≡ Some mount) mounts
@@ -86,7 +86,7 @@ place_of_both a b h = by a.mount_point refl b.mount_point refl h
         (p, e, f ∙ ap Some (sym same))
 
 -- only one mount stands at a place
-pub one_stander : (mounts : List (Mount ℕ)) → OneMountAPlace mounts → (a b : Mount ℕ) → Among a mounts
+pub one_stander : (mounts : List (Mount ℕ)) → OneMountAMountPoint mounts → (a b : Mount ℕ) → Among a mounts
     → Among b mounts → (place : Location ℕ) → a.mount_point ≡ Some place → b.mount_point ≡ Some place → a ≡ b
 one_stander mounts one a b m n place e f =
     same_Some a b (sym (found_at_its_place mounts one a m place e) ∙ found_at_its_place mounts one b n place f)

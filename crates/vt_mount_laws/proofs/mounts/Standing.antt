@@ -16,7 +16,7 @@ use Rattle.vt_spec.specs.Machine.Invariants.Stands.{at_root, on_parent}
 use Rattle.vt_mount_laws.specs.Mounts.Attaching.{OneNumberAMount, numbers_of}
 use Rattle.vt_mount_laws.specs.Mounts.Invariants.{OneNumberEach}
 use Rattle.vt_mount_laws.specs.Mounts.Standing.{AllStand, BindsTakeEachOnce, StandingIsComputed, TreesHaveEachOnce}
-use Rattle.vt_mount_laws.specs.Mounts.Unmounting.{PlacesEnd}
+use Rattle.vt_mount_laws.specs.Mounts.Unmounting.{ChainsEnd}
 use Rattle.vt_mount_laws.proofs.mounts.MountsFound.{placed_among}
 use Rattle.vt_mount_laws.proofs.mounts.MountsNumbered.{pair-flat_map, same_number}
 use Rattle.vt_mount_laws.proofs.mounts.MountsReplaced.{found_itself}
@@ -173,7 +173,7 @@ module _ (world : World ℕ) where
   same_as_test (Some a) None e = absurd (true≢false (ap is_some e))
   same_as_test (Some a) (Some b) e = eq-eqb a b (same_Some a b e)
 
-  test_of_standing : OneNumberEach world → AllStand world → PlacesEnd world
+  test_of_standing : OneNumberEach world → AllStand world → ChainsEnd world
   test_of_standing one all = list_all_from_among (stands_in_its_namespace nat_eq world) world.mounts (λ mount m.
       let itself : mount_of mount.number ≡ mount = found_itself world.mounts one mount m in
       let stands : Stand mount.number =
@@ -185,7 +185,7 @@ module _ (world : World ℕ) where
       (last_parent nat_eq world (mount_of mount.number)).namespace last.1)))
 
   -- the other way round
-  namespace_below : OneNumberEach world → PlacesEnd world → (number : ℕ) (place : Location ℕ)
+  namespace_below : OneNumberEach world → ChainsEnd world → (number : ℕ) (place : Location ℕ)
       → (mount_of number).mount_point ≡ Some place → (mount_of number).namespace ≡ (mount_of place.mount).namespace
   namespace_below one ends number place e =
       ⊎_elim
@@ -215,7 +215,7 @@ module _ (world : World ℕ) where
           ∙ alone long.0 parent (ap (λ m. option_map (mount_at nat_eq world) m.mount_point) none) in
           one_namespace x.namespace (last_parent nat_eq world x).namespace both.1 ∙ ap (λ m. m.namespace) end
 
-  stands_by_test : OneNumberEach world → PlacesEnd world → (n number : ℕ)
+  stands_by_test : OneNumberEach world → ChainsEnd world → (n number : ℕ)
       → is_some (last_in n (mount_of number)).mount_point ≡ false → Stand number
   stands_by_test one ends zero number h = at_root number (no_place (mount_of number).mount_point h)
     where
@@ -238,7 +238,7 @@ module _ (world : World ℕ) where
           ∙ last_of_chain below n parent x))
           ∙ h))
 
-  standing_by_test : OneNumberEach world → PlacesEnd world → AllStand world
+  standing_by_test : OneNumberEach world → ChainsEnd world → AllStand world
   standing_by_test one ends = all_from_among (λ (mount : Mount ℕ). Stand mount.number) world.mounts (λ mount m.
       let itself : mount_of mount.number ≡ mount = found_itself world.mounts one mount m in
       stands_by_test one ends (length world.mounts) mount.number

@@ -9,7 +9,7 @@ use Rattle.vt_spec.specs.Machine.World.{World, mount_at, mount_numbered}
 use Rattle.vt_spec.specs.Machine.Invariants.{MountInvariants, Stands, is_nowhere_or_attached, is_private}
 use Rattle.vt_spec.specs.Machine.Invariants.Stands.{at_root, on_parent}
 use Rattle.vt_mount_laws.specs.Mounts.Attaching.{numbers_of}
-use Rattle.vt_mount_laws.specs.Mounts.Moving.{CanMove, MovesKeepPlaces, MovesKeepStanding}
+use Rattle.vt_mount_laws.specs.Mounts.Moving.{CanMove, MovesKeepMountPoints, MovesKeepStanding}
 use Rattle.vt_mount_laws.proofs.attached.Attaching.{Hangs}
 use Rattle.vt_mount_laws.proofs.attached.Attaching.Hangs.{from_top}
 use Rattle.vt_mount_laws.proofs.attached.BindsStand.{child_hangs}
@@ -166,7 +166,7 @@ moves_keep_standing world fresh source place serves invariants can =
     all_after world (supplied world fresh place mounts) place mounts (may_move world invariants source place can)
     (supplies_serve_as_copies world fresh (parts_of nat_eq world place) mounts serves)
 
-pub moves_keep_places : MovesKeepPlaces
+pub moves_keep_places : MovesKeepMountPoints
 moves_keep_places world fresh source place serves invariants can free =
     let mounts = moved_tree nat_eq world source in
     places_moved world (supplied world fresh place mounts) place mounts (may_move world invariants source place can)

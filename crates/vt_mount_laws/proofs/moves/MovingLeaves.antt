@@ -5,7 +5,7 @@ use Rattle.std.specs.Prelude.{if◌then◌else◌, unwrap_or}
 use Rattle.std.proofs.lemmas.Bool.{false_from_ne_true, or_from, or_parts}
 use Rattle.std.proofs.lemmas.Option.{same_Some}
 use Rattle.vt_spec.proofs.Lists.{Among, all_from_among, among-from_map, among-map, among_from_all, among_from_list_all, among_numbers, list_all_from_among, none_among, none_from_among, pair-map}
-use Rattle.vt_spec.specs.Machine.Attach.{Copies, Graft, Twig, copy_at, graft_of, parts_of, place_on_copy, twig_of}
+use Rattle.vt_spec.specs.Machine.Attach.{Copies, Graft, Twig, copy_at, graft_of, parts_of, mount_point_on_copy, twig_of}
 use Rattle.vt_spec.specs.Lists.{any_pair, first_of_list, folded, holds_of, is_among}
 use Rattle.vt_spec.specs.Machine.Mounts.{Location, Mount, child_at, group_of, mount_in, stands_at, with_mount}
 use Rattle.vt_spec.specs.Machine.World.{World, mount_at, mount_numbered}
@@ -14,7 +14,7 @@ use Rattle.vt_spec.specs.Machine.Invariants.Stands.{at_root, on_parent}
 use Rattle.vt_mount_laws.specs.Mounts.Attaching.{OneNumberAMount, is_mount, numbers_of}
 use Rattle.vt_mount_laws.specs.Mounts.Invariants.{NowhereOrAttached}
 use Rattle.vt_mount_laws.specs.Mounts.Standing.{AllStand}
-use Rattle.vt_mount_laws.specs.Mounts.Places.{OneMountAPlace}
+use Rattle.vt_mount_laws.specs.Mounts.MountPoints.{OneMountAMountPoint}
 use Rattle.vt_mount_laws.proofs.attached.AttachingPlaces.{beside, one_place, test, two_of}
 use Rattle.vt_mount_laws.proofs.mounts.MountsPlaces.{stands_at_its_place}
 use Rattle.vt_mount_laws.proofs.attached.Attaching.{Hangs, hanging}
@@ -216,7 +216,7 @@ module _ (world : World ℕ) (new : Copies ℕ) (place : Location ℕ) (mounts :
   abbrev landing : Option (Location ℕ) → Bool → Location ℕ
   landing parent first =
       if first then record { mount = destination.number; node = place.node }
-      else unwrap_or (option_map (place_on_copy nat_eq new tree destination.number) parent) place
+      else unwrap_or (option_map (mount_point_on_copy nat_eq new tree destination.number) parent) place
 
   placed : (origin : Mount ℕ) (b : Bool) → nat_eq origin.number may.top.number ≡ b
       → (arrived origin).mount_point ≡ Some (landing origin.mount_point b)
@@ -368,8 +368,8 @@ module _ (world : World ℕ) (new : Copies ℕ) (place : Location ℕ) (mounts :
       by (as_before on f g) =
           as_it_was origin (may.inside origin m) (sym number) (ap (λ (x : Mount ℕ). x.mount_point) e ∙ g ∙ sym f)
 
-  pub places_left : OneMountAPlace world.mounts → child_at nat_eq world.mounts place ≡ None
-      → OneMountAPlace left.mounts
+  pub places_left : OneMountAMountPoint world.mounts → child_at nat_eq world.mounts place ≡ None
+      → OneMountAMountPoint left.mounts
   places_left places free =
       pair_by test left.mounts one_left (λ a b m n differ.
       by a b (left_place a (left_case a m)) (left_place b (left_case b n)) differ)

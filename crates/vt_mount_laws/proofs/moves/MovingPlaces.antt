@@ -5,7 +5,7 @@ use Rattle.std.specs.Prelude.{if◌then◌else◌, unwrap_or}
 use Rattle.std.proofs.lemmas.Bool.{false_from_ne_true, or_parts}
 use Rattle.std.proofs.lemmas.Option.{same_Some}
 use Rattle.vt_spec.proofs.Lists.{Among, among-from_filter, among-from_flat_map, among-from_map, among-map, among_from_all, is_among_numbers, pair-map}
-use Rattle.vt_spec.specs.Machine.Attach.{Copies, Graft, Twig, attached_by, copies_at, copy_at, graft_of, is_top, parts_of, place_on_copy, pushed_onto, pushed_up, receiver_below, receivers_of, takes_part, top_of_copies, twig_of}
+use Rattle.vt_spec.specs.Machine.Attach.{Copies, Graft, Twig, attached_by, copies_at, copy_at, graft_of, is_top, parts_of, mount_point_on_copy, pushed_onto, pushed_up, receiver_stood_on, receivers_of, takes_part, top_of_copies, twig_of}
 use Rattle.vt_spec.specs.Lists.{any_pair, first_of_list, holds_of, is_among, rest_of, same_option}
 use Rattle.vt_spec.specs.Machine.Mounts.{Location, Mount, child_at, group_of, mount_in, root_of, same_location, stands_at}
 use Rattle.vt_spec.specs.Machine.Run.{numbers_in_use}
@@ -14,7 +14,7 @@ use Rattle.vt_spec.specs.Machine.Invariants.{Stands}
 use Rattle.vt_spec.specs.Machine.Invariants.Stands.{at_root, on_parent}
 use Rattle.vt_mount_laws.specs.Mounts.Attaching.{is_mount}
 use Rattle.vt_mount_laws.specs.Mounts.Copies.{ServeAsCopies}
-use Rattle.vt_mount_laws.specs.Mounts.Places.{OneMountAPlace}
+use Rattle.vt_mount_laws.specs.Mounts.MountPoints.{OneMountAMountPoint}
 use Rattle.vt_mount_laws.proofs.attached.Attaching.{Hangs, hanging, taker_there, top_among}
 use Rattle.vt_mount_laws.proofs.attached.Attaching.Hangs.{from_parent, from_top}
 use Rattle.vt_mount_laws.proofs.attached.AttachingPlaces.{beside, differ_by_mount, one_place, stand_together, test, topmost_free, two_of}
@@ -64,7 +64,8 @@ module _ (world : World ℕ) (new : Copies ℕ) (place : Location ℕ) (mounts :
   -- where the copy at a part stands: at the part for the top, else on the copy of its parent
   abbrev landing : Mount ℕ → Option (Location ℕ) → Bool → Location ℕ
   landing part parent first =
-      if first then place_at part else unwrap_or (option_map (place_on_copy nat_eq new tree part.number) parent) place
+      if first then place_at part else unwrap_or (option_map
+      (mount_point_on_copy nat_eq new tree part.number) parent) place
 
   abbrev moved : World ℕ
   moved = left world new place mounts may
@@ -105,8 +106,8 @@ module _ (world : World ℕ) (new : Copies ℕ) (place : Location ℕ) (mounts :
   top_test origin =
       ap (λ (ms : List (Mount ℕ)). holds_of (same_origin (twig origin)) (first_of_list (map twig ms))) may.is_tree
 
-  copy_place_of : (part origin : Mount ℕ) → Among part takers → Among origin mounts → CopyPlace part origin
-  copy_place_of part origin taker m =
+  copy_mount_point_of : (part origin : Mount ℕ) → Among part takers → Among origin mounts → CopyPlace part origin
+  copy_mount_point_of part origin taker m =
       by (nat_eq origin.number may.top.number) refl origin.number (may.hangs origin m) refl
     where
       placed : (b : Bool) → nat_eq origin.number may.top.number ≡ b
@@ -167,7 +168,7 @@ module _ (world : World ℕ) (new : Copies ℕ) (place : Location ℕ) (mounts :
       let s = copied p x k in
       let t = copied q y l in
       subst (λ z. test z y ≡ false) (sym s.2) (subst (λ z. test (copy p s.0) z ≡ false) (sym t.2)
-      (by s.0 s.1 (copy_place_of p s.0 m s.1) t.0 t.1 (copy_place_of q t.0 n t.1)))
+      (by s.0 s.1 (copy_mount_point_of p s.0 m s.1) t.0 t.1 (copy_mount_point_of q t.0 n t.1)))
     where
       by : (a : Mount ℕ) → Among a mounts → CopyPlace p a → (b : Mount ℕ) → Among b mounts → CopyPlace q b
           → test (copy p a) (copy q b) ≡ false
@@ -188,11 +189,11 @@ module _ (world : World ℕ) (new : Copies ℕ) (place : Location ℕ) (mounts :
           (subst (λ k. nat_eq (new.copy p.number parent.number) (new.copy q.number k) ≡ false) same_too
           (two_parts p q parent other m n there_is there_too differ)))
 
-  module _ (places : OneMountAPlace world.mounts) (free : child_at nat_eq world.mounts place ≡ None) where
+  module _ (places : OneMountAMountPoint world.mounts) (free : child_at nat_eq world.mounts place ≡ None) where
     -- copies at one part
     two_at_one : (part : Mount ℕ) → Among part takers → (a b : Mount ℕ) → Among a mounts → Among b mounts
         → nat_eq a.number b.number ≡ false → test (copy part a) (copy part b) ≡ false
-    two_at_one part m a b i j differ = by (copy_place_of part a m i) (copy_place_of part b m j)
+    two_at_one part m a b i j differ = by (copy_mount_point_of part a m i) (copy_mount_point_of part b m j)
       where
         by : CopyPlace part a → CopyPlace part b → test (copy part a) (copy part b) ≡ false
         by (at_part e f) (at_part g h) =
@@ -252,7 +253,7 @@ module _ (world : World ℕ) (new : Copies ℕ) (place : Location ℕ) (mounts :
 
     -- What was there: it stays, or goes onto the copy at the receiver where it stood
     data PushCase (mount : Mount ℕ) : Type 0 where
-      stays : push mount ≡ mount → receiver_below nat_eq tree parts mount ≡ None → PushCase mount
+      stays : push mount ≡ mount → receiver_stood_on nat_eq tree parts mount ≡ None → PushCase mount
       goes : (receiver origin : Mount ℕ) → Among receiver takers → Among origin mounts
           → mount.mount_point ≡ Some (place_at receiver)
           → (push mount).mount_point ≡ Some (top_at receiver)
@@ -265,9 +266,9 @@ module _ (world : World ℕ) (new : Copies ℕ) (place : Location ℕ) (mounts :
     top_copy part = among-map (made part) tree.twigs (twig may.top) (among-map twig mounts may.top top_in)
 
     push_case : (mount : Mount ℕ) → PushCase mount
-    push_case mount = by (receiver_below nat_eq tree parts mount) refl
+    push_case mount = by (receiver_stood_on nat_eq tree parts mount) refl
       where
-        by : (found : Option (Mount ℕ)) → receiver_below nat_eq tree parts mount ≡ found → PushCase mount
+        by : (found : Option (Mount ℕ)) → receiver_stood_on nat_eq tree parts mount ≡ found → PushCase mount
         by None e = stays (ap (pushed_onto nat_eq world new tree parts mount) e) e
         by (Some receiver) e =
             let found = found_in (λ part. stands_at nat_eq (place_at part) mount) takers receiver e in
@@ -371,7 +372,7 @@ module _ (world : World ℕ) (new : Copies ℕ) (place : Location ℕ) (mounts :
     old_and_copy a m part x n k =
         let of = copied part x k in
         subst (λ z. test (push a) z ≡ false) (sym of.2)
-        (by of.0 of.1 (copy_place_of part of.0 n of.1) (push_case a) (subst (λ z. Among z (copies part)) of.2 k))
+        (by of.0 of.1 (copy_mount_point_of part of.0 n of.1) (push_case a) (subst (λ z. Among z (copies part)) of.2 k))
       where
         by : (origin : Mount ℕ) → Among origin mounts → CopyPlace part origin → PushCase a
             → Among (copy part origin) (copies part) → test (push a) (copy part origin) ≡ false
@@ -420,7 +421,7 @@ module _ (world : World ℕ) (new : Copies ℕ) (place : Location ℕ) (mounts :
                 ∙ subst (λ q. nat_eq (new.copy receiver.number second.number) (new.copy part.number q) ≡ false) same
                 (two_parts receiver part second parent r n u there_is differ))
 
-    pub places_moved : OneMountAPlace (attached_by nat_eq world new place true mounts).mounts
+    pub places_moved : OneMountAMountPoint (attached_by nat_eq world new place true mounts).mounts
     places_moved =
         let old = map push moved.mounts in
         ap (λ list. any_pair test (list ++ flat_map copies takers)) (append-nil old)

@@ -2,7 +2,7 @@
 use Rattle.std.proofs.Common.{◌≡◌, refl, sym, ap, subst, ◌∙◌, true, false, suc, nat_eq, ℕ, Bool, List, None, Option, Some, [], add-zero, cond, filter, flat_map, inl, inr, is_some, length, map, not, true≢false, ⊎_elim, ◌&&◌, ◌++◌, ◌+◌, ◌∷◌, zero, eqb-true, ◌⊎◌}
 use Rattle.std.proofs.lemmas.List.{length-append}
 use Rattle.std.proofs.lemmas.List.Elements.{filter-append}
-use Rattle.vt_spec.specs.Machine.Attach.{Copies, Graft, added_mounts, attached_by, bind_tree, copies_at, copy_at, parts_of, pushed_onto, receiver_below}
+use Rattle.vt_spec.specs.Machine.Attach.{Copies, Graft, added_mounts, attached_by, bind_tree, copies_at, copy_at, parts_of, pushed_onto, receiver_stood_on}
 use Rattle.vt_spec.specs.Lists.{folded, holds_of, rest_of}
 use Rattle.vt_spec.specs.Machine.Mounts.{Location, Mount, children, mount_in, replaced_if_same, stands_at, stands_on, tree_from, with_mount}
 use Rattle.std.specs.Prelude.{Contains}
@@ -131,9 +131,9 @@ module _ (world : World ℕ) (new : Copies ℕ) (place : Location ℕ) (moves : 
       (among-append (added_mounts moves (copies destination)) (flat_map copies (rest_of parts)) x m)
 
   pushed_alike : (mount : Mount ℕ) → is_some (pushing mount).mount_point ≡ is_some mount.mount_point
-  pushed_alike mount = by (receiver_below nat_eq tree parts mount) refl
+  pushed_alike mount = by (receiver_stood_on nat_eq tree parts mount) refl
     where
-      by : (part : Option (Mount ℕ)) → receiver_below nat_eq tree parts mount ≡ part
+      by : (part : Option (Mount ℕ)) → receiver_stood_on nat_eq tree parts mount ≡ part
           → is_some (pushing mount).mount_point ≡ is_some mount.mount_point
       by None e = ap (λ o. is_some (pushed_onto nat_eq world new tree parts mount o).mount_point) e
       by (Some part) e =

@@ -8,7 +8,7 @@ use Rattle.vt_spec.specs.Lists.{any_pair, chain, rest_of}
 use Rattle.vt_spec.specs.Machine.Mounts.{Location, Mount, root_of, stands_at}
 use Rattle.vt_spec.specs.Machine.Namespaces.{pivoted, pivoted_mount}
 use Rattle.vt_spec.specs.Machine.Looks.{looks_of}
-use Rattle.vt_spec.specs.Machine.Rules.Mounting.{is_below_mount, lies_under_place}
+use Rattle.vt_spec.specs.Machine.Rules.Mounting.{is_on_descendant, lies_under_location}
 use Rattle.vt_spec.specs.Machine.World.{World, mount_at, mount_numbered}
 use Rattle.vt_spec.specs.Machine.Invariants.{MountInvariants, Stands, is_nowhere_or_attached, is_private, share_a_mount_point}
 use Rattle.vt_spec.specs.Machine.Invariants.Stands.{at_root, on_parent}
@@ -455,9 +455,9 @@ numbered_mounts_can_pivot world namespace root new put root_inside new_inside pu
       root_inside = root_inside;
       new_inside = new_inside;
       put_inside = put_inside;
-      new_over = ap (λ n. is_below_mount nat_eq (looks_of nat_eq world) n (root_of (mount_at nat_eq world new)))
+      new_over = ap (λ n. is_on_descendant nat_eq (looks_of nat_eq world) n (root_of (mount_at nat_eq world new)))
           root_number
-          ∙ ap (is_below_mount nat_eq (looks_of nat_eq world) root) (sym top) ∙ over;
-      put_over = ap (λ here. lies_under_place nat_eq (looks_of nat_eq world) here put) (sym top) ∙ put_under;
+          ∙ ap (is_on_descendant nat_eq (looks_of nat_eq world) root) (sym top) ∙ over;
+      put_over = ap (λ here. lies_under_location nat_eq (looks_of nat_eq world) here put) (sym top) ∙ put_under;
       put_free = free;
     }

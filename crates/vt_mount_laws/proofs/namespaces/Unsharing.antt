@@ -171,9 +171,9 @@ module _ (world : World ℕ) (fresh : Fresh ℕ) (task : Task ℕ) (serves : Ser
       (among-append world.mounts (map copy copied) mount m)
 
   -- the place of a copy
-  copy_place : (mount : Mount ℕ) (place : Location ℕ) → (copy mount).mount_point ≡ Some place
+  copy_mount_point : (mount : Mount ℕ) (place : Location ℕ) → (copy mount).mount_point ≡ Some place
       → (origin : Location ℕ) × (mount.mount_point ≡ Some origin) × (location_on_copy new_number origin ≡ place)
-  copy_place mount place e = by mount.mount_point refl
+  copy_mount_point mount place e = by mount.mount_point refl
     where
       by : (found : Option (Location ℕ)) → mount.mount_point ≡ found
           → (origin : Location ℕ) × (mount.mount_point ≡ Some origin) × (location_on_copy new_number origin ≡ place)
@@ -190,8 +190,8 @@ module _ (world : World ℕ) (fresh : Fresh ℕ) (task : Task ℕ) (serves : Ser
       → share_a_mount_point nat_eq (copy a) (copy b) ≡ false
   two_copies a b m n differ = false_from_ne_true (share_a_mount_point nat_eq (copy a) (copy b)) (λ together.
       let both = place_of_both (copy a) (copy b) together in
-      let p = copy_place a both.0 both.1 in
-      let q = copy_place b both.0 both.2 in
+      let p = copy_mount_point a both.0 both.1 in
+      let q = copy_mount_point b both.0 both.2 in
       let on_p = copied_parent a m p.0 p.1 in
       let on_q = copied_parent b n q.0 q.1 in
       let same : location_on_copy new_number p.0 ≡ location_on_copy new_number q.0 = p.2 ∙ sym q.2 in
@@ -211,7 +211,7 @@ module _ (world : World ℕ) (fresh : Fresh ℕ) (task : Task ℕ) (serves : Ser
   old_and_copy : (a b : Mount ℕ) → Among a world.mounts → Among b copied → share_a_mount_point nat_eq a (copy b) ≡ false
   old_and_copy a b m n = false_from_ne_true (share_a_mount_point nat_eq a (copy b)) (λ together.
       let both = place_of_both a (copy b) together in
-      let q = copy_place b both.0 both.2 in
+      let q = copy_mount_point b both.0 both.2 in
       let parent = parent_of world mounts a m both.0 both.1 in
       let index = index_of nat_eq copied q.0.mount in
       let same : parent.parent.number ≡ fresh (2 * index + 1) =

@@ -4,19 +4,19 @@ use Rattle.std.specs.Prelude.{Contains, if◌then◌else◌}
 use Rattle.std.specs.List.{list_any}
 use Rattle.std.proofs.lemmas.Bool.{false_from_ne_true}
 use Rattle.vt_spec.proofs.Lists.{Among, among_from_contains, contains_from_among, among-from_map, among_numbers, any_from_among, is_among_numbers}
-use Rattle.vt_spec.specs.Machine.Attach.{Copies, copies_from, parts_of, pushed_onto, receiver_below, type_at, type_on_shared}
+use Rattle.vt_spec.specs.Machine.Attach.{Copies, copies_from, parts_of, pushed_onto, receiver_stood_on, type_at, type_on_shared}
 use Rattle.vt_spec.specs.Lists.{holds_of, is_among, rest_of}
 use Rattle.vt_spec.specs.Machine.Mounts.{Location, Mount, Propagation, group_of, is_shared, same_location}
 use Rattle.vt_spec.specs.Machine.Mounts.Propagation.{Private, Shared, Slave, Unbindable}
 use Rattle.vt_spec.specs.Machine.Receives.{is_member_of}
 use Rattle.vt_spec.specs.Machine.Run.{numbers_in_use}
-use Rattle.vt_mount_laws.specs.Mounts.Attaching.{KeepsAllButPlace, is_mount, numbers_of, stands_at_a_receiver}
+use Rattle.vt_mount_laws.specs.Mounts.Attaching.{KeepsAllButMountPoint, is_mount, numbers_of, stands_at_a_receiver}
 use Rattle.vt_mount_laws.specs.Mounts.Copies.{ServeAsCopies, ServeAsImages}
 use Rattle.vt_mount_laws.specs.Mounts.Propagation.{Attachment, CanAttach, CopiesAreNew, CopiesAtLowerGroupsFollow, CopiesAtPeersArePeers, CopiesAtSlavesAreSlaves, EachIsCopied, FirstStandsOnItsPart, IsOfTree, IsPart, OthersStandOnCopies, PrivateOnShared, SharedOnShared, SlaveOnShared, TypeOnNotShared, copy_of, destination_of, moves_to, number_at, world_after}
 use Rattle.vt_mount_laws.proofs.GroupsKept.{shared_member}
 use Rattle.vt_mount_laws.proofs.mounts.MountsAttached.{is_pushed_by}
 use Rattle.vt_mount_laws.proofs.mounts.MountsNumbered.{is_one_of, number_in_use, supplies_serve_as_copies, supplies_serve_as_images}
-use Rattle.vt_mount_laws.proofs.propagation.PropagationCopies.{arrived, arrived_keeps, first_not_pushed, first_place, found_copy, made, not_pushed, other_place, push, tree}
+use Rattle.vt_mount_laws.proofs.propagation.PropagationCopies.{arrived, arrived_keeps, first_not_pushed, first_location, found_copy, made, not_pushed, other_place, push, tree}
 use Rattle.vt_mount_laws.proofs.propagation.PropagationTypes.{image_new, image_of, kind, kind_there, lower_master, private_there, shared_kind, slave_kind, slave_there, there_new}
 use Rattle.vt_spec.proofs.Worlds.{number-mount_in, found_or_none}
 
@@ -62,9 +62,9 @@ module _ (it : Attachment) (can : CanAttach it) where
       origin (part_among part c) (tree_among origin d)
 
   pub copy_keeps : (part origin : Mount ℕ) → IsPart it part → IsOfTree it origin
-      → KeepsAllButPlace (made_at part origin) (copy_of it part origin)
+      → KeepsAllButMountPoint (made_at part origin) (copy_of it part origin)
   copy_keeps part origin c d =
-      subst (KeepsAllButPlace (made_at part origin)) (sym (is_copy part origin c d))
+      subst (KeepsAllButMountPoint (made_at part origin)) (sym (is_copy part origin c d))
       (arrived_keeps it.world supply it.mount_point it.moves it.mounts part origin)
 
   pub copy_kind : (part origin : Mount ℕ) → IsPart it part → IsOfTree it origin
@@ -85,7 +85,7 @@ module _ (it : Attachment) (can : CanAttach it) where
           → is_some (if b then push it.world supply it.mount_point it.moves it.mounts (made_at part origin)
           else made_at part origin).mount_point ≡ true
       by true =
-          pushed (receiver_below nat_eq (tree it.world supply it.mount_point it.moves it.mounts)
+          pushed (receiver_stood_on nat_eq (tree it.world supply it.mount_point it.moves it.mounts)
           (parts_of nat_eq it.world it.mount_point) (made_at part origin))
       by false = refl
 
@@ -119,7 +119,7 @@ module _ (it : Attachment) (can : CanAttach it) where
       (is_copy part first c
       (contains_from_among it.mounts first (subst (λ ms. Among first ms) (sym e) (inl refl)))
       ∙ first_not_pushed it.world supply it.mount_point it.moves it.mounts part first rest e)
-      ∙ first_place it.world supply it.mount_point it.moves it.mounts part first rest e
+      ∙ first_location it.world supply it.mount_point it.moves it.mounts part first rest e
 
   other_stands : (part first origin below : Mount ℕ) (rest : List (Mount ℕ)) (at : Location ℕ) → IsPart it part
       → it.mounts ≡ first ∷ rest → IsOfTree it origin → nat_eq origin.number first.number ≡ false → IsOfTree it below

@@ -3,11 +3,11 @@ use Rattle.std.proofs.Common.{◌≡◌, refl, sym, ap, subst, ◌∙◌, true, 
 use Rattle.std.specs.Prelude.{if◌then◌else◌}
 use Rattle.std.specs.List.{list_any}
 use Rattle.vt_spec.proofs.Lists.{Among, among-append_left, among-append_right, among-flat_map, among-from_filter, among-map, none_from_among, pair-map}
-use Rattle.vt_spec.specs.Machine.Attach.{Copies, Graft, Twig, attached_by, copies_at, copy_at, copy_number, graft_of, parts_of, place_on_copy, pushed_up, receivers_of, takes_part, twig_of}
+use Rattle.vt_spec.specs.Machine.Attach.{Copies, Graft, Twig, attached_by, copies_at, copy_at, copy_number, graft_of, parts_of, mount_point_on_copy, pushed_up, receivers_of, takes_part, twig_of}
 use Rattle.vt_spec.specs.Lists.{first_of_list, holds_of, is_among, rest_of}
 use Rattle.vt_spec.specs.Machine.Mounts.{Location, Mount, group_of, mount_in, same_location}
 use Rattle.vt_spec.specs.Machine.World.{World, mount_at, mount_numbered}
-use Rattle.vt_mount_laws.specs.Mounts.Attaching.{KeepsAllButPlace, OneNumberAMount, numbers_of}
+use Rattle.vt_mount_laws.specs.Mounts.Attaching.{KeepsAllButMountPoint, OneNumberAMount, numbers_of}
 use Rattle.vt_mount_laws.specs.Mounts.Copies.{ServeAsCopies}
 use Rattle.vt_mount_laws.proofs.mounts.MountsAttached.{arriving, found_attached, is_pushed_by, keeps_number, moved_ones, none_pushes, push_keeps}
 use Rattle.vt_mount_laws.proofs.mounts.MountsNumbered.{copies_keep_numbers, is_one_of, same_number, same_origin, taker_elsewhere}
@@ -17,7 +17,7 @@ use Rattle.vt_spec.proofs.Truths.{nat_eq_false_turned}
 use Rattle.vt_spec.proofs.Worlds.{number-mount_in}
 
 -- a mount that keeps all stays the same
-same_mount : (mount : Mount ℕ) → KeepsAllButPlace mount mount
+same_mount : (mount : Mount ℕ) → KeepsAllButMountPoint mount mount
 same_mount mount =
     record { number = refl; namespace = refl; filesystem = refl; root = refl; flags = refl; propagation = refl }
 
@@ -69,21 +69,22 @@ module _ (world : World ℕ) (new : Copies ℕ) (place : Location ℕ) (moves : 
   pub destination_there : nat_eq (mount_at nat_eq world place).number place.mount ≡ true
   destination_there = eq-eqb (mount_at nat_eq world place).number place.mount (number-mount_in world.mounts place.mount)
 
-  pub arrived_keeps : (part origin : Mount ℕ) → KeepsAllButPlace (made part origin) (arrived part origin)
+  pub arrived_keeps : (part origin : Mount ℕ) → KeepsAllButMountPoint (made part origin) (arrived part origin)
   arrived_keeps part origin = by (stays part)
     where
-      by : (b : Bool) → KeepsAllButPlace (made part origin) (if b then push (made part origin) else made part origin)
+      by : (b : Bool) → KeepsAllButMountPoint (made part origin) (if b then push
+          (made part origin) else made part origin)
       by true = push_keeps world new tree parts (made part origin)
       by false = same_mount (made part origin)
 
   -- where the top of the tree stands
-  pub first_place : (part first : Mount ℕ) (rest : List (Mount ℕ)) → mounts ≡ first ∷ rest
+  pub first_location : (part first : Mount ℕ) (rest : List (Mount ℕ)) → mounts ≡ first ∷ rest
       → (made part first).mount_point ≡ Some (record { mount = part.number; node = place.node })
-  first_place part first rest e =
+  first_location part first rest e =
       ap
       (λ b. Some (
       if b then record { mount = part.number; node = place.node }
-      else unwrap_or (option_map (place_on_copy nat_eq new tree part.number) first.mount_point) place))
+      else unwrap_or (option_map (mount_point_on_copy nat_eq new tree part.number) first.mount_point) place))
       (ap (λ ms. holds_of (λ (t : Twig ℕ). nat_eq first.number t.origin.number) (first_of_list (map twig ms))) e
       ∙ eq-eqb first.number first.number refl)
 
@@ -95,10 +96,10 @@ module _ (world : World ℕ) (new : Copies ℕ) (place : Location ℕ) (moves : 
       ap
       (λ b. Some (
       if b then record { mount = part.number; node = place.node }
-      else unwrap_or (option_map (place_on_copy nat_eq new tree part.number) origin.mount_point) place))
+      else unwrap_or (option_map (mount_point_on_copy nat_eq new tree part.number) origin.mount_point) place))
       (ap (λ ms. holds_of (λ (t : Twig ℕ). nat_eq origin.number t.origin.number) (first_of_list (map twig ms))) e
       ∙ differ)
-      ∙ ap (λ p. Some (unwrap_or (option_map (place_on_copy nat_eq new tree part.number) p) place)) stood
+      ∙ ap (λ p. Some (unwrap_or (option_map (mount_point_on_copy nat_eq new tree part.number) p) place)) stood
       ∙ ap (λ n. Some (record { mount = copy_number nat_eq new tree part.number n; node = at.node })) on
 
   -- what stands at no receiver's place stays where it is
@@ -122,7 +123,7 @@ module _ (world : World ℕ) (new : Copies ℕ) (place : Location ℕ) (moves : 
       none there =
           none_from_among (is_pushed_by world new tree parts (made part first)) (rest_of parts) (λ receiver m.
           ap (holds_of (same_location nat_eq (record { mount = receiver.number; node = place.node })))
-          (first_place part first rest e)
+          (first_location part first rest e)
           ∙ ap (λ n. nat_eq receiver.number n && nat_eq place.node place.node) (eqb-true part.number place.mount there)
           ∙ ap (λ b. b && nat_eq place.node place.node) (not_there receiver m))
 

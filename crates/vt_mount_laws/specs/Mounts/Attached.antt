@@ -12,49 +12,49 @@ use Rattle.vt_mount_laws.specs.Mounts.Invariants.{NowhereOrAttached, OneNumberEa
 use Rattle.vt_mount_laws.specs.Mounts.Receivers.{GroupsLive}
 use Rattle.vt_mount_laws.specs.Mounts.Standing.{AllStand}
 
--- the mount of a place is in a namespace
+-- the mount of a location is in a namespace
 abbrev pub IsAttachedAt : World ℕ → Location ℕ → Type 0
-IsAttachedAt world place = is_some (mount_at nat_eq world place).namespace ≡ true
+IsAttachedAt world destination = is_some (mount_at nat_eq world destination).namespace ≡ true
 
--- Where the destination is in a namespace, a mount outside every namespace has no place and is private:
--- after a bind,
+-- Where the destination is in a namespace, a mount outside every namespace has no mount point and is private: after a
+-- bind,
 abbrev pub BindsKeepNowhere : Type 0
 BindsKeepNowhere =
-    (world : World ℕ) (fresh : Fresh ℕ) (source place : Location ℕ) (recursive : Bool)
-    → NowhereOrAttached world → IsAttachedAt world place
-    → NowhereOrAttached (bound_at nat_eq fresh world source place recursive)
+    (world : World ℕ) (fresh : Fresh ℕ) (source destination : Location ℕ) (recursive : Bool)
+    → NowhereOrAttached world → IsAttachedAt world destination
+    → NowhereOrAttached (bound_at nat_eq fresh world source destination recursive)
 
 -- after a new mount,
 abbrev pub NewMountsKeepNowhere : Type 0
 NewMountsKeepNowhere =
-    (world : World ℕ) (fresh : Fresh ℕ) (place : Location ℕ) (filesystem : Filesystem ℕ)
-    (flags : MountFlags) → NowhereOrAttached world → IsAttachedAt world place
-    → NowhereOrAttached (mounted nat_eq fresh world place filesystem flags)
+    (world : World ℕ) (fresh : Fresh ℕ) (destination : Location ℕ) (filesystem : Filesystem ℕ)
+    (flags : MountFlags) → NowhereOrAttached world → IsAttachedAt world destination
+    → NowhereOrAttached (mounted nat_eq fresh world destination filesystem flags)
 
 -- and after a move.
 abbrev pub MovesKeepNowhere : Type 0
 MovesKeepNowhere =
-    (world : World ℕ) (fresh : Fresh ℕ) (source place : Location ℕ)
-    → NowhereOrAttached world → IsAttachedAt world place
-    → NowhereOrAttached (moved_to nat_eq fresh world source place)
+    (world : World ℕ) (fresh : Fresh ℕ) (source destination : Location ℕ)
+    → NowhereOrAttached world → IsAttachedAt world destination
+    → NowhereOrAttached (moved_to nat_eq fresh world source destination)
 
 -- Groups live on, where the numbers that are handed in are not in use: through a bind,
 abbrev pub BindsKeepGroups : Type 0
 BindsKeepGroups =
-    (world : World ℕ) (fresh : Fresh ℕ) (source place : Location ℕ) (recursive : Bool)
+    (world : World ℕ) (fresh : Fresh ℕ) (source destination : Location ℕ) (recursive : Bool)
     → Serves nat_eq world fresh → OneNumberEach world → AllStand world → GroupsLive world
-    → GroupsLive (bound_at nat_eq fresh world source place recursive)
+    → GroupsLive (bound_at nat_eq fresh world source destination recursive)
 
 -- through a new mount,
 abbrev pub NewMountsKeepGroups : Type 0
 NewMountsKeepGroups =
-    (world : World ℕ) (fresh : Fresh ℕ) (place : Location ℕ) (filesystem : Filesystem ℕ)
+    (world : World ℕ) (fresh : Fresh ℕ) (destination : Location ℕ) (filesystem : Filesystem ℕ)
     (flags : MountFlags) → Serves nat_eq (with_new_filesystem world filesystem) fresh → GroupsLive world
-    → GroupsLive (mounted nat_eq fresh world place filesystem flags)
+    → GroupsLive (mounted nat_eq fresh world destination filesystem flags)
 
 -- and through a move of a mount of the world.
 abbrev pub MovesKeepGroups : Type 0
 MovesKeepGroups =
-    (world : World ℕ) (fresh : Fresh ℕ) (source place : Location ℕ) → Serves nat_eq world fresh
+    (world : World ℕ) (fresh : Fresh ℕ) (source destination : Location ℕ) → Serves nat_eq world fresh
     → OneNumberEach world → AllStand world → is_mount world source.mount ≡ true → GroupsLive world
-    → GroupsLive (moved_to nat_eq fresh world source place)
+    → GroupsLive (moved_to nat_eq fresh world source destination)

@@ -44,6 +44,6 @@ SuppliesServeAsImages =
 -- and with numbers that serve each mount has a number of its own after a tree of such mounts was attached.
 abbrev pub CopiesKeepNumbers : Type 0
 CopiesKeepNumbers =
-    (world : World ℕ) (new : Copies ℕ) (place : Location ℕ) (moves : Bool) (mounts : List (Mount ℕ))
-    → ServeAsCopies world (parts_of nat_eq world place) mounts new → OneNumberAMount mounts
-    → OneNumberAMount world.mounts → OneNumberAMount (attached_by nat_eq world new place moves mounts).mounts
+    (world : World ℕ) (new : Copies ℕ) (destination : Location ℕ) (moves : Bool) (mounts : List (Mount ℕ))
+    → ServeAsCopies world (parts_of nat_eq world destination) mounts new → OneNumberAMount mounts
+    → OneNumberAMount world.mounts → OneNumberAMount (attached_by nat_eq world new destination moves mounts).mounts

@@ -54,7 +54,7 @@ LazyUnmountKeepsMounts =
 abbrev pub mount_count : World ℕ → ℕ → ℕ
 mount_count world namespace = length (mounts_of nat_eq world namespace)
 
--- and how many without a place
+-- and how many without a mount point
 abbrev pub root_mounts_in : World ℕ → ℕ → ℕ
 root_mounts_in world namespace =
     length (filter (is_root_mount nat_eq) (mounts_of nat_eq world namespace))
@@ -112,7 +112,7 @@ ByEndedNamespaces Relation =
     (world : World ℕ) → Relation world (namespaces_ended nat_eq world)
 
 -- Where each mount has a number of its own, root mounts stay: those of all namespaces, if what is unmounted has a
--- place,
+-- mount point,
 abbrev pub UnmountKeepsRootMounts : Type 0
 UnmountKeepsRootMounts =
     (world : World ℕ) (one : ℕ) → OneNumberEach world

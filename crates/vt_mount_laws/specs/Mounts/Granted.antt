@@ -6,7 +6,7 @@ use Rattle.vt_spec.specs.Language.Calls.Call.{Bind, Exit, Lazy, MountOverlay, Mo
 use Rattle.vt_spec.specs.Machine.Detach.{lazily_unmounted, without_mounts_on}
 use Rattle.vt_spec.specs.Lists.{Fresh, odds}
 use Rattle.vt_spec.specs.Machine.Namespaces.{namespace_entered, namespaces_ended, pivoted, unshared}
-use Rattle.vt_spec.specs.Machine.Outcome.Mounting.{LayerPlaces, bound_at, destination_walk, layers_walked, mounted, moved_to, overlay_mounted, plain_filesystem, source_walk, with_flags}
+use Rattle.vt_spec.specs.Machine.Outcome.Mounting.{LayerLocations, bound_at, destination_walk, layers_walked, mounted, moved_to, overlay_mounted, plain_filesystem, source_walk, with_flags}
 use Rattle.vt_spec.specs.Machine.Outcome.Removing.{object_there, is_one_object, rename_new_walk, without_replaced}
 use Rattle.vt_spec.specs.Language.Answers.Answer.{Done}
 use Rattle.vt_spec.specs.Machine.Policy.{policy}
@@ -49,7 +49,7 @@ MountMounts =
 abbrev pub OverlayMounts : Type 0
 OverlayMounts =
     (fresh : Fresh ℕ) (world : World ℕ) (name : TaskName) (task : Task ℕ) (path : List ℕ) (words : OverlayWords)
-    (flags : MountFlags) (here : Here ℕ) (places : LayerPlaces ℕ)
+    (flags : MountFlags) (here : Here ℕ) (places : LayerLocations ℕ)
     → walk_end (destination_walk nat_eq world task path) ≡ Ok here → layers_walked nat_eq world task words ≡ Ok places
     → Leaves fresh world name task (MountOverlay path (Some words) flags)
     (overlay_mounted nat_eq fresh world task here.location places flags)
@@ -84,7 +84,7 @@ PivotPivots =
     (pivoted nat_eq world task.namespace (mount_at nat_eq world task.root)
     (mount_at nat_eq world root.location) here.location)
 
--- A removed directory takes the mounts on it away, with all below them.
+-- A removed directory takes the mounts on it away, with all their descendants.
 abbrev pub RmdirTakesMounts : Type 0
 RmdirTakesMounts =
     (fresh : Fresh ℕ) (world : World ℕ) (name : TaskName) (task : Task ℕ) (path : List ℕ) (place : Place ℕ)

@@ -15,9 +15,9 @@ use Rattle.vt_spec.specs.Machine.Types.{with_type}
 use Rattle.vt_spec.specs.Machine.World.{World, Task}
 use Rattle.vt_spec.specs.Machine.Invariants.{is_nowhere_or_attached}
 use Rattle.vt_mount_laws.specs.Mounts.Attaching.{OneNumberAMount}
-use Rattle.vt_mount_laws.specs.Mounts.Places.{OneMountAPlace}
+use Rattle.vt_mount_laws.specs.Mounts.MountPoints.{OneMountAMountPoint}
 use Rattle.vt_mount_laws.specs.Mounts.Receivers.{GroupsLive}
-use Rattle.vt_mount_laws.specs.Mounts.Unmounting.{PlacesEnd}
+use Rattle.vt_mount_laws.specs.Mounts.Unmounting.{ChainsEnd}
 
 -- The invariants
 
@@ -25,16 +25,16 @@ use Rattle.vt_mount_laws.specs.Mounts.Unmounting.{PlacesEnd}
 abbrev pub OneNumberEach : World ℕ → Type 0
 OneNumberEach world = OneNumberAMount world.mounts
 
--- at most one mount stands at a place
-abbrev pub OneMountEachPlace : World ℕ → Type 0
-OneMountEachPlace world = OneMountAPlace world.mounts
+-- no two mounts have one mount point
+abbrev pub OneMountEachMountPoint : World ℕ → Type 0
+OneMountEachMountPoint world = OneMountAMountPoint world.mounts
 
 -- both
 pub record AreApart (world : World ℕ) : Type 0 where
   pub by_number : OneNumberEach world
-  pub by_place : OneMountEachPlace world
+  pub by_place : OneMountEachMountPoint world
 
--- a mount outside every namespace has no place and is private
+-- a mount outside every namespace has no mount point and is private
 abbrev pub NowhereOrAttached : World ℕ → Type 0
 NowhereOrAttached world = list_all is_nowhere_or_attached world.mounts ≡ true
 
@@ -113,41 +113,41 @@ UnshareKeepsNumbers =
 
 -- Places
 
--- An unmount of a mount on which no other stands leaves at most one mount at a place: what covered a mount that goes
--- takes a place that is free.
-abbrev pub UnmountLeavesOneMountAPlace : Type 0
-UnmountLeavesOneMountAPlace =
+-- An unmount of a mount without children leaves no two mounts with one mount point: what covered a mount that goes
+-- takes a mount point that is free.
+abbrev pub UnmountLeavesOneMountAMountPoint : Type 0
+UnmountLeavesOneMountAMountPoint =
     (world : World ℕ) (one : ℕ) → AreApart world → has_child nat_eq world one ≡ false
     → AreApart (unmounted nat_eq world one)
 
 -- So does the end of whole trees of mounts, as of those on a removed directory: mount_namespaces(7).
-abbrev pub TreesLeaveOneMountAPlace : Type 0
-TreesLeaveOneMountAPlace =
-    (world : World ℕ) (mounts : List (Mount ℕ)) → PlacesEnd world → AreApart world
+abbrev pub TreesLeaveOneMountAMountPoint : Type 0
+TreesLeaveOneMountAMountPoint =
+    (world : World ℕ) (mounts : List (Mount ℕ)) → ChainsEnd world → AreApart world
     → AreApart (trees_taken_away nat_eq world mounts)
 
 -- And so does the end of namespaces: mount_namespaces(7).
-abbrev pub EndedNamespacesLeaveOneMountAPlace : Type 0
-EndedNamespacesLeaveOneMountAPlace = (world : World ℕ) → PlacesEnd world → AreApart world
+abbrev pub EndedNamespacesLeaveOneMountAMountPoint : Type 0
+EndedNamespacesLeaveOneMountAMountPoint = (world : World ℕ) → ChainsEnd world → AreApart world
     → AreApart (namespaces_ended nat_eq world)
 
--- Where each mount has a number of its own, the places below places come to an end in one namespace also after a change
--- of type,
-abbrev pub TypeKeepsPlacesEnding : Type 0
-TypeKeepsPlacesEnding =
+-- Where each mount has a number of its own, the chain of parents of each mount comes to an end in one namespace also
+-- after a change of type,
+abbrev pub TypeKeepsChainsEnding : Type 0
+TypeKeepsChainsEnding =
     (world : World ℕ) (fresh : Fresh ℕ) (one : ℕ) (word : TypeWord) (recursive : Bool)
-    → OneNumberEach world → PlacesEnd world → PlacesEnd (with_type nat_eq fresh world one word recursive)
+    → OneNumberEach world → ChainsEnd world → ChainsEnd (with_type nat_eq fresh world one word recursive)
 
 -- a change of flags,
-abbrev pub FlagsKeepPlacesEnding : Type 0
-FlagsKeepPlacesEnding =
-    (world : World ℕ) (here : Location ℕ) (flags : MountFlags) → OneNumberEach world → PlacesEnd world
-    → PlacesEnd (with_flags nat_eq world here flags)
+abbrev pub FlagsKeepChainsEnding : Type 0
+FlagsKeepChainsEnding =
+    (world : World ℕ) (here : Location ℕ) (flags : MountFlags) → OneNumberEach world → ChainsEnd world
+    → ChainsEnd (with_flags nat_eq world here flags)
 
 -- and the inheritance of groups.
-abbrev pub InheritanceKeepsPlacesEnding : Type 0
-InheritanceKeepsPlacesEnding = (world : World ℕ) → OneNumberEach world → PlacesEnd world
-    → PlacesEnd (regrouped nat_eq world)
+abbrev pub InheritanceKeepsChainsEnding : Type 0
+InheritanceKeepsChainsEnding = (world : World ℕ) → OneNumberEach world → ChainsEnd world
+    → ChainsEnd (regrouped nat_eq world)
 
 -- Groups
 

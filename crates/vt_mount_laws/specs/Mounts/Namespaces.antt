@@ -7,18 +7,18 @@ use Rattle.vt_spec.specs.Machine.Looks.{looks_of}
 use Rattle.vt_spec.specs.Machine.Mounts.{Location, Mount, child_at, numbers_by, root_of, topmost}
 use Rattle.vt_spec.specs.Machine.Namespaces.{copied_mount, pivoted, unshared}
 use Rattle.vt_spec.specs.Machine.Outcome.Mounting.{with_flags}
-use Rattle.vt_spec.specs.Machine.Rules.Mounting.{is_below_mount, lies_under_place}
+use Rattle.vt_spec.specs.Machine.Rules.Mounting.{is_on_descendant, lies_under_location}
 use Rattle.vt_spec.specs.Machine.Run.{Serves}
 use Rattle.vt_spec.specs.Machine.Types.{with_type}
 use Rattle.vt_spec.specs.Machine.World.{Task, World, mount_at, mount_numbered, mounts_of}
 use Rattle.vt_spec.specs.Machine.Invariants.{MountInvariants, is_listed, is_root_mount}
 use Rattle.vt_mount_laws.specs.Mounts.Invariants.{OneNumberEach}
 
--- Where mounts have their invariants, no mount stands over the topmost one over a place.
+-- Where mounts have their invariants, no mount stands over the topmost one over a location.
 abbrev pub TopmostIsFree : Type 0
 TopmostIsFree =
-    (world : World ℕ) (place : Location ℕ) → MountInvariants nat_eq world
-    → child_at nat_eq world.mounts (topmost nat_eq world.mounts place) ≡ None
+    (world : World ℕ) (location : Location ℕ) → MountInvariants nat_eq world
+    → child_at nat_eq world.mounts (topmost nat_eq world.mounts location) ≡ None
 
 -- a namespace of a world has as many mounts, and as many root mounts, as one of another world
 pub record HasAsMany (world : World ℕ) (namespace : ℕ) (after : World ℕ) (later : ℕ) : Type 0 where
@@ -101,8 +101,8 @@ pub record CanPivot (world : World ℕ) (namespace : ℕ) (root new : Mount ℕ)
   pub root_inside : root.namespace ≡ Some namespace
   pub new_inside : new.namespace ≡ Some namespace
   pub put_inside : (mount_at nat_eq world put).namespace ≡ Some namespace
-  pub new_over : is_below_mount nat_eq (looks_of nat_eq world) root.number (root_of new) ≡ true
-  pub put_over : lies_under_place nat_eq (looks_of nat_eq world) (root_of new) put ≡ true
+  pub new_over : is_on_descendant nat_eq (looks_of nat_eq world) root.number (root_of new) ≡ true
+  pub put_over : lies_under_location nat_eq (looks_of nat_eq world) (root_of new) put ≡ true
   pub put_free : child_at nat_eq world.mounts put ≡ None
 
 -- Then a pivot keeps the invariants of mounts,
@@ -124,6 +124,6 @@ NumberedMountsCanPivot =
     (world : World ℕ) (namespace root : ℕ) (new put : Location ℕ) → IsIn world namespace root
     → IsIn world namespace new.mount → IsIn world namespace put.mount
     → new.node ≡ (mount_at nat_eq world new).root
-    → is_below_mount nat_eq (looks_of nat_eq world) root new ≡ true
-    → lies_under_place nat_eq (looks_of nat_eq world) new put ≡ true → child_at nat_eq world.mounts put ≡ None
+    → is_on_descendant nat_eq (looks_of nat_eq world) root new ≡ true
+    → lies_under_location nat_eq (looks_of nat_eq world) new put ≡ true → child_at nat_eq world.mounts put ≡ None
     → CanPivot world namespace (mount_numbered nat_eq world root) (mount_at nat_eq world new) put

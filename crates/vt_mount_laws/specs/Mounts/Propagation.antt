@@ -20,7 +20,7 @@ use Rattle.vt_mount_laws.specs.Mounts.Unmounting.{mount_left}
 
 -- Attaching
 
--- What is attached: a tree of mounts at a place. The mounts move there, or copies of them are put there; at the
+-- What is attached: a tree of mounts at a destination. The mounts move there, or copies of them are put there; at the
 -- receivers copies are. New numbers come out of a supply.
 pub record Attachment : Type 0 where
   pub world : World ℕ
@@ -31,28 +31,28 @@ pub record Attachment : Type 0 where
 
 -- a bind, a new mount and a move: mount(2)
 abbrev pub bind_of : Fresh ℕ → World ℕ → Location ℕ → Location ℕ → Bool → Attachment
-bind_of fresh world source place recursive = record {
+bind_of fresh world source destination recursive = record {
   world = world;
   fresh = fresh;
-  mount_point = place;
+  mount_point = destination;
   moves = false;
   mounts = bind_tree nat_eq world source recursive;
 }
 
 abbrev pub new_mount_of : Fresh ℕ → World ℕ → Location ℕ → Filesystem ℕ → MountFlags → Attachment
-new_mount_of fresh world place filesystem flags = record {
+new_mount_of fresh world destination filesystem flags = record {
   world = with_new_filesystem world filesystem;
   fresh = fresh;
-  mount_point = place;
+  mount_point = destination;
   moves = false;
   mounts = new_mount filesystem.number filesystem.files.tree.root flags ∷ [];
 }
 
 abbrev pub move_of : Fresh ℕ → World ℕ → Location ℕ → Location ℕ → Attachment
-move_of fresh world source place = record {
+move_of fresh world source destination = record {
   world = world;
   fresh = fresh;
-  mount_point = place;
+  mount_point = destination;
   moves = true;
   mounts = moved_tree nat_eq world source;
 }
@@ -101,21 +101,22 @@ pub record CanAttach (it : Attachment) : Type 0 where
 -- The invariants of mounts see to that for a bind,
 abbrev pub BindsCan : Type 0
 BindsCan =
-    (world : World ℕ) (fresh : Fresh ℕ) (source place : Location ℕ) (recursive : Bool) → Serves nat_eq world fresh
-    → MountInvariants nat_eq world → CanAttach (bind_of fresh world source place recursive)
+    (world : World ℕ) (fresh : Fresh ℕ) (source destination : Location ℕ) (recursive : Bool) → Serves nat_eq world fresh
+    → MountInvariants nat_eq world → CanAttach (bind_of fresh world source destination recursive)
 
 -- for a new mount,
 abbrev pub NewMountsCan : Type 0
 NewMountsCan =
-    (world : World ℕ) (fresh : Fresh ℕ) (place : Location ℕ) (filesystem : Filesystem ℕ) (flags : MountFlags)
+    (world : World ℕ) (fresh : Fresh ℕ) (destination : Location ℕ) (filesystem : Filesystem ℕ) (flags : MountFlags)
     → Serves nat_eq (with_new_filesystem world filesystem) fresh → MountInvariants nat_eq world
-    → CanAttach (new_mount_of fresh world place filesystem flags)
+    → CanAttach (new_mount_of fresh world destination filesystem flags)
 
 -- and for a move of a mount that there is.
 abbrev pub MovesCan : Type 0
 MovesCan =
-    (world : World ℕ) (fresh : Fresh ℕ) (source place : Location ℕ) → Serves nat_eq world fresh
-    → MountInvariants nat_eq world → is_mount world source.mount ≡ true → CanAttach (move_of fresh world source place)
+    (world : World ℕ) (fresh : Fresh ℕ) (source destination : Location ℕ) → Serves nat_eq world fresh
+    → MountInvariants nat_eq world → is_mount world source.mount ≡ true
+    → CanAttach (move_of fresh world source destination)
 
 -- Copies
 
@@ -142,15 +143,15 @@ CopiesAreNew =
 
 -- Places
 
--- The first of the tree stands on each part, at the node of the place.
+-- The first of the tree stands on each part, at the node of the destination.
 abbrev pub FirstStandsOnItsPart : Type 0
 FirstStandsOnItsPart =
     (it : Attachment) (part first : Mount ℕ) (rest : List (Mount ℕ)) → CanAttach it → IsPart it part
     → it.mounts ≡ first ∷ rest
     → (copy_of it part first).mount_point ≡ Some (record { mount = part.number; node = it.mount_point.node })
 
--- Each other stands on the copy of the one on which it stood, at the same node; where mounts move, unless it stood at
--- the place of a receiver.
+-- Each other stands on the copy of the one on which it stood, at the same node; where mounts move, unless its mount
+-- point was the destination's directory on a receiver.
 abbrev pub OthersStandOnCopies : Type 0
 OthersStandOnCopies =
     (it : Attachment) (part first origin below : Mount ℕ) (rest : List (Mount ℕ)) (at : Location ℕ) → CanAttach it
@@ -281,12 +282,12 @@ CopiesHearAsTheirOrigins =
 
 -- Unmounting: sharedsubtree, "Unmount semantics"
 
--- no mount stands at the node of the place on a mount that receives from the destination's group
+-- no mount has the destination's directory as mount point on a mount that receives from the destination's group
 abbrev pub NothingAtReceivers : World ℕ → Location ℕ → Type 0
-NothingAtReceivers world place =
-    (group : ℕ) (receiver mount : Mount ℕ) → (mount_at nat_eq world place).propagation ≡ Shared group
+NothingAtReceivers world destination =
+    (group : ℕ) (receiver mount : Mount ℕ) → (mount_at nat_eq world destination).propagation ≡ Shared group
     → Contains world.mounts receiver → receives nat_eq world group receiver ≡ true → Contains world.mounts mount
-    → stands_at nat_eq (record { mount = receiver.number; node = place.node }) mount ≡ false
+    → stands_at nat_eq (record { mount = receiver.number; node = destination.node }) mount ≡ false
 
 -- the unmount of what was attached at the destination undoes it: each mount that was there has its record back, all
 -- copies are detached, and groups that have members have the masters that they had
@@ -300,26 +301,31 @@ pub record IsUndone (it : Attachment) (one : Mount ℕ) : Type 0 where
   pub masters : (group : ℕ) → has_members nat_eq it.world.mounts group ≡ true
       → (unmounted nat_eq (world_after it) (number_at it (destination_of it) one)).master group ≡ it.world.master group
 
--- An unmount undoes a new mount at a free place, where no mount stands at the place of a receiver,
+-- An unmount undoes a new mount at a free location, where no mount has the destination's directory as mount point on a
+-- receiver,
 abbrev pub UnmountUndoesNewMount : Type 0
 UnmountUndoesNewMount =
-    (world : World ℕ) (fresh : Fresh ℕ) (place : Location ℕ) (filesystem : Filesystem ℕ) (flags : MountFlags)
+    (world : World ℕ) (fresh : Fresh ℕ) (destination : Location ℕ) (filesystem : Filesystem ℕ) (flags : MountFlags)
     → Serves nat_eq (with_new_filesystem world filesystem) fresh → MountInvariants nat_eq world
-    → is_mount world place.mount ≡ true → child_at nat_eq world.mounts place ≡ None → NothingAtReceivers world place
-    → IsUndone (new_mount_of fresh world place filesystem flags)
+    → is_mount world destination.mount ≡ true → child_at nat_eq world.mounts destination ≡ None
+    → NothingAtReceivers world destination
+    → IsUndone (new_mount_of fresh world destination filesystem flags)
     (new_mount filesystem.number filesystem.files.tree.root flags)
 
 -- and a bind of one mount.
 abbrev pub UnmountUndoesBind : Type 0
 UnmountUndoesBind =
-    (world : World ℕ) (fresh : Fresh ℕ) (source place : Location ℕ) → Serves nat_eq world fresh
-    → MountInvariants nat_eq world → is_mount world place.mount ≡ true → child_at nat_eq world.mounts place ≡ None
-    → NothingAtReceivers world place → IsUndone (bind_of fresh world source place false) (bound nat_eq world source)
+    (world : World ℕ) (fresh : Fresh ℕ) (source destination : Location ℕ) → Serves nat_eq world fresh
+    → MountInvariants nat_eq world → is_mount world destination.mount ≡ true
+    → child_at nat_eq world.mounts destination ≡ None
+    → NothingAtReceivers world destination
+    → IsUndone (bind_of fresh world source destination false) (bound nat_eq world source)
 
 -- Unsharing
 
--- The list of the new namespace's mounts reads as that of the caller's did: the same order, places, filesystems, roots,
--- flags and types. Copies of shared mounts are their peers, copies of slaves have their masters: mount_namespaces(7).
+-- The list of the new namespace's mounts reads as that of the caller's did: the same order, mount points, filesystems,
+-- roots, flags and types. Copies of shared mounts are their peers, copies of slaves have their masters:
+-- mount_namespaces(7).
 abbrev pub UnshareListsTheSame : Type 0
 UnshareListsTheSame =
     (world : World ℕ) (fresh : Fresh ℕ) (task : Task ℕ) → Serves nat_eq world fresh → MountInvariants nat_eq world

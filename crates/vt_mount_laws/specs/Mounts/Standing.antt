@@ -9,8 +9,8 @@ use Rattle.vt_spec.specs.Machine.Run.{Serves}
 use Rattle.vt_spec.specs.Machine.World.{Filesystem, World, mount_numbered}
 use Rattle.vt_spec.specs.Machine.Invariants.{Stands}
 use Rattle.vt_mount_laws.specs.Mounts.Attaching.{OneNumberAMount, is_mount}
-use Rattle.vt_mount_laws.specs.Mounts.Invariants.{NowhereOrAttached, OneMountEachPlace, OneNumberEach}
-use Rattle.vt_mount_laws.specs.Mounts.Unmounting.{PlacesEnd}
+use Rattle.vt_mount_laws.specs.Mounts.Invariants.{NowhereOrAttached, OneMountEachMountPoint, OneNumberEach}
+use Rattle.vt_mount_laws.specs.Mounts.Unmounting.{ChainsEnd}
 
 -- each mount stands
 abbrev pub AllStand : World ℕ → Type 0
@@ -18,9 +18,9 @@ AllStand world = All (λ mount. Stands nat_eq world mount.number) world.mounts
 
 -- That is what the test of it computes.
 abbrev pub StandingIsComputed : Type 0
-StandingIsComputed = (world : World ℕ) → OneNumberEach world → AllStand world ↔ PlacesEnd world
+StandingIsComputed = (world : World ℕ) → OneNumberEach world → AllStand world ↔ ChainsEnd world
 
--- A mount and all below it are each once in their tree,
+-- A mount and its descendants are each once in their tree,
 abbrev pub TreesHaveEachOnce : Type 0
 TreesHaveEachOnce =
     (world : World ℕ) (number : ℕ) → OneNumberEach world → AllStand world
@@ -35,46 +35,48 @@ BindsTakeEachOnce =
 -- Mounts keep standing, each with a number of its own, where those that are handed in are not in use: through a bind,
 abbrev pub BindsKeepStanding : Type 0
 BindsKeepStanding =
-    (world : World ℕ) (fresh : Fresh ℕ) (source place : Location ℕ) (recursive : Bool) → Serves nat_eq world fresh
-    → OneNumberEach world → NowhereOrAttached world → AllStand world → is_mount world place.mount ≡ true
-    → AllStand (bound_at nat_eq fresh world source place recursive)
+    (world : World ℕ) (fresh : Fresh ℕ) (source destination : Location ℕ) (recursive : Bool) → Serves nat_eq world fresh
+    → OneNumberEach world → NowhereOrAttached world → AllStand world → is_mount world destination.mount ≡ true
+    → AllStand (bound_at nat_eq fresh world source destination recursive)
 
 abbrev pub BindsKeepNumbers : Type 0
 BindsKeepNumbers =
-    (world : World ℕ) (fresh : Fresh ℕ) (source place : Location ℕ) (recursive : Bool) → Serves nat_eq world fresh
-    → OneNumberEach world → AllStand world → OneNumberEach (bound_at nat_eq fresh world source place recursive)
+    (world : World ℕ) (fresh : Fresh ℕ) (source destination : Location ℕ) (recursive : Bool) → Serves nat_eq world fresh
+    → OneNumberEach world → AllStand world → OneNumberEach (bound_at nat_eq fresh world source destination recursive)
 
 -- through a new mount,
 abbrev pub NewMountsKeepStanding : Type 0
 NewMountsKeepStanding =
-    (world : World ℕ) (fresh : Fresh ℕ) (place : Location ℕ) (filesystem : Filesystem ℕ) (flags : MountFlags)
+    (world : World ℕ) (fresh : Fresh ℕ) (destination : Location ℕ) (filesystem : Filesystem ℕ) (flags : MountFlags)
     → Serves nat_eq (with_new_filesystem world filesystem) fresh → OneNumberEach world → NowhereOrAttached world
-    → AllStand world → is_mount world place.mount ≡ true → AllStand (mounted nat_eq fresh world place filesystem flags)
+    → AllStand world → is_mount world destination.mount ≡ true
+    → AllStand (mounted nat_eq fresh world destination filesystem flags)
 
 abbrev pub NewMountsKeepNumbers : Type 0
 NewMountsKeepNumbers =
-    (world : World ℕ) (fresh : Fresh ℕ) (place : Location ℕ) (filesystem : Filesystem ℕ) (flags : MountFlags)
+    (world : World ℕ) (fresh : Fresh ℕ) (destination : Location ℕ) (filesystem : Filesystem ℕ) (flags : MountFlags)
     → Serves nat_eq (with_new_filesystem world filesystem) fresh → OneNumberEach world
-    → OneNumberEach (mounted nat_eq fresh world place filesystem flags)
+    → OneNumberEach (mounted nat_eq fresh world destination filesystem flags)
 
 -- and through a move, which hands numbers to the copies at receivers.
 abbrev pub MovesKeepNumbers : Type 0
 MovesKeepNumbers =
-    (world : World ℕ) (fresh : Fresh ℕ) (source place : Location ℕ) → Serves nat_eq world fresh → OneNumberEach world
-    → AllStand world → OneNumberEach (moved_to nat_eq fresh world source place)
+    (world : World ℕ) (fresh : Fresh ℕ) (source destination : Location ℕ) → Serves nat_eq world fresh
+    → OneNumberEach world
+    → AllStand world → OneNumberEach (moved_to nat_eq fresh world source destination)
 
--- A bind and a new mount leave at most one mount at a place, where none stands at the destination: that is one over
+-- A bind and a new mount leave no two mounts with one mount point, where none has the destination: that is one over
 -- which no mount stands.
-abbrev pub BindsKeepPlaces : Type 0
-BindsKeepPlaces =
-    (world : World ℕ) (fresh : Fresh ℕ) (source place : Location ℕ) (recursive : Bool) → Serves nat_eq world fresh
-    → OneNumberEach world → NowhereOrAttached world → AllStand world → is_mount world place.mount ≡ true
-    → child_at nat_eq world.mounts place ≡ None → OneMountEachPlace world
-    → OneMountEachPlace (bound_at nat_eq fresh world source place recursive)
+abbrev pub BindsKeepMountPoints : Type 0
+BindsKeepMountPoints =
+    (world : World ℕ) (fresh : Fresh ℕ) (source destination : Location ℕ) (recursive : Bool) → Serves nat_eq world fresh
+    → OneNumberEach world → NowhereOrAttached world → AllStand world → is_mount world destination.mount ≡ true
+    → child_at nat_eq world.mounts destination ≡ None → OneMountEachMountPoint world
+    → OneMountEachMountPoint (bound_at nat_eq fresh world source destination recursive)
 
-abbrev pub NewMountsKeepPlaces : Type 0
-NewMountsKeepPlaces =
-    (world : World ℕ) (fresh : Fresh ℕ) (place : Location ℕ) (filesystem : Filesystem ℕ) (flags : MountFlags)
+abbrev pub NewMountsKeepMountPoints : Type 0
+NewMountsKeepMountPoints =
+    (world : World ℕ) (fresh : Fresh ℕ) (destination : Location ℕ) (filesystem : Filesystem ℕ) (flags : MountFlags)
     → Serves nat_eq (with_new_filesystem world filesystem) fresh → OneNumberEach world → NowhereOrAttached world
-    → AllStand world → is_mount world place.mount ≡ true → child_at nat_eq world.mounts place ≡ None
-    → OneMountEachPlace world → OneMountEachPlace (mounted nat_eq fresh world place filesystem flags)
+    → AllStand world → is_mount world destination.mount ≡ true → child_at nat_eq world.mounts destination ≡ None
+    → OneMountEachMountPoint world → OneMountEachMountPoint (mounted nat_eq fresh world destination filesystem flags)

@@ -22,12 +22,13 @@ use Rattle.vt_mount_laws.specs.Mounts.Receivers.{GroupsLive}
 -- itself.
 pub data Goes (world : World ℕ) (mount : Mount ℕ) : ℕ → Type 0 where
   from_nowhere : mount.mount_point ≡ None → Goes world mount mount.number
-  alone : (place : Location ℕ) → mount.mount_point ≡ Some place → is_shared (mount_at nat_eq world place).propagation ≡ false
+  alone : (point : Location ℕ) → mount.mount_point ≡ Some point
+      → is_shared (mount_at nat_eq world point).propagation ≡ false
       → Goes world mount mount.number
-  at_receiver : (place : Location ℕ) (group : ℕ) (receiver child : Mount ℕ)
-      → mount.mount_point ≡ Some place → (mount_at nat_eq world place).propagation ≡ Shared group
+  at_receiver : (point : Location ℕ) (group : ℕ) (receiver child : Mount ℕ)
+      → mount.mount_point ≡ Some point → (mount_at nat_eq world point).propagation ≡ Shared group
       → Contains world.mounts receiver → Receives world group receiver
-      → child_at nat_eq world.mounts (record { mount = receiver.number; node = place.node }) ≡ Some child
+      → child_at nat_eq world.mounts (record { mount = receiver.number; node = point.node }) ≡ Some child
       → may_go nat_eq world child ≡ true
       → Goes world mount child.number
 
@@ -51,14 +52,14 @@ UnmountKeepsTheOrder =
     (world : World ℕ) (one : ℕ)
     → map (λ mount. mount.number) (unmounted nat_eq world one).mounts ≡ map (λ mount. mount.number) world.mounts
 
--- What goes loses its namespace, its place and its group, and nothing else.
+-- What goes loses its namespace, its mount point and its group, and nothing else.
 abbrev pub WhatGoesIsDetached : Type 0
 WhatGoesIsDetached =
     (world : World ℕ) (one number : ℕ) → goes_with world one number ≡ true
     → mount_left world one number ≡ detached (mount_numbered nat_eq world number)
 
--- All of a mount but its place and its type
-pub record KeepsAllButPlaceAndType (before later : Mount ℕ) : Type 0 where
+-- All of a mount but its mount point and its type
+pub record KeepsAllButMountPointAndType (before later : Mount ℕ) : Type 0 where
   pub number : later.number ≡ before.number
   pub namespace : later.namespace ≡ before.namespace
   pub filesystem : later.filesystem ≡ before.filesystem
@@ -69,38 +70,38 @@ pub record KeepsAllButPlaceAndType (before later : Mount ℕ) : Type 0 where
 abbrev pub WhatStaysKeeps : Type 0
 WhatStaysKeeps =
     (world : World ℕ) (one number : ℕ) → goes_with world one number ≡ false
-    → KeepsAllButPlaceAndType (mount_numbered nat_eq world number) (mount_left world one number)
+    → KeepsAllButMountPointAndType (mount_numbered nat_eq world number) (mount_left world one number)
 
--- Where a place is left when mounts go: it stays if its mount stays; else it falls to the place of its mount.
+-- The mount point that is left of one when mounts go: it stays if its mount stays; else it is that of its mount.
 pub data FallsTo (world : World ℕ) (gone : List ℕ) : Location ℕ → Location ℕ → Type 0 where
-  rests : (place : Location ℕ) → is_going nat_eq gone place.mount ≡ false → FallsTo world gone place place
-  falls : (place below rest : Location ℕ) → is_going nat_eq gone place.mount ≡ true
-      → (mount_at nat_eq world place).mount_point ≡ Some below
-      → FallsTo world gone below rest → FallsTo world gone place rest
+  rests : (point : Location ℕ) → is_going nat_eq gone point.mount ≡ false → FallsTo world gone point point
+  falls : (point below rest : Location ℕ) → is_going nat_eq gone point.mount ≡ true
+      → (mount_at nat_eq world point).mount_point ≡ Some below
+      → FallsTo world gone below rest → FallsTo world gone point rest
 
--- What stood on mounts that stay keeps its place, and a root mount stays one.
-abbrev pub WhatStaysKeepsItsPlace : Type 0
-WhatStaysKeepsItsPlace =
-    (world : World ℕ) (one number : ℕ) (place : Location ℕ)
-    → goes_with world one number ≡ false → (mount_numbered nat_eq world number).mount_point ≡ Some place
-    → goes_with world one place.mount ≡ false
-    → (mount_left world one number).mount_point ≡ Some place
+-- What stood on mounts that stay keeps its mount point, and a root mount stays one.
+abbrev pub WhatStaysKeepsItsMountPoint : Type 0
+WhatStaysKeepsItsMountPoint =
+    (world : World ℕ) (one number : ℕ) (point : Location ℕ)
+    → goes_with world one number ≡ false → (mount_numbered nat_eq world number).mount_point ≡ Some point
+    → goes_with world one point.mount ≡ false
+    → (mount_left world one number).mount_point ≡ Some point
 
 abbrev pub RootMountsStay : Type 0
 RootMountsStay =
     (world : World ℕ) (one number : ℕ) → (mount_numbered nat_eq world number).mount_point ≡ None
     → (mount_left world one number).mount_point ≡ None
 
--- the places below places come to an end
-abbrev pub PlacesEnd : World ℕ → Type 0
-PlacesEnd world = list_all (stands_in_its_namespace nat_eq world) world.mounts ≡ true
+-- chains of parents come to an end
+abbrev pub ChainsEnd : World ℕ → Type 0
+ChainsEnd world = list_all (stands_in_its_namespace nat_eq world) world.mounts ≡ true
 
--- What covered mounts that go takes the first place below them that is left.
+-- What covered mounts that go takes the first mount point along their parents that is left.
 abbrev pub WhatCoveredFalls : Type 0
 WhatCoveredFalls =
-    (world : World ℕ) (one number : ℕ) (place rest : Location ℕ) → PlacesEnd world
-    → goes_with world one number ≡ false → (mount_numbered nat_eq world number).mount_point ≡ Some place
-    → FallsTo world (going nat_eq world (mount_numbered nat_eq world one)) place rest
+    (world : World ℕ) (one number : ℕ) (point rest : Location ℕ) → ChainsEnd world
+    → goes_with world one number ≡ false → (mount_numbered nat_eq world number).mount_point ≡ Some point
+    → FallsTo world (going nat_eq world (mount_numbered nat_eq world one)) point rest
     → (mount_left world one number).mount_point ≡ Some rest
 
 -- a slave whose master group has a member, or no slave

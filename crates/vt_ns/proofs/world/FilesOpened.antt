@@ -9,7 +9,7 @@ use Rattle.vt_spec.specs.Language.Calls as spoken
 use Rattle.vt_spec.specs.Machine.Mounts as meant
 use Rattle.vt_spec.specs.Machine.Outcome.Descriptors.{free_number, inserted, is_copied_up, with_copy, with_descriptor}
 use Rattle.vt_spec.specs.Machine.Permits.Permit.{ToOpen}
-use Rattle.vt_spec.specs.Machine.Filesystems.{lies_below}
+use Rattle.vt_spec.specs.Machine.Filesystems.{lies_only_in_lowers}
 use Rattle.vt_spec.specs.Machine.Locked.{overlay_or}
 use Rattle.vt_spec.specs.Machine.Settled.{without_dead_mounts}
 use Rattle.vt_spec.specs.Machine.World.{Descriptor, Overlay, Task, mount_at, no_filesystem, task_called, with_task}
@@ -160,7 +160,7 @@ pub nothing_copied : (value : WorldValue) (file : meant.Location ℕ) (access : 
     → is_copied_up nat_eq (world_of value) file access ≡ false
 nothing_copied value file access =
     ap (λ (o : Option (Overlay ℕ)). opens_for_writing access
-    && overlay_or false (λ overlay. lies_below overlay file.node) o)
+    && overlay_or false (λ overlay. lies_only_in_lowers overlay file.node) o)
     (no_overlay value.filesystems (mount_at nat_eq (world_of value) file).filesystem)
     ∙ and-false (opens_for_writing access)
   where

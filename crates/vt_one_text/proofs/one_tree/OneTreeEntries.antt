@@ -17,13 +17,13 @@ use Rattle.vt_one_text.proofs.one_tree.OneTreeTrees.{times_append}
 use Rattle.vt_spec.proofs.Nodes.{passes}
 use Rattle.vt_spec.proofs.NodeChanges.{entry_named-below}
 use Rattle.vt_spec.specs.Lists.{is_empty_list}
-use Rattle.vt_spec.specs.OneTree.Rules.{is_filled}
+use Rattle.vt_spec.specs.OneTree.Rules.{is_nonempty}
 
 abbrev pub targets : Entries ℕ → List ℕ
 targets entries = map (λ entry. entry.1) entries
 
 -- a directory without entries leads nowhere
-pub targets_in-not_filled : (tree : Tree ℕ) (object : ℕ) → is_filled tree object ≡ false
+pub targets_in-not_filled : (tree : Tree ℕ) (object : ℕ) → is_nonempty tree object ≡ false
     → targets_in (tree.node object) ≡ []
 targets_in-not_filled tree object = by (entries_in (tree.node object))
   where

@@ -20,8 +20,8 @@ use Rattle.vt_spec.specs.Inodes.{tree_of}
 use Rattle.vt_spec.specs.OneTree.Permits.{Permit}
 use Rattle.vt_spec.specs.OneTree.Permits.Permit.{ToChange}
 use Rattle.vt_spec.specs.OneTree.Policy.{hard_link_permit, rmdir_permit, unlink_permit}
-use Rattle.vt_spec.specs.OneTree.Rules.{is_filled, is_kept, hard_link_rules, may_not, rmdir_rules, unlink_rules}
-use Rattle.vt_spec.specs.OneTree.Walk.{Follow, Here, Place, follow_rules, followed, front_walked, if_symlink, is_directory_at, is_directory_there, last_walked, symlink_start, symlink_walk, symlink_walked, may, new_leaf_walk, new_walk, object_walk, old_leaf_walk, old_walk, path_walked, slash_rules, stepped, unfollowed_walk, walk_start, word_walked, words_walked}
+use Rattle.vt_spec.specs.OneTree.Rules.{is_nonempty, is_kept, hard_link_rules, may_not, rmdir_rules, unlink_rules}
+use Rattle.vt_spec.specs.OneTree.Walk.{Follow, Here, Place, follow_rules, followed, prefix_walked, if_symlink, is_directory_at, is_directory_there, last_walked, symlink_start, symlink_walk, symlink_walked, may, new_leaf_walk, new_walk, object_walk, old_leaf_walk, old_walk, path_walked, slash_rules, stepped, unfollowed_walk, walk_start, word_walked, words_walked}
 use Rattle.vt_spec.specs.OneTree.World.{Task, World}
 use Rattle.vt_spec.specs.PathText.{ends_in_slash, is_absolute, parsed_path, words}
 use Rattle.vt_spec.specs.Rights.{Credentials, execute_right, write_right}
@@ -159,7 +159,7 @@ module _ (numbers : List ℕ) (world : World ℕ) (fit : IsFit numbers world) (w
   pub link_walk_there : (path : List ℕ) → IfOk (symlink_walk tree who path) IsThere
   link_walk_there path = by (ends_in_slash path)
     where
-      front : (list : List (List ℕ)) → IfOk (front_walked tree who (walk_start tree) list) IsThere
+      front : (list : List (List ℕ)) → IfOk (prefix_walked tree who (walk_start tree) list) IsThere
       front [] = root_there
       front (word ∷ list) = words_there (followed tree who) (symlink_there 41) (walk_start tree) root_there list
 
@@ -174,7 +174,7 @@ module _ (numbers : List ℕ) (world : World ℕ) (fit : IsFit numbers world) (w
       by true = object_there path
       by false =
           ifok_then IsThere (parsed_path path) _
-          (λ text e. then_there (front_walked tree who (walk_start tree) (reverse (words text))) _
+          (λ text e. then_there (prefix_walked tree who (walk_start tree) (reverse (words text))) _
           (front (reverse (words text))) (λ here here_is. last here here_is (final_word (reverse (words text)))))
 
 -- The calls
@@ -361,7 +361,7 @@ module _ (beside : Beside) (world : World ℕ) (name : TaskName) (task : Task �
   removed_at parent (Named word) (Some object) slash steps place some =
       judged_when there Judged denied
       (inl (not (is_directory_at tree_here object), E3) ∷ inl
-      (is_filled tree_here object, E4) ∷ inr F1 ∷ inr F2 ∷ inr L1 ∷ inr P1 ∷ inl
+      (is_nonempty tree_here object, E4) ∷ inr F1 ∷ inr F2 ∷ inr L1 ∷ inr P1 ∷ inl
       (may_not tree_here who_here parent write_right, C1) ∷ inl (is_kept tree_here who_here parent object, C3) ∷ inr B1
       ∷ [])
       (Ok (ToChange (Remove parent word object)))

@@ -22,7 +22,7 @@ use Rattle.vt_spec.specs.Inodes.{Inodes, is_directory_under, parent_above, tree_
 use Rattle.vt_spec.specs.OneTree.Permits.{Permit}
 use Rattle.vt_spec.specs.OneTree.Permits.Permit.{ToChange}
 use Rattle.vt_spec.specs.OneTree.Policy.{rename_permit, renamed_by}
-use Rattle.vt_spec.specs.OneTree.Rules.{is_filled, is_kept, is_one_object, may_not}
+use Rattle.vt_spec.specs.OneTree.Rules.{is_nonempty, is_kept, is_one_object, may_not}
 use Rattle.vt_spec.specs.OneTree.Walk.{Place, is_directory_at, new_walk, old_leaf_walk, rename_new_walk}
 use Rattle.vt_spec.specs.OneTree.World.{Task, World, with_inodes}
 use Rattle.vt_spec.specs.Rights.{Credentials, write_right}
@@ -265,7 +265,7 @@ module _ (beside : Beside) (world : World ℕ) (name : TaskName) (task : Task �
       (Outcomes.granted Done (with_change nat_eq fresh there (location_there from) (Move from old to new object)))))
       (λ i. (not (is_directory_at tree_here object) && is_directory_at tree_here gone, E2) ∷
       (is_directory_at tree_here object && not (is_directory_at tree_here gone), E3) ∷
-      (is_directory_at tree_here object && is_filled tree_here gone, E4)
+      (is_directory_at tree_here object && is_nonempty tree_here gone, E4)
       ∷ (
         sym (ap (λ b. (is_directory_at tree_here object && true) && b)
             (under_same beside.numbers world fit object to to_is)
@@ -281,7 +281,7 @@ module _ (beside : Beside) (world : World ℕ) (name : TaskName) (task : Task �
       (judged_when there Judged denied
       (inl (not (is_directory_at tree_here object) && is_directory_at tree_here gone, E2) ∷ inl
       (is_directory_at tree_here object && not (is_directory_at tree_here gone), E3) ∷ inl
-      (is_directory_at tree_here object && is_filled tree_here gone, E4)
+      (is_directory_at tree_here object && is_nonempty tree_here gone, E4)
       ∷ inl (is_directory_at tree_here object && is_directory_under nat_eq world.inodes object to, E5)
       ∷ inr F1 ∷ inr F2 ∷ inr L1 ∷ inr P1 ∷ inr P2
       ∷ inl (may_not tree_here who from write_right || may_not tree_here who to write_right, C1)
@@ -300,7 +300,7 @@ module _ (beside : Beside) (world : World ℕ) (name : TaskName) (task : Task �
       (is_directory_under nat_eq world.inodes object to) pass.1.1.1.0 is)))
     where
       empty : (a b : Bool) → is_directory_at tree_here gone ≡ b → (not a && b) ≡ false
-          → (a && is_filled tree_here gone) ≡ false
+          → (a && is_nonempty tree_here gone) ≡ false
           → targets_in (tree_here.node gone) ≡ []
       empty true true is e f = targets_in-not_filled tree_here gone f
       empty false true is e f = cc

@@ -19,7 +19,7 @@ use Rattle.vt_spec.specs.Machine.Walk.LastWord.{Dot, DotDot, Named, NoWord}
 use Rattle.vt_spec.specs.Machine.World as MachineWorld
 use Rattle.vt_spec.specs.Language.Calls.{TaskName}
 use Rattle.vt_spec.specs.Inodes.{tree_of}
-use Rattle.vt_spec.specs.OneTree.Walk.{Follow, Here, Place, directory_walk, file_or_symlink, file_walk, file_walked, follow_rules, followed, front_walked, if_symlink, is_directory_at, last_walked, symlink_of, symlink_start, symlink_there, symlink_walk, symlink_walked, may, new_leaf_walk, new_walk, object_named, object_walk, old_leaf_walk, old_walk, path_walked, placed, rename_new_walk, search_rules, slash_rules, start_of, stepped, unfollowed_walk, walk_start, word_walked, words_walked, is_directory_there}
+use Rattle.vt_spec.specs.OneTree.Walk.{Follow, Here, Place, directory_walk, file_or_symlink, file_walk, file_walked, follow_rules, followed, prefix_walked, if_symlink, is_directory_at, last_walked, symlink_of, symlink_start, symlink_there, symlink_walk, symlink_walked, may, new_leaf_walk, new_walk, object_named, object_walk, old_leaf_walk, old_walk, path_walked, placed, rename_new_walk, search_rules, slash_rules, start_of, stepped, unfollowed_walk, walk_start, word_walked, words_walked, is_directory_there}
 use Rattle.vt_spec.specs.OneTree.World.{Task, World}
 use Rattle.vt_one_text.specs.OneTree.{Beside, EndsAlike, IsFit, Steps, embedded, here_there, location_there, place_there, task_there}
 use Rattle.vt_one_text.proofs.one_tree.OneTreeTrees.{lies_under, not_removed}
@@ -374,20 +374,20 @@ module _ (beside : Beside) (world : World ℕ) (entry : TaskName × Task ℕ) (f
 
   -- all words but the last
   front_alike : (start : Here ℕ) (words : List (List ℕ)) (steps : Steps)
-      → EndsAlike here_there (front_walked tree who start words)
-      (Machine.front_walked nat_eq there task (Machine.followed nat_eq there task) (here_there start steps) words)
+      → EndsAlike here_there (prefix_walked tree who start words)
+      (Machine.prefix_walked nat_eq there task (Machine.followed nat_eq there task) (here_there start steps) words)
   front_alike start [] steps = (steps, refl)
   front_alike start (word ∷ front) steps =
       words_alike (followed tree who) (Machine.followed nat_eq there task) followed_alike start front steps
 
   -- the front of a path
   path_front_alike : (text : List ℕ)
-      → EndsAlike here_there (front_walked tree who (walk_start tree) (reverse (words text)))
-      (Machine.front_walked nat_eq there task (Machine.followed nat_eq there task) (Machine.walk_start task text)
+      → EndsAlike here_there (prefix_walked tree who (walk_start tree) (reverse (words text)))
+      (Machine.prefix_walked nat_eq there task (Machine.followed nat_eq there task) (Machine.walk_start task text)
       (reverse (words text)))
   path_front_alike text =
-      subst (λ start. EndsAlike here_there (front_walked tree who (walk_start tree) (reverse (words text)))
-      (Machine.front_walked nat_eq there task (Machine.followed nat_eq there task) start (reverse (words text))))
+      subst (λ start. EndsAlike here_there (prefix_walked tree who (walk_start tree) (reverse (words text)))
+      (Machine.prefix_walked nat_eq there task (Machine.followed nat_eq there task) start (reverse (words text))))
       (sym (walk_start_alike text)) (front_alike (walk_start tree) (reverse (words text)) [])
 
   -- a last word
@@ -411,7 +411,7 @@ module _ (beside : Beside) (world : World ℕ) (entry : TaskName × Task ℕ) (f
       by true = object_walk_alike path
       by false =
           parsed_alike here_there (parsed_path path) (unfollowed_walk tree who) _ (λ text.
-          then_alike here_there here_there (front_walked tree who (walk_start tree) (reverse (words text))) _
+          then_alike here_there here_there (prefix_walked tree who (walk_start tree) (reverse (words text))) _
           (λ here. last_walked tree who here (final_word (reverse (words text)))) _
           (path_front_alike text) (λ here steps e. last_alike here steps (final_word (reverse (words text)))))
 
@@ -501,9 +501,9 @@ module _ (beside : Beside) (world : World ℕ) (entry : TaskName × Task ℕ) (f
       → EndsAlike place_there (new_walk tree who path) (Machine.place_walk nat_eq there task path)
   place_walk_alike path =
       parsed_alike place_there (parsed_path path)
-      (λ text. and_then (front_walked tree who (walk_start tree) (reverse (words text)))
+      (λ text. and_then (prefix_walked tree who (walk_start tree) (reverse (words text)))
       (λ here. placed tree who here.node (final_word (reverse (words text))) (ends_in_slash text))) _ (λ text.
-      then_alike here_there place_there (front_walked tree who (walk_start tree) (reverse (words text))) _
+      then_alike here_there place_there (prefix_walked tree who (walk_start tree) (reverse (words text))) _
       (λ here. placed tree who here.node (final_word (reverse (words text))) (ends_in_slash text)) _
       (path_front_alike text) (λ here steps e.
       placed_alike here steps (final_word (reverse (words text))) (ends_in_slash text)))
@@ -511,7 +511,7 @@ module _ (beside : Beside) (world : World ℕ) (entry : TaskName × Task ℕ) (f
   pub new_walk_is : (path : List ℕ) → IfOk (new_walk tree who path) (IsPlace tree)
   new_walk_is path =
       ifok_then (IsPlace tree) (parsed_path path) _ (λ text e.
-      ifok_then (IsPlace tree) (front_walked tree who (walk_start tree) (reverse (words text))) _ (λ here e.
+      ifok_then (IsPlace tree) (prefix_walked tree who (walk_start tree) (reverse (words text))) _ (λ here e.
       placed_is here.node (final_word (reverse (words text))) (ends_in_slash text)))
 
   -- a name that is missing is in no removed directory
@@ -625,7 +625,7 @@ module _ (beside : Beside) (world : World ℕ) (entry : TaskName × Task ℕ) (f
       (Machine.file_walked nat_eq depth there task (here_there start steps) text slash)
   file_alike zero start steps text slash = refl
   file_alike (suc depth) start steps text slash =
-      then_alike here_there place_there (front_walked tree who start (reverse (words text))) _
+      then_alike here_there place_there (prefix_walked tree who start (reverse (words text))) _
       (λ here. and_then (placed tree who here.node (final_word (reverse (words text))) (slash || ends_in_slash text))
       (λ place. file_or_symlink place (symlink_there tree place) (λ inner.
       unless (follow_rules (symlink_of here place) inner)
@@ -690,7 +690,7 @@ module _ (beside : Beside) (world : World ℕ) (entry : TaskName × Task ℕ) (f
       → IfOk (file_walked depth tree who start text slash) (IsPlace tree)
   file_walked_is zero start text slash = tt
   file_walked_is (suc depth) start text slash =
-      ifok_then (IsPlace tree) (front_walked tree who start (reverse (words text))) _ (λ here e.
+      ifok_then (IsPlace tree) (prefix_walked tree who start (reverse (words text))) _ (λ here e.
       ifok_then (IsPlace tree) (placed tree who here.node (final_word (reverse (words text)))
       (slash || ends_in_slash text)) _ (λ place e.
       by here place (symlink_there tree place)

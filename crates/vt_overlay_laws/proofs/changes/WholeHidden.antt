@@ -3,11 +3,11 @@ use Rattle.std.proofs.Common.{arith, ◌≡◌, refl, sym, ap, subst, ◌∙◌,
 use Rattle.vt_spec.specs.Language.Changes.{Change}
 use Rattle.vt_spec.specs.Language.Changes.Change.{AddName, CopyUp, Make, Move, Remove, SetAttr, SetBytes, SetMark}
 use Rattle.vt_spec.specs.Lists.{Fresh, odds, then_some}
-use Rattle.vt_spec.specs.Machine.CopyUp.{Merge, Stack, copied_up, hides_directory, merge_changed, shown_below}
+use Rattle.vt_spec.specs.Machine.CopyUp.{Merge, Stack, copied_up, hides_directory, merge_changed, shown_in_lowers_at}
 use Rattle.vt_spec.specs.Machine.Layers.{Shown, at_path, shown}
 use Rattle.vt_spec.specs.Machine.Merging.{layer_node, real_object}
 use Rattle.vt_spec.specs.Machine.World.{Real, upper_object}
-use Rattle.vt_spec.specs.Machine.World.Real.{Below, Upper}
+use Rattle.vt_spec.specs.Machine.World.Real.{Lower, Upper}
 use Rattle.vt_spec.specs.Machine.Invariants.{SameObject, number_at_path}
 use Rattle.vt_spec.proofs.Nodes.{directory_used}
 use Rattle.vt_tree_laws.specs.Trees.{MayAddName, MayMake, MayRemove}
@@ -33,16 +33,16 @@ use Rattle.vt_spec.proofs.FreshNumbers.{odds-distinct}
 
 -- nothing comes to lie below, and what lies below gets no name
 pub record Uncovers (merge later : Merge ℕ) : Type 0 where
-  pub below : (n layer : ℕ) (way : List (List ℕ)) → later.real n ≡ Some (Below layer way)
-      → merge.real n ≡ Some (Below layer way)
+  pub below : (n layer : ℕ) (way : List (List ℕ)) → later.real n ≡ Some (Lower layer way)
+      → merge.real n ≡ Some (Lower layer way)
   pub names : (path : List (List ℕ)) (n layer : ℕ) (way : List (List ℕ)) → number_at_path later.files path ≡ Some n
-      → later.real n ≡ Some (Below layer way)
+      → later.real n ≡ Some (Lower layer way)
       → number_at_path merge.files path ≡ Some n
 
 abbrev layer_in : ℕ → Option (Real ℕ) → ℕ
 layer_in other None = other
 layer_in other (Some (Upper n)) = other
-layer_in other (Some (Below n way)) = n
+layer_in other (Some (Lower n way)) = n
 
 -- so what is shown below was shown there
 pub shown_before : (stack : Stack ℕ) (merge later : Merge ℕ) → IsWhole stack merge → IsWhatIsShown stack later
@@ -76,7 +76,7 @@ shown_before stack merge later whole after uncovers path layer object e =
         ∙ is.has_uncut.0.2)
 
     lies_at : (found : Shown ℕ) → shown (layers_under stack merge) path ≡ Some found → (k : ℕ) → found.layer ≡ k
-        → Some (Below layer path) ≡ Some (real_object true k (record { path = path; seen = found }))
+        → Some (Lower layer path) ≡ Some (real_object true k (record { path = path; seen = found }))
         → shown (layers_under stack merge) path ≡ Some (record { layer = suc layer; object = object })
     lies_at found f zero l q = none_is_some found.object (ap upper_object q)
     lies_at found f (suc k) l q =
@@ -86,7 +86,7 @@ shown_before stack merge later whole after uncovers path layer object e =
         here ∙ ap (λ n. Some (record { layer = suc layer; object = n })) (same_object found found.object here)
 
     found_by : (o : Option (Shown ℕ)) → shown (layers_under stack merge) path ≡ o
-        → Some (Below layer path) ≡ real_by path o
+        → Some (Lower layer path) ≡ real_by path o
         → shown (layers_under stack merge) path ≡ Some (record { layer = suc layer; object = object })
     found_by None f q = none_is_some _ (sym q)
     found_by (Some found) f q = lies_at found f found.layer refl q
@@ -109,7 +109,7 @@ shown_before stack merge later whole after uncovers path layer object e =
 
 -- what stands in the upper layer does not lie below
 no_below : (merge : Merge ℕ) (n layer : ℕ) (way : List (List ℕ)) → StandsInUpper merge n
-    → merge.real n ≡ Some (Below layer way) → ⊥
+    → merge.real n ≡ Some (Lower layer way) → ⊥
 no_below merge n layer way h e = true≢false (sym h ∙ ap (λ o. is_some (upper_object o)) e)
 
 -- each change does so
@@ -140,7 +140,7 @@ module _ (fresh : Fresh ℕ) (stack : Stack ℕ) (merge : Merge ℕ) (whole : Is
       by : (path : List (List ℕ)) (n layer : ℕ) (way : List (List ℕ)) (one : Merge ℕ) → one.files ≡ merge.files
           → (b : Bool)
           → cond b (Some number) (number_at_path one.files path) ≡ Some n
-          → cond (nat_eq n number) (Some (Upper (odds fresh 0))) (one.real n) ≡ Some (Below layer way)
+          → cond (nat_eq n number) (Some (Upper (odds fresh 0))) (one.real n) ≡ Some (Lower layer way)
           → number_at_path merge.files path ≡ Some n
       by path n layer way one files true f e =
           none_is_some (odds fresh 0)
@@ -174,7 +174,7 @@ module _ (fresh : Fresh ℕ) (stack : Stack ℕ) (merge : Merge ℕ) (whole : Is
     where
       by : (path : List (List ℕ)) (n layer : ℕ) (way : List (List ℕ)) (two : Merge ℕ) → two.files ≡ merge.files
           → StandsInUpper two object → (b : Bool)
-          → cond b (Some object) (number_at_path two.files path) ≡ Some n → two.real n ≡ Some (Below layer way)
+          → cond b (Some object) (number_at_path two.files path) ≡ Some n → two.real n ≡ Some (Lower layer way)
           → number_at_path merge.files path ≡ Some n
       by path n layer way two files stands true f e =
           absurd (no_below two object layer way stands (ap two.real (same_Some object n f) ∙ e))
@@ -204,7 +204,7 @@ module _ (fresh : Fresh ℕ) (stack : Stack ℕ) (merge : Merge ℕ) (whole : Is
             sym (ap (λ fs. number_at_path fs path) m.files)
             ∙ below_stays (odds (odds fresh)) stack two m.whole f old t new o m.from m.to m.object m.may m.vacant
             (λ d. m.cut d ∙ asked.1 (m.was_directory d))
-            (is_some (shown_below nat_eq stack two f old))
+            (is_some (shown_in_lowers_at nat_eq stack two f old))
             (hides_directory nat_eq stack two t new) refl refl path n layer way e r;
       }
   uncovers (SetBytes file bytes) there =

@@ -7,7 +7,7 @@ use Rattle.vt_spec.specs.Machine.CopyUp.{Merge, Stack}
 use Rattle.vt_spec.specs.Machine.Layers.{OpenLayer, Shown, at_path, node_at_path, shown, view_of}
 use Rattle.vt_spec.specs.Machine.Merging.{layer_node}
 use Rattle.vt_spec.specs.Machine.World.{Layer, Real}
-use Rattle.vt_spec.specs.Machine.World.Real.{Below, Upper}
+use Rattle.vt_spec.specs.Machine.World.Real.{Lower, Upper}
 use Rattle.vt_spec.specs.Machine.Invariants.{SameObject, number_at_path}
 use Rattle.vt_spec.specs.Rights.{Credentials}
 use Rattle.vt_layer_laws.specs.Layers.Mounted.{IsAlike}
@@ -91,7 +91,7 @@ module _ (one other : Layer ℕ → OpenLayer ℕ) where
         → IsAlike (then_some r (inode_behind stack_one merge)) (then_some r (inode_behind stack_other merge))
     behind_alike None = alike_same None None refl
     behind_alike (Some (Upper object)) = alike_same (merge.upper.tree.node object) (merge.upper.tree.node object) refl
-    behind_alike (Some (Below k path)) =
+    behind_alike (Some (Lower k path)) =
         subst (λ x. IsAlike (then_some x (λ l. node_at_path l path))
         (then_some (slice_get (map other layers) k) (λ l. node_at_path l path))) (sym (slice_get-map one layers k))
         (subst (λ x. IsAlike (then_some (option_map one (slice_get layers k)) (λ l. node_at_path l path))

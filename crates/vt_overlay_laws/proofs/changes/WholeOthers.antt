@@ -12,7 +12,7 @@ use Rattle.vt_spec.specs.Machine.Locked.{lies_or_counts_under, upper_and_work}
 use Rattle.vt_spec.specs.Machine.Merging.{layer_node}
 use Rattle.vt_spec.specs.Machine.Mounts.{Location}
 use Rattle.vt_spec.specs.Machine.World.{Filesystem, Layer, Overlay, Real, World, files_at, filesystem_at, filesystem_numbered, mount_at, open_layer, shown_layers, Task, task_called}
-use Rattle.vt_spec.specs.Machine.World.Real.{Below, Upper}
+use Rattle.vt_spec.specs.Machine.World.Real.{Lower, Upper}
 use Rattle.vt_spec.specs.Machine.Invariants.{IsMerged, IsWorld, SameObject, is_plain_layer, is_there, number_at_path, real_node}
 use Rattle.vt_spec.proofs.Lists
 use Rattle.vt_spec.proofs.Lists.{among-append_left, among-append_right}
@@ -105,7 +105,7 @@ module _ (world later : World ℕ) (filesystem : Filesystem ℕ) (other : Overla
           (then_some x (λ layer. (filesystem_numbered nat_eq later layer.filesystem).files.tree.node object))
       by None u = alike_same None None refl
       by (Some layer) u = alike_kept _ _ (own layer object u (number, e))
-  behind_alike number (Some (Below k path)) e = by (slice_get other.lowers k) refl
+  behind_alike number (Some (Lower k path)) e = by (slice_get other.lowers k) refl
     where
       by : (x : Option (Layer ℕ)) → slice_get other.lowers k ≡ x
           → IsAlike (then_some x (λ l. node_at_path (one l) path)) (then_some x (λ l. node_at_path (two l) path))

@@ -15,7 +15,7 @@ use Rattle.vt_spec.specs.FileTree.{path_down}
 use Rattle.vt_spec.specs.Machine.Layers.{has_lower_directory, view_of}
 use Rattle.vt_spec.specs.Machine.Views
 use Rattle.vt_spec.specs.Machine.World.{upper_object}
-use Rattle.vt_spec.specs.Machine.World.Real.{Below, Upper}
+use Rattle.vt_spec.specs.Machine.World.Real.{Lower, Upper}
 use Rattle.vt_spec.specs.Machine.Invariants.{number_at_path}
 use Rattle.vt_spec.specs.TreeInvariant.{IsDirectory, entry_at, led}
 use Rattle.vt_overlay_laws.specs.WhatIsShown.{IsWhole}
@@ -104,8 +104,8 @@ pub record IsReadyToMove (fresh : Fresh ℕ) (stack : Stack ℕ) (merge : Merge 
       (path_to nat_eq two f old)
       ≡ has_lower_directory (record { tree = merge.upper.tree; directory = stack.directory } ∷ []) stack.lowers
       (path_to nat_eq merge f old)
-  pub lower : (n layer : ℕ) (path : List (List ℕ)) → two.real n ≡ Some (Below layer path)
-      → merge.real n ≡ Some (Below layer path)
+  pub lower : (n layer : ℕ) (path : List (List ℕ)) → two.real n ≡ Some (Lower layer path)
+      → merge.real n ≡ Some (Lower layer path)
   pub files : two.files ≡ merge.files
   pub upper : Goes stack.directory merge.upper two.upper
   pub names : Told (IsNewBy fresh) merge.upper two.upper

@@ -7,7 +7,7 @@ use Rattle.vt_spec.specs.Machine.CopyUp.{Merge, Stack}
 use Rattle.vt_spec.specs.Machine.Filesystems.{merge_of, stack_of}
 use Rattle.vt_spec.specs.Machine.Layers.{node_at_path}
 use Rattle.vt_spec.specs.Machine.World.{Filesystem, Layer, Overlay, Real, World, filesystem_numbered, open_layer}
-use Rattle.vt_spec.specs.Machine.World.Real.{Below, Upper}
+use Rattle.vt_spec.specs.Machine.World.Real.{Lower, Upper}
 use Rattle.vt_spec.specs.Machine.Invariants.{IsMerged, SameObject, real_node}
 use Rattle.vt_layer_laws.proofs.layers.ShownDirectories.{AreOpen}
 use Rattle.vt_layer_laws.proofs.layers.ShownMounted.{are_open}
@@ -30,7 +30,7 @@ module _ (world : World ℕ) (filesystem : Filesystem ℕ) (overlay : Overlay �
       → then_some o (real_node nat_eq world with_upper) ≡ then_some o (inode_behind stack merge)
   behind_same None = refl
   behind_same (Some (Upper object)) = refl
-  behind_same (Some (Below layer path)) =
+  behind_same (Some (Lower layer path)) =
       by (slice_get overlay.lowers layer)
       ∙ sym (ap (λ o. then_some o (λ lower. node_at_path lower path))
       (slice_get-map (open_layer nat_eq world) overlay.lowers layer))

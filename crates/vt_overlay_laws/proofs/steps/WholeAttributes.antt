@@ -9,7 +9,7 @@ use Rattle.vt_spec.specs.Lists.{then_some}
 use Rattle.vt_spec.specs.Machine.CopyUp.{Merge, Stack, changed_both, upper_of}
 use Rattle.vt_spec.specs.Machine.Layers.{OpenLayer, view_of}
 use Rattle.vt_spec.specs.Machine.World.{Real, upper_object}
-use Rattle.vt_spec.specs.Machine.World.Real.{Below, Upper}
+use Rattle.vt_spec.specs.Machine.World.Real.{Lower, Upper}
 use Rattle.vt_spec.specs.Machine.Invariants.{ListsNumbers, SameObject, number_at_path, same_content}
 use Rattle.vt_spec.specs.Tree.{Content, Node, kind_of, node_with_bytes, with_bytes}
 use Rattle.vt_spec.specs.Tree.Content.{Directory, Regular, Symlink, Whiteout}
@@ -33,7 +33,7 @@ upper_real merge number h = by (merge.real number) h
     by : (o : Option (Real ℕ)) → is_some (upper_object o) ≡ true → o ≡ Some (Upper (unwrap_or (upper_object o) number))
     by None h = absurd (true≢false (sym h))
     by (Some (Upper object)) h = refl
-    by (Some (Below layer path)) h = absurd (true≢false (sym h))
+    by (Some (Lower layer path)) h = absurd (true≢false (sym h))
 
 -- what a change of one inode keeps of its shape
 pub record KeepsShape (change : Option (Node ℕ) → Option (Node ℕ)) : Type 0 where
@@ -155,10 +155,10 @@ module _ (stack : Stack ℕ) (merge : Merge ℕ) (whole : IsWhole stack merge) (
           (sym r ∙ ap merge.real (eqb-true number file n) ∙ real)
       by None r false n same = same
       by (Some (Upper u)) r b n same = at_upper u r b n (nat_eq u (upper_of merge file)) refl same
-      by (Some (Below layer path)) r true n same =
+      by (Some (Lower layer path)) r true n same =
           absurd (true≢false (sym (ap (λ o. is_some (upper_object o)) real)
           ∙ ap (λ o. is_some (upper_object o)) (sym (ap merge.real (eqb-true number file n)) ∙ r)))
-      by (Some (Below layer path)) r false n same = same
+      by (Some (Lower layer path)) r false n same = same
 
   not_there : (o p : Option (Node ℕ)) → is_some o ≡ is_some p → o ≡ None → p ≡ None
   not_there o None e n = refl

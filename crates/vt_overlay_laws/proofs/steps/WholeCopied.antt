@@ -27,12 +27,12 @@ use Rattle.vt_layer_laws.specs.Layers.Views.{TakesName, goes_through, names_entr
 use Rattle.vt_overlay_laws.specs.WhatIsShown.{CopyKeepsWhole, IsWhole, layers_under, real_seen}
 use Rattle.vt_layer_laws.proofs.layers.ShownAlike.{white_alike}
 use Rattle.vt_layer_laws.proofs.layers.ShownDirectories.{last_of, led_is_there}
-use Rattle.vt_layer_laws.proofs.layers.ShownFronts.{front_found, front_passes}
+use Rattle.vt_layer_laws.proofs.layers.ShownFronts.{prefix_found, prefix_passes}
 use Rattle.vt_layer_laws.proofs.layers.ShownNames.{last_name}
 use Rattle.vt_layer_laws.proofs.layers.UpperLine.{has_entries, is_reached_in, named_so}
 use Rattle.vt_layer_laws.proofs.layers.UpperShown.{below_is_at, has_a_name, way_to}
 use Rattle.vt_layer_laws.proofs.views.After.{new_name_is_shown, on_top, shown_elsewhere_stays}
-use Rattle.vt_layer_laws.proofs.views.Fronts.{fronts_agree, hides_so, hiding_alike}
+use Rattle.vt_layer_laws.proofs.views.Fronts.{prefixes_agree, hides_so, hiding_alike}
 use Rattle.vt_layer_laws.proofs.views.Moves.{led_parts}
 use Rattle.vt_layer_laws.proofs.layers.ShownPaths.{not_empty}
 use Rattle.vt_layer_laws.proofs.views.Names.{alike_same, inode_entries, make_adds_inode, make_adds_path, make_is_seen, no_entries}
@@ -257,7 +257,7 @@ module _ (stack : Stack ℕ) (merge : Merge ℕ) (whole : IsWhole stack merge) (
         (λ k e. ap (is_kind_in White) (apart_there k
         (led_is_there (record { tree = merge.upper.tree; directory = stack.directory }) top_tree top_directory path k
         e)))
-        (fronts_agree (λ front. hides (node_led (view_in merge.upper stack.directory) front))
+        (prefixes_agree (λ front. hides (node_led (view_in merge.upper stack.directory) front))
         (λ front. hides (node_led (view_in apart stack.directory) front)) path
         (λ front f. ap hides (node_same front))))
 
@@ -399,7 +399,7 @@ module _ (stack : Stack ℕ) (merge : Merge ℕ) (whole : IsWhole stack merge) (
     -- a copy of a directory lets be seen what is below
     cuts_same : is_directory (kind_of node.content) ≡ true → (path : List (List ℕ)) → cuts after path ≡ cuts before path
     cuts_same is_dir path =
-        fronts_agree (λ front. hides (node_led before front)) (λ front. hides (node_led after front)) path
+        prefixes_agree (λ front. hides (node_led before front)) (λ front. hides (node_led after front)) path
         (λ front f. by front (names_entry before ud w front) refl)
       where
         by : (front : List (List ℕ)) (b : Bool) → names_entry before ud w front ≡ b
@@ -414,8 +414,8 @@ module _ (stack : Stack ℕ) (merge : Merge ℕ) (whole : IsWhole stack merge) (
     file_cuts : is_directory (kind_of node.content) ≡ false → (path : List (List ℕ))
         → goes_through before ud w path ≡ true → cuts after path ≡ true
     file_cuts not_dir path through =
-        let found = front_found (names_entry before ud w) path through in
-        front_passes (λ front. hides (node_led after front)) path found.0 found.1.0 found.1.1 found.1.2
+        let found = prefix_found (names_entry before ud w) path through in
+        prefix_passes (λ front. hides (node_led after front)) path found.0 found.1.0 found.1.1 found.1.2
         (hides_at found.0 true found.2 ∙ copy_hides ud node node.content not_dir)
 
     number_none : is_directory (kind_of node.content) ≡ false → (path : List (List ℕ))
@@ -578,7 +578,7 @@ copy_cuts stack merge object copy node whole is low vacant parents is_dir path =
         }))) stack.directory) path
         ≡ cuts (view_in merge.upper stack.directory) path
     by None e =
-        fronts_agree (λ front. hides (node_led (view_in merge.upper stack.directory) front)) _ path
+        prefixes_agree (λ front. hides (node_led (view_in merge.upper stack.directory) front)) _ path
         (λ front f. ap hides (node_same stack merge whole object copy node is low vacant e front))
     by (Some name) e =
         cuts_same stack merge whole object copy node is low vacant name.0 name.1

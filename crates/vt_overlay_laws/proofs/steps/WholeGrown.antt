@@ -8,7 +8,7 @@ use Rattle.vt_spec.specs.FileTree.{FileTree, is_kind_in, is_opaque_in}
 use Rattle.vt_spec.specs.Lists.{then_some}
 use Rattle.vt_spec.specs.Machine.CopyUp.{Merge, Stack, with_real}
 use Rattle.vt_spec.specs.Machine.World.{Real, upper_object}
-use Rattle.vt_spec.specs.Machine.World.Real.{Below, Upper}
+use Rattle.vt_spec.specs.Machine.World.Real.{Lower, Upper}
 use Rattle.vt_spec.specs.Machine.Invariants.{SameObject, number_at_path, same_content}
 use Rattle.vt_spec.specs.Rights.{is_directory}
 use Rattle.vt_spec.specs.Tree.{Content, Node, bytes_of, is_directory_node, kind_of}
@@ -103,9 +103,9 @@ module _ (stack : Stack ℕ) (merge : Merge ℕ) (is_fine : IsFine stack merge) 
       by (Some (Upper u)) r same =
           alike_objects (merge.files.tree.node n) (merge.upper.tree.node u) (files.tree.node n)
           (upper.tree.node u) same (others n (differs n e)) (above u (not_new n u r))
-      by (Some (Below layer path)) r same =
-          alike_objects (merge.files.tree.node n) (inode_behind stack merge (Below layer path)) (files.tree.node n)
-          (inode_behind stack merge (Below layer path)) same (others n (differs n e)) (make_seen _)
+      by (Some (Lower layer path)) r same =
+          alike_objects (merge.files.tree.node n) (inode_behind stack merge (Lower layer path)) (files.tree.node n)
+          (inode_behind stack merge (Lower layer path)) same (others n (differs n e)) (make_seen _)
 
   real_there : (n : ℕ) (b : Bool) → nat_eq n number ≡ b → files.tree.node n ≡ None
       → cond b (Some (Upper copy)) (merge.real n) ≡ None

@@ -9,7 +9,7 @@ use Rattle.vt_spec.specs.Machine.Layers.{OpenLayer, Shown, at_path, shown_from, 
 use Rattle.vt_spec.specs.Machine.Views
 use Rattle.vt_spec.specs.Machine.Views.{View, cuts, hides, node_led, shown_over}
 use Rattle.vt_spec.specs.Machine.World.{Real, upper_object}
-use Rattle.vt_spec.specs.Machine.World.Real.{Below, Upper}
+use Rattle.vt_spec.specs.Machine.World.Real.{Lower, Upper}
 use Rattle.vt_spec.specs.Machine.Invariants.{number_at_path}
 use Rattle.vt_spec.specs.Tree.{Tree, entry_named, entries_in, is_directory_node}
 use Rattle.vt_spec.specs.TreeInvariant.{IsDirectory, IsTree, entry_at, led}
@@ -192,7 +192,7 @@ own_upper merge d w uo e = by (entry_at merge.files.tree d w) refl e
     upper_is : (r : Option (Real ℕ)) → upper_object r ≡ Some uo → r ≡ Some (Upper uo)
     upper_is None e = none_is_some uo e
     upper_is (Some (Upper k)) e = ap (λ n. Some (Upper n)) (same_Some k uo e)
-    upper_is (Some (Below layer path)) e = none_is_some uo e
+    upper_is (Some (Lower layer path)) e = none_is_some uo e
 
     at : (object : ℕ) → entry_at merge.files.tree d w ≡ Some object → (b : Bool)
         → is_directory_node (merge.files.tree.node object) ≡ b

@@ -7,7 +7,7 @@ use Rattle.vt_spec.specs.Language.Changes.{with_inode}
 use Rattle.vt_spec.specs.Lists.{Fresh, chain}
 use Rattle.vt_spec.specs.Machine.CopyUp.{Merge, Stack, copied_content, copied_each, copied_up, copy_named, copy_of, copy_of_node, copy_parent, directories_to, is_in_upper, line_by, line_to, upper_of, with_real}
 use Rattle.vt_spec.specs.Machine.World.{upper_object}
-use Rattle.vt_spec.specs.Machine.World.Real.{Below, Upper}
+use Rattle.vt_spec.specs.Machine.World.Real.{Lower, Upper}
 use Rattle.vt_spec.specs.Machine.Invariants.{ListsNumbers}
 use Rattle.vt_spec.specs.Tree.{entries_of, Node, is_directory_node, node_with_entry}
 use Rattle.vt_spec.specs.TreeInvariant.{IsDirectory, IsTree}
@@ -140,8 +140,8 @@ pub record IsCopied (stack : Stack ℕ) (fresh : Fresh ℕ) (merge later : Merge
   pub files : later.files ≡ merge.files
   pub grows : (n : ℕ) → StandsInUpper merge n → StandsInUpper later n
   pub vacant : (x : ℕ) → merge.upper.tree.node x ≡ None → ((j : ℕ) → x ≢ fresh j) → later.upper.tree.node x ≡ None
-  pub lower : (n layer : ℕ) (path : List (List ℕ)) → later.real n ≡ Some (Below layer path)
-      → merge.real n ≡ Some (Below layer path)
+  pub lower : (n layer : ℕ) (path : List (List ℕ)) → later.real n ≡ Some (Lower layer path)
+      → merge.real n ≡ Some (Lower layer path)
   pub upper : Goes stack.directory merge.upper later.upper
   pub names : Told (IsNewBy fresh) merge.upper later.upper
   pub objects : (n object : ℕ) → later.real n ≡ Some (Upper object)
@@ -168,12 +168,12 @@ module _ (stack : Stack ℕ) (fresh : Fresh ℕ) (distinct : (j k : ℕ) → fre
 
   -- what lies below after a copy lay there before
   pub below_before : (merge : Merge ℕ) (object copy n layer : ℕ) (path : List (List ℕ))
-      → with_real nat_eq merge.real object (Upper copy) n ≡ Some (Below layer path)
-      → merge.real n ≡ Some (Below layer path)
+      → with_real nat_eq merge.real object (Upper copy) n ≡ Some (Lower layer path)
+      → merge.real n ≡ Some (Lower layer path)
   below_before merge object copy n layer path e = by (nat_eq n object) e
     where
-      by : (b : Bool) → cond b (Some (Upper copy)) (merge.real n) ≡ Some (Below layer path)
-          → merge.real n ≡ Some (Below layer path)
+      by : (b : Bool) → cond b (Some (Upper copy)) (merge.real n) ≡ Some (Lower layer path)
+          → merge.real n ≡ Some (Lower layer path)
       by true e = none_is_some copy (sym (ap upper_object e))
       by false e = e
 

@@ -19,7 +19,7 @@ use Rattle.vt_layer_laws.specs.Layers.ChangesUpper.{StandsInUpper}
 use Rattle.vt_layer_laws.specs.Layers.Mounted.{IsAlike}
 use Rattle.vt_layer_laws.specs.Layers.Views.{TakesName, goes_through, names_entry, view_in}
 use Rattle.vt_overlay_laws.specs.WhatIsShown.{IsWhole, LinkKeepsShown, layers_under, real_seen}
-use Rattle.vt_layer_laws.proofs.layers.ShownFronts.{front_found, front_passes}
+use Rattle.vt_layer_laws.proofs.layers.ShownFronts.{prefix_found, prefix_passes}
 use Rattle.vt_layer_laws.proofs.layers.ShownNames.{last_name}
 use Rattle.vt_layer_laws.proofs.views.After.{link_is_shown, on_top, shown_elsewhere_stays}
 use Rattle.vt_layer_laws.proofs.views.Fronts.{hides_so, hiding_alike}
@@ -175,9 +175,9 @@ module _ (stack : Stack ℕ) (merge : Merge ℕ) (whole : IsWhole stack merge) (
       by : (b : Bool) → goes_through before ud w path ≡ b
           → shown_from 0 (after ∷ lowers) path ≡ shown_from 0 (before ∷ lowers) path
       by true through =
-          let found = front_found (names_entry before ud w) path through in
+          let found = prefix_found (names_entry before ud w) path through in
           cut_shows_none after lowers path (leads_none path through other)
-          (front_passes (λ front. hides (node_led after front)) path found.0 found.1.0 found.1.1 found.1.2
+          (prefix_passes (λ front. hides (node_led after front)) path found.0 found.1.0 found.1.1 found.1.2
           (hides_here found.0 found.2))
           ∙ sym (real_by_none path (shown (layers_under stack merge) path)
           (sym (fine_before.paths path) ∙ ap (λ o. then_some o merge.real) (number_none path through)))

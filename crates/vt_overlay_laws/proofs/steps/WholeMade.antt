@@ -6,8 +6,8 @@ use Rattle.vt_spec.specs.Language.Changes.{changed, changed_node, content_with_m
 use Rattle.vt_spec.specs.Language.Changes.Change.{Make}
 use Rattle.vt_spec.specs.Laws.Trees.{IsNewIn}
 use Rattle.vt_spec.specs.Lists.{then_some, when}
-use Rattle.vt_spec.specs.Machine.CopyUp.{Merge, Stack, hides_directory, is_directory_shown, made, marked, shown_below, upper_of, with_real}
-use Rattle.vt_spec.specs.Machine.Layers.{Shown, below, shown, view_of}
+use Rattle.vt_spec.specs.Machine.CopyUp.{Merge, Stack, hides_directory, is_directory_shown, made, marked, shown_in_lowers_at, upper_of, with_real}
+use Rattle.vt_spec.specs.Machine.Layers.{Shown, shown_in_lowers, shown, view_of}
 use Rattle.vt_spec.specs.Machine.Views.{View, cuts, hides, node_led, shown_from, shown_over}
 use Rattle.vt_spec.specs.Machine.World.{Real}
 use Rattle.vt_spec.specs.Machine.World.Real.{Upper}
@@ -22,9 +22,9 @@ use Rattle.vt_layer_laws.specs.Layers.ChangesUpper.{StandsInUpper}
 use Rattle.vt_layer_laws.specs.Layers.Views.{TakesName, goes_through, names_entry, view_in}
 use Rattle.vt_overlay_laws.specs.WhatIsShown.{IsWhole, MakeKeepsShown, layers_under, real_seen}
 use Rattle.vt_layer_laws.proofs.layers.ShownDirectories.{append_assoc, led_is_there}
-use Rattle.vt_layer_laws.proofs.layers.ShownFronts.{front_found, front_passes}
+use Rattle.vt_layer_laws.proofs.layers.ShownFronts.{prefix_found, prefix_passes}
 use Rattle.vt_layer_laws.proofs.layers.ShownNames.{last_name}
-use Rattle.vt_layer_laws.proofs.layers.UpperShown.{front_of_longer}
+use Rattle.vt_layer_laws.proofs.layers.UpperShown.{without_last_of_longer}
 use Rattle.vt_layer_laws.proofs.views.After.{fails, new_name_is_shown, on_top, shown_elsewhere_stays}
 use Rattle.vt_layer_laws.proofs.views.Moves.{through_is_split}
 use Rattle.vt_layer_laws.proofs.views.Names.{make_adds_inode, make_adds_path, no_entries}
@@ -69,12 +69,12 @@ pub below_name : (stack : Stack ℕ) (merge : Merge ℕ) (whole : IsWhole stack 
     (way : List (List ℕ))
     → number_at_path merge.files way ≡ Some d → IsDirectory merge.files.tree d
     → cuts (view_in merge.upper stack.directory) way ≡ false
-    → shown_below nat_eq stack merge d w ≡ shown_from 1 (map view_of stack.lowers) (way ++ w ∷ [])
+    → shown_in_lowers_at nat_eq stack merge d w ≡ shown_from 1 (map view_of stack.lowers) (way ++ w ∷ [])
 below_name stack merge whole d w way e is_directory uncut =
-    ap (below (record { tree = merge.upper.tree; directory = stack.directory }) stack.lowers)
+    ap (shown_in_lowers (record { tree = merge.upper.tree; directory = stack.directory }) stack.lowers)
     (path_to_is merge whole.tree whole.numbers way d w e is_directory)
     ∙ ap (λ b. cond b None (shown_from 1 (map view_of stack.lowers) (way ++ w ∷ [])))
-    (ap (cuts (view_in merge.upper stack.directory)) (front_of_longer way w) ∙ uncut)
+    (ap (cuts (view_in merge.upper stack.directory)) (without_last_of_longer way w) ∙ uncut)
 
 module _ (stack : Stack ℕ) (merge : Merge ℕ) (whole : IsWhole stack merge) (d : ℕ) (w : List ℕ) (number : ℕ)
     (node : Node ℕ) (stands : StandsInUpper merge d)
@@ -208,7 +208,7 @@ module _ (stack : Stack ℕ) (merge : Merge ℕ) (whole : IsWhole stack merge) (
         where
           uncut_to : number_at_path merge.files to ≡ Some d → cuts before to ≡ false
           uncut_to there = fails (cuts before to)
-              (λ cut. found (front_found (λ front. hides (node_led before front)) to cut))
+              (λ cut. found (prefix_found (λ front. hides (node_led before front)) to cut))
             where
               found : (front : List (List ℕ)) × Rattle.vt_layer_laws.specs.Layers.Shown.IsFrontOf front to
                   × (hides (node_led before front) ≡ true) → ⊥
@@ -217,9 +217,9 @@ module _ (stack : Stack ℕ) (merge : Merge ℕ) (whole : IsWhole stack merge) (
                   at : (b : Bool) → names_entry before ud w f.0 ≡ b → ⊥
                   at true n =
                       none_is_some d (sym (number_none to
-                      (front_passes (names_entry before ud w) to f.0 f.1.0 f.1.1 f.1.2 n)) ∙ there)
+                      (prefix_passes (names_entry before ud w) to f.0 f.1.0 f.1.1 f.1.2 n)) ∙ there)
                   at false n =
-                      true≢false (sym (front_passes (λ front. hides (node_led after front)) path f.0
+                      true≢false (sym (prefix_passes (λ front. hides (node_led after front)) path f.0
                       (f.1.0 ++ w ∷ next ∷ rest)
                       (sym (append_assoc f.0 f.1.0 (w ∷ next ∷ rest)) ∙ ap (λ p. p ++ w ∷ next ∷ rest) f.1.1 ∙ is) f.1.2
                       (WholeNew.hides_at merge.upper stack.directory top_tree top_directory ud c w new takes vacant bare

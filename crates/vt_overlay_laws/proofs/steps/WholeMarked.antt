@@ -11,7 +11,7 @@ use Rattle.vt_spec.specs.Machine.CopyUp.{Merge, Stack, upper_of}
 use Rattle.vt_spec.specs.Machine.Layers.{Shown, lowers_have_directory, view_of}
 use Rattle.vt_spec.specs.Machine.Views.{View, cuts, shown_from, shown_over}
 use Rattle.vt_spec.specs.Machine.World.{Real}
-use Rattle.vt_spec.specs.Machine.World.Real.{Below, Upper}
+use Rattle.vt_spec.specs.Machine.World.Real.{Lower, Upper}
 use Rattle.vt_spec.specs.Machine.Invariants.{SameObject, number_at_path}
 use Rattle.vt_spec.specs.Tree.{Content, Node, is_directory_node}
 use Rattle.vt_spec.specs.Tree.Content.{Directory, Regular, Symlink, Whiteout}
@@ -21,7 +21,7 @@ use Rattle.vt_layer_laws.specs.Layers.ShownAfter.{leads_over}
 use Rattle.vt_layer_laws.specs.Layers.Views.{view_in}
 use Rattle.vt_spec.proofs.NodeChanges.{part-changed_node}
 use Rattle.vt_spec.proofs.Options.{none_is_some}
-use Rattle.vt_layer_laws.proofs.layers.ShownFronts.{front_found}
+use Rattle.vt_layer_laws.proofs.layers.ShownFronts.{prefix_found}
 use Rattle.vt_layer_laws.proofs.views.After.{on_top, shown_elsewhere_stays}
 use Rattle.vt_layer_laws.proofs.views.Stay.{mark_changes_one_inode}
 use Rattle.vt_overlay_laws.specs.WhatIsShown.{IsWhole, MarkKeepsWhole, MarkOfTheTreeIsNotShown, inode_behind, marked_above}
@@ -172,7 +172,7 @@ module _ (stack : Stack ℕ) (merge : Merge ℕ) (whole : IsWhole stack merge) (
           let top = top_open stack merge whole in
           shown_elsewhere_stays merge.upper (SetMark above opaque) stack.directory lowers top.0 top.1 tt path e
       by true e =
-          let found = front_found (λ front. same_option nat_eq (before.leads front) (Some above)) path e in
+          let found = prefix_found (λ front. same_option nat_eq (before.leads front) (Some above)) path e in
           through found.0 found.1.0 path found.1.1 (same_is (before.leads found.0) above found.2) (before.leads path)
           refl
 
@@ -193,7 +193,7 @@ module _ (stack : Stack ℕ) (merge : Merge ℕ) (whole : IsWhole stack merge) (
           → SameObject (merge.files.tree.node number) (then_some o (inode_behind stack later))
       by None same = same
       by (Some (Upper u)) same = at u (nat_eq u above) refl same
-      by (Some (Below layer path)) same = same
+      by (Some (Lower layer path)) same = same
 
   fine_later : IsFine stack later
   fine_later = record {

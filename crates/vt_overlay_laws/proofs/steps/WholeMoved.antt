@@ -6,12 +6,12 @@ use Rattle.vt_spec.specs.FileTree.{FileTree, is_kind, is_kind_in}
 use Rattle.vt_spec.specs.Language.Changes.{changed, changed_node, content_with_mark, node_with_mark, with_inode}
 use Rattle.vt_spec.specs.Language.Changes.Change.{Move}
 use Rattle.vt_spec.specs.Lists.{Fresh, then_some, when}
-use Rattle.vt_spec.specs.Machine.CopyUp.{Merge, Stack, emptied, hides_directory, is_directory_shown, moved as moved_overlay, path_to, shown_below, upper_directory_named, whiteout_of}
+use Rattle.vt_spec.specs.Machine.CopyUp.{Merge, Stack, emptied, hides_directory, is_directory_shown, moved as moved_overlay, path_to, shown_in_lowers_at, upper_directory_named, whiteout_of}
 use Rattle.vt_spec.specs.Machine.Layers.{Shown, has_lower_directory, view_of}
 use Rattle.vt_spec.specs.Machine.Views
 use Rattle.vt_spec.specs.Machine.Views.{View, cuts, hides, node_led, shown_from, shown_over}
 use Rattle.vt_spec.specs.Machine.World.{Real, upper_object}
-use Rattle.vt_spec.specs.Machine.World.Real.{Below, Upper}
+use Rattle.vt_spec.specs.Machine.World.Real.{Lower, Upper}
 use Rattle.vt_spec.specs.Machine.Invariants.{SameObject, number_at_path, same_content}
 use Rattle.vt_spec.specs.Rights.{is_directory}
 use Rattle.vt_spec.specs.Tree.{Content, Node, is_directory_node, kind_of, node_with_entry}
@@ -27,11 +27,11 @@ use Rattle.vt_layer_laws.proofs.layers.CopyingParts.{entry_keeps}
 use Rattle.vt_layer_laws.proofs.layers.LowersKept.{kept_elsewhere}
 use Rattle.vt_layer_laws.proofs.layers.ShownAlike.{white_alike}
 use Rattle.vt_layer_laws.proofs.layers.ShownDirectories.{append_assoc, led_is_there, longer_is_not_empty}
-use Rattle.vt_layer_laws.proofs.layers.ShownFronts.{front_found, front_passes}
+use Rattle.vt_layer_laws.proofs.layers.ShownFronts.{prefix_found, prefix_passes}
 use Rattle.vt_layer_laws.proofs.layers.UpperLine.{has_entries}
-use Rattle.vt_layer_laws.proofs.views.After.{fails, fronts_fail, itself_fails, on_top}
-use Rattle.vt_layer_laws.proofs.views.Below.{way_goes_elsewhere}
-use Rattle.vt_layer_laws.proofs.views.Fronts.{fronts_agree, hides_so, hiding_alike}
+use Rattle.vt_layer_laws.proofs.views.After.{fails, prefixes_fail, itself_fails, on_top}
+use Rattle.vt_layer_laws.proofs.views.Lower.{way_goes_elsewhere}
+use Rattle.vt_layer_laws.proofs.views.Fronts.{prefixes_agree, hides_so, hiding_alike}
 use Rattle.vt_layer_laws.proofs.views.Moves.{moved_leads_on, old_leads_nowhere, through_is_split}
 use Rattle.vt_layer_laws.proofs.views.Names.{alike_after, names_leave_inodes, no_entries}
 use Rattle.vt_overlay_laws.specs.WhatIsShown.{IsWhole, MoveKeepsShown, inode_behind, layers_under, real_seen}
@@ -120,7 +120,7 @@ module _ (fresh : Fresh ℕ) (stack : Stack ℕ) (merge : Merge ℕ) (whole : Is
     (alone : IsDirectory merge.files.tree o
     → has_lower_directory (record { tree = merge.upper.tree; directory = stack.directory } ∷ []) stack.lowers
     (path_to nat_eq merge f old) ≡ false)
-    (left marks : Bool) (is_left : is_some (shown_below nat_eq stack merge f old) ≡ left)
+    (left marks : Bool) (is_left : is_some (shown_in_lowers_at nat_eq stack merge f old) ≡ left)
     (is_marks : hides_directory nat_eq stack merge t new ≡ marks) where
   abbrev uf : ℕ
   uf = WholeMovedTree.uf fresh stack merge whole f old t new o stands_f stands_t stands_o may vacant
@@ -329,23 +329,23 @@ module _ (fresh : Fresh ℕ) (stack : Stack ℕ) (merge : Merge ℕ) (whole : Is
   shown_old path no_new no_old =
       over_same before after lowers path (led_same path no_new no_old)
       (λ k l. (more k (not_c k (is_there path k l))).white)
-      (fronts_agree (λ front. hides (node_led before front)) (λ front. hides (node_led after front)) path
-      (λ front is. hides_same front (fronts_fail (names_entry before ut new) path front is no_new)
-      (fronts_fail (names_entry before uf old) path front is no_old)))
+      (prefixes_agree (λ front. hides (node_led before front)) (λ front. hides (node_led after front)) path
+      (λ front is. hides_same front (prefixes_fail (names_entry before ut new) path front is no_new)
+      (prefixes_fail (names_entry before uf old) path front is no_old)))
 
   -- a way that goes through neither name, and is not cut below
   uncut_way : (to tail path : List (List ℕ)) → to ++ tail ≡ path → goes_through before ut new to ≡ false
       → goes_through before uf old to ≡ false
       → cuts after path ≡ false → cuts before to ≡ false
   uncut_way to tail path is no_new no_old uncut =
-      fails (cuts before to) (λ cut. found (front_found (λ front. hides (node_led before front)) to cut))
+      fails (cuts before to) (λ cut. found (prefix_found (λ front. hides (node_led before front)) to cut))
     where
       found : (front : List (List ℕ)) × IsFrontOf front to × (hides (node_led before front) ≡ true) → ⊥
       found g =
-          true≢false (sym (front_passes (λ front. hides (node_led after front)) path g.0 (g.1.0 ++ tail)
+          true≢false (sym (prefix_passes (λ front. hides (node_led after front)) path g.0 (g.1.0 ++ tail)
           (sym (append_assoc g.0 g.1.0 tail) ∙ ap (λ p. p ++ tail) g.1.1 ∙ is) g.1.2
-          (hides_more g.0 (fronts_fail (names_entry before ut new) to g.0 g.1 no_new)
-          (fronts_fail (names_entry before uf old) to g.0 g.1 no_old) g.2)) ∙ uncut)
+          (hides_more g.0 (prefixes_fail (names_entry before ut new) to g.0 g.1 no_new)
+          (prefixes_fail (names_entry before uf old) to g.0 g.1 no_old) g.2)) ∙ uncut)
 
   -- Paths through the old name alone
   from_elsewhere : (to : List (List ℕ)) → number_at_path merge.files to ≡ Some f → goes_through before uf old to ≡ false
@@ -357,7 +357,7 @@ module _ (fresh : Fresh ℕ) (stack : Stack ℕ) (merge : Merge ℕ) (whole : Is
       → goes_through before ut new to ≡ false
   way_front [] rest path is none = refl
   way_front (word ∷ to) rest path is none =
-      fronts_fail (names_entry before ut new) path (word ∷ to)
+      prefixes_fail (names_entry before ut new) path (word ∷ to)
       (old ∷ rest, is, Rattle.vt_layer_laws.proofs.layers.ShownPaths.not_empty word to) none
 
   abbrev moved_base : FileTree ℕ
@@ -381,8 +381,8 @@ module _ (fresh : Fresh ℕ) (stack : Stack ℕ) (merge : Merge ℕ) (whole : Is
       ∙ white_alike (apart.tree.node c) _ (alike_after apart uf (node_with_entry old c) (entry_keeps old c) c)
       ∙ ap (is_kind_in White) (node_set moved_base.tree c (Some (whiteout_of stack.mounter)))
 
-  shown_below_none : left ≡ false → shown_below nat_eq stack merge f old ≡ None
-  shown_below_none e = by (shown_below nat_eq stack merge f old) (is_left ∙ e)
+  shown_in_lowers_at_none : left ≡ false → shown_in_lowers_at nat_eq stack merge f old ≡ None
+  shown_in_lowers_at_none e = by (shown_in_lowers_at nat_eq stack merge f old) (is_left ∙ e)
     where
       by : (x : Option (Shown ℕ)) → is_some x ≡ false → x ≡ None
       by None e = refl
@@ -410,7 +410,7 @@ module _ (fresh : Fresh ℕ) (stack : Stack ℕ) (merge : Merge ℕ) (whole : Is
           cond b (value left) (cond (goes_through before uf old front) None
           (led merge.upper.tree stack.directory front))) e
 
-      here : shown_below nat_eq stack merge f old ≡ None → cuts after path ≡ false → (to rest : List (List ℕ))
+      here : shown_in_lowers_at nat_eq stack merge f old ≡ None → cuts after path ≡ false → (to rest : List (List ℕ))
           → to ++ old ∷ rest ≡ path
           → led merge.upper.tree stack.directory to ≡ Some uf → shown_from 1 lowers (to ++ old ∷ []) ≡ None
       here none uncut to rest is l =
@@ -418,7 +418,7 @@ module _ (fresh : Fresh ℕ) (stack : Stack ℕ) (merge : Merge ℕ) (whole : Is
           sym (below_name stack merge whole f old to there f_directory
           (uncut_way to (old ∷ rest) path is (way_front to rest path is no_new) (from_elsewhere to there) uncut)) ∙ none
 
-      seen : shown_below nat_eq stack merge f old ≡ None → cuts after path ≡ false → (s : Shown ℕ)
+      seen : shown_in_lowers_at nat_eq stack merge f old ≡ None → cuts after path ≡ false → (s : Shown ℕ)
           → shown_from 1 lowers path ≡ Some s
           → (to rest : List (List ℕ)) → to ++ old ∷ rest ≡ path → led merge.upper.tree stack.directory to ≡ Some uf → ⊥
       seen none uncut s e to [] is l =
@@ -429,7 +429,7 @@ module _ (fresh : Fresh ℕ) (stack : Stack ℕ) (merge : Merge ℕ) (whole : Is
           (ap (shown_from 1 lowers) (append_assoc to (old ∷ []) (next ∷ rest) ∙ is) ∙ e) in
           none_is_some _ (sym (here none uncut to (next ∷ rest) is l) ∙ shows.is)
 
-      lower_none : shown_below nat_eq stack merge f old ≡ None → cuts after path ≡ false → (x : Option (Shown ℕ))
+      lower_none : shown_in_lowers_at nat_eq stack merge f old ≡ None → cuts after path ≡ false → (x : Option (Shown ℕ))
           → shown_from 1 lowers path ≡ x → x ≡ None
       lower_none none uncut None e = refl
       lower_none none uncut (Some s) e = absurd (seen none uncut s e parts.0 parts.1 parts.2 parts.3)
@@ -449,7 +449,7 @@ module _ (fresh : Fresh ℕ) (stack : Stack ℕ) (merge : Merge ℕ) (whole : Is
           cut_by false cut =
               ap (λ x. shown_over after 0 x (cuts after path) (shown_from 1 lowers path)) leads
               ∙ ap (λ b. shown_over after 0 None b (shown_from 1 lowers path)) cut
-              ∙ lower_none (shown_below_none l) cut (shown_from 1 lowers path) refl
+              ∙ lower_none (shown_in_lowers_at_none l) cut (shown_from 1 lowers path) refl
 
       white : left ≡ true → shown_from 0 (after ∷ lowers) path ≡ None
       white l = at (names_entry before uf old path) refl
@@ -457,11 +457,11 @@ module _ (fresh : Fresh ℕ) (stack : Stack ℕ) (merge : Merge ℕ) (whole : Is
           at : (b : Bool) → names_entry before uf old path ≡ b → shown_from 0 (after ∷ lowers) path ≡ None
           at true e = on_top after lowers path c true (leads_here path no_new e ∙ ap value l) (white_left true l c refl)
           at false e =
-              let found = front_found (names_entry before uf old) path through in
+              let found = prefix_found (names_entry before uf old) path through in
               cut_shows_none after lowers path (leads_none e)
-              (front_passes (λ front. hides (node_led after front)) path found.0 found.1.0 found.1.1 found.1.2
+              (prefix_passes (λ front. hides (node_led after front)) path found.0 found.1.0 found.1.1 found.1.2
               (ap (λ x. hides (then_some x upper.tree.node))
-              (leads_here found.0 (fronts_fail (names_entry before ut new) path found.0 found.1 no_new) found.2
+              (leads_here found.0 (prefixes_fail (names_entry before ut new) path found.0 found.1 no_new) found.2
               ∙ ap value l)
               ∙ white_hides (upper.tree.node c) (white_left true l c refl)))
 
@@ -488,12 +488,12 @@ module _ (fresh : Fresh ℕ) (stack : Stack ℕ) (merge : Merge ℕ) (whole : Is
 
       uncut_here : cuts before (from_way ++ old ∷ word ∷ rest) ≡ false → cuts before (from_way ++ old ∷ []) ≡ false
       uncut_here uncut = fails (cuts before (from_way ++ old ∷ []))
-          (λ cut. found (front_found (λ front. hides (node_led before front)) (from_way ++ old ∷ []) cut))
+          (λ cut. found (prefix_found (λ front. hides (node_led before front)) (from_way ++ old ∷ []) cut))
         where
           found : (front : List (List ℕ)) × IsFrontOf front (from_way ++ old ∷ [])
               × (hides (node_led before front) ≡ true) → ⊥
           found g =
-              true≢false (sym (front_passes (λ front. hides (node_led before front))
+              true≢false (sym (prefix_passes (λ front. hides (node_led before front))
               (from_way ++ old ∷ word ∷ rest) g.0 (g.1.0 ++ word ∷ rest)
               (sym (append_assoc g.0 g.1.0 (word ∷ rest)) ∙ ap (λ p. p ++ word ∷ rest) g.1.1
               ∙ append_assoc from_way (old ∷ []) (word ∷ rest)) g.1.2 g.2) ∙ uncut)
@@ -540,7 +540,7 @@ module _ (fresh : Fresh ℕ) (stack : Stack ℕ) (merge : Merge ℕ) (whole : Is
       -- the mark cuts
       mark_cuts : marks ≡ true → cuts after (to ++ new ∷ word ∷ rest) ≡ true
       mark_cuts m =
-          front_passes (λ front. hides (node_led after front)) (to ++ new ∷ word ∷ rest) (to ++ new ∷ []) (word ∷ rest)
+          prefix_passes (λ front. hides (node_led after front)) (to ++ new ∷ word ∷ rest) (to ++ new ∷ []) (word ∷ rest)
           (append_assoc to (new ∷ []) (word ∷ rest)) (longer_is_not_empty to new)
           (ap (λ x. hides (then_some x upper.tree.node)) (led_new to [] l)
           ∙ ap hides (marked_own marks ∙ ap
@@ -678,18 +678,18 @@ module _ (fresh : Fresh ℕ) (stack : Stack ℕ) (merge : Merge ℕ) (whole : Is
   -- behind the new name nothing shows from below
   new_above : (to rest : List (List ℕ)) → led merge.upper.tree stack.directory to ≡ Some ut
       → (layer : ℕ) (place : List (List ℕ))
-      → real_seen stack later (to ++ new ∷ rest) ≡ Some (Below layer place) → ⊥
+      → real_seen stack later (to ++ new ∷ rest) ≡ Some (Lower layer place) → ⊥
   new_above to rest l layer place e = by (led merge.upper.tree uo rest) refl
     where
       white : (u : ℕ) (w : Bool) → real_by (to ++ new ∷ rest) (when (not w) (record { layer = 0; object = u }))
-          ≡ Some (Below layer place) → ⊥
-      white u true q = none_is_some (Below layer place) q
+          ≡ Some (Lower layer place) → ⊥
+      white u true q = none_is_some (Lower layer place) q
       white u false q = none_is_some u (sym (ap upper_object q))
 
       none : (tail : List (List ℕ)) → led merge.upper.tree uo tail ≡ None
-          → real_seen stack later (to ++ new ∷ tail) ≡ Some (Below layer place) → ⊥
+          → real_seen stack later (to ++ new ∷ tail) ≡ Some (Lower layer place) → ⊥
       none [] f q = none_is_some uo (sym f)
-      none (word ∷ tail) f q = none_is_some (Below layer place)
+      none (word ∷ tail) f q = none_is_some (Lower layer place)
           (sym (ap (real_by (to ++ new ∷ word ∷ tail)) (none_new to word tail l f)) ∙ q)
 
       by : (x : Option ℕ) → led merge.upper.tree uo rest ≡ x → ⊥
@@ -702,7 +702,7 @@ module _ (fresh : Fresh ℕ) (stack : Stack ℕ) (merge : Merge ℕ) (whole : Is
 
   -- what lies below has the path that it had
   pub below_stays : (path : List (List ℕ)) (n layer : ℕ) (place : List (List ℕ)) → number_at_path files path ≡ Some n
-      → merge.real n ≡ Some (Below layer place)
+      → merge.real n ≡ Some (Lower layer place)
       → number_at_path merge.files path ≡ Some n
   below_stays path n layer place e r = by (goes_through before ut new path) refl
     where
@@ -744,9 +744,9 @@ module _ (fresh : Fresh ℕ) (stack : Stack ℕ) (merge : Merge ℕ) (whole : Is
       (alike_objects (merge.files.tree.node n) (merge.upper.tree.node u) (files.tree.node n)
       (merge.upper.tree.node u) same (others n)
       (record { there = refl; kind = refl; attr = refl; bytes = refl; mark = refl }))
-  objects_later n (Some (Below layer way)) r same =
-      alike_objects (merge.files.tree.node n) (inode_behind stack merge (Below layer way)) (files.tree.node n)
-      (inode_behind stack merge (Below layer way)) same (others n)
+  objects_later n (Some (Lower layer way)) r same =
+      alike_objects (merge.files.tree.node n) (inode_behind stack merge (Lower layer way)) (files.tree.node n)
+      (inode_behind stack merge (Lower layer way)) same (others n)
       (record { there = refl; kind = refl; attr = refl; bytes = refl; mark = refl })
 
   pub later_is_fine : IsFine stack later
@@ -765,4 +765,4 @@ pub move_keeps_shown : MoveKeepsShown
 move_keeps_shown fresh stack merge f old t new o whole stands_f stands_t stands_o vacant may alone =
     what_is_shown stack (moved_overlay nat_eq fresh stack merge f old t new o)
     (later_is_fine fresh stack merge whole f old t new o stands_f stands_t stands_o may vacant alone
-    (is_some (shown_below nat_eq stack merge f old)) (hides_directory nat_eq stack merge t new) refl refl)
+    (is_some (shown_in_lowers_at nat_eq stack merge f old)) (hides_directory nat_eq stack merge t new) refl refl)

@@ -17,10 +17,10 @@ use Rattle.vt_layer_laws.specs.Layers.Mounted.{IsAlike}
 use Rattle.vt_layer_laws.specs.Layers.Views.{goes_through, names_entry, view_in}
 use Rattle.vt_layer_laws.proofs.layers.CopyingParts.{entry_keeps, without_entry_keeps}
 use Rattle.vt_layer_laws.proofs.layers.ShownDirectories.{led_is_there}
-use Rattle.vt_layer_laws.proofs.layers.ShownFronts.{front_passes}
+use Rattle.vt_layer_laws.proofs.layers.ShownFronts.{prefix_passes}
 use Rattle.vt_layer_laws.proofs.layers.UpperLine.{has_entries}
 use Rattle.vt_layer_laws.proofs.views.After.{fails}
-use Rattle.vt_layer_laws.proofs.views.Below.{is_named}
+use Rattle.vt_layer_laws.proofs.views.Lower.{is_named}
 use Rattle.vt_layer_laws.proofs.views.Entries.{entries_stay, given, is_entry, is_that_entry, taken}
 use Rattle.vt_layer_laws.proofs.views.Moves.{led_parts, move_told, no_way_up, through_is_split}
 use Rattle.vt_layer_laws.proofs.views.Names.{alike_after, alike_both, alike_same, inode_entries, names_leave_inodes}
@@ -290,7 +290,7 @@ module _ (fresh : Fresh ℕ) (stack : Stack ℕ) (merge : Merge ℕ) (whole : Is
       where
         at : (to rest : List (List ℕ)) × (to ++ new ∷ rest ≡ path) × (led between.tree start to ≡ Some ut) → ⊥
         at parts =
-            true≢false (sym (front_passes (names_entry (view_in merge.upper start) ut new) path
+            true≢false (sym (prefix_passes (names_entry (view_in merge.upper start) ut new) path
             (parts.0 ++ new ∷ []) parts.1
             (Rattle.vt_layer_laws.proofs.layers.ShownDirectories.append_assoc parts.0 (new ∷ []) parts.1 ∙ parts.2)
             (Rattle.vt_layer_laws.proofs.layers.ShownDirectories.longer_is_not_empty parts.0 new)
@@ -413,11 +413,12 @@ module _ (fresh : Fresh ℕ) (stack : Stack ℕ) (merge : Merge ℕ) (whole : Is
             not_under last.0
             (sym (led_behind last.0)
             ∙ ap (led merge.upper.tree stack.directory)
-            (sym (Rattle.vt_layer_laws.proofs.layers.UpperShown.front_of_longer (from_way ++ old ∷ last.0) last.1)
-            ∙ ap Rattle.vt_spec.specs.Lists.front_of
+            (sym (Rattle.vt_layer_laws.proofs.layers.UpperShown.without_last_of_longer (from_way ++ old
+            ∷ last.0) last.1)
+            ∙ ap Rattle.vt_spec.specs.Lists.without_last
             (Rattle.vt_layer_laws.proofs.layers.ShownDirectories.append_assoc from_way (old ∷ last.0) (last.1 ∷ [])
             ∙ ap (λ q. from_way ++ old ∷ q) last.2 ∙ sym named.1)
-            ∙ Rattle.vt_layer_laws.proofs.layers.UpperShown.front_of_longer named.0 new)
+            ∙ Rattle.vt_layer_laws.proofs.layers.UpperShown.without_last_of_longer named.0 new)
             ∙ named.2)
 
         at : (l a b : Bool) → names_entry before uf old path ≡ a → goes_through before ut new path ≡ false

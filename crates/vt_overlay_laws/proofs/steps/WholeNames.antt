@@ -3,7 +3,7 @@ use Rattle.std.proofs.Common.{◌≡◌, refl, sym, ap, subst, ◌∙◌, true�
 use Rattle.std.specs.Str.{bytes_eq}
 use Rattle.vt_spec.specs.declared.attributes.Kind.TheVariants.{White}
 use Rattle.vt_spec.specs.FileTree.{FileTree, is_kind_in}
-use Rattle.vt_spec.specs.Lists.{front_of, is_empty_list, last_or, same_option, then_some, when}
+use Rattle.vt_spec.specs.Lists.{without_last, is_empty_list, last_or, same_option, then_some, when}
 use Rattle.vt_spec.specs.Machine.CopyUp.{Merge, Stack}
 use Rattle.vt_spec.specs.Machine.Layers.{OpenLayer, Shown, at_path, shown, view_of}
 use Rattle.vt_spec.specs.Machine.Merging.{real_object}
@@ -19,11 +19,11 @@ use Rattle.vt_overlay_laws.specs.WhatIsShown.{IsWhole, inode_behind, layers_unde
 use Rattle.vt_layer_laws.proofs.layers.ShownAtPath.{computed}
 use Rattle.vt_layer_laws.proofs.layers.ShownPaths.{last_of_longer}
 use Rattle.vt_layer_laws.proofs.layers.UpperFit.{same_directory}
-use Rattle.vt_layer_laws.proofs.layers.UpperShown.{front_of_longer}
+use Rattle.vt_layer_laws.proofs.layers.UpperShown.{without_last_of_longer}
 use Rattle.vt_layer_laws.proofs.views.After.{on_top}
 use Rattle.vt_layer_laws.proofs.layers.ShownNames.{last_name}
-use Rattle.vt_layer_laws.proofs.views.Below.{is_named}
-use Rattle.vt_layer_laws.proofs.views.Fronts.{fronts_agree}
+use Rattle.vt_layer_laws.proofs.views.Lower.{is_named}
+use Rattle.vt_layer_laws.proofs.views.Fronts.{prefixes_agree}
 use Rattle.vt_layer_laws.proofs.views.Moves.{led_parts, through_is_split}
 use Rattle.vt_overlay_laws.proofs.whole.UpperGoes.{IsGood}
 use Rattle.vt_overlay_laws.proofs.steps.WholeAttributes.{top_open}
@@ -45,10 +45,10 @@ pub entry_named_so : (files : FileTree ℕ) (top directory : ℕ) (name : List �
     → led files.tree top way ≡ Some directory
     → names_entry (view_in files top) directory name (way ++ name ∷ []) ≡ true
 entry_named_so files top directory name way e =
-    ap (λ b. not b && (same_option nat_eq (led files.tree top (front_of (way ++ name ∷ []))) (Some directory)
+    ap (λ b. not b && (same_option nat_eq (led files.tree top (without_last (way ++ name ∷ []))) (Some directory)
     && bytes_eq (last_or [] (way ++ name ∷ [])) name)) (longer way)
     ∙ ap (λ b. b && bytes_eq (last_or [] (way ++ name ∷ [])) name)
-    (ap (λ p. same_option nat_eq (led files.tree top p) (Some directory)) (front_of_longer way name)
+    (ap (λ p. same_option nat_eq (led files.tree top p) (Some directory)) (without_last_of_longer way name)
     ∙ same_holds (led files.tree top way) directory e)
     ∙ ap (λ w. bytes_eq w name) (last_of_longer way name []) ∙ bytes_eq_itself name
   where
@@ -201,13 +201,13 @@ module _ (stack : Stack ℕ) (merge : Merge ℕ) (whole : IsWhole stack merge) w
         → names_entry (view_in merge.files merge.files.tree.root) d name path
         ≡ names_entry (view_in merge.upper stack.directory) ud name path
     same_entry name path = ap (λ b. not (is_empty_list path) && (b && bytes_eq (last_or [] path) name))
-        (same_place (front_of path))
+        (same_place (without_last path))
 
     pub same_through : (name : List ℕ) (path : List (List ℕ))
         → goes_through (view_in merge.files merge.files.tree.root) d name path
         ≡ goes_through (view_in merge.upper stack.directory) ud name path
     same_through name path =
-        fronts_agree (names_entry (view_in merge.upper stack.directory) ud name)
+        prefixes_agree (names_entry (view_in merge.upper stack.directory) ud name)
         (names_entry (view_in merge.files merge.files.tree.root) d name) path
         (λ front is. same_entry name front)
 

@@ -9,7 +9,7 @@ use Rattle.vt_spec.specs.TreeInvariant.{IsDirectory, IsTree, led}
 use Rattle.vt_layer_laws.specs.Layers.Mounted.{IsAlike}
 use Rattle.vt_layer_laws.specs.Layers.Views.{TakesName, goes_through, names_entry, view_in}
 use Rattle.vt_layer_laws.proofs.layers.ShownDirectories.{led_is_there}
-use Rattle.vt_layer_laws.proofs.layers.ShownFronts.{front_found, front_passes}
+use Rattle.vt_layer_laws.proofs.layers.ShownFronts.{prefix_found, prefix_passes}
 use Rattle.vt_layer_laws.proofs.views.Fronts.{hides_so, hiding_alike}
 use Rattle.vt_layer_laws.proofs.views.Names.{make_adds_inode, make_adds_path, make_is_seen}
 
@@ -61,6 +61,6 @@ module _ (upper : FileTree ℕ) (top : ℕ) (top_tree : IsTree upper.tree) (top_
   pub cuts_through : hides (Some new) ≡ true → (path : List (List ℕ)) → goes_through before ud w path ≡ true
       → cuts after path ≡ true
   cuts_through h path through =
-      let found = front_found (names_entry before ud w) path through in
-      front_passes (λ front. hides (node_led after front)) path found.0 found.1.0 found.1.1 found.1.2
+      let found = prefix_found (names_entry before ud w) path through in
+      prefix_passes (λ front. hides (node_led after front)) path found.0 found.1.0 found.1.1 found.1.2
       (hides_at found.0 true found.2 ∙ h)

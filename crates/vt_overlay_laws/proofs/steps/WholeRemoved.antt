@@ -5,11 +5,11 @@ use Rattle.vt_spec.specs.FileTree.{FileTree, is_kind, is_kind_in}
 use Rattle.vt_spec.specs.Language.Changes.{changed, changed_node, node_with_parent, node_without_entries, node_without_entry, without_name}
 use Rattle.vt_spec.specs.Language.Changes.Change.{Make, Remove}
 use Rattle.vt_spec.specs.Lists.{then_some}
-use Rattle.vt_spec.specs.Machine.CopyUp.{Merge, Stack, emptied, name_left_by, removed, shown_below, upper_directory_named, upper_of, whiteout_of}
+use Rattle.vt_spec.specs.Machine.CopyUp.{Merge, Stack, emptied, name_left_by, removed, shown_in_lowers_at, upper_directory_named, upper_of, whiteout_of}
 use Rattle.vt_spec.specs.Machine.Layers.{Shown, view_of}
 use Rattle.vt_spec.specs.Machine.Views.{View, cuts, hides, node_led, shown_from, shown_over}
 use Rattle.vt_spec.specs.Machine.World.{Real, upper_object}
-use Rattle.vt_spec.specs.Machine.World.Real.{Below, Upper}
+use Rattle.vt_spec.specs.Machine.World.Real.{Lower, Upper}
 use Rattle.vt_spec.specs.Machine.Invariants.{number_at_path}
 use Rattle.vt_spec.specs.Rights.{is_directory}
 use Rattle.vt_spec.specs.Tree.{Content, Node, entries_in, entry_named, is_directory_node, kind_of}
@@ -26,15 +26,15 @@ use Rattle.vt_layer_laws.proofs.layers.CopyingParts.{parent_keeps, without_entri
 use Rattle.vt_layer_laws.proofs.layers.LowersKept.{kept_elsewhere}
 use Rattle.vt_layer_laws.proofs.layers.ShownAlike.{white_alike}
 use Rattle.vt_layer_laws.proofs.layers.ShownDirectories.{append_assoc, last_of, led_is_there}
-use Rattle.vt_layer_laws.proofs.layers.ShownFronts.{front_found, front_passes}
+use Rattle.vt_layer_laws.proofs.layers.ShownFronts.{prefix_found, prefix_passes}
 use Rattle.vt_layer_laws.proofs.layers.ShownNames.{last_name}
 use Rattle.vt_layer_laws.proofs.layers.ShownPaths.{not_empty}
 use Rattle.vt_layer_laws.proofs.layers.UpperLine.{has_entries, is_reached_in}
 use Rattle.vt_layer_laws.proofs.layers.UpperShown.{way_to}
-use Rattle.vt_layer_laws.proofs.views.After.{fails, fronts_fail, itself_fails, on_top}
-use Rattle.vt_layer_laws.proofs.views.Below.{way_goes_elsewhere}
+use Rattle.vt_layer_laws.proofs.views.After.{fails, prefixes_fail, itself_fails, on_top}
+use Rattle.vt_layer_laws.proofs.views.Lower.{way_goes_elsewhere}
 use Rattle.vt_layer_laws.proofs.views.Entries.{taken}
-use Rattle.vt_layer_laws.proofs.views.Fronts.{fronts_agree, hides_so, hiding_alike}
+use Rattle.vt_layer_laws.proofs.views.Fronts.{prefixes_agree, hides_so, hiding_alike}
 use Rattle.vt_layer_laws.proofs.views.Moves.{no_way_up, through_is_split}
 use Rattle.vt_layer_laws.proofs.views.Names.{alike_after, alike_both, alike_same, make_adds_inode, make_ends_paths, names_leave_inodes, no_entries, remove_takes_path}
 use Rattle.vt_layer_laws.proofs.views.Stay.{led_where}
@@ -114,7 +114,7 @@ module _ (stack : Stack ℕ) (merge : Merge ℕ) (whole : IsWhole stack merge) (
       (cond (goes_through before ud w path) None (led merge.upper.tree stack.directory path)))
       (alike : (u : ℕ) → is_some (merge.upper.tree.node u) ≡ true
       → IsAlike (merge.upper.tree.node u) (upper.tree.node u))
-      (left : ((x ≡ None) × (shown_below nat_eq stack merge d w ≡ None))
+      (left : ((x ≡ None) × (shown_in_lowers_at nat_eq stack merge d w ≡ None))
       ⊎ ((c : ℕ) × (x ≡ Some c) × (is_kind_in White (upper.tree.node c) ≡ true))) where
     abbrev after : View ℕ
     after = view_in upper stack.directory
@@ -168,20 +168,21 @@ module _ (stack : Stack ℕ) (merge : Merge ℕ) (whole : IsWhole stack merge) (
     shown_old path none =
         over_same before after lowers path (leads_old path none)
         (λ k l. white_alike (merge.upper.tree.node k) (upper.tree.node k) (alike k (is_there path k l)))
-        (fronts_agree (λ front. hides (node_led before front)) (λ front. hides (node_led after front)) path
-        (λ front f. hides_old front (fronts_fail (names_entry before ud w) path front f none)))
+        (prefixes_agree (λ front. hides (node_led before front)) (λ front. hides (node_led after front)) path
+        (λ front f. hides_old front (prefixes_fail (names_entry before ud w) path front f none)))
 
     -- where the upper layer does not cut a path below, it cuts no path to the directory
     uncut_to : (to rest path : List (List ℕ)) → to ++ w ∷ rest ≡ path → number_at_path merge.files to ≡ Some d
         → cuts after path ≡ false → cuts before to ≡ false
     uncut_to to rest path is there uncut =
-        fails (cuts before to) (λ cut. found (front_found (λ front. hides (node_led before front)) to cut))
+        fails (cuts before to) (λ cut. found (prefix_found (λ front. hides (node_led before front)) to cut))
       where
         found : (front : List (List ℕ)) × IsFrontOf front to × (hides (node_led before front) ≡ true) → ⊥
         found f =
-            true≢false (sym (front_passes (λ front. hides (node_led after front)) path f.0 (f.1.0 ++ w ∷ rest)
+            true≢false (sym (prefix_passes (λ front. hides (node_led after front)) path f.0 (f.1.0 ++ w ∷ rest)
             (sym (append_assoc f.0 f.1.0 (w ∷ rest)) ∙ ap (λ p. p ++ w ∷ rest) f.1.1 ∙ is) f.1.2
-            (hides_old f.0 (fronts_fail (names_entry before ud w) to f.0 f.1 (way_elsewhere to there)) ∙ f.2)) ∙ uncut)
+            (hides_old f.0 (prefixes_fail (names_entry before ud w) to f.0 f.1 (way_elsewhere to there)) ∙ f.2))
+            ∙ uncut)
 
     -- through the name nothing is shown
     none_after : (path : List (List ℕ)) → goes_through before ud w path ≡ true
@@ -189,7 +190,7 @@ module _ (stack : Stack ℕ) (merge : Merge ℕ) (whole : IsWhole stack merge) (
     none_after path through = ⊎_elim plain white left
       where
         -- without a whiteout
-        lower_none : shown_below nat_eq stack merge d w ≡ None → cuts after path ≡ false → (o : Option (Shown ℕ))
+        lower_none : shown_in_lowers_at nat_eq stack merge d w ≡ None → cuts after path ≡ false → (o : Option (Shown ℕ))
             → shown_from 1 lowers path ≡ o → o ≡ None
         lower_none none uncut None e = refl
         lower_none none uncut (Some s) e =
@@ -214,7 +215,8 @@ module _ (stack : Stack ℕ) (merge : Merge ℕ) (whole : IsWhole stack merge) (
                 (ap (shown_from 1 lowers) (append_assoc to (w ∷ []) (next ∷ rest) ∙ is) ∙ e) in
                 none_is_some _ (sym (here to (next ∷ rest) is l) ∙ shows.is)
 
-        plain : (x ≡ None) × (shown_below nat_eq stack merge d w ≡ None) → shown_from 0 (after ∷ lowers) path ≡ None
+        plain : (x ≡ None) × (shown_in_lowers_at nat_eq stack merge d w ≡ None)
+            → shown_from 0 (after ∷ lowers) path ≡ None
         plain p = by (cuts after path) refl
           where
             leads : led upper.tree stack.directory path ≡ None
@@ -239,9 +241,9 @@ module _ (stack : Stack ℕ) (merge : Merge ℕ) (whole : IsWhole stack merge) (
             by : (b : Bool) → names_entry before ud w path ≡ b → shown_from 0 (after ∷ lowers) path ≡ None
             by true e = on_top after lowers path p.0 true (leads_here path e ∙ p.1) p.2
             by false e =
-                let found = front_found (names_entry before ud w) path through in
+                let found = prefix_found (names_entry before ud w) path through in
                 cut_shows_none after lowers path (leads_none path through e)
-                (front_passes (λ front. hides (node_led after front)) path found.0 found.1.0 found.1.1 found.1.2
+                (prefix_passes (λ front. hides (node_led after front)) path found.0 found.1.0 found.1.1 found.1.2
                 (ap (λ o. hides (then_some o upper.tree.node)) (leads_here found.0 found.2 ∙ p.1)
                 ∙ white_hides (upper.tree.node p.0) p.2))
 
@@ -379,7 +381,7 @@ module _ (stack : Stack ℕ) (merge : Merge ℕ) (whole : IsWhole stack merge) (
       upper_is : (r : Option (Real ℕ)) → upper_object r ≡ Some uo → r ≡ Some (Upper uo)
       upper_is None e = none_is_some uo e
       upper_is (Some (Upper k)) e = ap (λ n. Some (Upper n)) (same_Some k uo e)
-      upper_is (Some (Below layer path)) e = none_is_some uo e
+      upper_is (Some (Lower layer path)) e = none_is_some uo e
 
       by : (b : Bool) → is_directory_node (merge.files.tree.node object) ≡ b
           → cond b (upper_object (merge.real object)) None ≡ Some uo
@@ -403,7 +405,7 @@ module _ (stack : Stack ℕ) (merge : Merge ℕ) (whole : IsWhole stack merge) (
         where
           at : (p : List (List ℕ)) → names_entry before ud w p ≡ true → goes_through before ud w p ≡ true
           at [] n = absurd (true≢false (sym n))
-          at (word ∷ rest) n = front_passes (names_entry before ud w) (word ∷ rest) (word ∷ rest) []
+          at (word ∷ rest) n = prefix_passes (names_entry before ud w) (word ∷ rest) (word ∷ rest) []
               (append-nil (word ∷ rest)) (not_empty word rest) n
 
       by : (b : Bool) → names_entry before ud w path ≡ b
@@ -412,7 +414,7 @@ module _ (stack : Stack ℕ) (merge : Merge ℕ) (whole : IsWhole stack merge) (
       by true n = sym (ap (λ b. cond b None (led merge.upper.tree stack.directory path)) (through n))
       by false n = refl
 
-  pub plain_is_fine : shown_below nat_eq stack merge d w ≡ None
+  pub plain_is_fine : shown_in_lowers_at nat_eq stack merge d w ≡ None
       → IsFine stack (record merge {
         files = files;
         upper = emptied nat_eq (without_name nat_eq merge.upper ud w)
@@ -467,9 +469,10 @@ module _ (stack : Stack ℕ) (merge : Merge ℕ) (whole : IsWhole stack merge) (
 
 pub remove_keeps_shown : RemoveKeepsShown
 remove_keeps_shown fresh stack merge d w object whole stands vacant may =
-    what_is_shown stack (removed nat_eq fresh stack merge d w object) (by (shown_below nat_eq stack merge d w) refl)
+    what_is_shown stack (removed nat_eq fresh stack merge d w object) (by
+    (shown_in_lowers_at nat_eq stack merge d w) refl)
   where
-    by : (o : Option (Shown ℕ)) → shown_below nat_eq stack merge d w ≡ o
+    by : (o : Option (Shown ℕ)) → shown_in_lowers_at nat_eq stack merge d w ≡ o
         → IsFine stack (record merge {
           files = changed nat_eq merge.files (Remove d w object);
           upper = emptied nat_eq (name_left_by nat_eq (is_some o) fresh stack merge.upper (upper_of merge d) w)

@@ -12,7 +12,7 @@ use Rattle.vt_spec.specs.Machine.Invariants.{IsWorld, ListsNumbers, is_plain_lay
 use Rattle.vt_spec.specs.Machine.Locked.{counts_in_layer, is_object_of, is_real_upper, lies_in_layer, lies_or_counts_under, live_upper_and_work, of_overlay, overlaps_one_of, overlay_or, overlays, upper_and_work}
 use Rattle.vt_spec.specs.Machine.Mounts.{Location}
 use Rattle.vt_spec.specs.Machine.World.{Filesystem, Layer, Overlay, Real, World, filesystem_at, filesystem_numbered, is_overlay, layers_of, mount_at, open_layer, replaced_if_numbered, upper_object}
-use Rattle.vt_spec.specs.Machine.World.Real.{Below, Upper}
+use Rattle.vt_spec.specs.Machine.World.Real.{Lower, Upper}
 use Rattle.vt_spec.specs.Tree.{is_directory_node}
 use Rattle.vt_spec.specs.TreeInvariant.{IsTree, entry_at, led}
 use Rattle.vt_spec.proofs.Lists.{Among, among-append_left, among-append_right, among-filter, among-flat_map, among-from_filter, among-from_flat_map, among-from_map, among_from_list_all, among_numbers, any_among, any_from_among, none_among, none_from_among}
@@ -446,7 +446,7 @@ module _ (fresh : Fresh ℕ) (world : World ℕ) (location : Location ℕ) (chan
       by : (r : Option (Real ℕ)) → holds_of (nat_eq object) (upper_object r) ≡ true → r ≡ Some (Upper object)
       by None h = absurd (true≢false (sym h))
       by (Some (Upper k)) h = ap (λ x. Some (Upper x)) (sym (eqb-true object k h))
-      by (Some (Below layer path)) h = absurd (true≢false (sym h))
+      by (Some (Lower layer path)) h = absurd (true≢false (sym h))
 
   -- what lies or counts under a layer is there
   is_there_if : (layer : Layer ℕ) → is_plain_layer nat_eq world layer ≡ true → (n object : ℕ) → Lies layer n object

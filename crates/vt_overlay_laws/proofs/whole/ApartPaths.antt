@@ -7,7 +7,7 @@ use Rattle.vt_spec.specs.Tree.{is_directory_node, parent_in}
 use Rattle.vt_spec.specs.TreeInvariant.{IsDirectory, IsTree, entry_at, led}
 use Rattle.vt_spec.proofs.Lists.{any_among}
 use Rattle.vt_spec.proofs.Trees.{led-append}
-use Rattle.vt_layer_laws.proofs.directories.Below.{led_below}
+use Rattle.vt_layer_laws.proofs.directories.Lower.{led_below}
 use Rattle.vt_layer_laws.proofs.locked.Apart.{under_itself}
 use Rattle.std.proofs.lemmas.Bool.{or_cases}
 use Rattle.std.proofs.lemmas.Option.{same_Some}

@@ -9,7 +9,7 @@ use Rattle.vt_spec.specs.Machine.Filesystems.{merge_of, stack_of}
 use Rattle.vt_spec.specs.Machine.Invariants.{IsWorld, is_plain_layer}
 use Rattle.vt_spec.specs.Machine.Mounts.{Location}
 use Rattle.vt_spec.specs.Machine.World.{Filesystem, Layer, Overlay, Real, World, filesystem_at, filesystem_numbered, upper_object}
-use Rattle.vt_spec.specs.Machine.World.Real.{Below, Upper}
+use Rattle.vt_spec.specs.Machine.World.Real.{Lower, Upper}
 use Rattle.vt_spec.specs.Tree.{Tree, entries_in, is_directory_node, parent_in}
 use Rattle.vt_spec.specs.TreeInvariant.{HasName, HasOwnParents, IsDirectory, IsReached, IsTree, entry_at, led}
 use Rattle.vt_spec.proofs.Nodes.{directory_used}
@@ -160,7 +160,7 @@ module _ (fresh : Fresh ℕ) (world : World ℕ) (location : Location ℕ) (chan
           (object_counts world conditions number overlay is upper has layer.directory
           (n, r ∙ ap (λ o. Some (Upper o)) (same_Some object layer.directory f)))
           lies_itself
-      by (Some (Below depth path)) r f = none_is_some layer.directory f
+      by (Some (Lower depth path)) r f = none_is_some layer.directory f
 
   new : (k : ℕ) → layer.directory ≢ fresh k
   new k e = true≢false (sym there ∙ ap (λ n. is_some (before.upper.tree.node n)) e

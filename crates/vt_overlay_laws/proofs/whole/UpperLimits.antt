@@ -3,7 +3,7 @@ use Rattle.std.proofs.Common.{◌≡◌, sym, ap, subst, ◌∙◌, ℕ, nat_eq,
 use Rattle.vt_spec.specs.Language.Changes.{Change, changed, content_with_parent, with_inode, with_moved}
 use Rattle.vt_spec.specs.Language.Changes.Change.{AddName, CopyUp, Make, Move, Remove, SetAttr, SetBytes, SetMark}
 use Rattle.vt_spec.specs.Lists.{Fresh, odds}
-use Rattle.vt_spec.specs.Machine.CopyUp.{Merge, Stack, copied_up, emptied, hides_directory, made, merge_changed, moved, name_left_by, removed, shown_below, upper_directory_named, upper_of}
+use Rattle.vt_spec.specs.Machine.CopyUp.{Merge, Stack, copied_up, emptied, hides_directory, made, merge_changed, moved, name_left_by, removed, shown_in_lowers_at, upper_directory_named, upper_of}
 use Rattle.vt_spec.specs.Tree.{Node}
 use Rattle.vt_spec.proofs.Nodes.{directory_used}
 use Rattle.vt_tree_laws.specs.Trees.Sizes.{IsFitChange, is_fit_name, is_fit_node, is_fit_tree}
@@ -34,10 +34,11 @@ module _ (fresh : Fresh ℕ) (stack : Stack ℕ) (merge : Merge ℕ) (h : is_fit
   removed_sized : (d : ℕ) (w : List ℕ) (object : ℕ) → is_fit_name w ≡ true
       → is_fit_tree (removed nat_eq fresh stack merge d w object).upper ≡ true
   removed_sized d w object name =
-      emptied_sized (name_left_by nat_eq (is_some (shown_below nat_eq stack merge d w)) fresh stack merge.upper
+      emptied_sized (name_left_by nat_eq (is_some (shown_in_lowers_at nat_eq stack merge d w)) fresh stack merge.upper
       (upper_of merge d) w)
       (upper_directory_named merge d w)
-      (left_sized fresh stack merge.upper (upper_of merge d) w (is_some (shown_below nat_eq stack merge d w)) name h)
+      (left_sized fresh stack merge.upper (upper_of merge d) w (is_some
+      (shown_in_lowers_at nat_eq stack merge d w)) name h)
 
   move_sized : (f : ℕ) (old : List ℕ) (t : ℕ) (to : List ℕ) (object : ℕ) → is_fit_name old ≡ true
       → is_fit_name to ≡ true
@@ -45,10 +46,10 @@ module _ (fresh : Fresh ℕ) (stack : Stack ℕ) (merge : Merge ℕ) (h : is_fit
   move_sized f old t to object name new =
       let base = emptied nat_eq merge.upper (upper_directory_named merge t to) in
       let gone = with_moved nat_eq base (upper_of merge f) old (upper_of merge t) to (upper_of merge object) in
-      marked_sized (name_left_by nat_eq (is_some (shown_below nat_eq stack merge f old)) fresh stack gone
+      marked_sized (name_left_by nat_eq (is_some (shown_in_lowers_at nat_eq stack merge f old)) fresh stack gone
       (upper_of merge f) old)
       (hides_directory nat_eq stack merge t to) (upper_of merge object)
-      (left_sized fresh stack gone (upper_of merge f) old (is_some (shown_below nat_eq stack merge f old)) name
+      (left_sized fresh stack gone (upper_of merge f) old (is_some (shown_in_lowers_at nat_eq stack merge f old)) name
       (moved_sized base (upper_of merge f) old (upper_of merge t) to (upper_of merge object) new
       (emptied_sized merge.upper (upper_directory_named merge t to) h)))
 

@@ -4,7 +4,7 @@ use Rattle.vt_spec.specs.FileTree.{FileTree}
 use Rattle.vt_spec.specs.Language.Changes.{changed, changed_node, content_with_parent, node_with_parent, with_moved, with_name, without_name, without_parent}
 use Rattle.vt_spec.specs.Language.Changes.Change.{Move}
 use Rattle.vt_spec.specs.Lists.{Fresh}
-use Rattle.vt_spec.specs.Machine.CopyUp.{Merge, Stack, emptied, hides_directory, marked, moved, name_left_by, shown_below, upper_directory_named, upper_of, whiteout_of}
+use Rattle.vt_spec.specs.Machine.CopyUp.{Merge, Stack, emptied, hides_directory, marked, moved, name_left_by, shown_in_lowers_at, upper_directory_named, upper_of, whiteout_of}
 use Rattle.vt_spec.specs.Machine.World.Real.{Upper}
 use Rattle.vt_spec.specs.Tree.{Content, Node, entries_in, entry_named, is_directory_node}
 use Rattle.vt_spec.specs.Tree.Content.{Directory, Regular, Symlink, Whiteout}
@@ -202,7 +202,7 @@ module _ (fresh : Fresh ℕ) (stack : Stack ℕ) (merge : Merge ℕ) (whole : Is
         (goes_both top moved_up last _ (leaves left) (mark_goes top last marks uo (leaves left).good)))
 
   pub moved_goes : Goes top merge.upper (moved nat_eq fresh stack merge f old t new o).upper
-  moved_goes = by (upper_directory_named merge t new) refl (is_some (shown_below nat_eq stack merge f old))
+  moved_goes = by (upper_directory_named merge t new) refl (is_some (shown_in_lowers_at nat_eq stack merge f old))
       (hides_directory nat_eq stack merge t new)
     where
       by : (x : Option ℕ) → upper_directory_named merge t new ≡ x → (left marks : Bool)

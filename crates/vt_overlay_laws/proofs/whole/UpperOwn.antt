@@ -3,7 +3,7 @@ use Rattle.std.proofs.Common.{◌≡◌, refl, sym, ap, subst, ◌∙◌, inl, i
 use Rattle.vt_spec.specs.Language.Changes.{Change, changed, content_with_parent, node_with_attr, with_inode}
 use Rattle.vt_spec.specs.Language.Changes.Change.{AddName, CopyUp, Make, Move, Remove, SetAttr, SetBytes, SetMark}
 use Rattle.vt_spec.specs.Lists.{Fresh, evens, odds}
-use Rattle.vt_spec.specs.Machine.CopyUp.{Merge, Stack, copied_up, emptied, hides_directory, made, merge_changed, moved, name_left_by, removed, shown_below, upper_directory_named, upper_of}
+use Rattle.vt_spec.specs.Machine.CopyUp.{Merge, Stack, copied_up, emptied, hides_directory, made, merge_changed, moved, name_left_by, removed, shown_in_lowers_at, upper_directory_named, upper_of}
 use Rattle.vt_spec.specs.Machine.World.{upper_object}
 use Rattle.vt_spec.specs.Machine.World.Real.{Upper}
 use Rattle.vt_spec.specs.Tree.{Content, Node, entries_of, is_directory_node, node_with_bytes}
@@ -52,10 +52,11 @@ module _ (P : ℕ → Type 0) (fresh : Fresh ℕ) (stack : Stack ℕ) (merge : M
       → Told P merge.upper (removed nat_eq fresh stack merge d w object).upper
   removed_told d w object =
       let last = (removed nat_eq fresh stack merge d w object).upper in
-      let left = name_left_by nat_eq (is_some (shown_below nat_eq stack merge d w)) fresh stack merge.upper
+      let left = name_left_by nat_eq (is_some (shown_in_lowers_at nat_eq stack merge d w)) fresh stack merge.upper
       (upper_of merge d) w in
       told_both P merge.upper left last
-      (told_left P fresh stack merge.upper (upper_of merge d) w (is_some (shown_below nat_eq stack merge d w)) new)
+      (told_left P fresh stack merge.upper (upper_of merge d) w (is_some
+      (shown_in_lowers_at nat_eq stack merge d w)) new)
       (told_emptied P left (upper_directory_named merge d w))
 
   moved_told : (f : ℕ) (old : List ℕ) (t : ℕ) (to : List ℕ) (object : ℕ) → P (upper_of merge object)
@@ -64,13 +65,13 @@ module _ (P : ℕ → Type 0) (fresh : Fresh ℕ) (stack : Stack ℕ) (merge : M
       let last = (moved nat_eq fresh stack merge f old t to object).upper in
       let base = emptied nat_eq merge.upper (upper_directory_named merge t to) in
       let gone = changed nat_eq base (Move (upper_of merge f) old (upper_of merge t) to (upper_of merge object)) in
-      let left = name_left_by nat_eq (is_some (shown_below nat_eq stack merge f old)) fresh stack gone
+      let left = name_left_by nat_eq (is_some (shown_in_lowers_at nat_eq stack merge f old)) fresh stack gone
       (upper_of merge f) old in
       told_both P merge.upper base last (told_emptied P merge.upper (upper_directory_named merge t to))
       (told_both P base gone last (told_moved P base (upper_of merge f) old (upper_of merge t) to
       (upper_of merge object) own)
       (told_both P gone left last (told_left P fresh stack gone (upper_of merge f) old
-      (is_some (shown_below nat_eq stack merge f old)) new)
+      (is_some (shown_in_lowers_at nat_eq stack merge f old)) new)
       (told_marked P left (hides_directory nat_eq stack merge t to) (upper_of merge object))))
 
 -- A whole change

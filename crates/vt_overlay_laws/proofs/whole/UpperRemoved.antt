@@ -4,7 +4,7 @@ use Rattle.vt_spec.specs.FileTree.{FileTree}
 use Rattle.vt_spec.specs.Language.Changes.{changed, changed_node, node_with_parent, node_without_entries, node_without_entry, with_inode, with_name, without_name, without_parent}
 use Rattle.vt_spec.specs.Language.Changes.Change.{Make, Remove}
 use Rattle.vt_spec.specs.Lists.{Fresh, then_some}
-use Rattle.vt_spec.specs.Machine.CopyUp.{Merge, Stack, emptied, name_left_by, removed, shown_below, upper_directory_named, upper_of, whiteout_of}
+use Rattle.vt_spec.specs.Machine.CopyUp.{Merge, Stack, emptied, name_left_by, removed, shown_in_lowers_at, upper_directory_named, upper_of, whiteout_of}
 use Rattle.vt_spec.specs.Machine.World.{upper_object}
 use Rattle.vt_spec.specs.Machine.World.Real.{Upper}
 use Rattle.vt_spec.specs.Machine.Invariants.{number_at_path}
@@ -202,7 +202,7 @@ pub removed_goes : (fresh : Fresh ℕ) (stack : Stack ℕ) (merge : Merge ℕ) (
     → MayRemove merge.files.tree d w object
     → Goes stack.directory merge.upper (removed nat_eq fresh stack merge d w object).upper
 removed_goes fresh stack merge d w object whole stands vacant may =
-    by (upper_directory_named merge d w) refl (is_some (shown_below nat_eq stack merge d w))
+    by (upper_directory_named merge d w) refl (is_some (shown_in_lowers_at nat_eq stack merge d w))
   where
     ud : ℕ
     ud = upper_of merge d

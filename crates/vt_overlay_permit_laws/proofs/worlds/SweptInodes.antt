@@ -11,7 +11,7 @@ use Rattle.vt_spec.specs.Machine.Invariants.{IsMerged, ListsNumbers, OverlayInva
 use Rattle.vt_spec.specs.Machine.Locked.{live_upper_and_work, of_overlay, overlay_or, upper_and_work}
 use Rattle.vt_spec.specs.Machine.Settled.{layers_in, located_in, named_in, objects_of_overlay, only_used, only_used_by, real_among, used_in, without_dead_in}
 use Rattle.vt_spec.specs.Machine.World.{Filesystem, Layer, Overlay, Real, World, filesystem_numbered, is_overlay, layers_of, no_filesystem, upper_object}
-use Rattle.vt_spec.specs.Machine.World.Real.{Below, Upper}
+use Rattle.vt_spec.specs.Machine.World.Real.{Lower, Upper}
 use Rattle.vt_spec.specs.Tree.{Node}
 use Rattle.vt_spec.specs.TreeInvariant.{IsReached, IsTree, led}
 use Rattle.vt_spec.proofs.Lists.{Among, among-filter, among-filter_map, among-flat_map, among-from_filter, among-map}
@@ -192,7 +192,7 @@ module _ (world : World ℕ) (f : Filesystem ℕ) (overlay : Overlay ℕ) (used 
       → then_some o (real_node nat_eq world Left) ≡ then_some o (real_node nat_eq world overlay)
   same_real None = refl
   same_real (Some (Upper object)) = refl
-  same_real (Some (Below depth path)) = refl
+  same_real (Some (Lower depth path)) = refl
 
   path_used : (path : List (List ℕ)) (number : ℕ) → number_at_path f.files path ≡ Some number
       → is_among nat_eq number used ≡ true

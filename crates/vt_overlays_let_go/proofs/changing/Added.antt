@@ -6,7 +6,7 @@ use Rattle.vt_spec.specs.FileTree.{FileTree}
 use Rattle.vt_spec.specs.Language.Changes.{Change, changed, with_moved}
 use Rattle.vt_spec.specs.Language.Changes.Change.{AddName, CopyUp, Make, Move, Remove, SetAttr, SetBytes, SetMark}
 use Rattle.vt_spec.specs.Lists.{Fresh, evens, odds}
-use Rattle.vt_spec.specs.Machine.CopyUp.{Merge, Stack, copied_up, emptied, hides_directory, marked, merge_changed, moved, name_left_by, removed, shown_below, upper_directory_named, upper_of}
+use Rattle.vt_spec.specs.Machine.CopyUp.{Merge, Stack, copied_up, emptied, hides_directory, marked, merge_changed, moved, name_left_by, removed, shown_in_lowers_at, upper_directory_named, upper_of}
 use Rattle.vt_spec.specs.Machine.Layers.{Shown}
 use Rattle.vt_spec.specs.Machine.World.{Real, upper_object}
 use Rattle.vt_spec.specs.Machine.World.Real.{Upper}
@@ -54,7 +54,7 @@ module _ (files : FileTree ℕ) (tree : IsTree files.tree) (first : ℕ → Opti
       → Among inode (removed nat_eq fresh stack here directory name object).upper.numbers
       → WasOrIsNamed (removed nat_eq fresh stack here directory name object).upper inode
   removed_named directory name object seen e has inode =
-      by (shown_below nat_eq stack here directory name)
+      by (shown_in_lowers_at nat_eq stack here directory name)
       (removed_with files tree first fresh stack real upper sound directory name object seen e has)
     where
       later : Option (Shown ℕ) → FileTree ℕ
@@ -74,7 +74,7 @@ module _ (files : FileTree ℕ) (tree : IsTree files.tree) (first : ℕ → Opti
       → Among inode (moved nat_eq fresh stack here from old to name object).upper.numbers
       → WasOrIsNamed (moved nat_eq fresh stack here from old to name object).upper inode
   moved_named from old to name object seen_from seen e has_from has inode =
-      by (shown_below nat_eq stack here from old)
+      by (shown_in_lowers_at nat_eq stack here from old)
       (moved_with files tree first fresh stack real upper sound from old to name object seen_from seen e has_from has)
     where
       away : FileTree ℕ
@@ -230,7 +230,7 @@ module _ (fresh : Fresh ℕ) (stack : Stack ℕ) (before : Merge ℕ) (fit : IsF
       (grows_up (evens fresh) before directory) refl refl
       (root-emptied _ (upper_directory_named (copied_up nat_eq (evens fresh) before directory) directory name)
       ∙ root-name_left_by (is_some
-      (shown_below nat_eq stack (copied_up nat_eq (evens fresh) before directory) directory name))
+      (shown_in_lowers_at nat_eq stack (copied_up nat_eq (evens fresh) before directory) directory name))
       (odds fresh) stack
       (copied_up nat_eq (evens fresh) before directory).upper
       (upper_of (copied_up nat_eq (evens fresh) before directory) directory) name)
@@ -262,7 +262,7 @@ module _ (fresh : Fresh ℕ) (stack : Stack ℕ) (before : Merge ℕ) (fit : IsF
       (grows_twice before first copied (grows_up (evens fresh) before object)
       (grows_up (evens (odds fresh)) first to)) refl refl
       (root-marked (hides_directory nat_eq stack copied to new) _ (upper_of copied object)
-      ∙ root-name_left_by (is_some (shown_below nat_eq stack copied from old)) (odds (odds fresh)) stack _
+      ∙ root-name_left_by (is_some (shown_in_lowers_at nat_eq stack copied from old)) (odds (odds fresh)) stack _
       (upper_of copied from) old
       ∙ root_moved (emptied nat_eq copied.upper (upper_directory_named copied to new)) (upper_of copied from) old
       (upper_of copied to) new (upper_of copied object)

@@ -13,7 +13,7 @@ use Rattle.vt_spec.specs.Machine.Looks.{Looks, looks_of}
 use Rattle.vt_spec.specs.Machine.Mounts.{Location, Mount, mount_tree}
 use Rattle.vt_spec.specs.Machine.Permits.{Permit}
 use Rattle.vt_spec.specs.Machine.Permits.Permit.{ToRemoveDirectory, ToRename}
-use Rattle.vt_spec.specs.Machine.Rules.Conditions.{is_point_anywhere, is_point_in}
+use Rattle.vt_spec.specs.Machine.Rules.Conditions.{is_mount_point_anywhere, is_mount_point_in}
 use Rattle.vt_spec.specs.Machine.Rules.Removing.{is_one_object, object_there, old_word_rules, rename_new_walk, rename_rules, rmdir_rules, rmdir_word_rules, same_object_rules}
 use Rattle.vt_spec.specs.Machine.Walking.{Place, is_directory_there, name_of, old_leaf_walk, old_walk}
 use Rattle.vt_spec.specs.Machine.World.{Task, World, mount_at, mount_numbered, task_called}
@@ -31,7 +31,7 @@ use Rattle.vt_spec.proofs.Worlds.{tree_among}
 
 -- P1: no mount of the task's namespace stands on the directory
 abbrev IsFreeFor : World ℕ → Task ℕ → Location ℕ → Type 0
-IsFreeFor world task directory = is_point_in nat_eq (looks_of nat_eq world) task.namespace directory ≡ false
+IsFreeFor world task directory = is_mount_point_in nat_eq (looks_of nat_eq world) task.namespace directory ≡ false
 
 module _ (world : World ℕ) (whole : IsWorld nat_eq world) where
   -- what stands there has a mount point, so it is in a namespace
@@ -124,9 +124,9 @@ module _ (fresh : Fresh ℕ) (world : World ℕ) (whole : IsWorld nat_eq world) 
   renamed_removes false from to is =
       gives_unless Removes (rename_rules nat_eq looks task from to (object_there from)) _ (λ passed.
       by to.object
-      ((or_parts (is_point_anywhere looks (object_there from)) _ passed.1.1.1.1.1.1.1.0).1))
+      ((or_parts (is_mount_point_anywhere looks (object_there from)) _ passed.1.1.1.1.1.1.1.0).1))
     where
-      by : (o : Option (Location ℕ)) → holds_of (is_point_in nat_eq looks task.namespace) o ≡ false
+      by : (o : Option (Location ℕ)) → holds_of (is_mount_point_in nat_eq looks task.namespace) o ≡ false
           → Removes (ToRename from.parent (name_of from.last) to.parent (name_of to.last) (object_there from) o)
       by None free = tt
       by (Some replaced) free = (is_reached world whole task from.parent is.0.0, free)

@@ -7,7 +7,7 @@ use Rattle.vt_spec.specs.FileTree.{FileTree, targets_in}
 use Rattle.vt_spec.specs.Language.Changes.{Change, content_with_parent, node_with_attr, node_with_mark, node_with_parent, with_inode, with_moved, with_name, without_name, without_parent}
 use Rattle.vt_spec.specs.Language.Changes.Change.{AddName, CopyUp, Make, Move, Remove, SetAttr, SetBytes, SetMark}
 use Rattle.vt_spec.specs.Lists.{Fresh, evens, is_among, odds}
-use Rattle.vt_spec.specs.Machine.CopyUp.{Merge, Stack, copied_up, emptied, hides_directory, linked, made, merge_changed, moved, name_left_by, removed, shown_below, upper_directory_named, upper_of, whiteout_of}
+use Rattle.vt_spec.specs.Machine.CopyUp.{Merge, Stack, copied_up, emptied, hides_directory, linked, made, merge_changed, moved, name_left_by, removed, shown_in_lowers_at, upper_directory_named, upper_of, whiteout_of}
 use Rattle.vt_spec.specs.Machine.Filesystems.{stack_of, with_change}
 use Rattle.vt_spec.specs.Machine.Mounts.{Location}
 use Rattle.vt_spec.specs.Machine.Outcome.Descriptors.{opened, overwritten, with_copy, with_descriptor}
@@ -148,7 +148,7 @@ module _ (fresh : Fresh ℕ) (stack : Stack ℕ) (merge : Merge ℕ)
       (one_place d (upper_of merge directory) n name)
     where
       hidden : Bool
-      hidden = is_some (shown_below nat_eq stack merge directory name)
+      hidden = is_some (shown_in_lowers_at nat_eq stack merge directory name)
 
   moved_loses : (from : ℕ) (old : List ℕ) (to : ℕ) (new : List ℕ) (object : ℕ)
       → NamedOr (moved nat_eq fresh stack merge from old to new object).upper
@@ -192,7 +192,7 @@ module _ (fresh : Fresh ℕ) (stack : Stack ℕ) (merge : Merge ℕ)
       replaced = upper_directory_named merge to new
 
       hidden : Bool
-      hidden = is_some (shown_below nat_eq stack merge from old)
+      hidden = is_some (shown_in_lowers_at nat_eq stack merge from old)
 
       empty : FileTree ℕ
       empty = emptied nat_eq merge.upper replaced

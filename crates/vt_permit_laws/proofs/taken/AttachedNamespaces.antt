@@ -3,7 +3,7 @@ use Rattle.std.proofs.Common.{◌≡◌, refl, sym, ap, ◌∙◌, ℕ, nat_eq, 
 use Rattle.std.specs.Prelude.{flat_map}
 use Rattle.std.proofs.lemmas.List.{map-append}
 use Rattle.vt_spec.specs.Lists.{folded, rest_of}
-use Rattle.vt_spec.specs.Machine.Attach.{Copies, Graft, attached_by, copies_at, copy_at, graft_of, parts_of, pushed_onto, pushed_up, receiver_below, twig_of}
+use Rattle.vt_spec.specs.Machine.Attach.{Copies, Graft, attached_by, copies_at, copy_at, graft_of, parts_of, pushed_onto, pushed_up, receiver_stood_on, twig_of}
 use Rattle.vt_spec.specs.Machine.Mounts.{Location, Mount, group_of, with_mount}
 use Rattle.vt_spec.specs.Machine.World.{World, mount_at}
 use Rattle.vt_spec.proofs.Worlds.{number-mount_in}
@@ -59,7 +59,7 @@ module _ (world : World ℕ) (place : Location ℕ) (moves : Bool) (tree : List 
     graft = graft_of nat_eq world new place moves tree
 
     pushed_stays : (mount : Mount ℕ) → (pushed_up nat_eq world new graft parts mount).namespace ≡ mount.namespace
-    pushed_stays mount = by (receiver_below nat_eq graft parts mount)
+    pushed_stays mount = by (receiver_stood_on nat_eq graft parts mount)
       where
         by : (o : Option (Mount ℕ)) → (pushed_onto nat_eq world new graft parts mount o).namespace ≡ mount.namespace
         by None = refl

@@ -1,29 +1,29 @@
 -- What is attached at a mount that is in no peer group: only the numbers of copies are taken.
 use Rattle.std.proofs.Common.{eq-eqb, ◌≡◌, refl, sym, ap, subst, ◌∙◌, ℕ, suc, ◌+◌, ◌*◌, ◌<◌, nat_eq, Bool, true, false, cond, not, ◌&&◌, List, [], ◌∷◌, ◌++◌, length, map, filter, filter_map, Option, Some, None, option_map, if◌then◌else◌, arith}
 use Rattle.std.specs.Prelude.{unwrap_or}
-use Rattle.vt_spec.specs.Lists.{Fresh, folded, place_from, then_some, when}
-use Rattle.vt_spec.specs.Machine.Attach.{Copies, Graft, Twig, added_mounts, attach, attached_at, copies_from, copy_type, image, is_top, masters_with, nearest_image, numbered, takes_part, twig_master, twig_of, with_moved_mounts}
+use Rattle.vt_spec.specs.Lists.{Fresh, folded, index_from, then_some, when}
+use Rattle.vt_spec.specs.Machine.Attach.{Copies, Graft, Twig, added_mounts, attach, attached_at, copies_from, copy_type, image, is_top, masters_with, nearest_image, index_in_rows, takes_part, twig_master, twig_of, with_moved_mounts}
 use Rattle.vt_spec.specs.Machine.Mounts.{Location, Mount, Propagation, group_of, index_of, mount_in}
 use Rattle.vt_spec.specs.Machine.Receives.{is_member_of, receivers}
 use Rattle.vt_spec.specs.Machine.World.{World, mount_at}
 use Rattle.vt_spec.proofs.Worlds.{number-mount_in}
 
 -- an index in a list is less than its length
-place_bound : (test : Mount ℕ → Bool) (k : ℕ) (list : List (Mount ℕ)) (j : ℕ) → place_from test k list ≡ Some j
+place_bound : (test : Mount ℕ → Bool) (k : ℕ) (list : List (Mount ℕ)) (j : ℕ) → index_from test k list ≡ Some j
     → j < k + length list
 place_bound test k [] j e = cc
 place_bound test k (first ∷ rest) j e = by (test first) e (place_bound test (k + 1) rest j)
   where
-    by : (b : Bool) → cond b (Some k) (place_from test (k + 1) rest) ≡ Some j
-        → (place_from test (k + 1) rest ≡ Some j → j < (k + 1) + length rest) → j < k + suc (length rest)
+    by : (b : Bool) → cond b (Some k) (index_from test (k + 1) rest) ≡ Some j
+        → (index_from test (k + 1) rest ≡ Some j → j < (k + 1) + length rest) → j < k + suc (length rest)
     by true f later = let same : k ≡ j = cc in omega arith
     by false f later = let low = later f in omega arith
 
 pub index_bound : (mounts : List (Mount ℕ)) (number : ℕ) → 0 < length mounts
     → index_of nat_eq mounts number < length mounts
-index_bound mounts number some = by (place_from (λ mount. nat_eq number mount.number) 0 mounts) refl
+index_bound mounts number some = by (index_from (λ mount. nat_eq number mount.number) 0 mounts) refl
   where
-    by : (o : Option ℕ) → place_from (λ mount. nat_eq number mount.number) 0 mounts ≡ o → unwrap_or o 0 < length mounts
+    by : (o : Option ℕ) → index_from (λ mount. nat_eq number mount.number) 0 mounts ≡ o → unwrap_or o 0 < length mounts
     by None e = some
     by (Some j) e =
         let low = place_bound (λ mount. nat_eq number mount.number) 0 mounts j e in
@@ -146,8 +146,8 @@ module _ (world : World ℕ) (place : Location ℕ) (mounts : List (Mount ℕ)) 
           → (copies_from nat_eq fresh (destination ∷ []) mounts).copy part origin
           ≡ (copies_from nat_eq again (destination ∷ []) mounts).copy part origin
       copy_same part origin =
-          same (numbered (length mounts) (index_of nat_eq (destination ∷ []) part) (index_of nat_eq mounts origin))
-          (subst (λ j. numbered (length mounts) j (index_of nat_eq mounts origin) < length mounts)
+          same (index_in_rows (length mounts) (index_of nat_eq (destination ∷ []) part) (index_of nat_eq mounts origin))
+          (subst (λ j. index_in_rows (length mounts) j (index_of nat_eq mounts origin) < length mounts)
           (sym (first_index destination part)) (let low = index_bound mounts origin some in omega arith))
 
       pub copied_same : attach nat_eq world fresh place false mounts ≡ attach nat_eq world again place false mounts

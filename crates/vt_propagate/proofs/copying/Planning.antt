@@ -5,7 +5,7 @@ use Rattle.std.specs.List.{cons_option}
 use Rattle.std.proofs.lemmas.Option.{same_Some}
 use Rattle.vt_spec.specs.Lists.{chain, then_some, when}
 use Rattle.vt_spec.specs.Machine.Attach as meant
-use Rattle.vt_spec.specs.Machine.Attach.{Copies, Twig, all_groups_made, copies_at, copies_from, copy_at, copy_number, copy_place, copy_type, graft_of, group_made, image, is_destination, nearest_image, parts_of, receivers_of, takes_part, twig_master, twig_of}
+use Rattle.vt_spec.specs.Machine.Attach.{Copies, Twig, all_groups_made, copies_at, copies_from, copy_at, copy_number, copy_mount_point, copy_type, graft_of, group_made, image, is_destination, nearest_image, parts_of, receivers_of, takes_part, twig_master, twig_of}
 use Rattle.vt_spec.specs.Machine.Mounts.{Location, Mount, Propagation, group_of, no_mount, source_of}
 use Rattle.vt_spec.specs.Machine.Mounts.Propagation.{Private, Shared, Slave, Unbindable}
 use Rattle.vt_spec.specs.Machine.Receives.{groups_up, has_members, is_member_of, slave_of_heir}
@@ -186,7 +186,7 @@ module _ (world : World ℕ) (kept : List MountEntry) (grouping : Grouping) (see
     copy_with destination part origin = record origin {
       number = copy_number nat_eq (supply copying) (graft_at destination) part.number origin.number;
       namespace = part.namespace;
-      mount_point = Some (copy_place nat_eq (supply copying) (graft_at destination) part.number origin);
+      mount_point = Some (copy_mount_point nat_eq (supply copying) (graft_at destination) part.number origin);
       propagation =
           if is_destination nat_eq (graft_at destination) part.number then (grown_at destination origin).propagation
           else copy_type nat_eq world (supply copying) (parts_seen copying) destination
@@ -200,7 +200,7 @@ module _ (world : World ℕ) (kept : List MountEntry) (grouping : Grouping) (see
         (λ i. record origin {
           number = copy_number nat_eq (supply copying) (graft_seen copying) part.number origin.number;
           namespace = part.namespace;
-          mount_point = Some (copy_place nat_eq (supply copying) (graft_seen copying) part.number origin);
+          mount_point = Some (copy_mount_point nat_eq (supply copying) (graft_seen copying) part.number origin);
           propagation =
               if is_destination nat_eq (graft_seen copying) part.number then (twig copying origin).propagation
               else (type_by_master-nearest_master_of (as_kept kept grouping) copying origin part.propagation

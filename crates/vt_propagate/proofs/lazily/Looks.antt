@@ -13,7 +13,7 @@ use Rattle.vt_spec.specs.Machine.World.{World, mount_at, mount_numbered}
 use Rattle.vt_spec.proofs.Lists.{Among, among-filter, among-from_filter, among-map, among_from_list_all, any_from_among, list_all_from_among, none_among, pair-filter}
 use Rattle.vt_spec.proofs.Truths.{same_truth}
 use Rattle.vt_spec.proofs.Worlds.{found_or_none}
-use Rattle.vt_mount_laws.specs.Mounts.Unmounting.{KeepsAllButPlaceAndType}
+use Rattle.vt_mount_laws.specs.Mounts.Unmounting.{KeepsAllButMountPointAndType}
 use Rattle.vt_mount_laws.specs.Mounts.Unmounting.FallsTo.{rests}
 use Rattle.vt_mount_laws.proofs.mounts.MountsFound.{found_in, number_found, placed_among}
 use Rattle.vt_mount_laws.proofs.mounts.MountsPlaces.{found_at_its_place, one_place_of_two, stands_at_its_place, stands_there}
@@ -79,9 +79,10 @@ module _ (start : World ℕ) (at_first : MountInvariants nat_eq start) (now : Wo
 
   -- one that is not has kept all but its place and its type
   pub kept_then : (number : ℕ) → is_going nat_eq gone number ≡ false
-      → KeepsAllButPlaceAndType (before number) (later number)
+      → KeepsAllButMountPointAndType (before number) (later number)
   kept_then number stays =
-      subst (KeepsAllButPlaceAndType (before number)) (sym (then_is number)) (kept_by_number start gone number stays)
+      subst (KeepsAllButMountPointAndType (before number)) (sym (then_is number))
+      (kept_by_number start gone number stays)
 
   -- each keeps its root
   pub root_then : (number : ℕ) → root_of (later number) ≡ root_of (before number)

@@ -12,7 +12,7 @@ use Rattle.vt_spec.specs.Language.Calls.{Access, opens_for_writing}
 use Rattle.vt_spec.specs.Language.Changes.Change.{CopyUp, Make, Move, Remove, SetBytes}
 use Rattle.vt_spec.specs.Lists.{Fresh, evens, odds}
 use Rattle.vt_spec.specs.Machine.Apply.{apply}
-use Rattle.vt_spec.specs.Machine.Filesystems.{lies_below, with_change}
+use Rattle.vt_spec.specs.Machine.Filesystems.{lies_only_in_lowers, with_change}
 use Rattle.vt_spec.specs.Machine.Listing.{mount_lines}
 use Rattle.vt_spec.specs.Machine.Locked.{overlay_or}
 use Rattle.vt_spec.specs.Machine.Mounts.{Location, mount_in, mount_tree}
@@ -53,7 +53,7 @@ module _ (fresh : Fresh ℕ) (one other : World ℕ) (same : Alike one other) (t
       → is_copied_up nat_eq one file access ≡ is_copied_up nat_eq other file access
   copied_same file access = λ i.
       (opens_for_writing access)
-      && overlay_or false (λ overlay. lies_below overlay file.node)
+      && overlay_or false (λ overlay. lies_only_in_lowers overlay file.node)
       (overlay_same _ _ (here_alike one other same file) i)
 
   copy_alike : (copies : Bool) (file : Location ℕ)

@@ -17,7 +17,7 @@ use Rattle.vt_spec.specs.Machine.Locked.{overlay_or, overlays}
 use Rattle.vt_spec.specs.Machine.Mounts.{Location, Mount}
 use Rattle.vt_spec.specs.Machine.Outcomes.{granted, judged}
 use Rattle.vt_spec.specs.Machine.Receives.{is_member_of}
-use Rattle.vt_spec.specs.Machine.Sealed.{all_named, change_layers, directed, holds_all_tasks, has_no_link, is_linked, is_lower_root, is_member_task, is_own_namespace, locations, members, no_outsider_on, no_outsider_on_mounts, no_such_task, outsiders, sealed, used_alone, used_directly, used_filesystems, wholly_locked}
+use Rattle.vt_spec.specs.Machine.Sealed.{all_named, change_layers, directed, holds_all_tasks, shares_no_events, share_events, is_lower_root, is_member_task, is_own_namespace, locations, members, no_outsider_on, no_outsider_on_mounts, no_such_task, outsiders, sealed, used_alone, used_directly, used_filesystems, wholly_locked}
 use Rattle.vt_spec.specs.Machine.World.{Filesystem, Layer, Namespace, Overlay, Task, World, filesystem_numbered, is_overlay, locations_of, mount_at, task_called}
 use Rattle.std.specs.Prelude.{option_to_list}
 use Rattle.vt_spec.specs.Machine.Settled.{has_layer_on}
@@ -123,9 +123,9 @@ module _ (one other : World ℕ) (same : Alike one (with_mounts_of one other)) (
       ∙ sym (all_by_namespace (λ namespace. not (is_own_namespace nat_eq second names namespace))
       (outsiders second names))
 
-  no_link_same : has_no_link nat_eq one names ≡ has_no_link nat_eq second names
+  no_link_same : shares_no_events nat_eq one names ≡ shares_no_events nat_eq second names
   no_link_same = λ i.
-      list_all (λ own. list_all (λ other. not (is_linked nat_eq one own other)) (other_by (own_same i)))
+      list_all (λ own. list_all (λ other. not (share_events nat_eq one own other)) (other_by (own_same i)))
       (own_by (own_same i))
 
   on_mounts_same : no_outsider_on_mounts nat_eq one names ≡ no_outsider_on_mounts nat_eq second names

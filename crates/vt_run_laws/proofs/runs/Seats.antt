@@ -95,23 +95,23 @@ module _ (in_hand : ℕ → Bool) (leaves : LeavesEndless in_hand) where
   seat_of : ℕ → Seat
   seat_of number = given_seat (in_hand number) number
 
-  front_of : Bool → ℕ → ℕ
-  front_of true number = number
-  front_of false number = leaves.left_over (2 * leaves.place number)
+  without_last : Bool → ℕ → ℕ
+  without_last true number = number
+  without_last false number = leaves.left_over (2 * leaves.place number)
 
   number_on : Seat → ℕ
-  number_on (Front number) = front_of (in_hand number) number
+  number_on (Front number) = without_last (in_hand number) number
   number_on (Elsewhere number) = leaves.left_over (2 * number + 1)
 
   on_seat : (number : ℕ) → number_on (seat_of number) ≡ number
-  unfolding number_on seat_of given_seat left_seat front_of
+  unfolding number_on seat_of given_seat left_seat without_last
   on_seat number = by (in_hand number) refl
     where
       whole : (k : ℕ) (even : Bool) → (k % 2 == 0) ≡ even → number_on (left_seat even k) ≡ leaves.left_over k
       whole k true is =
           let rest : k % 2 ≡ 0 = eqb-true (k % 2) 0 is in
           let same : 2 * (k / 2) ≡ k = omega arith in
-          ap (λ b. front_of b (leaves.left_over (k / 2))) (leaves.out (k / 2))
+          ap (λ b. without_last b (leaves.left_over (k / 2))) (leaves.out (k / 2))
           ∙ ap (λ n. leaves.left_over (2 * n)) (leaves.place_left (k / 2))
           ∙ ap leaves.left_over same
       whole k false is =
@@ -120,7 +120,7 @@ module _ (in_hand : ℕ → Bool) (leaves : LeavesEndless in_hand) where
           ap leaves.left_over same
 
       by : (b : Bool) → in_hand number ≡ b → number_on (given_seat b number) ≡ number
-      by true is = ap (λ b. front_of b number) is
+      by true is = ap (λ b. without_last b number) is
       by false is =
           whole (leaves.place number) (leaves.place number % 2 == 0) refl ∙ leaves.left_place number is
 
@@ -131,10 +131,10 @@ module _ (in_hand : ℕ → Bool) (leaves : LeavesEndless in_hand) where
       ∙ ap (λ n. left_seat (n % 2 == 0) n) (leaves.place_left k)
 
   seat_on : (s : Seat) → seat_of (number_on s) ≡ s
-  unfolding number_on seat_of given_seat left_seat front_of
+  unfolding number_on seat_of given_seat left_seat without_last
   seat_on (Front number) = by (in_hand number) refl
     where
-      by : (b : Bool) → in_hand number ≡ b → seat_of (front_of b number) ≡ Front number
+      by : (b : Bool) → in_hand number ≡ b → seat_of (without_last b number) ≡ Front number
       by true is = ap (λ b. given_seat b number) is
       by false is =
           let k : ℕ = leaves.place number in

@@ -51,14 +51,14 @@ module _ {N : Type 0} where
   node_with_attr attr (Some node) = Some (record { attr = attr; content = node.content })
 
   -- a directory with or without the opaque mark
-  abbrev pub content_with_mark : Bool → Content N → Content N
+  abbrev pub content_with_mark : (opaque : Bool) → Content N → Content N
   content_with_mark opaque (Directory parent entries old) = Directory parent entries opaque
   content_with_mark opaque (Regular bytes) = Regular bytes
   content_with_mark opaque (Symlink text) = Symlink text
   content_with_mark opaque Whiteout = Whiteout
 
   -- an inode with that, if it is a directory
-  abbrev pub node_with_mark : Bool → Option (Node N) → Option (Node N)
+  abbrev pub node_with_mark : (opaque : Bool) → Option (Node N) → Option (Node N)
   node_with_mark opaque None = None
   node_with_mark opaque (Some node) =
       Some (record { attr = node.attr; content = content_with_mark opaque node.content })

@@ -75,18 +75,18 @@ printed_type PrivateLine = codes "private"
 printed_type UnbindableLine = codes "unbindable"
 
 -- a mount's parent and the path of its mount point there, `-` for a mount without one
-abbrev pub place_words : Option (ℕ × Spot) → List (List ℕ)
-place_words None = codes "-" ∷ codes "-" ∷ []
-place_words (Some place) = decimal place.0 ∷ printed_spot place.1 ∷ []
+abbrev pub mount_point_words : Option (ℕ × Spot) → List (List ℕ)
+mount_point_words None = codes "-" ∷ codes "-" ∷ []
+mount_point_words (Some place) = decimal place.0 ∷ printed_spot place.1 ∷ []
 
 -- the kind of a filesystem, before its number
-abbrev pub kind_word : Bool → List ℕ
+abbrev pub kind_word : (overlay : Bool) → List ℕ
 kind_word overlay = if overlay then codes "overlay:" else codes "plain:"
 
 -- a line of the list of mounts: mountinfo of proc(5), in the profile's form
 abbrev pub mount_line_words : ℕ × MountLine → List (List ℕ)
 mount_line_words line =
-    decimal line.0 ∷ place_words line.1.mount_point
+    decimal line.0 ∷ mount_point_words line.1.mount_point
     ++ ((kind_word line.1.overlay ++ decimal line.1.filesystem) ∷ printed_spot line.1.root
     ∷ printed_flags line.1.flags ∷ printed_type line.1.kind ∷ [])
 

@@ -16,7 +16,7 @@ use Rattle.vt_spec.specs.PathText.{is_empty, parts, words_between}
 use Rattle.vt_spec.specs.Rights.{cap_chown, cap_dac_override, cap_dac_read_search, cap_fowner, cap_setgid, cap_setuid, cap_sys_admin, cap_sys_chroot}
 
 -- the lines with one byte more before them; a newline ends a line
-abbrev pub with_line_byte : Bool → ℕ → List (List ℕ) → List (List ℕ)
+abbrev pub with_line_byte : (newline : Bool) → ℕ → List (List ℕ) → List (List ℕ)
 with_line_byte true byte lines = [] ∷ lines
 with_line_byte false byte [] = (byte ∷ []) ∷ []
 with_line_byte false byte (line ∷ lines) = (byte ∷ line) ∷ lines
@@ -211,7 +211,7 @@ pub data Version : Type 0 where
   Two : Version
 
 -- the flags of a mount
-abbrev pub flags_given : Bool → Bool → Bool → MountFlags
+abbrev pub flags_given : (read_only : Bool) → (noexec : Bool) → (nosymfollow : Bool) → MountFlags
 flags_given read_only noexec nosymfollow = record { read_only = read_only; noexec = noexec; nosymfollow = nosymfollow }
 
 -- the flags that both versions know

@@ -71,14 +71,14 @@ module _ {N : Type 0} (eq : N → N → Bool) where
   apply fresh world task ToUnshare = granted Done (namespaces_ended eq (unshared eq world fresh task))
   apply fresh world task (ToEnterNamespace namespace) =
       granted Done (namespaces_ended eq (namespace_entered eq world task namespace))
-  apply fresh world task (ToMountPlain place flags) =
-      granted Done (mounted eq (odds fresh) world place (plain_filesystem eq fresh) flags)
-  apply fresh world task (ToMountOverlay place overlay flags) =
-      granted Done (mounted eq (odds fresh) world place (overlay_filesystem eq (evens fresh) world overlay) flags)
-  apply fresh world task (ToBind source place recursive) =
-      granted Done (bound_at eq fresh world source place recursive)
-  apply fresh world task (ToMove mount place) =
-      granted Done (attach eq world fresh place true (mount_tree eq world.mounts (mount_numbered eq world mount)))
+  apply fresh world task (ToMountPlain destination flags) =
+      granted Done (mounted eq (odds fresh) world destination (plain_filesystem eq fresh) flags)
+  apply fresh world task (ToMountOverlay destination overlay flags) =
+      granted Done (mounted eq (odds fresh) world destination (overlay_filesystem eq (evens fresh) world overlay) flags)
+  apply fresh world task (ToBind source destination recursive) =
+      granted Done (bound_at eq fresh world source destination recursive)
+  apply fresh world task (ToMove mount destination) =
+      granted Done (attach eq world fresh destination true (mount_tree eq world.mounts (mount_numbered eq world mount)))
   apply fresh world task (ToUnmount mount) = granted Done (unmounted eq world mount)
   apply fresh world task (ToUnmountLazily mount) = granted Done (lazily_unmounted eq world mount)
   apply fresh world task (ToSetFlags mount flags) =
@@ -91,7 +91,7 @@ module _ {N : Type 0} (eq : N → N → Bool) where
   apply fresh world task ToListMounts = granted (MountList (mount_lines eq world task.namespace)) world
 
   -- the filesystems that a change at a location changes, if it is made
-  abbrev pub changed_if : Bool → World N → Location N → List N
+  abbrev pub changed_if : (made : Bool) → World N → Location N → List N
   changed_if true world location = changed_at eq world location
   changed_if false world location = []
 

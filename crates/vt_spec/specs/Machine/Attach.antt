@@ -5,7 +5,7 @@ use Rattle.std.specs.Prelude.{Bool, List, None, Option, Some, [], false, filter,
 use Rattle.std.specs.List.{list_any}
 use Rattle.vt_spec.specs.Language.Limits.{most_mounts}
 use Rattle.vt_spec.specs.FileTree.{is_directory_under}
-use Rattle.vt_spec.specs.Lists.{Fresh, evens, first_of_list, folded, holds_of, odds, place_from, rest_of, then_some, when}
+use Rattle.vt_spec.specs.Lists.{Fresh, evens, first_of_list, folded, holds_of, odds, index_from, rest_of, then_some, when}
 use Rattle.vt_spec.specs.Machine.Mounts.{Location, Mount, Propagation, children, group_of, index_of, is_shared, is_unbindable, root_of, stands_at, topmost, with_mount}
 use Rattle.vt_spec.specs.Machine.Mounts.Propagation.{Private, Shared, Slave, Unbindable}
 use Rattle.vt_spec.specs.Machine.Receives.{groups_up, has_members, is_member_of, receivers, slave_of_heir}
@@ -32,8 +32,8 @@ pub record Copies (N : Type 0) : Type 0 where
   pub image : N → N → N
 
 -- the index of the i-th element of the k-th row, where each row has `size` elements
-abbrev pub numbered : ℕ → ℕ → ℕ → ℕ
-numbered size k i = k * size + i
+abbrev pub index_in_rows : ℕ → ℕ → ℕ → ℕ
+index_in_rows size k i = k * size + i
 
 module _ {N : Type 0} where
   -- The type of a mount at a shared destination: sharedsubtree, the tables of "Bind semantics" and "Move semantics"
@@ -60,7 +60,7 @@ module _ {N : Type 0} where
       else option_map (λ group. (group, master_after twig.origin.propagation)) (group_of twig.propagation)
 
   -- what is new at the destination: the copies, or nothing where the mounts themselves move
-  abbrev pub added_mounts : Bool → List (Mount N) → List (Mount N)
+  abbrev pub added_mounts : (moves : Bool) → List (Mount N) → List (Mount N)
   added_mounts true copied = []
   added_mounts false copied = copied
 
@@ -72,9 +72,9 @@ module _ {N : Type 0} (eq : N → N → Bool) where
 
   -- a receiver takes part if it is attached, shows the same filesystem, and the destination lies at or under its root
   abbrev pub takes_part : World N → Location N → Mount N → Bool
-  takes_part world place mount =
-      not (eq place.mount mount.number) && is_some mount.namespace
-      && eq (mount_at eq world place).filesystem mount.filesystem && reaches world place.node mount
+  takes_part world destination mount =
+      not (eq destination.mount mount.number) && is_some mount.namespace
+      && eq (mount_at eq world destination).filesystem mount.filesystem && reaches world destination.node mount
 
   -- the receivers of a mount's peer group; a mount that is not shared has none
   abbrev pub receivers_of : World N → Mount N → List (Mount N)
@@ -82,8 +82,9 @@ module _ {N : Type 0} (eq : N → N → Bool) where
 
   -- the parts: the destination's mount, then the receivers that take part, in order of attachment
   abbrev pub parts_of : World N → Location N → List (Mount N)
-  parts_of world place =
-      mount_at eq world place ∷ filter (takes_part world place) (receivers_of world (mount_at eq world place))
+  parts_of world destination =
+      mount_at eq world destination ∷ filter (takes_part world destination) (receivers_of world
+      (mount_at eq world destination))
 
   -- Copies at the members of one group form one group, the image of that group: for the destination's group it is the
   -- group of the mount attached there, for each other group a new one (profile).
@@ -136,15 +137,15 @@ module _ {N : Type 0} (eq : N → N → Bool) where
   is_top graft origin = holds_of (λ twig. eq origin twig.origin.number) (first_of_list graft.twigs)
 
   -- a mount point on a mount of the tree, on the copy of that mount at a part
-  abbrev pub place_on_copy : Copies N → Graft N → N → Location N → Location N
-  place_on_copy new graft part place = record { mount = copy_number new graft part place.mount; node = place.node }
+  abbrev pub mount_point_on_copy : Copies N → Graft N → N → Location N → Location N
+  mount_point_on_copy new graft part point = record { mount = copy_number new graft part point.mount; node = point.node }
 
   -- the mount point of a copy at a part: the first mount of the tree takes the destination's directory, each other one
   -- stands on the copy of its parent
-  abbrev pub copy_place : Copies N → Graft N → N → Mount N → Location N
-  copy_place new graft part origin =
+  abbrev pub copy_mount_point : Copies N → Graft N → N → Mount N → Location N
+  copy_mount_point new graft part origin =
       if is_top graft origin.number then record { mount = part; node = graft.destination.node }
-      else unwrap_or (option_map (place_on_copy new graft part) origin.mount_point) graft.destination
+      else unwrap_or (option_map (mount_point_on_copy new graft part) origin.mount_point) graft.destination
 
   -- the copy of a mount at a part, or at the destination the mount itself that moves: the number, namespace, mount
   -- point and type that it has there, with the filesystem, root and flags of the mount
@@ -152,7 +153,7 @@ module _ {N : Type 0} (eq : N → N → Bool) where
   copy_at world new graft parts part twig = record twig.origin {
     number = copy_number new graft part.number twig.origin.number;
     namespace = part.namespace;
-    mount_point = Some (copy_place new graft part.number twig.origin);
+    mount_point = Some (copy_mount_point new graft part.number twig.origin);
     propagation = type_at_part world new graft parts part twig;
   }
 
@@ -165,12 +166,12 @@ module _ {N : Type 0} (eq : N → N → Bool) where
 
   -- the root of the topmost of the copies over the first one's root; without copies the location given
   abbrev pub top_of_copies : List (Mount N) → Location N → Location N
-  top_of_copies [] place = place
-  top_of_copies (first ∷ rest) place = topmost eq (first ∷ rest) (root_of first)
+  top_of_copies [] default = default
+  top_of_copies (first ∷ rest) default = topmost eq (first ∷ rest) (root_of first)
 
   -- the receiver at which a mount has the destination's directory as its mount point already
-  abbrev pub receiver_below : Graft N → List (Mount N) → Mount N → Option (Mount N)
-  receiver_below graft parts mount =
+  abbrev pub receiver_stood_on : Graft N → List (Mount N) → Mount N → Option (Mount N)
+  receiver_stood_on graft parts mount =
       find (λ part. stands_at eq (record { mount = part.number; node = graft.destination.node }) mount) (rest_of parts)
 
   -- the mount after the attachment, moved if there is such a receiver
@@ -181,11 +182,11 @@ module _ {N : Type 0} (eq : N → N → Bool) where
 
   -- a mount after the attachment: it has another mount point where a copy took its own at a receiver
   abbrev pub pushed_up : World N → Copies N → Graft N → List (Mount N) → Mount N → Mount N
-  pushed_up world new graft parts mount = pushed_onto world new graft parts mount (receiver_below graft parts mount)
+  pushed_up world new graft parts mount = pushed_onto world new graft parts mount (receiver_stood_on graft parts mount)
 
   -- the mounts with those that move in their new state; they keep their order of attachment, and copies of a bind or
   -- new mount come last
-  abbrev pub with_moved_mounts : Bool → List (Mount N) → List (Mount N) → List (Mount N)
+  abbrev pub with_moved_mounts : (moves : Bool) → List (Mount N) → List (Mount N) → List (Mount N)
   with_moved_mounts true mounts copied = folded (with_mount eq) mounts copied
   with_moved_mounts false mounts copied = mounts
 
@@ -215,34 +216,35 @@ module _ {N : Type 0} (eq : N → N → Bool) where
   attached world new graft = attached_at world new graft (parts_of world graft.destination)
 
   -- these mounts as a tree that is attached at a destination
-  abbrev pub graft_of : World N → Copies N → Location N → Bool → List (Mount N) → Graft N
-  graft_of world new place moves mounts = record {
-    destination = place;
-    twigs = map (twig_of new (group_of (mount_at eq world place).propagation)) mounts;
+  abbrev pub graft_of : World N → Copies N → Location N → (moves : Bool) → List (Mount N) → Graft N
+  graft_of world new destination moves mounts = record {
+    destination = destination;
+    twigs = map (twig_of new (group_of (mount_at eq world destination).propagation)) mounts;
     moves = moves;
   }
 
   -- the world with these mounts attached, by the new numbers given
-  abbrev pub attached_by : World N → Copies N → Location N → Bool → List (Mount N) → World N
-  attached_by world new place moves mounts = attached world new (graft_of world new place moves mounts)
+  abbrev pub attached_by : World N → Copies N → Location N → (moves : Bool) → List (Mount N) → World N
+  attached_by world new destination moves mounts = attached world new (graft_of world new destination moves mounts)
 
   -- the index of the first part that is a member of a group
   abbrev pub index_of_group : List (Mount N) → N → ℕ
-  index_of_group parts group = unwrap_or (place_from (is_member_of eq group) 0 parts) 0
+  index_of_group parts group = unwrap_or (index_from (is_member_of eq group) 0 parts) 0
 
   -- the new numbers of an attachment out of a supply, by the index of the part and of the mount that is copied
   abbrev pub copies_from : Fresh N → List (Mount N) → List (Mount N) → Copies N
   copies_from fresh parts mounts = record {
-    copy = λ part origin. evens fresh (numbered (length mounts) (index_of eq parts part) (index_of eq mounts origin));
+    copy = λ part origin. evens fresh (index_in_rows (length mounts) (index_of eq parts part)
+        (index_of eq mounts origin));
     image = λ group origin. odds fresh
-        (numbered (length mounts) (index_of_group parts group) (index_of eq mounts origin));
+        (index_in_rows (length mounts) (index_of_group parts group) (index_of eq mounts origin));
   }
 
   -- the world with mounts attached at a destination and at its receivers, the mounts themselves where they move, else
   -- copies: mount(2), sharedsubtree
-  abbrev pub attach : World N → Fresh N → Location N → Bool → List (Mount N) → World N
-  attach world fresh place moves mounts =
-      attached_by world (copies_from fresh (parts_of world place) mounts) place moves mounts
+  abbrev pub attach : World N → Fresh N → Location N → (moves : Bool) → List (Mount N) → World N
+  attach world fresh destination moves mounts =
+      attached_by world (copies_from fresh (parts_of world destination) mounts) destination moves mounts
 
   -- the children of a mount that are not unbindable: mount_namespaces(7), MS_UNBINDABLE
   abbrev pub bindable_children : List (Mount N) → N → List (Mount N)
@@ -257,7 +259,7 @@ module _ {N : Type 0} (eq : N → N → Bool) where
   -- the mount point is the source's directory, or lies under it
   abbrev pub stands_under : World N → Location N → Mount N → Bool
   stands_under world source mount =
-      holds_of (λ place. is_directory_under eq (files_at eq world source) source.node place.node) mount.mount_point
+      holds_of (λ point. is_directory_under eq (files_at eq world source) source.node point.node) mount.mount_point
 
   -- the mount of the source, with the source as its root directory
   abbrev pub bound : World N → Location N → Mount N
@@ -266,7 +268,7 @@ module _ {N : Type 0} (eq : N → N → Bool) where
   -- The mounts that a bind copies: the source's mount; with MS_REC also each mount at or under the source, with all its
   -- descendants, but no unbindable mounts and their descendants: mount(2), sharedsubtree, "Bind semantics" and "Rbind
   -- semantics".
-  abbrev pub bind_tree : World N → Location N → Bool → List (Mount N)
+  abbrev pub bind_tree : World N → Location N → (recursive : Bool) → List (Mount N)
   bind_tree world source false = bound world source ∷ []
   bind_tree world source true =
       bound world source

@@ -4,7 +4,7 @@ use Rattle.std.specs.Prelude.{Bool, List, None, Option, Some, [], false, if◌th
 use Rattle.vt_spec.specs.Language.Changes.{Change, changed, changed_node, content_with_parent, node_with_attr, node_with_mark, node_without_entries, with_inode, with_moved, with_name, without_name, without_parent}
 use Rattle.vt_spec.specs.Language.Changes.Change.{AddName, CopyUp, Make, Move, Remove, SetAttr, SetBytes, SetMark}
 use Rattle.vt_spec.specs.FileTree.{FileTree, a_name, ancestors, path_down}
-use Rattle.vt_spec.specs.Machine.Layers.{OpenLayer, Shown, below}
+use Rattle.vt_spec.specs.Machine.Layers.{OpenLayer, Shown, shown_in_lowers}
 use Rattle.vt_spec.specs.Lists.{Fresh, evens, holds_of, odds, then_some}
 use Rattle.vt_spec.specs.Rights.{Credentials}
 use Rattle.vt_spec.specs.Tree.{Content, Node, entries_in, entry_named, is_directory_node, new_directory, node_with_bytes}
@@ -98,7 +98,7 @@ module _ {N : Type 0} (eq : N → N → Bool) where
   }
 
   -- that, of an inode that exists and is not in the upper layer yet
-  abbrev pub copy_of : Merge N → N → N → Option (Node N) → Bool → Merge N
+  abbrev pub copy_of : Merge N → N → N → Option (Node N) → (in_upper : Bool) → Merge N
   copy_of merge object copy None in_upper = merge
   copy_of merge object copy (Some node) true = merge
   copy_of merge object copy (Some node) false = copy_of_node merge object copy node
@@ -121,19 +121,19 @@ module _ {N : Type 0} (eq : N → N → Bool) where
       unwrap_or (path_down eq merge.files merge.files.tree.root directory) [] ++ (name ∷ [])
 
   -- what the lower layers show at a name, ignoring what the upper layer has there
-  abbrev pub shown_below : Stack N → Merge N → N → List ℕ → Option (Shown N)
-  shown_below stack merge directory name =
-      below (record { tree = merge.upper.tree; directory = stack.directory }) stack.lowers
+  abbrev pub shown_in_lowers_at : Stack N → Merge N → N → List ℕ → Option (Shown N)
+  shown_in_lowers_at stack merge directory name =
+      shown_in_lowers (record { tree = merge.upper.tree; directory = stack.directory }) stack.lowers
       (path_to merge directory name)
 
   -- the lower layers show a directory there, which a new one must hide by its opaque mark
   abbrev pub hides_directory : Stack N → Merge N → N → List ℕ → Bool
   hides_directory stack merge directory name =
       is_directory_shown (record { tree = merge.upper.tree; directory = stack.directory } ∷ stack.lowers)
-      (shown_below stack merge directory name)
+      (shown_in_lowers_at stack merge directory name)
 
   -- what a name that is removed leaves in the upper layer: a whiteout, or nothing
-  abbrev pub name_left_by : Bool → Fresh N → Stack N → FileTree N → N → List ℕ → FileTree N
+  abbrev pub name_left_by : (whiteout : Bool) → Fresh N → Stack N → FileTree N → N → List ℕ → FileTree N
   name_left_by true fresh stack upper directory name =
       with_name eq (with_inode eq upper (fresh 0) (whiteout_of stack.mounter)) directory name (fresh 0)
   name_left_by false fresh stack upper directory name = without_name eq upper directory name
@@ -142,7 +142,8 @@ module _ {N : Type 0} (eq : N → N → Bool) where
   -- opaque directories"
   abbrev pub name_left : Fresh N → Stack N → Merge N → FileTree N → N → List ℕ → FileTree N
   name_left fresh stack merge upper directory name =
-      name_left_by (is_some (shown_below stack merge directory name)) fresh stack upper (upper_of merge directory) name
+      name_left_by (is_some (shown_in_lowers_at stack merge directory name)) fresh stack upper
+      (upper_of merge directory) name
 
   -- a directory that is removed or replaced loses the whiteouts in it, and is its own parent
   abbrev pub emptied : FileTree N → Option N → FileTree N
@@ -150,7 +151,7 @@ module _ {N : Type 0} (eq : N → N → Bool) where
   emptied upper (Some object) = without_parent eq (changed_node eq upper object node_without_entries) (Some object)
 
   -- a directory under a new name becomes opaque if it must hide one; else it keeps its mark
-  abbrev pub marked : Bool → FileTree N → N → FileTree N
+  abbrev pub marked : (opaque : Bool) → FileTree N → N → FileTree N
   marked true upper object = changed_node eq upper object (node_with_mark true)
   marked false upper object = upper
 

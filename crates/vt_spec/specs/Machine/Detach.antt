@@ -40,16 +40,16 @@ module _ {N : Type 0} (eq : N → N → Bool) where
 
   -- The numbers of the mounts that one unmount event detaches: where the parent is shared, the mount with the same
   -- mount point at each receiver of the parent's group; else the mount alone (sharedsubtree, "Unmount semantics").
-  abbrev pub going_from : World N → Mount N → Location N → Bool → List N
-  going_from world mount place true =
-      map (λ gone. gone.number) (filter_map (goes_at world place.node)
-      (receivers_of eq world (mount_at eq world place)))
-  going_from world mount place false = mount.number ∷ []
+  abbrev pub going_from : World N → Mount N → Location N → (shared : Bool) → List N
+  going_from world mount point true =
+      map (λ gone. gone.number) (filter_map (goes_at world point.node)
+      (receivers_of eq world (mount_at eq world point)))
+  going_from world mount point false = mount.number ∷ []
 
   -- the numbers of the mounts that one unmount event detaches; a mount without a mount point is detached alone
   abbrev pub going_at : World N → Mount N → Option (Location N) → List N
   going_at world mount None = mount.number ∷ []
-  going_at world mount (Some place) = going_from world mount place (is_shared (mount_at eq world place).propagation)
+  going_at world mount (Some point) = going_from world mount point (is_shared (mount_at eq world point).propagation)
 
   -- the numbers of the mounts that the unmount event of a mount detaches
   abbrev pub going : World N → Mount N → List N
@@ -61,14 +61,14 @@ module _ {N : Type 0} (eq : N → N → Bool) where
 
   -- the mount point of the parent, if that one is detached
   abbrev pub mount_point_of_parent : World N → List N → Location N → Option (Location N)
-  mount_point_of_parent world gone place =
-      if is_going gone place.mount then (mount_at eq world place).mount_point else None
+  mount_point_of_parent world gone point =
+      if is_going gone point.mount then (mount_at eq world point).mount_point else None
 
   -- The mount point of a mount that stays. Where its parent is detached it takes that one's mount point, and so on
   -- (profile).
   abbrev pub mount_point_left : World N → List N → Location N → Location N
-  mount_point_left world gone place =
-      last_or place (chain (length world.mounts) (mount_point_of_parent world gone) place)
+  mount_point_left world gone point =
+      last_or point (chain (length world.mounts) (mount_point_of_parent world gone) point)
 
   -- a mount after the event: detached, or with the mount point that is left for it
   abbrev pub after_going : World N → List N → Mount N → Mount N
@@ -141,7 +141,7 @@ module _ {N : Type 0} (eq : N → N → Bool) where
   -- the mount has this inode of this filesystem as its mount point
   abbrev pub is_point : World N → N → N → Mount N → Bool
   is_point world filesystem node mount =
-      holds_of (λ place. eq place.node node && eq (mount_at eq world place).filesystem filesystem) mount.mount_point
+      holds_of (λ point. eq point.node node && eq (mount_at eq world point).filesystem filesystem) mount.mount_point
 
   -- the directories that count as one mount point with this one
   abbrev pub points_of : World N → Location N → List (N × N)

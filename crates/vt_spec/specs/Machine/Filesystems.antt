@@ -57,12 +57,12 @@ module _ {N : Type 0} where
   with_files filesystem files = record filesystem { files = files }
 
   -- the real object of an inode is not in the upper layer
-  abbrev pub lies_below : Overlay N → N → Bool
-  lies_below overlay number = not (is_some (upper_object (overlay.real number)))
+  abbrev pub lies_only_in_lowers : Overlay N → N → Bool
+  lies_only_in_lowers overlay number = not (is_some (upper_object (overlay.real number)))
 
   -- the objects that a change copies up: overlayfs, "upper and lower"
   abbrev pub objects_copied : Filesystem N → Overlay N → Change N → List N
-  objects_copied filesystem overlay change = filter (lies_below overlay) (object_copied change)
+  objects_copied filesystem overlay change = filter (lies_only_in_lowers overlay) (object_copied change)
 
   -- B1: a regular file that the mounter may not read (profile)
   abbrev pub cannot_read_copied : Filesystem N → Overlay N → N → Bool
@@ -172,8 +172,8 @@ module _ {N : Type 0} (eq : N → N → Bool) where
   -- the directories above, from the nearest one in the upper layer down
   abbrev pub from_nearest_upper : FileTree N → Overlay N → N → List N
   from_nearest_upper files overlay directory =
-      before_first (λ d. not (lies_below overlay d)) (ancestors eq files directory)
-      ++ option_to_list (find (λ d. not (lies_below overlay d)) (ancestors eq files directory))
+      before_first (λ d. not (lies_only_in_lowers overlay d)) (ancestors eq files directory)
+      ++ option_to_list (find (λ d. not (lies_only_in_lowers overlay d)) (ancestors eq files directory))
 
   -- the directories that the mounter has to be able to write and search
   abbrev pub parents_asked : Filesystem N → Overlay N → Change N → List N
@@ -183,7 +183,8 @@ module _ {N : Type 0} (eq : N → N → Bool) where
   -- the objects that are copied up, missing parents included
   abbrev pub copies : Filesystem N → Overlay N → Change N → List N
   copies filesystem overlay change =
-      objects_copied filesystem overlay change ++ filter (lies_below overlay) (parents_asked filesystem overlay change)
+      objects_copied filesystem overlay change
+      ++ filter (lies_only_in_lowers overlay) (parents_asked filesystem overlay change)
 
   -- B1 and B2 of a change of an overlay (profile)
   abbrev pub overlay_rules : Filesystem N → Change N → Overlay N → Rules

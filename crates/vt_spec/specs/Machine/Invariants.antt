@@ -22,7 +22,7 @@ use Rattle.vt_spec.specs.Tree.Content.{Directory, Regular, Symlink}
 use Rattle.vt_spec.specs.TreeInvariant.{HasOwnParents, IsReached, IsTree, led}
 use Rattle.vt_spec.specs.Machine.World.{Descriptor, Filesystem, Layer, Namespace, Overlay, Real, Task, World, all_locations, filesystem_numbered, is_directory_at, is_overlay, layers_of, mount_at, mount_numbered, mounts_of, node_at, open_layer, shown_layers}
 use Rattle.vt_spec.specs.Language.Calls.{TaskName, same_name}
-use Rattle.vt_spec.specs.Machine.World.Real.{Below, Upper}
+use Rattle.vt_spec.specs.Machine.World.Real.{Lower, Upper}
 
 module _ {N : Type 0} where
   -- the same kind, and the same bytes or text; entries of directories may differ
@@ -111,9 +111,9 @@ module _ {N : Type 0} where
 -- numbers; a number that no mount has stands too, and `nowhere` excludes it as a parent.
 pub data Stands {N : Type 0} (eq : N → N → Bool) (world : World N) : N → Type 0 where
   at_root : (number : N) → (mount_numbered eq world number).mount_point ≡ None → Stands eq world number
-  on_parent : (number : N) (place : Location N) → (mount_numbered eq world number).mount_point ≡ Some place
-      → (mount_numbered eq world number).namespace ≡ (mount_numbered eq world place.mount).namespace
-      → Stands eq world place.mount → Stands eq world number
+  on_parent : (number : N) (point : Location N) → (mount_numbered eq world number).mount_point ≡ Some point
+      → (mount_numbered eq world number).namespace ≡ (mount_numbered eq world point.mount).namespace
+      → Stands eq world point.mount → Stands eq world number
 
 -- A peer group lives: it has a member, and its master, if it has one, lives. Groups are given by their numbers.
 pub data Lives {N : Type 0} (members : N → Bool) (master : N → Option N) : N → Type 0 where
@@ -208,7 +208,7 @@ module _ {N : Type 0} (eq : N → N → Bool) where
   abbrev pub real_node : World N → Overlay N → Real N → Option (Node N)
   real_node world overlay (Upper object) =
       then_some overlay.upper (λ layer. (filesystem_numbered eq world layer.filesystem).files.tree.node object)
-  real_node world overlay (Below layer path) =
+  real_node world overlay (Lower layer path) =
       then_some (slice_get overlay.lowers layer) (λ lower. node_at_path (open_layer eq world lower) path)
 
   -- The merged tree of an overlay has at every path what the layers show, and no whiteout and no mark. Two inodes have

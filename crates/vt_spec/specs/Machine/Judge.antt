@@ -199,7 +199,7 @@ module _ {N : Type 0} (eq : N → N → Bool) where
       (Ok (ToRemoveDirectory place.parent (name_of place.last) (object_there place)))))
 
   -- rename(2), by whether both names lead to one object: then nothing is done
-  abbrev pub renamed_permit : Bool → Looks N → Task N → Place N → Place N → Location N → Judgement N
+  abbrev pub renamed_permit : (is_one : Bool) → Looks N → Task N → Place N → Place N → Location N → Judgement N
   renamed_permit true looks task from to old = unless (same_object_rules eq looks from to) (Ok Allowed)
   renamed_permit false looks task from to old =
       unless (rename_rules eq looks task from to old)
@@ -217,7 +217,7 @@ module _ {N : Type 0} (eq : N → N → Bool) where
   -- Calls that change owner, mode and mark
 
   -- other attributes of an object, by one who is allowed to set them
-  abbrev pub attr_permit : Looks N → Location N → Bool → Attr → Judgement N
+  abbrev pub attr_permit : Looks N → Location N → (permitted : Bool) → Attr → Judgement N
   attr_permit looks object allowed attr =
       unless (attr_rules looks object allowed attr) (Ok (ToChange object (SetAttr object.node attr)))
 
@@ -303,12 +303,12 @@ module _ {N : Type 0} (eq : N → N → Bool) where
   -- mount(2) of an overlay at a destination; ill-formed options are O2
   abbrev pub overlay_permit_by : Looks N → (Permit N → Bool) → Task N → Location N → Option OverlayWords → MountFlags
       → Judgement N
-  overlay_permit_by looks overfills task place None flags = Err (denial O2)
-  overlay_permit_by looks overfills task place (Some words) flags =
-      and_then (layers_walked eq looks task words) (λ places.
-      unless (layer_rules eq looks places (overlay_at looks task places))
-      (attach_permit (new_mount_rules eq looks task place) overfills
-      (ToMountOverlay place (overlay_at looks task places) flags)))
+  overlay_permit_by looks overfills task destination None flags = Err (denial O2)
+  overlay_permit_by looks overfills task destination (Some words) flags =
+      and_then (layers_walked eq looks task words) (λ layers.
+      unless (layer_rules eq looks layers (overlay_at looks task layers))
+      (attach_permit (new_mount_rules eq looks task destination) overfills
+      (ToMountOverlay destination (overlay_at looks task layers) flags)))
 
   -- mount(2) of an overlay
   unfoldable pub mount_overlay_permit : Looks N → (Permit N → Bool) → Task N → List ℕ → Option OverlayWords → MountFlags

@@ -38,8 +38,8 @@ module _ {N : Type 0} where
   abbrev pub shown : List (OpenLayer N) → List (List ℕ) → Option (Shown N)
   shown layers path = Views.shown (map view_of layers) path
 
-  abbrev pub below : OpenLayer N → List (OpenLayer N) → List (List ℕ) → Option (Shown N)
-  below upper lowers path = Views.below (view_of upper) (map view_of lowers) path
+  abbrev pub shown_in_lowers : OpenLayer N → List (OpenLayer N) → List (List ℕ) → Option (Shown N)
+  shown_in_lowers upper lowers path = Views.shown_in_lowers (view_of upper) (map view_of lowers) path
 
   abbrev pub names_at : List (OpenLayer N) → List (List ℕ) → Entries (Unit {0})
   names_at layers path = Views.names_at (map view_of layers) path

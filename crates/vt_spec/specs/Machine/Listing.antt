@@ -2,7 +2,7 @@
 -- numbered by where they first stand in the list, from left to right.
 use Rattle.std.specs.Prelude.{Bool, List, None, Option, Some, [], filter, flat_map, map, not, option_map, option_to_list, unwrap_or, ℕ, ◌&&◌, ◌∷◌}
 use Rattle.vt_spec.specs.FileTree.{path_down}
-use Rattle.vt_spec.specs.Lists.{counted_from, each_once, holds_of, place_from}
+use Rattle.vt_spec.specs.Lists.{counted_from, each_once, holds_of, index_from}
 use Rattle.vt_spec.specs.Machine.Mounts.{Location, Mount, Propagation, is_shared, source_of}
 use Rattle.vt_spec.specs.Machine.Mounts.Propagation.{Private, Shared, Slave, Unbindable}
 use Rattle.vt_spec.specs.Language.Answers.{MountLine, PeerLine, Spot, TypeLine}
@@ -33,7 +33,7 @@ module _ {N : Type 0} where
 module _ {N : Type 0} (eq : N → N → Bool) where
   -- the index of a number in a list, from 1 on
   abbrev pub number_among : List N → N → ℕ
-  number_among seen number = unwrap_or (place_from (eq number) 1 seen) 0
+  number_among seen number = unwrap_or (index_from (eq number) 1 seen) 0
 
   -- the groups of these mounts, each once, as their lines show them from left to right
   abbrev pub groups_seen : World N → List (Mount N) → List N
@@ -52,9 +52,9 @@ module _ {N : Type 0} (eq : N → N → Bool) where
   type_line world seen Unbindable = UnbindableLine
 
   -- the path from the root of the parent to the mount point
-  abbrev pub place_spot : World N → Location N → Spot
-  place_spot world place =
-      spot_of (path_down eq (files_at eq world place) (mount_at eq world place).root place.node)
+  abbrev pub mount_point_spot : World N → Location N → Spot
+  mount_point_spot world point =
+      spot_of (path_down eq (files_at eq world point) (mount_at eq world point).root point.node)
 
   -- the path of a mount's root in its filesystem
   abbrev pub root_spot : World N → Mount N → Spot
@@ -66,7 +66,7 @@ module _ {N : Type 0} (eq : N → N → Bool) where
   abbrev pub mount_line : World N → List (Mount N) → Mount N → MountLine
   mount_line world mounts mount = record {
     mount_point = option_map
-        (λ place. (number_among (map (λ other. other.number) mounts) place.mount, place_spot world place))
+        (λ point. (number_among (map (λ other. other.number) mounts) point.mount, mount_point_spot world point))
         mount.mount_point;
     overlay = is_overlay (filesystem_numbered eq world mount.filesystem);
     filesystem = number_among (filesystems_seen mounts) mount.filesystem;
@@ -93,16 +93,16 @@ module _ {N : Type 0} (eq : N → N → Bool) where
   is_slave_of group mount = not (is_shared mount.propagation) && holds_of (eq group) (source_of mount.propagation)
 
   -- the indices of all mounts that pass a test
-  abbrev pub places_with : World N → (Mount N → Bool) → List (ℕ × ℕ)
-  places_with world test = map (λ mount. (mount.0, mount.1)) (filter (λ mount. test mount.2) (all_attached world))
+  abbrev pub indices_with : World N → (Mount N → Bool) → List (ℕ × ℕ)
+  indices_with world test = map (λ mount. (mount.0, mount.1)) (filter (λ mount. test mount.2) (all_attached world))
 
   -- the line of a peer group: its master, members and slaves (profile)
   abbrev pub peer_line : World N → List N → N → PeerLine
   peer_line world seen group = record {
     group = number_among seen group;
     master = option_map (number_among seen) (world.master group);
-    peers = places_with world (is_member_of eq group);
-    slaves = places_with world (is_slave_of group);
+    peers = indices_with world (is_member_of eq group);
+    slaves = indices_with world (is_slave_of group);
   }
 
   -- the lines of all peer groups, in the order in which mounts show them

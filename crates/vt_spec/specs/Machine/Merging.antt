@@ -4,11 +4,11 @@ use Rattle.std.specs.Prelude.{Bool, List, Option, [], false, filter_map, find, m
 use Rattle.std.specs.Str.{bytes_eq}
 use Rattle.vt_spec.specs.FileTree.{FileTree}
 use Rattle.vt_spec.specs.Machine.Layers.{OpenLayer, Shown, paths_from, shown}
-use Rattle.vt_spec.specs.Lists.{Fresh, each_once, front_of, last_or, place_from, same_list, then_some, when}
+use Rattle.vt_spec.specs.Lists.{Fresh, each_once, without_last, last_or, index_from, same_list, then_some, when}
 use Rattle.vt_spec.specs.Tree.{Content, Node}
 use Rattle.vt_spec.specs.Tree.Content.{Directory, Regular, Symlink, Whiteout}
 use Rattle.vt_spec.specs.Machine.World.{Real}
-use Rattle.vt_spec.specs.Machine.World.Real.{Below, Upper}
+use Rattle.vt_spec.specs.Machine.World.Real.{Lower, Upper}
 
 -- an object of the merged tree: its path, and what is shown there
 pub record Merged (N : Type 0) : Type 0 where
@@ -40,10 +40,10 @@ module _ {N : Type 0} where
   merged_objects layers longest = filter_map (merged_at layers) (paths_from longest layers [])
 
   -- the real object; the first argument says whether the top layer is an upper layer
-  abbrev pub real_object : Bool → ℕ → Merged N → Real N
+  abbrev pub real_object : (has_upper : Bool) → ℕ → Merged N → Real N
   real_object true zero object = Upper object.seen.object
-  real_object true (suc layer) object = Below layer object.path
-  real_object false layer object = Below layer object.path
+  real_object true (suc layer) object = Lower layer object.path
+  real_object false layer object = Lower layer object.path
 
   -- the inode that is shown, in its layer
   abbrev pub layer_node : List (OpenLayer N) → Shown N → Option (Node N)
@@ -54,45 +54,47 @@ module _ {N : Type 0} where
   inode_of inodes number eq = find (λ inode. eq number inode.number) inodes
 
   -- the new number of the directory at a path
-  abbrev pub number_at : Fresh N → Bool → List (Merged N) → List (List ℕ) → N
+  abbrev pub number_at : Fresh N → (has_upper : Bool) → List (Merged N) → List (List ℕ) → N
   number_at fresh has_upper objects path =
-      fresh (unwrap_or (place_from (λ object. same_path path object.path) 0 objects) 0)
+      fresh (unwrap_or (index_from (λ object. same_path path object.path) 0 objects) 0)
 
 module _ {N : Type 0} (eq : N → N → Bool) where
   -- two real objects are one: an inode of the upper layer, or a path of lower ones
   abbrev pub same_real : Real N → Real N → Bool
   same_real (Upper a) (Upper b) = eq a b
-  same_real (Upper a) (Below layer path) = false
-  same_real (Below layer path) (Upper b) = false
-  same_real (Below layer path) (Below other_layer other) = same_path path other
+  same_real (Upper a) (Lower layer path) = false
+  same_real (Lower layer path) (Upper b) = false
+  same_real (Lower layer path) (Lower other_layer other) = same_path path other
 
   -- two paths lead to one inode only where they show one object of the upper layer: overlayfs, "non-standard behavior"
-  abbrev pub is_one_inode : Bool → Merged N → Merged N → Bool
+  abbrev pub is_one_inode : (has_upper : Bool) → Merged N → Merged N → Bool
   is_one_inode has_upper a b =
       same_real (real_object has_upper a.seen.layer a) (real_object has_upper b.seen.layer b)
 
   -- the new number of an object: all objects that are one inode have the number of the first
-  abbrev pub merged_number : Fresh N → Bool → List (Merged N) → Merged N → N
+  abbrev pub merged_number : Fresh N → (has_upper : Bool) → List (Merged N) → Merged N → N
   merged_number fresh has_upper objects object =
-      fresh (unwrap_or (place_from (is_one_inode has_upper object) 0 objects) 0)
+      fresh (unwrap_or (index_from (is_one_inode has_upper object) 0 objects) 0)
 
   -- the entry of an object in the directory at a path, if that is its directory
-  abbrev pub entry_below : Fresh N → Bool → List (Merged N) → List (List ℕ) → Merged N → Option (List ℕ × N)
-  entry_below fresh has_upper objects path object =
-      when (not (is_root_path object.path) && same_path path (front_of object.path))
+  abbrev pub entry_in_directory : Fresh N → (has_upper : Bool) → List (Merged N) → List (List ℕ) → Merged N
+      → Option (List ℕ × N)
+  entry_in_directory fresh has_upper objects path object =
+      when (not (is_root_path object.path) && same_path path (without_last object.path))
       (last_or [] object.path, merged_number fresh has_upper objects object)
 
   -- a merged directory has an entry for each object shown in it, and no opaque mark
-  abbrev pub merged_content : Fresh N → Bool → List (Merged N) → List (List ℕ) → Content N → Content N
+  abbrev pub merged_content : Fresh N → (has_upper : Bool) → List (Merged N) → List (List ℕ) → Content N → Content N
   merged_content fresh has_upper objects path (Directory parent entries opaque) =
-      Directory (number_at fresh has_upper objects (front_of path))
-      (filter_map (entry_below fresh has_upper objects path) objects) false
+      Directory (number_at fresh has_upper objects (without_last path))
+      (filter_map (entry_in_directory fresh has_upper objects path) objects) false
   merged_content fresh has_upper objects path (Regular bytes) = Regular bytes
   merged_content fresh has_upper objects path (Symlink text) = Symlink text
   merged_content fresh has_upper objects path Whiteout = Whiteout
 
   -- an object that is shown as an inode of the merged tree: overlayfs, "upper and lower"
-  abbrev pub merged_inode : Fresh N → Bool → List (OpenLayer N) → List (Merged N) → Merged N → Option (MergedInode N)
+  abbrev pub merged_inode : Fresh N → (has_upper : Bool) → List (OpenLayer N) → List (Merged N) → Merged N
+      → Option (MergedInode N)
   merged_inode fresh has_upper layers objects object =
       option_map (λ node. record {
         number = merged_number fresh has_upper objects object;
@@ -102,7 +104,7 @@ module _ {N : Type 0} (eq : N → N → Bool) where
       (layer_node layers object.seen)
 
   -- the inodes of all objects that are shown
-  abbrev pub merged_inodes : Fresh N → Bool → List (OpenLayer N) → List (Merged N) → List (MergedInode N)
+  abbrev pub merged_inodes : Fresh N → (has_upper : Bool) → List (OpenLayer N) → List (Merged N) → List (MergedInode N)
   merged_inodes fresh has_upper layers objects = filter_map (merged_inode fresh has_upper layers objects) objects
 
   -- the tree of these inodes

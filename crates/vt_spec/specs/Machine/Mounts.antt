@@ -1,7 +1,7 @@
 -- Mounts: mount(2), mount_namespaces(7) and the kernel's document sharedsubtree.
 use Rattle.std.specs.Prelude.{Bool, List, None, Option, Some, [], false, filter, find, flat_map, if◌then◌else◌, is_some, length, map, option_map, suc, true, unwrap_or, zero, ℕ, ◌&&◌, ◌∷◌}
 use Rattle.vt_spec.specs.Language.Calls.{MountFlags, plain_flags}
-use Rattle.vt_spec.specs.Lists.{Fresh, chain, holds_of, last_or, place_from}
+use Rattle.vt_spec.specs.Lists.{Fresh, chain, holds_of, last_or, index_from}
 
 -- a location: an inode seen through a mount, as the kernel's struct path: path_resolution(7)
 pub record Location (N : Type 0) : Type 0 where
@@ -90,7 +90,7 @@ module _ {N : Type 0} (eq : N → N → Bool) where
 
   -- the mount is a child of the mount of this number
   abbrev pub stands_on : N → Mount N → Bool
-  stands_on number mount = holds_of (λ place. eq number place.mount) mount.mount_point
+  stands_on number mount = holds_of (λ point. eq number point.mount) mount.mount_point
 
   -- the mount whose mount point is this location
   abbrev pub child_at : List (Mount N) → Location N → Option (Mount N)
@@ -127,7 +127,7 @@ module _ {N : Type 0} (eq : N → N → Bool) where
 
   -- the index of the mount of this number in a list
   abbrev pub index_of : List (Mount N) → N → ℕ
-  index_of mounts number = unwrap_or (place_from (λ mount. eq number mount.number) 0 mounts) 0
+  index_of mounts number = unwrap_or (index_from (λ mount. eq number mount.number) 0 mounts) 0
 
   -- new numbers by mounts: the i-th mount of a list gets the i-th number
   abbrev pub numbers_by : Fresh N → List (Mount N) → N → N

@@ -51,14 +51,14 @@ pub data Permit (N : Type 0) : Type 0 where
   -- the caller enters a namespace, at its root: setns(2)
   ToEnterNamespace : (namespace : N) → Permit N
   -- a mount of a new, empty filesystem: mount(2) of a tmpfs
-  ToMountPlain : (place : Location N) → (flags : MountFlags) → Permit N
+  ToMountPlain : (destination : Location N) → (flags : MountFlags) → Permit N
   -- a mount of a new overlay with these layers: mount(2) of an overlay
-  ToMountOverlay : (place : Location N) → (overlay : Overlay N) → (flags : MountFlags) → Permit N
+  ToMountOverlay : (destination : Location N) → (overlay : Overlay N) → (flags : MountFlags) → Permit N
   -- a copy of the mount of a source, from that directory on, or of the mounts under it too: mount(2) with MS_BIND, and
   -- MS_REC
-  ToBind : (source : Location N) → (place : Location N) → (recursive : Bool) → Permit N
+  ToBind : (source : Location N) → (destination : Location N) → (recursive : Bool) → Permit N
   -- a mount moves to another mount point, with its descendants: mount(2) with MS_MOVE
-  ToMove : (mount : N) → (place : Location N) → Permit N
+  ToMove : (mount : N) → (destination : Location N) → Permit N
   -- an unmount event: umount(2)
   ToUnmount : (mount : N) → Permit N
   -- an unmount event for a mount and each of its descendants: umount(2) with MNT_DETACH

@@ -143,7 +143,7 @@ module _ {N : Type 0} (eq : N → N → Bool) where
   }
 
   -- after a call that changed the world, what nothing uses is removed and change numbers are raised
-  abbrev pub finished_by : Bool → World N → TaskName → List N → Outcome N → Outcome N
+  abbrev pub finished_by : (changes : Bool) → World N → TaskName → List N → Outcome N → Outcome N
   finished_by true before name changed outcome = outcome
   finished_by false before name changed outcome =
       record outcome { world = numbers_raised before name changed (settled eq outcome.world) }

@@ -72,7 +72,7 @@ module _ {N : Type 0} (eq : N → N → Bool) where
       || is_lost_group world (then_some (source_of mount.propagation) world.master)
 
   -- the regrouped world if some mount lost a group, else the world unchanged
-  abbrev pub regrouped_by : Bool → World N → World N
+  abbrev pub regrouped_by : (lost : Bool) → World N → World N
   regrouped_by false world = world
   regrouped_by true world = record world {
     mounts = map (inheriting world) world.mounts;

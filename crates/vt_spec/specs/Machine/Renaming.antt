@@ -6,7 +6,7 @@ use Rattle.vt_spec.specs.Machine.Mounts.Propagation.{Private, Shared, Slave, Unb
 use Rattle.vt_spec.specs.Tree.{Content, Node}
 use Rattle.vt_spec.specs.Tree.Content.{Directory, Regular, Symlink, Whiteout}
 use Rattle.vt_spec.specs.Machine.World.{Descriptor, Filesystem, Layer, Namespace, Overlay, Real, Task, World}
-use Rattle.vt_spec.specs.Machine.World.Real.{Below, Upper}
+use Rattle.vt_spec.specs.Machine.World.Real.{Lower, Upper}
 
 module _ {N M : Type 0} (there : N → M) (back : M → N) where
   -- Each definition from here on is a value of its name with all of its numbers renamed, and nothing else changed.
@@ -39,7 +39,7 @@ module _ {N M : Type 0} (there : N → M) (back : M → N) where
 
   abbrev pub renamed_real : Real N → Real M
   renamed_real (Upper object) = Upper (there object)
-  renamed_real (Below layer path) = Below layer path
+  renamed_real (Lower layer path) = Lower layer path
 
   abbrev pub renamed_overlay : Overlay N → Overlay M
   renamed_overlay overlay = record {

@@ -66,7 +66,7 @@ module _ {N : Type 0} (eq : N → N → Bool) where
   spoken_step grammar world line (Some fresh) = Answered (requested world (request_of grammar line) fresh)
 
   -- a line that is too long is S1, and a silent one has no answer
-  abbrev pub line_step_by : Bool → Bool → Grammar → World N → List ℕ → Option (Fresh N) → Step N
+  abbrev pub line_step_by : (too_long : Bool) → (silent : Bool) → Grammar → World N → List ℕ → Option (Fresh N) → Step N
   line_step_by true silent grammar world line fresh = Answered (denied world (denial S1))
   line_step_by false true grammar world line fresh = Silent
   line_step_by false false grammar world line fresh = spoken_step grammar world line fresh

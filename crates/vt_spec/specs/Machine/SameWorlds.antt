@@ -3,7 +3,7 @@
 use Rattle.std.specs.Prelude.{Bool, List, Some, [], map, true, ⊤, ◌∷◌, ◌≡◌}
 use Rattle.std.specs.List.Sorted.{IsPermutation}
 use Rattle.vt_spec.specs.FileTree.{FileTree, has_entry_to}
-use Rattle.vt_spec.specs.Machine.Filesystems.{lies_below}
+use Rattle.vt_spec.specs.Machine.Filesystems.{lies_only_in_lowers}
 use Rattle.vt_spec.specs.Machine.World.{Filesystem, Namespace, Overlay, Task, World, filesystem_numbered}
 
 module _ {N : Type 0} where
@@ -45,10 +45,10 @@ pub record SameWorlds {N : Type 0} (one other : World N) : Type 0 where
 
 -- An inode of an overlay that is only in lower layers has a name in one directory alone, since there are as many such
 -- inodes as paths that show them: overlayfs, "non-standard behavior" of hard links
-abbrev pub BelowHasOneName : {N : Type 0} → (N → N → Bool) → World N → Type 0
-BelowHasOneName {N} eq world =
+abbrev pub LowerObjectsHaveOneName : {N : Type 0} → (N → N → Bool) → World N → Type 0
+LowerObjectsHaveOneName {N} eq world =
     (number : N) (overlay : Overlay N) → (filesystem_numbered eq world number).overlay ≡ Some overlay
-    → (object one other : N) → lies_below overlay object ≡ true
+    → (object one other : N) → lies_only_in_lowers overlay object ≡ true
     → has_entry_to eq (filesystem_numbered eq world number).files.tree one object ≡ true
     → has_entry_to eq (filesystem_numbered eq world number).files.tree other object ≡ true
     → one ≡ other

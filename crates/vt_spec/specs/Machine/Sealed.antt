@@ -57,8 +57,8 @@ module _ {N : Type 0} where
   seen_by_descriptor mount = record (detached mount) { flags = plain_flags }
 
   -- the roots and working directories of tasks
-  abbrev pub standing_places : List (Task N) → List (Location N)
-  standing_places tasks = flat_map (λ task. task.root ∷ task.directory ∷ []) tasks
+  abbrev pub roots_and_directories : List (Task N) → List (Location N)
+  roots_and_directories tasks = flat_map (λ task. task.root ∷ task.directory ∷ []) tasks
 
 module _ {N : Type 0} (eq : N → N → Bool) where
   -- a task of those named is in the namespace
@@ -85,19 +85,19 @@ module _ {N : Type 0} (eq : N → N → Bool) where
       list_all (λ task. not (is_own_namespace world names task.namespace)) (outsiders world names)
 
   -- a mount receives the events of another: that one is its peer, or a member of its master or of its group's master
-  abbrev pub hears : World N → Mount N → Mount N → Bool
-  hears world a b =
+  abbrev pub receives_events_of : World N → Mount N → Mount N → Bool
+  receives_events_of world a b =
       holds_of (λ group. is_member_of eq group b) (group_of a.propagation)
       || holds_of (λ group. is_member_of eq group b) (master_of world a.propagation)
 
   -- two mounts of which one receives the events of the other
-  abbrev pub is_linked : World N → Mount N → Mount N → Bool
-  is_linked world a b = hears world a b || hears world b a
+  abbrev pub share_events : World N → Mount N → Mount N → Bool
+  share_events world a b = receives_events_of world a b || receives_events_of world b a
 
   -- no mount of theirs is linked with a mount of another namespace
-  abbrev pub has_no_link : World N → List TaskName → Bool
-  has_no_link world names =
-      list_all (λ own. list_all (λ other. not (is_linked world own other)) (other_mounts world names))
+  abbrev pub shares_no_events : World N → List TaskName → Bool
+  shares_no_events world names =
+      list_all (λ own. list_all (λ other. not (share_events world own other)) (other_mounts world names))
       (own_mounts world names)
 
   -- the location is on a mount of theirs
@@ -160,7 +160,7 @@ module _ {N : Type 0} (eq : N → N → Bool) where
   unfoldable pub sealed : World N → List TaskName → Bool
   sealed world names =
       holds_all_tasks world names
-      && has_no_link world names
+      && shares_no_events world names
       && no_outsider_on_mounts world names
       && list_all (λ filesystem. used_alone world names filesystem || wholly_locked world names filesystem)
       (used_filesystems world names)
@@ -177,12 +177,12 @@ module _ {N : Type 0} (eq : N → N → Bool) where
 
   -- one of these locations is on the mount
   abbrev pub is_at : List (Location N) → Mount N → Bool
-  is_at places mount = list_any (λ location. eq location.mount mount.number) places
+  is_at locations mount = list_any (λ location. eq location.mount mount.number) locations
 
   -- a mount of that part: whole, as a descriptor shows it, or not there
   abbrev pub part_of_mount : World N → List TaskName → Mount N → Option (Mount N)
   part_of_mount world names mount =
-      if is_own_mount world names mount || is_at (standing_places (members world names)) mount then Some mount
+      if is_own_mount world names mount || is_at (roots_and_directories (members world names)) mount then Some mount
       else when (is_at (locations (members world names)) mount) (seen_by_descriptor mount)
 
   -- the lower layers of the overlays that they use

@@ -83,7 +83,7 @@ module _ {N : Type 0} (eq : N → N → Bool) where
       record overlay { real = λ number. if is_among eq number used then overlay.real number else None }
 
   -- the filesystem with these inodes alone; the flag says that it has no others
-  abbrev pub only_used_by : Bool → List N → Filesystem N → Filesystem N
+  abbrev pub only_used_by : (all_used : Bool) → List N → Filesystem N → Filesystem N
   only_used_by true used filesystem = filesystem
   only_used_by false used filesystem = record filesystem {
     files = only_among used filesystem.files;
@@ -96,7 +96,7 @@ module _ {N : Type 0} (eq : N → N → Bool) where
       only_used_by (list_all (λ number. is_among eq number used) filesystem.files.numbers) used filesystem
 
   -- a filesystem that is chosen, with its inodes in use alone: unlink(2) on a file that is still open
-  abbrev pub only_used : World N → Bool → Filesystem N → Filesystem N
+  abbrev pub only_used : World N → (chosen : Bool) → Filesystem N → Filesystem N
   only_used world true filesystem = only_used_of (used_in world filesystem) filesystem
   only_used world false filesystem = filesystem
 

@@ -58,12 +58,12 @@ module _ {N : Type 0} (eq : N → N → Bool) where
   })
 
   -- one mount, or with MS_REC the mount and all its descendants: mount(2)
-  abbrev pub named_mounts : World N → N → Bool → List (Mount N)
+  abbrev pub named_mounts : World N → N → (recursive : Bool) → List (Mount N)
   named_mounts world number true = mount_tree eq world.mounts (mount_numbered eq world number)
   named_mounts world number false = mount_numbered eq world number ∷ []
 
   -- the world after a change of type: mount(2) with MS_SHARED, MS_SLAVE, MS_PRIVATE or MS_UNBINDABLE, and MS_REC
-  abbrev pub with_type : Fresh N → World N → N → TypeWord → Bool → World N
+  abbrev pub with_type : Fresh N → World N → N → TypeWord → (recursive : Bool) → World N
   with_type fresh world number word recursive =
       retyped world (numbers_by eq fresh (named_mounts world number recursive)) word
       (named_mounts world number recursive)

@@ -5,7 +5,7 @@ use Rattle.std.specs.Prelude.{Bool, List, None, Option, Some, [], false, filter,
 use Rattle.std.specs.List.{list_any}
 use Rattle.vt_spec.specs.declared.attributes.Kind.TheVariants.{White}
 use Rattle.vt_spec.specs.FileTree.{is_kind_in, is_opaque_in}
-use Rattle.vt_spec.specs.Lists.{folded, front_of, fronts, then_some, when}
+use Rattle.vt_spec.specs.Lists.{folded, without_last, prefixes, then_some, when}
 use Rattle.vt_spec.specs.Rights.{is_directory}
 use Rattle.vt_spec.specs.Tree.{Entries, Node, entries_in, is_directory_node, kind_of, with_entry}
 
@@ -32,7 +32,7 @@ module _ {N : Type 0} where
 
   -- the layer cuts lower ones at a path: it hides at a non-empty prefix of it, or at the path itself
   abbrev pub cuts : View N → List (List ℕ) → Bool
-  cuts view path = list_any (λ front. hides (node_led view front)) (fronts path)
+  cuts view path = list_any (λ prefix. hides (node_led view prefix)) (prefixes path)
 
   -- an object of a layer that is not cut, unless it is a whiteout
   abbrev pub visible : View N → ℕ → N → Option (Shown N)
@@ -56,8 +56,8 @@ module _ {N : Type 0} where
   shown views path = shown_from 0 views path
 
   -- what would be shown at a path if the upper layer had nothing there
-  abbrev pub below : View N → List (View N) → List (List ℕ) → Option (Shown N)
-  below upper lowers path = if cuts upper (front_of path) then None else shown_from 1 lowers path
+  abbrev pub shown_in_lowers : View N → List (View N) → List (List ℕ) → Option (Shown N)
+  shown_in_lowers upper lowers path = if cuts upper (without_last path) then None else shown_from 1 lowers path
 
   -- the names that some layer has at a path, each once and in their order
   abbrev pub names_at : List (View N) → List (List ℕ) → Entries (Unit {0})

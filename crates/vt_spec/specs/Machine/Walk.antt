@@ -70,13 +70,13 @@ module _ {N : Type 0} (eq : N → N → Bool) where
   abbrev pub directory_walk : World N → Task N → List ℕ → Result (Here N) (Stop N)
   directory_walk world task = Walking.directory_walk eq (looks_of eq world) task
 
-  abbrev pub front_walked : World N → Task N → Follow N → Here N → List (List ℕ) → Result (Here N) (Stop N)
-  front_walked world task = Walking.front_walked eq (looks_of eq world) task
+  abbrev pub prefix_walked : World N → Task N → Follow N → Here N → List (List ℕ) → Result (Here N) (Stop N)
+  prefix_walked world task = Walking.prefix_walked eq (looks_of eq world) task
 
   abbrev pub last_walked : World N → Task N → Here N → LastWord → Result (Here N) (Stop N)
   last_walked world task = Walking.last_walked eq (looks_of eq world) task
 
-  abbrev pub symlink_walk_by : Bool → World N → Task N → List ℕ → Result (Here N) (Stop N)
+  abbrev pub symlink_walk_by : (slash : Bool) → World N → Task N → List ℕ → Result (Here N) (Stop N)
   symlink_walk_by follows world task = Walking.symlink_walk_by eq follows (looks_of eq world) task
 
   abbrev pub symlink_walk : World N → Task N → List ℕ → Result (Here N) (Stop N)
@@ -88,7 +88,7 @@ module _ {N : Type 0} (eq : N → N → Bool) where
   abbrev pub steps_at : World N → Task N → Here N → LastWord → List (List N)
   steps_at world task = Walking.steps_at eq (looks_of eq world) task
 
-  abbrev pub placed : World N → Task N → Here N → LastWord → Bool → Result (Place N) (Stop N)
+  abbrev pub placed : World N → Task N → Here N → LastWord → (slash : Bool) → Result (Place N) (Stop N)
   placed world task = Walking.placed eq (looks_of eq world) task
 
   abbrev pub place_walk : World N → Task N → List ℕ → Result (Place N) (Stop N)

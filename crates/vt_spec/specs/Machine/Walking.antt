@@ -89,7 +89,7 @@ pub record Place (N : Type 0) : Type 0 where
 -- the last word of a path, whose last word comes first in the list
 abbrev pub final_word : List (List ℕ) → LastWord
 final_word [] = NoWord
-final_word (word ∷ front) = last_word word
+final_word (word ∷ prefix) = last_word word
 
 -- how a symlink's text is walked: from the directory that the symlink stands in
 abbrev pub Follow : Type 0 → Type 0
@@ -255,8 +255,8 @@ module _ {N : Type 0} (eq : N → N → Bool) where
   -- The walk by words, of which the last comes first; every symlink is followed, a symlink's text by the walk given.
   abbrev pub words_walked : Looks N → Task N → Follow N → Here N → List (List ℕ) → Result (Here N) (Stop N)
   words_walked looks task follow here [] = Ok here
-  words_walked looks task follow here (word ∷ front) =
-      then_walk (words_walked looks task follow here front) (λ reached.
+  words_walked looks task follow here (word ∷ prefix) =
+      then_walk (words_walked looks task follow here prefix) (λ reached.
       then_walk (word_walked looks task reached (last_word word)) (λ next.
       if_symlink next (symlink_text (looks.node next.location)) (follow reached.location next)))
 
@@ -295,9 +295,9 @@ module _ {N : Type 0} (eq : N → N → Bool) where
       walk_unless here.steps ((not (is_directory_at looks here.location), W3) ∷ []) here)
 
   -- the walk of all words but the last
-  abbrev pub front_walked : Looks N → Task N → Follow N → Here N → List (List ℕ) → Result (Here N) (Stop N)
-  front_walked looks task follow here [] = Ok here
-  front_walked looks task follow here (word ∷ front) = words_walked looks task follow here front
+  abbrev pub prefix_walked : Looks N → Task N → Follow N → Here N → List (List ℕ) → Result (Here N) (Stop N)
+  prefix_walked looks task follow here [] = Ok here
+  prefix_walked looks task follow here (word ∷ prefix) = words_walked looks task follow here prefix
 
   -- the last word walked, without a final symlink followed
   abbrev pub last_walked : Looks N → Task N → Here N → LastWord → Result (Here N) (Stop N)
@@ -307,11 +307,11 @@ module _ {N : Type 0} (eq : N → N → Bool) where
   last_walked looks task here (Named name) = word_walked looks task here (Named name)
 
   -- the two cases of `symlink_walk`: whether a slash follows the last word
-  abbrev pub symlink_walk_by : Bool → Looks N → Task N → List ℕ → Result (Here N) (Stop N)
+  abbrev pub symlink_walk_by : (slash : Bool) → Looks N → Task N → List ℕ → Result (Here N) (Stop N)
   symlink_walk_by true looks task path = object_walk looks task path
   symlink_walk_by false looks task path =
       then_walk (path_text path) (λ text.
-      then_walk (front_walked looks task (followed looks task) (walk_start task text) (reverse (words text))) (λ here.
+      then_walk (prefix_walked looks task (followed looks task) (walk_start task text) (reverse (words text))) (λ here.
       last_walked looks task here (final_word (reverse (words text)))))
 
   -- the object that a path leads to, a final symlink itself unless a slash follows: lstat(2)
@@ -339,7 +339,7 @@ module _ {N : Type 0} (eq : N → N → Bool) where
   steps_at looks task here word = met_at looks task here.location word ∷ here.steps
 
   -- where a parent walk ends, by its directory and its last word
-  abbrev pub placed : Looks N → Task N → Here N → LastWord → Bool → Result (Place N) (Stop N)
+  abbrev pub placed : Looks N → Task N → Here N → LastWord → (slash : Bool) → Result (Place N) (Stop N)
   placed looks task here NoWord slash =
       Ok (record {
         parent = here.location;
@@ -363,7 +363,7 @@ module _ {N : Type 0} (eq : N → N → Bool) where
   abbrev pub place_walk : Looks N → Task N → List ℕ → Result (Place N) (Stop N)
   place_walk looks task path =
       then_walk (path_text path) (λ text.
-      then_walk (front_walked looks task (followed looks task) (walk_start task text) (reverse (words text))) (λ here.
+      then_walk (prefix_walked looks task (followed looks task) (walk_start task text) (reverse (words text))) (λ here.
       placed looks task here (final_word (reverse (words text))) (ends_in_slash text)))
 
   -- W8: a name that is missing is to be made in a removed directory: mkdir(2), ENOENT
@@ -425,7 +425,7 @@ module _ {N : Type 0} (eq : N → N → Bool) where
   abbrev pub file_walked : ℕ → Looks N → Task N → Here N → List ℕ → Bool → Result (Place N) (Stop N)
   file_walked zero looks task start text slash = Err (record { deny = denial W7; steps = start.steps })
   file_walked (suc depth) looks task start text slash =
-      then_walk (front_walked looks task (followed looks task) start (reverse (words text))) (λ here.
+      then_walk (prefix_walked looks task (followed looks task) start (reverse (words text))) (λ here.
       then_walk (placed looks task here (final_word (reverse (words text))) (slash || ends_in_slash text)) (λ place.
       file_or_symlink looks place (symlink_there looks place) (λ inner.
       then_walk (walk_unless place.steps (follow_rules looks (symlink_of here place) inner)

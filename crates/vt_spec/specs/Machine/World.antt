@@ -19,7 +19,7 @@ pub record Layer (N : Type 0) : Type 0 where
 -- the real object of a merged one: an inode of the upper layer, or a path of one lower layer, counted from the top
 pub data Real (N : Type 0) : Type 0 where
   Upper : (object : N) → Real N
-  Below : (layer : ℕ) → (path : List (List ℕ)) → Real N
+  Lower : (layer : ℕ) → (path : List (List ℕ)) → Real N
 
 -- What makes a tree an overlay: its layers, the credentials that it was mounted with, and the real object of each of
 -- its inodes. Without an upper layer it is read-only. The kernel's overlayfs document, "permission model".
@@ -126,7 +126,7 @@ module _ {N : Type 0} where
   abbrev pub upper_object : Option (Real N) → Option N
   upper_object None = None
   upper_object (Some (Upper object)) = Some object
-  upper_object (Some (Below layer path)) = None
+  upper_object (Some (Lower layer path)) = None
 
 module _ {N : Type 0} (eq : N → N → Bool) where
   -- the mount of this number
@@ -217,8 +217,8 @@ module _ {N : Type 0} (eq : N → N → Bool) where
       }
 
   -- the location of the first mount's root
-  abbrev pub first_place : Fresh N → Location N
-  first_place fresh = record { mount = fresh 0; node = fresh 3 }
+  abbrev pub first_location : Fresh N → Location N
+  first_location fresh = record { mount = fresh 0; node = fresh 3 }
 
   -- the first task, `t`, with umask 022 (profile)
   abbrev pub first_task : Fresh N → Task N
@@ -228,8 +228,8 @@ module _ {N : Type 0} (eq : N → N → Bool) where
         credentials = first_credentials;
         umask = 18;
         namespace = fresh 1;
-        root = first_place fresh;
-        directory = first_place fresh;
+        root = first_location fresh;
+        directory = first_location fresh;
         descriptors = [];
         forks = 0;
         change = 0;

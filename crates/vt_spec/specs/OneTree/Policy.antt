@@ -257,7 +257,7 @@ module _ {N : Type 0} where
 
 module _ {N : Type 0} (eq : N → N → Bool) where
   -- rename(2), by whether both names lead to one object: then nothing is done
-  abbrev pub renamed_by : Bool → Inodes N → Task N → Place N → Place N → N → Result (Permit N) Deny
+  abbrev pub renamed_by : (is_one : Bool) → Inodes N → Task N → Place N → Place N → N → Result (Permit N) Deny
   renamed_by true inodes task from to old = Ok Allowed
   renamed_by false inodes task from to old =
       unless (rename_rules eq inodes task.credentials from to old)

@@ -43,8 +43,8 @@ module _ {N : Type 0} where
       not (may_delete_sticky who (attr_at tree directory) (attr_at tree object))
 
   -- the directory is not empty
-  abbrev pub is_filled : Tree N → N → Bool
-  is_filled tree directory = not (is_empty_list (entries_in (tree.node directory)))
+  abbrev pub is_nonempty : Tree N → N → Bool
+  is_nonempty tree directory = not (is_empty_list (entries_in (tree.node directory)))
 
   -- K1: the task does not have a capability: capabilities(7)
   abbrev pub lacks : Task N → ℕ → Bool
@@ -134,7 +134,7 @@ module _ {N : Type 0} where
       ∷ (is_dot place.last, E5)
       ∷ (is_no_word place.last, P1)
       ∷ (not (is_directory_at tree object), E3)
-      ∷ (is_filled tree object, E4)
+      ∷ (is_nonempty tree object, E4)
       ∷ (may_not tree who place.parent write_right, C1)
       ∷ (is_kept tree who place.parent object, C3)
       ∷ []
@@ -207,7 +207,7 @@ module _ {N : Type 0} (eq : N → N → Bool) where
             && holds_of (λ new. not (is_directory_at (tree_of inodes) new)) to.object,
         E3,
       )
-      ∷ (is_directory_at (tree_of inodes) old && holds_of (is_filled (tree_of inodes)) to.object, E4)
+      ∷ (is_directory_at (tree_of inodes) old && holds_of (is_nonempty (tree_of inodes)) to.object, E4)
       ∷ (is_directory_at (tree_of inodes) old && is_directory_under eq inodes old to.parent, E5)
       ∷ (may_not (tree_of inodes) who from.parent write_right || may_not (tree_of inodes) who to.parent write_right, C1)
       ∷ (changes_parent (tree_of inodes) from to old && may_not (tree_of inodes) who old write_right, C1)

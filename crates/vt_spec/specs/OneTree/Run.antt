@@ -39,7 +39,7 @@ module _ {N : Type 0} (eq : N → N → Bool) where
   spoken_step world line (Some number) = Answered (requested world (request_of files line) number)
 
   -- a line that is too long is S1, and a silent one has no answer
-  abbrev pub line_step_by : Bool → Bool → World N → List ℕ → Option N → Step N
+  abbrev pub line_step_by : (too_long : Bool) → (silent : Bool) → World N → List ℕ → Option N → Step N
   line_step_by true silent world line number = Answered (denied world (denial S1))
   line_step_by false true world line number = Silent
   line_step_by false false world line number = spoken_step world line number

@@ -93,8 +93,8 @@ module _ {N : Type 0} where
   -- The walk by words, of which the last comes first; every symlink is followed, a symlink's text by the walk given.
   abbrev pub words_walked : Tree N → Credentials → Follow N → Here N → List (List ℕ) → Result (Here N) Deny
   words_walked tree who follow here [] = Ok here
-  words_walked tree who follow here (word ∷ front) =
-      and_then (words_walked tree who follow here front) (λ reached.
+  words_walked tree who follow here (word ∷ prefix) =
+      and_then (words_walked tree who follow here prefix) (λ reached.
       and_then (word_walked tree who reached (last_word word)) (λ next.
       if_symlink next (symlink_text (tree.node next.node)) (follow reached.node next)))
 
@@ -134,9 +134,9 @@ module _ {N : Type 0} where
       unless ((not (is_directory_at tree here.node), W3) ∷ []) (Ok here)))
 
   -- all words but the last walked
-  abbrev pub front_walked : Tree N → Credentials → Here N → List (List ℕ) → Result (Here N) Deny
-  front_walked tree who here [] = Ok here
-  front_walked tree who here (word ∷ front) = words_walked tree who (followed tree who) here front
+  abbrev pub prefix_walked : Tree N → Credentials → Here N → List (List ℕ) → Result (Here N) Deny
+  prefix_walked tree who here [] = Ok here
+  prefix_walked tree who here (word ∷ prefix) = words_walked tree who (followed tree who) here prefix
 
   -- the last word walked, without a final symlink followed
   abbrev pub last_walked : Tree N → Credentials → Here N → LastWord → Result (Here N) Deny
@@ -146,7 +146,7 @@ module _ {N : Type 0} where
   -- the object that a path without a trailing slash leads to, a final symlink itself
   abbrev pub unfollowed_walk : Tree N → Credentials → List ℕ → Result (Here N) Deny
   unfollowed_walk tree who text =
-      and_then (front_walked tree who (walk_start tree) (reverse (words text))) (λ here.
+      and_then (prefix_walked tree who (walk_start tree) (reverse (words text))) (λ here.
       last_walked tree who here (final_word (reverse (words text))))
 
   -- the object that a path leads to, a final symlink itself unless a slash follows: lstat(2)
@@ -168,7 +168,7 @@ module _ {N : Type 0} where
   abbrev pub new_walk : Tree N → Credentials → List ℕ → Result (Place N) Deny
   new_walk tree who path =
       and_then (parsed_path path) (λ text.
-      and_then (front_walked tree who (walk_start tree) (reverse (words text))) (λ here.
+      and_then (prefix_walked tree who (walk_start tree) (reverse (words text))) (λ here.
       placed tree who here.node (final_word (reverse (words text))) (ends_in_slash text)))
 
   -- as that, but a slash behind a missing name is refused: symlink(2), link(2)
@@ -217,7 +217,7 @@ module _ {N : Type 0} where
   abbrev pub file_walked : ℕ → Tree N → Credentials → Here N → List ℕ → Bool → Result (Place N) Deny
   file_walked zero tree who start text slash = Err (denial W7)
   file_walked (suc depth) tree who start text slash =
-      and_then (front_walked tree who start (reverse (words text))) (λ here.
+      and_then (prefix_walked tree who start (reverse (words text))) (λ here.
       and_then (placed tree who here.node (final_word (reverse (words text))) (slash || ends_in_slash text)) (λ place.
       file_or_symlink place (symlink_there tree place) (λ inner.
       unless (follow_rules (symlink_of here place) inner)

@@ -10,7 +10,7 @@ use Rattle.vt_spec.specs.FileTree.{FileTree, is_directory_under}
 use Rattle.vt_spec.specs.Machine.Filesystems.{with_change}
 use Rattle.vt_spec.specs.Lists.{Fresh, holds_of}
 use Rattle.vt_spec.specs.Machine.Mounts.{Location}
-use Rattle.vt_spec.specs.Machine.Outcome.Removing.{is_filled, is_one_object, moving, object_there, old_word_rules, removing, rename_new_walk, rename_outcome, rename_rules, renamed_by, rmdir_outcome, rmdir_rules, rmdir_word_rules, same_filesystem, same_object_rules, unlink_outcome, unlink_rules, without_replaced}
+use Rattle.vt_spec.specs.Machine.Outcome.Removing.{is_nonempty, is_one_object, moving, object_there, old_word_rules, removing, rename_new_walk, rename_outcome, rename_rules, renamed_by, rmdir_outcome, rmdir_rules, rmdir_word_rules, same_filesystem, same_object_rules, unlink_outcome, unlink_rules, without_replaced}
 use Rattle.vt_spec.specs.Machine.Outcomes.{granted}
 use Rattle.vt_spec.specs.Language.Answers.Answer.{Done}
 use Rattle.vt_spec.specs.Machine.Walk.{Place, entry_location, is_directory_there, is_special, name_of, new_name_rules, new_walk, old_leaf_walk, old_walk}
@@ -231,8 +231,9 @@ module _ (world : World ℕ) (task : Task ℕ) (from to : Place ℕ)
       by true is =
           ap entries_in (sym seen)
           ∙ nil_from_not_some (entries_in (node_at nat_eq world (record { mount = to.parent.mount; node = number })))
-          (ap (λ b. b && is_filled nat_eq world (record { mount = to.parent.mount; node = number })) (sym is)
-          ∙ ap (λ o. is_directory_at nat_eq world old && holds_of (is_filled nat_eq world) o) (sym here) ∙ passed.1.1.0)
+          (ap (λ b. b && is_nonempty nat_eq world (record { mount = to.parent.mount; node = number })) (sym is)
+          ∙ ap (λ o. is_directory_at nat_eq world old && holds_of (is_nonempty nat_eq world) o) (sym here)
+          ∙ passed.1.1.0)
       by false is =
           ap entries_in (sym seen)
           ∙ entries_in-no_directory (node_at nat_eq world (record { mount = to.parent.mount; node = number }))

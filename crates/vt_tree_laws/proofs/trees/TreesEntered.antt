@@ -12,7 +12,7 @@ use Rattle.vt_spec.specs.PathText.{ends_in_slash, is_empty, parts, path_rules, w
 use Rattle.vt_spec.specs.Tree.{entries_in, entry_named, is_directory_node}
 use Rattle.vt_spec.specs.Lists.{chain, last_or}
 use Rattle.vt_spec.specs.Machine.Mounts.{Location, Mount, child_at, mount_in, no_mount, root_of, same_location, stands_at, topmost}
-use Rattle.vt_spec.specs.Machine.Walk.{Here, LastWord, Stop, entry_location, final_word, followed, front_walked, hop, hops, is_lost, is_no_word, is_top, last_walked, last_word, symlink_walk, symlink_walk_by, parent_location, path_text, path_walked, search_rules, slash_rules, stepped, steps_with, then_walk, up_from, walk_start, walk_unless, word_walked}
+use Rattle.vt_spec.specs.Machine.Walk.{Here, LastWord, Stop, entry_location, final_word, followed, prefix_walked, hop, hops, is_lost, is_no_word, is_top, last_walked, last_word, symlink_walk, symlink_walk_by, parent_location, path_text, path_walked, search_rules, slash_rules, stepped, steps_with, then_walk, up_from, walk_start, walk_unless, word_walked}
 use Rattle.vt_spec.specs.Machine.Walk.LastWord.{Dot, DotDot, Named, NoWord}
 use Rattle.vt_spec.specs.Machine.World.{Filesystem, Task, World, files_at, is_directory_at, mount_at, node_at}
 use Rattle.vt_spec.proofs.Nodes.{directory_used, none_is_not}
@@ -235,14 +235,14 @@ module _ (world : World ℕ) (conditions : IsWorldOfTrees world) (standing : IsS
     link_there_by path false slash =
         ends_then (λ text. (ends_in_slash text ≡ false) × (is_empty text ≡ false))
         (λ here. is_some (node_at nat_eq world here.location) ≡ true) (path_text path)
-        (λ text. then_walk (front_walked nat_eq world task (followed nat_eq world task) (walk_start task text)
+        (λ text. then_walk (prefix_walked nat_eq world task (followed nat_eq world task) (walk_start task text)
         (reverse (words text)))
         (λ here. last_walked nat_eq world task here (final_word (reverse (words text)))))
         (ends_unless (λ text. (ends_in_slash text ≡ false) × (is_empty text ≡ false)) [] (path_rules path) path
         (λ passed. (slash, passed.0)))
         (λ text full.
         ends_next (λ here. is_some (node_at nat_eq world here.location) ≡ true)
-        (front_walked nat_eq world task (followed nat_eq world task) (walk_start task text) (reverse (words text)))
+        (prefix_walked nat_eq world task (followed nat_eq world task) (walk_start task text) (reverse (words text)))
         (λ here. last_walked nat_eq world task here (final_word (reverse (words text))))
         (λ here. words_there here (reverse (words text)) (some_words text full)))
       where

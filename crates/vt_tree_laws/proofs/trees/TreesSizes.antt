@@ -7,7 +7,7 @@ use mathlib.Core.List.{reverse_aux}
 use Rattle.vt_spec.specs.declared.errors.Rule.TheVariants.{W6}
 use Rattle.vt_spec.specs.PathText.{ends_in_slash, is_empty, parts, path_rules, words}
 use Rattle.vt_spec.specs.Language.Limits.{longest_name, longest_path, most_symlinks}
-use Rattle.vt_spec.specs.Machine.Walk.{Here, LastWord, Place, Stop, file_or_symlink, file_walk, file_walked, final_word, follow_rules, followed, front_walked, is_special, symlink_of, symlink_start, symlink_there, name_of, new_leaf_walk, new_name_rules, new_walk, object_named, path_text, place_walk, placed, search_rules, steps_at, then_walk, walk_start, walk_unless}
+use Rattle.vt_spec.specs.Machine.Walk.{Here, LastWord, Place, Stop, file_or_symlink, file_walk, file_walked, final_word, follow_rules, followed, prefix_walked, is_special, symlink_of, symlink_start, symlink_there, name_of, new_leaf_walk, new_name_rules, new_walk, object_named, path_text, place_walk, placed, search_rules, steps_at, then_walk, walk_start, walk_unless}
 use Rattle.vt_spec.specs.Machine.Walk.LastWord.{Dot, DotDot, Named, NoWord}
 use Rattle.vt_spec.specs.Machine.World.{Task, World}
 use Rattle.vt_tree_laws.specs.Trees.Sizes.{is_fit_name}
@@ -112,7 +112,7 @@ module _ (world : World ℕ) (task : Task ℕ) where
   fit_place_walk : (path : List ℕ) → Ends HasFitLast (place_walk nat_eq world task path)
   fit_place_walk path =
       ends_then HasFitWords HasFitLast (path_text path) _ (fit_text path) (λ text fit.
-      ends_next HasFitLast (front_walked nat_eq world task (followed nat_eq world task) (walk_start task text)
+      ends_next HasFitLast (prefix_walked nat_eq world task (followed nat_eq world task) (walk_start task text)
       (reverse (words text)))
       (λ here. placed nat_eq world task here (final_word (reverse (words text))) (ends_in_slash text))
       (λ here. fit_placed here (final_word (reverse (words text))) (ends_in_slash text) (last_fits text fit)))
@@ -146,7 +146,7 @@ module _ (world : World ℕ) (task : Task ℕ) where
       → Ends HasFitLast (file_walked nat_eq depth world task start text slash)
   fit_file_walked zero start text slash fit = tt
   fit_file_walked (suc depth) start text slash fit =
-      ends_next HasFitLast (front_walked nat_eq world task (followed nat_eq world task) start (reverse (words text)))
+      ends_next HasFitLast (prefix_walked nat_eq world task (followed nat_eq world task) start (reverse (words text)))
       (λ here. then_walk (placed nat_eq world task here (final_word (reverse (words text)))
       (slash || ends_in_slash text))
       (λ place. file_or_symlink nat_eq world place (symlink_there nat_eq world place)

@@ -6,7 +6,7 @@ use Rattle.vt_spec.specs.declared.errors.Rule.TheVariants.{W3, W6}
 use Rattle.vt_spec.specs.Errors.{Rules, and_then, unless}
 use Rattle.vt_spec.specs.Machine.Mounts.{Location, topmost}
 use Rattle.vt_spec.specs.Machine.Outcomes.{Outcome, after, judged}
-use Rattle.vt_spec.specs.Machine.Walk.{Here, LastWord, Place, Stop, entry_location, file_or_symlink, file_walk, file_walked, final_word, followed, follow_rules, front_walked, is_directory_there, is_special, symlink_of, symlink_start, symlink_there, name_of, new_leaf_walk, new_name_rules, new_walk, object_named, old_leaf_walk, old_walk, path_text, place_walk, placed, search_rules, steps_at, stopped_by, then_walk, walk_end, walk_start, walk_unless}
+use Rattle.vt_spec.specs.Machine.Walk.{Here, LastWord, Place, Stop, entry_location, file_or_symlink, file_walk, file_walked, final_word, followed, follow_rules, prefix_walked, is_directory_there, is_special, symlink_of, symlink_start, symlink_there, name_of, new_leaf_walk, new_name_rules, new_walk, object_named, old_leaf_walk, old_walk, path_text, place_walk, placed, search_rules, steps_at, stopped_by, then_walk, walk_end, walk_start, walk_unless}
 use Rattle.vt_spec.specs.Language.Limits.{most_symlinks}
 use Rattle.vt_spec.specs.Machine.Walk.LastWord.{Dot, DotDot, Named, NoWord}
 use Rattle.vt_spec.specs.Machine.World.{Task, World, is_directory_at}
@@ -161,7 +161,7 @@ module _ (world : World ℕ) (task : Task ℕ) where
   pub ends_place_walk : (path : List ℕ) → Ends (IsPlace world) (place_walk nat_eq world task path)
   ends_place_walk path =
       ends_next (IsPlace world) (path_text path) _ (λ text.
-      ends_next (IsPlace world) (front_walked nat_eq world task (followed nat_eq world task) (walk_start task text)
+      ends_next (IsPlace world) (prefix_walked nat_eq world task (followed nat_eq world task) (walk_start task text)
       (reverse (words text)))
       (λ here. placed nat_eq world task here (final_word (reverse (words text))) (ends_in_slash text))
       (λ here. ends_placed here (final_word (reverse (words text))) (ends_in_slash text)))
@@ -236,7 +236,7 @@ module _ (world : World ℕ) (task : Task ℕ) where
       → Ends (IsFilePlace world) (file_walked nat_eq depth world task start text slash)
   ends_file_walked zero start text slash = tt
   ends_file_walked (suc depth) start text slash =
-      ends_next (IsFilePlace world) (front_walked nat_eq world task (followed nat_eq world task) start
+      ends_next (IsFilePlace world) (prefix_walked nat_eq world task (followed nat_eq world task) start
       (reverse (words text)))
       (λ here. file_from depth text slash here) (λ here.
       ends_then (IsPlace world) (IsFilePlace world)

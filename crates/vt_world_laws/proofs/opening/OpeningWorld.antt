@@ -8,7 +8,7 @@ use Rattle.vt_spec.specs.Language.Limits.{most_mounts}
 use Rattle.vt_spec.specs.Lists.{Fresh}
 use Rattle.vt_spec.specs.Machine.Mounts.{Mount, no_mount, root_of}
 use Rattle.vt_spec.specs.Machine.Settled.{has_layer_on, is_mounted}
-use Rattle.vt_spec.specs.Machine.World.{Filesystem, World, filesystem_numbered, first_mount, first_place, is_directory_at, mount_at, mount_numbered, new_plain, node_at, opening}
+use Rattle.vt_spec.specs.Machine.World.{Filesystem, World, filesystem_numbered, first_mount, first_location, is_directory_at, mount_at, mount_numbered, new_plain, node_at, opening}
 use Rattle.vt_spec.specs.Machine.Invariants.{ListsNumbers, MountInvariants, NamespaceInvariants, Stands, TaskInvariants, TreeInvariants, is_root_mount}
 use Rattle.vt_spec.specs.Machine.Invariants.Stands.{at_root}
 use Rattle.vt_spec.specs.Tree.{is_directory_node}
@@ -50,7 +50,7 @@ module _ (fresh : Fresh ℕ) where
   found_mount : mount_numbered nat_eq first_world (fresh 0) ≡ the_mount
   found_mount = ap (λ b. unwrap_or (cond b (Some the_mount) None) (no_mount (fresh 0))) (itself 0)
 
-  root_is_directory : is_directory_at nat_eq first_world (first_place nat_eq fresh) ≡ true
+  root_is_directory : is_directory_at nat_eq first_world (first_location nat_eq fresh) ≡ true
   root_is_directory =
       All-head (λ (mount : Mount ℕ). is_directory_at nat_eq first_world (root_of mount) ≡ true) the_mount []
       is_standing.roots
@@ -89,18 +89,19 @@ module _ (fresh : Fresh ℕ) where
     few_mounts = ap (λ b. nat_lt most_mounts (length (cond b (the_mount ∷ []) [])) || false) (itself 1);
   }
 
-  located : (nat_eq (fresh 0) (fresh 0) || false) && is_some (node_at nat_eq first_world (first_place nat_eq fresh))
+  located : (nat_eq (fresh 0) (fresh 0) || false) && is_some (node_at nat_eq first_world (first_location nat_eq fresh))
       ≡ true
   located =
-      and_from (nat_eq (fresh 0) (fresh 0) || false) (is_some (node_at nat_eq first_world (first_place nat_eq fresh)))
+      and_from (nat_eq (fresh 0) (fresh 0)
+      || false) (is_some (node_at nat_eq first_world (first_location nat_eq fresh)))
       (ap (λ b. b || false) (itself 0))
-      (directory_is_there (node_at nat_eq first_world (first_place nat_eq fresh)) root_is_directory)
+      (directory_is_there (node_at nat_eq first_world (first_location nat_eq fresh)) root_is_directory)
 
-  seen : is_directory_at nat_eq first_world (first_place nat_eq fresh)
+  seen : is_directory_at nat_eq first_world (first_location nat_eq fresh)
       && list_all (nat_eq (fresh 1)) (option_to_list
-      (mount_at nat_eq first_world (first_place nat_eq fresh)).namespace) ≡ true
+      (mount_at nat_eq first_world (first_location nat_eq fresh)).namespace) ≡ true
   seen =
-      and_from (is_directory_at nat_eq first_world (first_place nat_eq fresh)) _ root_is_directory
+      and_from (is_directory_at nat_eq first_world (first_location nat_eq fresh)) _ root_is_directory
       (ap (λ (m : Mount ℕ). list_all (nat_eq (fresh 1)) (option_to_list m.namespace)) found_mount
       ∙ ap (λ b. b && true) (itself 1))
 

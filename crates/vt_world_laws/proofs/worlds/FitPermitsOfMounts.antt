@@ -12,7 +12,7 @@ use Rattle.vt_spec.specs.Machine.Mounts.{Location, child_at, is_shared}
 use Rattle.vt_spec.specs.Machine.Permits.{Permit}
 use Rattle.vt_spec.specs.Machine.Permits.Permit.{ToBind, ToMountPlain, ToMove, ToPivot, ToSetFlags, ToSetType, ToUnmount, ToUnmountLazily}
 use Rattle.vt_spec.specs.Machine.Rules.Conditions.{is_elsewhere, is_no_root}
-use Rattle.vt_spec.specs.Machine.Rules.Mounting.{admin_rules, bind_rules, destination_walk, is_below_mount, lazy_rules, lies_under_place, move_rules, new_mount_rules, pivot_rules, remount_rules, source_walk, type_rules, umount_rules}
+use Rattle.vt_spec.specs.Machine.Rules.Mounting.{admin_rules, bind_rules, destination_walk, is_on_descendant, lazy_rules, lies_under_location, move_rules, new_mount_rules, pivot_rules, remount_rules, source_walk, type_rules, umount_rules}
 use Rattle.vt_spec.specs.Machine.Walk.{Here}
 use Rattle.vt_spec.specs.Machine.Walking.{directory_walk}
 use Rattle.vt_spec.specs.Machine.World.{Task, World, mount_at, mount_numbered, task_called}
@@ -181,19 +181,19 @@ module _ (fresh : Fresh ℕ) (world : World ℕ) (whole : IsWorld nat_eq world) 
       permitted fresh world task (ToSetType here.location.mount word recursive) refl (own_if here.location passed.0))))
 
   -- the place below a mount is that of the mount, whatever inode it is seen at
-  below_at : (new : Location ℕ) → is_below_mount nat_eq looks task.root.mount new ≡ true → (node : ℕ)
-      → is_below_mount nat_eq looks task.root.mount (record { mount = new.mount; node = node }) ≡ true
+  below_at : (new : Location ℕ) → is_on_descendant nat_eq looks task.root.mount new ≡ true → (node : ℕ)
+      → is_on_descendant nat_eq looks task.root.mount (record { mount = new.mount; node = node }) ≡ true
   below_at new h node =
       ap (list_any (λ (place : Location ℕ). nat_eq task.root.mount place.mount))
       (rest_same (length world.mounts) (λ (place : Location ℕ). (mount_at nat_eq world place).mount_point)
       (record { mount = new.mount; node = node }) new refl)
       ∙ h
 
-  under_root : (new put : Location ℕ) → lies_under_place nat_eq looks new put ≡ true
+  under_root : (new put : Location ℕ) → lies_under_location nat_eq looks new put ≡ true
       → is_no_root nat_eq looks new ≡ false → (node : ℕ) → node ≡ (mount_numbered nat_eq world new.mount).root
-      → lies_under_place nat_eq looks (record { mount = new.mount; node = node }) put ≡ true
+      → lies_under_location nat_eq looks (record { mount = new.mount; node = node }) put ≡ true
   under_root new put h root node e =
-      ap (λ (n : ℕ). lies_under_place nat_eq looks (record { mount = new.mount; node = n }) put)
+      ap (λ (n : ℕ). lies_under_location nat_eq looks (record { mount = new.mount; node = n }) put)
       (e ∙ sym (eqb-true new.node (mount_numbered nat_eq world new.mount).root
       (not_true (nat_eq new.node (mount_numbered nat_eq world new.mount).root) root)))
       ∙ h
@@ -212,16 +212,16 @@ module _ (fresh : Fresh ℕ) (world : World ℕ) (whole : IsWorld nat_eq world) 
       let roots = or_parts (is_no_root nat_eq looks root.location) (is_no_root nat_eq looks task.root) passed.1.0 in
       let apart = or_parts (nat_eq root.location.mount task.root.mount)
       (nat_eq here.location.mount task.root.mount) passed.1.1.0 in
-      let lie = first_two (not (is_below_mount nat_eq looks task.root.mount root.location))
-      (not (lies_under_place nat_eq looks root.location here.location)) _ _ _ passed.1.1.1.0 in
+      let lie = first_two (not (is_on_descendant nat_eq looks task.root.mount root.location))
+      (not (lies_under_location nat_eq looks root.location here.location)) _ _ _ passed.1.1.1.0 in
       permitted fresh world task (ToPivot root.location.mount here.location) refl (record {
         destination = destination here is (or_parts (is_elsewhere nat_eq looks task here.location) false others.1).0;
         own = own_if root.location others.0;
         own_root = own_if task.root own.0;
         another = apart.0;
         put_elsewhere = apart.1;
-        below_root = below_at root.location (not_true (is_below_mount nat_eq looks task.root.mount root.location)
+        below_root = below_at root.location (not_true (is_on_descendant nat_eq looks task.root.mount root.location)
             lie.0);
-        put_under = under_root root.location here.location (not_true (lies_under_place nat_eq looks root.location
+        put_under = under_root root.location here.location (not_true (lies_under_location nat_eq looks root.location
             here.location) lie.1) roots.0;
       })))))

@@ -10,7 +10,7 @@ use Rattle.vt_spec.specs.Lists.{then_some}
 use Rattle.vt_spec.specs.Machine.Mounts.{Location, topmost}
 use Rattle.vt_spec.specs.Machine.Outcome.Mounting.{destination_walk, source_walk}
 use Rattle.vt_spec.specs.Machine.Outcome.Removing.{rename_new_walk}
-use Rattle.vt_spec.specs.Machine.Walk.{Here, LastWord, Place, Stop, directory_walk, entry_location, file_or_symlink, file_walk, file_walked, final_word, follow_rules, followed, front_walked, is_directory_there, is_special, symlink_of, symlink_start, symlink_there, new_leaf_walk, new_name_rules, new_walk, object_named, old_leaf_walk, old_walk, path_text, place_walk, placed, search_rules, stepped, steps_at, then_walk, walk_start, walk_unless}
+use Rattle.vt_spec.specs.Machine.Walk.{Here, LastWord, Place, Stop, directory_walk, entry_location, file_or_symlink, file_walk, file_walked, final_word, follow_rules, followed, prefix_walked, is_directory_there, is_special, symlink_of, symlink_start, symlink_there, new_leaf_walk, new_name_rules, new_walk, object_named, old_leaf_walk, old_walk, path_text, place_walk, placed, search_rules, stepped, steps_at, then_walk, walk_start, walk_unless}
 use Rattle.vt_spec.specs.Language.Limits.{most_symlinks}
 use Rattle.vt_spec.specs.Machine.Walk.LastWord.{Dot, DotDot, Named, NoWord}
 use Rattle.vt_spec.specs.Machine.World.{Task, World, is_directory_at, is_removed_at, node_at, task_called}
@@ -98,7 +98,7 @@ module _ (world : World ℕ) (whole : IsWorld nat_eq world) (task : Task ℕ)
   place_walk_found path =
       ends_next IsFoundPlace (path_text path) _ (λ text.
       ends_then HereEnd IsFoundPlace
-      (front_walked nat_eq world task (followed nat_eq world task) (walk_start task text) (reverse (words text))) _
+      (prefix_walked nat_eq world task (followed nat_eq world task) (walk_start task text) (reverse (words text))) _
       (front_end world whole task called (walk_start task text) (walk_start_end world whole task called text)
       (reverse (words text)))
       (λ here end. placed_found here end (final_word (reverse (words text))) (ends_in_slash text)))
@@ -172,7 +172,7 @@ module _ (world : World ℕ) (whole : IsWorld nat_eq world) (task : Task ℕ)
       → Ends IsEndPlace (file_walked nat_eq depth world task start text slash)
   file_walked_end zero start is text slash = tt
   file_walked_end (suc depth) start is text slash =
-      ends_then HereEnd IsEndPlace (front_walked nat_eq world task (followed nat_eq world task) start
+      ends_then HereEnd IsEndPlace (prefix_walked nat_eq world task (followed nat_eq world task) start
       (reverse (words text))) _
       (front_end world whole task called start is (reverse (words text))) (λ here end.
       ends_then IsFoundPlace IsEndPlace (placed nat_eq world task here (final_word (reverse (words text)))

@@ -5,7 +5,7 @@ use Rattle.vt_spec.specs.declared.errors.Rule.TheVariants.{W3}
 use Rattle.vt_spec.specs.PathText.{ends_in_slash, is_absolute, words}
 use Rattle.vt_spec.specs.FileTree.{symlink_text}
 use Rattle.vt_spec.specs.Machine.Mounts.{Location}
-use Rattle.vt_spec.specs.Machine.Walk.{Follow, Here, LastWord, Stop, directory_walk, final_word, follow_rules, followed, front_walked, if_symlink, last_walked, last_word, symlink_start, symlink_walk, symlink_walk_by, symlink_walked, object_walk, path_text, path_walked, search_rules, slash_rules, start_of, stepped, steps_with, walk_start, walk_unless, word_walked, words_walked}
+use Rattle.vt_spec.specs.Machine.Walk.{Follow, Here, LastWord, Stop, directory_walk, final_word, follow_rules, followed, prefix_walked, if_symlink, last_walked, last_word, symlink_start, symlink_walk, symlink_walk_by, symlink_walked, object_walk, path_text, path_walked, search_rules, slash_rules, start_of, stepped, steps_with, walk_start, walk_unless, word_walked, words_walked}
 use Rattle.vt_spec.specs.Language.Limits.{most_symlinks}
 use Rattle.vt_spec.specs.Machine.Walk.LastWord.{Dot, DotDot, Named, NoWord}
 use Rattle.vt_spec.specs.Machine.World.{Task, World, all_locations, is_directory_at, locations_of, node_at, task_called}
@@ -150,7 +150,7 @@ module _ (world : World ℕ) (whole : IsWorld nat_eq world) (task : Task ℕ)
       (λ passed. (end.0.0, not_true (is_directory_at nat_eq world here.location) passed.0)))
 
   pub front_end : (here : Here ℕ) → End here.location → (list : List (List ℕ))
-      → EndsAtEnd (front_walked nat_eq world task (followed nat_eq world task) here list)
+      → EndsAtEnd (prefix_walked nat_eq world task (followed nat_eq world task) here list)
   front_end here is [] = is
   front_end here is (word ∷ front) = words_end (followed nat_eq world task) followed_end here is front
 
@@ -171,7 +171,7 @@ module _ (world : World ℕ) (whole : IsWorld nat_eq world) (task : Task ℕ)
   link_walk_by_found false path =
       ends_next (λ here. Found here.location) (path_text path) _ (λ text.
       ends_then (λ here. End here.location) (λ here. Found here.location)
-      (front_walked nat_eq world task (followed nat_eq world task) (walk_start task text) (reverse (words text))) _
+      (prefix_walked nat_eq world task (followed nat_eq world task) (walk_start task text) (reverse (words text))) _
       (front_end (walk_start task text) (walk_start_end text) (reverse (words text))) (λ here end.
       last_found here (final_word (reverse (words text))) end.0))
 

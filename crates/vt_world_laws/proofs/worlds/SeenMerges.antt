@@ -8,7 +8,7 @@ use Rattle.vt_spec.specs.Language.Changes.{Change, changed, changed_node, conten
 use Rattle.vt_spec.specs.Language.Changes.Change.{AddName, CopyUp, Make, Move, Remove, SetAttr, SetBytes, SetMark}
 use Rattle.vt_spec.specs.FileTree.{FileTree, a_name}
 use Rattle.vt_spec.specs.Lists.{Fresh, evens, odds}
-use Rattle.vt_spec.specs.Machine.CopyUp.{Merge, Stack, copied_each, copied_up, copy_named, copy_of, copy_of_node, copy_parent, copied_content, emptied, hides_directory, is_in_upper, line_to, made, marked, merge_changed, moved, name_left_by, removed, shown_below, upper_directory_named, upper_of, whiteout_of}
+use Rattle.vt_spec.specs.Machine.CopyUp.{Merge, Stack, copied_each, copied_up, copy_named, copy_of, copy_of_node, copy_parent, copied_content, emptied, hides_directory, is_in_upper, line_to, made, marked, merge_changed, moved, name_left_by, removed, shown_in_lowers_at, upper_directory_named, upper_of, whiteout_of}
 use Rattle.vt_spec.specs.Machine.Filesystems.{filesystem_changed, merge_of, overlay_changed, stack_of, with_change, with_files}
 use Rattle.vt_spec.specs.Machine.Invariants.{ListsNumbers, OverlayInvariants, is_plain_layer}
 use Rattle.vt_spec.specs.Machine.Locked.{of_overlay, overlay_or}
@@ -192,11 +192,12 @@ module _ (fresh : Fresh ℕ) (stack : Stack ℕ) (merge : Merge ℕ) (vacant : I
   removed_keeps : (directory : ℕ) (name : List ℕ) (object : ℕ)
       → Keeps merge.upper (removed nat_eq fresh stack merge directory name object).upper
   removed_keeps directory name object =
-      let left = name_left_by nat_eq (is_some (shown_below nat_eq stack merge directory name)) fresh stack merge.upper
+      let left = name_left_by nat_eq (is_some
+      (shown_in_lowers_at nat_eq stack merge directory name)) fresh stack merge.upper
       (upper_of merge directory) name in
       let last = (removed nat_eq fresh stack merge directory name object).upper in
       keeps_both merge.upper left last
-      (left_keeps (is_some (shown_below nat_eq stack merge directory name)) fresh stack merge.upper
+      (left_keeps (is_some (shown_in_lowers_at nat_eq stack merge directory name)) fresh stack merge.upper
       (upper_of merge directory) name vacant)
       (keeps_kinds left last (kinds_emptied left (upper_directory_named merge directory name)))
 
@@ -205,7 +206,7 @@ module _ (fresh : Fresh ℕ) (stack : Stack ℕ) (merge : Merge ℕ) (vacant : I
   moved_keeps from old to name object =
       let base = emptied nat_eq merge.upper (upper_directory_named merge to name) in
       let gone = with_moved nat_eq base (upper_of merge from) old (upper_of merge to) name (upper_of merge object) in
-      let left = name_left_by nat_eq (is_some (shown_below nat_eq stack merge from old)) fresh stack gone
+      let left = name_left_by nat_eq (is_some (shown_in_lowers_at nat_eq stack merge from old)) fresh stack gone
       (upper_of merge from) old in
       let base_kinds = kinds_emptied merge.upper (upper_directory_named merge to name) in
       let gone_kinds = kinds_moved base (upper_of merge from) old (upper_of merge to) name (upper_of merge object) in
@@ -213,7 +214,7 @@ module _ (fresh : Fresh ℕ) (stack : Stack ℕ) (merge : Merge ℕ) (vacant : I
       keeps_both merge.upper base last (keeps_kinds merge.upper base base_kinds)
       (keeps_both base gone last (keeps_kinds base gone gone_kinds)
       (keeps_both gone left last
-      (left_keeps (is_some (shown_below nat_eq stack merge from old)) fresh stack gone (upper_of merge from) old
+      (left_keeps (is_some (shown_in_lowers_at nat_eq stack merge from old)) fresh stack gone (upper_of merge from) old
       (vacant_kinds base gone gone_kinds (fresh 0) (vacant_kinds merge.upper base base_kinds (fresh 0) vacant)))
       (keeps_kinds left last (kinds_marked (hides_directory nat_eq stack merge to name) left (upper_of merge object)))))
 

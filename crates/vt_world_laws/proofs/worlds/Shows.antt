@@ -282,9 +282,9 @@ module _ (world : World ℕ) (fresh : Fresh ℕ) (task : Task ℕ) (is : IsWorld
   is_own None e = absurd (true≢false (sym e))
   is_own (Some n) e = ap Some (sym (eqb-true task.namespace n e))
 
-  copy_place : (mount : Mount ℕ) → Among mount copied → (place : Location ℕ) → mount.mount_point ≡ Some place
+  copy_mount_point : (mount : Mount ℕ) → Among mount copied → (place : Location ℕ) → mount.mount_point ≡ Some place
       → IsPlace after (location_on_copy copy place)
-  copy_place mount m place at =
+  copy_mount_point mount m place at =
       let there = among-from_filter
       (λ (x : Mount ℕ). holds_of (nat_eq task.namespace) x.namespace) world.mounts mount m in
       let parent = mount_at nat_eq world place in
@@ -330,4 +330,4 @@ module _ (world : World ℕ) (fresh : Fresh ℕ) (task : Task ℕ) (is : IsWorld
               → option_map (location_on_copy copy) o ≡ Some at → IsPlace after at
           by None e at f = absurd (true≢false (sym (ap is_some f)))
           by (Some place) e at f = subst (IsPlace after) (same_Some (location_on_copy copy place) at f)
-              (copy_place old n place e)
+              (copy_mount_point old n place e)

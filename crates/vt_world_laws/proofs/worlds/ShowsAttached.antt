@@ -3,7 +3,7 @@ use Rattle.std.proofs.Common.{◌≡◌, refl, sym, ap, subst, ◌∙◌, ◌⊎
 use Rattle.std.specs.Prelude.{if◌then◌else◌, unwrap_or}
 use Rattle.std.proofs.lemmas.Bool.{and_from, and_parts}
 use Rattle.std.proofs.lemmas.Option.{same_Some}
-use Rattle.vt_spec.specs.Machine.Attach.{Copies, Graft, Twig, added_mounts, attached_by, copies_at, copy_at, copy_number, copy_place, is_top, place_on_copy, pushed_onto, reaches, receiver_below, receivers_of, takes_part, top_of_copies, twig_of, with_moved_mounts}
+use Rattle.vt_spec.specs.Machine.Attach.{Copies, Graft, Twig, added_mounts, attached_by, copies_at, copy_at, copy_number, copy_mount_point, is_top, mount_point_on_copy, pushed_onto, reaches, receiver_stood_on, receivers_of, takes_part, top_of_copies, twig_of, with_moved_mounts}
 use Rattle.vt_spec.specs.Lists.{rest_of}
 use Rattle.vt_spec.specs.Machine.Mounts.{Location, Mount, child_at, group_of, root_of, stands_at}
 use Rattle.vt_spec.specs.Machine.World.{World, is_directory_at, mount_at, mount_numbered}
@@ -191,13 +191,13 @@ module _ (world : World ℕ) (new : Copies ℕ) (place : Location ℕ) (moves : 
       record {
         root = roots origin n;
         mount_point = λ at e.
-            subst (IsPlace after) (same_Some (copy_place nat_eq new tree part.number origin) at e)
+            subst (IsPlace after) (same_Some (copy_mount_point nat_eq new tree part.number origin) at e)
             (by (is_top nat_eq tree origin.number) refl origin.mount_point refl);
       }
     where
       by : (b : Bool) → is_top nat_eq tree origin.number ≡ b → (o : Option (Location ℕ)) → origin.mount_point ≡ o
           → IsPlace after (if b then record { mount = part.number; node = place.node }
-          else unwrap_or (option_map (place_on_copy nat_eq new tree part.number) o) place)
+          else unwrap_or (option_map (mount_point_on_copy nat_eq new tree part.number) o) place)
       by true top o at = part_place part m
       by false below None at = place_after world after seen place at_place
       by false below (Some on) at =
@@ -228,9 +228,9 @@ module _ (world : World ℕ) (new : Copies ℕ) (place : Location ℕ) (moves : 
       place (place_after world after seen place at_place)
 
   push_shows : (mount : Mount ℕ) → ShowsWell after mount → ShowsWell after (push world new place moves mounts mount)
-  push_shows mount well = by (receiver_below nat_eq tree all_parts mount) refl
+  push_shows mount well = by (receiver_stood_on nat_eq tree all_parts mount) refl
     where
-      by : (o : Option (Mount ℕ)) → receiver_below nat_eq tree all_parts mount ≡ o
+      by : (o : Option (Mount ℕ)) → receiver_stood_on nat_eq tree all_parts mount ≡ o
           → ShowsWell after (pushed_onto nat_eq world new tree all_parts mount o)
       by None e = well
       by (Some part) e =

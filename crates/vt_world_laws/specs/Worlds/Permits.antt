@@ -14,7 +14,7 @@ use Rattle.vt_spec.specs.Machine.Looks.{looks_of}
 use Rattle.vt_spec.specs.Machine.Mounts.{Location, Mount, child_at, is_shared, is_unbindable, mount_tree}
 use Rattle.vt_spec.specs.Machine.Permits.{Permit}
 use Rattle.vt_spec.specs.Machine.Permits.Permit.{Allowed, ToBind, ToChange, ToClose, ToEnterNamespace, ToExit, ToFork, ToList, ToListMounts, ToMake, ToMountOverlay, ToMountPlain, ToMove, ToOpen, ToOpenNew, ToPivot, ToRead, ToReadPart, ToRemoveDirectory, ToRename, ToSetCredentials, ToSetDirectory, ToSetFlags, ToSetRoot, ToSetType, ToSetUmask, ToStat, ToUnmount, ToUnmountLazily, ToUnshare, ToWritePart}
-use Rattle.vt_spec.specs.Machine.Rules.Mounting.{is_below_mount, lies_under_place}
+use Rattle.vt_spec.specs.Machine.Rules.Mounting.{is_on_descendant, lies_under_location}
 use Rattle.vt_spec.specs.Machine.World.{Task, World, is_directory_at, mount_at, mount_numbered, node_at}
 use Rattle.vt_spec.specs.Machine.Invariants.{is_listed, is_located_well}
 
@@ -74,10 +74,10 @@ pub record MayPivot (world : World ℕ) (task : Task ℕ) (new : ℕ) (put : Loc
   pub own_root : IsOwn world task task.root.mount
   pub another : nat_eq new task.root.mount ≡ false
   pub put_elsewhere : nat_eq put.mount task.root.mount ≡ false
-  pub below_root : (node : ℕ) → is_below_mount nat_eq (looks_of nat_eq world) task.root.mount
+  pub below_root : (node : ℕ) → is_on_descendant nat_eq (looks_of nat_eq world) task.root.mount
       (record { mount = new; node = node }) ≡ true
   pub put_under : (node : ℕ) → node ≡ (mount_numbered nat_eq world new).root
-      → lies_under_place nat_eq (looks_of nat_eq world) (record { mount = new; node = node }) put ≡ true
+      → lies_under_location nat_eq (looks_of nat_eq world) (record { mount = new; node = node }) put ≡ true
 
 -- a permit fits a world: no namespace gets too many mounts, and what is named is there
 abbrev pub NamesWhatIsThere : World ℕ → Task ℕ → Permit ℕ → Type 0

@@ -39,7 +39,7 @@ set_flags-requires c =
 
 pub returns-in-ToMountPlain : goal.returns-in-ToMountPlain
 returns-in-ToMountPlain c =
-    changed c.args.world.now c.args.name.now c.args.permit _ (ToMountPlain (location_of c.in-ToMountPlain.place)
+    changed c.args.world.now c.args.name.now c.args.permit _ (ToMountPlain (location_of c.in-ToMountPlain.destination)
     (flags_of c.in-ToMountPlain.flags)) c.in-ToMountPlain.is
     (λ task called. refl) _ c.mount_plain.result c.done.result c.done.ensures
     c.next_root_is_vacant.ensures
@@ -48,7 +48,7 @@ returns-in-ToMountPlain c =
 pub returns-in-ToBind : goal.returns-in-ToBind
 returns-in-ToBind c =
     changed c.args.world.now c.args.name.now c.args.permit _
-    (ToBind (location_of c.in-ToBind.source) (location_of c.in-ToBind.place)
+    (ToBind (location_of c.in-ToBind.source) (location_of c.in-ToBind.destination)
     c.in-ToBind.recursive) c.in-ToBind.is
     (λ task called. refl) _ c.bind.result c.done-in-ToBind.result c.done-in-ToBind.ensures tt
     (λ task called. refl) refl c.bind.ensures.ok c.bind.ensures.memory c.bind.ensures.err
@@ -56,7 +56,7 @@ returns-in-ToBind c =
 pub returns-in-ToMove : goal.returns-in-ToMove
 returns-in-ToMove c =
     changed c.args.world.now c.args.name.now c.args.permit _
-    (ToMove (counted c.in-ToMove.mount.count) (location_of c.in-ToMove.place))
+    (ToMove (counted c.in-ToMove.mount.count) (location_of c.in-ToMove.destination))
     c.in-ToMove.is (λ task called. refl) _ c.move_mount.result c.done-in-ToMove.result c.done-in-ToMove.ensures tt
     (λ task called. refl) refl c.move_mount.ensures.ok c.move_mount.ensures.memory c.move_mount.ensures.err
 

@@ -1,5 +1,5 @@
 use Rattle.vt_layer_laws.proofs.views.After.{link_is_shown, new_name_is_shown, shown_elsewhere_stays}
-use Rattle.vt_layer_laws.proofs.views.Below.{moved_shows_below, removed_shows_below}
+use Rattle.vt_layer_laws.proofs.views.Lower.{moved_shows_below, removed_shows_below}
 use Rattle.vt_layer_laws.proofs.views.changes_of_the_upper_layer_show_there_alone.Goals as goal
 
 pub returns-clause-elsewhere : goal.returns-clause-elsewhere

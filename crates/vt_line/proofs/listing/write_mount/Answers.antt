@@ -1,5 +1,5 @@
 use Rattle.std.proofs.Common.{◌∷◌, ◌++◌, ◌≡◌, ◌∙◌, ℕ, List, append_assoc, codes, decimal, rules, subst, sym}
-use Rattle.vt_spec.specs.Language.Printed.{mount_line_words, place_words, printed_line, spaced}
+use Rattle.vt_spec.specs.Language.Printed.{mount_line_words, mount_point_words, printed_line, spaced}
 use Rattle.vt_io.specs.Sink.{Prints, WroteFront}
 use Rattle.vt_io.proofs.Printing.{Prints-append, Wrote-append, WroteFront-longer, WroteFront-part}
 use Rattle.vt_request.specs.Answers.{mount_line_of}
@@ -13,7 +13,7 @@ returns-in_err-write_all g c =
     let digits : c.as_bytes.result.now ≡ decimal c.args.number = search rules in
     let text = mount_text c.as_bytes.result.now c.args.number c.args.place line digits in
     let first : List ℕ = 32 ∷ decimal c.args.place in
-    let point = spaced (place_words line.mount_point) in
+    let point = spaced (mount_point_words line.mount_point) in
     let shown = spaced (shown_words line) in
     let front : WroteFront g.W.Sink c.args.sink.now c.write_all.new.sink
     (printed_line c.args.number (mount_line_words (c.args.place, mount_line_of c.args.line.now))) =
@@ -26,7 +26,7 @@ returns-in_err-write_number g c =
     let digits : c.as_bytes.result.now ≡ decimal c.args.number = search rules in
     let text = mount_text c.as_bytes.result.now c.args.number c.args.place line digits in
     let first : List ℕ = 32 ∷ decimal c.args.place in
-    let point = spaced (place_words line.mount_point) in
+    let point = spaced (mount_point_words line.mount_point) in
     let shown = spaced (shown_words line) in
     let front : WroteFront g.W.Sink c.args.sink.now c.write_number.new.sink
     (printed_line c.args.number (mount_line_words (c.args.place, mount_line_of c.args.line.now))) =
@@ -39,7 +39,7 @@ returns-in_err-write_mount_point g c =
     let digits : c.as_bytes.result.now ≡ decimal c.args.number = search rules in
     let text = mount_text c.as_bytes.result.now c.args.number c.args.place line digits in
     let first : List ℕ = 32 ∷ decimal c.args.place in
-    let point = spaced (place_words line.mount_point) in
+    let point = spaced (mount_point_words line.mount_point) in
     let shown = spaced (shown_words line) in
     let before = Wrote-append g.W.Sink c.in_ok-write_all.ensures.printed c.in_ok-write_number.ensures.printed in
     let front : WroteFront g.W.Sink c.args.sink.now c.write_mount_point.new.sink
@@ -54,7 +54,7 @@ returns-in_err-write_shown g c =
     let digits : c.as_bytes.result.now ≡ decimal c.args.number = search rules in
     let text = mount_text c.as_bytes.result.now c.args.number c.args.place line digits in
     let first : List ℕ = 32 ∷ decimal c.args.place in
-    let point = spaced (place_words line.mount_point) in
+    let point = spaced (mount_point_words line.mount_point) in
     let shown = spaced (shown_words line) in
     let before = Wrote-append g.W.Sink
     (Wrote-append g.W.Sink c.in_ok-write_all.ensures.printed c.in_ok-write_number.ensures.printed)
@@ -72,7 +72,7 @@ returns g c =
     let digits : c.as_bytes.result.now ≡ decimal c.args.number = search rules in
     let text = mount_text c.as_bytes.result.now c.args.number c.args.place line digits in
     let first : List ℕ = 32 ∷ decimal c.args.place in
-    let point = spaced (place_words line.mount_point) in
+    let point = spaced (mount_point_words line.mount_point) in
     let shown = spaced (shown_words line) in
     let before = Wrote-append g.W.Sink (Wrote-append g.W.Sink (Wrote-append g.W.Sink c.in_ok-write_all.ensures.printed c.in_ok-write_number.ensures.printed)
     c.in_ok-write_mount_point.ensures.printed) c.in_ok-write_shown.ensures.printed in

@@ -1,5 +1,5 @@
 use Rattle.std.proofs.Common.{[], ◌∷◌, ◌++◌, option_map, rules}
-use Rattle.vt_spec.specs.Language.Printed.{place_words, printed_spot, spaced}
+use Rattle.vt_spec.specs.Language.Printed.{mount_point_words, printed_spot, spaced}
 use Rattle.vt_io.specs.Sink.{WroteFront}
 use Rattle.vt_io.proofs.Printing.{WroteFront-longer}
 use Rattle.vt_request.specs.Answers.{spot_of}
@@ -9,7 +9,7 @@ use Rattle.vt_line.proofs.listing.write_mount_point.Goals as goal
 pub returns-in_err-write_number-in-Some : goal.returns-in_err-write_number-in-Some
 returns-in_err-write_number-in-Some g c =
     let front : WroteFront g.W.Sink c.args.sink.now c.write_number.new.sink
-    (spaced (place_words (option_map mount_point_of c.args.point.now))) =
+    (spaced (mount_point_words (option_map mount_point_of c.args.point.now))) =
     rw c.in-Some.is (WroteFront-longer g.W.Sink
     ((32 ∷ printed_spot (spot_of c.in-Some.spot)) ++ []) c.in_err-write_number-in-Some.ensures.printed) in
     search rules

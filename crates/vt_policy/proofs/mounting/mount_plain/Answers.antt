@@ -18,12 +18,12 @@ returns-in_err-overfills g c =
     let overfills = g.L.LookAtMounts.overfills c.args.world.now in
     let task = task_of c.args.who.now in
     let flags = flags_of c.args.flags in
-    let place = location_of c.in_ok-place.place in
-    let permit = ToMountPlain place flags in
+    let destination = location_of c.in_ok-destination.destination in
+    let permit = ToMountPlain destination flags in
     let p = err_from_is_err_and c.from_residual-in_err-overfills.result c.from_residual-in_err-overfills.ensures.1 in
     rw (p.1, p.2) (no_receivers (MountPlain c.args.path.now flags) task
     (mount_plain_permit nat_eq looks overfills task c.args.path.now flags) (overfills permit) permit _ refl
-    (mount_plain_asked looks overfills task c.args.path.now flags place
-    (sym c.lacks.ensures ∙ c.if-lacks.false) c.in_ok-place.ensures.ok
+    (mount_plain_asked looks overfills task c.args.path.now flags destination
+    (sym c.lacks.ensures ∙ c.if-lacks.false) c.in_ok-destination.ensures.ok
     ∙ skipped _ M2 _ _ (sym c.is_elsewhere.ensures ∙ c.if-is_elsewhere.false))
     c.in_err-overfills.ensures.memory)

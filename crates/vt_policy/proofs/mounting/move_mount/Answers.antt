@@ -18,12 +18,12 @@ returns-in_err-may_move g c =
     let overfills = g.L.LookAtMounts.overfills c.args.world.now in
     let task = task_of c.args.who.now in
     let source = location_of c.in_ok-source.source in
-    let place = location_of c.in_ok-place.place in
+    let destination = location_of c.in_ok-destination.destination in
     let p = err_from_is_err_and c.from_residual-in_err-may_move.result c.from_residual-in_err-may_move.ensures.1 in
     rw (p.1, p.2) (refused_before (MoveMount c.args.source.now c.args.path.now) task
     (move_permit nat_eq looks overfills task c.args.source.now c.args.path.now) _
-    (move_refused looks overfills task c.args.source.now c.args.path.now source place
-    (sym c.lacks.ensures ∙ c.if-lacks.false) c.in_ok-source.ensures.ok c.in_ok-place.ensures.ok _ c.in_err-may_move.ensures))
+    (move_refused looks overfills task c.args.source.now c.args.path.now source destination
+    (sym c.lacks.ensures ∙ c.if-lacks.false) c.in_ok-source.ensures.ok c.in_ok-destination.ensures.ok _ c.in_err-may_move.ensures))
 
 pub returns-in_err-overfills : goal.returns-in_err-overfills
 returns-in_err-overfills g c =
@@ -31,14 +31,14 @@ returns-in_err-overfills g c =
     let overfills = g.L.LookAtMounts.overfills c.args.world.now in
     let task = task_of c.args.who.now in
     let source = location_of c.in_ok-source.source in
-    let place = location_of c.in_ok-place.place in
-    let permit = ToMove source.mount place in
+    let destination = location_of c.in_ok-destination.destination in
+    let permit = ToMove source.mount destination in
     let p = err_from_is_err_and c.from_residual-in_err-overfills.result c.from_residual-in_err-overfills.ensures.1 in
     rw (p.1, p.2) (no_receivers_of_move c.args.source.now c.args.path.now task
     (move_permit nat_eq looks overfills task c.args.source.now c.args.path.now)
     (overfills permit) (not (is_some (mount_at looks source).mount_point)) permit _
-    (move_left looks overfills task c.args.source.now c.args.path.now source place
-    (sym c.lacks.ensures ∙ c.if-lacks.false) c.in_ok-source.ensures.ok c.in_ok-place.ensures.ok c.in_ok-may_move.ensures)
+    (move_left looks overfills task c.args.source.now c.args.path.now source destination
+    (sym c.lacks.ensures ∙ c.if-lacks.false) c.in_ok-source.ensures.ok c.in_ok-destination.ensures.ok c.in_ok-may_move.ensures)
     c.in_err-overfills.ensures.memory)
 
 pub returns-then-branch : goal.returns-then-branch
@@ -47,11 +47,11 @@ returns-then-branch g c =
     let overfills = g.L.LookAtMounts.overfills c.args.world.now in
     let task = task_of c.args.who.now in
     let source = location_of c.in_ok-source.source in
-    let place = location_of c.in_ok-place.place in
+    let destination = location_of c.in_ok-destination.destination in
     refused_before (MoveMount c.args.source.now c.args.path.now) task
     (move_permit nat_eq looks overfills task c.args.source.now c.args.path.now) _
-    (move_left looks overfills task c.args.source.now c.args.path.now source place
-    (sym c.lacks.ensures ∙ c.if-lacks.false) c.in_ok-source.ensures.ok c.in_ok-place.ensures.ok c.in_ok-may_move.ensures
+    (move_left looks overfills task c.args.source.now c.args.path.now source destination
+    (sym c.lacks.ensures ∙ c.if-lacks.false) c.in_ok-source.ensures.ok c.in_ok-destination.ensures.ok c.in_ok-may_move.ensures
     ∙ stopped _ M9 _ _ (sym c.in_ok-overfills.ensures.ok ∙ c.if-branch.true)
     ∙ ap Err (sym c.denial-then-branch.ensures))
 
@@ -61,11 +61,11 @@ returns-then-not-is_attached_somewhere g c =
     let overfills = g.L.LookAtMounts.overfills c.args.world.now in
     let task = task_of c.args.who.now in
     let source = location_of c.in_ok-source.source in
-    let place = location_of c.in_ok-place.place in
+    let destination = location_of c.in_ok-destination.destination in
     refused_before (MoveMount c.args.source.now c.args.path.now) task
     (move_permit nat_eq looks overfills task c.args.source.now c.args.path.now) _
-    (move_left looks overfills task c.args.source.now c.args.path.now source place
-    (sym c.lacks.ensures ∙ c.if-lacks.false) c.in_ok-source.ensures.ok c.in_ok-place.ensures.ok c.in_ok-may_move.ensures
+    (move_left looks overfills task c.args.source.now c.args.path.now source destination
+    (sym c.lacks.ensures ∙ c.if-lacks.false) c.in_ok-source.ensures.ok c.in_ok-destination.ensures.ok c.in_ok-may_move.ensures
     ∙ skipped _ M9 _ _ (sym c.in_ok-overfills.ensures.ok ∙ c.if-branch.false)
     ∙ stopped _ M10 _ _ (ap not (sym c.is_attached_somewhere.ensures ∙ c.if-not-is_attached_somewhere.true))
     ∙ ap Err (sym c.denial-then-not-is_attached_somewhere.ensures))
@@ -76,8 +76,8 @@ returns g c =
     let overfills = g.L.LookAtMounts.overfills c.args.world.now in
     let task = task_of c.args.who.now in
     let source = location_of c.in_ok-source.source in
-    let place = location_of c.in_ok-place.place in
-    move_left looks overfills task c.args.source.now c.args.path.now source place
-    (sym c.lacks.ensures ∙ c.if-lacks.false) c.in_ok-source.ensures.ok c.in_ok-place.ensures.ok c.in_ok-may_move.ensures
+    let destination = location_of c.in_ok-destination.destination in
+    move_left looks overfills task c.args.source.now c.args.path.now source destination
+    (sym c.lacks.ensures ∙ c.if-lacks.false) c.in_ok-source.ensures.ok c.in_ok-destination.ensures.ok c.in_ok-may_move.ensures
     ∙ skipped _ M9 _ _ (sym c.in_ok-overfills.ensures.ok ∙ c.if-branch.false)
     ∙ skipped _ M10 _ _ (ap not (sym c.is_attached_somewhere.ensures ∙ c.if-not-is_attached_somewhere.false))

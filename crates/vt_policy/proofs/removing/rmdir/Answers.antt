@@ -27,8 +27,9 @@ returns-in_err-may_remove g c =
     let permit = ToRemoveDirectory at.0.parent (name_of at.0.last) (object_there at.0) in
     let asked = rmdir_asked looks c.has_no_overlays.ensures task c.args.path.now at.0 parent object _ at.1
     (at.2.last ∙ ap last_of c.in-Named.is) at.2.parent there
-    (sym c.is_directory.ensures ∙ c.if-not-is_directory.false) (sym c.is_filled.ensures ∙ c.if-is_filled.false)
-    (sym c.is_read_only.ensures ∙ c.if-is_read_only.false) (sym c.is_point_in.ensures ∙ c.if-is_point_in.false) in
+    (sym c.is_directory.ensures ∙ c.if-not-is_directory.false) (sym c.is_nonempty.ensures ∙ c.if-is_nonempty.false)
+    (sym c.is_read_only.ensures ∙ c.if-is_read_only.false) (sym c.is_mount_point_in.ensures
+    ∙ c.if-is_mount_point_in.false) in
     let p = err_from_is_err_and c.from_residual-in_err-may_remove.result c.from_residual-in_err-may_remove.ensures.1 in
     rw (p.1, p.2) (refused task (rmdir_permit nat_eq looks task c.args.path.now) _
     (asked ∙ unless-stopped (remove_rules looks task parent object) (Ok permit) _ c.in_err-may_remove.ensures))
@@ -46,8 +47,9 @@ returns-in_err-name_at g c =
     let permit = ToRemoveDirectory at.0.parent (name_of at.0.last) (object_there at.0) in
     let asked = rmdir_asked looks c.has_no_overlays.ensures task c.args.path.now at.0 parent object _ at.1
     (at.2.last ∙ ap last_of c.in-Named.is) at.2.parent there
-    (sym c.is_directory.ensures ∙ c.if-not-is_directory.false) (sym c.is_filled.ensures ∙ c.if-is_filled.false)
-    (sym c.is_read_only.ensures ∙ c.if-is_read_only.false) (sym c.is_point_in.ensures ∙ c.if-is_point_in.false) in
+    (sym c.is_directory.ensures ∙ c.if-not-is_directory.false) (sym c.is_nonempty.ensures ∙ c.if-is_nonempty.false)
+    (sym c.is_read_only.ensures ∙ c.if-is_read_only.false) (sym c.is_mount_point_in.ensures
+    ∙ c.if-is_mount_point_in.false) in
     let p = err_from_is_err_and c.from_residual-in_err-name_at.result c.from_residual-in_err-name_at.ensures.1 in
     rw (p.1, p.2) (without_memory task (rmdir_permit nat_eq looks task c.args.path.now) permit _
     (asked ∙ unless-let_through (remove_rules looks task parent object) (Ok permit) c.in_ok-may_remove.ensures)
@@ -66,8 +68,9 @@ returns g c =
     let permit = ToRemoveDirectory at.0.parent (name_of at.0.last) (object_there at.0) in
     let asked = rmdir_asked looks c.has_no_overlays.ensures task c.args.path.now at.0 parent object _ at.1
     (at.2.last ∙ ap last_of c.in-Named.is) at.2.parent there
-    (sym c.is_directory.ensures ∙ c.if-not-is_directory.false) (sym c.is_filled.ensures ∙ c.if-is_filled.false)
-    (sym c.is_read_only.ensures ∙ c.if-is_read_only.false) (sym c.is_point_in.ensures ∙ c.if-is_point_in.false) in
+    (sym c.is_directory.ensures ∙ c.if-not-is_directory.false) (sym c.is_nonempty.ensures ∙ c.if-is_nonempty.false)
+    (sym c.is_read_only.ensures ∙ c.if-is_read_only.false) (sym c.is_mount_point_in.ensures
+    ∙ c.if-is_mount_point_in.false) in
     let name = ap name_of at.2.last ∙ sym c.in_ok-name_at.ensures.ok in
     asked ∙ unless-let_through (remove_rules looks task parent object) (Ok permit) c.in_ok-may_remove.ensures
     ∙ (λ i. Ok (ToRemoveDirectory (at.2.parent i) (name i) (there i)))

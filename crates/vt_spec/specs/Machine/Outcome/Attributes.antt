@@ -35,11 +35,11 @@ module _ {N : Type 0} (eq : N → N → Bool) where
   abbrev pub attr_at : World N → Location N → Attr
   attr_at world = Attributes.attr_at (looks_of eq world)
 
-  abbrev pub attr_rules : World N → Location N → Bool → Attr → Rules
+  abbrev pub attr_rules : World N → Location N → (permitted : Bool) → Attr → Rules
   attr_rules world = Attributes.attr_rules (looks_of eq world)
 
   -- an attribute is set, unless a rule refuses it
-  abbrev pub attr_set : Fresh N → World N → Location N → Bool → Attr → Outcome N
+  abbrev pub attr_set : Fresh N → World N → Location N → (permitted : Bool) → Attr → Outcome N
   attr_set fresh world object allowed attr =
       judged world (attr_rules world object allowed attr)
       (granted Done (with_change eq fresh world object (SetAttr object.node attr)))

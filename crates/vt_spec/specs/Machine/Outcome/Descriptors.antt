@@ -76,11 +76,11 @@ module _ {N : Type 0} (eq : N → N → Bool) where
   abbrev pub is_copied_up : World N → Location N → Access → Bool
   is_copied_up world = Descriptors.is_copied_up (looks_of eq world)
 
-  abbrev pub copy_rules : Bool → World N → Location N → Rules
+  abbrev pub copy_rules : (copied : Bool) → World N → Location N → Rules
   copy_rules copies world = Descriptors.copy_rules copies (looks_of eq world)
 
   -- the world with an object of lower layers copied up, if it has to be: overlayfs, "upper and lower"
-  abbrev pub with_copy : Bool → Fresh N → World N → Location N → World N
+  abbrev pub with_copy : (copied : Bool) → Fresh N → World N → Location N → World N
   with_copy true fresh world file = with_change eq fresh world file (CopyUp file.node)
   with_copy false fresh world file = world
 

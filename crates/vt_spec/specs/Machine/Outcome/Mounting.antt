@@ -19,7 +19,7 @@ use Rattle.vt_spec.specs.Machine.Walk.{Here, Stop, directory_walk, walk_end}
 use Rattle.vt_spec.specs.Machine.World.{Filesystem, Overlay, Task, World, mount_at, new_plain, open_layer, shown_layers, with_mounts}
 use Rattle.vt_spec.specs.Machine.Looks.{looks_of}
 use Rattle.vt_spec.specs.Machine.Rules.Mounting
-pub use Rattle.vt_spec.specs.Machine.Rules.Mounting.{LayerPlaces, admin_rules, all_places, change_places, has_single_lower, work_walked}
+pub use Rattle.vt_spec.specs.Machine.Rules.Mounting.{LayerLocations, admin_rules, layer_locations, upper_and_work_locations, has_single_lower, work_walked}
 
 module _ {N : Type 0} where
   -- a mount of a filesystem from its root on, before it is attached
@@ -52,13 +52,13 @@ module _ {N : Type 0} (eq : N → N → Bool) where
 
   -- the world with a new filesystem, and a mount of it attached at a destination: mount(2)
   abbrev pub mounted : Fresh N → World N → Location N → Filesystem N → MountFlags → World N
-  mounted fresh world place filesystem flags =
-      attach eq (with_new_filesystem world filesystem) fresh place false
+  mounted fresh world destination filesystem flags =
+      attach eq (with_new_filesystem world filesystem) fresh destination false
       (new_mount filesystem.number filesystem.files.tree.root flags ∷ [])
 
   abbrev pub new_mount_rules : World N → Task N → Location N → World N → Rules
-  new_mount_rules world task place result =
-      Mounting.new_mount_rules eq (looks_of eq world) task place (has_too_many eq result)
+  new_mount_rules world task destination result =
+      Mounting.new_mount_rules eq (looks_of eq world) task destination (has_too_many eq result)
 
   -- a new plain filesystem: mount(2) of a tmpfs
   abbrev pub plain_filesystem : Fresh N → Filesystem N
@@ -79,13 +79,13 @@ module _ {N : Type 0} (eq : N → N → Bool) where
   abbrev pub walked_if_given : World N → Task N → Option (List ℕ) → Result (Option (Location N)) Deny
   walked_if_given world task = Mounting.walked_if_given eq (looks_of eq world) task
 
-  abbrev pub layers_walked : World N → Task N → OverlayWords → Result (LayerPlaces N) Deny
+  abbrev pub layers_walked : World N → Task N → OverlayWords → Result (LayerLocations N) Deny
   layers_walked world task = Mounting.layers_walked eq (looks_of eq world) task
 
-  abbrev pub overlay_at : World N → Task N → LayerPlaces N → Overlay N
+  abbrev pub overlay_at : World N → Task N → LayerLocations N → Overlay N
   overlay_at world task = Mounting.overlay_at (looks_of eq world) task
 
-  abbrev pub layer_rules : World N → LayerPlaces N → Overlay N → Rules
+  abbrev pub layer_rules : World N → LayerLocations N → Overlay N → Rules
   layer_rules world = Mounting.layer_rules eq (looks_of eq world)
 
   -- an overlay as a filesystem of these merged inodes
@@ -105,18 +105,19 @@ module _ {N : Type 0} (eq : N → N → Bool) where
       (merged_objects (map (open_layer eq world) (shown_layers overlay)) (inode_count world)))
 
   -- the world with an overlay of layers at these locations mounted
-  abbrev pub overlay_mounted : Fresh N → World N → Task N → Location N → LayerPlaces N → MountFlags → World N
-  overlay_mounted fresh world task place places flags =
-      mounted (odds fresh) world place (overlay_filesystem (evens fresh) world (overlay_at world task places)) flags
+  abbrev pub overlay_mounted : Fresh N → World N → Task N → Location N → LayerLocations N → MountFlags → World N
+  overlay_mounted fresh world task destination layers flags =
+      mounted (odds fresh) world destination (overlay_filesystem (evens fresh) world
+      (overlay_at world task layers)) flags
 
   -- options that are no list of options name no layers
   abbrev pub overlay_by : Fresh N → World N → Task N → Location N → Option OverlayWords → MountFlags → Outcome N
-  overlay_by fresh world task place None flags = denied world (denial O2)
-  overlay_by fresh world task place (Some words) flags =
-      after world (layers_walked world task words) (λ places.
-      judged world (layer_rules world places (overlay_at world task places))
-      (judged world (new_mount_rules world task place (overlay_mounted fresh world task place places flags))
-      (granted Done (overlay_mounted fresh world task place places flags))))
+  overlay_by fresh world task destination None flags = denied world (denial O2)
+  overlay_by fresh world task destination (Some words) flags =
+      after world (layers_walked world task words) (λ layers.
+      judged world (layer_rules world layers (overlay_at world task layers))
+      (judged world (new_mount_rules world task destination (overlay_mounted fresh world task destination layers flags))
+      (granted Done (overlay_mounted fresh world task destination layers flags))))
 
   -- mount(2) of an overlay
   unfoldable pub mount_overlay_outcome : Fresh N → World N → Task N → List ℕ → Option OverlayWords → MountFlags
@@ -127,12 +128,13 @@ module _ {N : Type 0} (eq : N → N → Bool) where
       overlay_by fresh world task here.location options flags))
 
   abbrev pub bind_rules : World N → Task N → Location N → Location N → World N → Rules
-  bind_rules world task source place result =
-      Mounting.bind_rules eq (looks_of eq world) task source place (has_too_many eq result)
+  bind_rules world task source destination result =
+      Mounting.bind_rules eq (looks_of eq world) task source destination (has_too_many eq result)
 
   -- the world with the mounts of a source attached as copies at a destination: mount(2) with MS_BIND
-  abbrev pub bound_at : Fresh N → World N → Location N → Location N → Bool → World N
-  bound_at fresh world source place recursive = attach eq world fresh place false (bind_tree eq world source recursive)
+  abbrev pub bound_at : Fresh N → World N → Location N → Location N → (recursive : Bool) → World N
+  bound_at fresh world source destination recursive = attach eq world fresh destination false
+      (bind_tree eq world source recursive)
 
   -- mount(2) with MS_BIND, and with MS_REC
   unfoldable pub bind_outcome : Fresh N → World N → Task N → List ℕ → List ℕ → Bool → Outcome N
@@ -149,12 +151,12 @@ module _ {N : Type 0} (eq : N → N → Bool) where
   moved_tree world source = mount_tree eq world.mounts (mount_at eq world source)
 
   abbrev pub move_rules : World N → Task N → Location N → Location N → World N → Rules
-  move_rules world task source place result =
-      Mounting.move_rules eq (looks_of eq world) task source place (has_too_many eq result)
+  move_rules world task source destination result =
+      Mounting.move_rules eq (looks_of eq world) task source destination (has_too_many eq result)
 
   -- the world with that tree moved to a destination: mount(2) with MS_MOVE
   abbrev pub moved_to : Fresh N → World N → Location N → Location N → World N
-  moved_to fresh world source place = attach eq world fresh place true (moved_tree world source)
+  moved_to fresh world source destination = attach eq world fresh destination true (moved_tree world source)
 
   -- mount(2) with MS_MOVE
   unfoldable pub move_outcome : Fresh N → World N → Task N → List ℕ → List ℕ → Outcome N

@@ -27,8 +27,8 @@ module _ {N : Type 0} (eq : N → N → Bool) where
       (judged world (unlink_rules world task place (object_there place))
       (granted Done (with_change eq fresh world place.parent (removing place (object_there place))))))
 
-  abbrev pub is_filled : World N → Location N → Bool
-  is_filled world = Removing.is_filled (looks_of eq world)
+  abbrev pub is_nonempty : World N → Location N → Bool
+  is_nonempty world = Removing.is_nonempty (looks_of eq world)
 
   abbrev pub rmdir_rules : World N → Task N → Place N → Location N → Rules
   rmdir_rules world task = Removing.rmdir_rules eq (looks_of eq world) task
@@ -63,7 +63,7 @@ module _ {N : Type 0} (eq : N → N → Bool) where
   without_replaced world (Some new) = without_mounts_on eq world new
 
   -- rename(2), by whether both names lead to one object: then nothing is done
-  abbrev pub renamed_by : Bool → Fresh N → World N → Task N → Place N → Place N → Location N → Outcome N
+  abbrev pub renamed_by : (is_one : Bool) → Fresh N → World N → Task N → Place N → Place N → Location N → Outcome N
   renamed_by true fresh world task from to old = judged world (same_object_rules world from to) (granted Done world)
   renamed_by false fresh world task from to old =
       judged world (rename_rules world task from to old)

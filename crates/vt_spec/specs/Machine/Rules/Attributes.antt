@@ -15,7 +15,7 @@ module _ {N : Type 0} where
   attr_at looks object = attr_in (looks.node object)
 
   -- an attribute is changed, by one who may: EROFS, EPERM of chmod(2), chown(2)
-  abbrev pub attr_rules : Looks N → Location N → Bool → Attr → Rules
+  abbrev pub attr_rules : Looks N → Location N → (permitted : Bool) → Attr → Rules
   attr_rules looks object allowed attr =
       (is_read_only looks object, F1)
       ∷ (has_no_upper looks object, F2)

@@ -41,8 +41,8 @@ module _ {N : Type 0} where
       not (may_delete_sticky task.credentials (attr_in (looks.node directory)) (attr_in (looks.node object)))
 
   -- P1: a mount has this mount point: rename(2), EBUSY; in whatever namespace it is (profile)
-  abbrev pub is_point_anywhere : Looks N → Location N → Bool
-  is_point_anywhere looks location = list_any (λ mount. is_some mount.namespace) (looks.mounts_on location)
+  abbrev pub is_mount_point_anywhere : Looks N → Location N → Bool
+  is_mount_point_anywhere looks location = list_any (λ mount. is_some mount.namespace) (looks.mounts_on location)
 
   -- the location's filesystem is an overlay
   abbrev pub is_overlay_at : Looks N → Location N → Bool
@@ -58,6 +58,6 @@ module _ {N : Type 0} (eq : N → N → Bool) where
   is_no_root looks location = not (eq location.node (mount_at looks location).root)
 
   -- P1: a mount of this namespace has this mount point: rmdir(2), EBUSY, mount_namespaces(7), "restrictions"
-  abbrev pub is_point_in : Looks N → N → Location N → Bool
-  is_point_in looks namespace location =
+  abbrev pub is_mount_point_in : Looks N → N → Location N → Bool
+  is_mount_point_in looks namespace location =
       list_any (λ mount. holds_of (eq namespace) mount.namespace) (looks.mounts_on location)

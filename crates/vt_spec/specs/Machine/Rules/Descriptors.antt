@@ -3,7 +3,7 @@ use Rattle.std.specs.Prelude.{Bool, List, Option, Result, [], false, find, if◌
 use Rattle.vt_spec.specs.Errors.{Rules, denial}
 use Rattle.vt_spec.specs.Language.Calls.{Access, opens_for_reading, opens_for_writing}
 use Rattle.vt_spec.specs.Language.Changes.Change.{CopyUp}
-use Rattle.vt_spec.specs.Machine.Filesystems.{lies_below}
+use Rattle.vt_spec.specs.Machine.Filesystems.{lies_only_in_lowers}
 use Rattle.vt_spec.specs.Machine.Locked.{overlay_or}
 use Rattle.vt_spec.specs.Machine.Looks.{Looks, is_directory_at}
 use Rattle.vt_spec.specs.Machine.Mounts.{Location}
@@ -46,10 +46,11 @@ module _ {N : Type 0} where
   -- an object that lies only in lower layers is copied up when it is opened for writing: overlayfs, "upper and lower"
   abbrev pub is_copied_up : Looks N → Location N → Access → Bool
   is_copied_up looks file access =
-      opens_for_writing access && overlay_or false (λ overlay. lies_below overlay file.node) (looks.overlay file)
+      opens_for_writing access && overlay_or false (λ overlay. lies_only_in_lowers overlay file.node)
+      (looks.overlay file)
 
   -- B1 and B2 of that copy-up (profile; overlayfs, "permission model")
-  abbrev pub copy_rules : Bool → Looks N → Location N → Rules
+  abbrev pub copy_rules : (copied : Bool) → Looks N → Location N → Rules
   copy_rules true looks file = looks.mounter_rules file (CopyUp file.node)
   copy_rules false looks file = []
 

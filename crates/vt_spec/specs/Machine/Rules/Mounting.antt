@@ -20,19 +20,19 @@ abbrev pub work_walked : OverlayWords → Option (List ℕ)
 work_walked words = if is_some words.upper then words.work else None
 
 -- the locations of an overlay's layers, as their paths were walked
-pub record LayerPlaces (N : Type 0) : Type 0 where
+pub record LayerLocations (N : Type 0) : Type 0 where
   pub lowers : List (Location N)
   pub upper : Option (Location N)
   pub work : Option (Location N)
 
 module _ {N : Type 0} where
   -- the locations of all layers
-  abbrev pub all_places : LayerPlaces N → List (Location N)
-  all_places places = places.lowers ++ option_to_list places.upper ++ option_to_list places.work
+  abbrev pub layer_locations : LayerLocations N → List (Location N)
+  layer_locations layers = layers.lowers ++ option_to_list layers.upper ++ option_to_list layers.work
 
   -- the locations of the upper and the work directory
-  abbrev pub change_places : LayerPlaces N → List (Location N)
-  change_places places = option_to_list places.upper ++ option_to_list places.work
+  abbrev pub upper_and_work_locations : LayerLocations N → List (Location N)
+  upper_and_work_locations layers = option_to_list layers.upper ++ option_to_list layers.work
 
   -- there is exactly one lower layer
   abbrev pub has_single_lower : List (Location N) → Bool
@@ -54,11 +54,11 @@ module _ {N : Type 0} where
 
   -- a new overlay of these layers, with the task as its mounter, before any inode has a real object: overlayfs,
   -- "permission model"
-  abbrev pub overlay_at : Looks N → Task N → LayerPlaces N → Overlay N
-  overlay_at looks task places = record {
-    upper = option_map (layer_at looks) places.upper;
-    work = option_map (layer_at looks) places.work;
-    lowers = map (layer_at looks) places.lowers;
+  abbrev pub overlay_at : Looks N → Task N → LayerLocations N → Overlay N
+  overlay_at looks task layers = record {
+    upper = option_map (layer_at looks) layers.upper;
+    work = option_map (layer_at looks) layers.work;
+    lowers = map (layer_at looks) layers.lowers;
     mounter = task.credentials;
     real = λ number. None;
   }
@@ -92,9 +92,9 @@ module _ {N : Type 0} (eq : N → N → Bool) where
       walk_unless here.steps ((looks.is_removed (topmost looks here.location), W8) ∷ []) (at_topmost looks here))
 
   -- a new mount: EINVAL, ENOSPC of mount(2)
-  abbrev pub new_mount_rules : Looks N → Task N → Location N → Bool → Rules
-  new_mount_rules looks task place overfull =
-      (is_elsewhere eq looks task place, M2)
+  abbrev pub new_mount_rules : Looks N → Task N → Location N → (overfull : Bool) → Rules
+  new_mount_rules looks task destination overfull =
+      (is_elsewhere eq looks task destination, M2)
       ∷ (overfull, M9)
       ∷ []
 
@@ -112,7 +112,7 @@ module _ {N : Type 0} (eq : N → N → Bool) where
       and_then (walk_end (source_walk looks task path)) (λ here. Ok (Some here.location))
 
   -- the lower layers are walked from the top down, then the upper and the work directory (profile)
-  abbrev pub layers_walked : Looks N → Task N → OverlayWords → Result (LayerPlaces N) Deny
+  abbrev pub layers_walked : Looks N → Task N → OverlayWords → Result (LayerLocations N) Deny
   layers_walked looks task words =
       and_then (each_walked looks task words.lowers) (λ lowers.
       and_then (walked_if_given looks task words.upper) (λ upper.
@@ -131,40 +131,40 @@ module _ {N : Type 0} (eq : N → N → Bool) where
       && (looks.is_under a.filesystem a.directory b.directory || looks.is_under a.filesystem b.directory a.directory)
 
   -- the kernel's overlayfs document, "multiple lower layers", "sharing and copying layers"; EINVAL, EBUSY, ELOOP
-  abbrev pub layer_rules : Looks N → LayerPlaces N → Overlay N → Rules
-  layer_rules looks places overlay =
-      (is_empty_list places.lowers, O2)
-      ∷ (has_single_lower places.lowers && not (is_some places.upper), O2)
-      ∷ (is_some places.upper && not (is_some places.work), O2)
-      ∷ (nat_lt most_lowers (length places.lowers), O2)
-      ∷ (list_any (is_overlay_at looks) (all_places places), O2)
+  abbrev pub layer_rules : Looks N → LayerLocations N → Overlay N → Rules
+  layer_rules looks layers overlay =
+      (is_empty_list layers.lowers, O2)
+      ∷ (has_single_lower layers.lowers && not (is_some layers.upper), O2)
+      ∷ (is_some layers.upper && not (is_some layers.work), O2)
+      ∷ (nat_lt most_lowers (length layers.lowers), O2)
+      ∷ (list_any (is_overlay_at looks) (layer_locations layers), O2)
       ∷ (lie_apart looks overlay, O2)
       ∷ (upper_overlaps_work looks overlay, O2)
-      ∷ (list_any (is_read_only looks) (change_places places), O2)
+      ∷ (list_any (is_read_only looks) (upper_and_work_locations layers), O2)
       ∷ (looks.is_in_use overlay, O3)
       ∷ (any_pair (one_under_another looks) overlay.lowers, O5)
       ∷ (overlap_upward looks overlay, O5)
       ∷ []
 
   -- mount(2) with MS_BIND, and with MS_REC: EINVAL, ENOSPC
-  abbrev pub bind_rules : Looks N → Task N → Location N → Location N → Bool → Rules
-  bind_rules looks task source place overfull =
-      (is_elsewhere eq looks task source || is_elsewhere eq looks task place, M2)
+  abbrev pub bind_rules : Looks N → Task N → Location N → Location N → (overfull : Bool) → Rules
+  bind_rules looks task source destination overfull =
+      (is_elsewhere eq looks task source || is_elsewhere eq looks task destination, M2)
       ∷ (is_unbindable (mount_at looks source).propagation, M3)
       ∷ (overfull, M9)
       ∷ []
 
   -- mount(2) with MS_MOVE: EINVAL, ELOOP, ENOSPC
-  abbrev pub move_rules : Looks N → Task N → Location N → Location N → Bool → Rules
-  move_rules looks task source place overfull =
-      (is_elsewhere eq looks task source || is_elsewhere eq looks task place, M2)
+  abbrev pub move_rules : Looks N → Task N → Location N → Location N → (overfull : Bool) → Rules
+  move_rules looks task source destination overfull =
+      (is_elsewhere eq looks task source || is_elsewhere eq looks task destination, M2)
       ∷ (has_shared_parent looks source, M4)
       ∷ (
-        is_shared (mount_at looks place).propagation
+        is_shared (mount_at looks destination).propagation
             && list_any (λ mount. is_unbindable mount.propagation) (looks.mount_tree source.mount),
         M5,
       )
-      ∷ (list_any (λ mount. eq mount.number place.mount) (looks.mount_tree source.mount), M6)
+      ∷ (list_any (λ mount. eq mount.number destination.mount) (looks.mount_tree source.mount), M6)
       ∷ (is_no_root eq looks source, M7)
       ∷ (overfull, M9)
       ∷ (not (is_some (mount_at looks source).mount_point), M10)
@@ -203,15 +203,15 @@ module _ {N : Type 0} (eq : N → N → Bool) where
       ∷ []
 
   -- a location is at or under a directory, as seen through the mounts on the way up from it
-  abbrev pub lies_under_place : Looks N → Location N → Location N → Bool
-  lies_under_place looks top here =
+  abbrev pub lies_under_location : Looks N → Location N → Location N → Bool
+  lies_under_location looks top here =
       list_any (λ location. eq top.mount location.mount
       && looks.is_under (mount_at looks top).filesystem top.node location.node)
       (chain looks.mount_count (λ location. (mount_at looks location).mount_point) here)
 
   -- the location's mount is a descendant of the mount
-  abbrev pub is_below_mount : Looks N → N → Location N → Bool
-  is_below_mount looks mount here =
+  abbrev pub is_on_descendant : Looks N → N → Location N → Bool
+  is_on_descendant looks mount here =
       list_any (λ location. eq mount location.mount)
       (rest_of (chain looks.mount_count (λ location. (mount_at looks location).mount_point) here))
 
@@ -222,7 +222,7 @@ module _ {N : Type 0} (eq : N → N → Bool) where
       ∷ (is_no_root eq looks new || is_no_root eq looks task.root, M7)
       ∷ (eq new.mount task.root.mount || eq put.mount task.root.mount, M11)
       ∷ (
-        not (is_below_mount looks task.root.mount new) || not (lies_under_place looks new put)
+        not (is_on_descendant looks task.root.mount new) || not (lies_under_location looks new put)
             || has_shared_parent looks new || has_shared_parent looks task.root
             || is_shared (mount_at looks put).propagation,
         M12,

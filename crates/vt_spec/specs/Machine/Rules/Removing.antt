@@ -7,7 +7,7 @@ use Rattle.vt_spec.specs.Language.Changes.Change.{Move, Remove}
 use Rattle.vt_spec.specs.Lists.{holds_of, is_empty_list}
 use Rattle.vt_spec.specs.Machine.Looks.{Looks, is_directory_at, mount_at}
 use Rattle.vt_spec.specs.Machine.Mounts.{Location, same_location}
-use Rattle.vt_spec.specs.Machine.Rules.Conditions.{has_no_upper, is_kept, is_point_anywhere, is_point_in, is_read_only, may_not, mounter_may_not}
+use Rattle.vt_spec.specs.Machine.Rules.Conditions.{has_no_upper, is_kept, is_mount_point_anywhere, is_mount_point_in, is_read_only, may_not, mounter_may_not}
 use Rattle.vt_spec.specs.Machine.Walking.{Place, Stop, is_dot, is_dot_dot, is_no_word, is_special, name_of, new_walk, then_walk, walk_unless}
 use Rattle.vt_spec.specs.Machine.World.{Task}
 use Rattle.vt_spec.specs.Rights.{write_right}
@@ -52,8 +52,8 @@ module _ {N : Type 0} where
       ∷ looks.mounter_rules place.parent (removing place object)
 
   -- the directory is not empty
-  abbrev pub is_filled : Looks N → Location N → Bool
-  is_filled looks directory = not (is_empty_list (entries_in (looks.node directory)))
+  abbrev pub is_nonempty : Looks N → Location N → Bool
+  is_nonempty looks directory = not (is_empty_list (entries_in (looks.node directory)))
 
   -- O1: a directory that a lower layer has at this name too: overlayfs, "renaming directories"
   abbrev pub is_stuck : Looks N → Place N → Location N → Bool
@@ -64,11 +64,11 @@ module _ {N : Type 0} (eq : N → N → Bool) where
   abbrev pub rmdir_rules : Looks N → Task N → Place N → Location N → Rules
   rmdir_rules looks task place object =
       (not (is_directory_at looks object), E3)
-      ∷ (is_filled looks object, E4)
+      ∷ (is_nonempty looks object, E4)
       ∷ (is_read_only looks place.parent, F1)
       ∷ (has_no_upper looks place.parent, F2)
       ∷ (looks.is_locked object || looks.is_locked place.parent, L1)
-      ∷ (is_point_in eq looks task.namespace object, P1)
+      ∷ (is_mount_point_in eq looks task.namespace object, P1)
       ∷ (may_not looks task place.parent write_right, C1)
       ∷ (is_kept looks task place.parent object, C3)
       ∷ (mounter_may_not looks place.parent write_right, B1)
@@ -106,7 +106,7 @@ module _ {N : Type 0} (eq : N → N → Bool) where
   rename_rules looks task from to old =
       (not (is_directory_at looks old) && holds_of (is_directory_at looks) to.object, E2)
       ∷ (is_directory_at looks old && holds_of (λ new. not (is_directory_at looks new)) to.object, E3)
-      ∷ (is_directory_at looks old && holds_of (is_filled looks) to.object, E4)
+      ∷ (is_directory_at looks old && holds_of (is_nonempty looks) to.object, E4)
       ∷ (
         is_directory_at looks old && same_filesystem looks old to.parent
             && looks.is_under (mount_at looks old).filesystem old.node to.parent.node,
@@ -115,7 +115,7 @@ module _ {N : Type 0} (eq : N → N → Bool) where
       ∷ (is_read_only looks from.parent || is_read_only looks to.parent, F1)
       ∷ (has_no_upper looks from.parent || has_no_upper looks to.parent, F2)
       ∷ (list_any looks.is_locked (from.parent ∷ to.parent ∷ old ∷ option_to_list to.object), L1)
-      ∷ (is_point_anywhere looks old || holds_of (is_point_in eq looks task.namespace) to.object, P1)
+      ∷ (is_mount_point_anywhere looks old || holds_of (is_mount_point_in eq looks task.namespace) to.object, P1)
       ∷ (not (eq from.parent.mount to.parent.mount), P2)
       ∷ (may_not looks task from.parent write_right || may_not looks task to.parent write_right, C1)
       ∷ (changes_parent looks from to old && may_not looks task old write_right, C1)

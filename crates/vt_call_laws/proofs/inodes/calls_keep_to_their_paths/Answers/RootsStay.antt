@@ -10,7 +10,7 @@ use Rattle.vt_spec.specs.Language.Changes.{Change, changed, with_moved, without_
 use Rattle.vt_spec.specs.Language.Changes.Change.{AddName, CopyUp, Make, Move, Remove, SetAttr, SetBytes, SetMark}
 use Rattle.vt_spec.specs.Lists.{Fresh, evens, odds}
 use Rattle.vt_spec.specs.Machine.Apply.{apply}
-use Rattle.vt_spec.specs.Machine.CopyUp.{Merge, Stack, copied_each, copied_up, copy_named, copy_of, emptied, hides_directory, is_in_upper, line_to, linked, made, merge_changed, moved, name_left, removed, shown_below, upper_directory_named, upper_of}
+use Rattle.vt_spec.specs.Machine.CopyUp.{Merge, Stack, copied_each, copied_up, copy_named, copy_of, emptied, hides_directory, is_in_upper, line_to, linked, made, merge_changed, moved, name_left, removed, shown_in_lowers_at, upper_directory_named, upper_of}
 use Rattle.vt_spec.specs.Machine.Detach.{deepest_first}
 use Rattle.vt_spec.specs.Machine.Filesystems.{filesystem_changed, filesystems_raised, merge_of, overlay_changed, raised, raised_if_changed, stack_of, with_change, with_files}
 use Rattle.vt_spec.specs.Machine.Judge.{Judgement, judge_in}
@@ -83,7 +83,7 @@ moved_roots fresh stack merge from old to new object = (
   changed_root merge.files (Move from old to new object),
   root-marked (hides_directory nat_eq stack merge to new)
       (name_left nat_eq fresh stack merge renamed from old) (upper_of merge object)
-      ∙ root-name_left_by (is_some (shown_below nat_eq stack merge from old)) fresh stack renamed
+      ∙ root-name_left_by (is_some (shown_in_lowers_at nat_eq stack merge from old)) fresh stack renamed
       (upper_of merge from) old
       ∙ changed_root upper (Move (upper_of merge from) old (upper_of merge to) new (upper_of merge object))
       ∙ root-emptied merge.upper (upper_directory_named merge to new),
@@ -116,7 +116,8 @@ merged_roots fresh stack merge (Remove directory name object) =
       refl,
       root-emptied (name_left nat_eq (odds fresh) stack copied copied.upper directory name)
           (upper_directory_named copied directory name)
-          ∙ root-name_left_by (is_some (shown_below nat_eq stack copied directory name)) (odds fresh) stack copied.upper
+          ∙ root-name_left_by (is_some (shown_in_lowers_at nat_eq stack copied directory name))
+          (odds fresh) stack copied.upper
           (upper_of copied directory) name,
     )
   where

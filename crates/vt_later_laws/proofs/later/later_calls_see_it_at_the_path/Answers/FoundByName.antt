@@ -19,7 +19,7 @@ use Rattle.vt_spec.specs.Machine.Permits.{Permit}
 use Rattle.vt_spec.specs.Machine.Permits.Permit.{ToRename}
 use Rattle.vt_spec.specs.Machine.Policy.{policy}
 use Rattle.vt_spec.specs.Machine.Rightful.{node_allows}
-use Rattle.vt_spec.specs.Machine.Rules.Conditions.{is_point_anywhere}
+use Rattle.vt_spec.specs.Machine.Rules.Conditions.{is_mount_point_anywhere}
 use Rattle.vt_spec.specs.Machine.Rules.Removing.{is_one_object, object_there, old_word_rules, rename_new_walk, rename_rules}
 use Rattle.vt_spec.specs.Machine.Run.{Serves}
 use Rattle.vt_spec.specs.Machine.Walking.{LastWord, Place, is_directory_there, is_special, name_of, new_walk, old_leaf_walk, old_walk, place_walk, stepped, walk_end}
@@ -57,7 +57,7 @@ pub record NamesParts (looks : Looks ℕ) (task : Task ℕ) (old new : List ℕ)
   pub from_named : is_special from.last ≡ false
   pub from_slash : from.slash ≡ true → is_directory_there nat_eq looks from ≡ true
   pub to_named : is_special to.last ≡ false
-  pub uncovered : is_point_anywhere looks (object_there from) ≡ false
+  pub uncovered : is_mount_point_anywhere looks (object_there from) ≡ false
   pub permit_is : permit ≡ ToRename from.parent (name_of from.last) to.parent (name_of to.last)
       (object_there from) to.object
 
@@ -99,8 +99,8 @@ names_parts looks task old new from to permit from_is to_is two e =
           (ap (λ (p : Place ℕ). p.slash && not (is_directory_there nat_eq looks p)) (sym leaf_slash.1)
           ∙ leaf_slash.0.0);
       to_named = ap (λ (p : Place ℕ). is_special p.last) (sym same_to) ∙ named.0.0;
-      uncovered = ap (λ (p : Place ℕ). is_point_anywhere looks (object_there p)) (sym same_from)
-          ∙ (or_parts (is_point_anywhere looks (object_there olds.0)) _ last.0.1.1.1.1.1.1.1.0).0;
+      uncovered = ap (λ (p : Place ℕ). is_mount_point_anywhere looks (object_there p)) (sym same_from)
+          ∙ (or_parts (is_mount_point_anywhere looks (object_there olds.0)) _ last.0.1.1.1.1.1.1.1.0).0;
       permit_is =
           sym (same_ok _ permit last.1)
           ∙ (λ i. ToRename (same_from i).parent (name_of (same_from i).last) (same_to i).parent

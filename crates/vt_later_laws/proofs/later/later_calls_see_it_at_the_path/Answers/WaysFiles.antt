@@ -10,7 +10,7 @@ use Rattle.vt_spec.specs.FileTree.{symlink_text}
 use Rattle.vt_spec.specs.Lists.{then_some}
 use Rattle.vt_spec.specs.Machine.Looks.{Looks, is_directory_at, topmost}
 use Rattle.vt_spec.specs.Machine.Mounts.{Location}
-use Rattle.vt_spec.specs.Machine.Walking.{Here, LastWord, Place, Stop, entered, entry_location, file_or_symlink, file_walked, final_word, follow_rules, followed, front_walked, if_symlink, is_special, last_word, name_of, object_named, placed, search_rules, slash_rules, start_of, stepped, steps_at, stopped_by, symlink_of, symlink_start, symlink_there, symlink_walked, then_walk, walk_unless, word_walked, words_walked}
+use Rattle.vt_spec.specs.Machine.Walking.{Here, LastWord, Place, Stop, entered, entry_location, file_or_symlink, file_walked, final_word, follow_rules, followed, prefix_walked, if_symlink, is_special, last_word, name_of, object_named, placed, search_rules, slash_rules, start_of, stepped, steps_at, stopped_by, symlink_of, symlink_start, symlink_there, symlink_walked, then_walk, walk_unless, word_walked, words_walked}
 use Rattle.vt_spec.specs.Machine.Walking.LastWord.{Dot, DotDot, Named, NoWord}
 use Rattle.vt_spec.specs.Machine.World.{Task}
 use Rattle.vt_spec.specs.PathText.{ends_in_slash, is_absolute, words}
@@ -104,11 +104,11 @@ pub file_place : (looks : Looks ℕ) (task : Task ℕ) (depth : ℕ) (start : He
     → IsFilePlace looks task end
 file_place looks task zero start text slash end e special = cc
 file_place looks task (suc depth) start text slash end e special =
-    let fronts = both_walked (front_walked nat_eq looks task (followed nat_eq looks task) start
+    let prefixes = both_walked (prefix_walked nat_eq looks task (followed nat_eq looks task) start
     (reverse (words text))) _ end e in
-    let here = fronts.0 in
+    let here = prefixes.0 in
     let places = both_walked (placed nat_eq looks task here (final_word (reverse (words text)))
-    (slash || ends_in_slash text)) _ end fronts.2 in
+    (slash || ends_in_slash text)) _ end prefixes.2 in
     by here places.0 places.1 (symlink_there nat_eq looks places.0) places.2
     (λ next inner g. file_place looks task depth next inner
     (slash || ends_in_slash text) end g special)
@@ -296,7 +296,7 @@ module _ (looks later : Looks ℕ) (task reader : Task ℕ) (Refused : Deny → 
       by false = is
 
   front_left : (start here : Here ℕ) (list : List (List ℕ)) → suc start.left ≤ 41
-      → front_walked nat_eq looks task (followed nat_eq looks task) start list ≡ Ok here → here.left ≤ start.left
+      → prefix_walked nat_eq looks task (followed nat_eq looks task) start list ≡ Ok here → here.left ≤ start.left
   front_left start here [] few e = subst (λ (h : Here ℕ). h.left ≤ start.left) (same_end start here e) (omega arith)
   front_left start here (word ∷ front) few e =
       (words_lead looks later task reader Refused Known leads 41 41 start front here few few e).0
@@ -311,19 +311,19 @@ module _ (looks later : Looks ℕ) (task reader : Task ℕ) (Refused : Deny → 
       → FindsFile other file start text slash
   file_too zero start text slash end few is e special no_slash other few_too file found no_text = cc
   file_too (suc depth) start text slash end few is e special no_slash other few_too file found no_text =
-      let fronts = both_walked (front_walked nat_eq looks task (followed nat_eq looks task) start
+      let prefixes = both_walked (prefix_walked nat_eq looks task (followed nat_eq looks task) start
       (reverse (words text))) _ end e in
-      let here = fronts.0 in
+      let here = prefixes.0 in
       let places = both_walked (placed nat_eq looks task here (final_word (reverse (words text)))
-      (slash || ends_in_slash text)) _ end fronts.2 in
-      by other few_too (reverse (words text)) here places.0 fronts.1 places.1
+      (slash || ends_in_slash text)) _ end prefixes.2 in
+      by other few_too (reverse (words text)) here places.0 prefixes.1 places.1
       (symlink_there nat_eq looks places.0) refl places.2
       (λ deep next inner next_few next_is walks less.
       file_too depth next inner (slash
       || ends_in_slash text) end next_few next_is walks special no_slash deep less file found no_text)
     where
       by : (other : ℕ) → suc start.left ≤ other → (list : List (List ℕ)) (here : Here ℕ) (place : Place ℕ)
-          → front_walked nat_eq looks task (followed nat_eq looks task) start list ≡ Ok here
+          → prefix_walked nat_eq looks task (followed nat_eq looks task) start list ≡ Ok here
           → placed nat_eq looks task here (final_word list) (slash || ends_in_slash text) ≡ Ok place
           → (link : Option (List ℕ)) → symlink_there nat_eq looks place ≡ link
           → file_or_symlink nat_eq looks place link (λ inner.

@@ -9,7 +9,7 @@ use Rattle.vt_spec.specs.Lists.{Fresh, odds}
 use Rattle.vt_mount_laws.specs.Mounts.FileCalls.{HasLiving}
 use Rattle.vt_spec.specs.Machine.Walk.{Here, Place, directory_walk, old_walk, walk_end, is_directory_there, old_leaf_walk}
 use Rattle.vt_spec.specs.declared.errors.Rule.TheVariants.{K1, S2}
-use Rattle.vt_spec.specs.Machine.Outcome.Mounting.{LayerPlaces, admin_rules, bind_outcome, bind_rules, bound_at, destination_walk, layer_rules, layers_walked, lazy_outcome, lazy_rules, mount_overlay_outcome, mount_plain_outcome, mounted, move_outcome, move_rules, moved_to, new_mount_rules, overlay_at, overlay_mounted, pivot_outcome, pivot_rules, plain_filesystem, remount_outcome, remount_rules, source_walk, type_outcome, type_rules, with_flags}
+use Rattle.vt_spec.specs.Machine.Outcome.Mounting.{LayerLocations, admin_rules, bind_outcome, bind_rules, bound_at, destination_walk, layer_rules, layers_walked, lazy_outcome, lazy_rules, mount_overlay_outcome, mount_plain_outcome, mounted, move_outcome, move_rules, moved_to, new_mount_rules, overlay_at, overlay_mounted, pivot_outcome, pivot_rules, plain_filesystem, remount_outcome, remount_rules, source_walk, type_outcome, type_rules, with_flags}
 use Rattle.vt_spec.specs.Machine.Outcomes.{Outcome, after, granted, judged}
 use Rattle.vt_spec.specs.Errors.{Rules, denial}
 use Rattle.vt_spec.specs.Machine.World.{Task, World, mount_at, task_called, without_task}
@@ -92,7 +92,7 @@ module _ (fresh : Fresh ℕ) (world : World ℕ) (task : Task ℕ) where
       (mounted nat_eq (odds fresh) world here.location (plain_filesystem nat_eq fresh) flags)) _ whole
       (one ∙ stepped world (walk_end (destination_walk nat_eq world task path)) _ here e) h
 
-  overlay_made : (path : List ℕ) (words : OverlayWords) (flags : MountFlags) (here : Here ℕ) (places : LayerPlaces ℕ)
+  overlay_made : (path : List ℕ) (words : OverlayWords) (flags : MountFlags) (here : Here ℕ) (places : LayerLocations ℕ)
       → walk_end (destination_walk nat_eq world task path) ≡ Ok here → layers_walked nat_eq world task words ≡ Ok places
       → (mount_overlay_outcome nat_eq fresh world task path (Some words) flags).answer ≡ Ok Done
       → mount_overlay_outcome nat_eq fresh world task path (Some words) flags ≡ granted Done

@@ -4,8 +4,8 @@ use Rattle.std.proofs.lemmas.List.Folds.{flat_map-map}
 use Rattle.std.proofs.lemmas.Bool.{false_from_ne_true}
 use Rattle.vt_spec.proofs.Lists.{Among, among-append_left, among-append_right, among-filter, among-from_filter, among-map}
 use Rattle.vt_spec.specs.FileTree.{path_down}
-use Rattle.vt_spec.specs.Machine.Listing.{groups_shown, mount_line, number_among, place_spot, root_spot, spot_of, type_line}
-use Rattle.vt_spec.specs.Lists.{Fresh, each_once, evens, holds_of, odds, place_from}
+use Rattle.vt_spec.specs.Machine.Listing.{groups_shown, mount_line, number_among, mount_point_spot, root_spot, spot_of, type_line}
+use Rattle.vt_spec.specs.Lists.{Fresh, each_once, evens, holds_of, odds, index_from}
 use Rattle.vt_spec.specs.Machine.Mounts.{Location, Mount, index_of, numbers_by}
 use Rattle.vt_spec.specs.Machine.Namespaces.{copied_mount, location_on_copy, unshared}
 use Rattle.vt_spec.specs.Language.Answers.{Spot}
@@ -37,14 +37,14 @@ map_both f g (y ∷ ys) same =
 new_place : (new : ℕ → ℕ) (copy : Mount ℕ → Mount ℕ) → ((mount : Mount ℕ) → (copy mount).number ≡ new mount.number)
     → (number k : ℕ) (mounts : List (Mount ℕ))
     → ((mount : Mount ℕ) → Among mount mounts → nat_eq (new number) (new mount.number) ≡ nat_eq number mount.number)
-    → place_from (nat_eq (new number)) k (map (λ (x : Mount ℕ). x.number) (map copy mounts))
-    ≡ place_from (nat_eq number) k (map (λ (x : Mount ℕ). x.number) mounts)
+    → index_from (nat_eq (new number)) k (map (λ (x : Mount ℕ). x.number) (map copy mounts))
+    ≡ index_from (nat_eq number) k (map (λ (x : Mount ℕ). x.number) mounts)
 new_place new copy numbers number k [] same = refl
 new_place new copy numbers number k (mount ∷ rest) same =
     ap (λ n. cond (nat_eq (new number) n) (Some k)
-    (place_from (nat_eq (new number)) (k + 1) (map (λ (x : Mount ℕ). x.number) (map copy rest)))) (numbers mount)
+    (index_from (nat_eq (new number)) (k + 1) (map (λ (x : Mount ℕ). x.number) (map copy rest)))) (numbers mount)
     ∙ ap (λ b. cond b (Some k)
-    (place_from (nat_eq (new number)) (k + 1) (map (λ (x : Mount ℕ). x.number) (map copy rest)))) (same mount
+    (index_from (nat_eq (new number)) (k + 1) (map (λ (x : Mount ℕ). x.number) (map copy rest)))) (same mount
     (inl refl))
     ∙ ap (cond (nat_eq number mount.number) (Some k))
     (new_place new copy numbers number (k + 1) rest (λ other m. same other (inr m)))
@@ -112,7 +112,7 @@ module _ (world : World ℕ) (fresh : Fresh ℕ) (task : Task ℕ) (serves : Ser
 
   abbrev place_cell : World ℕ → List (Mount ℕ) → Location ℕ → ℕ × Spot
   place_cell those list place =
-      (number_among nat_eq (map (λ (other : Mount ℕ). other.number) list) place.mount, place_spot nat_eq those place)
+      (number_among nat_eq (map (λ (other : Mount ℕ). other.number) list) place.mount, mount_point_spot nat_eq those place)
 
   copied_cell : (parent : Mount ℕ) → Among parent copied → Among parent world.mounts → (place : Location ℕ)
       → parent.number ≡ place.mount
@@ -126,7 +126,8 @@ module _ (world : World ℕ) (fresh : Fresh ℕ) (task : Task ℕ) (serves : Ser
       ∙ ap (λ k. unwrap_or k 0)
       (new_place new_number copy (λ mount. refl) parent.number 1 copied (λ other n. new_apart parent other m n))
       ∙ ap (number_among nat_eq (map (λ (other : Mount ℕ). other.number) copied)) same in
-      let shows : place_spot nat_eq after (location_on_copy new_number place) ≡ place_spot nat_eq world place =
+      let shows : mount_point_spot nat_eq after (location_on_copy new_number place)
+      ≡ mount_point_spot nat_eq world place =
       ap (λ n. spot (mount_numbered nat_eq after (new_number n)) place) (sym same)
       ∙ ap (λ (x : Mount ℕ). spot x place) (copy_found parent m)
       ∙ ap (λ (x : Mount ℕ). spot x place) (sym (itself world mounts parent there))

@@ -13,7 +13,7 @@ use Rattle.vt_spec.specs.Machine.Mounts.Propagation.{Private, Shared, Slave, Unb
 use Rattle.vt_spec.specs.Machine.Receives.{has_members, is_member_of, receives, lost_a_group}
 use Rattle.vt_spec.specs.Machine.World.{World, mount_at, mount_numbered}
 use Rattle.vt_mount_laws.specs.Mounts.Attaching.{OneNumberAMount, is_mount, numbers_of}
-use Rattle.vt_mount_laws.specs.Mounts.Places.{OneMountAPlace}
+use Rattle.vt_mount_laws.specs.Mounts.MountPoints.{OneMountAMountPoint}
 use Rattle.vt_mount_laws.specs.Mounts.Propagation.{Attachment, CanAttach, IsPart, copy_of, number_at, world_after}
 use Rattle.vt_mount_laws.specs.Mounts.Receivers.{GroupsLive}
 use Rattle.vt_mount_laws.specs.Mounts.Unmounting.{Goes, goes_with, has_its_master, mount_left}
@@ -384,7 +384,7 @@ module _ (world : World ℕ) (fresh : Fresh ℕ) (place : Location ℕ) (first :
       by mount m (Some at) e =
           ap (holds_of (λ (l : Location ℕ). nat_eq (copy part).number l.mount)) e ∙ off_copy part c mount m at e
 
-  copy_goes : OneMountAPlace after.mounts → (part : Mount ℕ) → IsPart it part
+  copy_goes : OneMountAMountPoint after.mounts → (part : Mount ℕ) → IsPart it part
       → Goes after (copy destination) (copy part).number
   copy_goes one_place part c = by destination.propagation refl
     where
@@ -410,7 +410,7 @@ module _ (world : World ℕ) (fresh : Fresh ℕ) (place : Location ℕ) (first :
       by Private e = only (ap is_shared e) (ap group_of e)
       by Unbindable e = only (ap is_shared e) (ap group_of e)
 
-  pub copy_is_gone : OneMountAPlace after.mounts → (part : Mount ℕ) → IsPart it part
+  pub copy_is_gone : OneMountAMountPoint after.mounts → (part : Mount ℕ) → IsPart it part
       → mount_left after gone (new part) ≡ detached (copy part)
   copy_is_gone one_place part c =
       what_goes_is_detached after gone (new part)

@@ -13,7 +13,7 @@ pub returns-in-Plain-clause-ok : goal.returns-in-Plain-clause-ok
 returns-in-Plain-clause-ok c =
     IfOk-weaker c.has_too_many_with.result _ _
     (λ too_many tells.
-    plain_overfills c.args.self.now c.is_held.ensures (location_of c.in-Plain.place) too_many
+    plain_overfills c.args.self.now c.is_held.ensures (location_of c.in-Plain.destination) too_many
     (flags_of c.in-Plain.flags) tells
     ∙ ap (λ attachment. overfills_of c.args.self.now (permit_of attachment)) (sym c.in-Plain.is))
     c.has_too_many_with.ensures.ok
@@ -22,13 +22,13 @@ pub returns-in_ok-tree-in-Bind-clause-ok : goal.returns-in_ok-tree-in-Bind-claus
 returns-in_ok-tree-in-Bind-clause-ok c =
     let value = c.args.self.now in
     let source = location_of c.in-Bind.source in
-    let place = location_of c.in-Bind.place in
+    let destination = location_of c.in-Bind.destination in
     let items = c.in_ok-tree-in-Bind.tree.items in
     let sized : length (bind_tree nat_eq (world_of value) source c.in-Bind.recursive) ≡ length items =
     tree_sized items (bind_tree nat_eq (world_of value) source c.in-Bind.recursive) c.in_ok-tree-in-Bind.ensures.ok in
     IfOk-weaker c.has_too_many_with-in-Bind.result _ _
     (λ too_many tells.
-    bind_overfills value c.is_held.ensures place too_many source c.in-Bind.recursive
+    bind_overfills value c.is_held.ensures destination too_many source c.in-Bind.recursive
     (λ one copies added same invariants parts size.
     tells one copies added same invariants parts
     (omega (arith, size, sized, c.len.ensures, c.in_ok-tree-in-Bind.tree.ok.0)))

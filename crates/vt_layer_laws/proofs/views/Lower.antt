@@ -4,15 +4,15 @@ use Rattle.std.proofs.lemmas.List.{append-nil}
 use Rattle.std.specs.List.{list_any}
 use Rattle.vt_spec.specs.Language.Changes.Change.{Move, Remove}
 use Rattle.vt_spec.specs.FileTree.{FileTree}
-use Rattle.vt_spec.specs.Lists.{front_of, fronts, holds_of, then_some}
-use Rattle.vt_spec.specs.Machine.Views.{Shown, View, below, cuts, hides, node_led, shown_from, shown_over}
+use Rattle.vt_spec.specs.Lists.{without_last, prefixes, holds_of, then_some}
+use Rattle.vt_spec.specs.Machine.Views.{Shown, View, shown_in_lowers, cuts, hides, node_led, shown_from, shown_over}
 use Rattle.vt_spec.specs.Tree.{Tree}
 use Rattle.vt_spec.specs.TreeInvariant.{IsTree, entry_at, led}
 use Rattle.vt_layer_laws.specs.Layers.ShownAfter.{LeadAlikeTo, MovedShowsBelow, RemovedShowsBelow}
 use Rattle.vt_layer_laws.specs.Layers.Views.{goes_through, names_entry, view_after, view_in}
-use Rattle.vt_layer_laws.proofs.layers.ShownFronts.{cons_is_not_empty, front_passes, list_any_of_map}
-use Rattle.vt_layer_laws.proofs.layers.UpperShown.{front_of_longer}
-use Rattle.vt_layer_laws.proofs.views.After.{fails, fronts_fail, lead_alike}
+use Rattle.vt_layer_laws.proofs.layers.ShownFronts.{cons_is_not_empty, prefix_passes, list_any_of_map}
+use Rattle.vt_layer_laws.proofs.layers.UpperShown.{without_last_of_longer}
+use Rattle.vt_layer_laws.proofs.views.After.{fails, prefixes_fail, lead_alike}
 use Rattle.vt_layer_laws.proofs.views.Entries.{is_that_entry}
 use Rattle.vt_layer_laws.proofs.views.Fronts.{cuts_alike}
 use Rattle.vt_layer_laws.proofs.views.Moves.{led_parts, no_way_up, old_leads_nowhere, through_is_split}
@@ -45,20 +45,20 @@ named_by tree directory name (word ∷ next ∷ rest) start e =
         (word ∷ found.0, ap (λ p. word ∷ p) found.1, ap (option_and_then (λ n. led tree n found.0)) f ∙ found.2)
 
 -- the fronts of a path with a word more
-pub fronts_longer : (test : List (List ℕ) → Bool) (way : List (List ℕ)) (name : List ℕ)
-    → list_any test (fronts (way ++ name ∷ [])) ≡ (list_any test (fronts way) || test (way ++ name ∷ []))
-fronts_longer test [] name = or-false (test (name ∷ []))
-fronts_longer test (word ∷ way) name =
-    ap (λ b. test (word ∷ []) || b) (list_any_of_map test (λ front. word ∷ front) (fronts (way ++ name ∷ []))
-    ∙ fronts_longer (λ front. test (word ∷ front)) way name
-    ∙ ap (λ b. b || test (word ∷ way ++ name ∷ [])) (sym (list_any_of_map test (λ front. word ∷ front) (fronts way))))
-    ∙ sym (or_assoc (test (word ∷ [])) (list_any test (map (λ front. word ∷ front) (fronts way)))
+pub prefixes_longer : (test : List (List ℕ) → Bool) (way : List (List ℕ)) (name : List ℕ)
+    → list_any test (prefixes (way ++ name ∷ [])) ≡ (list_any test (prefixes way) || test (way ++ name ∷ []))
+prefixes_longer test [] name = or-false (test (name ∷ []))
+prefixes_longer test (word ∷ way) name =
+    ap (λ b. test (word ∷ []) || b) (list_any_of_map test (λ front. word ∷ front) (prefixes (way ++ name ∷ []))
+    ∙ prefixes_longer (λ front. test (word ∷ front)) way name
+    ∙ ap (λ b. b || test (word ∷ way ++ name ∷ [])) (sym (list_any_of_map test (λ front. word ∷ front) (prefixes way))))
+    ∙ sym (or_assoc (test (word ∷ [])) (list_any test (map (λ front. word ∷ front) (prefixes way)))
     (test (word ∷ way ++ name ∷ [])))
 
 -- a layer that leads nowhere at a path, and on the way there as another
 shown_under : (before after : View ℕ) (lowers : List (View ℕ)) (way : List (List ℕ)) (name : List ℕ)
     → after.leads (way ++ name ∷ []) ≡ None → LeadAlikeTo way before after
-    → shown_from 0 (after ∷ lowers) (way ++ name ∷ []) ≡ below before lowers (way ++ name ∷ [])
+    → shown_from 0 (after ∷ lowers) (way ++ name ∷ []) ≡ shown_in_lowers before lowers (way ++ name ∷ [])
 shown_under before after lowers way name gone alike =
     ap (λ o. shown_over after 0 o (cuts after (way ++ name ∷ [])) (shown_from 1 lowers (way ++ name ∷ []))) gone
     ∙ by (cuts after (way ++ name ∷ [])) (shown_from 1 lowers (way ++ name ∷ []))
@@ -68,13 +68,13 @@ shown_under before after lowers way name gone alike =
     by true lower = refl
     by false lower = refl
 
-    cut : cuts after (way ++ name ∷ []) ≡ cuts before (front_of (way ++ name ∷ []))
+    cut : cuts after (way ++ name ∷ []) ≡ cuts before (without_last (way ++ name ∷ []))
     cut =
-        fronts_longer (λ front. hides (node_led after front)) way name
+        prefixes_longer (λ front. hides (node_led after front)) way name
         ∙ ap (λ o. cuts after way || hides (then_some o after.node)) gone
         ∙ or-false (cuts after way)
         ∙ cuts_alike way before after alike
-        ∙ ap (cuts before) (sym (front_of_longer way name))
+        ∙ ap (cuts before) (sym (without_last_of_longer way name))
 
 module _ (files : FileTree ℕ) (top directory : ℕ) (name : List ℕ) where
   pub is_named : (path : List (List ℕ)) → names_entry (view_in files top) directory name path ≡ true
@@ -87,7 +87,7 @@ module _ (files : FileTree ℕ) (top directory : ℕ) (name : List ℕ) where
       → names_entry (view_in files top) directory name (way ++ name ∷ []) ≡ true
       → goes_through (view_in files top) directory name (way ++ name ∷ []) ≡ true
   goes_through_named way e =
-      front_passes (names_entry (view_in files top) directory name) (way ++ name ∷ []) (way ++ name ∷ []) []
+      prefix_passes (names_entry (view_in files top) directory name) (way ++ name ∷ []) (way ++ name ∷ []) []
       (append-nil (way ++ name ∷ [])) (not_empty way) e
     where
       not_empty : (way : List (List ℕ)) → way ++ name ∷ [] ≢ []
@@ -116,10 +116,10 @@ removed_shows_below files top directory object name lowers tree is_top named pat
   where
     at : IsNamed files.tree top directory name path
         → shown_from 0 (view_after files (Remove directory name object) top ∷ lowers) path
-        ≡ below (view_in files top) lowers path
+        ≡ shown_in_lowers (view_in files top) lowers path
     at there =
         subst (λ p. shown_from 0 (view_after files (Remove directory name object) top ∷ lowers) p
-        ≡ below (view_in files top) lowers p) there.1
+        ≡ shown_in_lowers (view_in files top) lowers p) there.1
         (shown_under (view_in files top) (view_after files (Remove directory name object) top) lowers there.0 name
         (remove_ends_paths files top directory object name (there.0 ++ name ∷ [])
         ∙ ap (λ b. cond b None (led files.tree top (there.0 ++ name ∷ [])))
@@ -134,12 +134,12 @@ moved_shows_below files top from to object old new lowers tree is_top can path e
   where
     at : IsNamed files.tree top from old path
         → shown_from 0 (view_after files (Move from old to new object) top ∷ lowers) path
-        ≡ below (view_in files top) lowers path
+        ≡ shown_in_lowers (view_in files top) lowers path
     at there =
         let elsewhere : goes_through (view_in files top) to new (there.0 ++ old ∷ [])
         ≡ false = ap (goes_through (view_in files top) to new) there.1 ∙ apart in
         subst (λ p. shown_from 0 (view_after files (Move from old to new object) top ∷ lowers) p
-        ≡ below (view_in files top) lowers p) there.1
+        ≡ shown_in_lowers (view_in files top) lowers p) there.1
         (shown_under (view_in files top) (view_after files (Move from old to new object) top) lowers there.0 old
         (old_leads_nowhere files top from to object old new can (there.0 ++ old ∷ []) elsewhere
         ∙ ap (λ b. cond b None (led files.tree top (there.0 ++ old ∷ [])))
@@ -148,10 +148,10 @@ moved_shows_below files top from to object old new lowers tree is_top can path e
         (way_goes_elsewhere files top from old tree object can.named there.0 there.2))))
       where
         none_left : (test : List (List ℕ) → Bool) (way : List (List ℕ))
-            → list_any test (fronts (way ++ old ∷ [])) ≡ false → list_any test (fronts way) ≡ false
+            → list_any test (prefixes (way ++ old ∷ [])) ≡ false → list_any test (prefixes way) ≡ false
         none_left test [] none = refl
         none_left test (word ∷ way) none =
-            fronts_fail test (word ∷ way ++ old ∷ []) (word ∷ way) (old ∷ [], refl, cons_is_not_empty word way) none
+            prefixes_fail test (word ∷ way ++ old ∷ []) (word ∷ way) (old ∷ [], refl, cons_is_not_empty word way) none
 
         neither : (way : List (List ℕ)) → goes_through (view_in files top) to new (way ++ old ∷ []) ≡ false
             → goes_through (view_in files top) from old way ≡ false

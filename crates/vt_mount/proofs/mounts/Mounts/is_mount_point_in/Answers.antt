@@ -11,7 +11,7 @@ use Rattle.vt_mount.specs.Indexes.{is_over}
 use Rattle.vt_mount.specs.MountsValue.{in_order, mounts_in, stands_over}
 use Rattle.vt_mount.proofs.PlaceLemmas.{counts, numbers-seen, over-agrees, slot_limit}
 use Rattle.vt_mount.proofs.PointLemmas.{any-over}
-use Rattle.vt_mount.proofs.mounts.Mounts.is_point_in.Goals as goal
+use Rattle.vt_mount.proofs.mounts.Mounts.is_mount_point_in.Goals as goal
 
 pub returns : goal.returns
 returns c =

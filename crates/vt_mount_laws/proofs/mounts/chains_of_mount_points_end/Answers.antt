@@ -1,5 +1,5 @@
 use Rattle.vt_mount_laws.proofs.mounts.MountsEnding.{flags_keep_places_ending, inheritance_keeps_places_ending, type_keeps_places_ending}
-use Rattle.vt_mount_laws.proofs.mounts.places_below_come_to_an_end.Goals as goal
+use Rattle.vt_mount_laws.proofs.mounts.chains_of_mount_points_end.Goals as goal
 
 pub returns-clause-types : goal.returns-clause-types
 returns-clause-types c = type_keeps_places_ending

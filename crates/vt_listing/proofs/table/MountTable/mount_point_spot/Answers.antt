@@ -2,7 +2,7 @@ use Rattle.std.proofs.Common.{subst, ◌∙◌}
 use Rattle.std.proofs.lemmas.Result.{IfOk-weaker}
 use Rattle.vt_location.specs.declared.numbers.FilesystemId.{FilesystemId}
 use Rattle.vt_listing.proofs.MountPaths.{HasOwnNumbers, place_missing, place_there}
-use Rattle.vt_listing.proofs.table.MountTable.place_spot.Goals as goal
+use Rattle.vt_listing.proofs.table.MountTable.mount_point_spot.Goals as goal
 
 pub returns-in-Some-clause-ok : goal.returns-in-Some-clause-ok
 returns-in-Some-clause-ok c = IfOk-weaker c.spot_under.result _ _

@@ -1,6 +1,6 @@
 use Rattle.vt_mount_laws.proofs.propagation.PropagationAttaching.{copies_are_new, each_is_copied, first_stands_on_its_part, others_stand_on_copies}
 use Rattle.vt_mount_laws.proofs.propagation.PropagationPremises.{binds_can, moves_can, new_mounts_can}
-use Rattle.vt_mount_laws.proofs.propagation.copies_take_their_place.Goals as goal
+use Rattle.vt_mount_laws.proofs.propagation.copies_take_their_mount_points.Goals as goal
 
 pub returns-clause-binds : goal.returns-clause-binds
 returns-clause-binds c = binds_can

@@ -1,11 +1,11 @@
 use Rattle.std.proofs.Common.{◌∙◌, arith, is_some, sym}
 use Rattle.vt_ns.proofs.looking.LooksKept.{no_points, points_seen}
-use Rattle.vt_ns.proofs.looking.WorldLook.is_point_anywhere.Goals as goal
+use Rattle.vt_ns.proofs.looking.WorldLook.is_mount_point_anywhere.Goals as goal
 use Rattle.vt_ns.specs.contracts.world.World.{the_view}
 
 pub returns-then-is_seen : goal.returns-then-is_seen
 returns-then-is_seen c =
-    c.is_point_anywhere.ensures
+    c.is_mount_point_anywhere.ensures
     ∙ points_seen (the_view c.self.inside) c.args.self.now c.self.view_is c.self.invariant c.args.at (omega arith)
     (λ mount. is_some mount.namespace) (sym c.is_seen.ensures ∙ c.if-is_seen.true)
 

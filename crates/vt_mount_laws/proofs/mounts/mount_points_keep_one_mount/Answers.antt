@@ -2,7 +2,7 @@ use Rattle.vt_mount_laws.proofs.mounts.MountsApart.{flags_keep_apart, inheritanc
 use Rattle.vt_mount_laws.proofs.ends.UnmountingNamespaces.{ended_namespaces_leave_one_mount_a_place}
 use Rattle.vt_mount_laws.proofs.ends.UnmountingPlaces.{unmount_leaves_one_mount_a_place}
 use Rattle.vt_mount_laws.proofs.ends.UnmountingTrees.{trees_leave_one_mount_a_place}
-use Rattle.vt_mount_laws.proofs.mounts.places_keep_one_mount.Goals as goal
+use Rattle.vt_mount_laws.proofs.mounts.mount_points_keep_one_mount.Goals as goal
 
 pub returns-clause-unmount : goal.returns-clause-unmount
 returns-clause-unmount c = unmount_leaves_one_mount_a_place
