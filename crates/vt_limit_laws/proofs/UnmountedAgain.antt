@@ -22,14 +22,14 @@ use Rattle.vt_spec.specs.Machine.Settled.{filesystem_lives, has_layer_on, is_mou
 use Rattle.vt_spec.specs.Machine.World.{Filesystem, Layer, Namespace, Task, World, all_locations, filesystem_numbered, is_overlay, layers_of, mount_at, mount_numbered, no_filesystem}
 use Rattle.vt_spec.specs.Tree.{is_directory_node}
 use Rattle.vt_spec.proofs.Found.{filter_all, found_among, found_passes}
-use Rattle.vt_spec.proofs.Lists.{Among, among-append, among-append_left, among-append_right, among-flat_map, among_from_all, none_among, none_from_among}
+use Rattle.vt_spec.proofs.Lists.{Among, among-append, among-append_left, among-append_right, among-flat_map, among_from_all, map_alike, none_among, none_from_among}
 use Rattle.vt_spec.proofs.Truths.{nat_eq_false_turned}
 use Rattle.vt_mount_laws.specs.Mounts.Attaching.{numbers_of}
 use Rattle.vt_mount_laws.proofs.mounts.MountsNumbered.{is_one_of}
 use Rattle.vt_mount_laws.proofs.mounts.MountsReplaced.{found-append}
 use Rattle.vt_letting_go.specs.Detaching.{StandsUnshared, detached_if, without_place}
 use Rattle.vt_letting_go.specs.InUse.{AllInUse}
-use Rattle.vt_letting_go.proofs.Lists.{map_alike, passes}
+use Rattle.vt_letting_go.proofs.Lists.{passes}
 use Rattle.vt_letting_go.proofs.leaving.Detached.{unmount_is_of_one}
 use Rattle.vt_letting_go.proofs.leaving.PlacesLeft.{place_attached}
 use Rattle.vt_letting_go.proofs.sweeps.InUse.{groups_stay, inodes_stay}
