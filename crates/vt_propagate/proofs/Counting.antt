@@ -21,11 +21,10 @@ use Rattle.vt_mount.proofs.EntryLemmas.{same_count}
 use Rattle.vt_propagate.specs.Filling.{GrowsBy, MovesFrom, is_overfilled, leaving, mount_count, parts_in}
 use Rattle.vt_propagate.specs.declared.filling.Load.{Load}
 use Rattle.vt_propagate.proofs.Found.{numbered}
-use Rattle.vt_propagate.proofs.Leaving.{found_one, same_from}
 use Rattle.vt_propagate.proofs.TakingPart.{receivers_there}
 use Rattle.vt_spec.proofs.Truths.{same_truth}
 use Rattle.vt_letting_go.proofs.Lists.{found_in}
-use Rattle.vt_mount_laws.specs.Mounts.Attaching.{numbers_of, OneNumberAMount}
+use Rattle.vt_mount_laws.specs.Mounts.Attaching.{OneNumberAMount, numbers_of}
 use Rattle.vt_mount.specs.Indexes.{same_namespace, is_in as is_part_in}
 use Rattle.vt_letting_go.specs.Ends.{is_in}
 
