@@ -49,6 +49,11 @@ none_on world [] e = refl
 none_on world (top ∷ rest) e =
     absurd (trees_are_some (length world.mounts) world.mounts top (flat_map (mount_tree nat_eq world.mounts) rest) e)
 
+-- a list that is empty has none
+pub none_counted : (ids : List MountId) → length ids ≡ 0 → map (λ id. counted id.count) ids ≡ []
+none_counted [] none = refl
+none_counted (id ∷ ids) none = absurd cc
+
 -- one that is not empty has some
 pub some_counted : (ids : List MountId) → length ids ≢ 0 → map (λ id. counted id.count) ids ≢ []
 some_counted [] some e = some refl

@@ -171,13 +171,13 @@ module _ (value : WorldValue) (held : IsHeld value) (name : TaskName) (from : Lo
       → LeaveTogether gone (kept value.mounts filesystems) value.groups (kept mounts others) groups
       → IsDone value name permit (record (remade value mounts others value.tasks) { groups = groups })
   rename_is_done filesystems others mounts groups some changes together =
-      let seen = Renaming.seen value held name from old to new object replaced small small_to small_object permits in
+      let seen = Renaming.from_seen value held name from old to new object replaced small small_to small_object permits in
       let made : ChangesFiles value (location_of from) change filesystems = record {
         entry = seen.entry;
         among = seen.among;
         found = seen.found;
         shows = seen.shows;
-        fits = Renaming.fits value held name from old to new object replaced small small_to small_object permits
+        fits = Renaming.change_fits value held name from old to new object replaced small small_to small_object permits
             (inodes_seen seen.entry) refl;
         links = tt;
         changes =

@@ -8,12 +8,11 @@ use Rattle.vt_detach.specs.Events.{Becomes, Permits}
 use Rattle.vt_detach.specs.Uses.{kept}
 use Rattle.vt_detach.proofs.ChangedFiles.{with_filesystems}
 use Rattle.vt_ns.proofs.world.DirectoryRemoved.{alone_is_removed, collected_are, directory_is_removed}
-use Rattle.vt_ns.proofs.world.MountsOn.{some_counted}
+use Rattle.vt_ns.proofs.world.MountsOn.{none_counted, some_counted}
 use Rattle.vt_ns.proofs.world.FileRemoving.{removal_fits, removed_in}
 use Rattle.vt_detach.proofs.Remaining.{remade}
 use Rattle.vt_ns.proofs.world.World.remove_directory.Goals as goal
 use Rattle.vt_ns.proofs.world.World.remove_directory.Goals.{then-not-is_empty, else-not-is_empty}
-use Rattle.vt_propagate.proofs.lazily.LazyOrder.{none_counted}
 
 pub unlink-requires-clause-one_filesystem : goal.unlink-requires-clause-one_filesystem
 unlink-requires-clause-one_filesystem c =

@@ -7,13 +7,12 @@ use Rattle.vt_detach.specs.Detached.{LeaveTogether}
 use Rattle.vt_detach.specs.Events.{Becomes, Permits}
 use Rattle.vt_detach.specs.Uses.{kept}
 use Rattle.vt_detach.proofs.ChangedFiles.{with_filesystems}
-use Rattle.vt_ns.proofs.world.MountsOn.{some_counted}
+use Rattle.vt_ns.proofs.world.MountsOn.{none_counted, some_counted}
 use Rattle.vt_ns.proofs.world.FileRenaming.{rename_fits, rename_alone_is_done, renamed_object, renamed_to}
 use Rattle.vt_ns.proofs.world.RenamedOver.{nothing_on_replaced, rename_is_done, replaced_collected}
 use Rattle.vt_detach.proofs.Remaining.{remade}
 use Rattle.vt_ns.proofs.world.World.rename.Goals as goal
 use Rattle.vt_ns.proofs.world.World.rename.Goals.{then-not-is_empty, else-not-is_empty}
-use Rattle.vt_propagate.proofs.lazily.LazyOrder.{none_counted}
 
 pub rename-requires-clause-one_filesystem : goal.rename-requires-clause-one_filesystem
 rename-requires-clause-one_filesystem c =
