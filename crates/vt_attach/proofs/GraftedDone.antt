@@ -58,7 +58,7 @@ use Rattle.vt_attach.specs.PlannedUses.{point_seen}
 use Rattle.vt_attach.specs.Room.{has_small_slots}
 use Rattle.vt_attach.proofs.AddedUses.{gained_by, showing}
 use Rattle.vt_attach.proofs.AttachedCounts.{unused_counts}
-use Rattle.vt_attach.proofs.EnteringLemmas.{mounts_entered}
+use Rattle.vt_mount.proofs.EnteringLemmas.{mounts_entered}
 use Rattle.vt_attach.proofs.FormedGroups.{formed_groups_begin, groups_of_copies_are_named}
 use Rattle.vt_attach.proofs.GraftedUses.{after, changed_at, exchanged_then, gained_there, nothing_goes}
 use Rattle.vt_attach.proofs.GrownGroups.{ascending_rises, attached_worlds_grow}

@@ -46,7 +46,8 @@ use Rattle.vt_attach.specs.PlannedUses.{point_seen}
 use Rattle.vt_attach.specs.Room.{has_small_slots}
 use Rattle.vt_attach.proofs.AddedUses.{IsFoundIn, gained_by, mounts_are_gained}
 use Rattle.vt_attach.proofs.AttachedWorlds.{new_found, new_uses_there, there_in}
-use Rattle.vt_attach.proofs.EnteringLemmas.{apart, mounts_entered}
+use Rattle.vt_mount.proofs.EnteringLemmas.{mounts_entered}
+use Rattle.vt_attach.proofs.EnteringLemmas.{apart}
 use Rattle.vt_attach.proofs.MovedPoints.{points_are_moved}
 use Rattle.vt_attach.proofs.PlacedUses.{points_are_uses}
 use Rattle.vt_attach.proofs.PlannedCounts.{inodes_of_points}

@@ -72,7 +72,8 @@ use Rattle.vt_attach.specs.PlannedUses.{point_seen}
 use Rattle.vt_attach.proofs.AddedUses.{gained_by}
 use Rattle.vt_attach.proofs.AttachedCounts.{lower_numbers}
 use Rattle.vt_attach.proofs.Binding.{group_there, is_seen, same_base}
-use Rattle.vt_attach.proofs.EnteringLemmas.{apart, mounts_entered}
+use Rattle.vt_mount.proofs.EnteringLemmas.{mounts_entered}
+use Rattle.vt_attach.proofs.EnteringLemmas.{apart}
 use Rattle.vt_attach.proofs.FormedGroups.{formed_groups_begin, groups_of_copies_are_named}
 use Rattle.vt_attach.proofs.GraftedDone.{IsEntered, counts_then, from_base, grafted_value, own_then, same_numbers}
 use Rattle.vt_attach.proofs.GraftedUses.{after, changed_at, exchanged_then, gained_there}

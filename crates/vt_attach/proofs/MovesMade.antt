@@ -1,4 +1,4 @@
--- Mounts that moved after others had come: where they are then, and which mount points they got and left.
+-- Mounts that moved: which mount points they got and left.
 use Rattle.std.proofs.Common.{◌≡◌, refl, sym, ap, ◌∙◌, ℕ, ◌+◌, ◌<◌, nat_eq, eqb-true, Bool, true, false, cond, ◌&&◌, List, [], ◌∷◌, ◌++◌, Option, Some, None, filter, flat_map, get_or, is_some, length, map, option_map, take, arith}
 use Rattle.std.specs.Prelude.{nat_lt, option_to_list}
 use Rattle.std.specs.Option.{option_and_then}
@@ -16,72 +16,9 @@ use Rattle.vt_location.specs.Numbers.{counted}
 use Rattle.vt_mount.specs.declared.moving.Moved.{Moved}
 use Rattle.vt_mount.specs.Moving.{all_moves, has_small_slot, is_small as has_small_points, move_of, moves_by}
 use Rattle.vt_mount.specs.MountsValue.{MountEntry, are_ascending, entry_numbered, mounts_in}
-use Rattle.vt_mount.proofs.ComingLemmas.{moves-coming, points-coming}
 use Rattle.vt_spec.specs.Machine.Mounts as meant
-use Rattle.vt_attach.specs.Planned.{AreMoves, Point, exists_in, is_small, left_of, points_left, points_taken, taken_of, with_points}
-use Rattle.vt_detach.specs.Uses.{unused_entry}
+use Rattle.vt_attach.specs.Planned.{AreMoves, Point, is_small, left_of, points_left, points_taken, taken_of, with_points}
 use Rattle.vt_attach.proofs.PlannedMoves.{mapped_points}
-
--- The points of mounts that exist, one after the other
-
-pub existing_next : (entries : List MountEntry) (points : List Point) (i : ℕ) (d : Point) → i < length points
-    → (b : Bool) → exists_in entries (get_or points i d) ≡ b → (before after : List Point)
-    → before ≡ filter (exists_in entries) (take i points) → after ≡ before ++ cond b (get_or points i d ∷ []) []
-    → after ≡ filter (exists_in entries) (take (i + 1) points)
-existing_next entries points i d less b there before after so_far step =
-    step ∙ (λ j. so_far j ++ cond (sym there j) (get_or points i d ∷ []) [])
-    ∙ sym (filter_more (exists_in entries) points i d less)
-
--- Mounts that come have other numbers than those that were there
-
-none_above : (number : ℕ) (new : List Mount)
-    → list_all (λ (later : meant.Mount ℕ). nat_lt number later.number) (map mount_of new) ≡ true
-    → is_some (entry_numbered (map unused_entry new) number) ≡ false
-none_above number [] all = refl
-none_above number (mount ∷ new) all =
-    let parts = and_parts (nat_lt number (counted mount.number.count))
-    (list_all (λ (later : meant.Mount ℕ). nat_lt number later.number) (map mount_of new)) all in
-    let less = ltb-true number (counted mount.number.count) parts.0 in
-    ap (λ b. is_some (cond b (Some (unused_entry mount)) (entry_numbered (map unused_entry new) number)))
-    (ne_eqb number (counted mount.number.count) (λ same. absurd (omega (arith, less, same))))
-    ∙ none_above number new parts.1
-
-come_apart : (old : List MountEntry) (new : List Mount) → are_ascending (mounts_in old ++ map mount_of new) ≡ true
-    → (number : ℕ) → is_some (entry_numbered old number) ≡ true
-    → is_some (entry_numbered (map unused_entry new) number) ≡ false
-come_apart [] new ascending number there = absurd cc
-come_apart (entry ∷ old) new ascending number there =
-    by (nat_eq number entry.mount.number) refl there (come_apart old new parts.1 number)
-  where
-    later : meant.Mount ℕ → Bool
-    later mount = nat_lt entry.mount.number mount.number
-
-    parts : (list_all later (mounts_in old ++ map mount_of new) ≡ true)
-        × (are_ascending (mounts_in old ++ map mount_of new) ≡ true)
-    parts = and_parts (list_all later (mounts_in old ++ map mount_of new))
-        (are_ascending (mounts_in old ++ map mount_of new)) ascending
-
-    by : (b : Bool) → nat_eq number entry.mount.number ≡ b
-        → is_some (cond b (Some entry) (entry_numbered old number)) ≡ true
-        → (is_some (entry_numbered old number) ≡ true → is_some (entry_numbered (map unused_entry new) number) ≡ false)
-        → is_some (entry_numbered (map unused_entry new) number) ≡ false
-    by true same found rest =
-        ap (λ n. is_some (entry_numbered (map unused_entry new) n)) (eqb-true number entry.mount.number same)
-        ∙ none_above entry.mount.number new (and_parts (list_all later (mounts_in old))
-        (list_all later (map mount_of new))
-        (sym (list_all-append later (mounts_in old) (map mount_of new)) ∙ parts.0)).1
-    by false same found rest = rest found
-
-pub points_come : (old : List MountEntry) (new : List Mount) (points : List Point)
-    → are_ascending (mounts_in old ++ map mount_of new) ≡ true
-    → with_points (filter (exists_in old) points) (old ++ map unused_entry new)
-    ≡ with_points points old ++ map unused_entry new
-points_come old new points ascending = points-coming old (map unused_entry new) (come_apart old new ascending) points
-
-pub moves_come : (old : List MountEntry) (new : List Mount) (points : List Point)
-    → are_ascending (mounts_in old ++ map mount_of new) ≡ true
-    → all_moves (filter (exists_in old) points) (old ++ map unused_entry new) ≡ all_moves points old
-moves_come old new points ascending = moves-coming old (map unused_entry new) (come_apart old new ascending) points
 
 -- The mount points that were taken and left
 

@@ -22,9 +22,8 @@ use Rattle.vt_mount.specs.MountsValue.{MountEntry, are_ascending, entry_numbered
 use Rattle.vt_spec.specs.Lists.{folded}
 use Rattle.vt_spec.specs.Machine.Mounts as meant
 use Rattle.vt_attach.specs.Planned.{Point, left_of, pinned_by, placed_entry, points_taken, taken_at, taken_of, unpinned_by, with_points}
-use Rattle.vt_attach.specs.Room.{has_room, most_counted, point_has_room, uses_shown, without_one}
-use Rattle.vt_detach.specs.Uses.{inode_of, mounts_shown, unused_entry}
-use Rattle.vt_attach.proofs.EnteringLemmas.{all_taken}
+use Rattle.vt_attach.specs.Room.{has_room, most_counted, point_has_room, uses_shown}
+use Rattle.vt_detach.specs.Uses.{inode_of, mounts_shown}
 use Rattle.vt_detach.proofs.Shown.{found_entry, is_some_mapped, pins}
 use Rattle.vt_attach.proofs.RoomLemmas.{folded_more, not_refused, pinned_mounts, pinned_uses, uses_are_shown}
 use Rattle.vt_detach.proofs.LostUses.{folded_append}
@@ -35,15 +34,6 @@ pub number_stays : (place : Location) (entry : MountEntry) (b : Bool)
     → (cond b (placed_entry place entry) entry).mount.number ≡ entry.mount.number
 number_stays place entry true = refl
 number_stays place entry false = refl
-
--- What a look at the mounts tells of a mount that moves
-
-pub there_is : (entries : List MountEntry) (number : ℕ) (result : Option Mount)
-    → option_map mount_of result ≡ find (λ (mount : meant.Mount ℕ). nat_eq number mount.number) (mounts_in entries)
-    → is_some (entry_numbered entries number) ≡ is_some result
-there_is entries number result is =
-    sym (is_some_mapped (λ (entry : MountEntry). entry.mount) (entry_numbered entries number))
-    ∙ ap is_some (sym (found_entry number entries) ∙ sym is) ∙ is_some_mapped mount_of result
 
 pub mapped_points : (o : Option Location)
     → map location_of (option_to_list o) ≡ option_to_list (option_map location_of o)
@@ -216,11 +206,3 @@ place_next most filesystems points i d less so_far n is few =
     let same = uses_are_shown node.filesystem.count (number_of node) filesystems in
     list_all_more (λ (point : Point). point_has_room most (shown filesystems) (Some point.place)) points i d less
     ∙ (λ j. so_far j && le-leb (uses_shown (inode_of node) (shown filesystems)) most (omega (arith, is, few, same)) j)
-
--- mounts that came go again
-pub entered_undone : (old : List MountEntry) (new : List Mount)
-    → are_ascending (mounts_in old ++ map mount_of new) ≡ true
-    → folded without_one (old ++ map unused_entry new) new ≡ old
-entered_undone old new ascending =
-    ap (folded without_one (old ++ map unused_entry new)) (sym (append-nil new))
-    ∙ all_taken old new [] (ap (λ all. are_ascending (mounts_in old ++ map mount_of all)) (append-nil new) ∙ ascending)

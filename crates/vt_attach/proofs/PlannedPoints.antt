@@ -11,7 +11,6 @@ use Rattle.vt_letting_go.proofs.Lists.{Among, among-append, among-map, any-map, 
 use Rattle.vt_location.specs.declared.locations.Location.{Location}
 use Rattle.vt_location.specs.Locations.{location_of}
 use Rattle.vt_location.specs.Numbers.{counted}
-use Rattle.vt_mount.proofs.ComingLemmas.{found-front}
 use Rattle.vt_mount.specs.MountsValue.{MountEntry, changed, entry_numbered, mounts_in}
 use Rattle.vt_propagate.specs.Falling.{moved_by}
 use Rattle.vt_propagate.specs.Pushing.{MovesOnce}
@@ -32,6 +31,21 @@ Once points = any_pair (λ (a b : ℕ × meant.Location ℕ). nat_eq a.0 b.0) (m
 
 abbrev Here : List Point → List MountEntry → Type 0
 Here points entries = (point : Point) → Among point points → is_some (entry_numbered entries (number_at point)) ≡ true
+
+-- one that is among the first is found there
+found-among_first : (number : ℕ) (first later : List MountEntry) → is_some (entry_numbered first number) ≡ true
+    → entry_numbered (first ++ back) number ≡ entry_numbered first number
+found-among_first number [] back some = absurd cc
+found-among_first number (entry ∷ first) back some =
+    by (nat_eq number entry.mount.number) some (found-among_first number first later)
+  where
+    by : (b : Bool) → is_some (cond b (Some entry) (entry_numbered first number)) ≡ true
+        → (is_some (entry_numbered first number) ≡ true
+        → entry_numbered (first ++ back) number ≡ entry_numbered first number)
+        → cond b (Some entry) (entry_numbered (first ++ back) number)
+        ≡ cond b (Some entry) (entry_numbered first number)
+    by true some rest = refl
+    by false some rest = rest some
 
 -- The entry of another mount stays
 
@@ -110,7 +124,7 @@ taken_first : (points : List Point) (front back : List MountEntry) → Here poin
 taken_first [] front back here = refl
 taken_first (point ∷ rest) front back here = λ i.
     taken_first rest front back (λ other m. here other (inr m)) i
-    ++ cond (is_some (found-front (number_at point) front back (here point (inl refl)) i)) (point.place ∷ []) []
+    ++ cond (is_some (found-among_first (number_at point) front back (here point (inl refl)) i)) (point.place ∷ []) []
 
 left_first : (points : List Point) (front back : List MountEntry) → Here points front
     → left_now points (front ++ back) ≡ left_now points front
@@ -118,7 +132,7 @@ left_first [] front back here = refl
 left_first (point ∷ rest) front back here = λ i.
     left_first rest front back (λ other m. here other (inr m)) i
     ++ option_to_list (option_and_then (λ (entry : MountEntry). entry.mount.mount_point)
-    (found-front (number_at point) front back (here point (inl refl)) i))
+    (found-among_first (number_at point) front back (here point (inl refl)) i))
 
 -- Where they come from
 

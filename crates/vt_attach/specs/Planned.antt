@@ -18,10 +18,6 @@ use Rattle.vt_detach.specs.Uses.{Kept, inode_of, pinned_in, point_of, shown_by, 
 abbrev pub Point : Type 0
 Point = NewPoint
 
--- its mount exists
-abbrev pub exists_in : List MountEntry → Point → Bool
-exists_in entries point = is_some (entry_numbered entries (counted point.mount.count))
-
 -- the mount points that a mount gets and leaves so, if it is there
 abbrev pub taken_at : Point → List MountEntry → List Location
 taken_at point entries = if is_some (entry_numbered entries (counted point.mount.count)) then point.place ∷ [] else []

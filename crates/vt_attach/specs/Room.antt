@@ -1,11 +1,10 @@
--- Room for the uses that new mounts make, and mounts that are taken out again.
+-- Room for the uses that new mounts make.
 use Rattle.std.specs.Prelude.{Bool, List, None, Option, Some, find, nat_eq, nat_le, nat_lt, option_map, true, unwrap_or, ℕ, ◌&&◌}
 use Rattle.vt_fs.specs.FilesystemsValue.{Shown}
 use Rattle.vt_letting_go.specs.OneByOne.{Inode}
 use Rattle.vt_location.specs.declared.locations.Location.{Location}
 use Rattle.vt_location.specs.declared.mounts.Mount.{Mount}
 use Rattle.vt_location.specs.Numbers.{counted}
-use Rattle.vt_mount.specs.MountsValue.{MountEntry, without}
 use Rattle.vt_spec.specs.Inodes.{uses_in}
 use Rattle.vt_detach.specs.Uses.{inode_of, mounts_shown}
 
@@ -36,7 +35,3 @@ point_is_small (Some point) = nat_lt point.node.slot 18446744073709551616
 -- the inodes of its root and of its mount point are in slots
 abbrev pub has_small_slots : Mount → Bool
 has_small_slots mount = nat_lt mount.root.slot 18446744073709551616 && point_is_small mount.mount_point
-
--- without the mount of this number
-abbrev pub without_one : List MountEntry → Mount → List MountEntry
-without_one entries mount = without (counted mount.number.count) entries

@@ -1,20 +1,14 @@
-//! What the attachment of mounts is made of: room for their uses, their entries, and their uses.
-ghost use Rattle.std.specs.Prelude.{◌≡◌, ◌++◌, ◌-◌, ◌*◌, IfErr, OnErr, OnOk, length, map, true};
+//! What the attachment of mounts is made of beside their entries: room for their uses, and their uses.
+ghost use Rattle.std.specs.Prelude.{◌≡◌, ◌-◌, ◌*◌, length, true};
 ghost use Rattle.std.specs.List.{list_all};
 ghost use Rattle.vt_fs.specs.FilesystemsValue.{shown};
-ghost use Rattle.vt_location.specs.MountValue.{mount_of};
-ghost use Rattle.vt_mount.specs.MountsValue.{are_ascending, mounts_in};
-ghost use Rattle.vt_spec.specs.declared.errors.Rule.TheVariants.{S5};
-ghost use Rattle.vt_spec.specs.Errors.{denial};
 ghost use Rattle.vt_spec.specs.Lists.{folded};
 ghost use Rattle.vt_attach.specs.Room as meant;
-ghost use Rattle.vt_attach.specs.Room.{has_small_slots, most_counted, point_is_small, without_one};
-ghost use Rattle.vt_detach.specs.Uses.{pinned_at, shown_by, unused_entry};
+ghost use Rattle.vt_attach.specs.Room.{has_small_slots, most_counted, point_is_small};
+ghost use Rattle.vt_detach.specs.Uses.{pinned_at, shown_by};
 
 use vt_fs::Filesystems;
 use vt_location::{Location, Mount};
-use vt_mount::Mounts;
-use vt_spec::errors::{Deny, Rule};
 
 // Whether the roots, the mount points and the filesystems of mounts have no more uses than so many.
 pub(crate) fn have_room(filesystems: &Filesystems, new: &[Mount], most: u64) -> bool
@@ -47,31 +41,6 @@ fn point_has_room(filesystems: &Filesystems, point: Option<Location>, most: u64)
     match point {
         Some(point) => filesystems.uses(point.node) <= most,
         None => true,
-    }
-}
-
-// Adds mounts after all others, or none.
-pub(crate) fn enter_all(mounts: &mut Mounts, new: &[Mount]) -> Result<(), Deny>
-    requires { are_ascending (mounts_in mounts.old ++ map mount_of new.now) ≡ true }
-    ensures ok { OnOk result (mounts.new ≡ mounts.old ++ map unused_entry new.now) }
-    ensures memory { IfErr result (λ deny. deny ≡ denial S5) }
-    ensures err { OnErr result (mounts.new ≡ mounts.old) }
-{
-    for mount in new {
-        if let Err(deny) = mounts.attach(*mount) {
-            remove_all(mounts, new);
-            return Err(deny);
-        }
-    }
-    Ok(())
-}
-
-// Removes those of the mounts that exist.
-pub(crate) fn remove_all(mounts: &mut Mounts, new: &[Mount])
-    ensures { mounts.new ≡ folded without_one mounts.old new.now }
-{
-    for mount in new {
-        mounts.remove(mount.number);
     }
 }
 

@@ -52,7 +52,7 @@ pub fn attach_copies(
         groups: &[],
         points: &[],
     };
-    attach_planned(alloc, mounts, groups, filesystems, &plan)?;
+    attach_planned(mounts, groups, filesystems, &plan)?;
     Ok(())
 }
 

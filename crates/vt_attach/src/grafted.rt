@@ -43,6 +43,6 @@ pub fn attach_graft(
         groups: &plan.groups,
         points: &plan.points,
     };
-    attach_planned(alloc, mounts, groups, filesystems, &planned)?;
+    attach_planned(mounts, groups, filesystems, &planned)?;
     Ok(())
 }

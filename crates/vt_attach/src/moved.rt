@@ -45,7 +45,7 @@ pub fn move_tree(
         groups: &plan.groups,
         points: &plan.points,
     };
-    attach_grouped(alloc, mounts, groups, filesystems, &planned, &plan.copies)?;
+    attach_grouped(mounts, groups, filesystems, &planned, &plan.copies)?;
     set_types(mounts, &plan.copies);
     Ok(())
 }

@@ -1,6 +1,6 @@
 //! Planned attachments: mounts get other mount points while others come, with their groups.
 ghost use Rattle.std.specs.List.{list_all};
-ghost use Rattle.std.specs.Prelude.{List, ◌≡◌, ◌++◌, ◌+◌, ◌-◌, ◌*◌, ◌≤◌, IfErr, IfOk, OnErr, OnOk, filter, length, map, option_to_list, Some, true};
+ghost use Rattle.std.specs.Prelude.{List, ◌≡◌, ◌++◌, ◌+◌, ◌-◌, ◌*◌, ◌≤◌, IfErr, IfOk, OnErr, OnOk, length, map, option_to_list, Some, true};
 ghost use Rattle.vt_fs.specs.FilesystemsValue.{shown};
 ghost use Rattle.vt_group.specs.Together.{GrowsTo, new_group, typed};
 ghost use Rattle.vt_location.specs.declared.locations.Location.{Location};
@@ -10,13 +10,12 @@ ghost use Rattle.vt_mount.specs.MountsValue.{are_ascending, mounts_in};
 ghost use Rattle.vt_spec.specs.declared.errors.Rule.TheVariants.{S5};
 ghost use Rattle.vt_spec.specs.Errors.{denial};
 ghost use Rattle.vt_spec.specs.Lists.{folded};
-ghost use Rattle.vt_attach.specs.Planned.{AreMoves, exists_in, is_small, left_of, pinned_by, points_left, points_taken};
+ghost use Rattle.vt_attach.specs.Planned.{AreMoves, is_small, left_of, pinned_by, points_left, points_taken};
 ghost use Rattle.vt_attach.specs.Planned.{taken_of, unpinned_by, with_planned, with_points};
 ghost use Rattle.vt_attach.specs.Room.{has_room, has_small_slots, most_counted, point_has_room};
 ghost use Rattle.vt_detach.specs.Uses.{kept, unused_entry};
 
-use crate::attaching::{enter_all, have_room, remove_all, show_all};
-use std::alloc::Global;
+use crate::attaching::{have_room, show_all};
 use vt_fs::Filesystems;
 use vt_group::{Groups, NewGroup};
 use vt_location::{Location, Mount};
@@ -41,7 +40,6 @@ pub struct Planned<'a> {
 /// S5 (ENOMEM): an allocation failed, or an inode or a filesystem would have more than 2^64 - 1 uses. Nothing has
 /// changed then.
 pub fn attach_planned(
-    alloc: Global,
     mounts: &mut Mounts,
     groups: &mut Groups,
     filesystems: &mut Filesystems,
@@ -62,13 +60,12 @@ pub fn attach_planned(
     ensures err_groups { OnErr result (groups.new ≡ groups.old) }
     ensures err_filesystems { OnErr result (filesystems.new ≡ filesystems.old) }
 {
-    attach_grouped(alloc, mounts, groups, filesystems, plan, plan.copies)
+    attach_grouped(mounts, groups, filesystems, plan, plan.copies)
 }
 
 // A planned attachment, in which the groups get the types of these mounts: those that come, and maybe those that move.
 // The mounts that move keep their types in `mounts`.
 pub(crate) fn attach_grouped(
-    alloc: Global,
     mounts: &mut Mounts,
     groups: &mut Groups,
     filesystems: &mut Filesystems,
@@ -93,7 +90,7 @@ pub(crate) fn attach_grouped(
     if !plan_has_room(filesystems, plan) {
         return Err(Rule::S5.denial());
     }
-    let moved = enter_planned(alloc, mounts, groups, plan, types)?;
+    let moved = enter_planned(mounts, groups, plan, types)?;
     pin_all(filesystems, &moved);
     show_all(filesystems, plan.copies);
     unpin_all(filesystems, &moved);
@@ -133,9 +130,8 @@ fn places_have_room(filesystems: &Filesystems, points: &[NewPoint], most: u64) -
     true
 }
 
-// Mounts move and come with their groups, all or none. What moved is returned.
+// Mounts come and move with their groups, all or none. What moved is returned.
 fn enter_planned(
-    alloc: Global,
     mounts: &mut Mounts,
     groups: &mut Groups,
     plan: &Planned,
@@ -152,32 +148,9 @@ fn enter_planned(
     ensures err_mounts { OnErr result (mounts.new ≡ mounts.old) }
     ensures err_groups { OnErr result (groups.new ≡ groups.old) }
 {
-    // A point may name a mount that comes, which is not to move.
-    let there = existing(alloc, mounts, plan.points)?;
-    enter_all(mounts, plan.copies)?;
-    match mounts.move_all_then(&there, groups, |groups| groups.add(types, plan.groups)) {
-        Ok(moved) => Ok(moved),
-        Err(deny) => {
-            remove_all(mounts, plan.copies);
-            Err(deny)
-        }
-    }
-}
-
-// The new mount points of mounts that exist.
-fn existing(alloc: Global, mounts: &Mounts, points: &[NewPoint]) -> Result<Vec<NewPoint>, Deny>
-    ensures ok { IfOk result (λ there. there.items ≡ filter (exists_in mounts.now) points.now) }
-    ensures memory { IfErr result (λ deny. deny ≡ denial S5) }
-{
-    let mut there = Vec::new(alloc);
-    for point in points {
-        if mounts.get(point.mount).is_some() {
-            let Ok(()) = there.push(*point) else {
-                return Err(Rule::S5.denial());
-            };
-        }
-    }
-    Ok(there)
+    mounts.attach_all_then(plan.copies, plan.points, groups, |groups| {
+        groups.add(types, plan.groups)
+    })
 }
 
 // The inodes at the mount points that mounts got are used once more.

@@ -7,12 +7,12 @@ use Rattle.vt_letting_go.specs.OneByOne.{Inode}
 use Rattle.vt_location.specs.declared.locations.Location.{Location}
 use Rattle.vt_location.specs.declared.locations.NodeRef.{NodeRef}
 use Rattle.vt_location.specs.declared.mounts.Mount.{Mount as Attached}
-use Rattle.vt_location.specs.MountValue.{mount_of}
 use Rattle.vt_location.specs.Locations.{number_of}
 use Rattle.vt_location.specs.Numbers.{counted}
 use Rattle.vt_spec.specs.Lists.{folded}
 use Rattle.vt_spec.specs.Machine.Mounts.{Location as Place, Mount, detached}
 use Rattle.vt_mount.specs.MountsValue.{MountEntry, changed, entry_numbered, held, released, without}
+pub use Rattle.vt_mount.specs.MountsValue.{unused_entry}
 
 -- mounts and filesystems as they are counted
 pub record Kept : Type 0 where
@@ -134,9 +134,6 @@ mounted_in filesystem all = map (mounted_if filesystem) all
 abbrev pub shown_by : List Shown → Attached → List Shown
 shown_by all mount =
     mounted_in (counted mount.root.filesystem.count) (pinned_at mount.mount_point (pinned_in (inode_of mount.root) all))
-
-abbrev pub unused_entry : Attached → MountEntry
-unused_entry mount = record { mount = mount_of mount; uses = 0; writers = 0 }
 
 -- the mounts come after all others, and nothing is on them
 abbrev pub with_attached : List Attached → Kept → Kept

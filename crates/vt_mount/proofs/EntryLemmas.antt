@@ -1,5 +1,5 @@
 -- The entries that contracts see of what is kept.
-use Rattle.std.proofs.Common.{◌≡◌, ◌<◌, ◌≤◌, ℕ, suc, Bool, true, false, cond, ◌&&◌, List, [], ◌∷◌, ◌++◌, map, length, not, nat_eq, nat_lt, Option, None, Some, option_map, slice_get, refl, sym, ap, ◌∙◌, eq-eqb}
+use Rattle.std.proofs.Common.{◌≡◌, ℕ, suc, Bool, true, false, cond, ◌&&◌, List, [], ◌∷◌, ◌++◌, map, length, not, nat_eq, nat_lt, Option, None, Some, option_map, slice_get, refl, sym, ap, ◌∙◌, eq-eqb}
 use Rattle.std.specs.Prelude.{find as seek}
 use Rattle.std.proofs.lemmas.Bool.{eqb-true}
 use Rattle.std.specs.List.{IsDistinct, list_all}

@@ -156,3 +156,7 @@ not-err (Err e) fine p = absurd (true≢false (sym fine))
 pub is-refused : {A E P : Type 0} (r : Result A E) → true ≡ is_err r → OnErr r P → P
 is-refused (Ok a) refused p = absurd (true≢false refused)
 is-refused (Err e) refused p = p
+
+pub on-ok : {A E P Q : Type 0} (r : Result A E) → OnOk r P → (P → Q) → OnOk r Q
+on-ok (Ok a) p more = more p
+on-ok (Err e) p more = tt

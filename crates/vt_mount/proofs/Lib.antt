@@ -12,6 +12,6 @@ mod TreeSearchLemmas
 pub mod MoveLemmas
 pub mod SourceLemmas
 mod RisingLemmas
-mod RoomLemmas
-mod GoingBackLemmas
-pub mod ComingLemmas
+mod ExpectedLemmas
+mod NotedLemmas
+pub mod EnteringLemmas

@@ -8,6 +8,7 @@ use Rattle.std.proofs.lemmas.Bool.{ltb-true, ltb-false, not-true}
 use Rattle.std.proofs.lemmas.Bool.Decides.{nat_tests}
 use Rattle.std.proofs.lemmas.Cmp.{ranked}
 use Rattle.vt_location.specs.declared.numbers.MountId.{MountId}
+use Rattle.vt_mount.specs.Indexes.{pushed, put_in_place}
 use Rattle.vt_mount.specs.Rising.{IsAt, comes_last, inserted, none_below, rises, same_id}
 use Rattle.vt_spec.proofs.Truths.{and_true_left, and_true_right}
 
@@ -51,6 +52,21 @@ rises-push id (x ∷ list) last rising =
         both _ _ (and_true_left _ _ below) (kept x list less (and_true_right _ _ below))
 
 -- one that is inserted
+
+-- behind others, where it comes last
+inserted-last : (id : MountId) (list : List MountId) → comes_last id list ≡ true → inserted id list ≡ list ++ id ∷ []
+inserted-last id [] last = refl
+inserted-last id (x ∷ list) last =
+    ap (λ b. cond b (id ∷ x ∷ list) (x ∷ inserted id list)) (apart x.count (and_true_left _ _ last))
+    ∙ ap (λ rest. x ∷ rest) (inserted-last id list (and_true_right _ _ last))
+  where
+    apart : (n : ℕ) → nat_lt n id.count ≡ true → nat_lt id.count n ≡ false
+    apart n is = let less = ltb-true n id.count is in grind (arith, nat_tests)
+
+pub put_in_place-last : (here : Bool) (id : MountId) (list : List MountId) → comes_last id list ≡ true
+    → put_in_place here id list ≡ pushed here id list
+put_in_place-last true id list last = inserted-last id list last
+put_in_place-last false id list last = refl
 
 lower : (id y : MountId) (list : List MountId) → id.count < y.count → none_below y list ≡ true
     → none_below id list ≡ true

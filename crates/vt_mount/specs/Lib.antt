@@ -6,6 +6,5 @@ pub mod Indexes
 pub mod Indexed
 pub mod Waiting
 pub mod Sources
-pub mod Capacity
 pub mod Moving
-pub mod GoingBack
+pub mod Expected

@@ -17,6 +17,10 @@ pub record MountEntry : Type 0 where
   pub uses : ℕ
   pub writers : ℕ
 
+-- a mount that nothing uses yet
+abbrev pub unused_entry : Mount → MountEntry
+unused_entry mount = record { mount = mount_of mount; uses = 0; writers = 0 }
+
 abbrev pub mounts_in : List MountEntry → List (meant.Mount ℕ)
 mounts_in entries = map (λ entry. entry.mount) entries
 

@@ -1,6 +1,6 @@
 //! Mounts in the order of their numbers.
-ghost use Rattle.std.specs.Prelude.{◌≡◌, ◌==◌, ◌++◌, ◌∷◌, ◌<◌, ◌≤◌, [], IfErr, IfOk, IsTrue, OnErr, OnOk, filter, not, true, vec_capacity, vec_len};
-ghost use Rattle.vt_mount.specs.Rising.{IsAt, comes_last, inserted, rises, same_id};
+ghost use Rattle.std.specs.Prelude.{◌≡◌, ◌==◌, ◌+◌, ◌<◌, ◌≤◌, [], IfErr, IfOk, IsTrue, OnOk, filter, not, vec_capacity, vec_len};
+ghost use Rattle.vt_mount.specs.Rising.{IsAt, inserted, rises, same_id};
 
 use std::alloc::{AllocError, Global};
 use vt_location::MountId;
@@ -9,16 +9,21 @@ use vt_location::MountId;
 #[derive(Debug, Drop)]
 pub(crate) struct Ascending {
     ids: Vec<MountId>,
+    // For how many more mounts there is room.
+    expected: usize,
     ghost rising: { IsTrue (rises ids.items) },
+    ghost room: { vec_len ids + expected ≤ vec_capacity ids },
 }
 
 impl Ascending {
     /// No mounts. It does not allocate.
     pub(crate) fn new(alloc: Global) -> Self
-        ensures { result.ids.items ≡ [] }
+        ensures items { result.ids.items ≡ [] }
+        ensures expected { result.expected ≡ 0 }
     {
         Ascending {
             ids: Vec::new(alloc),
+            expected: 0,
         }
     }
 
@@ -36,41 +41,39 @@ impl Ascending {
         self.ids.is_empty()
     }
 
-    /// Reserves room for one more mount.
-    pub(crate) fn reserve_one(&mut self) -> Result<(), AllocError>
+    /// Reserves room for one more mount, beside those that are expected already.
+    pub(crate) fn expect_one(&mut self) -> Result<(), AllocError>
         ensures same { self.new.ids.items ≡ self.old.ids.items }
-        ensures ok { OnOk result (vec_len self.new.ids < vec_capacity self.new.ids) }
-        ensures capacity { vec_capacity self.old.ids ≤ vec_capacity self.new.ids }
+        ensures ok { OnOk result (self.new.expected ≡ self.old.expected + 1) }
     {
-        self.ids.reserve(1)
-    }
-
-    /// Adds a mount to the end. Its number is greater than those of the others.
-    pub(crate) fn push(&mut self, mount: MountId) -> Result<(), AllocError>
-        requires { comes_last mount self.old.ids.items ≡ true }
-        ensures ok { OnOk result (self.new.ids.items ≡ self.old.ids.items ++ mount ∷ []) }
-        ensures err { OnErr result (self.new.ids.items ≡ self.old.ids.items) }
-    {
-        self.ids.push(mount)?;
+        self.ids.reserve(self.expected + 1)?;
+        self.expected += 1;
         Ok(())
     }
 
-    /// Inserts a mount, for which there is room. It does not allocate.
+    /// Inserts a mount that is expected. It does not allocate.
     pub(crate) fn insert(&mut self, mount: MountId)
-        requires { vec_len self.old.ids < vec_capacity self.old.ids }
+        requires { 0 < self.old.expected }
         ensures items { self.new.ids.items ≡ inserted mount self.old.ids.items }
-        ensures capacity { vec_capacity self.old.ids ≤ vec_capacity self.new.ids }
+        ensures expected { self.new.expected + 1 ≡ self.old.expected }
     {
         let place = self.ids.partition_point(|other| other.count <= mount.count);
         // It cannot fail: there is room.
         let _ = self.ids.insert(place, mount);
+        self.expected -= 1;
+    }
+
+    /// No further mount is expected.
+    pub(crate) fn expect_none(&mut self)
+        ensures { self.new.ids.items ≡ self.old.ids.items }
+    {
+        self.expected = 0;
     }
 
     /// Removes a mount. It does not allocate.
     pub(crate) fn remove(&mut self, mount: MountId)
         ensures items { self.new.ids.items ≡ filter (λ other. not (same_id other mount)) self.old.ids.items }
-        ensures length { vec_len self.new.ids ≤ vec_len self.old.ids }
-        ensures capacity { vec_capacity self.new.ids ≡ vec_capacity self.old.ids }
+        ensures expected { self.new.expected ≡ self.old.expected }
     {
         while let Ok(place) = self.find(mount) {
             self.ids.remove(place);

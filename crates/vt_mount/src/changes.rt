@@ -1,6 +1,5 @@
-//! Mounts are attached, moved and detached: mount(2), umount(2).
-ghost use Rattle.std.specs.Prelude.{Some, ◌≡◌, ◌++◌, ◌∷◌, [], filter, find, nat_eq, nat_lt, not, option_map, true, IfErr, OnErr, OnOk};
-ghost use Rattle.std.specs.List.{list_all};
+//! Mounts are moved, detached and removed: mount(2), umount(2).
+ghost use Rattle.std.specs.Prelude.{Some, ◌≡◌, filter, find, nat_eq, not, option_map, IfErr, OnErr, OnOk};
 ghost use Rattle.vt_spec.specs.declared.errors.Rule.TheVariants.{S5};
 ghost use Rattle.vt_spec.specs.Errors.{denial};
 ghost use Rattle.vt_spec.specs.Machine.Mounts.{detached};
@@ -9,32 +8,11 @@ ghost use Rattle.vt_location.specs.MountValue.{mount_of};
 ghost use Rattle.vt_location.specs.Numbers.{counted};
 ghost use Rattle.vt_mount.specs.MountsValue.{changed, mounts_in, without};
 
-use crate::mounted::Mounted;
 use crate::mounts::Mounts;
 use vt_location::{Location, Mount, MountId, Propagation};
 use vt_spec::errors::{Deny, Rule};
 
 impl Mounts {
-    /// Attaches a mount, after all others, with no uses yet: mount(2). Its number is greater than theirs.
-    ///
-    /// S5 (ENOMEM): an allocation failed.
-    pub fn attach(&mut self, mount: Mount) -> Result<(), Deny>
-        requires { list_all (λ entry. nat_lt entry.mount.number (counted mount.number.count)) self.old ≡ true }
-        ensures ok { OnOk result (self.new ≡ self.old
-            ++ record { mount = mount_of mount; uses = 0; writers = 0 } ∷ []) }
-        // taken out again, the mounts are as they were
-        ensures undone { OnOk result (without (counted mount.number.count) self.new ≡ self.old) }
-        ensures memory { IfErr result (λ deny. deny ≡ denial S5) }
-        ensures err { OnErr result (self.new ≡ self.old) }
-    {
-        if self.by_number.reserve(1).is_err() || self.indexes.enter(&mount).is_err() {
-            return Err(Rule::S5.denial());
-        }
-        // It cannot fail: room is reserved.
-        let _ = self.by_number.insert(mount.number, Mounted::unused(mount));
-        Ok(())
-    }
-
     /// Removes a mount, whatever its uses, and returns it. Mounts on it keep their mount points. It does not allocate.
     pub fn remove(&mut self, id: MountId) -> Option<Mount>
         ensures value { option_map mount_of result

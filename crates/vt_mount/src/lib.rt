@@ -2,6 +2,7 @@
 #![tactic(auto)]
 
 mod ascending;
+mod attaching;
 mod changes;
 mod indexes;
 mod lists;

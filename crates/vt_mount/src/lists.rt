@@ -1,8 +1,7 @@
 //! Mounts under keys, in the order of their numbers.
-ghost use Rattle.std.specs.Prelude.{◌≡◌, ◌++◌, ◌∷◌, [], filter, if◌then◌else◌, not, true, vec_capacity, vec_len, ◌<◌, ◌≤◌, OnErr, OnOk};
-ghost use Rattle.vt_mount.specs.Capacity.{KeepsCapacity};
-ghost use Rattle.vt_mount.specs.Listed.{has_room, listed};
-ghost use Rattle.vt_mount.specs.Rising.{comes_last, inserted, same_id};
+ghost use Rattle.std.specs.Prelude.{◌≡◌, ◌+◌, ◌-◌, ◌<◌, [], filter, if◌then◌else◌, not, OnOk};
+ghost use Rattle.vt_mount.specs.Listed.{expected, listed};
+ghost use Rattle.vt_mount.specs.Rising.{inserted, same_id};
 
 use crate::ascending::Ascending;
 use indexmap::IndexMap;
@@ -39,35 +38,32 @@ impl<K: Eq + Hash + Copy + Drop> MountsBy<K> {
         }
     }
 
-    /// Adds a mount to the end of the list under a key. Its number is greater than those of the others.
-    pub(crate) fn push(&mut self, key: K, mount: MountId) -> Result<(), AllocError>
-        requires { comes_last mount (listed K.eq key self.old) ≡ true }
-        ensures ok { OnOk result ((q : K) → listed K.eq q self.new
-            ≡ (if K.eq q key then listed K.eq q self.old ++ mount ∷ [] else listed K.eq q self.old)) }
-        ensures err { OnErr result ((q : K) → listed K.eq q self.new ≡ listed K.eq q self.old) }
+    /// Reserves room for one more mount under a key, beside those that are expected there already.
+    pub(crate) fn expect(&mut self, key: K) -> Result<(), AllocError>
+        ensures same { (q : K) → listed K.eq q self.new ≡ listed K.eq q self.old }
+        ensures ok { OnOk result ((q : K) → expected K.eq q self.new
+            ≡ (if K.eq q key then expected K.eq q self.old + 1 else expected K.eq q self.old)) }
     {
         if let Some(list) = self.lists.get_mut(&key) {
-            return list.push(mount);
+            return list.expect_one();
         }
         let mut list = Ascending::new(*self.lists.allocator());
-        list.push(mount)?;
+        list.expect_one()?;
         self.lists.insert(key, list)?;
         Ok(())
     }
 
-    /// Reserves room for one more mount under a key.
-    pub(crate) fn prepare(&mut self, key: K) -> Result<(), AllocError>
-        ensures same { (q : K) → listed K.eq q self.new ≡ listed K.eq q self.old }
-        ensures ok { OnOk result (has_room K.eq key self.new ≡ true) }
-        ensures capacity { KeepsCapacity K.eq self.old self.new }
+    /// Inserts a mount that is expected under a key, in the order of numbers. It does not allocate.
+    pub(crate) fn put_in(&mut self, key: &K, mount: MountId)
+        requires { 0 < expected K.eq key.now self.old }
+        ensures inserted { (q : K) → listed K.eq q self.new
+            ≡ (if K.eq q key.now then inserted mount (listed K.eq q self.old) else listed K.eq q self.old) }
+        ensures expected { (q : K) → expected K.eq q self.new
+            ≡ (if K.eq q key.now then expected K.eq q self.old - 1 else expected K.eq q self.old) }
     {
-        if let Some(list) = self.lists.get_mut(&key) {
-            return list.reserve_one();
+        if let Some(list) = self.lists.get_mut(key) {
+            list.insert(mount);
         }
-        let mut list = Ascending::new(*self.lists.allocator());
-        list.reserve_one()?;
-        self.lists.insert(key, list)?;
-        Ok(())
     }
 
     /// Removes a mount from the list under a key, which stays even if it is empty. It does not allocate.
@@ -75,24 +71,21 @@ impl<K: Eq + Hash + Copy + Drop> MountsBy<K> {
         ensures taken { (q : K) → listed K.eq q self.new
             ≡ (if K.eq q key.now then filter (λ other. not (same_id other mount)) (listed K.eq q self.old)
             else listed K.eq q self.old) }
-        ensures room { (q : K) → has_room K.eq q self.old ≡ true → has_room K.eq q self.new ≡ true }
-        ensures capacity { KeepsCapacity K.eq self.old self.new }
+        ensures expected { (q : K) → expected K.eq q self.new ≡ expected K.eq q self.old }
     {
         if let Some(list) = self.lists.get_mut(key) {
             list.remove(mount);
         }
     }
 
-    /// Inserts a mount into the list under a key, in the order of numbers. It does not allocate.
-    pub(crate) fn put_in(&mut self, key: &K, mount: MountId)
-        requires { has_room K.eq key.now self.old ≡ true }
-        ensures inserted { (q : K) → listed K.eq q self.new
-            ≡ (if K.eq q key.now then inserted mount (listed K.eq q self.old) else listed K.eq q self.old) }
-        ensures capacity { KeepsCapacity K.eq self.old self.new }
+    /// No further mount is expected under a key. It does not allocate.
+    pub(crate) fn expect_none(&mut self, key: &K)
+        ensures { (q : K) → listed K.eq q self.new ≡ listed K.eq q self.old }
     {
         if let Some(list) = self.lists.get_mut(key) {
-            list.insert(mount);
+            list.expect_none();
         }
+        self.drop_empty(key);
     }
 
     /// Drops the list under a key, if it is empty. It does not allocate.

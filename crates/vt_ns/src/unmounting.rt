@@ -152,7 +152,7 @@ fn take_away(
         points: &plan.points,
     };
     mounts.are_ascending();
-    attach_planned(alloc, mounts, groups, filesystems, &moved)?;
+    attach_planned(mounts, groups, filesystems, &moved)?;
     detach_together(mounts, groups, filesystems, &plan.gone);
     Ok(())
 }

@@ -1,5 +1,5 @@
-use Rattle.std.proofs.Common.{◌≡◌, ◌≤◌}
-use Rattle.std.specs.Prelude.{vec_capacity, vec_len}
+use Rattle.std.proofs.Common.{◌≡◌}
+use Rattle.std.specs.Prelude.{vec_len}
 use Rattle.vt_mount.proofs.RisingLemmas.{others}
 use Rattle.vt_mount.proofs.ascending.Ascending.remove.Given as goal
 
@@ -7,8 +7,7 @@ use Rattle.vt_mount.proofs.ascending.Ascending.remove.Given as goal
 abbrev pub invariant-loop-place : goal.invariant-loop-place
 invariant-loop-place l =
     (others l.mount l.self.ids.items ≡ others l.mount l.initial.self.ids.items)
-    × (vec_len l.self.ids ≤ vec_len l.initial.self.ids)
-    × (vec_capacity l.self.ids ≡ vec_capacity l.initial.self.ids)
+    × (l.self.expected ≡ l.initial.self.expected)
 
 abbrev pub decreases-loop-place : goal.decreases-loop-place
 decreases-loop-place l = vec_len l.self.ids

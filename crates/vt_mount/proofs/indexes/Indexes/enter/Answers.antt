@@ -1,30 +1,32 @@
-use Rattle.std.proofs.Common.{◌≡◌, ap, nat_lt, option_map, true, ◌∙◌}
-use Rattle.std.specs.Prelude.{unwrap_or}
-use Rattle.vt_mount.specs.Indexes.{listed_in, pushed, same_namespace}
-use Rattle.vt_mount.specs.Listed.{listed}
-use Rattle.vt_mount.proofs.ListLemmas.{undone}
+use Rattle.std.proofs.Common.{[], subst, sym, ◌++◌}
+use Rattle.std.specs.Prelude.{option_to_list}
+use Rattle.std.proofs.lemmas.List.{append-nil}
+use Rattle.vt_mount.specs.Expected.{Expects}
+use Rattle.vt_mount.proofs.ExpectedLemmas.{expects-first}
 use Rattle.vt_mount.proofs.indexes.Indexes.enter.Goals as goal
-use Rattle.vt_mount.proofs.indexes.Indexes.enter.Goals.{in-Some+in_ok-push, in_default}
 
-pub returns-in-Some-namespace-clause-namespace_err : goal.returns-in-Some-namespace-clause-namespace_err
-returns-in-Some-namespace-clause-namespace_err c =
-    elim c.match-mount.branch [
-      | in-Some+in_ok-push w ↦ λ q.
-          let same : w.in-Some.namespace ≡ c.in-Some-namespace.namespace = cc in
-          undone _ _ (listed_in c.args.self.now q) _ _
-          (ap (listed same_namespace q) (c.enter_place.ensures.same ∙ ap (λ self. self.by_namespace) w.self-is)
-          ∙ w.in_ok-push.ensures.ok q
-          ∙ ap (λ namespace. pushed (same_namespace q namespace) c.args.mount.now.number
-          (listed_in c.args.self.now q)) same)
-          (c.remove.ensures q) (c.requires.namespace q)
-      | in_default w ↦ absurd (w.in_default.not-Some _ c.in-Some-namespace.is)
-    ]
+pub enter_in-requires : goal.enter_in-requires
+enter_in-requires c =
+    expects-first c.args.self.now (option_to_list c.args.mount.now.namespace) [] []
+    (option_to_list c.args.mount.now.mount_point)
+    (subst (λ namespaces. Expects c.args.self.now namespaces (option_to_list c.args.mount.now.mount_point))
+    (sym (append-nil (option_to_list c.args.mount.now.namespace))) c.requires)
 
-pub returns-in_default-enter_place-clause-slot : goal.returns-in_default-enter_place-clause-slot
-returns-in_default-enter_place-clause-slot c =
-    ap (λ point. unwrap_or (option_map
-    (λ place. nat_lt place.node.slot 18446744073709551616) point) true) c.in-Some-mount_point.is
-    ∙ c.enter_place.ensures.slot
+pub put_in-requires : goal.put_in-requires
+put_in-requires c =
+    let mount = c.args.mount.now in
+    subst (λ point. Expects c.enter_in.new.self [] (option_to_list point)) c.in-Some.is
+    (c.enter_in.ensures.expects [] (option_to_list mount.mount_point)
+    (subst (λ namespaces. Expects c.args.self.now namespaces (option_to_list mount.mount_point))
+    (sym (append-nil (option_to_list mount.namespace))) c.requires))
 
-pub push-requires : goal.push-requires
-push-requires c = c.requires.namespace c.in-Some.namespace
+pub returns-in-Some-clause-expects : goal.returns-in-Some-clause-expects
+returns-in-Some-clause-expects c namespaces places has =
+    c.put_in.ensures.expects namespaces places
+    (subst (λ point. Expects c.enter_in.new.self namespaces (option_to_list point ++ places)) c.in-Some.is
+    (c.enter_in.ensures.expects namespaces (option_to_list c.args.mount.now.mount_point ++ places) has))
+
+pub returns-in_default-clause-expects : goal.returns-in_default-clause-expects
+returns-in_default-clause-expects c namespaces places has =
+    subst (λ point. Expects c.enter_in.new.self namespaces (option_to_list point ++ places)) c.in_default.is
+    (c.enter_in.ensures.expects namespaces (option_to_list c.args.mount.now.mount_point ++ places) has)

@@ -1,0 +1,118 @@
+-- Room that is reserved for mounts that come and move.
+use Rattle.std.proofs.Common.{◌≡◌, ◌<◌, ◌≤◌, ◌+◌, ◌-◌, ℕ, Bool, true, false, cond, ◌&&◌, List, [], ◌∷◌, ◌++◌, map, refl, ap, subst, arith, eq-eqb}
+use Rattle.std.proofs.lemmas.List.{reverse-append}
+use Rattle.vt_location.specs.declared.locations.Location.{Location}
+use Rattle.vt_location.specs.declared.locations.NodeRef.{NodeRef}
+use Rattle.vt_location.specs.declared.numbers.MountId.{MountId}
+use Rattle.vt_location.specs.declared.numbers.NamespaceId.{NamespaceId}
+use Rattle.vt_mount.specs.declared.indexes.Indexes.{Indexes}
+use Rattle.vt_mount.specs.declared.lists.MountsBy.{MountsBy}
+use Rattle.vt_mount.specs.declared.moving.NewPoint.{NewPoint}
+use Rattle.vt_mount.specs.Expected.{Expects, ExpectsBy, count_of, moved_places}
+use Rattle.vt_mount.specs.Indexes.{same_inode, same_namespace, same_place}
+use Rattle.vt_mount.specs.Listed.{expected, same_id}
+
+count-first : {X : Type 0} (test : X → Bool) (xs ys : List X) → count_of test xs ≤ count_of test (xs ++ ys)
+count-first test [] ys = omega arith
+count-first test (x ∷ xs) ys = by (test x) (count-first test xs ys)
+  where
+    by : (b : Bool) → count_of test xs ≤ count_of test (xs ++ ys)
+        → cond b (count_of test xs + 1) (count_of test xs)
+        ≤ cond b (count_of test (xs ++ ys) + 1) (count_of test (xs ++ ys))
+    by true rest = omega (arith, rest)
+    by false rest = rest
+
+module _ {K X : Type 0} (eq : K → K → Bool) (key_of : X → K) (x : X) (xs : List X) (old : MountsBy K) where
+  -- one more is expected, or one less
+  pub expects-more : (new : MountsBy K)
+      → ((q : K) → expected eq q new ≡ cond (eq q (key_of x)) (expected eq q old + 1) (expected eq q old))
+      → ExpectsBy eq key_of xs old → ExpectsBy eq key_of (x ∷ xs) new
+  expects-more new more has q = by (eq q (key_of x)) (more q) (has q)
+    where
+      by : (b : Bool) → expected eq q new ≡ cond b (expected eq q old + 1) (expected eq q old)
+          → count_of (λ x. eq q (key_of x)) xs ≤ expected eq q old
+          → cond b (count_of (λ x. eq q (key_of x)) xs + 1) (count_of (λ x. eq q (key_of x)) xs) ≤ expected eq q new
+      by true is was = omega (arith, is, was)
+      by false is was = omega (arith, is, was)
+
+  pub expects-less : (new : MountsBy K)
+      → ((q : K) → expected eq q new ≡ cond (eq q (key_of x)) (expected eq q old - 1) (expected eq q old))
+      → ExpectsBy eq key_of (x ∷ xs) old → ExpectsBy eq key_of xs new
+  expects-less new less has q = by (eq q (key_of x)) (less q) (has q)
+    where
+      by : (b : Bool) → expected eq q new ≡ cond b (expected eq q old - 1) (expected eq q old)
+          → cond b (count_of (λ x. eq q (key_of x)) xs + 1) (count_of (λ x. eq q (key_of x)) xs) ≤ expected eq q old
+          → count_of (λ x. eq q (key_of x)) xs ≤ expected eq q new
+      by true is was = omega (arith, is, was)
+      by false is was = omega (arith, is, was)
+
+  pub expects-rest : ExpectsBy eq key_of (x ∷ xs) old → ExpectsBy eq key_of xs old
+  expects-rest has q = by (eq q (key_of x)) (has q)
+    where
+      by : (b : Bool)
+          → cond b (count_of (λ x. eq q (key_of x)) xs + 1) (count_of (λ x. eq q (key_of x)) xs) ≤ expected eq q old
+          → count_of (λ x. eq q (key_of x)) xs ≤ expected eq q old
+      by true was = omega (arith, was)
+      by false was = was
+
+  pub is-expected : eq (key_of x) (key_of x) ≡ true → ExpectsBy eq key_of (x ∷ xs) old
+      → 0 < expected eq (key_of x) old
+  is-expected itself has =
+      let there = subst (λ (b : Bool). cond b (count_of (λ x'. eq (key_of x) (key_of x')) xs + 1)
+      (count_of (λ x'. eq (key_of x) (key_of x')) xs) ≤ expected eq (key_of x) old) itself (has (key_of x)) in
+      omega (arith, there)
+
+-- as many are expected as before
+pub expects-same : {K X : Type 0} (eq : K → K → Bool) (key_of : X → K) (xs : List X) (old new : MountsBy K)
+    → ((q : K) → expected eq q new ≡ expected eq q old)
+    → ExpectsBy eq key_of xs old → ExpectsBy eq key_of xs new
+expects-same eq key_of xs old new same has q = let is = same q in let was = has q in omega (arith, is, was)
+
+-- where more are expected, so are the first of them
+pub expects-first : (indexes : Indexes) (namespaces later : List NamespaceId) (places after : List Location)
+    → Expects indexes (namespaces ++ later) (places ++ after) → Expects indexes namespaces places
+expects-first indexes namespaces later places after has = record {
+  namespace = λ q. fewer (λ namespace. same_namespace q namespace) namespaces later _ (has.namespace q);
+  parent = λ q. fewer (λ (place : Location). same_id q place.mount) places after _ (has.parent q);
+  place = λ q. fewer (λ place. same_place q place) places after _ (has.place q);
+  inode = λ q. fewer (λ (place : Location). same_inode q place.node) places after _ (has.inode q);
+}
+  where
+    fewer : {X : Type 0} (test : X → Bool) (xs ys : List X) (n : ℕ) → count_of test (xs ++ ys) ≤ n
+        → count_of test xs ≤ n
+    fewer test xs ys n most = let less = count-first test xs ys in omega (arith, less, most)
+
+-- one fewer
+pub expects-later : (indexes : Indexes) (namespaces : List NamespaceId) (place : Location) (places : List Location)
+    → Expects indexes namespaces (place ∷ places) → Expects indexes namespaces places
+expects-later indexes namespaces place places has = record {
+  namespace = has.namespace;
+  parent = expects-rest same_id (λ (place : Location). place.mount) place places indexes.by_parent has.parent;
+  place = expects-rest same_place (λ (place : Location). place) place places indexes.by_location has.place;
+  inode = expects-rest same_inode (λ (place : Location). place.node) place places indexes.by_inode has.inode;
+}
+
+pub moved_places-last : (points : List NewPoint) (point : NewPoint)
+    → moved_places (points ++ point ∷ []) ≡ point.place ∷ moved_places points
+moved_places-last points point = ap (map (λ (point : NewPoint). point.place)) (reverse-append points (point ∷ []))
+
+pub expects-none : (indexes : Indexes) → Expects indexes [] []
+expects-none indexes = record {
+  namespace = λ q. omega arith;
+  parent = λ q. omega arith;
+  place = λ q. omega arith;
+  inode = λ q. omega arith;
+}
+
+-- keys are equal to themselves
+pub same_id-itself : (a : MountId) → same_id a a ≡ true
+same_id-itself a = eq-eqb a.count a.count refl
+
+pub same_inode-itself : (a : NodeRef) → same_inode a a ≡ true
+same_inode-itself a = λ i. eq-eqb a.filesystem.count a.filesystem.count refl i && eq-eqb a.slot a.slot refl i
+
+pub same_place-itself : (a : Location) → same_place a a ≡ true
+same_place-itself a = λ i. same_id-itself a.mount i && same_inode-itself a.node i
+
+pub same_namespace-itself : (a : NamespaceId) → same_namespace a a ≡ true
+same_namespace-itself a = eq-eqb a.count a.count refl

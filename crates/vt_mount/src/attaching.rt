@@ -1,0 +1,180 @@
+//! Mounts are attached, and others move for them, all or none: mount(2).
+//!
+//! All memory is reserved before the first change, so that no change has to be taken back.
+ghost use Rattle.std.specs.Prelude.{List, Err, Ok, ◌≡◌, ◌+◌, ◌++◌, ◌∷◌, ◌<◌, ◌≤◌, ◌⊎◌, [], IfErr, IfOk, OnErr, OnOk, length, map, nat_lt, option_to_list, true, vec_capacity, vec_len};
+ghost use Rattle.std.specs.Fn.{FnOnceReturnsAtMut};
+ghost use Rattle.std.specs.List.{list_all};
+ghost use Rattle.indexmap.specs.IndexMap.{spare};
+ghost use Rattle.vt_location.specs.declared.locations.Location.{Location};
+ghost use Rattle.vt_location.specs.declared.numbers.MountId.{MountId};
+ghost use Rattle.vt_location.specs.declared.numbers.NamespaceId.{NamespaceId};
+ghost use Rattle.vt_location.specs.MountValue.{mount_of};
+ghost use Rattle.vt_location.specs.Numbers.{counted};
+ghost use Rattle.vt_mount.specs.declared.mounted.Mounted.{Mounted};
+ghost use Rattle.vt_mount.specs.Expected.{Expects, mount_points_of, moved_places, namespaces_of};
+ghost use Rattle.vt_mount.specs.Indexed.{IsIndexed};
+ghost use Rattle.vt_mount.specs.Moving.{all_moves, is_small, move_of, with_points};
+ghost use Rattle.vt_mount.specs.MountsValue.{are_ascending, entries_of, in_order, mounts_in, unused_entry, without};
+ghost use Rattle.vt_spec.specs.declared.errors.Rule.TheVariants.{S5};
+ghost use Rattle.vt_spec.specs.Errors.{denial};
+
+use crate::indexes::Indexes;
+use crate::mounted::Mounted;
+use crate::mounts::Mounts;
+use crate::moving::{Moved, NewPoint, drop_left, expect_moves, expect_no_moves, move_all};
+use indexmap::IndexMap;
+use std::alloc::AllocError;
+use vt_location::{Mount, MountId};
+use vt_spec::errors::{Deny, Rule};
+
+impl Mounts {
+    /// Attaches a mount, after all others, with no uses yet: mount(2). Its number is greater than theirs.
+    ///
+    /// S5 (ENOMEM): an allocation failed.
+    pub fn attach(&mut self, mount: Mount) -> Result<(), Deny>
+        requires { list_all (λ entry. nat_lt entry.mount.number (counted mount.number.count)) self.old ≡ true }
+        ensures ok { OnOk result (self.new ≡ self.old ++ unused_entry mount ∷ []) }
+        // taken out again, the mounts are as they were
+        ensures undone { OnOk result (without (counted mount.number.count) self.new ≡ self.old) }
+        ensures memory { IfErr result (λ deny. deny ≡ denial S5) }
+        ensures err { OnErr result (self.new ≡ self.old) }
+    {
+        if self.by_number.reserve(1).is_err()
+            || self
+                .indexes
+                .expect(mount.namespace, mount.mount_point)
+                .is_err()
+        {
+            self.indexes.expect_none(mount.namespace, mount.mount_point);
+            return Err(Rule::S5.denial());
+        }
+        enter(&mut self.by_number, &mut self.indexes, mount);
+        Ok(())
+    }
+
+    /// Attaches mounts after all others, with no uses yet, and moves mounts that were there to other mount points, the
+    /// last one of that list first: of two for one mount the first one stays. Before the first change, and after all
+    /// memory is reserved, it takes one more step, which may fail and change something else. It returns what moved, in
+    /// the order of the moves. It costs what each mount costs that comes or moves, however many others there are.
+    ///
+    /// S5 (ENOMEM): an allocation failed; that step has not been taken then.
+    pub fn attach_all_then<S, F: FnOnce(&mut S) -> Result<(), Deny>>(
+        &mut self,
+        new: &[Mount],
+        points: &[NewPoint],
+        other: &mut S,
+        last: F,
+    ) -> Result<Vec<Moved>, Deny>
+        requires callable { F.IsAlwaysCallable last }
+        requires order { are_ascending (mounts_in self.old ++ map mount_of new.now) ≡ true }
+        ensures ok { OnOk result (self.new ≡ with_points points.now self.old ++ map unused_entry new.now) }
+        ensures moved { IfOk result (λ moved. map move_of moved.items ≡ all_moves points.now self.old) }
+        ensures small { IfOk result (λ moved. list_all is_small moved.items ≡ true) }
+        ensures last_ok { OnOk result (FnOnceReturnsAtMut F.FnOnce last other.old (Ok tt) other.new) }
+        ensures last_err { IfErr result (λ deny. ((deny ≡ denial S5) × (other.new ≡ other.old))
+            ⊎ FnOnceReturnsAtMut F.FnOnce last other.old (Err deny) other.new) }
+        ensures err { OnErr result (self.new ≡ self.old) }
+    {
+        let mut moved = Vec::new(*self.by_number.allocator());
+        if make_room(
+            &mut self.by_number,
+            &mut self.indexes,
+            new,
+            points,
+            &mut moved,
+        )
+        .is_err()
+        {
+            expect_no_more(&mut self.indexes, new, points);
+            return Err(Rule::S5.denial());
+        }
+        if let Err(deny) = last(other) {
+            expect_no_more(&mut self.indexes, new, points);
+            return Err(deny);
+        }
+        move_all(&mut self.by_number, &mut self.indexes, points, &mut moved);
+        enter_all(&mut self.by_number, &mut self.indexes, new);
+        expect_no_moves(&mut self.indexes, points);
+        drop_left(&mut self.indexes, &moved);
+        Ok(moved)
+    }
+}
+
+// Reserves all memory for mounts that come and move. If it fails, some of that room may be reserved.
+fn make_room(
+    by_number: &mut IndexMap<MountId, Mounted>,
+    indexes: &mut Indexes,
+    new: &[Mount],
+    points: &[NewPoint],
+    moved: &mut Vec<Moved>,
+) -> Result<(), AllocError>
+    ensures mounts { by_number.new.entries ≡ by_number.old.entries }
+    ensures indexed { (kept : List (MountId × Mounted)) → IsIndexed indexes.old kept → IsIndexed indexes.new kept }
+    ensures moved { moved.new.items ≡ moved.old.items }
+    ensures spare { OnOk result (length new.now ≤ spare by_number.new) }
+    ensures room { OnOk result (vec_len moved.new + length points.now ≤ vec_capacity moved.new) }
+    ensures expects { OnOk result
+        (Expects indexes.new (namespaces_of new.now) (moved_places points.now ++ mount_points_of new.now)) }
+{
+    by_number.reserve(new.len())?;
+    moved.reserve(points.len())?;
+    expect_mounts(indexes, new)?;
+    expect_moves(indexes, points)
+}
+
+// Reserves room in the lists for mounts that come. If it fails, some of that room may be reserved.
+fn expect_mounts(indexes: &mut Indexes, new: &[Mount]) -> Result<(), AllocError>
+    ensures same { (kept : List (MountId × Mounted)) → IsIndexed indexes.old kept → IsIndexed indexes.new kept }
+    ensures ok { OnOk result ((namespaces : List NamespaceId) (places : List Location)
+        → Expects indexes.old namespaces places
+        → Expects indexes.new (namespaces_of new.now ++ namespaces) (mount_points_of new.now ++ places)) }
+{
+    for mount in new.iter().rev() {
+        indexes.expect(mount.namespace, mount.mount_point)?;
+    }
+    Ok(())
+}
+
+// No further mount is expected for these. It does not allocate.
+fn expect_no_more(indexes: &mut Indexes, new: &[Mount], points: &[NewPoint])
+    ensures { (kept : List (MountId × Mounted)) → IsIndexed indexes.old kept → IsIndexed indexes.new kept }
+{
+    for mount in new {
+        indexes.expect_none(mount.namespace, mount.mount_point);
+    }
+    expect_no_moves(indexes, points);
+}
+
+// Mounts come after all others. It does not allocate: there is room.
+fn enter_all(by_number: &mut IndexMap<MountId, Mounted>, indexes: &mut Indexes, new: &[Mount])
+    requires indexed { IsIndexed indexes.old (in_order by_number.old.entries) }
+    requires order { are_ascending (mounts_in (entries_of by_number.old.entries) ++ map mount_of new.now) ≡ true }
+    requires spare { length new.now ≤ spare by_number.old }
+    requires expects { Expects indexes.old (namespaces_of new.now) (mount_points_of new.now) }
+    ensures indexed { IsIndexed indexes.new (in_order by_number.new.entries) }
+    ensures mounts { entries_of by_number.new.entries
+        ≡ entries_of by_number.old.entries ++ map unused_entry new.now }
+{
+    for mount in new {
+        enter(by_number, indexes, *mount);
+    }
+}
+
+// A mount comes after all others. It does not allocate: there is room.
+fn enter(by_number: &mut IndexMap<MountId, Mounted>, indexes: &mut Indexes, mount: Mount)
+    requires indexed { IsIndexed indexes.old (in_order by_number.old.entries) }
+    requires order { list_all (λ entry. nat_lt entry.mount.number (counted mount.number.count))
+        (entries_of by_number.old.entries) ≡ true }
+    requires spare { 0 < spare by_number.old }
+    requires expects { Expects indexes.old (option_to_list mount.namespace) (option_to_list mount.mount_point) }
+    ensures indexed { IsIndexed indexes.new (in_order by_number.new.entries) }
+    ensures mounts { entries_of by_number.new.entries ≡ entries_of by_number.old.entries ++ unused_entry mount ∷ [] }
+    ensures spare { spare by_number.old ≤ spare by_number.new + 1 }
+    ensures expects { (namespaces : List NamespaceId) (places : List Location)
+        → Expects indexes.old (option_to_list mount.namespace ++ namespaces)
+        (option_to_list mount.mount_point ++ places) → Expects indexes.new namespaces places }
+{
+    indexes.enter(&mount);
+    // It cannot fail: there is room.
+    let _ = by_number.insert(mount.number, Mounted::unused(mount));
+}
