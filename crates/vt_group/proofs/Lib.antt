@@ -13,6 +13,7 @@ pub mod Handed
 pub mod IndexLemmas
 pub mod Invariant
 pub mod Undoing
+pub mod Reserving
 pub mod Mastering
 pub mod EndedTypes
 pub mod Coming

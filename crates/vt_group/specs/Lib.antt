@@ -1,3 +1,4 @@
+pub mod ByNumber
 pub mod Names
 pub mod Grouping
 pub mod Handing

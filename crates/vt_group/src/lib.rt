@@ -2,6 +2,7 @@
 #![tactic(auto)]
 
 mod additions;
+mod by_number;
 mod groups;
 mod handing;
 mod index;
