@@ -11,7 +11,7 @@ use Rattle.std.specs.Option.{option_flatten}
 use Rattle.std.specs.Ordering.{is_eq, match_ordering, nat_cmp}
 use Rattle.std.specs.declared.cmp.Ordering.{Ordering}
 use Rattle.std.specs.declared.cmp.Ordering.TheVariants.{Equal, Greater, Less}
-use Rattle.vt_group.specs.ByNumber.{entries_of, entry_of}
+use Rattle.vt_group.specs.ByNumber.{entries_of, entry_of, has_room}
 use Rattle.vt_group.proofs.Invariant.{at_nat}
 
 -- each number of these is above that one
@@ -62,7 +62,7 @@ module _ {X : Type 0} (number : ℕ) where
       (e ∷ insert_entry nat_cmp es number value)) above.0
 
   -- a number is among the keys where it is found
-  pub among_keys : (es : List (ℕ × X))
+  among_keys : (es : List (ℕ × X))
       → list_any (is_at (nat_cmp number)) (keys_of es) ≡ is_some (lookup (is_at (nat_cmp number)) es)
   among_keys [] = refl
   among_keys (e ∷ es) = by (is_at (nat_cmp number) e.0) (among_keys es)
@@ -122,6 +122,17 @@ module _ {V : Type 0} where
         by true is (Some value) rest = ap (λ b. cond b (Some value) (lookup (here number) (entries_of es))) is
         by false is None rest = rest
         by false is (Some value) rest = ap (λ b. cond b (Some value) (lookup (here number) (entries_of es))) is ∙ rest
+
+    -- there is room for the value of a number that has a place
+    pub room_found : (es : List (ℕ × Option V)) → Ordered es
+        → has_room (record { entries = entries_of es; room = keys_of es }) number ≡ is_some (lookup (here number) es)
+    room_found es ordered =
+        (λ i. is_some (value_found es ordered i) || among_keys number es i) ∙ by (lookup (here number) es)
+      where
+        by : (place : Option (Option V)) → (is_some (option_flatten place) || is_some place) ≡ is_some place
+        by None = refl
+        by (Some None) = refl
+        by (Some (Some value)) = refl
 
     -- a place that goes takes its value with it
     pub values_removed : (es : List (ℕ × Option V)) → Ordered es
@@ -205,6 +216,15 @@ module _ {V : Type 0} where
         by Less rest none = refl
         by Equal rest none = absurd (true≢false (ap is_some none))
         by Greater rest none = ap (cons_option (entry_of e)) (rest none)
+
+  -- where places stay, room does
+  pub room_stays : (old new : List (ℕ × Option V)) → Ordered old → Ordered new → keys_of new ≡ keys_of old
+      → (number : ℕ) → has_room (record { entries = entries_of old; room = keys_of old }) number ≡ true
+      → has_room (record { entries = entries_of new; room = keys_of new }) number ≡ true
+  room_stays old new ordered ordered_new same number room =
+      room_found number new ordered_new ∙ sym (among_keys number new)
+      ∙ ap (list_any (here number)) same ∙ among_keys number old
+      ∙ sym (room_found number old ordered) ∙ room
 
   -- what the values are once a place is
   pub values_updated : (number : ℕ) (old new : List (ℕ × Option V)) → Ordered old → Ordered new

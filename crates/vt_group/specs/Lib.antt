@@ -10,5 +10,4 @@ pub mod Laws
 pub mod Listing
 pub mod Receiving
 pub mod Sets
-pub mod Insertions
 pub mod Additions

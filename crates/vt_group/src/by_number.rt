@@ -76,7 +76,7 @@ impl<V: Copy + Clone + Drop> ByNumber<V> {
         ensures entries { self.new.entries ≡ insert_entry nat_cmp self.old.entries number value }
         ensures updates { (other : ℕ) → value_at self.new other
             ≡ (if is_at (nat_cmp number) other then Some value else value_at self.old other) }
-        ensures room { self.new.room ≡ self.old.room }
+        ensures kept { (other : ℕ) → has_room self.old other ≡ true → has_room self.new other ≡ true }
         ensures ordered { IsAscending self.new }
     {
         let Some(place) = self.places.get_mut(&number) else {
@@ -90,7 +90,7 @@ impl<V: Copy + Clone + Drop> ByNumber<V> {
         ensures entries { self.new.entries ≡ remove_entry (is_at (nat_cmp number)) self.old.entries }
         ensures updates { (other : ℕ) → value_at self.new other
             ≡ (if is_at (nat_cmp number) other then None else value_at self.old other) }
-        ensures room { self.new.room ≡ self.old.room }
+        ensures kept { (other : ℕ) → has_room self.old other ≡ true → has_room self.new other ≡ true }
         ensures ordered { IsAscending self.new }
     {
         let Some(place) = self.places.get_mut(&number) else {

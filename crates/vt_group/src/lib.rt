@@ -6,7 +6,6 @@ mod by_number;
 mod groups;
 mod handing;
 mod index;
-mod insertions;
 pub mod laws;
 mod listed;
 mod names;
