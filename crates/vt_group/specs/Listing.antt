@@ -1,5 +1,5 @@
 -- Mounts and groups that come are listed first.
-use Rattle.std.specs.Prelude.{List, None, Option, Some, [], is_some, true, ℕ, ◌∷◌, ◌≡◌}
+use Rattle.std.specs.Prelude.{List, None, Option, Some, [], is_some, true, ◌∷◌, ◌≡◌}
 use Rattle.vt_spec.specs.Machine.Mounts.{source_of}
 use Rattle.vt_location.specs.declared.mounts.Mount.{Mount}
 use Rattle.vt_location.specs.declared.mounts.Propagation.{Propagation}

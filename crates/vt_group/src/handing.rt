@@ -68,12 +68,7 @@ pub(crate) fn hand_groups(
     }
 }
 
-fn hand_group(
-    above: &mut ByNumber<GroupId>,
-    group: GroupId,
-    lost: GroupId,
-    heir: Option<GroupId>,
-)
+fn hand_group(above: &mut ByNumber<GroupId>, group: GroupId, lost: GroupId, heir: Option<GroupId>)
     ensures ordered { IsAscending above.old → IsAscending above.new }
     ensures each { (other : ℕ) → value_at above.new other
         ≡ (if nat_eq other group.count

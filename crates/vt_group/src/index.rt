@@ -360,12 +360,7 @@ impl Index {
     }
 
     // A group has ended that has no heir: what was below it and has no type or no master is taken out.
-    fn dissolve(
-        &mut self,
-        lost: GroupId,
-        types: &ByNumber<Propagation>,
-        above: &ByNumber<GroupId>,
-    )
+    fn dissolve(&mut self, lost: GroupId, types: &ByNumber<Propagation>, above: &ByNumber<GroupId>)
         ensures kept { (mount : MountNumber) (kind : TypeKept) → IsSome (value_at types.now mount.count)
             → has_source lost kind ≡ false
             → is_listed self.old mount kind ≡ true → is_listed self.new mount kind ≡ true }

@@ -77,11 +77,7 @@ impl<T: Eq + Hash + Copy + Clone + Drop> Sets<T> {
 }
 
 /// Takes out the mounts under a group that have no type. It does not allocate.
-pub(crate) fn keep_typed(
-    sets: &mut Sets<MountId>,
-    group: GroupId,
-    types: &ByNumber<Propagation>,
-)
+pub(crate) fn keep_typed(sets: &mut Sets<MountId>, group: GroupId, types: &ByNumber<Propagation>)
     ensures { (at : GroupNumber) (mount : MountNumber) → IsSome (value_at types.now mount.count)
         → has same_id at mount sets.old ≡ true → has same_id at mount sets.new ≡ true }
 {

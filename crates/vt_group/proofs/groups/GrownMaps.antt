@@ -1,8 +1,7 @@
 -- What is listed once mounts and groups came, or did not.
-use Rattle.std.proofs.Common.{◌≡◌, ℕ, Some, true, ap, map, subst, sym, ◌∙◌}
-use Rattle.std.specs.BTreeMap.{is_at}
+use Rattle.std.proofs.Common.{◌≡◌, Some, true, map, subst, sym}
 use Rattle.std.specs.List.Sorted.{IsStrictlySortedBy}
-use Rattle.std.specs.Map.{keys_of, lookup}
+use Rattle.std.specs.Map.{keys_of}
 use Rattle.std.specs.Ordering.{nat_cmp}
 use Rattle.vt_location.specs.declared.mounts.Propagation.{Propagation}
 use Rattle.vt_location.specs.declared.numbers.GroupId.{GroupId}
@@ -16,21 +15,6 @@ use Rattle.vt_group.proofs.Coming.{FoundListed, FoundLower, kept_kind, kept_mast
 -- a map with the same values is in the same order
 pub still_ascends : {V : Type 0} (old new : Numbered V) → new.entries ≡ old.entries → IsAscending old → IsAscending new
 still_ascends old new same ordered = subst (λ es. IsStrictlySortedBy nat_cmp (keys_of es)) (sym same) ordered
-
--- an index that lists more, and maps that have the same values
-pub lists_kept : (old new : Index) (types types_new : Numbered Propagation) (above above_new : Numbered GroupId)
-    → Lists old types above
-    → ((mount : MountId) (kind : Propagation) → is_listed old mount kind ≡ true → is_listed new mount kind ≡ true)
-    → ((lower upper : GroupId) → is_lower old lower upper ≡ true → is_lower new lower upper ≡ true)
-    → types_new.entries ≡ types.entries → above_new.entries ≡ above.entries → Lists new types_new above_new
-lists_kept old new types types_new above above_new lists kept lower same same_above = record {
-  listed = λ mount kind at.
-      kept (mount_at mount) kind (lists.listed mount kind (ap (lookup (is_at (nat_cmp mount))) (sym same) ∙ at));
-  lower = λ low up at.
-      lower (group_at low) up (lists.lower low up (ap (lookup (is_at (nat_cmp low))) (sym same_above) ∙ at));
-  ordered = still_ascends types types_new same lists.ordered;
-  ordered_above = still_ascends above above_new same_above lists.ordered_above;
-}
 
 module _ (old new : Index) (types : Numbered Propagation) (above : Numbered GroupId) (lists : Lists old types above)
   where

@@ -1,4 +1,4 @@
-use Rattle.std.proofs.Common.{None, Option, Some, ap, cond, sym, ◌∙◌}
+use Rattle.std.proofs.Common.{None, ap, cond, sym, ◌∙◌}
 use Rattle.std.specs.BTreeMap.{is_at}
 use Rattle.std.specs.Map.{remove_entry}
 use Rattle.std.specs.Option.{option_flatten}
