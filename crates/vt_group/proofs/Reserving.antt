@@ -104,9 +104,11 @@ module _ {V : Type 0} where
       by (Some value) rest = (above_values e.0 es ordered.0, rest)
 
   module _ (number : ℕ) where
-    after : (e : ℕ × Option V) (es : List (ℕ × Option V)) → Ordered (e ∷ es) → number ≡ e.0 → Above number (entries_of es)
+    after : (e : ℕ × Option V) (es : List (ℕ × Option V)) → Ordered (e ∷ es) → number ≡ e.0
+        → Above number (entries_of es)
     after e es ordered same =
-        subst (λ n. Above n (entries_of es)) (sym same) (above_values e.0 es (sorted_head nat_cmp e.0 (keys_of es) ordered))
+        subst (λ n. Above n (entries_of es)) (sym same)
+        (above_values e.0 es (sorted_head nat_cmp e.0 (keys_of es) ordered))
 
     -- the value of a number is that of its place
     pub value_found : (es : List (ℕ × Option V)) → Ordered es
@@ -117,7 +119,8 @@ module _ {V : Type 0} where
       where
         by : (b : Bool) → here number e.0 ≡ b → (value : Option V)
             → lookup (here number) (entries_of es) ≡ option_flatten (lookup (here number) es)
-            → lookup (here number) (entries_of ((e.0, value) ∷ es)) ≡ option_flatten (cond b (Some value) (lookup (here number) es))
+            → lookup (here number) (entries_of ((e.0, value) ∷ es))
+            ≡ option_flatten (cond b (Some value) (lookup (here number) es))
         by true is None rest = not_found number (entries_of es) (after e es ordered (same_number number e.0 is))
         by true is (Some value) rest = ap (λ b. cond b (Some value) (lookup (here number) (entries_of es))) is
         by false is None rest = rest
@@ -153,7 +156,8 @@ module _ {V : Type 0} where
             ap (λ l. (e.0, value) ∷ l) rest
             ∙ sym (ap (λ b. cond b (entries_of es) ((e.0, value) ∷ remove_entry (here number) (entries_of es))) is)
 
-    emptied : (es : List (ℕ × Option V)) → entries_of (set_value (here number) es None) ≡ entries_of (remove_entry (here number) es)
+    emptied : (es : List (ℕ × Option V))
+        → entries_of (set_value (here number) es None) ≡ entries_of (remove_entry (here number) es)
     emptied [] = refl
     emptied (e ∷ es) = by (here number e.0) (emptied es)
       where
@@ -189,7 +193,8 @@ module _ {V : Type 0} where
         by : (o : Ordering) → nat_cmp number e.0 ≡ o → (was : Option V)
             → (is_some (lookup (here number) es) ≡ true → entries_of (set_value (here number) es (Some value)) ≡ put)
             → is_some (cond (is_eq o) (Some was) (lookup (here number) es)) ≡ true
-            → entries_of (cond (is_eq o) ((e.0, Some value) ∷ es) ((e.0, was) ∷ set_value (here number) es (Some value)))
+            → entries_of (cond (is_eq o) ((e.0, Some value) ∷ es)
+            ((e.0, was) ∷ set_value (here number) es (Some value)))
             ≡ insert_entry nat_cmp (entries_of ((e.0, was) ∷ es)) number value
         by Less is was rest found =
             absurd (true≢false (sym found ∙ ap is_some (not_found number es

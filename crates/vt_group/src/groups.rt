@@ -376,6 +376,7 @@ impl Groups {
             self.drop_plan(types, new);
             return Err(Rule::S5.denial());
         }
+        // From here on nothing can fail.
         set_all(&mut self.mounts, &mut self.above, types, new);
         self.index.unlist_all(before.as_slice(), &self.mounts);
         Ok(())
@@ -408,6 +409,7 @@ impl Groups {
             self.drop_plan(types, new);
             return Err(Rule::S5.denial());
         }
+        // From here on nothing can fail.
         set_all(&mut self.mounts, &mut self.above, types, new);
         self.index.unlist_all(before.as_slice(), &self.mounts);
         Ok(())
@@ -540,6 +542,7 @@ impl Groups {
             return Err(Rule::S5.denial());
         }
         let old = self.mounts.get(mount.count);
+        // From here on nothing can fail.
         self.above.set(group.count, master);
         self.mounts.set(mount.count, Propagation::Shared(group));
         self.index

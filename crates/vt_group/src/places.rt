@@ -48,9 +48,11 @@ impl<T: Eq + Hash + Copy + Clone + Drop> Places<T> {
             self.forget(one);
             return;
         };
-        if self.of(one) == Some(name) {
-            // It cannot fail: it has a name.
-            let _ = self.names.insert(one, next);
+        let Some(place) = self.names.get_mut(&one) else {
+            return;
+        };
+        if *place == name {
+            *place = next;
         }
     }
 

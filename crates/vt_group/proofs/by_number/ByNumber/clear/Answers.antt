@@ -24,7 +24,8 @@ returns-clause-updates g c other =
 pub returns-clause-kept : goal.returns-clause-kept
 returns-clause-kept g c other room =
     let holds = c.get_mut.follows.holds None in
-    room_stays c.self.inside.places.entries (c.get_mut.follows.lender None).entries c.self.invariant holds.4 holds.1 other
+    room_stays c.self.inside.places.entries (c.get_mut.follows.lender None).entries c.self.invariant holds.4 holds.1
+    other
     (ap (λ map. has_room map other) c.self.view_is ∙ room)
 
 pub returns-clause-ordered : goal.returns-clause-ordered

@@ -15,7 +15,8 @@ returns-then-contains_key-clause-room g c =
 
 pub returns-clause-room : goal.returns-clause-room
 returns-clause-room g c =
-    room_found c.args.number c.insert.new.self.entries c.in_ok-insert.ensures.ordered ∙ ap is_some c.in_ok-insert.ensures.updates.1
+    room_found c.args.number c.insert.new.self.entries c.in_ok-insert.ensures.ordered
+    ∙ ap is_some c.in_ok-insert.ensures.updates.1
 
 pub returns-clause-kept : goal.returns-clause-kept
 returns-clause-kept g c other room =
@@ -23,7 +24,8 @@ returns-clause-kept g c other room =
     ∙ ap is_some (c.in_ok-insert.ensures.updates.0 other)
     ∙ still_found (is_at (nat_cmp c.args.number) other) None
     (lookup (is_at (nat_cmp other)) c.self.inside.places.entries)
-    (sym (room_found other c.self.inside.places.entries c.self.invariant) ∙ ap (λ map. has_room map other) c.self.view_is ∙ room)
+    (sym (room_found other c.self.inside.places.entries c.self.invariant)
+    ∙ ap (λ map. has_room map other) c.self.view_is ∙ room)
 
 pub returns-clause-entries : goal.returns-clause-entries
 returns-clause-entries g c =

@@ -47,9 +47,11 @@ pub invariant_of-self-2 : goal.invariant_of-self-2
 invariant_of-self-2 c = record {
   listed = put_each (λ mount kind. is_listed c.leave.new.self (mount_at mount) kind ≡ true)
       (value_at c.self.inside.mounts) (value_at c.set.new.self) c.args.mount.count c.args.kind
-      (λ other. c.set.ensures.updates other ∙ ap (λ es. cond (is_at (nat_cmp c.args.mount.count) other) (Some c.args.kind)
+      (λ other. c.set.ensures.updates other
+      ∙ ap (λ es. cond (is_at (nat_cmp c.args.mount.count) other) (Some c.args.kind)
       (lookup (is_at (nat_cmp other)) es)) c.reserve.ensures.entries)
-      (c.leave.ensures.own c.args.kind refl (listed_ok c.list.result c.list.ensures.ok (sym c.is_err.ensures.value ∙ c.if-is_err.false)))
+      (c.leave.ensures.own c.args.kind refl
+      (listed_ok c.list.result c.list.ensures.ok (sym c.is_err.ensures.value ∙ c.if-is_err.false)))
       (λ mount kind apart at. c.leave.ensures.others (mount_at mount) kind apart
       (c.list.ensures.kept (mount_at mount) kind (c.self.invariant.listed mount kind at)));
   lower = λ lower upper at. c.leave.ensures.lower (group_at lower) upper

@@ -21,7 +21,6 @@ pub returns-clause-new : goal.returns-clause-new
 returns-clause-new c =
     let es = c.self.inside.mounts.entries in
     let count = c.args.mount.count in
-    let found = kept_shared es count c.args.group (ap (λ groups. propagation_in groups (counted count)) c.self.view_is ∙ c.requires) in
     let inserted = ap (map numbered_peer) c.set.ensures.entries
     ∙ inserted-numbered propagation_of count (Slave c.args.group) es
     ∙ (λ i. insert_entry nat_cmp (c.self.view_is i).peers (counted count) (propagation_of (Slave c.args.group))) in
@@ -32,7 +31,6 @@ pub returns-clause-types : goal.returns-clause-types
 returns-clause-types c other =
     let es = c.self.inside.mounts.entries in
     let count = c.args.mount.count in
-    let found = kept_shared es count c.args.group (ap (λ groups. propagation_in groups (counted count)) c.self.view_is ∙ c.requires) in
     let inserted = ap (map numbered_peer) c.set.ensures.entries
     ∙ inserted-numbered propagation_of count (Slave c.args.group) es
     ∙ (λ i. insert_entry nat_cmp (c.self.view_is i).peers (counted count) (propagation_of (Slave c.args.group))) in
@@ -44,7 +42,8 @@ pub invariant_of-self : goal.invariant_of-self
 invariant_of-self c =
     let es = c.self.inside.mounts.entries in
     let count = c.args.mount.count in
-    let found = kept_shared es count c.args.group (ap (λ groups. propagation_in groups (counted count)) c.self.view_is ∙ c.requires) in
+    let found = kept_shared es count c.args.group
+    (ap (λ groups. propagation_in groups (counted count)) c.self.view_is ∙ c.requires) in
     record {
       listed = put_each (λ mount kind. is_listed c.leave.new.self (mount_at mount) kind ≡ true)
           (value_at c.self.inside.mounts) (value_at c.set.new.self) count (Slave c.args.group) c.set.ensures.updates
