@@ -1,5 +1,5 @@
 -- Mounts get types, and new groups masters, one after another.
-use Rattle.std.proofs.Common.{◌≡◌, refl, sym, ap, ◌∙◌, true, false, Bool, List, None, Option, Some, [], cond, is_some, map, option_map, true≢false, ℕ, nat_eq, nat_lt, ◌||◌, ◌∷◌, ◌++◌, inl, inr, ne_eqb, length, take, get_or, ◌<◌, ◌+◌}
+use Rattle.std.proofs.Common.{◌≡◌, refl, sym, ap, ◌∙◌, true, false, Bool, List, None, Option, Some, [], cond, is_some, map, option_map, true≢false, ℕ, nat_eq, nat_lt, ◌||◌, ◌∷◌, inl, inr, ne_eqb, length, take, get_or, ◌<◌, ◌+◌}
 use Rattle.std.proofs.lemmas.Bool.{and_from, and_parts, eqb-false, eqb-true}
 use Rattle.std.proofs.lemmas.List.{map-append, take_more}
 use Rattle.std.specs.Prelude.{if◌then◌else◌}

@@ -1,12 +1,11 @@
 -- What the answers of several functions share.
-use Rattle.std.proofs.Common.{◌≡◌, ℕ, Bool, true, false, cond, suc, refl, sym, ap, ◌∙◌, map, nat_eq, nat_lt, Option, None, Some, option_map, is_some, List, [], ◌∷◌, ◌++◌, ◌||◌, true≢false, ne_eqb, eq-eqb}
+use Rattle.std.proofs.Common.{◌≡◌, ℕ, Bool, false, suc, refl, sym, ap, ◌∙◌, map, nat_eq, Option, None, Some, option_map, List, [], ◌∷◌, ◌++◌, ◌||◌, true≢false, ne_eqb}
 use Rattle.std.proofs.lemmas.Bool.{eqb-false}
-use Rattle.std.specs.Prelude.{Err, Ok, OnErr, OnOk, Result, is_err, unwrap_or}
-use Rattle.std.specs.BTreeMap.{insert_entry, is_at}
+use Rattle.std.specs.Prelude.{Err, Ok, OnOk, Result, is_err, unwrap_or}
+use Rattle.std.specs.BTreeMap.{is_at}
 use Rattle.std.specs.List.{list_any}
-use Rattle.std.specs.Map.{lookup, remove_entry, values_of}
-use Rattle.std.specs.Ordering.{match_ordering, nat_cmp}
-use Rattle.std.specs.declared.cmp.Ordering.TheVariants.{Less, Equal, Greater}
+use Rattle.std.specs.Map.{lookup, values_of}
+use Rattle.std.specs.Ordering.{nat_cmp}
 use Rattle.vt_spec.specs.Lists.{chain, holds_of, is_among}
 use Rattle.vt_spec.specs.Machine.Mounts.{group_of}
 use Rattle.vt_spec.specs.Machine.Mounts.Propagation.{Private}
@@ -60,45 +59,12 @@ module _ (count : ℕ) (es : List (ℕ × Propagation)) (masters : List (ℕ × 
       ∙ ap (λ o. unwrap_or o Private) (sym (lookup-numbered propagation_of count es))
       ∙ (λ i. propagation_in (view i) (counted count))
 
--- an entry that was put in and is taken out again
-pub undone : (group master : ℕ) (masters : List (ℕ × ℕ)) → lookup (nat_eq group) masters ≡ None
-    → remove_entry (nat_eq group) (insert_entry nat_cmp masters group master) ≡ masters
-undone group master [] none = ap (λ b. cond b [] ((group, master) ∷ [])) (eq-eqb group group refl)
-undone group master (e ∷ masters) none = by (nat_lt group e.0) (nat_eq group e.0) refl none
-    (undone group master masters)
-  where
-    by : (less same : Bool) → nat_eq group e.0 ≡ same → cond same (Some e.1) (lookup (nat_eq group) masters) ≡ None
-        → (lookup (nat_eq group) masters ≡ None
-        → remove_entry (nat_eq group) (insert_entry nat_cmp masters group master) ≡ masters)
-        → remove_entry (nat_eq group) (match_ordering (cond less Less (cond same Equal Greater))
-        ((group, master) ∷ e ∷ masters) ((e.0, master) ∷ masters)
-        (e ∷ insert_entry nat_cmp masters group master)) ≡ e ∷ masters
-    by true same is none rest = ap
-        (λ b. cond b (e ∷ masters) ((group, master) ∷ remove_entry (nat_eq group) (e ∷ masters)))
-        (eq-eqb group group refl)
-    by false true is none rest = absurd (true≢false (ap is_some none))
-    by false false is none rest =
-        ap (λ b. cond b (insert_entry nat_cmp masters group master)
-        (e ∷ remove_entry (nat_eq group) (insert_entry nat_cmp masters group master))) is
-        ∙ ap (λ l. e ∷ l) (rest none)
-
 -- nothing put behind a list leaves it
 pub nothing-behind : (numbers : List ℕ) → numbers ++ [] ≡ numbers
 nothing-behind [] = refl
 nothing-behind (number ∷ rest) = ap (λ l. number ∷ l) (nothing-behind rest)
 
--- what holds of an error holds where the result is one
-pub unlisted : {T E P : Type 0} (r : Result T E) → OnErr r P → is_err r ≡ true → P
-unlisted (Ok t) p err = absurd (true≢false (sym err))
-unlisted (Err e) p err = p
-
 -- what holds of a success holds where the result is none
 pub listed_ok : {T E P : Type 0} (r : Result T E) → OnOk r P → is_err r ≡ false → P
 listed_ok (Ok t) p err = p
 listed_ok (Err e) p err = absurd (true≢false err)
-
--- a step that fails only where nothing is found succeeds where something is
-pub ok_where_some : {T E A P : Type 0} (r : Result T E) (found : Option A) (one : A) → found ≡ Some one
-    → OnErr r (found ≡ None) → OnOk r P → P
-ok_where_some (Ok t) found one is none p = p
-ok_where_some (Err e) found one is none p = absurd (true≢false (ap is_some (sym is ∙ none)))

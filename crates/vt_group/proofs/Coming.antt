@@ -6,7 +6,7 @@ use Rattle.std.proofs.lemmas.Option.{same_Some}
 use Rattle.std.specs.Map.{lookup}
 use Rattle.std.specs.Prelude.{unwrap_or}
 use Rattle.std.specs.Ordering.{nat_cmp}
-use Rattle.std.specs.BTreeMap.{BTreeMap, get, insert_entry, is_at}
+use Rattle.std.specs.BTreeMap.{insert_entry, is_at}
 use Rattle.vt_spec.specs.Language.Calls.TypeWord.{ToShared}
 use Rattle.vt_spec.specs.Machine.Types.{master_after, type_after}
 use Rattle.vt_spec.specs.Lists.{folded}
@@ -19,6 +19,7 @@ use Rattle.vt_location.specs.declared.numbers.GroupId.{GroupId}
 use Rattle.vt_location.specs.declared.numbers.MountId.{MountId}
 use Rattle.vt_location.specs.MountValue.{propagation_of}
 use Rattle.vt_location.specs.Numbers.{counted}
+use Rattle.vt_group.specs.ByNumber.{Numbered, value_at}
 use Rattle.vt_group.specs.declared.groups.NewGroup.{NewGroup}
 use Rattle.vt_group.specs.declared.index.Index.{Index}
 use Rattle.vt_group.specs.Indexed.{group_at, is_listed, is_lower, mount_at}
@@ -256,35 +257,35 @@ shared_still old new lower kept was mount group shared =
 pub each_shared_still : (old new : Index)
     (lower : (low up : GroupId) → is_lower old low up ≡ true → is_lower new low up ≡ true)
     (kept : (mount : MountId) (kind : Propagation) → is_listed old mount kind ≡ true → is_listed new mount kind ≡ true)
-    (types : BTreeMap ℕ Propagation) (list : List (MountId × GroupId)) → EachShared old types list
+    (types : Numbered Propagation) (list : List (MountId × GroupId)) → EachShared old types list
     → EachShared new types list
 each_shared_still old new lower kept types [] each = tt
 each_shared_still old new lower kept types (pair ∷ list) each = (
-  shared_still old new lower kept (get nat_cmp types pair.0.count) pair.0 pair.1 each.0,
+  shared_still old new lower kept (value_at types pair.0.count) pair.0 pair.1 each.0,
   each_shared_still old new lower kept types list each.1,
 )
 
-shared_push : (index : Index) (types : BTreeMap ℕ Propagation) (list : List (MountId × GroupId)) (one : MountId × GroupId)
-    → EachShared index types list → IsShared index (get nat_cmp types one.0.count) one.0 one.1
+shared_push : (index : Index) (types : Numbered Propagation) (list : List (MountId × GroupId)) (one : MountId × GroupId)
+    → EachShared index types list → IsShared index (value_at types one.0.count) one.0 one.1
     → EachShared index types (list ++ one ∷ [])
 shared_push index types [] one each shared = (shared, tt)
 shared_push index types (first ∷ list) one each shared = (each.0, shared_push index types list one each.1 shared)
 
 -- where one more mount is shared, one more of the list is
-pub shared_more : (index : Index) (types : BTreeMap ℕ Propagation) (list : List (MountId × GroupId)) (i : ℕ)
+pub shared_more : (index : Index) (types : Numbered Propagation) (list : List (MountId × GroupId)) (i : ℕ)
     (default : MountId × GroupId) → i < length list → EachShared index types (take i list)
-    → IsShared index (get nat_cmp types (get_or list i default).0.count) (get_or list i default).0 (get_or list i default).1
+    → IsShared index (value_at types (get_or list i default).0.count) (get_or list i default).0 (get_or list i default).1
     → EachShared index types (take (i + 1) list)
 shared_more index types list i default less each shared =
     subst (EachShared index types) (sym (take_more list i default less))
     (shared_push index types (take i list) (get_or list i default) each shared)
 
-module _ (groups : Grouping) (types : BTreeMap ℕ Propagation)
-    (told : (count : ℕ) → type_or_private (get nat_cmp types count) ≡ propagation_in groups (counted count)) where
+module _ (groups : Grouping) (types : Numbered Propagation)
+    (told : (count : ℕ) → type_or_private (value_at types count) ≡ propagation_in groups (counted count)) where
   type_seen : (pair : MountId × GroupId) → type_after (counted pair.1.count) ToShared (propagation_in groups (counted pair.0.count))
-      ≡ propagation_of (kind_shared (get nat_cmp types pair.0.count) pair.1)
+      ≡ propagation_of (kind_shared (value_at types pair.0.count) pair.1)
   type_seen pair =
-      ap (type_after (counted pair.1.count) ToShared) (sym (told pair.0.count)) ∙ by (get nat_cmp types pair.0.count)
+      ap (type_after (counted pair.1.count) ToShared) (sym (told pair.0.count)) ∙ by (value_at types pair.0.count)
     where
       by : (was : Option Propagation) → type_after (counted pair.1.count) ToShared (type_or_private was)
           ≡ propagation_of (kind_shared was pair.1)
@@ -295,8 +296,8 @@ module _ (groups : Grouping) (types : BTreeMap ℕ Propagation)
       by (Some Unbindable) = refl
 
   group_seen : (pair : MountId × GroupId) → master_after (propagation_in groups (counted pair.0.count))
-      ≡ option_map group_number (master_shared (get nat_cmp types pair.0.count))
-  group_seen pair = ap master_after (sym (told pair.0.count)) ∙ by (get nat_cmp types pair.0.count)
+      ≡ option_map group_number (master_shared (value_at types pair.0.count))
+  group_seen pair = ap master_after (sym (told pair.0.count)) ∙ by (value_at types pair.0.count)
     where
       by : (was : Option Propagation) → master_after (type_or_private was) ≡ option_map group_number (master_shared was)
       by None = refl
@@ -313,7 +314,7 @@ module _ (groups : Grouping) (types : BTreeMap ℕ Propagation)
   all_shared_listed index (pair ∷ named) peers each found =
       all_shared_listed index named (with_type_of peers (shared_type groups (pair_of pair))) each.1
       (subst (λ type. FoundListed index (with_type_of peers (counted pair.0.count, type))) (sym (type_seen pair))
-      (typed_listed index pair.0 (kind_shared (get nat_cmp types pair.0.count) pair.1) peers (λ sourced. each.0.0) found))
+      (typed_listed index pair.0 (kind_shared (value_at types pair.0.count) pair.1) peers (λ sourced. each.0.0) found))
 
   -- and all groups under their masters
   pub all_shared_lower : (index : Index) (named : List (MountId × GroupId)) (masters : List (ℕ × ℕ))
@@ -324,4 +325,4 @@ module _ (groups : Grouping) (types : BTreeMap ℕ Propagation)
       all_shared_lower index named (with_master_of masters (shared_group groups (pair_of pair))) each.1
       (rising_master (counted pair.1.count) (master_after (propagation_in groups (counted pair.0.count))) masters rising)
       (subst (λ master. FoundLower index (with_master_of masters (counted pair.1.count, master))) (sym (group_seen pair))
-      (mastered_lower index pair.1 (master_shared (get nat_cmp types pair.0.count)) masters each.0.1 rising found))
+      (mastered_lower index pair.1 (master_shared (value_at types pair.0.count)) masters each.0.1 rising found))

@@ -2,7 +2,6 @@
 use Rattle.std.proofs.Common.{◌≡◌, ℕ, Bool, true, false, cond, List, [], ◌∷◌, map, nat_eq, nat_lt, Option, None, Some, option_map, refl, sym, ap, ◌∙◌}
 use Rattle.std.proofs.lemmas.Bool.{and_from, and_parts, eqb-true}
 use Rattle.std.proofs.lemmas.Map.Keys.{sorted_head, sorted_tail}
-use Rattle.std.specs.BTreeMap.{BTreeMap, IsOrdered}
 use Rattle.std.specs.Prelude.{filter_map, if◌then◌else◌, unwrap_or}
 use Rattle.std.specs.List.{AllByRecursion, cons_option, list_all}
 use Rattle.std.specs.List.Sorted.{IsStrictlySortedBy}
@@ -36,17 +35,13 @@ low_counted f low [] all = refl
 low_counted f low (e ∷ es) all =
     and_from _ _ (counted_less low e.0 ∙ less_nat low e.0 all.0) (low_counted f low es all.1)
 
-rising_sorted : {V W : Type 0} (f : V → W) (es : List (ℕ × V)) → IsStrictlySortedBy nat_cmp (keys_of es)
+-- the numbers of entries in order rise
+pub rising_numbers : {V W : Type 0} (f : V → W) (es : List (ℕ × V)) → IsStrictlySortedBy nat_cmp (keys_of es)
     → are_rising (keys (map (λ (e : ℕ × V). (counted e.0, f e.1)) es)) ≡ true
-rising_sorted f [] sorted = refl
-rising_sorted f (e ∷ es) sorted =
+rising_numbers f [] sorted = refl
+rising_numbers f (e ∷ es) sorted =
     and_from _ _ (low_counted f e.0 es (sorted_head nat_cmp e.0 (keys_of es) sorted))
-    (rising_sorted f es (sorted_tail nat_cmp e.0 (keys_of es) sorted))
-
--- the numbers of an ordered map rise
-pub rising_numbers : {V W : Type 0} (f : V → W) (entries : BTreeMap ℕ V) → IsOrdered nat_cmp entries
-    → are_rising (keys (map (λ (e : ℕ × V). (counted e.0, f e.1)) entries.entries)) ≡ true
-rising_numbers f entries ordered = rising_sorted f entries.entries ordered
+    (rising_numbers f es (sorted_tail nat_cmp e.0 (keys_of es) sorted))
 
 -- entries that a function changes or drops
 

@@ -12,8 +12,7 @@ pub mod Alike
 pub mod Handed
 pub mod IndexLemmas
 pub mod Invariant
-pub mod Undoing
-pub mod Mastering
+pub mod Reserving
 pub mod EndedTypes
 pub mod Coming
 pub mod Listing

@@ -1,6 +1,6 @@
 -- Who receives from a group: the mounts of the groups that are found from it downwards.
 use Rattle.std.proofs.lemmas.List.Filters.{length-filter_both}
-use Rattle.std.proofs.Common.{◌≡◌, refl, sym, ap, ◌∙◌, true, false, zero, suc, Bool, List, None, Option, Some, [], arith, cond, is_some, length, map, nat_eq, option_map, true≢false, ℕ, ◌&&◌, ◌||◌, ◌+◌, ◌∷◌, ◌≤◌, filter, not, ⊎_elim, inl, inr}
+use Rattle.std.proofs.Common.{◌≡◌, refl, sym, ap, ◌∙◌, true, false, zero, suc, Bool, List, None, Option, Some, [], arith, cond, is_some, length, map, nat_eq, option_map, true≢false, ℕ, ◌||◌, ◌+◌, ◌∷◌, ◌≤◌, filter, not, ⊎_elim, inl, inr}
 use Rattle.std.proofs.lemmas.Bool.{and_parts, eqb-true, or_cases, or_parts}
 use Rattle.std.specs.List.{cons_option, list_all, list_any}
 use Rattle.vt_spec.specs.Lists.{any_pair, chain, holds_of, is_among, last_or}

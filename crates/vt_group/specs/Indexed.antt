@@ -1,7 +1,5 @@
 -- The lists by which the groups find mounts and groups.
 use Rattle.std.specs.Prelude.{Bool, IsSome, None, Option, Some, false, true, ℕ, ◌&&◌, ◌≡◌}
-use Rattle.std.specs.BTreeMap.{BTreeMap, IsOrdered, get}
-use Rattle.std.specs.Ordering.{nat_cmp}
 use Rattle.vt_location.specs.declared.mounts.Propagation.{Propagation}
 use Rattle.vt_location.specs.declared.mounts.Propagation.TheVariants.{Private, Shared, Slave, Unbindable}
 use Rattle.vt_location.specs.declared.numbers.GroupId.{GroupId}
@@ -10,6 +8,7 @@ use Rattle.vt_group.specs.declared.index.Index.{Index}
 use Rattle.vt_group.specs.Handing.{group_handed, kind_handed}
 use Rattle.vt_group.specs.Names.{is_under}
 use Rattle.vt_group.specs.Sets.{has, same_group, same_id}
+use Rattle.vt_group.specs.ByNumber.{IsAscending, Numbered, value_at}
 
 abbrev pub group_of_kind : Propagation → Option GroupId
 group_of_kind (Shared group) = Some group
@@ -46,16 +45,16 @@ is_listed index mount Private = true
 is_listed index mount Unbindable = true
 
 -- Once a group without members has ended, what has the group's heir in its place is listed so, if it was listed before.
-pub record Hands (old new : Index) (lost : GroupId) (heir : Option GroupId) (types : BTreeMap ℕ Propagation)
-    (above : BTreeMap ℕ GroupId) : Type 0 where
+pub record Hands (old new : Index) (lost : GroupId) (heir : Option GroupId) (types : Numbered Propagation)
+    (above : Numbered GroupId) : Type 0 where
   pub mounts : (mount : MountId) (was kind : Propagation)
       → ((upper : GroupId) → heir ≡ Some upper → is_lower old lost upper ≡ true)
       → (was ≡ Shared lost → ⊥)
-      → IsSome (get nat_cmp types mount.count) → kind_handed lost heir was ≡ Some kind
+      → IsSome (value_at types mount.count) → kind_handed lost heir was ≡ Some kind
       → is_listed old mount was ≡ true → is_listed new mount kind ≡ true
   pub groups : (lower was upper : GroupId)
       → ((upper : GroupId) → heir ≡ Some upper → is_lower old lost upper ≡ true)
-      → same_group lost lower ≡ false → IsSome (get nat_cmp above lower.count)
+      → same_group lost lower ≡ false → IsSome (value_at above lower.count)
       → group_handed lost heir was ≡ Some upper
       → is_lower old lower was ≡ true → is_lower new lower upper ≡ true
 
@@ -66,10 +65,10 @@ abbrev pub group_at : ℕ → GroupId
 group_at count = record { count = count }
 
 -- each mount that has a type is listed, and each group that has a master
-pub record Lists (index : Index) (mounts : BTreeMap ℕ Propagation) (above : BTreeMap ℕ GroupId) : Type 0 where
-  pub listed : (mount : ℕ) (kind : Propagation) → get nat_cmp mounts mount ≡ Some kind
+pub record Lists (index : Index) (mounts : Numbered Propagation) (above : Numbered GroupId) : Type 0 where
+  pub listed : (mount : ℕ) (kind : Propagation) → value_at mounts mount ≡ Some kind
       → is_listed index (mount_at mount) kind ≡ true
-  pub lower : (lower : ℕ) (upper : GroupId) → get nat_cmp above lower ≡ Some upper
+  pub lower : (lower : ℕ) (upper : GroupId) → value_at above lower ≡ Some upper
       → is_lower index (group_at lower) upper ≡ true
-  pub ordered : IsOrdered nat_cmp mounts
-  pub ordered_above : IsOrdered nat_cmp above
+  pub ordered : IsAscending mounts
+  pub ordered_above : IsAscending above

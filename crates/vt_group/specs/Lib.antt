@@ -1,3 +1,4 @@
+pub mod ByNumber
 pub mod Names
 pub mod Grouping
 pub mod Handing
@@ -9,5 +10,4 @@ pub mod Laws
 pub mod Listing
 pub mod Receiving
 pub mod Sets
-pub mod Insertions
 pub mod Additions

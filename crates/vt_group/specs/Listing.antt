@@ -1,9 +1,7 @@
 -- Mounts and groups that come are listed first.
-use Rattle.std.specs.Prelude.{List, None, Option, Some, [], is_some, true, ℕ, ◌∷◌, ◌≡◌}
+use Rattle.std.specs.Prelude.{List, None, Option, Some, [], is_some, true, ◌∷◌, ◌≡◌}
 use Rattle.vt_spec.specs.Machine.Mounts.{source_of}
 use Rattle.vt_location.specs.declared.mounts.Mount.{Mount}
-use Rattle.std.specs.BTreeMap.{BTreeMap, get}
-use Rattle.std.specs.Ordering.{nat_cmp}
 use Rattle.vt_location.specs.declared.mounts.Propagation.{Propagation}
 use Rattle.vt_location.specs.declared.mounts.Propagation.TheVariants.{Private, Shared, Slave, Unbindable}
 use Rattle.vt_location.specs.declared.numbers.GroupId.{GroupId}
@@ -12,6 +10,7 @@ use Rattle.vt_location.specs.MountValue.{propagation_of}
 use Rattle.vt_group.specs.declared.groups.NewGroup.{NewGroup}
 use Rattle.vt_group.specs.declared.index.Index.{Index}
 use Rattle.vt_group.specs.Indexed.{is_listed, is_lower}
+use Rattle.vt_group.specs.ByNumber.{Numbered, value_at}
 
 abbrev pub IsJoined : Index → GroupId → Option GroupId → Type 0
 IsJoined index group None = Unit {0}
@@ -47,10 +46,10 @@ IsShared index was mount group =
     (is_listed index mount (kind_shared was group) ≡ true) × IsJoined index group (master_shared was)
 
 -- each of these mounts is listed as shared
-abbrev pub EachShared : Index → BTreeMap ℕ Propagation → List (MountId × GroupId) → Type 0
+abbrev pub EachShared : Index → Numbered Propagation → List (MountId × GroupId) → Type 0
 EachShared index types [] = Unit {0}
 EachShared index types (pair ∷ rest) =
-    IsShared index (get nat_cmp types pair.0.count) pair.0 pair.1 × EachShared index types rest
+    IsShared index (value_at types pair.0.count) pair.0 pair.1 × EachShared index types rest
 
 -- each mount that is shared or a slave is listed
 abbrev pub EachListed : Index → List Mount → Type 0

@@ -1,23 +1,15 @@
-//! Types of mounts and masters of groups that come all at once, or not at all.
-ghost use Rattle.std.specs.Prelude.{◌≡◌, ℕ, Option, OnErr, OnOk, IfOk, map};
-ghost use Rattle.std.specs.BTreeMap.{IsOrdered, get};
-ghost use Rattle.std.specs.Ordering.{nat_cmp};
+//! Types of mounts and masters of groups that change together: room is reserved for all of them first.
+ghost use Rattle.std.specs.Prelude.{◌≡◌, ℕ, All, IfOk, OnOk, map, true};
 ghost use Rattle.vt_spec.specs.Lists.{folded};
-ghost use Rattle.vt_location.specs.declared.mounts.Propagation.{Propagation as TypeKept};
-ghost use Rattle.vt_location.specs.declared.numbers.GroupId.{GroupId as GroupNumber};
-ghost use Rattle.vt_location.specs.MountValue.{propagation_of};
-ghost use Rattle.vt_location.specs.Numbers.{counted};
-ghost use Rattle.vt_group.specs.Additions.{master_left, typed_pair, with_new_master};
-ghost use Rattle.vt_group.specs.Insertions.{Undoes};
-ghost use Rattle.vt_group.specs.Steps.{numbered_peer};
-ghost use Rattle.vt_group.specs.Together.{typed, with_type_of};
+ghost use Rattle.vt_group.specs.Additions.{FitsMaster, FitsType, typed_pair};
+ghost use Rattle.vt_group.specs.ByNumber.{IsAscending, has_room};
+ghost use Rattle.vt_group.specs.Steps.{numbered_master, numbered_peer};
+ghost use Rattle.vt_group.specs.Together.{new_group, typed, with_master_of, with_type_of};
 
+use crate::by_number::ByNumber;
 use crate::groups::NewGroup;
-use crate::insertions::Insertions;
 use crate::propagation::source;
-use indexmap::IndexSet;
 use std::alloc::{AllocError, Global};
-use std::collections::BTreeMap;
 use vt_location::{GroupId, Mount, MountId, Propagation};
 
 /// The types of mounts.
@@ -34,142 +26,162 @@ pub(crate) fn types_of(
     Ok(types)
 }
 
-/// Mounts get types, and groups get masters or lose them, one after another. If an allocation fails, all is as it was.
-pub(crate) fn add_all(
-    alloc: Global,
-    types: &mut BTreeMap<u64, Propagation>,
-    above: &mut BTreeMap<u64, GroupId>,
+/// Reserves room for these types and masters. None changes.
+pub(crate) fn reserve_all(
+    types: &mut ByNumber<Propagation>,
+    above: &mut ByNumber<GroupId>,
     mounts: &[(MountId, Propagation)],
     new: &[NewGroup],
 ) -> Result<(), AllocError>
-    ensures types { OnOk result (map numbered_peer types.new.entries
-        ≡ folded with_type_of (map numbered_peer types.old.entries) (map typed_pair mounts.now)) }
-    ensures masters { OnOk result ((group : ℕ) → get nat_cmp above.new group
-        ≡ folded with_new_master (get nat_cmp above.old) new.now group) }
-    ensures err_types { OnErr result (get nat_cmp types.new ≡ get nat_cmp types.old) }
-    ensures err_masters { OnErr result (get nat_cmp above.new ≡ get nat_cmp above.old) }
-    ensures ordered { IsOrdered nat_cmp types.old → IsOrdered nat_cmp types.new }
-    ensures ordered_above { IsOrdered nat_cmp above.old → IsOrdered nat_cmp above.new }
+    ensures types { types.new.entries ≡ types.old.entries }
+    ensures masters { above.new.entries ≡ above.old.entries }
+    ensures room { OnOk result (All (FitsType types.new) mounts.now) }
+    ensures room_above { OnOk result (All (FitsMaster above.new) new.now) }
 {
-    let mut insertions = Insertions::new(alloc);
-    if add_types(types, mounts, &mut insertions).is_err()
-        || add_masters(alloc, above, new).is_err()
-    {
-        insertions.undo(types);
-        return Err(AllocError);
-    }
-    Ok(())
+    reserve_types(types, mounts)?;
+    reserve_masters(above, new)
 }
 
-// Mounts get types, one after another.
-fn add_types(
-    types: &mut BTreeMap<u64, Propagation>,
+fn reserve_types(
+    types: &mut ByNumber<Propagation>,
     mounts: &[(MountId, Propagation)],
-    insertions: &mut Insertions<Propagation>,
 ) -> Result<(), AllocError>
-    ensures ok { OnOk result (map numbered_peer types.new.entries
-        ≡ folded with_type_of (map numbered_peer types.old.entries) (map typed_pair mounts.now)) }
-    ensures undo { (was : ℕ → Option TypeKept) → Undoes insertions.old types.old was
-        → Undoes insertions.new types.new was }
-    ensures ordered { IsOrdered nat_cmp types.old → IsOrdered nat_cmp types.new }
+    ensures entries { types.new.entries ≡ types.old.entries }
+    ensures room { OnOk result (All (FitsType types.new) mounts.now) }
 {
     for pair in mounts {
-        add_type(types, pair.0, pair.1, insertions)?;
+        reserve_type(types, pair.0, pair.1)?;
     }
     Ok(())
 }
 
-fn add_type(
-    types: &mut BTreeMap<u64, Propagation>,
+fn reserve_type(
+    types: &mut ByNumber<Propagation>,
     mount: MountId,
     kind: Propagation,
-    insertions: &mut Insertions<Propagation>,
 ) -> Result<(), AllocError>
-    ensures ok { OnOk result (map numbered_peer types.new.entries
-        ≡ with_type_of (map numbered_peer types.old.entries) (counted mount.count, propagation_of kind)) }
-    ensures undo { (was : ℕ → Option TypeKept) → Undoes insertions.old types.old was
-        → Undoes insertions.new types.new was }
-    ensures ordered { IsOrdered nat_cmp types.old → IsOrdered nat_cmp types.new }
+    ensures entries { types.new.entries ≡ types.old.entries }
+    ensures room { OnOk result (FitsType types.new (mount, kind)) }
+    ensures kept { (other : ℕ) → has_room types.old other ≡ true → has_room types.new other ≡ true }
 {
     if source(kind).is_none() {
         return Ok(());
     }
-    insertions.insert(types, mount.count, kind)
+    types.reserve(mount.count)
 }
 
-// Groups get masters or lose them, one after another. If an allocation fails, all is as it was.
-fn add_masters(
-    alloc: Global,
-    above: &mut BTreeMap<u64, GroupId>,
-    new: &[NewGroup],
-) -> Result<(), AllocError>
-    ensures ok { OnOk result ((group : ℕ) → get nat_cmp above.new group
-        ≡ folded with_new_master (get nat_cmp above.old) new.now group) }
-    ensures err { OnErr result (get nat_cmp above.new ≡ get nat_cmp above.old) }
-    ensures ordered { IsOrdered nat_cmp above.old → IsOrdered nat_cmp above.new }
-{
-    let mut insertions = Insertions::new(alloc);
-    let mut leaving = IndexSet::new(alloc);
-    if insert_masters(above, new, &mut insertions, &mut leaving).is_err() {
-        insertions.undo(above);
-        return Err(AllocError);
-    }
-    // A master that is removed could not be put back without memory, so that is done last.
-    remove_masters(above, leaving.as_slice());
-    Ok(())
-}
-
-// Groups get masters, one after another, except for those that are left to lose them.
-fn insert_masters(
-    above: &mut BTreeMap<u64, GroupId>,
-    new: &[NewGroup],
-    insertions: &mut Insertions<GroupId>,
-    leaving: &mut IndexSet<GroupId>,
-) -> Result<(), AllocError>
-    ensures ok { OnOk result ((group : ℕ) → master_left leaving.new.keys (get nat_cmp above.new) group
-        ≡ folded with_new_master (master_left leaving.old.keys (get nat_cmp above.old)) new.now group) }
-    ensures undo { (was : ℕ → Option GroupNumber) → Undoes insertions.old above.old was
-        → Undoes insertions.new above.new was }
-    ensures ordered { IsOrdered nat_cmp above.old → IsOrdered nat_cmp above.new }
+fn reserve_masters(above: &mut ByNumber<GroupId>, new: &[NewGroup]) -> Result<(), AllocError>
+    ensures entries { above.new.entries ≡ above.old.entries }
+    ensures room { OnOk result (All (FitsMaster above.new) new.now) }
 {
     for group in new {
-        insert_master(above, *group, insertions, leaving)?;
+        reserve_master(above, *group)?;
     }
     Ok(())
 }
 
-fn insert_master(
-    above: &mut BTreeMap<u64, GroupId>,
-    new: NewGroup,
-    insertions: &mut Insertions<GroupId>,
-    leaving: &mut IndexSet<GroupId>,
-) -> Result<(), AllocError>
-    ensures ok { OnOk result ((group : ℕ) → master_left leaving.new.keys (get nat_cmp above.new) group
-        ≡ with_new_master (master_left leaving.old.keys (get nat_cmp above.old)) new group) }
-    ensures undo { (was : ℕ → Option GroupNumber) → Undoes insertions.old above.old was
-        → Undoes insertions.new above.new was }
-    ensures ordered { IsOrdered nat_cmp above.old → IsOrdered nat_cmp above.new }
+fn reserve_master(above: &mut ByNumber<GroupId>, new: NewGroup) -> Result<(), AllocError>
+    ensures entries { above.new.entries ≡ above.old.entries }
+    ensures room { OnOk result (FitsMaster above.new new) }
+    ensures kept { (other : ℕ) → has_room above.old other ≡ true → has_room above.new other ≡ true }
 {
-    match new.master {
-        Some(master) => {
-            leaving.swap_remove(&new.group);
-            insertions.insert(above, new.group.count, master)
-        }
-        None => {
-            if above.contains_key(&new.group.count) {
-                leaving.insert(new.group)?;
-            }
-            Ok(())
-        }
+    if new.master.is_none() {
+        return Ok(());
+    }
+    above.reserve(new.group.count)
+}
+
+/// Gives up the room that is left without a type or a master. None changes, and it does not allocate.
+pub(crate) fn release_all(
+    types: &mut ByNumber<Propagation>,
+    above: &mut ByNumber<GroupId>,
+    mounts: &[(MountId, Propagation)],
+    new: &[NewGroup],
+)
+    ensures types { types.new.entries ≡ types.old.entries }
+    ensures masters { above.new.entries ≡ above.old.entries }
+{
+    for pair in mounts {
+        types.release(pair.0.count);
+    }
+    release_masters(above, new);
+}
+
+fn release_masters(above: &mut ByNumber<GroupId>, new: &[NewGroup])
+    ensures { above.new.entries ≡ above.old.entries }
+{
+    for group in new {
+        above.release(group.group.count);
     }
 }
 
-// Groups lose their masters.
-fn remove_masters(above: &mut BTreeMap<u64, GroupId>, groups: &[GroupId])
-    ensures each { (group : ℕ) → get nat_cmp above.new group ≡ master_left groups.now (get nat_cmp above.old) group }
-    ensures ordered { IsOrdered nat_cmp above.old → IsOrdered nat_cmp above.new }
+/// Mounts get types, and groups get masters or lose them, one after another. There is room, so that it does not
+/// allocate.
+pub(crate) fn set_all(
+    types: &mut ByNumber<Propagation>,
+    above: &mut ByNumber<GroupId>,
+    mounts: &[(MountId, Propagation)],
+    new: &[NewGroup],
+)
+    requires room { All (FitsType types.old) mounts.now }
+    requires room_above { All (FitsMaster above.old) new.now }
+    ensures types { map numbered_peer types.new.entries
+        ≡ folded with_type_of (map numbered_peer types.old.entries) (map typed_pair mounts.now) }
+    ensures masters { map numbered_master above.new.entries
+        ≡ folded with_master_of (map numbered_master above.old.entries) (map new_group new.now) }
+    ensures ordered { IsAscending types.old → IsAscending types.new }
+    ensures ordered_above { IsAscending above.old → IsAscending above.new }
 {
-    for group in groups {
-        above.remove(&group.count);
+    set_types(types, mounts);
+    set_masters(above, new);
+    // A group that lost its master has room for another still.
+    release_masters(above, new);
+}
+
+fn set_types(types: &mut ByNumber<Propagation>, mounts: &[(MountId, Propagation)])
+    requires { All (FitsType types.old) mounts.now }
+    ensures entries { map numbered_peer types.new.entries
+        ≡ folded with_type_of (map numbered_peer types.old.entries) (map typed_pair mounts.now) }
+    ensures ordered { IsAscending types.old → IsAscending types.new }
+{
+    for pair in mounts {
+        set_type(types, pair.0, pair.1);
+    }
+}
+
+fn set_type(types: &mut ByNumber<Propagation>, mount: MountId, kind: Propagation)
+    requires { FitsType types.old (mount, kind) }
+    ensures entries { map numbered_peer types.new.entries
+        ≡ with_type_of (map numbered_peer types.old.entries) (typed_pair (mount, kind)) }
+    ensures kept { (other : ℕ) → has_room types.old other ≡ true → has_room types.new other ≡ true }
+    ensures ordered { IsAscending types.old → IsAscending types.new }
+{
+    if source(kind).is_some() {
+        types.set(mount.count, kind);
+    }
+}
+
+fn set_masters(above: &mut ByNumber<GroupId>, new: &[NewGroup])
+    requires { All (FitsMaster above.old) new.now }
+    ensures entries { map numbered_master above.new.entries
+        ≡ folded with_master_of (map numbered_master above.old.entries) (map new_group new.now) }
+    ensures ordered { IsAscending above.old → IsAscending above.new }
+{
+    for group in new {
+        set_master(above, *group);
+    }
+}
+
+// A group that loses its master keeps the room for one, since it may come again with another.
+fn set_master(above: &mut ByNumber<GroupId>, new: NewGroup)
+    requires { FitsMaster above.old new }
+    ensures entries { map numbered_master above.new.entries
+        ≡ with_master_of (map numbered_master above.old.entries) (new_group new) }
+    ensures kept { (other : ℕ) → has_room above.old other ≡ true → has_room above.new other ≡ true }
+    ensures ordered { IsAscending above.old → IsAscending above.new }
+{
+    match new.master {
+        Some(master) => above.set(new.group.count, master),
+        None => above.clear(new.group.count),
     }
 }

@@ -24,7 +24,8 @@ ghost use Rattle.vt_group.specs.Steps.{ended, ended_if_lost, group_number, hande
 ghost use Rattle.vt_mount_laws.specs.Mounts.Attaching.{numbers_of};
 ghost use Rattle.vt_mount_laws.specs.Mounts.Receivers.{AllGroupsLive};
 
-use crate::additions::{add_all, types_of};
+use crate::additions::{release_all, reserve_all, set_all, types_of};
+use crate::by_number::ByNumber;
 use crate::handing::{hand_groups, hand_mounts};
 use crate::index::Index;
 use crate::listed::Listed;
@@ -47,9 +48,9 @@ pub struct NewGroup {
 #[derive(Debug, Drop)]
 pub struct Groups {
     // By the counts of the mounts, so that they stand in order of attachment.
-    mounts: BTreeMap<u64, Propagation>,
+    mounts: ByNumber<Propagation>,
     // By the counts of the groups.
-    above: BTreeMap<u64, GroupId>,
+    above: ByNumber<GroupId>,
     index: Index,
 }
 
@@ -73,8 +74,8 @@ impl Groups {
         ensures { result ≡ no_groups }
     {
         Groups {
-            mounts: BTreeMap::new(alloc),
-            above: BTreeMap::new(alloc),
+            mounts: ByNumber::new(alloc),
+            above: ByNumber::new(alloc),
             index: Index::new(alloc),
         }
     }
@@ -90,14 +91,14 @@ impl Groups {
     pub fn propagation_of(&self, mount: MountId) -> Option<Propagation>
         ensures { type_or_private result ≡ propagation_in self.now (counted mount.count) }
     {
-        self.mounts.get(&mount.count).copied()
+        self.mounts.get(mount.count)
     }
 
     /// The master of a group.
     pub fn master_of(&self, group: GroupId) -> Option<GroupId>
         ensures { option_map group_number result ≡ master_in self.now (counted group.count) }
     {
-        self.above.get(&group.count).copied()
+        self.above.get(group.count)
     }
 
     /// The group that a mount is the only member of: it ends once the mount leaves it. It does not allocate.
@@ -313,7 +314,7 @@ impl Groups {
         ensures types { (other : ℕ) → propagation_in self.new other
             ≡ type_once_left self.old (counted mount.count) other }
     {
-        let old = self.mounts.remove(&mount.count);
+        let old = self.mounts.remove(mount.count);
         self.index.leave(mount, old, None);
         self.end_if_lost(old);
     }
@@ -346,8 +347,7 @@ impl Groups {
     {
         let member = Propagation::Shared(group);
         let slave = Propagation::Slave(group);
-        // It cannot fail: the mount has a type.
-        let _ = self.mounts.insert(mount.count, slave);
+        self.mounts.set(mount.count, slave);
         self.index.leave(mount, Some(member), Some(slave));
         self.end_if_lost(Some(member));
     }
@@ -365,24 +365,19 @@ impl Groups {
         let Ok(types) = types_of(alloc, mounts) else {
             return Err(Rule::S5.denial());
         };
-        let Ok(before) = self.types_before(alloc, types.as_slice()) else {
+        let types = types.as_slice();
+        let Ok(before) = self.types_before(alloc, types) else {
             return Err(Rule::S5.denial());
         };
         if self.index.join_all(new).is_err()
             || self.index.list_all(mounts).is_err()
-            || add_all(
-                alloc,
-                &mut self.mounts,
-                &mut self.above,
-                types.as_slice(),
-                new,
-            )
-            .is_err()
+            || reserve_all(&mut self.mounts, &mut self.above, types, new).is_err()
         {
-            self.index.unlist_all(types.as_slice(), &self.mounts);
-            self.index.part_all(new, &self.above);
+            self.drop_plan(types, new);
             return Err(Rule::S5.denial());
         }
+        // From here on nothing can fail.
+        set_all(&mut self.mounts, &mut self.above, types, new);
         self.index.unlist_all(before.as_slice(), &self.mounts);
         Ok(())
     }
@@ -403,25 +398,30 @@ impl Groups {
         let Ok(new) = self.groups_when_shared(alloc, named) else {
             return Err(Rule::S5.denial());
         };
-        let Ok(before) = self.types_before(alloc, types.as_slice()) else {
+        let types = types.as_slice();
+        let new = new.as_slice();
+        let Ok(before) = self.types_before(alloc, types) else {
             return Err(Rule::S5.denial());
         };
         if self.index.share(named, &self.mounts).is_err()
-            || add_all(
-                alloc,
-                &mut self.mounts,
-                &mut self.above,
-                types.as_slice(),
-                new.as_slice(),
-            )
-            .is_err()
+            || reserve_all(&mut self.mounts, &mut self.above, types, new).is_err()
         {
-            self.index.unlist_all(types.as_slice(), &self.mounts);
-            self.index.part_all(new.as_slice(), &self.above);
+            self.drop_plan(types, new);
             return Err(Rule::S5.denial());
         }
+        // From here on nothing can fail.
+        set_all(&mut self.mounts, &mut self.above, types, new);
         self.index.unlist_all(before.as_slice(), &self.mounts);
         Ok(())
+    }
+
+    // A change to these types and new groups was planned, all or in part, and is given up.
+    fn drop_plan(&mut self, types: &[(MountId, Propagation)], new: &[NewGroup])
+        ensures { self.new ≡ self.old }
+    {
+        release_all(&mut self.mounts, &mut self.above, types, new);
+        self.index.unlist_all(types, &self.mounts);
+        self.index.part_all(new, &self.above);
     }
 
     // The types of mounts that get others, so that the mounts can be taken out of where they were listed for them.
@@ -533,16 +533,18 @@ impl Groups {
         }
         if self.index.list(mount, Propagation::Shared(group)).is_err()
             || self.index.join(group, master).is_err()
+            || self.above.reserve(group.count).is_err()
         {
             return Err(Rule::S5.denial());
         }
-        let Ok(_) = self.above.insert(group.count, master) else {
+        if self.mounts.reserve(mount.count).is_err() {
+            self.above.release(group.count);
             return Err(Rule::S5.denial());
-        };
-        let Ok(old) = self.mounts.insert(mount.count, Propagation::Shared(group)) else {
-            self.above.remove(&group.count);
-            return Err(Rule::S5.denial());
-        };
+        }
+        let old = self.mounts.get(mount.count);
+        // From here on nothing can fail.
+        self.above.set(group.count, master);
+        self.mounts.set(mount.count, Propagation::Shared(group));
         self.index
             .leave(mount, old, Some(Propagation::Shared(group)));
         self.end_if_lost(old);
@@ -557,12 +559,11 @@ impl Groups {
         ensures memory { IfErr result (λ deny. deny ≡ denial S5) }
         ensures err { OnErr result (self.new ≡ self.old) }
     {
-        if self.index.list(mount, kind).is_err() {
+        if self.index.list(mount, kind).is_err() || self.mounts.reserve(mount.count).is_err() {
             return Err(Rule::S5.denial());
         }
-        let Ok(old) = self.mounts.insert(mount.count, kind) else {
-            return Err(Rule::S5.denial());
-        };
+        let old = self.mounts.get(mount.count);
+        self.mounts.set(mount.count, kind);
         self.index.leave(mount, old, Some(kind));
         self.end_if_lost(old);
         Ok(())
@@ -608,10 +609,10 @@ impl Groups {
         ensures masters { (other : ℕ) → master_in self.new other
             ≡ master_after_end (counted group.count) (master_in self.old (counted group.count)) self.old other }
     {
-        let heir = self.above.get(&group.count).copied();
+        let heir = self.above.get(group.count);
         hand_mounts(&mut self.mounts, self.index.relatives(group), group, heir);
         hand_groups(&mut self.above, self.index.lowers(group), group, heir);
-        self.above.remove(&group.count);
+        self.above.remove(group.count);
         self.index.end(group, heir, &self.mounts, &self.above);
     }
 }

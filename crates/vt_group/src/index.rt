@@ -1,8 +1,7 @@
 //! The lists by which the groups find mounts and groups without passing over all of them.
 ghost use Rattle.std.specs.Prelude.{◌≡◌, ◌≢◌, ℕ, None, Some, OnErr, OnOk, IfSome, IsSome, false, true};
-ghost use Rattle.std.specs.BTreeMap.{get};
+ghost use Rattle.vt_group.specs.ByNumber.{value_at};
 ghost use Rattle.std.specs.List.{list_any};
-ghost use Rattle.std.specs.Ordering.{nat_cmp};
 ghost use Rattle.vt_location.specs.declared.mounts.Propagation.{Propagation as TypeKept};
 ghost use Rattle.vt_location.specs.declared.mounts.Propagation.TheVariants.{Shared as SharedIn};
 ghost use Rattle.vt_location.specs.declared.numbers.GroupId.{GroupId as GroupNumber};
@@ -14,6 +13,7 @@ ghost use Rattle.vt_group.specs.Listing.{EachJoined, EachListed, EachShared, IsJ
 ghost use Rattle.vt_group.specs.Names.{KeepsNames, is_under};
 ghost use Rattle.vt_group.specs.Sets.{has, same_group, same_id};
 
+use crate::by_number::ByNumber;
 use crate::groups::NewGroup;
 use crate::listed::Listed;
 use crate::names::Names;
@@ -21,7 +21,7 @@ use crate::places::{Places, forget_lower, forget_untyped};
 use crate::propagation::{own_group, source};
 use crate::sets::{Sets, keep_lower, keep_typed};
 use std::alloc::{AllocError, Global};
-use std::collections::{BTreeMap, LinkedList};
+use std::collections::LinkedList;
 use std::hash::Hash;
 use vt_location::{GroupId, Mount, MountId, Propagation};
 
@@ -183,7 +183,7 @@ impl Index {
     pub(crate) fn share(
         &mut self,
         named: &[(MountId, GroupId)],
-        types: &BTreeMap<u64, Propagation>,
+        types: &ByNumber<Propagation>,
     ) -> Result<(), AllocError>
         ensures ok { OnOk result (EachShared self.new types.now named.now) }
         ensures kept { (mount : MountNumber) (kind : TypeKept) → is_listed self.old mount kind ≡ true
@@ -199,14 +199,14 @@ impl Index {
     fn share_pair(
         &mut self,
         pair: &(MountId, GroupId),
-        types: &BTreeMap<u64, Propagation>,
+        types: &ByNumber<Propagation>,
     ) -> Result<(), AllocError>
-        ensures ok { OnOk result (IsShared self.new (get nat_cmp types.now pair.now.0.count) pair.now.0 pair.now.1) }
+        ensures ok { OnOk result (IsShared self.new (value_at types.now pair.now.0.count) pair.now.0 pair.now.1) }
         ensures kept { (mount : MountNumber) (kind : TypeKept) → is_listed self.old mount kind ≡ true
             → is_listed self.new mount kind ≡ true }
         ensures lower { (low up : GroupNumber) → is_lower self.old low up ≡ true → is_lower self.new low up ≡ true }
     {
-        let was = types.get(&pair.0.count).copied();
+        let was = types.get(pair.0.count);
         self.share_one(was, pair.0, pair.1)
     }
 
@@ -291,22 +291,22 @@ impl Index {
     pub(crate) fn unlist_all(
         &mut self,
         mounts: &[(MountId, Propagation)],
-        types: &BTreeMap<u64, Propagation>,
+        types: &ByNumber<Propagation>,
     )
-        ensures kept { (mount : MountNumber) (kind : TypeKept) → get nat_cmp types.now mount.count ≡ Some kind
+        ensures kept { (mount : MountNumber) (kind : TypeKept) → value_at types.now mount.count ≡ Some kind
             → is_listed self.old mount kind ≡ true → is_listed self.new mount kind ≡ true }
         ensures lower { (low up : GroupNumber) → is_lower self.old low up ≡ true → is_lower self.new low up ≡ true }
     {
         for pair in mounts {
-            self.leave(pair.0, Some(pair.1), types.get(&pair.0.count).copied());
+            self.leave(pair.0, Some(pair.1), types.get(pair.0.count));
         }
     }
 
     /// Takes groups out of where they are listed for these masters, unless they have them. It does not allocate.
-    pub(crate) fn part_all(&mut self, groups: &[NewGroup], above: &BTreeMap<u64, GroupId>)
+    pub(crate) fn part_all(&mut self, groups: &[NewGroup], above: &ByNumber<GroupId>)
         ensures kept { (mount : MountNumber) (kind : TypeKept) → is_listed self.old mount kind ≡ true
             → is_listed self.new mount kind ≡ true }
-        ensures lower { (low up : GroupNumber) → get nat_cmp above.now low.count ≡ Some up
+        ensures lower { (low up : GroupNumber) → value_at above.now low.count ≡ Some up
             → is_lower self.old low up ≡ true → is_lower self.new low up ≡ true }
     {
         for group in groups {
@@ -314,14 +314,14 @@ impl Index {
         }
     }
 
-    fn part_new(&mut self, new: NewGroup, above: &BTreeMap<u64, GroupId>)
+    fn part_new(&mut self, new: NewGroup, above: &ByNumber<GroupId>)
         ensures kept { (mount : MountNumber) (kind : TypeKept) → is_listed self.old mount kind ≡ true
             → is_listed self.new mount kind ≡ true }
-        ensures lower { (low up : GroupNumber) → get nat_cmp above.now low.count ≡ Some up
+        ensures lower { (low up : GroupNumber) → value_at above.now low.count ≡ Some up
             → is_lower self.old low up ≡ true → is_lower self.new low up ≡ true }
     {
         if let Some(master) = new.master {
-            self.part(new.group, master, above.get(&new.group.count).copied());
+            self.part(new.group, master, above.get(new.group.count));
         }
     }
 
@@ -331,8 +331,8 @@ impl Index {
         &mut self,
         lost: GroupId,
         heir: Option<GroupId>,
-        types: &BTreeMap<u64, Propagation>,
-        above: &BTreeMap<u64, GroupId>,
+        types: &ByNumber<Propagation>,
+        above: &ByNumber<GroupId>,
     )
         ensures kept { Hands self.old self.new lost heir types.now above.now }
     {
@@ -360,16 +360,11 @@ impl Index {
     }
 
     // A group has ended that has no heir: what was below it and has no type or no master is taken out.
-    fn dissolve(
-        &mut self,
-        lost: GroupId,
-        types: &BTreeMap<u64, Propagation>,
-        above: &BTreeMap<u64, GroupId>,
-    )
-        ensures kept { (mount : MountNumber) (kind : TypeKept) → IsSome (get nat_cmp types.now mount.count)
+    fn dissolve(&mut self, lost: GroupId, types: &ByNumber<Propagation>, above: &ByNumber<GroupId>)
+        ensures kept { (mount : MountNumber) (kind : TypeKept) → IsSome (value_at types.now mount.count)
             → has_source lost kind ≡ false
             → is_listed self.old mount kind ≡ true → is_listed self.new mount kind ≡ true }
-        ensures lower { (lower upper : GroupNumber) → IsSome (get nat_cmp above.now lower.count)
+        ensures lower { (lower upper : GroupNumber) → IsSome (value_at above.now lower.count)
             → same_group lost upper ≡ false
             → is_lower self.old lower upper ≡ true → is_lower self.new lower upper ≡ true }
     {
@@ -467,8 +462,8 @@ fn forget_under(
     mount_places: &mut Places<MountId>,
     lowers: &Sets<GroupId>,
     lower_places: &mut Places<GroupId>,
-    types: &BTreeMap<u64, Propagation>,
-    above: &BTreeMap<u64, GroupId>,
+    types: &ByNumber<Propagation>,
+    above: &ByNumber<GroupId>,
 ) {
     for name in names {
         forget_untyped(mount_places, mounts.get(*name), types);
@@ -481,12 +476,12 @@ fn keep_under(
     names: &LinkedList<GroupId>,
     mounts: &mut Sets<MountId>,
     lowers: &mut Sets<GroupId>,
-    types: &BTreeMap<u64, Propagation>,
-    above: &BTreeMap<u64, GroupId>,
+    types: &ByNumber<Propagation>,
+    above: &ByNumber<GroupId>,
 )
-    ensures mounts { (at : GroupNumber) (mount : MountNumber) → IsSome (get nat_cmp types.now mount.count)
+    ensures mounts { (at : GroupNumber) (mount : MountNumber) → IsSome (value_at types.now mount.count)
         → has same_id at mount mounts.old ≡ true → has same_id at mount mounts.new ≡ true }
-    ensures lowers { (at lower : GroupNumber) → IsSome (get nat_cmp above.now lower.count)
+    ensures lowers { (at lower : GroupNumber) → IsSome (value_at above.now lower.count)
         → has same_group at lower lowers.old ≡ true → has same_group at lower lowers.new ≡ true }
 {
     for name in names {

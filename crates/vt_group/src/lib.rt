@@ -2,10 +2,10 @@
 #![tactic(auto)]
 
 mod additions;
+mod by_number;
 mod groups;
 mod handing;
 mod index;
-mod insertions;
 pub mod laws;
 mod listed;
 mod names;

@@ -1,7 +1,7 @@
 //! The names that mounts and lower groups were put under.
+use crate::by_number::ByNumber;
 use indexmap::IndexMap;
 use std::alloc::{AllocError, Global};
-use std::collections::BTreeMap;
 use std::hash::Hash;
 use std::marker::Model;
 use vt_location::{GroupId, MountId, Propagation};
@@ -48,9 +48,11 @@ impl<T: Eq + Hash + Copy + Clone + Drop> Places<T> {
             self.forget(one);
             return;
         };
-        if self.of(one) == Some(name) {
-            // It cannot fail: it has a name.
-            let _ = self.names.insert(one, next);
+        let Some(place) = self.names.get_mut(&one) else {
+            return;
+        };
+        if *place == name {
+            *place = next;
         }
     }
 
@@ -64,10 +66,10 @@ impl<T: Eq + Hash + Copy + Clone + Drop> Places<T> {
 pub(crate) fn forget_untyped(
     places: &mut Places<MountId>,
     mounts: &[MountId],
-    types: &BTreeMap<u64, Propagation>,
+    types: &ByNumber<Propagation>,
 ) {
     for mount in mounts {
-        if !types.contains_key(&mount.count) {
+        if !types.has(mount.count) {
             places.forget(*mount);
         }
     }
@@ -77,10 +79,10 @@ pub(crate) fn forget_untyped(
 pub(crate) fn forget_lower(
     places: &mut Places<GroupId>,
     lowers: &[GroupId],
-    above: &BTreeMap<u64, GroupId>,
+    above: &ByNumber<GroupId>,
 ) {
     for lower in lowers {
-        if !above.contains_key(&lower.count) {
+        if !above.has(lower.count) {
             places.forget(*lower);
         }
     }

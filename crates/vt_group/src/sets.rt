@@ -2,13 +2,12 @@
 ghost use Rattle.std.specs.Prelude.{◌≡◌, IsSome, ◌&&◌, false, true, IfOk, OnOk};
 ghost use Rattle.vt_location.specs.declared.numbers.GroupId.{GroupId as GroupNumber};
 ghost use Rattle.vt_location.specs.declared.numbers.MountId.{MountId as MountNumber};
-ghost use Rattle.std.specs.BTreeMap.{get};
-ghost use Rattle.std.specs.Ordering.{nat_cmp};
+ghost use Rattle.vt_group.specs.ByNumber.{value_at};
 ghost use Rattle.vt_group.specs.Sets.{same_id, has, kept_in, same_group};
 
+use crate::by_number::ByNumber;
 use indexmap::{IndexMap, IndexSet};
 use std::alloc::{AllocError, Global};
-use std::collections::BTreeMap;
 use std::hash::Hash;
 use vt_location::{GroupId, MountId, Propagation};
 
@@ -78,32 +77,28 @@ impl<T: Eq + Hash + Copy + Clone + Drop> Sets<T> {
 }
 
 /// Takes out the mounts under a group that have no type. It does not allocate.
-pub(crate) fn keep_typed(
-    sets: &mut Sets<MountId>,
-    group: GroupId,
-    types: &BTreeMap<u64, Propagation>,
-)
-    ensures { (at : GroupNumber) (mount : MountNumber) → IsSome (get nat_cmp types.now mount.count)
+pub(crate) fn keep_typed(sets: &mut Sets<MountId>, group: GroupId, types: &ByNumber<Propagation>)
+    ensures { (at : GroupNumber) (mount : MountNumber) → IsSome (value_at types.now mount.count)
         → has same_id at mount sets.old ≡ true → has same_id at mount sets.new ≡ true }
 {
     let Some(set) = sets.sets.get_mut(&group) else {
         return;
     };
-    set.retain(|mount| types.contains_key(&mount.count));
+    set.retain(|mount| types.has(mount.count));
     if set.is_empty() {
         sets.sets.swap_remove(&group);
     }
 }
 
 /// Takes out the groups under a group that have no master. It does not allocate.
-pub(crate) fn keep_lower(sets: &mut Sets<GroupId>, group: GroupId, above: &BTreeMap<u64, GroupId>)
-    ensures { (at lower : GroupNumber) → IsSome (get nat_cmp above.now lower.count)
+pub(crate) fn keep_lower(sets: &mut Sets<GroupId>, group: GroupId, above: &ByNumber<GroupId>)
+    ensures { (at lower : GroupNumber) → IsSome (value_at above.now lower.count)
         → has same_group at lower sets.old ≡ true → has same_group at lower sets.new ≡ true }
 {
     let Some(set) = sets.sets.get_mut(&group) else {
         return;
     };
-    set.retain(|lower| above.contains_key(&lower.count));
+    set.retain(|lower| above.has(lower.count));
     if set.is_empty() {
         sets.sets.swap_remove(&group);
     }

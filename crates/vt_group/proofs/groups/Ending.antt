@@ -1,7 +1,8 @@
 -- A group ends, by the maps that keep the groups.
-use Rattle.std.proofs.Common.{◌≡◌, ℕ, Bool, true, false, cond, map, nat_eq, Option, None, Some, is_some, option_map, refl, sym, ap, ◌∙◌, true≢false}
-use Rattle.std.specs.BTreeMap.{BTreeMap, IsOrdered, get, is_at}
-use Rattle.std.specs.Map.{lookup}
+use Rattle.std.proofs.Common.{◌≡◌, ℕ, Bool, true, false, cond, List, map, nat_eq, Option, None, Some, is_some, option_map, refl, sym, ap, ◌∙◌, true≢false}
+use Rattle.std.specs.BTreeMap.{is_at}
+use Rattle.std.specs.List.Sorted.{IsStrictlySortedBy}
+use Rattle.std.specs.Map.{keys_of, lookup}
 use Rattle.std.specs.Ordering.{nat_cmp}
 use Rattle.std.specs.Prelude.{filter_map, if◌then◌else◌}
 use Rattle.vt_spec.specs.Lists.{then_some}
@@ -13,47 +14,47 @@ use Rattle.vt_group.proofs.Showing.{same_entries}
 use Rattle.vt_spec.proofs.Truths.{nat_eq-swapped}
 use Rattle.vt_location.proofs.NumberLemmas.{counted_test}
 
-module _ {V W : Type 0} (see : V → W) (change : ℕ → W → Option W) (old new : BTreeMap ℕ V)
-    (ordered : IsOrdered nat_cmp old) (ordered_new : IsOrdered nat_cmp new)
-    (each : (count : ℕ) → option_map see (get nat_cmp new count)
-    ≡ then_some (option_map see (get nat_cmp old count)) (change (counted count))) where
-  at_number : (number : ℕ) → lookup (nat_eq number) (map (numbered see) new.entries)
-      ≡ then_some (lookup (nat_eq number) (map (numbered see) old.entries)) (change number)
+module _ {V W : Type 0} (see : V → W) (change : ℕ → W → Option W) (old new : List (ℕ × V))
+    (ordered : IsStrictlySortedBy nat_cmp (keys_of old)) (ordered_new : IsStrictlySortedBy nat_cmp (keys_of new))
+    (each : (count : ℕ) → option_map see (lookup (is_at (nat_cmp count)) new)
+    ≡ then_some (option_map see (lookup (is_at (nat_cmp count)) old)) (change (counted count))) where
+  at_number : (number : ℕ) → lookup (nat_eq number) (map (numbered see) new)
+      ≡ then_some (lookup (nat_eq number) (map (numbered see) old)) (change number)
   at_number number =
-      by (is_some (lookup (nat_eq number) (map (numbered see) new.entries))) refl
-      (is_some (lookup (nat_eq number) (map (numbered see) old.entries))) refl
+      by (is_some (lookup (nat_eq number) (map (numbered see) new))) refl
+      (is_some (lookup (nat_eq number) (map (numbered see) old))) refl
     where
       at_one : (count : ℕ) → number ≡ counted count
-          → lookup (nat_eq number) (map (numbered see) new.entries)
-          ≡ then_some (lookup (nat_eq number) (map (numbered see) old.entries)) (change number)
+          → lookup (nat_eq number) (map (numbered see) new)
+          ≡ then_some (lookup (nat_eq number) (map (numbered see) old)) (change number)
       at_one count same =
-          ap (λ n. lookup (nat_eq n) (map (numbered see) new.entries)) same
-          ∙ lookup-numbered see count new.entries ∙ each count
-          ∙ ap (λ found. then_some found (change (counted count))) (sym (lookup-numbered see count old.entries))
-          ∙ ap (λ n. then_some (lookup (nat_eq n) (map (numbered see) old.entries)) (change n)) (sym same)
+          ap (λ n. lookup (nat_eq n) (map (numbered see) new)) same
+          ∙ lookup-numbered see count new ∙ each count
+          ∙ ap (λ found. then_some found (change (counted count))) (sym (lookup-numbered see count old))
+          ∙ ap (λ n. then_some (lookup (nat_eq n) (map (numbered see) old)) (change n)) (sym same)
 
       none : {A : Type 0} (found : Option A) → is_some found ≡ false → found ≡ None
       none None is = refl
       none (Some a) is = absurd (true≢false is)
 
-      by : (a : Bool) → is_some (lookup (nat_eq number) (map (numbered see) new.entries)) ≡ a
-          → (b : Bool) → is_some (lookup (nat_eq number) (map (numbered see) old.entries)) ≡ b
-          → lookup (nat_eq number) (map (numbered see) new.entries)
-          ≡ then_some (lookup (nat_eq number) (map (numbered see) old.entries)) (change number)
-      by true is b was = let at = found_count see number new.entries is in at_one at.0 at.1
-      by false is true was = let at = found_count see number old.entries was in at_one at.0 at.1
+      by : (a : Bool) → is_some (lookup (nat_eq number) (map (numbered see) new)) ≡ a
+          → (b : Bool) → is_some (lookup (nat_eq number) (map (numbered see) old)) ≡ b
+          → lookup (nat_eq number) (map (numbered see) new)
+          ≡ then_some (lookup (nat_eq number) (map (numbered see) old)) (change number)
+      by true is b was = let at = found_count see number new is in at_one at.0 at.1
+      by false is true was = let at = found_count see number old was in at_one at.0 at.1
       by false is false was =
           none _ is ∙ sym (ap (λ found. then_some found (change number)) (none _ was))
 
   -- the entries that are left are the changed ones
-  pub entries_ended : map (numbered see) new.entries
-      ≡ filter_map (changed_entry change) (map (numbered see) old.entries)
+  pub entries_ended : map (numbered see) new
+      ≡ filter_map (changed_entry change) (map (numbered see) old)
   entries_ended =
-      same_entries (map (numbered see) new.entries) (filter_map (changed_entry change) (map (numbered see) old.entries))
+      same_entries (map (numbered see) new) (filter_map (changed_entry change) (map (numbered see) old))
       (rising_numbers see new ordered_new)
-      (rising-changed change (map (numbered see) old.entries) (rising_numbers see old ordered))
+      (rising-changed change (map (numbered see) old) (rising_numbers see old ordered))
       (λ number. at_number number
-      ∙ sym (lookup-changed change (map (numbered see) old.entries) (rising_numbers see old ordered) number))
+      ∙ sym (lookup-changed change (map (numbered see) old) (rising_numbers see old ordered) number))
 
 -- what is found was found before it was handed
 pub was_handed : {A : Type 0} (hand : A → Option A) (old new : Option A) (among : Bool) (value : A)

@@ -1,44 +1,27 @@
 -- What is listed once mounts and groups came, or did not.
-use Rattle.std.proofs.Common.{◌≡◌, ℕ, Some, true, map, sym, ◌∙◌}
-use Rattle.std.proofs.lemmas.Cmp.{nat_cmp_total}
-use Rattle.std.proofs.lemmas.Map.Lookups.{btree_map_from_get, exact_unsigned}
-use Rattle.std.specs.BTreeMap.{BTreeMap, IsOrdered, get}
+use Rattle.std.proofs.Common.{◌≡◌, Some, true, map, subst, sym}
+use Rattle.std.specs.List.Sorted.{IsStrictlySortedBy}
+use Rattle.std.specs.Map.{keys_of}
 use Rattle.std.specs.Ordering.{nat_cmp}
 use Rattle.vt_location.specs.declared.mounts.Propagation.{Propagation}
 use Rattle.vt_location.specs.declared.numbers.GroupId.{GroupId}
 use Rattle.vt_location.specs.declared.numbers.MountId.{MountId}
+use Rattle.vt_group.specs.ByNumber.{IsAscending, Numbered, value_at}
 use Rattle.vt_group.specs.declared.index.Index.{Index}
 use Rattle.vt_group.specs.Indexed.{Lists, group_at, is_listed, is_lower, mount_at}
 use Rattle.vt_group.specs.Steps.{numbered_master, numbered_peer}
 use Rattle.vt_group.proofs.Coming.{FoundListed, FoundLower, kept_kind, kept_master, seen_kind, seen_master}
 
--- maps in order that find the same are the same
-pub same_map : {V : Type 0} (old new : BTreeMap ℕ V) → IsOrdered nat_cmp old → IsOrdered nat_cmp new
-    → get nat_cmp new ≡ get nat_cmp old → new.entries ≡ old.entries
-same_map old new ordered ordered_new same =
-    btree_map_from_get nat_cmp_total new old ordered_new ordered (λ key i. same i key) exact_unsigned
+-- a map with the same values is in the same order
+pub still_ascends : {V : Type 0} (old new : Numbered V) → new.entries ≡ old.entries → IsAscending old → IsAscending new
+still_ascends old new same ordered = subst (λ es. IsStrictlySortedBy nat_cmp (keys_of es)) (sym same) ordered
 
-module _ (old new : Index) (types types_new : BTreeMap ℕ Propagation) (above above_new : BTreeMap ℕ GroupId)
-    (lists : Lists old types above) where
-  -- an index that lists more, and maps that find the same
-  pub lists_kept :
-      ((mount : MountId) (kind : Propagation) → is_listed old mount kind ≡ true → is_listed new mount kind ≡ true)
-      → ((lower upper : GroupId) → is_lower old lower upper ≡ true → is_lower new lower upper ≡ true)
-      → get nat_cmp types_new ≡ get nat_cmp types → get nat_cmp above_new ≡ get nat_cmp above
-      → IsOrdered nat_cmp types_new → IsOrdered nat_cmp above_new → Lists new types_new above_new
-  lists_kept kept lower same same_above ordered ordered_above = record {
-    listed = λ mount kind at. kept (mount_at mount) kind (lists.listed mount kind (sym (λ i. same i mount) ∙ at));
-    lower = λ low up at. lower (group_at low) up (lists.lower low up (sym (λ i. same_above i low) ∙ at));
-    ordered = ordered;
-    ordered_above = ordered_above;
-  }
-
-module _ (old new : Index) (types : BTreeMap ℕ Propagation) (above : BTreeMap ℕ GroupId) (lists : Lists old types above)
+module _ (old new : Index) (types : Numbered Propagation) (above : Numbered GroupId) (lists : Lists old types above)
   where
     -- an index that lists no more than what is there
-    pub lists_unlisted : ((mount : MountId) (kind : Propagation) → get nat_cmp types mount.count ≡ Some kind
+    pub lists_unlisted : ((mount : MountId) (kind : Propagation) → value_at types mount.count ≡ Some kind
         → is_listed old mount kind ≡ true → is_listed new mount kind ≡ true)
-        → ((lower upper : GroupId) → get nat_cmp above lower.count ≡ Some upper → is_lower old lower upper ≡ true
+        → ((lower upper : GroupId) → value_at above lower.count ≡ Some upper → is_lower old lower upper ≡ true
         → is_lower new lower upper ≡ true)
         → Lists new types above
     lists_unlisted kept lower = record {
@@ -62,9 +45,9 @@ module _ (old new : Index) (types : BTreeMap ℕ Propagation) (above : BTreeMap 
         lower (group_at low) up (lists.lower low up (kept_master above.entries low up at))
 
 -- an index in which all mounts and groups are found lists them
-pub lists_found : (index : Index) (types : BTreeMap ℕ Propagation) (above : BTreeMap ℕ GroupId)
+pub lists_found : (index : Index) (types : Numbered Propagation) (above : Numbered GroupId)
     → FoundListed index (map numbered_peer types.entries) → FoundLower index (map numbered_master above.entries)
-    → IsOrdered nat_cmp types → IsOrdered nat_cmp above → Lists index types above
+    → IsAscending types → IsAscending above → Lists index types above
 lists_found index types above listed lower ordered ordered_above = record {
   listed = λ mount kind at. listed mount kind (seen_kind types.entries mount kind at);
   lower = λ low up at. lower low up (seen_master above.entries low up at);

@@ -1,9 +1,8 @@
 use Rattle.std.proofs.Common.{ap, nat_eq, sym, ◌∙◌}
-use Rattle.std.specs.BTreeMap.{get}
 use Rattle.std.specs.List.{list_any}
-use Rattle.std.specs.Ordering.{nat_cmp}
 use Rattle.std.specs.Prelude.{if◌then◌else◌}
 use Rattle.vt_spec.specs.Lists.{then_some}
+use Rattle.vt_group.specs.ByNumber.{value_at}
 use Rattle.vt_group.specs.Handing.{group_handed}
 use Rattle.vt_group.proofs.Handed.{handed_next, group_handed-twice}
 use Rattle.vt_group.proofs.handing.hand_groups.Goals as goal
@@ -13,20 +12,20 @@ loop-group-preserved c = (
   λ ordered. c.hand_group.ensures.ordered (c.loop-group.invariant.0 ordered),
   λ number.
       handed_next (group_handed c.args.lost c.args.heir) (group_handed-twice c.args.lost c.args.heir) (λ id. id.count) number
-      (get nat_cmp c.loop-group.above) (get nat_cmp c.hand_group.new.above) c.in-Some.group c.next.new.self
+      (value_at c.loop-group.above) (value_at c.hand_group.new.above) c.in-Some.group c.next.new.self
       (c.hand_group.ensures.each number)
       ∙ ap (λ ids. if list_any (λ id. nat_eq number id.count) ids
-      then then_some (get nat_cmp c.loop-group.above number) (group_handed c.args.lost c.args.heir)
-      else get nat_cmp c.loop-group.above number) (sym c.in-Some.ensures.steps)
+      then then_some (value_at c.loop-group.above number) (group_handed c.args.lost c.args.heir)
+      else value_at c.loop-group.above number) (sym c.in-Some.ensures.steps)
       ∙ c.loop-group.invariant.1 number,
 )
 
 pub returns-clause-each : goal.returns-clause-each
 returns-clause-each c number =
     ap (λ ids. if list_any (λ id. nat_eq number id.count) ids
-    then then_some (get nat_cmp c.loop-group.above number) (group_handed c.args.lost c.args.heir)
-    else get nat_cmp c.loop-group.above number) (sym c.in-None.ensures.steps.0)
+    then then_some (value_at c.loop-group.above number) (group_handed c.args.lost c.args.heir)
+    else value_at c.loop-group.above number) (sym c.in-None.ensures.steps.0)
     ∙ c.loop-group.invariant.1 number
     ∙ ap (λ ids. if list_any (λ id. nat_eq number id.count) ids
-    then then_some (get nat_cmp c.args.above.now number) (group_handed c.args.lost c.args.heir)
-    else get nat_cmp c.args.above.now number) c.into_iter-group-iterator.ensures.into_iter_gives
+    then then_some (value_at c.args.above.now number) (group_handed c.args.lost c.args.heir)
+    else value_at c.args.above.now number) c.into_iter-group-iterator.ensures.into_iter_gives

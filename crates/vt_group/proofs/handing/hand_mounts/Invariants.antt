@@ -1,17 +1,16 @@
 use Rattle.std.proofs.Common.{◌≡◌, ℕ, nat_eq}
-use Rattle.std.specs.BTreeMap.{IsOrdered, get}
 use Rattle.std.specs.List.{list_any}
-use Rattle.std.specs.Ordering.{nat_cmp}
 use Rattle.std.specs.Prelude.{if◌then◌else◌}
 use Rattle.vt_spec.specs.Lists.{then_some}
+use Rattle.vt_group.specs.ByNumber.{IsAscending, value_at}
 use Rattle.vt_group.specs.Handing.{kind_handed}
 use Rattle.vt_group.proofs.handing.hand_mounts.Given as goal
 
 -- what is left to be handed leads to what is wanted
 abbrev pub invariant-loop-mount : goal.invariant-loop-mount
 invariant-loop-mount l =
-    (IsOrdered nat_cmp l.fn.types → IsOrdered nat_cmp l.types) ×
+    (IsAscending l.fn.types → IsAscending l.types) ×
     ((number : ℕ) → (if list_any (λ id. nat_eq number id.count) l.mount-iterator
-    then then_some (get nat_cmp l.types number) (kind_handed l.lost l.heir) else get nat_cmp l.types number)
+    then then_some (value_at l.types number) (kind_handed l.lost l.heir) else value_at l.types number)
     ≡ (if list_any (λ id. nat_eq number id.count) l.initial.mount-iterator
-    then then_some (get nat_cmp l.fn.types number) (kind_handed l.lost l.heir) else get nat_cmp l.fn.types number))
+    then then_some (value_at l.fn.types number) (kind_handed l.lost l.heir) else value_at l.fn.types number))

@@ -1,9 +1,8 @@
 use Rattle.std.proofs.Common.{ap, cond, is_some, option_map, refl, rules, sym, unwrap_or, ◌∙◌, None, Some, []}
 use Rattle.std.proofs.lemmas.Fn.{filter_same}
-use Rattle.std.specs.BTreeMap.{get}
 use Rattle.std.specs.Option.{option_copied_mut}
-use Rattle.std.specs.Ordering.{nat_cmp}
 use Rattle.vt_location.specs.declared.numbers.GroupId.{GroupId}
+use Rattle.vt_group.specs.ByNumber.{value_at}
 use Rattle.vt_group.specs.declared.sets.Sets.{Sets}
 use Rattle.vt_group.specs.Sets.{same_group}
 use Rattle.vt_group.proofs.IndexLemmas.{any-kept}
@@ -18,9 +17,9 @@ returns-else-is_empty c at lower some there =
     (kept-written same_group c.args.sets.now new c.args.group (Some c.retain.new.self)
     ((c.get_mut.follows.holds c.retain.new.self).3 (ap is_some found)).0)
     (ap (λ o. unwrap_or (option_map (λ set. set.keys) o) []) found) lower
-    (any-kept (λ (id : GroupId). id.count) (get nat_cmp c.args.above.now) lower.count c.in-Some.set.now.keys
+    (any-kept (λ (id : GroupId). id.count) (value_at c.args.above.now) lower.count c.in-Some.set.now.keys
     c.retain.new.self.keys
-    (filter_same _ (λ (id : GroupId). is_some (get nat_cmp c.args.above.now id.count)) _
+    (filter_same _ (λ (id : GroupId). is_some (value_at c.args.above.now id.count)) _
     (λ x b f' k. search rules) _ _ c.retain.ensures.filtered) some)
     at there
 
@@ -35,8 +34,8 @@ returns-then-is_empty c at lower some there =
     ∙ dropped-empty (same_group c.args.group id) _ _))
     (ap (λ o. unwrap_or (option_map (λ set. set.keys) o) []) found) lower
     (λ was. sym (nothing-kept (same_group lower) c.retain.new.self.keys (c.if-is_empty.ensures.0 refl))
-    ∙ any-kept (λ (id : GroupId). id.count) (get nat_cmp c.args.above.now) lower.count c.in-Some.set.now.keys
+    ∙ any-kept (λ (id : GroupId). id.count) (value_at c.args.above.now) lower.count c.in-Some.set.now.keys
     c.retain.new.self.keys
-    (filter_same _ (λ (id : GroupId). is_some (get nat_cmp c.args.above.now id.count)) _
+    (filter_same _ (λ (id : GroupId). is_some (value_at c.args.above.now id.count)) _
     (λ x b f' k. search rules) _ _ c.retain.ensures.filtered) some was)
     at there

@@ -8,4 +8,4 @@ use Rattle.vt_group.proofs.groups.Groups.are_ordered.Goals as goal
 pub returns : goal.returns
 returns c =
     ap (λ groups. are_rising (keys groups.peers)) (sym c.self.view_is)
-    ∙ rising_numbers propagation_of c.self.inside.mounts c.self.invariant.ordered
+    ∙ rising_numbers propagation_of c.self.inside.mounts.entries c.self.invariant.ordered

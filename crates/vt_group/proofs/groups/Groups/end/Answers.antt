@@ -1,12 +1,11 @@
 use Rattle.std.proofs.Common.{◌≡◌, None, Option, Some, ap, eq-eqb, is_some, map, nat_eq, option_map, refl, sym, true≢false, ◌∙◌, ℕ}
 use Rattle.vt_spec.specs.Lists.{holds_of}
 use Rattle.vt_spec.specs.Machine.Mounts.{group_of}
-use Rattle.std.specs.BTreeMap.{get}
-use Rattle.std.specs.Ordering.{nat_cmp}
 use Rattle.std.specs.Prelude.{filter_map, if◌then◌else◌}
 use Rattle.vt_location.specs.declared.numbers.GroupId.{GroupId}
 use Rattle.vt_location.specs.MountValue.{propagation_of}
 use Rattle.vt_location.specs.Numbers.{counted}
+use Rattle.vt_group.specs.ByNumber.{value_at}
 use Rattle.vt_group.specs.Grouping.{are_rising, master_in, propagation_in}
 use Rattle.vt_group.specs.Handing.{group_handed, kind_handed}
 use Rattle.vt_group.specs.Indexed.{group_at, has_source, is_lower, mount_at}
@@ -28,17 +27,17 @@ pub returns-clause-ended : goal.returns-clause-ended
 returns-clause-ended c =
     let lost = c.args.group in
     let number = counted c.args.group.count in
-    let left : Option ℕ = option_map group_number c.copied-heir.result in
-    let heir : Option GroupId = c.copied-heir.result in
-    let told = ap (option_map group_number) (c.copied-heir.ensures ∙ c.get.ensures.value)
+    let left : Option ℕ = option_map group_number c.get-heir.result in
+    let heir : Option GroupId = c.get-heir.result in
+    let told = ap (option_map group_number) c.get-heir.ensures
     ∙ sym (lookup-numbered group_number c.args.group.count c.self.inside.above.entries)
     ∙ ap (λ groups. master_in groups (counted c.args.group.count)) c.self.view_is in
     (λ i. record {
       peers = entries_ended propagation_of (λ mount. handed_type number left)
-          c.self.inside.mounts c.hand_mounts.new.types c.self.invariant.ordered
+          c.self.inside.mounts.entries c.hand_mounts.new.types.entries c.self.invariant.ordered
           (c.hand_mounts.ensures.ordered c.self.invariant.ordered)
           (λ count. left_at propagation_of (kind_handed lost heir) (handed_type number left) (kind_seen lost heir)
-          (get nat_cmp c.self.inside.mounts count) (get nat_cmp c.hand_mounts.new.types count) _
+          (value_at c.self.inside.mounts count) (value_at c.hand_mounts.new.types count) _
           (c.hand_mounts.ensures.each count)
           (λ kind at apart. unhanded_kind lost heir kind (held_not (has_source lost kind) _
           (λ source. c.relatives.ensures (mount_at count)
@@ -46,12 +45,12 @@ returns-clause-ended c =
           apart))) i;
       masters = entries_ended group_number
           (λ group master. if nat_eq group number then None else handed number left master)
-          c.self.inside.above c.remove.new.self c.self.invariant.ordered_above c.remove.ensures.ordered
+          c.self.inside.above.entries c.remove.new.self.entries c.self.invariant.ordered_above c.remove.ensures.ordered
           (λ count. removed_at group_number (handed number left) c.args.group.count count
-          (get nat_cmp c.self.inside.above count) (get nat_cmp c.hand_groups.new.above count)
-          (get nat_cmp c.remove.new.self count) (c.remove.ensures.updates.0 count)
+          (value_at c.self.inside.above count) (value_at c.hand_groups.new.above count)
+          (value_at c.remove.new.self count) (c.remove.ensures.updates count)
           (left_at group_number (group_handed lost heir) (handed number left) (group_seen lost heir)
-          (get nat_cmp c.self.inside.above count) (get nat_cmp c.hand_groups.new.above count) _
+          (value_at c.self.inside.above count) (value_at c.hand_groups.new.above count) _
           (c.hand_groups.ensures.each count)
           (λ master at apart. unhanded_group lost heir master (held_not (same_group master lost) _
           (λ same. c.lowers.ensures (group_at count)
@@ -69,7 +68,7 @@ returns-clause-types c mount =
     ap (λ now. propagation_in now mount) (returns-clause-ended c)
     ∙ type-ended (counted c.args.group.count) (master_in groups (counted c.args.group.count)) groups.peers
     (ap (λ old. are_rising (keys old.peers)) (sym c.self.view_is)
-    ∙ rising_numbers propagation_of c.self.inside.mounts c.self.invariant.ordered) mount
+    ∙ rising_numbers propagation_of c.self.inside.mounts.entries c.self.invariant.ordered) mount
 
 pub returns-clause-masters : goal.returns-clause-masters
 returns-clause-masters c other =
@@ -79,22 +78,22 @@ returns-clause-masters c other =
     ∙ lookup-changed
     (λ group master. if nat_eq group number then None else handed number (master_in groups number) master) groups.masters
     (ap (λ old. are_rising (keys old.masters)) (sym c.self.view_is)
-    ∙ rising_numbers group_number c.self.inside.above c.self.invariant.ordered_above) other
+    ∙ rising_numbers group_number c.self.inside.above.entries c.self.invariant.ordered_above) other
     ∙ none_or (nat_eq other number) (master_in groups other) (handed number (master_in groups number))
 
 pub invariant_of-self : goal.invariant_of-self
 invariant_of-self c =
     let lost = c.args.group in
     let number = counted lost.count in
-    let heir : Option GroupId = c.copied-heir.result in
+    let heir : Option GroupId = c.get-heir.result in
     let index = c.self.inside.index in
     let old = c.args.self.now in
     let above = λ (master : GroupId) (is : heir ≡ Some master). c.self.invariant.lower lost.count master
-    (sym c.get.ensures.value ∙ sym c.copied-heir.ensures ∙ is) in
+    (sym c.get-heir.ensures ∙ is) in
     record {
       listed = λ mount kind at.
-          let was = was_handed (kind_handed lost heir) (get nat_cmp c.self.inside.mounts mount)
-          (get nat_cmp c.hand_mounts.new.types mount) _ kind (c.hand_mounts.ensures.each mount)
+          let was = was_handed (kind_handed lost heir) (value_at c.self.inside.mounts mount)
+          (value_at c.hand_mounts.new.types mount) _ kind (c.hand_mounts.ensures.each mount)
           (λ kind at apart. unhanded_kind lost heir kind (held_not (has_source lost kind) _
           (λ source. c.relatives.ensures (mount_at mount)
           (relative_of_source index (mount_at mount) kind lost source (c.self.invariant.listed mount kind at)))
@@ -107,9 +106,9 @@ invariant_of-self c =
           ∙ eq-eqb number number refl)) ∙ c.requires))
           (ap is_some at) was.2 (c.self.invariant.listed mount was.0 was.1);
       lower = λ lower upper at.
-          let mid = not_removed _ _ _ upper (c.remove.ensures.updates.0 lower) at in
-          let was = was_handed (group_handed lost heir) (get nat_cmp c.self.inside.above lower)
-          (get nat_cmp c.hand_groups.new.above lower) _ upper (c.hand_groups.ensures.each lower)
+          let mid = not_removed _ _ _ upper (c.remove.ensures.updates lower) at in
+          let was = was_handed (group_handed lost heir) (value_at c.self.inside.above lower)
+          (value_at c.hand_groups.new.above lower) _ upper (c.hand_groups.ensures.each lower)
           (λ master at apart. unhanded_group lost heir master (held_not (same_group master lost) _
           (λ same. c.lowers.ensures (group_at lower)
           (ap (is_lower index (group_at lower)) (same_id master lost same)

@@ -1,6 +1,5 @@
 use Rattle.std.proofs.Common.{◌≡◌, true}
-use Rattle.std.specs.Ordering.{nat_cmp}
-use Rattle.std.specs.BTreeMap.{get}
+use Rattle.vt_group.specs.ByNumber.{value_at}
 use Rattle.vt_group.specs.Indexed.{group_at, is_listed, mount_at}
 use Rattle.vt_group.proofs.Invariant.{left_each}
 use Rattle.std.proofs.Common.{ap, sym, subst, ◌∙◌, map, nat_eq}
@@ -45,13 +44,13 @@ returns-clause-types c other =
     type_once_ended now (lost_group now (group_of (old i))) (propagation_in now other))
     ∙ types-left c.args.self.now (counted count)
     (ap (λ groups. are_rising (keys groups.peers)) (sym c.self.view_is)
-    ∙ rising_numbers propagation_of c.self.inside.mounts c.self.invariant.ordered) other
+    ∙ rising_numbers propagation_of c.self.inside.mounts.entries c.self.invariant.ordered) other
 
 pub invariant_of-self : goal.invariant_of-self
 invariant_of-self c = record {
   listed = left_each (λ mount kind. is_listed c.leave.new.self (mount_at mount) kind ≡ true)
-      (get nat_cmp c.self.inside.mounts) (get nat_cmp c.remove-old.new.self) c.args.mount.count
-      c.remove-old.ensures.updates.0
+      (value_at c.self.inside.mounts) (value_at c.remove-old.new.self) c.args.mount.count
+      c.remove-old.ensures.updates
       (λ mount kind apart at. c.leave.ensures.others (mount_at mount) kind apart
       (c.self.invariant.listed mount kind at));
   lower = λ lower upper at. c.leave.ensures.lower (group_at lower) upper (c.self.invariant.lower lower upper at);

@@ -7,6 +7,6 @@ use Rattle.vt_group.proofs.groups.Groups.master_of.Goals as goal
 
 pub returns : goal.returns
 returns c =
-    ap (option_map group_number) (c.copied.ensures ∙ c.get.ensures.value)
+    ap (option_map group_number) c.get.ensures
     ∙ sym (lookup-numbered group_number c.args.group.count c.self.inside.above.entries)
     ∙ ap (λ groups. master_in groups (counted c.args.group.count)) c.self.view_is

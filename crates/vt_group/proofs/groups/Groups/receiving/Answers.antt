@@ -66,7 +66,7 @@ returns c =
         lower = λ one upper is inside. known.lower one upper is (ap (λ list. is_in list upper) all ∙ inside);
         reaches = known.reaches;
       },
-      entries_ended propagation_of (λ mount. kind_from found) c.self.inside.mounts c.loop-next.types
+      entries_ended propagation_of (λ mount. kind_from found) c.self.inside.mounts.entries c.loop-next.types.entries
           c.self.invariant.ordered known.ordered
           (λ count.
           let seen = sym (lookup-numbered propagation_of count c.self.inside.mounts.entries)

@@ -1,9 +1,10 @@
 use Rattle.std.proofs.Common.{◌≡◌, true}
+use Rattle.vt_group.specs.ByNumber.{value_at}
 use Rattle.vt_group.specs.Indexed.{group_at, is_listed, mount_at}
 use Rattle.vt_group.proofs.Invariant.{put_each}
-use Rattle.std.specs.BTreeMap.{get}
-use Rattle.std.proofs.Common.{refl, sym, ap, ◌∙◌, map}
-use Rattle.std.specs.BTreeMap.{insert_entry}
+use Rattle.std.proofs.Common.{Some, ap, cond, map, refl, sym, ◌∙◌}
+use Rattle.std.specs.BTreeMap.{insert_entry, is_at}
+use Rattle.std.specs.Map.{lookup}
 use Rattle.std.specs.Ordering.{nat_cmp}
 use Rattle.vt_spec.specs.Machine.Mounts.{group_of}
 use Rattle.vt_location.specs.Numbers.{counted}
@@ -19,8 +20,10 @@ pub returns-clause-ok : goal.returns-clause-ok
 returns-clause-ok c =
     let es = c.self.inside.mounts.entries in
     let count = c.args.mount.count in
-    let old = shown-type count es _ c.args.self.now c.self.view_is c.in-Ok.old c.in-Ok.ensures.old in
-    let inserted = ap (map numbered_peer) c.in-Ok.ensures.entries
+    let old = shown-type count es _ c.args.self.now c.self.view_is c.get-old.result
+    (c.get-old.ensures ∙ ap (lookup (is_at (nat_cmp count))) c.reserve.ensures.entries) in
+    let inserted = ap (map numbered_peer) c.set.ensures.entries
+    ∙ ap (λ es. map numbered_peer (insert_entry nat_cmp es count c.args.kind)) c.reserve.ensures.entries
     ∙ inserted-numbered propagation_of count c.args.kind es
     ∙ (λ i. insert_entry nat_cmp (c.self.view_is i).peers (counted count) (propagation_of c.args.kind)) in
     c.end_if_lost.ensures.ended
@@ -30,8 +33,10 @@ pub returns-clause-types : goal.returns-clause-types
 returns-clause-types c other =
     let es = c.self.inside.mounts.entries in
     let count = c.args.mount.count in
-    let old = shown-type count es _ c.args.self.now c.self.view_is c.in-Ok.old c.in-Ok.ensures.old in
-    let inserted = ap (map numbered_peer) c.in-Ok.ensures.entries
+    let old = shown-type count es _ c.args.self.now c.self.view_is c.get-old.result
+    (c.get-old.ensures ∙ ap (lookup (is_at (nat_cmp count))) c.reserve.ensures.entries) in
+    let inserted = ap (map numbered_peer) c.set.ensures.entries
+    ∙ ap (λ es. map numbered_peer (insert_entry nat_cmp es count c.args.kind)) c.reserve.ensures.entries
     ∙ inserted-numbered propagation_of count c.args.kind es
     ∙ (λ i. insert_entry nat_cmp (c.self.view_is i).peers (counted count) (propagation_of c.args.kind)) in
     c.end_if_lost.ensures.types other
@@ -41,13 +46,20 @@ returns-clause-types c other =
 pub invariant_of-self-2 : goal.invariant_of-self-2
 invariant_of-self-2 c = record {
   listed = put_each (λ mount kind. is_listed c.leave.new.self (mount_at mount) kind ≡ true)
-      (get nat_cmp c.self.inside.mounts) (get nat_cmp c.insert.new.self) c.args.mount.count c.args.kind
-      c.in-Ok.ensures.updates.0
-      (c.leave.ensures.own c.args.kind refl (listed_ok c.list.result c.list.ensures.ok (sym c.is_err.ensures.value ∙ c.if-is_err.false)))
+      (value_at c.self.inside.mounts) (value_at c.set.new.self) c.args.mount.count c.args.kind
+      (λ other. c.set.ensures.updates other
+      ∙ ap (λ es. cond (is_at (nat_cmp c.args.mount.count) other) (Some c.args.kind)
+      (lookup (is_at (nat_cmp other)) es)) c.reserve.ensures.entries)
+      (c.leave.ensures.own c.args.kind refl
+      (listed_ok c.list.result c.list.ensures.ok (sym c.is_err.ensures.value ∙ c.if-is_err.false)))
       (λ mount kind apart at. c.leave.ensures.others (mount_at mount) kind apart
       (c.list.ensures.kept (mount_at mount) kind (c.self.invariant.listed mount kind at)));
   lower = λ lower upper at. c.leave.ensures.lower (group_at lower) upper
       (c.list.ensures.lower (group_at lower) upper (c.self.invariant.lower lower upper at));
-  ordered = c.in-Ok.ensures.ordered;
+  ordered = c.set.ensures.ordered;
   ordered_above = c.self.invariant.ordered_above;
 }
+
+pub set-requires : goal.set-requires
+set-requires c =
+    listed_ok c.reserve.result c.reserve.ensures.room (sym c.is_err-else-is_err.ensures.value ∙ c.if-is_err-2.false)

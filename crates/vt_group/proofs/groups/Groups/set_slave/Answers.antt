@@ -1,16 +1,17 @@
-use Rattle.std.proofs.Common.{◌≡◌, ap, map, refl, sym, true, ◌∙◌}
+use Rattle.std.proofs.Common.{◌≡◌, ap, is_some, map, refl, sym, true, ◌||◌, ◌∙◌}
 use Rattle.std.proofs.lemmas.Bool.{and_parts}
-use Rattle.std.specs.BTreeMap.{get, insert_entry}
+use Rattle.std.specs.BTreeMap.{insert_entry, is_at}
+use Rattle.std.specs.List.{list_any}
 use Rattle.std.specs.Ordering.{nat_cmp}
 use Rattle.vt_spec.specs.Machine.Mounts.{group_of}
 use Rattle.vt_location.specs.declared.mounts.Propagation.TheVariants.{Shared, Slave}
 use Rattle.vt_location.specs.MountValue.{propagation_of}
 use Rattle.vt_location.specs.Numbers.{counted}
+use Rattle.vt_group.specs.ByNumber.{value_at}
 use Rattle.vt_group.specs.Grouping.{Grouping, propagation_in}
 use Rattle.vt_group.specs.Indexed.{group_at, is_listed, mount_at}
 use Rattle.vt_group.specs.Leaving.{lost_group, type_once_ended}
 use Rattle.vt_group.specs.Steps.{ended_if_lost, numbered_peer}
-use Rattle.vt_group.proofs.Answering.{ok_where_some}
 use Rattle.vt_group.proofs.Coming.{kept_shared}
 use Rattle.vt_group.proofs.CountLemmas.{inserted-numbered}
 use Rattle.vt_group.proofs.Invariant.{put_each}
@@ -20,9 +21,7 @@ pub returns-clause-new : goal.returns-clause-new
 returns-clause-new c =
     let es = c.self.inside.mounts.entries in
     let count = c.args.mount.count in
-    let found = kept_shared es count c.args.group (ap (λ groups. propagation_in groups (counted count)) c.self.view_is ∙ c.requires) in
-    let inserted = ap (map numbered_peer) (ok_where_some c.insert.result (get nat_cmp c.self.inside.mounts count) _ found
-    c.insert.ensures.absent c.insert.ensures.entries)
+    let inserted = ap (map numbered_peer) c.set.ensures.entries
     ∙ inserted-numbered propagation_of count (Slave c.args.group) es
     ∙ (λ i. insert_entry nat_cmp (c.self.view_is i).peers (counted count) (propagation_of (Slave c.args.group))) in
     c.end_if_lost.ensures.ended
@@ -32,9 +31,7 @@ pub returns-clause-types : goal.returns-clause-types
 returns-clause-types c other =
     let es = c.self.inside.mounts.entries in
     let count = c.args.mount.count in
-    let found = kept_shared es count c.args.group (ap (λ groups. propagation_in groups (counted count)) c.self.view_is ∙ c.requires) in
-    let inserted = ap (map numbered_peer) (ok_where_some c.insert.result (get nat_cmp c.self.inside.mounts count) _ found
-    c.insert.ensures.absent c.insert.ensures.entries)
+    let inserted = ap (map numbered_peer) c.set.ensures.entries
     ∙ inserted-numbered propagation_of count (Slave c.args.group) es
     ∙ (λ i. insert_entry nat_cmp (c.self.view_is i).peers (counted count) (propagation_of (Slave c.args.group))) in
     c.end_if_lost.ensures.types other
@@ -45,17 +42,23 @@ pub invariant_of-self : goal.invariant_of-self
 invariant_of-self c =
     let es = c.self.inside.mounts.entries in
     let count = c.args.mount.count in
-    let found = kept_shared es count c.args.group (ap (λ groups. propagation_in groups (counted count)) c.self.view_is ∙ c.requires) in
-    let updates = ok_where_some c.insert.result (get nat_cmp c.self.inside.mounts count) _ found
-    c.insert.ensures.absent c.insert.ensures.updates in
+    let found = kept_shared es count c.args.group
+    (ap (λ groups. propagation_in groups (counted count)) c.self.view_is ∙ c.requires) in
     record {
       listed = put_each (λ mount kind. is_listed c.leave.new.self (mount_at mount) kind ≡ true)
-          (get nat_cmp c.self.inside.mounts) (get nat_cmp c.insert.new.self) count (Slave c.args.group) updates.0
+          (value_at c.self.inside.mounts) (value_at c.set.new.self) count (Slave c.args.group) c.set.ensures.updates
           (c.leave.ensures.own (Slave c.args.group) refl
           (and_parts _ _ (c.self.invariant.listed count (Shared c.args.group) found)).0)
           (λ mount kind apart at. c.leave.ensures.others (mount_at mount) kind apart
           (c.self.invariant.listed mount kind at));
       lower = λ lower upper at. c.leave.ensures.lower (group_at lower) upper (c.self.invariant.lower lower upper at);
-      ordered = c.insert.ensures.ordered;
+      ordered = c.set.ensures.ordered;
       ordered_above = c.self.invariant.ordered_above;
     }
+
+pub set-requires : goal.set-requires
+set-requires c =
+    let count = c.args.mount.count in
+    let found = kept_shared c.self.inside.mounts.entries count c.args.group
+    (ap (λ groups. propagation_in groups (counted count)) c.self.view_is ∙ c.requires) in
+    ap (λ value. is_some value || list_any (is_at (nat_cmp count)) c.self.inside.mounts.room) found

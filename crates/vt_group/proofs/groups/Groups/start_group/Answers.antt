@@ -1,26 +1,26 @@
-use Rattle.std.specs.BTreeMap.{get}
-use Rattle.vt_location.specs.declared.mounts.Propagation.TheVariants.{Shared as SharedIn}
-use Rattle.vt_group.specs.Indexed.{group_at, is_listed, is_lower, mount_at}
-use Rattle.vt_group.proofs.Invariant.{put_each}
-use Rattle.std.proofs.Common.{refl, ◌≡◌, None, Option, Some, ap, cond, false, is_some, map, nat_eq, option_map, subst, sym, true, true≢false, ℕ, ◌∙◌}
-use Rattle.std.specs.Prelude.{IfSome}
-use Rattle.std.specs.BTreeMap.{insert_entry}
-use Rattle.std.specs.Map.{remove_entry}
+use Rattle.std.proofs.Common.{◌≡◌, None, Option, Some, ap, cond, false, is_some, map, nat_eq, option_map, refl, subst, sym, true, true≢false, ℕ, ◌∙◌}
+use Rattle.std.specs.BTreeMap.{insert_entry, is_at}
+use Rattle.std.specs.Map.{lookup}
 use Rattle.std.specs.Ordering.{nat_cmp}
+use Rattle.std.specs.Prelude.{IfSome}
 use Rattle.vt_spec.specs.Machine.Mounts.{group_of}
 use Rattle.vt_spec.specs.Machine.Mounts.Propagation.{Shared}
 use Rattle.vt_spec.specs.Machine.Receives.{has_members, regrouped}
 use Rattle.vt_spec.specs.Machine.World.{World}
-use Rattle.vt_location.specs.declared.numbers.GroupId.{GroupId}
-use Rattle.vt_group.specs.Grouping.{Grouping, Has, HasGroup, below, master_in, with_propagation}
-use Rattle.vt_location.specs.Numbers.{counted}
-use Rattle.vt_location.specs.MountValue.{propagation_of}
-use Rattle.vt_group.specs.Steps.{ended_if_lost, group_number, numbered_master, numbered_peer}
-use Rattle.vt_group.proofs.Answering.{listed_ok, shown-type, undone}
-use Rattle.vt_group.proofs.Changes.{start_alone, start_below}
-use Rattle.vt_group.proofs.CountLemmas.{inserted-numbered, removed-numbered}
-use Rattle.vt_group.proofs.groups.Groups.start_group.Goals as goal
 use Rattle.vt_spec.proofs.Options.{OnOk_then}
+use Rattle.vt_location.specs.MountValue.{propagation_of}
+use Rattle.vt_location.specs.Numbers.{counted}
+use Rattle.vt_location.specs.declared.mounts.Propagation.TheVariants.{Shared as SharedIn}
+use Rattle.vt_location.specs.declared.numbers.GroupId.{GroupId}
+use Rattle.vt_group.specs.ByNumber.{value_at}
+use Rattle.vt_group.specs.Grouping.{Grouping, Has, HasGroup, below, master_in, with_propagation}
+use Rattle.vt_group.specs.Indexed.{group_at, is_listed, is_lower, mount_at}
+use Rattle.vt_group.specs.Steps.{ended_if_lost, group_number, numbered_master, numbered_peer}
+use Rattle.vt_group.proofs.Answering.{listed_ok, shown-type}
+use Rattle.vt_group.proofs.Changes.{start_alone, start_below}
+use Rattle.vt_group.proofs.CountLemmas.{inserted-numbered}
+use Rattle.vt_group.proofs.Invariant.{put_each}
+use Rattle.vt_group.proofs.groups.Groups.start_group.Goals as goal
 
 -- a group with a master has members
 has_master : (world : World ℕ) (groups : Grouping) (group : ℕ) (found : Option GroupId) → Has world groups
@@ -29,13 +29,6 @@ has_master : (world : World ℕ) (groups : Grouping) (group : ℕ) (found : Opti
 has_master world groups group None has none is some = true≢false (sym some)
 has_master world groups group (Some master) has none is some =
     true≢false (ap is_some (is ∙ has.masters group ∙ ap (λ b. cond b (world.master group) None) none))
-
--- none is found
-not_found : (groups : Grouping) (group : ℕ) (found : Option GroupId)
-    → option_map group_number found ≡ master_in groups group → is_some found ≡ false
-    → master_in groups group ≡ None
-not_found groups group None is none = sym is
-not_found groups group (Some master) is none = absurd (true≢false none)
 
 pub returns-in_default-clause-ok : goal.returns-in_default-clause-ok
 returns-in_default-clause-ok c =
@@ -59,32 +52,20 @@ returns-then-is_some-clause-ok c =
     (sym c.is_some.ensures ∙ c.if-is_some.true)))
     c.set-then-is_some.ensures.ok
 
-pub returns-in_default-insert-2-clause-err : goal.returns-in_default-insert-2-clause-err
-returns-in_default-insert-2-clause-err c =
-    let count = c.args.group.count in
-    let group = counted count in
-    let master = group_number c.in-Some.master in
-    let inserted = ap (map numbered_master) c.in-Ok.ensures.entries
-    ∙ inserted-numbered group_number count c.in-Some.master c.self.inside.above.entries in
-    let removed = ap (map numbered_master) c.remove.ensures.entries
-    ∙ removed-numbered group_number count c.insert.new.self.entries
-    ∙ ap (remove_entry (nat_eq group)) inserted
-    ∙ (λ i. remove_entry (nat_eq group) (insert_entry nat_cmp (c.self.view_is i).masters group master))
-    ∙ undone group master c.args.self.now.masters
-    (not_found c.args.self.now group c.master_of.result c.master_of.ensures
-    (sym c.is_some.ensures ∙ c.if-is_some.false)) in
-    (λ i. record { peers = map numbered_peer (c.in_default-insert-2.ensures.err i); masters = removed i })
-    ∙ (λ i. record { peers = (c.self.view_is i).peers; masters = c.args.self.now.masters })
-
 pub returns-clause-ok : goal.returns-clause-ok
 returns-clause-ok c world has live is =
     let count = c.args.mount.count in
     let group = counted c.args.group.count in
     let es = c.self.inside.mounts.entries in
-    let old = shown-type count es _ c.args.self.now c.self.view_is c.in-Ok-insert.old c.in-Ok-insert.ensures.old in
-    let peers = ap (map numbered_peer) c.in-Ok-insert.ensures.entries ∙ inserted-numbered propagation_of count _ es
+    let old = shown-type count es _ c.args.self.now c.self.view_is c.get-old.result
+    (c.get-old.ensures ∙ ap (lookup (is_at (nat_cmp count))) c.reserve-2.ensures.entries) in
+    let peers = ap (map numbered_peer) c.set-3.ensures.entries
+    ∙ ap (λ es. map numbered_peer (insert_entry nat_cmp es count (SharedIn c.args.group))) c.reserve-2.ensures.entries
+    ∙ inserted-numbered propagation_of count _ es
     ∙ (λ i. insert_entry nat_cmp (c.self.view_is i).peers (counted count) (Shared group)) in
-    let masters = ap (map numbered_master) c.in-Ok.ensures.entries
+    let masters = ap (map numbered_master) c.set-2.ensures.entries
+    ∙ ap (λ es. map numbered_master (insert_entry nat_cmp es c.args.group.count c.in-Some.master))
+    c.reserve.ensures.entries
     ∙ inserted-numbered group_number c.args.group.count c.in-Some.master c.self.inside.above.entries
     ∙ (λ i. insert_entry nat_cmp (c.self.view_is i).masters group (group_number c.in-Some.master)) in
     let new = c.end_if_lost.ensures.ended
@@ -101,24 +82,29 @@ returns-clause-ok c world has live is =
 
 pub invariant_of-self-2 : goal.invariant_of-self-2
 invariant_of-self-2 c =
+    let count = c.args.mount.count in
+    let group = c.args.group in
+    let master = c.in-Some.master in
     let listed = listed_ok c.list.result c.list.ensures.ok (sym c.is_err.ensures.value ∙ c.if-is_err.false) in
     let joined = listed_ok c.join.result c.join.ensures.ok
     (sym c.is_err-else-is_err.ensures.value ∙ c.if-is_err-2.false) in
     record {
       listed = put_each (λ mount kind. is_listed c.leave.new.self (mount_at mount) kind ≡ true)
-          (get nat_cmp c.self.inside.mounts) (get nat_cmp c.insert-2.new.self) c.args.mount.count (SharedIn c.args.group)
-          c.in-Ok-insert.ensures.updates.0
-          (c.leave.ensures.own (SharedIn c.args.group) refl (c.join.ensures.kept c.args.mount (SharedIn c.args.group) listed))
+          (value_at c.self.inside.mounts) (value_at c.set-3.new.self) count (SharedIn group)
+          (λ other. c.set-3.ensures.updates other ∙ ap (λ es. cond (is_at (nat_cmp count) other) (Some (SharedIn group))
+          (lookup (is_at (nat_cmp other)) es)) c.reserve-2.ensures.entries)
+          (c.leave.ensures.own (SharedIn group) refl (c.join.ensures.kept c.args.mount (SharedIn group) listed))
           (λ mount kind apart at. c.leave.ensures.others (mount_at mount) kind apart
           (c.join.ensures.kept (mount_at mount) kind
           (c.list.ensures.kept (mount_at mount) kind (c.self.invariant.listed mount kind at))));
       lower = put_each (λ lower upper. is_lower c.leave.new.self (group_at lower) upper ≡ true)
-          (get nat_cmp c.self.inside.above) (get nat_cmp c.insert.new.self) c.args.group.count c.in-Some.master
-          c.in-Ok.ensures.updates.0
-          (c.leave.ensures.lower c.args.group c.in-Some.master joined)
+          (value_at c.self.inside.above) (value_at c.set-2.new.self) group.count master
+          (λ other. c.set-2.ensures.updates other ∙ ap (λ es. cond (is_at (nat_cmp group.count) other) (Some master)
+          (lookup (is_at (nat_cmp other)) es)) c.reserve.ensures.entries)
+          (c.leave.ensures.lower group master joined)
           (λ lower upper apart at. c.leave.ensures.lower (group_at lower) upper
           (c.join.ensures.lower (group_at lower) upper
           (c.list.ensures.lower (group_at lower) upper (c.self.invariant.lower lower upper at))));
-      ordered = c.in-Ok-insert.ensures.ordered;
-      ordered_above = c.in-Ok.ensures.ordered;
+      ordered = c.set-3.ensures.ordered;
+      ordered_above = c.set-2.ensures.ordered;
     }

@@ -1,14 +1,13 @@
 use Rattle.std.proofs.Common.{◌≡◌, Some, true}
-use Rattle.std.specs.BTreeMap.{get}
-use Rattle.std.specs.Ordering.{nat_cmp}
 use Rattle.vt_location.specs.declared.mounts.Propagation.{Propagation}
 use Rattle.vt_location.specs.declared.numbers.GroupId.{GroupId}
 use Rattle.vt_location.specs.declared.numbers.MountId.{MountId}
+use Rattle.vt_group.specs.ByNumber.{value_at}
 use Rattle.vt_group.specs.Indexed.{is_listed, is_lower}
 use Rattle.vt_group.proofs.index.Index.unlist_all.Given as goal
 
 abbrev pub invariant-loop-pair : goal.invariant-loop-pair
 invariant-loop-pair l =
-    ((mount : MountId) (kind : Propagation) → get nat_cmp l.types mount.count ≡ Some kind
+    ((mount : MountId) (kind : Propagation) → value_at l.types mount.count ≡ Some kind
     → is_listed l.fn.self mount kind ≡ true → is_listed l.self mount kind ≡ true)
     × ((lower upper : GroupId) → is_lower l.fn.self lower upper ≡ true → is_lower l.self lower upper ≡ true)

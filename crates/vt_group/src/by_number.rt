@@ -1,0 +1,121 @@
+//! A map by numbers in which room can be reserved.
+ghost use Rattle.std.specs.Prelude.{◌≡◌, ℕ, [], None, Some, OnOk, if◌then◌else◌, is_some, true};
+ghost use Rattle.std.specs.BTreeMap.{insert_entry, is_at};
+ghost use Rattle.std.specs.Map.{remove_entry};
+ghost use Rattle.std.specs.Ordering.{nat_cmp};
+ghost use Rattle.vt_group.specs.ByNumber.{IsAscending, has_room, value_at};
+
+use std::alloc::{AllocError, Global};
+use std::collections::BTreeMap;
+use std::marker::Model;
+
+/// Values in the order of their numbers. Room can be reserved for a value, which then comes without an allocation.
+#[derive(Debug, Drop)]
+pub(crate) struct ByNumber<V> {
+    // A number without a value is room for one.
+    places: BTreeMap<u64, Option<V>>,
+}
+
+impl<V> Model for ByNumber<V> {
+    ghost use Rattle.std.specs.BTreeMap.{IsOrdered};
+    ghost use Rattle.std.specs.Map.{keys_of};
+    ghost use Rattle.std.specs.Ordering.{nat_cmp};
+    ghost use Rattle.vt_group.specs.ByNumber.{Numbered, entries_of};
+
+    ghost Value = { Numbered V };
+
+    ghost view = { λ m. record { entries = entries_of m.places.entries; room = keys_of m.places.entries } };
+
+    ghost invariant = { λ m. IsOrdered nat_cmp m.places };
+}
+
+impl<V: Copy + Clone + Drop> ByNumber<V> {
+    /// No values. It does not allocate.
+    pub(crate) fn new(alloc: Global) -> Self
+        ensures entries { result.entries ≡ [] }
+        ensures ordered { IsAscending result }
+    {
+        ByNumber {
+            places: BTreeMap::new(alloc),
+        }
+    }
+
+    /// The value of a number.
+    pub(crate) fn get(&self, number: u64) -> Option<V>
+        ensures { result ≡ value_at self.now number }
+    {
+        match self.places.get(&number) {
+            Some(value) => *value,
+            None => None,
+        }
+    }
+
+    /// Whether a number has a value.
+    pub(crate) fn has(&self, number: u64) -> bool
+        ensures { result ≡ is_some (value_at self.now number) }
+    {
+        self.get(number).is_some()
+    }
+
+    /// Reserves room for the value of a number. No value changes.
+    pub(crate) fn reserve(&mut self, number: u64) -> Result<(), AllocError>
+        ensures room { OnOk result (has_room self.new number ≡ true) }
+        ensures kept { (other : ℕ) → has_room self.old other ≡ true → has_room self.new other ≡ true }
+        ensures entries { self.new.entries ≡ self.old.entries }
+    {
+        if self.places.contains_key(&number) {
+            return Ok(());
+        }
+        self.places.insert(number, None)?;
+        Ok(())
+    }
+
+    /// Gives a number a value, for which there is room. It does not allocate.
+    pub(crate) fn set(&mut self, number: u64, value: V)
+        requires { has_room self.old number ≡ true }
+        ensures entries { self.new.entries ≡ insert_entry nat_cmp self.old.entries number value }
+        ensures updates { (other : ℕ) → value_at self.new other
+            ≡ (if is_at (nat_cmp number) other then Some value else value_at self.old other) }
+        ensures kept { (other : ℕ) → has_room self.old other ≡ true → has_room self.new other ≡ true }
+        ensures ordered { IsAscending self.new }
+    {
+        let Some(place) = self.places.get_mut(&number) else {
+            return;
+        };
+        *place = Some(value);
+    }
+
+    /// Takes the value of a number, if any, and leaves room for one. It does not allocate.
+    pub(crate) fn clear(&mut self, number: u64)
+        ensures entries { self.new.entries ≡ remove_entry (is_at (nat_cmp number)) self.old.entries }
+        ensures updates { (other : ℕ) → value_at self.new other
+            ≡ (if is_at (nat_cmp number) other then None else value_at self.old other) }
+        ensures kept { (other : ℕ) → has_room self.old other ≡ true → has_room self.new other ≡ true }
+        ensures ordered { IsAscending self.new }
+    {
+        let Some(place) = self.places.get_mut(&number) else {
+            return;
+        };
+        *place = None;
+    }
+
+    /// Gives up the room of a number that has no value. No value changes, and it does not allocate.
+    pub(crate) fn release(&mut self, number: u64)
+        ensures { self.new.entries ≡ self.old.entries }
+    {
+        if !self.has(number) {
+            self.places.remove(&number);
+        }
+    }
+
+    /// Takes the value of a number, if any, and its room. It does not allocate.
+    pub(crate) fn remove(&mut self, number: u64) -> Option<V>
+        ensures value { result ≡ value_at self.old number }
+        ensures entries { self.new.entries ≡ remove_entry (is_at (nat_cmp number)) self.old.entries }
+        ensures updates { (other : ℕ) → value_at self.new other
+            ≡ (if is_at (nat_cmp number) other then None else value_at self.old other) }
+        ensures ordered { IsAscending self.new }
+    {
+        self.places.remove(&number).flatten()
+    }
+}
