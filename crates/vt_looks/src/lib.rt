@@ -6,4 +6,4 @@ mod look;
 mod places;
 
 pub use look::{Attachment, Ground, Look, LookAtMounts};
-pub use places::{LastWord, Place};
+pub use places::{LastWord, OldPlace, Place};

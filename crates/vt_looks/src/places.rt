@@ -64,3 +64,12 @@ pub struct Place<'a> {
     pub object: Option<Location>,
     pub slash: bool,
 }
+
+/// The place of a name that exists: as `Place`, with an object.
+#[derive(Clone, Copy, Debug)]
+pub struct OldPlace<'a> {
+    pub parent: Location,
+    pub last: LastWord<'a>,
+    pub object: Location,
+    pub slash: bool,
+}

@@ -1,12 +1,11 @@
 -- Calls that have passed their walks are left to their tables of rules.
-use Rattle.std.proofs.Common.{◌≡◌, ℕ, Bool, true, false, not, List, [], ◌∷◌, Result, Ok, Option, Some, None, is_some, option_map, unwrap_or, nat_eq, refl, ap, ◌∙◌}
+use Rattle.std.proofs.Common.{◌≡◌, ℕ, Bool, true, false, not, List, [], ◌∷◌, Result, Ok, Option, Some, None, is_some, option_map, nat_eq, refl, ap, ◌∙◌}
 use Rattle.vt_spec.specs.declared.errors.Deny.{Deny}
 use Rattle.vt_spec.specs.declared.errors.Rule.TheVariants.{B1, C1, C3, E1, E2, E3, E4, E5, E7, F1, F2, L1, P1, P2}
 use Rattle.vt_spec.specs.Errors.{Rules, and_then, unless}
 use Rattle.vt_spec.specs.Machine.Judge.{Judgement, hard_link_permit, made_permit, make_permit, rename_permit, renamed_permit, rmdir_permit, unlink_permit, unnumbered}
 use Rattle.vt_spec.specs.Machine.Looks.{Looks, is_directory_at}
 use Rattle.vt_spec.specs.Machine.Mounts as meant
-use Rattle.vt_spec.specs.Lists.{holds_of}
 use Rattle.vt_spec.specs.Machine.Outcome.Making.{linking}
 use Rattle.vt_spec.specs.Machine.Permits.{Permit}
 use Rattle.vt_spec.specs.Machine.Permits.Permit.{ToChange, ToRemoveDirectory}
@@ -34,11 +33,6 @@ went end a next e = ap (λ walked. and_then walked next) e
 pub is_some_mapped : (object : Option Location) → is_some (option_map location_of object) ≡ is_some object
 is_some_mapped None = refl
 is_some_mapped (Some object) = refl
-
-pub there_mapped : (object : Option Location) (otherwise : Location)
-    → unwrap_or (option_map location_of object) (location_of otherwise) ≡ location_of (unwrap_or object otherwise)
-there_mapped None otherwise = refl
-there_mapped (Some object) otherwise = refl
 
 -- mkdir(2), symlink(2)
 pub made_asked : (looks : Looks ℕ) (task : Task ℕ) (end : Result (Place ℕ) Deny) (seen : Place ℕ)
@@ -134,13 +128,6 @@ link_asked looks plain task old new from seen object parent walked_old there wal
     ∙ skipped _ C1 _ answer (ap (λ place. may_not looks task place write_right) at ∙ rightful)
     ∙ skipped _ B1 _ answer (mounter_may looks plain seen.parent write_right)
     ∙ ap (λ rows. unless rows answer) (plain.mounter seen.parent (linking from.location seen))
-
--- what is there is a directory if the object is
-pub there_holds : (test : meant.Location ℕ → Bool) (object : Option Location) (otherwise : Location)
-    → is_some object ≡ true
-    → holds_of test (option_map location_of object) ≡ test (location_of (unwrap_or object otherwise))
-there_holds test None otherwise e = absurd cc
-there_holds test (Some object) otherwise e = refl
 
 -- rename(2)
 pub rename_asked : (looks : Looks ℕ) (task : Task ℕ) (old new : List ℕ) (from to : Place ℕ) (object : meant.Location ℕ)

@@ -4,8 +4,10 @@ use Rattle.vt_spec.specs.declared.errors.Deny.{Deny}
 use Rattle.vt_spec.specs.Machine.Walking as walked
 use Rattle.vt_location.specs.declared.locations.Location.{Location}
 use Rattle.vt_location.specs.Locations.{location_of}
+use Rattle.vt_looks.specs.declared.places.OldPlace.{OldPlace}
 use Rattle.vt_looks.specs.declared.places.Place.{Place}
-use Rattle.vt_walk.specs.WalkValue.{location_end, location_result, place_end, place_of, place_result, without_steps}
+use Rattle.vt_looks.specs.Places.{as_place}
+use Rattle.vt_walk.specs.WalkValue.{location_end, location_result, old_place_result, place_end, place_of, place_result, without_steps}
 use Rattle.vt_policy.specs.Ends.{EndsAt, EndsAtPlace}
 
 abbrev okay : {A : Type 0} → A → Result A Deny
@@ -51,3 +53,16 @@ pub refused_place : (result : Result Place Deny) (end : Result (walked.Place ℕ
 refused_place (Ok place) end e = tt
 refused_place (Err deny) (Ok seen) e = absurd cc
 refused_place (Err deny) (Err other) e = cc
+
+-- the same of a name that exists
+pub ends_at_old_place : (result : Result OldPlace Deny) (end : Result (walked.Place ℕ) Deny)
+    → old_place_result result ≡ place_end end
+    → IfOk result (λ place. EndsAtPlace end (as_place place))
+ends_at_old_place (Ok place) end e = ends_at_place (Ok (as_place place)) end e
+ends_at_old_place (Err deny) end e = tt
+
+pub refused_old_place : (result : Result OldPlace Deny) (end : Result (walked.Place ℕ) Deny)
+    → old_place_result result ≡ place_end end
+    → IfErr result (λ deny. end ≡ Err deny)
+refused_old_place (Ok place) end e = tt
+refused_old_place (Err deny) end e = refused_place (Err deny) end e

@@ -41,7 +41,7 @@ pub fn mkdir<L: Look>(
     let attr = new_attr(who, mode.unwrap_or(Mode::new(DIRECTORY_MODE).unwrap()));
     Ok(Permit::ToMake {
         directory: place.parent,
-        name: name_at(alloc, &place)?,
+        name: name_at(alloc, place.last)?,
         node: empty_directory(alloc, attr, place.parent),
     })
 }
@@ -72,7 +72,7 @@ pub fn symlink<L: Look>(
     may_make(world, who, place.parent)?;
     Ok(Permit::ToMake {
         directory: place.parent,
-        name: name_at(alloc, &place)?,
+        name: name_at(alloc, place.last)?,
         node: Node::new_link(symlink_attr(who), text),
     })
 }
@@ -109,7 +109,7 @@ pub fn link<L: Look>(
     }
     Ok(Permit::ToLink {
         directory: place.parent,
-        name: name_at(alloc, &place)?,
+        name: name_at(alloc, place.last)?,
         object: object.node,
     })
 }

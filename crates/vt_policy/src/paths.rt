@@ -1,13 +1,14 @@
 //! Where paths as bytes lead: path_resolution(7).
-ghost use Rattle.std.specs.Prelude.{◌≡◌, is_some, nat_eq, true, Err, IfErr, IfOk};
+ghost use Rattle.std.specs.Prelude.{◌≡◌, nat_eq, Err, IfErr, IfOk};
 ghost use Rattle.vt_spec.specs.Machine.Rules.Mounting.{destination_walk, source_walk};
 ghost use Rattle.vt_spec.specs.Machine.Rules.Removing.{rename_new_walk};
 ghost use Rattle.vt_spec.specs.Machine.Walking.{directory_walk, file_walk, new_leaf_walk, new_walk, object_walk, old_leaf_walk, old_walk, symlink_walk, walk_end};
+ghost use Rattle.vt_looks.specs.Places.{as_place};
 ghost use Rattle.vt_tasks.specs.TaskValue.{task_of};
 ghost use Rattle.vt_policy.specs.Ends.{EndsAt, EndsAtPlace};
 
 use vt_location::Location;
-use vt_looks::{Look, Place};
+use vt_looks::{Look, OldPlace, Place};
 use vt_spec::errors::Deny;
 use vt_tasks::Task;
 use vt_text::path::PathText;
@@ -90,14 +91,14 @@ pub(crate) fn new_leaf_place<'a, L: Look>(
     vt_walk::new_leaf_walk(world, who, &PathText::parse(path)?)
 }
 
-/// As `new_place`, of a name that is there.
+/// As `new_place`, of a name that exists.
 pub(crate) fn old_place<'a, L: Look>(
     world: &L,
     who: &Task,
     path: &'a [u8],
-) -> Result<Place<'a>, Deny>
+) -> Result<OldPlace<'a>, Deny>
     ensures ok { IfOk result (λ place.
-        EndsAtPlace (walk_end (old_walk nat_eq (L.looks world.now) (task_of who.now) path.now)) place) }
+        EndsAtPlace (walk_end (old_walk nat_eq (L.looks world.now) (task_of who.now) path.now)) (as_place place)) }
     ensures err { IfErr result (λ deny. walk_end (old_walk nat_eq (L.looks world.now) (task_of who.now) path.now)
         ≡ Err deny) }
 {
@@ -109,12 +110,12 @@ pub(crate) fn old_leaf_place<'a, L: Look>(
     world: &L,
     who: &Task,
     path: &'a [u8],
-) -> Result<Place<'a>, Deny>
+) -> Result<OldPlace<'a>, Deny>
     ensures ok { IfOk result (λ place.
-        EndsAtPlace (walk_end (old_leaf_walk nat_eq (L.looks world.now) (task_of who.now) path.now)) place) }
+        EndsAtPlace (walk_end (old_leaf_walk nat_eq (L.looks world.now) (task_of who.now) path.now))
+        (as_place place)) }
     ensures err { IfErr result (λ deny. walk_end (old_leaf_walk nat_eq (L.looks world.now) (task_of who.now) path.now)
         ≡ Err deny) }
-    ensures there { IfOk result (λ place. is_some place.object ≡ true) }
 {
     vt_walk::old_leaf_walk(world, who, &PathText::parse(path)?)
 }

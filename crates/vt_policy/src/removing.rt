@@ -21,18 +21,17 @@ pub fn unlink<L: Look>(alloc: Global, world: &L, who: &Task, path: &[u8]) -> Res
 {
     world.has_no_overlays();
     let place = old_leaf_place(world, who, path)?;
-    let object = place.object.unwrap_or(place.parent);
-    if place.last.is_special() || is_directory(world, object) {
+    if place.last.is_special() || is_directory(world, place.object) {
         return Err(Rule::E2.denial());
     }
     if is_read_only(world, place.parent) {
         return Err(Rule::F1.denial());
     }
-    may_remove(world, who, place.parent, object)?;
+    may_remove(world, who, place.parent, place.object)?;
     Ok(Permit::ToUnlink {
         directory: place.parent,
-        name: name_at(alloc, &place)?,
-        object: object.node,
+        name: name_at(alloc, place.last)?,
+        object: place.object.node,
     })
 }
 
@@ -50,7 +49,7 @@ pub fn rmdir<L: Look>(alloc: Global, world: &L, who: &Task, path: &[u8]) -> Resu
         LastWord::NoWord => return Err(Rule::P1.denial()),
         LastWord::Named(_) => {}
     }
-    let directory = place.object.unwrap_or(place.parent);
+    let directory = place.object;
     if !is_directory(world, directory) {
         return Err(Rule::E3.denial());
     }
@@ -66,7 +65,7 @@ pub fn rmdir<L: Look>(alloc: Global, world: &L, who: &Task, path: &[u8]) -> Resu
     may_remove(world, who, place.parent, directory)?;
     Ok(Permit::ToRemoveDirectory {
         parent: place.parent,
-        name: name_at(alloc, &place)?,
+        name: name_at(alloc, place.last)?,
         directory,
     })
 }
@@ -88,22 +87,21 @@ pub fn rename<L: Look>(
     if from.last.is_special() {
         return Err(Rule::P1.denial());
     }
-    let object = from.object.unwrap_or(from.parent);
-    let to = rename_place(world, who, new, is_directory(world, object))?;
+    let to = rename_place(world, who, new, is_directory(world, from.object))?;
     if to.last.is_special() {
         return Err(Rule::P1.denial());
     }
-    if is_name_of(world, object, &to) {
+    if is_name_of(world, from.object, &to) {
         may_stay(world, &from, &to)?;
         return Ok(Permit::Allowed);
     }
-    may_rename(world, who, &from, &to, object)?;
+    may_rename(world, who, &from, &to)?;
     Ok(Permit::ToRename {
         from: from.parent,
-        old: name_at(alloc, &from)?,
+        old: name_at(alloc, from.last)?,
         to: to.parent,
-        new: name_at(alloc, &to)?,
-        object,
+        new: name_at(alloc, to.last)?,
+        object: from.object,
         replaced: to.object,
     })
 }

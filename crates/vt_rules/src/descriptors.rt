@@ -81,7 +81,7 @@ pub fn create_file_permit<L: Look>(
     may_make(world, who, place.parent)?;
     Ok(Permit::ToOpenNew {
         directory: place.parent,
-        name: name_at(alloc, place)?,
+        name: name_at(alloc, place.last)?,
         node: Node::new_file(new_attr(who, mode), Vec::new(alloc)),
         access,
     })

@@ -104,7 +104,7 @@ pub fn new_file_permit<L: Look>(
     let attr = new_attr(who, Mode::new(FILE_MODE).unwrap());
     Ok(Permit::ToMake {
         directory: place.parent,
-        name: name_at(alloc, place)?,
+        name: name_at(alloc, place.last)?,
         node: Node::new_file(attr, bytes),
     })
 }

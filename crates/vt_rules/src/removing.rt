@@ -6,6 +6,7 @@ ghost use Rattle.vt_spec.specs.Machine.Rules.Conditions.{is_kept, is_mount_point
 ghost use Rattle.vt_spec.specs.Machine.Rules.Removing.{changes_parent, is_one_object, rename_rules, same_object_rules};
 ghost use Rattle.vt_spec.specs.Machine.Walking.{Place as PlaceMeant};
 ghost use Rattle.vt_location.specs.Locations.{location_of};
+ghost use Rattle.vt_looks.specs.Places.{as_place};
 ghost use Rattle.vt_tasks.specs.TaskValue.{task_of};
 ghost use Rattle.vt_rules.specs.Places.{IsPlaceOf};
 ghost use Rattle.vt_rules.specs.Tables.{kind_rules, remove_rules, right_rules, way_rules};
@@ -16,7 +17,7 @@ use crate::rights::{
 };
 use vt_cred::Rights;
 use vt_location::Location;
-use vt_looks::{Look, Place};
+use vt_looks::{Look, OldPlace, Place};
 use vt_spec::errors::{Deny, Rule};
 use vt_tasks::Task;
 
@@ -58,8 +59,8 @@ pub fn is_name_of<L: Look>(world: &L, object: Location, place: &Place) -> bool
 /// Two names of one object may stay as they are: rename(2).
 ///
 /// F1 (EROFS), P2 (EXDEV).
-pub fn may_stay<L: Look>(world: &L, from: &Place, to: &Place) -> Result<(), Deny>
-    ensures { (old new : PlaceMeant ℕ) → IsPlaceOf from.now old → IsPlaceOf to.now new
+pub fn may_stay<L: Look>(world: &L, from: &OldPlace, to: &Place) -> Result<(), Deny>
+    ensures { (old new : PlaceMeant ℕ) → IsPlaceOf (as_place from.now) old → IsPlaceOf to.now new
         → result ≡ unless (same_object_rules nat_eq (L.looks world.now) old new) (Ok tt) }
 {
     world.has_no_overlays();
@@ -115,11 +116,11 @@ fn is_point<L: Look>(world: &L, who: &Task, object: Location, replaced: Option<L
 }
 
 // Whether a rename leaves a directory in another parent, which its `..` then names.
-fn changes_parent<L: Look>(world: &L, from: &Place, to: &Place, object: Location) -> bool
-    ensures { (old new : PlaceMeant ℕ) → IsPlaceOf from.now old → IsPlaceOf to.now new
-        → result ≡ changes_parent nat_eq (L.looks world.now) old new (location_of object) }
+fn changes_parent<L: Look>(world: &L, from: &OldPlace, to: &Place) -> bool
+    ensures { (old new : PlaceMeant ℕ) → IsPlaceOf (as_place from.now) old → IsPlaceOf to.now new
+        → result ≡ changes_parent nat_eq (L.looks world.now) old new (location_of from.now.object) }
 {
-    is_directory(world, object) && !is_same_location(from.parent, to.parent)
+    is_directory(world, from.object) && !is_same_location(from.parent, to.parent)
 }
 
 // Whether a sticky directory keeps what has the new name.
@@ -134,21 +135,15 @@ fn is_replaced_kept<L: Look>(world: &L, who: &Task, to: &Place) -> bool
 }
 
 // Nothing stands between the two names: F1 (EROFS), P1 (EBUSY), P2 (EXDEV).
-fn may_cross<L: Look>(
-    world: &L,
-    who: &Task,
-    from: &Place,
-    to: &Place,
-    object: Location,
-) -> Result<(), Deny>
-    ensures { (old new : PlaceMeant ℕ) → IsPlaceOf from.now old → IsPlaceOf to.now new
+fn may_cross<L: Look>(world: &L, who: &Task, from: &OldPlace, to: &Place) -> Result<(), Deny>
+    ensures { (old new : PlaceMeant ℕ) → IsPlaceOf (as_place from.now) old → IsPlaceOf to.now new
         → result ≡ unless
-        (way_rules nat_eq (L.looks world.now) (task_of who.now) old new (location_of object)) (Ok tt) }
+        (way_rules nat_eq (L.looks world.now) (task_of who.now) old new (location_of from.now.object)) (Ok tt) }
 {
     if is_read_only(world, from.parent) || is_read_only(world, to.parent) {
         return Err(Rule::F1.denial());
     }
-    if is_point(world, who, object, to.object) {
+    if is_point(world, who, from.object, to.object) {
         return Err(Rule::P1.denial());
     }
     if from.parent.mount != to.parent.mount {
@@ -158,24 +153,18 @@ fn may_cross<L: Look>(
 }
 
 // The caller may change both directories: C1 (EACCES), C3 (EPERM).
-fn may_change_both<L: Look>(
-    world: &L,
-    who: &Task,
-    from: &Place,
-    to: &Place,
-    object: Location,
-) -> Result<(), Deny>
-    ensures { (old new : PlaceMeant ℕ) → IsPlaceOf from.now old → IsPlaceOf to.now new
+fn may_change_both<L: Look>(world: &L, who: &Task, from: &OldPlace, to: &Place) -> Result<(), Deny>
+    ensures { (old new : PlaceMeant ℕ) → IsPlaceOf (as_place from.now) old → IsPlaceOf to.now new
         → result ≡ unless
-        (right_rules nat_eq (L.looks world.now) (task_of who.now) old new (location_of object)) (Ok tt) }
+        (right_rules nat_eq (L.looks world.now) (task_of who.now) old new (location_of from.now.object)) (Ok tt) }
 {
     if !may(world, who, from.parent, Rights::WRITE) || !may(world, who, to.parent, Rights::WRITE) {
         return Err(Rule::C1.denial());
     }
-    if changes_parent(world, from, to, object) && !may(world, who, object, Rights::WRITE) {
+    if changes_parent(world, from, to) && !may(world, who, from.object, Rights::WRITE) {
         return Err(Rule::C1.denial());
     }
-    if is_kept(world, who, from.parent, object) || is_replaced_kept(world, who, to) {
+    if is_kept(world, who, from.parent, from.object) || is_replaced_kept(world, who, to) {
         return Err(Rule::C3.denial());
     }
     Ok(())
@@ -185,19 +174,13 @@ fn may_change_both<L: Look>(
 ///
 /// E2 (EISDIR), E3 (ENOTDIR), E4 (ENOTEMPTY), E5 (EINVAL), F1 (EROFS), P1 (EBUSY), P2 (EXDEV), C1 (EACCES),
 /// C3 (EPERM).
-pub fn may_rename<L: Look>(
-    world: &L,
-    who: &Task,
-    from: &Place,
-    to: &Place,
-    object: Location,
-) -> Result<(), Deny>
-    ensures { (old new : PlaceMeant ℕ) → IsPlaceOf from.now old → IsPlaceOf to.now new
+pub fn may_rename<L: Look>(world: &L, who: &Task, from: &OldPlace, to: &Place) -> Result<(), Deny>
+    ensures { (old new : PlaceMeant ℕ) → IsPlaceOf (as_place from.now) old → IsPlaceOf to.now new
         → result ≡ unless
-        (rename_rules nat_eq (L.looks world.now) (task_of who.now) old new (location_of object)) (Ok tt) }
+        (rename_rules nat_eq (L.looks world.now) (task_of who.now) old new (location_of from.now.object)) (Ok tt) }
 {
     world.has_no_overlays();
-    may_replace(world, to, object)?;
-    may_cross(world, who, from, to, object)?;
-    may_change_both(world, who, from, to, object)
+    may_replace(world, to, from.object)?;
+    may_cross(world, who, from, to)?;
+    may_change_both(world, who, from, to)
 }

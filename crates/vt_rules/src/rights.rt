@@ -19,7 +19,7 @@ ghost use Rattle.vt_looks.specs.Places.{last_of};
 use std::alloc::Global;
 use vt_cred::{Caps, Mode, Rights, allows, masked, may_delete_sticky};
 use vt_location::{FilesystemId, Location, MountId, NodeRef, Propagation};
-use vt_looks::{Look, Place};
+use vt_looks::{LastWord, Look};
 use vt_node::{Attr, Kind};
 use vt_spec::errors::{Deny, Rule};
 use vt_tasks::Task;
@@ -224,10 +224,10 @@ pub fn symlink_attr(task: &Task) -> Attr
     }
 }
 
-/// The last word of a place in memory of its own. S5 (ENOMEM): an allocation failed.
-pub fn name_at(alloc: Global, place: &Place) -> Result<Vec<u8>, Deny>
-    ensures ok { IfOk result (λ name. name.items ≡ name_of (last_of place.now.last)) }
+/// The name of a last word, in memory of its own. S5 (ENOMEM): an allocation failed.
+pub fn name_at(alloc: Global, last: LastWord) -> Result<Vec<u8>, Deny>
+    ensures ok { IfOk result (λ name. name.items ≡ name_of (last_of last.entry)) }
     ensures memory { IfErr result (λ deny. deny ≡ denial S5) }
 {
-    Vec::from_slice(alloc, place.last.name()).map_err(|_error| Rule::S5.denial())
+    Vec::from_slice(alloc, last.name()).map_err(|_error| Rule::S5.denial())
 }

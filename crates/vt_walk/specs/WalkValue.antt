@@ -9,9 +9,10 @@ use Rattle.vt_spec.specs.Machine.World.{Task}
 use Rattle.vt_spec.specs.Tree.{Node}
 use Rattle.vt_location.specs.declared.locations.Location.{Location}
 use Rattle.vt_location.specs.Locations.{location_of}
+use Rattle.vt_looks.specs.declared.places.OldPlace.{OldPlace}
 use Rattle.vt_looks.specs.declared.places.Place.{Place}
 use Rattle.vt_looks.specs.Looking.{node_seen}
-use Rattle.vt_looks.specs.Places.{last_of}
+use Rattle.vt_looks.specs.Places.{as_place, last_of}
 use Rattle.vt_walk.specs.declared.here.Here.{Here}
 use Rattle.vt_walk.specs.PlainWalks.{standing}
 
@@ -36,6 +37,10 @@ place_of place = record {
 abbrev pub place_result : Result Place Deny → Result (PlaceMeant ℕ) Deny
 place_result (Ok place) = Ok (place_of place)
 place_result (Err deny) = Err deny
+
+abbrev pub old_place_result : Result OldPlace Deny → Result (PlaceMeant ℕ) Deny
+old_place_result (Ok place) = Ok (place_of (as_place place))
+old_place_result (Err deny) = Err deny
 
 abbrev pub location_result : Result Location Deny → Result (LocationMeant ℕ) Deny
 location_result (Ok location) = Ok (location_of location)

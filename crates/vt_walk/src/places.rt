@@ -1,15 +1,15 @@
 //! Walks to a parent, and what the last word names there.
-ghost use Rattle.std.specs.Prelude.{◌≡◌, ◌+◌, nat_eq, false, true, not, is_some, ◌&&◌, ◌||◌, option_copied, IfOk};
+ghost use Rattle.std.specs.Prelude.{◌≡◌, ◌+◌, nat_eq, false, not, is_some, ◌&&◌, ◌||◌, option_map, IfOk, IfSome, Some};
 ghost use Rattle.vt_spec.specs.Machine.Rules.Removing.{rename_new_walk};
-ghost use Rattle.vt_spec.specs.Machine.Walking.{file_walk, is_directory_there, new_leaf_walk, new_walk, old_leaf_walk, old_walk, place_walk, symlink_of, symlink_there, walk_end, walk_start};
+ghost use Rattle.vt_spec.specs.Machine.Walking.{file_walk, new_leaf_walk, new_walk, old_leaf_walk, old_walk, place_walk, symlink_there, walk_end, walk_start};
 ghost use Rattle.vt_spec.specs.Language.Limits.{most_symlinks};
 ghost use Rattle.vt_spec.specs.PathText.{ends_in_slash};
 ghost use Rattle.vt_location.specs.Locations.{location_of};
 ghost use Rattle.vt_tasks.specs.TaskValue.{task_of};
 ghost use Rattle.vt_text.specs.Walkable.{IsWalkable};
 ghost use Rattle.vt_walk.specs.PlainWalks.{entered, file_walked, placed};
-ghost use Rattle.vt_looks.specs.Places.{last_of};
-ghost use Rattle.vt_walk.specs.WalkValue.{IsFilePlace, IsPlace, here_of, place_end, place_of, place_result};
+ghost use Rattle.vt_looks.specs.Places.{as_place, last_of};
+ghost use Rattle.vt_walk.specs.WalkValue.{IsFilePlace, IsPlace, old_place_result, place_end, place_of, place_result};
 
 use crate::here::{Here, MOST_LINKS};
 use crate::steps::{
@@ -17,7 +17,7 @@ use crate::steps::{
 };
 use crate::words::front_and_last;
 use vt_location::Location;
-use vt_looks::{LastWord, Look, Place};
+use vt_looks::{LastWord, Look, OldPlace, Place};
 use vt_spec::errors::{Deny, Rule};
 use vt_tasks::Task;
 use vt_text::link;
@@ -113,26 +113,25 @@ pub fn new_leaf_walk<'a, L: Look>(
 }
 
 /// As `place_walk`, for a name that must exist, else W6 (ENOENT).
-pub fn old_walk<'a, L: Look>(world: &L, who: &Task, path: &PathText<'a>) -> Result<Place<'a>, Deny>
-    ensures value { place_result result
+pub fn old_walk<'a, L: Look>(
+    world: &L,
+    who: &Task,
+    path: &PathText<'a>,
+) -> Result<OldPlace<'a>, Deny>
+    ensures value { old_place_result result
         ≡ place_end (walk_end (old_walk nat_eq (L.looks world.now) (task_of who.now) path.now)) }
-    ensures place { IfOk result (λ place. IsPlace (L.looks world.now) (task_of who.now) place) }
-    ensures there { IfOk result (λ place. is_some place.object ≡ true) }
+    ensures place { IfOk result (λ place. IsPlace (L.looks world.now) (task_of who.now) (as_place place)) }
 {
-    match place_walk(world, who, path) {
-        Ok(place) if place.object.is_none() => Err(Rule::W6.denial()),
-        walked => walked,
-    }
-}
-
-// Whether the object of a place is a directory.
-fn has_directory<L: Look>(world: &L, place: &Place) -> bool
-    ensures { result ≡ is_directory_there nat_eq (L.looks world.now) (place_of place.now) }
-{
-    match place.object {
-        Some(object) => is_directory_at(world, object),
-        None => false,
-    }
+    let place = place_walk(world, who, path)?;
+    let Some(object) = place.object else {
+        return Err(Rule::W6.denial());
+    };
+    Ok(OldPlace {
+        parent: place.parent,
+        last: place.last,
+        object,
+        slash: place.slash,
+    })
 }
 
 /// As `old_walk`; a trailing slash is accepted only if the object is a directory, else W3 (ENOTDIR): unlink(2),
@@ -141,14 +140,15 @@ pub fn old_leaf_walk<'a, L: Look>(
     world: &L,
     who: &Task,
     path: &PathText<'a>,
-) -> Result<Place<'a>, Deny>
-    ensures value { place_result result
+) -> Result<OldPlace<'a>, Deny>
+    ensures value { old_place_result result
         ≡ place_end (walk_end (old_leaf_walk nat_eq (L.looks world.now) (task_of who.now) path.now)) }
-    ensures place { IfOk result (λ place. IsPlace (L.looks world.now) (task_of who.now) place) }
-    ensures there { IfOk result (λ place. is_some place.object ≡ true) }
+    ensures place { IfOk result (λ place. IsPlace (L.looks world.now) (task_of who.now) (as_place place)) }
 {
     match old_walk(world, who, path) {
-        Ok(place) if place.slash && !has_directory(world, &place) => Err(Rule::W3.denial()),
+        Ok(place) if place.slash && !is_directory_at(world, place.object) => {
+            Err(Rule::W3.denial())
+        }
         walked => walked,
     }
 }
@@ -179,18 +179,15 @@ fn asks_for_directory(slash: bool, text: &[u8]) -> bool
     slash || link::ends_in_slash(text)
 }
 
-// The text of the symlink that a place names, if it names one.
-fn symlink_there<'a, L: Look>(world: &'a L, place: &Place) -> Option<&'a [u8]>
-    ensures { option_copied result ≡ symlink_there nat_eq (L.looks world.now) (place_of place.now) }
+// The symlink that a place names, if it names one, and its text.
+fn symlink_there<'a, L: Look>(world: &'a L, place: &Place) -> Option<(Location, &'a [u8])>
+    ensures text { option_map (λ link. link.1.now) result
+        ≡ symlink_there nat_eq (L.looks world.now) (place_of place.now) }
+    ensures object { IfSome result (λ link. place.now.object ≡ Some link.0) }
 {
-    symlink_text(world.node(place.object?))
-}
-
-// The walk at the symlink that a place names.
-fn symlink_of(here: Here, place: &Place) -> Here
-    ensures { here_of result ≡ symlink_of (here_of here) (place_of place.now) }
-{
-    here.moved(place.object.unwrap_or(place.parent))
+    let object = place.object?;
+    let text = symlink_text(world.node(object))?;
+    Some((object, text))
 }
 
 // The place, its object replaced by the root of the topmost mount over it.
@@ -223,11 +220,10 @@ fn file_walked<'a, L: Look>(
         let (front, last) = front_and_last(text);
         let here = words_walked(world, who, start, front)?;
         let place = placed(world, who, here.location, last, slash)?;
-        let Some(inner) = symlink_there(world, &place) else {
+        let Some((link, inner)) = symlink_there(world, &place) else {
             return Ok(entered(world, place));
         };
-        let link = symlink_of(here, &place);
-        start = link_begun(world, who, here.location, link, inner)?;
+        start = link_begun(world, who, here.location, here.moved(link), inner)?;
         text = inner;
     }
     Err(Rule::W7.denial())

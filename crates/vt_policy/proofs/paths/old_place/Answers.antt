@@ -2,12 +2,12 @@ use Rattle.std.proofs.Common.{ap, nat_eq, ◌∙◌}
 use Rattle.vt_spec.specs.Machine.Walking.{old_walk, walk_end}
 use Rattle.vt_tasks.specs.TaskValue.{task_of}
 use Rattle.vt_walk.specs.WalkValue.{place_end}
-use Rattle.vt_policy.proofs.WalkEnds.{ends_at_place, refused_place}
+use Rattle.vt_policy.proofs.WalkEnds.{ends_at_old_place, refused_old_place}
 use Rattle.vt_policy.proofs.paths.old_place.Goals as goal
 
 pub returns-clause-ok : goal.returns-clause-ok
 returns-clause-ok g c =
-    ends_at_place c.old_walk.result
+    ends_at_old_place c.old_walk.result
     (walk_end (old_walk nat_eq (g.L.Look.looks c.args.world.now) (task_of c.args.who.now) c.args.path.now))
     (c.old_walk.ensures.value ∙ ap
     (λ text. place_end (walk_end (old_walk nat_eq (g.L.Look.looks c.args.world.now)
@@ -15,7 +15,7 @@ returns-clause-ok g c =
 
 pub returns-clause-err : goal.returns-clause-err
 returns-clause-err g c =
-    refused_place c.old_walk.result
+    refused_old_place c.old_walk.result
     (walk_end (old_walk nat_eq (g.L.Look.looks c.args.world.now) (task_of c.args.who.now) c.args.path.now))
     (c.old_walk.ensures.value ∙ ap
     (λ text. place_end (walk_end (old_walk nat_eq (g.L.Look.looks c.args.world.now)

@@ -9,7 +9,7 @@ use Rattle.vt_spec.specs.Machine.Walking.{is_special, name_of, walk_end}
 use Rattle.vt_location.specs.Locations.{location_of}
 use Rattle.vt_tasks.specs.TaskValue.{task_of}
 use Rattle.vt_rules.proofs.Judged.{refused, without_memory}
-use Rattle.vt_policy.proofs.PlaceLemmas.{rename_asked, there_holds, there_mapped}
+use Rattle.vt_policy.proofs.PlaceLemmas.{rename_asked}
 use Rattle.vt_rules.proofs.Refusals.{unless-stopped}
 use Rattle.vt_policy.proofs.removing.rename.Goals as goal
 use Rattle.vt_spec.proofs.Refusals.{unless-let_through}
@@ -20,13 +20,9 @@ returns-in_err-may_stay g c =
     let task = task_of c.args.who.now in
     let from = c.in_ok-from.ensures.ok in
     let to = c.in_ok-to.ensures.ok in
-    let place = c.in_ok-from.from in
-    let object = location_of c.unwrap_or-object.result in
-    let there = (λ i. unwrap_or (from.2.object i) (from.2.parent i)) ∙ there_mapped place.object place.parent
-    ∙ ap location_of (sym c.unwrap_or-object.ensures) in
-    let kind = ap (holds_of (is_directory_at looks)) from.2.object
-    ∙ there_holds (is_directory_at looks) place.object place.parent c.in_ok-from.ensures.there
-    ∙ ap (λ at. is_directory_at looks (location_of at)) (sym c.unwrap_or-object.ensures) in
+    let object = location_of c.in_ok-from.from.object in
+    let there = ap (λ object. unwrap_or object from.0.parent) from.2.object in
+    let kind = ap (holds_of (is_directory_at looks)) from.2.object in
     let asked = rename_asked looks task c.args.old.now c.args.new.now from.0 to.0 object true
     from.1 (ap is_special from.2.last ∙ sym c.is_special.ensures ∙ c.if-is_special.false) there kind
     (ap (λ directory. walk_end (rename_new_walk nat_eq looks task c.args.new.now directory))
@@ -44,13 +40,9 @@ returns-in_err-may_rename g c =
     let task = task_of c.args.who.now in
     let from = c.in_ok-from.ensures.ok in
     let to = c.in_ok-to.ensures.ok in
-    let place = c.in_ok-from.from in
-    let object = location_of c.unwrap_or-object.result in
-    let there = (λ i. unwrap_or (from.2.object i) (from.2.parent i)) ∙ there_mapped place.object place.parent
-    ∙ ap location_of (sym c.unwrap_or-object.ensures) in
-    let kind = ap (holds_of (is_directory_at looks)) from.2.object
-    ∙ there_holds (is_directory_at looks) place.object place.parent c.in_ok-from.ensures.there
-    ∙ ap (λ at. is_directory_at looks (location_of at)) (sym c.unwrap_or-object.ensures) in
+    let object = location_of c.in_ok-from.from.object in
+    let there = ap (λ object. unwrap_or object from.0.parent) from.2.object in
+    let kind = ap (holds_of (is_directory_at looks)) from.2.object in
     let asked = rename_asked looks task c.args.old.now c.args.new.now from.0 to.0 object false
     from.1 (ap is_special from.2.last ∙ sym c.is_special.ensures ∙ c.if-is_special.false) there kind
     (ap (λ directory. walk_end (rename_new_walk nat_eq looks task c.args.new.now directory))
@@ -69,13 +61,9 @@ returns-in_err-name_at g c =
     let task = task_of c.args.who.now in
     let from = c.in_ok-from.ensures.ok in
     let to = c.in_ok-to.ensures.ok in
-    let place = c.in_ok-from.from in
-    let object = location_of c.unwrap_or-object.result in
-    let there = (λ i. unwrap_or (from.2.object i) (from.2.parent i)) ∙ there_mapped place.object place.parent
-    ∙ ap location_of (sym c.unwrap_or-object.ensures) in
-    let kind = ap (holds_of (is_directory_at looks)) from.2.object
-    ∙ there_holds (is_directory_at looks) place.object place.parent c.in_ok-from.ensures.there
-    ∙ ap (λ at. is_directory_at looks (location_of at)) (sym c.unwrap_or-object.ensures) in
+    let object = location_of c.in_ok-from.from.object in
+    let there = ap (λ object. unwrap_or object from.0.parent) from.2.object in
+    let kind = ap (holds_of (is_directory_at looks)) from.2.object in
     let asked = rename_asked looks task c.args.old.now c.args.new.now from.0 to.0 object false
     from.1 (ap is_special from.2.last ∙ sym c.is_special.ensures ∙ c.if-is_special.false) there kind
     (ap (λ directory. walk_end (rename_new_walk nat_eq looks task c.args.new.now directory))
@@ -95,13 +83,9 @@ returns-in_err-name_at-2 g c =
     let task = task_of c.args.who.now in
     let from = c.in_ok-from.ensures.ok in
     let to = c.in_ok-to.ensures.ok in
-    let place = c.in_ok-from.from in
-    let object = location_of c.unwrap_or-object.result in
-    let there = (λ i. unwrap_or (from.2.object i) (from.2.parent i)) ∙ there_mapped place.object place.parent
-    ∙ ap location_of (sym c.unwrap_or-object.ensures) in
-    let kind = ap (holds_of (is_directory_at looks)) from.2.object
-    ∙ there_holds (is_directory_at looks) place.object place.parent c.in_ok-from.ensures.there
-    ∙ ap (λ at. is_directory_at looks (location_of at)) (sym c.unwrap_or-object.ensures) in
+    let object = location_of c.in_ok-from.from.object in
+    let there = ap (λ object. unwrap_or object from.0.parent) from.2.object in
+    let kind = ap (holds_of (is_directory_at looks)) from.2.object in
     let asked = rename_asked looks task c.args.old.now c.args.new.now from.0 to.0 object false
     from.1 (ap is_special from.2.last ∙ sym c.is_special.ensures ∙ c.if-is_special.false) there kind
     (ap (λ directory. walk_end (rename_new_walk nat_eq looks task c.args.new.now directory))
@@ -121,13 +105,9 @@ returns g c =
     let task = task_of c.args.who.now in
     let from = c.in_ok-from.ensures.ok in
     let to = c.in_ok-to.ensures.ok in
-    let place = c.in_ok-from.from in
-    let object = location_of c.unwrap_or-object.result in
-    let there = (λ i. unwrap_or (from.2.object i) (from.2.parent i)) ∙ there_mapped place.object place.parent
-    ∙ ap location_of (sym c.unwrap_or-object.ensures) in
-    let kind = ap (holds_of (is_directory_at looks)) from.2.object
-    ∙ there_holds (is_directory_at looks) place.object place.parent c.in_ok-from.ensures.there
-    ∙ ap (λ at. is_directory_at looks (location_of at)) (sym c.unwrap_or-object.ensures) in
+    let object = location_of c.in_ok-from.from.object in
+    let there = ap (λ object. unwrap_or object from.0.parent) from.2.object in
+    let kind = ap (holds_of (is_directory_at looks)) from.2.object in
     let asked = rename_asked looks task c.args.old.now c.args.new.now from.0 to.0 object false
     from.1 (ap is_special from.2.last ∙ sym c.is_special.ensures ∙ c.if-is_special.false) there kind
     (ap (λ directory. walk_end (rename_new_walk nat_eq looks task c.args.new.now directory))

@@ -9,7 +9,7 @@ use Rattle.vt_location.specs.Locations.{location_of}
 use Rattle.vt_tasks.specs.TaskValue.{task_of}
 use Rattle.vt_rules.specs.Tables.{remove_rules}
 use Rattle.vt_rules.proofs.Judged.{refused, without_memory}
-use Rattle.vt_policy.proofs.PlaceLemmas.{there_mapped, rmdir_asked}
+use Rattle.vt_policy.proofs.PlaceLemmas.{rmdir_asked}
 use Rattle.vt_rules.proofs.Refusals.{unless-stopped}
 use Rattle.vt_policy.proofs.removing.rmdir.Goals as goal
 use Rattle.vt_spec.proofs.Refusals.{unless-let_through}
@@ -20,10 +20,8 @@ returns-in_err-may_remove g c =
     let task = task_of c.args.who.now in
     let at = c.in_ok-place.ensures.ok in
     let parent = location_of c.in_ok-place.place.parent in
-    let object = location_of c.unwrap_or-directory.result in
-    let there = (λ i. unwrap_or (at.2.object i) (at.2.parent i))
-    ∙ there_mapped c.in_ok-place.place.object c.in_ok-place.place.parent
-    ∙ ap location_of (sym c.unwrap_or-directory.ensures) in
+    let object = location_of c.in_ok-place.place.object in
+    let there = ap (λ object. unwrap_or object at.0.parent) at.2.object in
     let permit = ToRemoveDirectory at.0.parent (name_of at.0.last) (object_there at.0) in
     let asked = rmdir_asked looks c.has_no_overlays.ensures task c.args.path.now at.0 parent object _ at.1
     (at.2.last ∙ ap last_of c.in-Named.is) at.2.parent there
@@ -40,10 +38,8 @@ returns-in_err-name_at g c =
     let task = task_of c.args.who.now in
     let at = c.in_ok-place.ensures.ok in
     let parent = location_of c.in_ok-place.place.parent in
-    let object = location_of c.unwrap_or-directory.result in
-    let there = (λ i. unwrap_or (at.2.object i) (at.2.parent i))
-    ∙ there_mapped c.in_ok-place.place.object c.in_ok-place.place.parent
-    ∙ ap location_of (sym c.unwrap_or-directory.ensures) in
+    let object = location_of c.in_ok-place.place.object in
+    let there = ap (λ object. unwrap_or object at.0.parent) at.2.object in
     let permit = ToRemoveDirectory at.0.parent (name_of at.0.last) (object_there at.0) in
     let asked = rmdir_asked looks c.has_no_overlays.ensures task c.args.path.now at.0 parent object _ at.1
     (at.2.last ∙ ap last_of c.in-Named.is) at.2.parent there
@@ -61,10 +57,8 @@ returns g c =
     let task = task_of c.args.who.now in
     let at = c.in_ok-place.ensures.ok in
     let parent = location_of c.in_ok-place.place.parent in
-    let object = location_of c.unwrap_or-directory.result in
-    let there = (λ i. unwrap_or (at.2.object i) (at.2.parent i))
-    ∙ there_mapped c.in_ok-place.place.object c.in_ok-place.place.parent
-    ∙ ap location_of (sym c.unwrap_or-directory.ensures) in
+    let object = location_of c.in_ok-place.place.object in
+    let there = ap (λ object. unwrap_or object at.0.parent) at.2.object in
     let permit = ToRemoveDirectory at.0.parent (name_of at.0.last) (object_there at.0) in
     let asked = rmdir_asked looks c.has_no_overlays.ensures task c.args.path.now at.0 parent object _ at.1
     (at.2.last ∙ ap last_of c.in-Named.is) at.2.parent there

@@ -9,7 +9,7 @@ use Rattle.vt_location.specs.Locations.{location_of}
 use Rattle.vt_tasks.specs.TaskValue.{task_of}
 use Rattle.vt_rules.specs.Tables.{remove_rules}
 use Rattle.vt_rules.proofs.Judged.{refused, without_memory}
-use Rattle.vt_policy.proofs.PlaceLemmas.{there_mapped, unlink_asked}
+use Rattle.vt_policy.proofs.PlaceLemmas.{unlink_asked}
 use Rattle.vt_rules.proofs.Refusals.{unless-stopped}
 use Rattle.vt_policy.proofs.removing.unlink.Goals as goal
 use Rattle.vt_spec.proofs.Refusals.{unless-let_through}
@@ -20,10 +20,8 @@ returns-in_err-may_remove g c =
     let task = task_of c.args.who.now in
     let at = c.in_ok-place.ensures.ok in
     let parent = location_of c.in_ok-place.place.parent in
-    let object = location_of c.unwrap_or-object.result in
-    let there = (λ i. unwrap_or (at.2.object i) (at.2.parent i))
-    ∙ there_mapped c.in_ok-place.place.object c.in_ok-place.place.parent
-    ∙ ap location_of (sym c.unwrap_or-object.ensures) in
+    let object = location_of c.in_ok-place.place.object in
+    let there = ap (λ object. unwrap_or object at.0.parent) at.2.object in
     let permit = ToChange at.0.parent (removing at.0 (object_there at.0)) in
     let asked = unlink_asked looks c.has_no_overlays.ensures task c.args.path.now at.0 parent object at.1
     (ap is_special at.2.last ∙ sym c.is_special.ensures ∙ c.if-is_special.false) at.2.parent there
@@ -38,10 +36,8 @@ returns-in_err-name_at g c =
     let task = task_of c.args.who.now in
     let at = c.in_ok-place.ensures.ok in
     let parent = location_of c.in_ok-place.place.parent in
-    let object = location_of c.unwrap_or-object.result in
-    let there = (λ i. unwrap_or (at.2.object i) (at.2.parent i))
-    ∙ there_mapped c.in_ok-place.place.object c.in_ok-place.place.parent
-    ∙ ap location_of (sym c.unwrap_or-object.ensures) in
+    let object = location_of c.in_ok-place.place.object in
+    let there = ap (λ object. unwrap_or object at.0.parent) at.2.object in
     let permit = ToChange at.0.parent (removing at.0 (object_there at.0)) in
     let asked = unlink_asked looks c.has_no_overlays.ensures task c.args.path.now at.0 parent object at.1
     (ap is_special at.2.last ∙ sym c.is_special.ensures ∙ c.if-is_special.false) at.2.parent there
@@ -57,10 +53,8 @@ returns g c =
     let task = task_of c.args.who.now in
     let at = c.in_ok-place.ensures.ok in
     let parent = location_of c.in_ok-place.place.parent in
-    let object = location_of c.unwrap_or-object.result in
-    let there = (λ i. unwrap_or (at.2.object i) (at.2.parent i))
-    ∙ there_mapped c.in_ok-place.place.object c.in_ok-place.place.parent
-    ∙ ap location_of (sym c.unwrap_or-object.ensures) in
+    let object = location_of c.in_ok-place.place.object in
+    let there = ap (λ object. unwrap_or object at.0.parent) at.2.object in
     let permit = ToChange at.0.parent (removing at.0 (object_there at.0)) in
     let asked = unlink_asked looks c.has_no_overlays.ensures task c.args.path.now at.0 parent object at.1
     (ap is_special at.2.last ∙ sym c.is_special.ensures ∙ c.if-is_special.false) at.2.parent there

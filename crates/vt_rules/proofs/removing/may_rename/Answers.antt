@@ -10,7 +10,7 @@ returns-in_err-may_replace g c old new from to =
     let looks = g.L.Look.looks c.args.world.now in
     let p = err_from_is_err_and c.from_residual.result c.from_residual.ensures.1 in
     rw (p.1, p.2) (sym (kind_refused looks c.has_no_overlays.ensures (task_of c.args.who.now)
-    old new (location_of c.args.object) _
+    old new (location_of c.args.from.now.object) _
     (c.in_err-may_replace.ensures new to)))
 
 pub returns-in_err-may_cross : goal.returns-in_err-may_cross
@@ -18,12 +18,12 @@ returns-in_err-may_cross g c old new from to =
     let looks = g.L.Look.looks c.args.world.now in
     let p = err_from_is_err_and c.from_residual-in_err-may_cross.result c.from_residual-in_err-may_cross.ensures.1 in
     rw (p.1, p.2) (sym (way_refused looks c.has_no_overlays.ensures (task_of c.args.who.now)
-    old new (location_of c.args.object) _
+    old new (location_of c.args.from.now.object) _
     (c.in_ok-may_replace.ensures new to) (c.in_err-may_cross.ensures old new from to)))
 
 pub returns : goal.returns
 returns g c old new from to =
     c.may_change_both.ensures old new from to
     ∙ sym (rights_left (g.L.Look.looks c.args.world.now) c.has_no_overlays.ensures (task_of c.args.who.now)
-    old new (location_of c.args.object)
+    old new (location_of c.args.from.now.object)
     (c.in_ok-may_replace.ensures new to) (c.in_ok-may_cross.ensures old new from to))

@@ -1,10 +1,22 @@
-use Rattle.std.proofs.Common.{Err, Ok, ap, arith, ◌∙◌}
+use Rattle.std.proofs.Common.{◌≡◌, Err, Ok, Some, ap, arith, option_map, sym, unwrap_or, ◌∙◌}
 use Rattle.std.proofs.lemmas.Result.{err_from_is_err_and}
+use Rattle.vt_spec.specs.Machine.Walking.{symlink_of}
+use Rattle.vt_location.specs.declared.locations.Location.{Location}
+use Rattle.vt_location.specs.Locations.{location_of}
+use Rattle.vt_looks.specs.declared.places.Place.{Place}
 use Rattle.vt_tasks.specs.TaskValue.{task_of}
+use Rattle.vt_walk.specs.declared.here.Here.{Here}
+use Rattle.vt_walk.specs.PlainWalks.{standing}
 use Rattle.vt_walk.proofs.FilesWalked.{file_walk-begun, file_walk-over, file_walked-by, link-refused, next-turn, place-ended, place-refused}
 use Rattle.vt_looks.specs.Places.{last_of}
 use Rattle.vt_walk.specs.WalkValue.{here_of, place_of}
 use Rattle.vt_walk.proofs.places.file_walked.Goals as goal
+
+-- the walk at the symlink that a place names
+at-symlink : (here : Here) (place : Place) (link : Location) → place.object ≡ Some link
+    → standing (location_of link) here.left ≡ symlink_of (here_of here) (place_of place)
+at-symlink here place link there =
+    ap (λ object. standing (unwrap_or (option_map location_of object) (location_of place.parent)) here.left) (sym there)
 
 pub loop-link-init : goal.loop-link-init
 loop-link-init g c =
@@ -43,7 +55,7 @@ returns-in_default-clause-value g c =
     c.asks_for_directory-slash.result c.asks_for_directory-slash.ensures split.result.0
     (last_of split.result.1) split.ensures.front split.ensures.last
     (here_of c.in_ok-here.here) c.in_ok-here.ensures
-    (place_of c.in_ok-place.place) c.in_ok-place.ensures.value c.in_default.ensures ∙ c.loop-link.invariant
+    (place_of c.in_ok-place.place) c.in_ok-place.ensures.value c.in_default.ensures.text ∙ c.loop-link.invariant
 
 pub returns-in_err-start-clause-value : goal.returns-in_err-start-clause-value
 returns-in_err-start-clause-value g c =
@@ -55,7 +67,8 @@ returns-in_err-start-clause-value g c =
     c.asks_for_directory-slash.result c.asks_for_directory-slash.ensures split.result.0
     (last_of split.result.1) split.ensures.front split.ensures.last
     (here_of c.in_ok-here.here) c.in_ok-here.ensures (place_of c.in_ok-place.place) c.in_ok-place.ensures.value
-    c.in-Some.inner.now (here_of c.symlink_of-link.result) c.in-Some.ensures c.symlink_of-link.ensures
+    c.in-Some.inner.now (here_of c.moved.result) c.in-Some.ensures.text
+    (c.moved.ensures.value ∙ at-symlink c.in_ok-here.here c.in_ok-place.place c.in-Some.link c.in-Some.ensures.object)
     _ c.in_err-start.ensures ∙ c.loop-link.invariant)
 
 pub loop-link-preserved : goal.loop-link-preserved
@@ -66,7 +79,8 @@ loop-link-preserved g c =
     c.asks_for_directory-slash.result c.asks_for_directory-slash.ensures split.result.0
     (last_of split.result.1) split.ensures.front split.ensures.last
     (here_of c.in_ok-here.here) c.in_ok-here.ensures (place_of c.in_ok-place.place) c.in_ok-place.ensures.value
-    c.in-Some.inner.now (here_of c.symlink_of-link.result) c.in-Some.ensures c.symlink_of-link.ensures
+    c.in-Some.inner.now (here_of c.moved.result) c.in-Some.ensures.text
+    (c.moved.ensures.value ∙ at-symlink c.in_ok-here.here c.in_ok-place.place c.in-Some.link c.in-Some.ensures.object)
     (here_of c.in_ok-start.start) c.in_ok-start.ensures ∙ c.loop-link.invariant
 
 pub returns-clause-value : goal.returns-clause-value
