@@ -1,5 +1,5 @@
 -- Mounts that come after all others.
-use Rattle.std.proofs.Common.{◌≡◌, sym, ap, subst, ⊎_elim, inl, inr, refl, ℕ, ◌<◌, true, ◌&&◌, List, [], ◌∷◌, ◌++◌, ◌+◌, length, take, drop, get_or}
+use Rattle.std.proofs.Common.{◌≡◌, sym, ap, subst, ◌∙◌, ⊎_elim, inl, inr, refl, ℕ, ◌<◌, true, ◌&&◌, List, [], ◌∷◌, ◌++◌, ◌+◌, length, take, drop, get_or}
 use Rattle.std.specs.Prelude.{nat_lt}
 use Rattle.std.specs.List.{list_all}
 use Rattle.std.proofs.lemmas.Bool.{and_parts, lt-ltb, ltb-true}

@@ -1,21 +1,18 @@
 -- Mounts that moved: which mount points they got and left.
-use Rattle.std.proofs.Common.{◌≡◌, refl, sym, ap, ◌∙◌, ℕ, ◌+◌, ◌<◌, nat_eq, eqb-true, Bool, true, false, cond, ◌&&◌, List, [], ◌∷◌, ◌++◌, Option, Some, None, filter, flat_map, get_or, is_some, length, map, option_map, take, arith}
-use Rattle.std.specs.Prelude.{nat_lt, option_to_list}
+use Rattle.std.proofs.Common.{Result, Ok, Err, IfOk, ◌≡◌, refl, ap, ◌∙◌, ℕ, true, cond, ◌&&◌, List, [], ◌∷◌, ◌++◌, Option, Some, None, flat_map, is_some, map, option_map}
+use Rattle.std.specs.Prelude.{option_to_list}
 use Rattle.std.specs.Option.{option_and_then}
 use Rattle.std.specs.List.{list_all}
-use Rattle.std.proofs.lemmas.Bool.{and_parts, ltb-true, ne_eqb}
+use Rattle.std.proofs.lemmas.Bool.{and_parts}
 use Rattle.std.proofs.lemmas.List.{append-nil, map-append}
-use Rattle.std.proofs.lemmas.List.Elements.{filter_more}
 use Rattle.std.proofs.lemmas.List.Folds.{list_all-append}
 use Rattle.std.proofs.lemmas.Grind.{flat_map-append}
 use Rattle.vt_location.specs.declared.locations.Location.{Location}
-use Rattle.vt_location.specs.declared.mounts.Mount.{Mount}
 use Rattle.vt_location.specs.Locations.{location_of}
-use Rattle.vt_location.specs.MountValue.{mount_of}
 use Rattle.vt_location.specs.Numbers.{counted}
 use Rattle.vt_mount.specs.declared.moving.Moved.{Moved}
 use Rattle.vt_mount.specs.Moving.{all_moves, has_small_slot, is_small as has_small_points, move_of, moves_by}
-use Rattle.vt_mount.specs.MountsValue.{MountEntry, are_ascending, entry_numbered, mounts_in}
+use Rattle.vt_mount.specs.MountsValue.{MountEntry, entry_numbered}
 use Rattle.vt_spec.specs.Machine.Mounts as meant
 use Rattle.vt_attach.specs.Planned.{AreMoves, Point, is_small, left_of, points_left, points_taken, taken_of, with_points}
 use Rattle.vt_attach.proofs.PlannedMoves.{mapped_points}
@@ -94,3 +91,9 @@ are_moves points entries moved are small = record {
   taken_small = small-taken moved small;
   left_small = small-left moved small;
 }
+
+-- what two clauses say of a result that is no refusal
+pub if_both : {A E : Type 0} {P Q R : A → Type 0} (r : Result A E) → IfOk r P → IfOk r Q
+    → ((a : A) → P a → Q a → R a) → IfOk r R
+if_both (Ok a) p q both = both a p q
+if_both (Err e) p q both = tt

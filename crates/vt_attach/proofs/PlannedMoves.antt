@@ -1,9 +1,9 @@
 -- Mounts that get other mount points, one after the other: their room, and the uses of their mount points.
-use Rattle.std.proofs.Common.{◌≡◌, refl, ap, subst, sym, ◌∙◌, ℕ, ◌+◌, ◌-◌, ◌<◌, ◌≤◌, nat_eq, Bool, true, false, cond, ◌&&◌, List, [], ◌∷◌, ◌++◌, length, Some, None, Option, option_map, take, drop, get_or, is_some, map, find, inl, arith}
+use Rattle.std.proofs.Common.{◌≡◌, refl, ap, subst, sym, ◌∙◌, ℕ, ◌+◌, ◌-◌, ◌<◌, ◌≤◌, nat_eq, Bool, true, false, cond, ◌&&◌, List, [], ◌∷◌, length, Some, None, Option, option_map, take, drop, get_or, is_some, map, inl, arith}
 use Rattle.std.specs.Prelude.{IfErr, IsErrOf, OnOk, Result, nat_le, option_to_list, ⊤}
 use Rattle.std.specs.List.{list_all}
 use Rattle.std.proofs.lemmas.Bool.{and_parts, le-leb, leb-true}
-use Rattle.std.proofs.lemmas.List.{append-nil, flat_map_more, length-append, length-map, length-take-le, map_more, take-append-drop, take_more}
+use Rattle.std.proofs.lemmas.List.{flat_map_more, length-append, length-map, length-take-le, map_more, take-append-drop, take_more}
 use Rattle.std.proofs.lemmas.List.Folds.{list_all-append, list_all_more}
 use Rattle.vt_fs.specs.FilesystemsValue.{ChangesInodes, Filesystems, Shown, inodes_at, shown}
 use Rattle.vt_spec.specs.declared.errors.Deny.{Deny}
@@ -15,16 +15,14 @@ use Rattle.vt_letting_go.specs.OneByOne.{Inode}
 use Rattle.vt_location.specs.declared.locations.Location.{Location}
 use Rattle.vt_location.specs.declared.mounts.Mount.{Mount}
 use Rattle.vt_location.specs.Locations.{location_of, number_of}
-use Rattle.vt_location.specs.MountValue.{mount_of}
 use Rattle.vt_location.specs.Numbers.{counted}
 use Rattle.vt_mount.specs.declared.moving.Moved.{Moved}
-use Rattle.vt_mount.specs.MountsValue.{MountEntry, are_ascending, entry_numbered, mounts_in}
+use Rattle.vt_mount.specs.MountsValue.{MountEntry, entry_numbered}
 use Rattle.vt_spec.specs.Lists.{folded}
-use Rattle.vt_spec.specs.Machine.Mounts as meant
 use Rattle.vt_attach.specs.Planned.{Point, left_of, pinned_by, placed_entry, points_taken, taken_at, taken_of, unpinned_by, with_points}
 use Rattle.vt_attach.specs.Room.{has_room, most_counted, point_has_room, uses_shown}
 use Rattle.vt_detach.specs.Uses.{inode_of, mounts_shown}
-use Rattle.vt_detach.proofs.Shown.{found_entry, is_some_mapped, pins}
+use Rattle.vt_detach.proofs.Shown.{pins}
 use Rattle.vt_attach.proofs.RoomLemmas.{folded_more, not_refused, pinned_mounts, pinned_uses, uses_are_shown}
 use Rattle.vt_detach.proofs.LostUses.{folded_append}
 

@@ -34,15 +34,15 @@ Here points entries = (point : Point) → Among point points → is_some (entry_
 
 -- one that is among the first is found there
 found-among_first : (number : ℕ) (first later : List MountEntry) → is_some (entry_numbered first number) ≡ true
-    → entry_numbered (first ++ back) number ≡ entry_numbered first number
-found-among_first number [] back some = absurd cc
-found-among_first number (entry ∷ first) back some =
+    → entry_numbered (first ++ later) number ≡ entry_numbered first number
+found-among_first number [] later some = absurd cc
+found-among_first number (entry ∷ first) later some =
     by (nat_eq number entry.mount.number) some (found-among_first number first later)
   where
     by : (b : Bool) → is_some (cond b (Some entry) (entry_numbered first number)) ≡ true
         → (is_some (entry_numbered first number) ≡ true
-        → entry_numbered (first ++ back) number ≡ entry_numbered first number)
-        → cond b (Some entry) (entry_numbered (first ++ back) number)
+        → entry_numbered (first ++ later) number ≡ entry_numbered first number)
+        → cond b (Some entry) (entry_numbered (first ++ later) number)
         ≡ cond b (Some entry) (entry_numbered first number)
     by true some rest = refl
     by false some rest = rest some
