@@ -12,6 +12,6 @@ mod TreeSearchLemmas
 pub mod MoveLemmas
 pub mod SourceLemmas
 mod RisingLemmas
-mod ExpectedLemmas
+mod ReservedLemmas
 mod NotedLemmas
 pub mod EnteringLemmas

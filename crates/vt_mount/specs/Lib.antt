@@ -7,4 +7,4 @@ pub mod Indexed
 pub mod Waiting
 pub mod Sources
 pub mod Moving
-pub mod Expected
+pub mod Reserved

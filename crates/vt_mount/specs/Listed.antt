@@ -9,5 +9,5 @@ abbrev pub listed : {K : Type 0} → (K → K → Bool) → K → MountsBy K →
 listed eq key lists = unwrap_or (option_map (λ list. list.ids.items) (lookup (eq key) lists.lists.entries)) []
 
 -- for how many more mounts under a key there is room
-abbrev pub expected : {K : Type 0} → (K → K → Bool) → K → MountsBy K → ℕ
-expected eq key lists = unwrap_or (option_map (λ list. list.expected) (lookup (eq key) lists.lists.entries)) 0
+abbrev pub reserved : {K : Type 0} → (K → K → Bool) → K → MountsBy K → ℕ
+reserved eq key lists = unwrap_or (option_map (λ list. list.reserved) (lookup (eq key) lists.lists.entries)) 0

@@ -10,20 +10,20 @@ use vt_location::MountId;
 pub(crate) struct Ascending {
     ids: Vec<MountId>,
     // For how many more mounts there is room.
-    expected: usize,
+    reserved: usize,
     ghost rising: { IsTrue (rises ids.items) },
-    ghost room: { vec_len ids + expected ≤ vec_capacity ids },
+    ghost room: { vec_len ids + reserved ≤ vec_capacity ids },
 }
 
 impl Ascending {
     /// No mounts. It does not allocate.
     pub(crate) fn new(alloc: Global) -> Self
         ensures items { result.ids.items ≡ [] }
-        ensures expected { result.expected ≡ 0 }
+        ensures reserved { result.reserved ≡ 0 }
     {
         Ascending {
             ids: Vec::new(alloc),
-            expected: 0,
+            reserved: 0,
         }
     }
 
@@ -41,39 +41,39 @@ impl Ascending {
         self.ids.is_empty()
     }
 
-    /// Reserves room for one more mount, beside those that are expected already.
-    pub(crate) fn expect_one(&mut self) -> Result<(), AllocError>
+    /// Reserves room for one more mount, beside the room that is reserved already.
+    pub(crate) fn reserve_one(&mut self) -> Result<(), AllocError>
         ensures same { self.new.ids.items ≡ self.old.ids.items }
-        ensures ok { OnOk result (self.new.expected ≡ self.old.expected + 1) }
+        ensures ok { OnOk result (self.new.reserved ≡ self.old.reserved + 1) }
     {
-        self.ids.reserve(self.expected + 1)?;
-        self.expected += 1;
+        self.ids.reserve(self.reserved + 1)?;
+        self.reserved += 1;
         Ok(())
     }
 
-    /// Inserts a mount that is expected. It does not allocate.
+    /// Inserts a mount, for which room is reserved. It does not allocate.
     pub(crate) fn insert(&mut self, mount: MountId)
-        requires { 0 < self.old.expected }
+        requires { 0 < self.old.reserved }
         ensures items { self.new.ids.items ≡ inserted mount self.old.ids.items }
-        ensures expected { self.new.expected + 1 ≡ self.old.expected }
+        ensures reserved { self.new.reserved + 1 ≡ self.old.reserved }
     {
         let place = self.ids.partition_point(|other| other.count <= mount.count);
         // It cannot fail: there is room.
         let _ = self.ids.insert(place, mount);
-        self.expected -= 1;
+        self.reserved -= 1;
     }
 
-    /// No further mount is expected.
-    pub(crate) fn expect_none(&mut self)
+    /// Gives up the room that is reserved.
+    pub(crate) fn release(&mut self)
         ensures { self.new.ids.items ≡ self.old.ids.items }
     {
-        self.expected = 0;
+        self.reserved = 0;
     }
 
     /// Removes a mount. It does not allocate.
     pub(crate) fn remove(&mut self, mount: MountId)
         ensures items { self.new.ids.items ≡ filter (λ other. not (same_id other mount)) self.old.ids.items }
-        ensures expected { self.new.expected ≡ self.old.expected }
+        ensures reserved { self.new.reserved ≡ self.old.reserved }
     {
         while let Ok(place) = self.find(mount) {
             self.ids.remove(place);

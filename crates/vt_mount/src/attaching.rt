@@ -11,7 +11,7 @@ ghost use Rattle.vt_location.specs.declared.numbers.NamespaceId.{NamespaceId};
 ghost use Rattle.vt_location.specs.MountValue.{mount_of};
 ghost use Rattle.vt_location.specs.Numbers.{counted};
 ghost use Rattle.vt_mount.specs.declared.mounted.Mounted.{Mounted};
-ghost use Rattle.vt_mount.specs.Expected.{Expects, mount_points_of, moved_places, namespaces_of};
+ghost use Rattle.vt_mount.specs.Reserved.{Reserves, mount_points_of, moved_places, namespaces_of};
 ghost use Rattle.vt_mount.specs.Indexed.{IsIndexed};
 ghost use Rattle.vt_mount.specs.Moving.{all_moves, is_small, move_of, with_points};
 ghost use Rattle.vt_mount.specs.MountsValue.{are_ascending, entries_of, in_order, mounts_in, unused_entry, without};
@@ -21,7 +21,7 @@ ghost use Rattle.vt_spec.specs.Errors.{denial};
 use crate::indexes::Indexes;
 use crate::mounted::Mounted;
 use crate::mounts::Mounts;
-use crate::moving::{Moved, NewPoint, drop_left, expect_moves, expect_no_moves, move_all};
+use crate::moving::{Moved, NewPoint, drop_left, move_all, release_moves, reserve_moves};
 use indexmap::IndexMap;
 use std::alloc::AllocError;
 use vt_location::{Mount, MountId};
@@ -42,10 +42,10 @@ impl Mounts {
         if self.by_number.reserve(1).is_err()
             || self
                 .indexes
-                .expect(mount.namespace, mount.mount_point)
+                .reserve(mount.namespace, mount.mount_point)
                 .is_err()
         {
-            self.indexes.expect_none(mount.namespace, mount.mount_point);
+            self.indexes.release(mount.namespace, mount.mount_point);
             return Err(Rule::S5.denial());
         }
         enter(&mut self.by_number, &mut self.indexes, mount);
@@ -85,16 +85,16 @@ impl Mounts {
         )
         .is_err()
         {
-            expect_no_more(&mut self.indexes, new, points);
+            release_all(&mut self.indexes, new, points);
             return Err(Rule::S5.denial());
         }
         if let Err(deny) = last(other) {
-            expect_no_more(&mut self.indexes, new, points);
+            release_all(&mut self.indexes, new, points);
             return Err(deny);
         }
         move_all(&mut self.by_number, &mut self.indexes, points, &mut moved);
         enter_all(&mut self.by_number, &mut self.indexes, new);
-        expect_no_moves(&mut self.indexes, points);
+        release_moves(&mut self.indexes, points);
         drop_left(&mut self.indexes, &moved);
         Ok(moved)
     }
@@ -113,36 +113,36 @@ fn make_room(
     ensures moved { moved.new.items ≡ moved.old.items }
     ensures spare { OnOk result (length new.now ≤ spare by_number.new) }
     ensures room { OnOk result (vec_len moved.new + length points.now ≤ vec_capacity moved.new) }
-    ensures expects { OnOk result
-        (Expects indexes.new (namespaces_of new.now) (moved_places points.now ++ mount_points_of new.now)) }
+    ensures reserves { OnOk result
+        (Reserves indexes.new (namespaces_of new.now) (moved_places points.now ++ mount_points_of new.now)) }
 {
     by_number.reserve(new.len())?;
     moved.reserve(points.len())?;
-    expect_mounts(indexes, new)?;
-    expect_moves(indexes, points)
+    reserve_mounts(indexes, new)?;
+    reserve_moves(indexes, points)
 }
 
 // Reserves room in the lists for mounts that come. If it fails, some of that room may be reserved.
-fn expect_mounts(indexes: &mut Indexes, new: &[Mount]) -> Result<(), AllocError>
+fn reserve_mounts(indexes: &mut Indexes, new: &[Mount]) -> Result<(), AllocError>
     ensures same { (kept : List (MountId × Mounted)) → IsIndexed indexes.old kept → IsIndexed indexes.new kept }
     ensures ok { OnOk result ((namespaces : List NamespaceId) (places : List Location)
-        → Expects indexes.old namespaces places
-        → Expects indexes.new (namespaces_of new.now ++ namespaces) (mount_points_of new.now ++ places)) }
+        → Reserves indexes.old namespaces places
+        → Reserves indexes.new (namespaces_of new.now ++ namespaces) (mount_points_of new.now ++ places)) }
 {
     for mount in new.iter().rev() {
-        indexes.expect(mount.namespace, mount.mount_point)?;
+        indexes.reserve(mount.namespace, mount.mount_point)?;
     }
     Ok(())
 }
 
-// No further mount is expected for these. It does not allocate.
-fn expect_no_more(indexes: &mut Indexes, new: &[Mount], points: &[NewPoint])
+// Gives up the room that is reserved for these. It does not allocate.
+fn release_all(indexes: &mut Indexes, new: &[Mount], points: &[NewPoint])
     ensures { (kept : List (MountId × Mounted)) → IsIndexed indexes.old kept → IsIndexed indexes.new kept }
 {
     for mount in new {
-        indexes.expect_none(mount.namespace, mount.mount_point);
+        indexes.release(mount.namespace, mount.mount_point);
     }
-    expect_no_moves(indexes, points);
+    release_moves(indexes, points);
 }
 
 // Mounts come after all others. It does not allocate: there is room.
@@ -150,7 +150,7 @@ fn enter_all(by_number: &mut IndexMap<MountId, Mounted>, indexes: &mut Indexes, 
     requires indexed { IsIndexed indexes.old (in_order by_number.old.entries) }
     requires order { are_ascending (mounts_in (entries_of by_number.old.entries) ++ map mount_of new.now) ≡ true }
     requires spare { length new.now ≤ spare by_number.old }
-    requires expects { Expects indexes.old (namespaces_of new.now) (mount_points_of new.now) }
+    requires reserves { Reserves indexes.old (namespaces_of new.now) (mount_points_of new.now) }
     ensures indexed { IsIndexed indexes.new (in_order by_number.new.entries) }
     ensures mounts { entries_of by_number.new.entries
         ≡ entries_of by_number.old.entries ++ map unused_entry new.now }
@@ -166,13 +166,13 @@ fn enter(by_number: &mut IndexMap<MountId, Mounted>, indexes: &mut Indexes, moun
     requires order { list_all (λ entry. nat_lt entry.mount.number (counted mount.number.count))
         (entries_of by_number.old.entries) ≡ true }
     requires spare { 0 < spare by_number.old }
-    requires expects { Expects indexes.old (option_to_list mount.namespace) (option_to_list mount.mount_point) }
+    requires reserves { Reserves indexes.old (option_to_list mount.namespace) (option_to_list mount.mount_point) }
     ensures indexed { IsIndexed indexes.new (in_order by_number.new.entries) }
     ensures mounts { entries_of by_number.new.entries ≡ entries_of by_number.old.entries ++ unused_entry mount ∷ [] }
     ensures spare { spare by_number.old ≤ spare by_number.new + 1 }
-    ensures expects { (namespaces : List NamespaceId) (places : List Location)
-        → Expects indexes.old (option_to_list mount.namespace ++ namespaces)
-        (option_to_list mount.mount_point ++ places) → Expects indexes.new namespaces places }
+    ensures reserves { (namespaces : List NamespaceId) (places : List Location)
+        → Reserves indexes.old (option_to_list mount.namespace ++ namespaces)
+        (option_to_list mount.mount_point ++ places) → Reserves indexes.new namespaces places }
 {
     indexes.enter(&mount);
     // It cannot fail: there is room.

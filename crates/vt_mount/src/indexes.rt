@@ -4,7 +4,7 @@ ghost use Rattle.vt_location.specs.declared.numbers.MountId.{MountId};
 ghost use Rattle.vt_location.specs.declared.numbers.NamespaceId.{NamespaceId};
 ghost use Rattle.vt_location.specs.declared.locations.Location.{Location};
 ghost use Rattle.vt_location.specs.declared.locations.NodeRef.{NodeRef};
-ghost use Rattle.vt_mount.specs.Expected.{Expects};
+ghost use Rattle.vt_mount.specs.Reserved.{Reserves};
 ghost use Rattle.vt_mount.specs.Indexes.{has_slot, is_at, is_in, is_on, is_over, listed_at, listed_in, listed_on};
 ghost use Rattle.vt_mount.specs.Indexes.{listed_over, put_in_place, relisted, same_inode, same_namespace, same_place};
 ghost use Rattle.vt_mount.specs.Indexes.{stood_at, stood_on, stood_over, taken};
@@ -40,9 +40,9 @@ impl Indexes {
         }
     }
 
-    /// Reserves room for a mount in a namespace and at a location, beside those that are expected there already. If it
+    /// Reserves room for a mount in a namespace and at a location, beside the room that is reserved there already. If it
     /// fails, some of that room may be reserved.
-    pub(crate) fn expect(
+    pub(crate) fn reserve(
         &mut self,
         namespace: Option<NamespaceId>,
         place: Option<Location>,
@@ -52,86 +52,86 @@ impl Indexes {
         ensures place { (q : Location) → listed_at self.new q ≡ listed_at self.old q }
         ensures inode { (q : NodeRef) → listed_over self.new q ≡ listed_over self.old q }
         ensures ok { OnOk result ((namespaces : List NamespaceId) (places : List Location)
-            → Expects self.old namespaces places
-            → Expects self.new (option_to_list namespace ++ namespaces) (option_to_list place ++ places)) }
+            → Reserves self.old namespaces places
+            → Reserves self.new (option_to_list namespace ++ namespaces) (option_to_list place ++ places)) }
     {
-        self.expect_in(namespace)?;
-        self.expect_at(place)
+        self.reserve_in(namespace)?;
+        self.reserve_at(place)
     }
 
     // Reserves room for a mount in a namespace.
-    fn expect_in(&mut self, namespace: Option<NamespaceId>) -> Result<(), AllocError>
+    fn reserve_in(&mut self, namespace: Option<NamespaceId>) -> Result<(), AllocError>
         ensures namespace { (q : NamespaceId) → listed_in self.new q ≡ listed_in self.old q }
         ensures parent { self.new.by_parent ≡ self.old.by_parent }
         ensures place { self.new.by_location ≡ self.old.by_location }
         ensures inode { self.new.by_inode ≡ self.old.by_inode }
         ensures ok { OnOk result ((namespaces : List NamespaceId) (places : List Location)
-            → Expects self.old namespaces places
-            → Expects self.new (option_to_list namespace ++ namespaces) places) }
+            → Reserves self.old namespaces places
+            → Reserves self.new (option_to_list namespace ++ namespaces) places) }
     {
         match namespace {
-            Some(namespace) => self.by_namespace.expect(namespace),
+            Some(namespace) => self.by_namespace.reserve(namespace),
             None => Ok(()),
         }
     }
 
     // Reserves room for a mount at a location.
-    fn expect_at(&mut self, place: Option<Location>) -> Result<(), AllocError>
+    fn reserve_at(&mut self, place: Option<Location>) -> Result<(), AllocError>
         ensures namespace { self.new.by_namespace ≡ self.old.by_namespace }
         ensures parent { (q : MountId) → listed_on self.new q ≡ listed_on self.old q }
         ensures place { (q : Location) → listed_at self.new q ≡ listed_at self.old q }
         ensures inode { (q : NodeRef) → listed_over self.new q ≡ listed_over self.old q }
         ensures ok { OnOk result ((namespaces : List NamespaceId) (places : List Location)
-            → Expects self.old namespaces places → Expects self.new namespaces (option_to_list place ++ places)) }
+            → Reserves self.old namespaces places → Reserves self.new namespaces (option_to_list place ++ places)) }
     {
         let Some(place) = place else {
             return Ok(());
         };
-        self.by_parent.expect(place.mount)?;
-        self.by_location.expect(place)?;
-        self.by_inode.expect(place.node)
+        self.by_parent.reserve(place.mount)?;
+        self.by_location.reserve(place)?;
+        self.by_inode.reserve(place.node)
     }
 
-    /// No further mount is expected in a namespace and at a location. It does not allocate.
-    pub(crate) fn expect_none(&mut self, namespace: Option<NamespaceId>, place: Option<Location>)
+    /// Gives up the room that is reserved in a namespace and at a location. It does not allocate.
+    pub(crate) fn release(&mut self, namespace: Option<NamespaceId>, place: Option<Location>)
         ensures namespace { (q : NamespaceId) → listed_in self.new q ≡ listed_in self.old q }
         ensures parent { (q : MountId) → listed_on self.new q ≡ listed_on self.old q }
         ensures place { (q : Location) → listed_at self.new q ≡ listed_at self.old q }
         ensures inode { (q : NodeRef) → listed_over self.new q ≡ listed_over self.old q }
     {
-        self.expect_none_in(namespace);
-        self.expect_none_at(place);
+        self.release_in(namespace);
+        self.release_at(place);
     }
 
-    // No further mount is expected in a namespace.
-    fn expect_none_in(&mut self, namespace: Option<NamespaceId>)
+    // Gives up the room that is reserved in a namespace.
+    fn release_in(&mut self, namespace: Option<NamespaceId>)
         ensures namespace { (q : NamespaceId) → listed_in self.new q ≡ listed_in self.old q }
         ensures parent { self.new.by_parent ≡ self.old.by_parent }
         ensures place { self.new.by_location ≡ self.old.by_location }
         ensures inode { self.new.by_inode ≡ self.old.by_inode }
     {
         if let Some(namespace) = namespace {
-            self.by_namespace.expect_none(&namespace);
+            self.by_namespace.release(&namespace);
         }
     }
 
-    // No further mount is expected at a location.
-    fn expect_none_at(&mut self, place: Option<Location>)
+    // Gives up the room that is reserved at a location.
+    fn release_at(&mut self, place: Option<Location>)
         ensures namespace { self.new.by_namespace ≡ self.old.by_namespace }
         ensures parent { (q : MountId) → listed_on self.new q ≡ listed_on self.old q }
         ensures place { (q : Location) → listed_at self.new q ≡ listed_at self.old q }
         ensures inode { (q : NodeRef) → listed_over self.new q ≡ listed_over self.old q }
     {
         if let Some(place) = place {
-            self.by_parent.expect_none(&place.mount);
-            self.by_location.expect_none(&place);
-            self.by_inode.expect_none(&place.node);
+            self.by_parent.release(&place.mount);
+            self.by_location.release(&place);
+            self.by_inode.release(&place.node);
         }
     }
 
-    /// Adds a mount, which is expected, to its lists. It does not allocate.
+    /// Adds a mount to its lists, in which room is reserved. It does not allocate.
     pub(crate) fn enter(&mut self, mount: &Mount)
-        requires { Expects self.old (option_to_list mount.now.namespace) (option_to_list mount.now.mount_point) }
+        requires { Reserves self.old (option_to_list mount.now.namespace) (option_to_list mount.now.mount_point) }
         ensures slot { has_slot mount.now ≡ true }
         ensures namespace { (q : NamespaceId) → listed_in self.new q
             ≡ put_in_place (is_in q mount.now) mount.now.number (listed_in self.old q) }
@@ -141,9 +141,9 @@ impl Indexes {
             ≡ put_in_place (is_at q mount.now) mount.now.number (listed_at self.old q) }
         ensures inode { (q : NodeRef) → listed_over self.new q
             ≡ put_in_place (is_over q mount.now) mount.now.number (listed_over self.old q) }
-        ensures expects { (namespaces : List NamespaceId) (places : List Location)
-            → Expects self.old (option_to_list mount.now.namespace ++ namespaces)
-            (option_to_list mount.now.mount_point ++ places) → Expects self.new namespaces places }
+        ensures reserves { (namespaces : List NamespaceId) (places : List Location)
+            → Reserves self.old (option_to_list mount.now.namespace ++ namespaces)
+            (option_to_list mount.now.mount_point ++ places) → Reserves self.new namespaces places }
     {
         self.enter_in(mount.namespace, mount.number);
         if let Some(place) = mount.mount_point {
@@ -151,16 +151,16 @@ impl Indexes {
         }
     }
 
-    // Adds a mount, which is expected, to the list of its namespace.
+    // Adds a mount to the list of its namespace, in which room is reserved.
     fn enter_in(&mut self, namespace: Option<NamespaceId>, mount: MountId)
-        requires { Expects self.old (option_to_list namespace) [] }
+        requires { Reserves self.old (option_to_list namespace) [] }
         ensures namespace { (q : NamespaceId) → listed_in self.new q
             ≡ put_in_place (holds_of (same_namespace q) namespace) mount (listed_in self.old q) }
         ensures parent { self.new.by_parent ≡ self.old.by_parent }
         ensures place { self.new.by_location ≡ self.old.by_location }
         ensures inode { self.new.by_inode ≡ self.old.by_inode }
-        ensures expects { (namespaces : List NamespaceId) (places : List Location)
-            → Expects self.old (option_to_list namespace ++ namespaces) places → Expects self.new namespaces places }
+        ensures reserves { (namespaces : List NamespaceId) (places : List Location)
+            → Reserves self.old (option_to_list namespace ++ namespaces) places → Reserves self.new namespaces places }
     {
         if let Some(namespace) = namespace {
             self.by_namespace.put_in(&namespace, mount);
@@ -207,8 +207,8 @@ impl Indexes {
         ensures place_err { OnErr result ((q : Location) → listed_at self.new q ≡ listed_at self.old q) }
         ensures inode_err { OnErr result ((q : NodeRef) → listed_over self.new q ≡ listed_over self.old q) }
     {
-        if self.expect(None, Some(place)).is_err() {
-            self.expect_none(None, Some(place));
+        if self.reserve(None, Some(place)).is_err() {
+            self.release(None, Some(place));
             return Err(AllocError);
         }
         self.shift(was, place, mount);
@@ -216,10 +216,10 @@ impl Indexes {
         Ok(())
     }
 
-    /// The same for a mount that is expected there; the lists of the old mount point stay even if they are empty. It
-    /// does not allocate.
+    /// The same where room is reserved there; the lists of the old mount point stay even if they are empty. It does not
+    /// allocate.
     pub(crate) fn shift(&mut self, was: Option<Location>, place: Location, mount: MountId)
-        requires { Expects self.old [] (place ∷ []) }
+        requires { Reserves self.old [] (place ∷ []) }
         ensures slot { nat_lt place.node.slot 18446744073709551616 ≡ true }
         ensures namespace { (q : NamespaceId) → listed_in self.new q ≡ listed_in self.old q }
         ensures parent { (q : MountId) → listed_on self.new q
@@ -228,8 +228,8 @@ impl Indexes {
             ≡ relisted (stood_at q was) (same_place q place) mount (listed_at self.old q) }
         ensures inode { (q : NodeRef) → listed_over self.new q
             ≡ relisted (stood_over q was) (same_inode q place.node) mount (listed_over self.old q) }
-        ensures expects { (namespaces : List NamespaceId) (places : List Location)
-            → Expects self.old namespaces (place ∷ places) → Expects self.new namespaces places }
+        ensures reserves { (namespaces : List NamespaceId) (places : List Location)
+            → Reserves self.old namespaces (place ∷ places) → Reserves self.new namespaces places }
     {
         self.take_out(was, mount);
         self.put_in(place, mount);
@@ -242,8 +242,8 @@ impl Indexes {
         ensures place { (q : Location) → listed_at self.new q ≡ taken (stood_at q was) mount (listed_at self.old q) }
         ensures inode { (q : NodeRef) → listed_over self.new q
             ≡ taken (stood_over q was) mount (listed_over self.old q) }
-        ensures expects { (namespaces : List NamespaceId) (places : List Location)
-            → Expects self.old namespaces places → Expects self.new namespaces places }
+        ensures reserves { (namespaces : List NamespaceId) (places : List Location)
+            → Reserves self.old namespaces places → Reserves self.new namespaces places }
     {
         if let Some(was) = was {
             self.by_parent.take_out(&was.mount, mount);
@@ -252,9 +252,9 @@ impl Indexes {
         }
     }
 
-    // Inserts a mount among those at a location, where it is expected, in the order of numbers.
+    // Inserts a mount among those at a location, where room is reserved, in the order of numbers.
     fn put_in(&mut self, place: Location, mount: MountId)
-        requires { Expects self.old [] (place ∷ []) }
+        requires { Reserves self.old [] (place ∷ []) }
         ensures slot { nat_lt place.node.slot 18446744073709551616 ≡ true }
         ensures namespace { self.new.by_namespace ≡ self.old.by_namespace }
         ensures parent { (q : MountId)
@@ -263,8 +263,8 @@ impl Indexes {
             → listed_at self.new q ≡ put_in_place (same_place q place) mount (listed_at self.old q) }
         ensures inode { (q : NodeRef) → listed_over self.new q
             ≡ put_in_place (same_inode q place.node) mount (listed_over self.old q) }
-        ensures expects { (namespaces : List NamespaceId) (places : List Location)
-            → Expects self.old namespaces (place ∷ places) → Expects self.new namespaces places }
+        ensures reserves { (namespaces : List NamespaceId) (places : List Location)
+            → Reserves self.old namespaces (place ∷ places) → Reserves self.new namespaces places }
     {
         self.by_parent.put_in(&place.mount, mount);
         self.by_location.put_in(&place, mount);

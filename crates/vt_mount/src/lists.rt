@@ -1,6 +1,6 @@
 //! Mounts under keys, in the order of their numbers.
 ghost use Rattle.std.specs.Prelude.{◌≡◌, ◌+◌, ◌-◌, ◌<◌, [], filter, if◌then◌else◌, not, OnOk};
-ghost use Rattle.vt_mount.specs.Listed.{expected, listed};
+ghost use Rattle.vt_mount.specs.Listed.{reserved, listed};
 ghost use Rattle.vt_mount.specs.Rising.{inserted, same_id};
 
 use crate::ascending::Ascending;
@@ -38,28 +38,28 @@ impl<K: Eq + Hash + Copy + Drop> MountsBy<K> {
         }
     }
 
-    /// Reserves room for one more mount under a key, beside those that are expected there already.
-    pub(crate) fn expect(&mut self, key: K) -> Result<(), AllocError>
+    /// Reserves room for one more mount under a key, beside the room that is reserved there already.
+    pub(crate) fn reserve(&mut self, key: K) -> Result<(), AllocError>
         ensures same { (q : K) → listed K.eq q self.new ≡ listed K.eq q self.old }
-        ensures ok { OnOk result ((q : K) → expected K.eq q self.new
-            ≡ (if K.eq q key then expected K.eq q self.old + 1 else expected K.eq q self.old)) }
+        ensures ok { OnOk result ((q : K) → reserved K.eq q self.new
+            ≡ (if K.eq q key then reserved K.eq q self.old + 1 else reserved K.eq q self.old)) }
     {
         if let Some(list) = self.lists.get_mut(&key) {
-            return list.expect_one();
+            return list.reserve_one();
         }
         let mut list = Ascending::new(*self.lists.allocator());
-        list.expect_one()?;
+        list.reserve_one()?;
         self.lists.insert(key, list)?;
         Ok(())
     }
 
-    /// Inserts a mount that is expected under a key, in the order of numbers. It does not allocate.
+    /// Inserts a mount under a key, where room is reserved, in the order of numbers. It does not allocate.
     pub(crate) fn put_in(&mut self, key: &K, mount: MountId)
-        requires { 0 < expected K.eq key.now self.old }
+        requires { 0 < reserved K.eq key.now self.old }
         ensures inserted { (q : K) → listed K.eq q self.new
             ≡ (if K.eq q key.now then inserted mount (listed K.eq q self.old) else listed K.eq q self.old) }
-        ensures expected { (q : K) → expected K.eq q self.new
-            ≡ (if K.eq q key.now then expected K.eq q self.old - 1 else expected K.eq q self.old) }
+        ensures reserved { (q : K) → reserved K.eq q self.new
+            ≡ (if K.eq q key.now then reserved K.eq q self.old - 1 else reserved K.eq q self.old) }
     {
         if let Some(list) = self.lists.get_mut(key) {
             list.insert(mount);
@@ -71,19 +71,19 @@ impl<K: Eq + Hash + Copy + Drop> MountsBy<K> {
         ensures taken { (q : K) → listed K.eq q self.new
             ≡ (if K.eq q key.now then filter (λ other. not (same_id other mount)) (listed K.eq q self.old)
             else listed K.eq q self.old) }
-        ensures expected { (q : K) → expected K.eq q self.new ≡ expected K.eq q self.old }
+        ensures reserved { (q : K) → reserved K.eq q self.new ≡ reserved K.eq q self.old }
     {
         if let Some(list) = self.lists.get_mut(key) {
             list.remove(mount);
         }
     }
 
-    /// No further mount is expected under a key. It does not allocate.
-    pub(crate) fn expect_none(&mut self, key: &K)
+    /// Gives up the room that is reserved under a key. It does not allocate.
+    pub(crate) fn release(&mut self, key: &K)
         ensures { (q : K) → listed K.eq q self.new ≡ listed K.eq q self.old }
     {
         if let Some(list) = self.lists.get_mut(key) {
-            list.expect_none();
+            list.release();
         }
         self.drop_empty(key);
     }

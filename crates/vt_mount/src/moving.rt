@@ -9,7 +9,7 @@ ghost use Rattle.vt_location.specs.declared.locations.Location.{Location};
 ghost use Rattle.vt_location.specs.declared.numbers.MountId.{MountId};
 ghost use Rattle.vt_location.specs.declared.numbers.NamespaceId.{NamespaceId};
 ghost use Rattle.vt_mount.specs.declared.mounted.Mounted.{Mounted};
-ghost use Rattle.vt_mount.specs.Expected.{Expects, moved_places};
+ghost use Rattle.vt_mount.specs.Reserved.{Reserves, moved_places};
 ghost use Rattle.vt_mount.specs.Indexed.{IsIndexed};
 ghost use Rattle.vt_mount.specs.Moving.{all_moves, is_small, move_of, moved_to, moves_by, with_points};
 ghost use Rattle.vt_mount.specs.MountsValue.{entries_of, in_order};
@@ -36,23 +36,23 @@ pub struct Moved {
 }
 
 /// Reserves room for mounts at the mount points that they are to get. If it fails, some of that room may be reserved.
-pub(crate) fn expect_moves(indexes: &mut Indexes, points: &[NewPoint]) -> Result<(), AllocError>
+pub(crate) fn reserve_moves(indexes: &mut Indexes, points: &[NewPoint]) -> Result<(), AllocError>
     ensures same { (kept : List (MountId × Mounted)) → IsIndexed indexes.old kept → IsIndexed indexes.new kept }
     ensures ok { OnOk result ((namespaces : List NamespaceId) (places : List Location)
-        → Expects indexes.old namespaces places → Expects indexes.new namespaces (moved_places points.now ++ places)) }
+        → Reserves indexes.old namespaces places → Reserves indexes.new namespaces (moved_places points.now ++ places)) }
 {
     for point in points {
-        indexes.expect(None, Some(point.place))?;
+        indexes.reserve(None, Some(point.place))?;
     }
     Ok(())
 }
 
-/// No further mount is expected at these mount points. It does not allocate.
-pub(crate) fn expect_no_moves(indexes: &mut Indexes, points: &[NewPoint])
+/// Gives up the room that is reserved at these mount points. It does not allocate.
+pub(crate) fn release_moves(indexes: &mut Indexes, points: &[NewPoint])
     ensures { (kept : List (MountId × Mounted)) → IsIndexed indexes.old kept → IsIndexed indexes.new kept }
 {
     for point in points {
-        indexes.expect_none(None, Some(point.place));
+        indexes.release(None, Some(point.place));
     }
 }
 
@@ -64,15 +64,15 @@ pub(crate) fn move_all(
     moved: &mut Vec<Moved>,
 )
     requires indexed { IsIndexed indexes.old (in_order by_number.old.entries) }
-    requires expects { Expects indexes.old [] (moved_places points.now) }
+    requires reserves { Reserves indexes.old [] (moved_places points.now) }
     requires room { vec_len moved.old + length points.now ≤ vec_capacity moved.old }
     ensures indexed { IsIndexed indexes.new (in_order by_number.new.entries) }
     ensures mounts { entries_of by_number.new.entries ≡ with_points points.now (entries_of by_number.old.entries) }
     ensures moves { map move_of moved.new.items
         ≡ map move_of moved.old.items ++ all_moves points.now (entries_of by_number.old.entries) }
     ensures small { list_all is_small moved.old.items ≡ true → list_all is_small moved.new.items ≡ true }
-    ensures expects { (namespaces : List NamespaceId) (places : List Location)
-        → Expects indexes.old namespaces (moved_places points.now ++ places) → Expects indexes.new namespaces places }
+    ensures reserves { (namespaces : List NamespaceId) (places : List Location)
+        → Reserves indexes.old namespaces (moved_places points.now ++ places) → Reserves indexes.new namespaces places }
     ensures spare { spare by_number.new ≡ spare by_number.old }
 {
     for point in points.iter().rev() {
@@ -88,15 +88,15 @@ fn move_one(
     moved: &mut Vec<Moved>,
 )
     requires indexed { IsIndexed indexes.old (in_order by_number.old.entries) }
-    requires expects { Expects indexes.old [] (point.place ∷ []) }
+    requires reserves { Reserves indexes.old [] (point.place ∷ []) }
     requires room { vec_len moved.old < vec_capacity moved.old }
     ensures indexed { IsIndexed indexes.new (in_order by_number.new.entries) }
     ensures mounts { entries_of by_number.new.entries ≡ moved_to point (entries_of by_number.old.entries) }
     ensures moves { map move_of moved.new.items
         ≡ map move_of moved.old.items ++ moves_by point (entries_of by_number.old.entries) }
     ensures small { list_all is_small moved.old.items ≡ true → list_all is_small moved.new.items ≡ true }
-    ensures expects { (namespaces : List NamespaceId) (places : List Location)
-        → Expects indexes.old namespaces (point.place ∷ places) → Expects indexes.new namespaces places }
+    ensures reserves { (namespaces : List NamespaceId) (places : List Location)
+        → Reserves indexes.old namespaces (point.place ∷ places) → Reserves indexes.new namespaces places }
     ensures room { vec_len moved.new ≤ vec_len moved.old + 1 }
     ensures capacity { vec_capacity moved.old ≤ vec_capacity moved.new }
     ensures spare { spare by_number.new ≡ spare by_number.old }

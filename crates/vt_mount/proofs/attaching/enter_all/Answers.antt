@@ -1,9 +1,9 @@
 use Rattle.std.proofs.Common.{List, arith, drop, subst, ◌+◌}
 use Rattle.vt_location.specs.declared.mounts.Mount.{Mount}
-use Rattle.vt_mount.specs.Expected.{Expects, mount_points_of, namespaces_of}
+use Rattle.vt_mount.specs.Reserved.{Reserves, mount_points_of, namespaces_of}
 use Rattle.vt_mount.specs.MountsValue.{entries_of}
 use Rattle.vt_mount.proofs.EnteringLemmas.{drop_more, entered_at, may_enter_at}
-use Rattle.vt_mount.proofs.ExpectedLemmas.{expects-first}
+use Rattle.vt_mount.proofs.ReservedLemmas.{reserves-first}
 use Rattle.vt_mount.proofs.attaching.enter_all.Goals as goal
 
 pub enter-requires-clause-order : goal.enter-requires-clause-order
@@ -17,12 +17,12 @@ enter-requires-clause-spare c =
     let within = c.loop-mount-test.true in
     omega (arith, room, within)
 
-pub enter-requires-clause-expects : goal.enter-requires-clause-expects
-enter-requires-clause-expects c =
+pub enter-requires-clause-reserves : goal.enter-requires-clause-reserves
+enter-requires-clause-reserves c =
     let new = c.args.new.now in
     let i = c.loop-mount.mount-index in
-    expects-first c.loop-mount.indexes _ (namespaces_of (drop (i + 1) new)) _ (mount_points_of (drop (i + 1) new))
-    (subst (λ (rest : List Mount). Expects c.loop-mount.indexes (namespaces_of rest) (mount_points_of rest))
+    reserves-first c.loop-mount.indexes _ (namespaces_of (drop (i + 1) new)) _ (mount_points_of (drop (i + 1) new))
+    (subst (λ (rest : List Mount). Reserves c.loop-mount.indexes (namespaces_of rest) (mount_points_of rest))
     (drop_more new i _ c.loop-mount-test.true) c.loop-mount.invariant.3)
 
 pub loop-mount-preserved : goal.loop-mount-preserved
@@ -36,7 +36,7 @@ loop-mount-preserved c =
       c.enter.ensures.indexed,
       entered_at old _ _ new i _ c.loop-mount-test.true so_far.1 c.enter.ensures.mounts,
       omega (arith, room, used),
-      c.enter.ensures.expects (namespaces_of (drop (i + 1) new)) (mount_points_of (drop (i + 1) new))
-          (subst (λ (rest : List Mount). Expects c.loop-mount.indexes (namespaces_of rest) (mount_points_of rest))
+      c.enter.ensures.reserves (namespaces_of (drop (i + 1) new)) (mount_points_of (drop (i + 1) new))
+          (subst (λ (rest : List Mount). Reserves c.loop-mount.indexes (namespaces_of rest) (mount_points_of rest))
           (drop_more new i _ c.loop-mount-test.true) so_far.3),
     )

@@ -1,6 +1,6 @@
 use Rattle.std.proofs.Common.{drop, length, map, take, ◌+◌, ◌++◌, ◌≡◌, ◌≤◌}
 use Rattle.indexmap.specs.IndexMap.{spare}
-use Rattle.vt_mount.specs.Expected.{Expects, mount_points_of, namespaces_of}
+use Rattle.vt_mount.specs.Reserved.{Reserves, mount_points_of, namespaces_of}
 use Rattle.vt_mount.specs.Indexed.{IsIndexed}
 use Rattle.vt_mount.specs.MountsValue.{entries_of, in_order, unused_entry}
 use Rattle.vt_mount.proofs.attaching.enter_all.Given as goal
@@ -12,4 +12,4 @@ invariant-loop-mount l =
     × (entries_of l.by_number.entries
     ≡ entries_of l.fn.by_number.entries ++ map unused_entry (take l.mount-index l.new))
     × (length l.new ≤ spare l.by_number + l.mount-index)
-    × Expects l.indexes (namespaces_of (drop l.mount-index l.new)) (mount_points_of (drop l.mount-index l.new))
+    × Reserves l.indexes (namespaces_of (drop l.mount-index l.new)) (mount_points_of (drop l.mount-index l.new))

@@ -1,21 +1,21 @@
 use Rattle.std.proofs.Common.{List, [], ap, arith, length, map, subst, sym, ◌++◌, ◌∙◌, ◌∷◌}
 use Rattle.std.proofs.lemmas.List.{append-nil, append_assoc, length-append, nil_from_length}
 use Rattle.vt_mount.specs.declared.moving.NewPoint.{NewPoint}
-use Rattle.vt_mount.specs.Expected.{Expects, moved_places}
+use Rattle.vt_mount.specs.Reserved.{Reserves, moved_places}
 use Rattle.vt_mount.specs.Moving.{all_moves, move_of, moved_to, moves_by, with_points}
 use Rattle.vt_mount.specs.MountsValue.{entries_of}
-use Rattle.vt_mount.proofs.ExpectedLemmas.{expects-first, moved_places-last}
+use Rattle.vt_mount.proofs.ReservedLemmas.{reserves-first, moved_places-last}
 use Rattle.vt_mount.proofs.moving.move_all.Goals as goal
 
-pub move_one-requires-clause-expects : goal.move_one-requires-clause-expects
-move_one-requires-clause-expects c =
+pub move_one-requires-clause-reserves : goal.move_one-requires-clause-reserves
+move_one-requires-clause-reserves c =
     let point = c.in-Some.point.now in
     let later = c.next.new.self.iter.rest.now in
-    expects-first c.loop-point.indexes [] [] (point.place ∷ []) (moved_places later ++ [])
-    (subst (λ (places : List _). Expects c.loop-point.indexes [] (places ++ []))
+    reserves-first c.loop-point.indexes [] [] (point.place ∷ []) (moved_places later ++ [])
+    (subst (λ (places : List _). Reserves c.loop-point.indexes [] (places ++ []))
     (ap moved_places c.in-Some.ensures.steps ∙ moved_places-last later point)
     (c.loop-point.invariant.6 [] []
-    (subst (Expects c.args.indexes.now []) (sym (append-nil (moved_places c.args.points.now))) c.requires.expects)))
+    (subst (Reserves c.args.indexes.now []) (sym (append-nil (moved_places c.args.points.now))) c.requires.reserves)))
 
 pub move_one-requires-clause-room : goal.move_one-requires-clause-room
 move_one-requires-clause-room c =
@@ -45,15 +45,15 @@ loop-point-preserved c =
           ∙ append_assoc (map move_of c.args.moved.now.items) (all_moves back entries)
           (moves_by point (with_points back entries)),
       λ small. c.move_one.ensures.small (so_far.5 small),
-      λ namespaces places has. c.move_one.ensures.expects namespaces (moved_places later ++ places)
-          (subst (λ (first : List _). Expects c.loop-point.indexes namespaces (first ++ places))
+      λ namespaces places has. c.move_one.ensures.reserves namespaces (moved_places later ++ places)
+          (subst (λ (first : List _). Reserves c.loop-point.indexes namespaces (first ++ places))
           (ap moved_places c.in-Some.ensures.steps ∙ moved_places-last later point)
           (so_far.6 namespaces places has)),
       omega (arith, room, longer, one, kept),
       c.move_one.ensures.spare ∙ so_far.8,
     )
 
-pub returns-clause-expects : goal.returns-clause-expects
-returns-clause-expects c namespaces places has =
-    subst (λ (rest : List NewPoint). Expects c.loop-point.indexes namespaces (moved_places rest ++ places))
+pub returns-clause-reserves : goal.returns-clause-reserves
+returns-clause-reserves c namespaces places has =
+    subst (λ (rest : List NewPoint). Reserves c.loop-point.indexes namespaces (moved_places rest ++ places))
     (nil_from_length _ c.in-None.ensures.steps.0) (c.loop-point.invariant.6 namespaces places has)

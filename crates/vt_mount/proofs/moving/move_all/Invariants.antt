@@ -5,7 +5,7 @@ use Rattle.indexmap.specs.IndexMap.{spare}
 use Rattle.vt_location.specs.declared.locations.Location.{Location}
 use Rattle.vt_location.specs.declared.numbers.NamespaceId.{NamespaceId}
 use Rattle.vt_mount.specs.declared.moving.NewPoint.{NewPoint}
-use Rattle.vt_mount.specs.Expected.{Expects, moved_places}
+use Rattle.vt_mount.specs.Reserved.{Reserves, moved_places}
 use Rattle.vt_mount.specs.Indexed.{IsIndexed}
 use Rattle.vt_mount.specs.Moving.{all_moves, is_small, move_of, with_points}
 use Rattle.vt_mount.specs.MountsValue.{entries_of, in_order}
@@ -20,7 +20,7 @@ invariant-loop-point l =
     × (map move_of l.moved.items ≡ map move_of l.fn.moved.items ++ all_moves back (entries_of l.fn.by_number.entries))
     × (list_all is_small l.fn.moved.items ≡ true → list_all is_small l.moved.items ≡ true)
     × ((namespaces : List NamespaceId) (places : List Location)
-    → Expects l.fn.indexes namespaces (moved_places l.points ++ places)
-    → Expects l.indexes namespaces (moved_places l.point-iterator.iter.rest.now ++ places))
+    → Reserves l.fn.indexes namespaces (moved_places l.points ++ places)
+    → Reserves l.indexes namespaces (moved_places l.point-iterator.iter.rest.now ++ places))
     × (vec_len l.moved + length l.point-iterator.iter.rest.now ≤ vec_capacity l.moved)
     × (spare l.by_number ≡ spare l.fn.by_number)

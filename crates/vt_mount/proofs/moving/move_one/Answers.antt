@@ -5,7 +5,7 @@ use Rattle.vt_mount.specs.declared.moving.Moved.{Moved}
 use Rattle.vt_mount.specs.Indexed.{IsIndexed}
 use Rattle.vt_mount.specs.Moving.{placed_entry}
 use Rattle.vt_mount.specs.MountsValue.{in_order}
-use Rattle.vt_mount.proofs.ExpectedLemmas.{expects-later}
+use Rattle.vt_mount.proofs.ReservedLemmas.{reserves-later}
 use Rattle.vt_mount.proofs.NotedLemmas.{moves-absent, moves-noted, small-noted}
 use Rattle.vt_mount.proofs.MoveLemmas.{indexed-placed, moved_kept}
 use Rattle.vt_mount.proofs.OrderLemmas.{found-in_order, in_order-changed, rises-in_order}
@@ -26,9 +26,9 @@ returns-in_default-clause-moves c =
     moves-absent c.args.moved.now.items c.args.point c.args.by_number.now.entries
     (sym c.get_mut.ensures.value ∙ ap option_copied_mut c.in_default.is)
 
-pub returns-in_default-clause-expects : goal.returns-in_default-clause-expects
-returns-in_default-clause-expects c namespaces places has =
-    expects-later c.args.indexes.now namespaces c.args.point.place places has
+pub returns-in_default-clause-reserves : goal.returns-in_default-clause-reserves
+returns-in_default-clause-reserves c namespaces places has =
+    reserves-later c.args.indexes.now namespaces c.args.point.place places has
 
 pub returns-in_default-clause-spare : goal.returns-in_default-clause-spare
 returns-in_default-clause-spare c = ap spare c.get_mut.follows.holds-at-none

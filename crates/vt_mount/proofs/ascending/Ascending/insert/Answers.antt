@@ -39,5 +39,5 @@ invariant_of-self c =
 pub returns-clause-items : goal.returns-clause-items
 returns-clause-items c = is_inserted c.before
 
-pub returns-clause-expected : goal.returns-clause-expected
-returns-clause-expected c = let some = c.before.requires in omega (arith, some)
+pub returns-clause-reserved : goal.returns-clause-reserved
+returns-clause-reserved c = let some = c.before.requires in omega (arith, some)

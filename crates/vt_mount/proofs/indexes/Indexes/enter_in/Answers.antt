@@ -1,24 +1,24 @@
 use Rattle.std.proofs.Common.{[], subst, ◌++◌}
 use Rattle.std.specs.Prelude.{option_to_list}
 use Rattle.vt_location.specs.declared.numbers.NamespaceId.{NamespaceId}
-use Rattle.vt_mount.specs.Expected.{Expects}
+use Rattle.vt_mount.specs.Reserved.{Reserves}
 use Rattle.vt_mount.specs.Indexes.{same_namespace}
-use Rattle.vt_mount.proofs.ExpectedLemmas.{expects-less, is-expected, same_namespace-itself}
+use Rattle.vt_mount.proofs.ReservedLemmas.{reserves-less, is-reserved, same_namespace-itself}
 use Rattle.vt_mount.proofs.indexes.Indexes.enter_in.Goals as goal
 
 pub put_in-requires : goal.put_in-requires
 put_in-requires c =
-    let has = subst (λ namespace. Expects c.args.self.now (option_to_list namespace) []) c.in-Some.is c.requires in
-    is-expected same_namespace (λ (namespace : NamespaceId). namespace) c.in-Some.namespace []
+    let has = subst (λ namespace. Reserves c.args.self.now (option_to_list namespace) []) c.in-Some.is c.requires in
+    is-reserved same_namespace (λ (namespace : NamespaceId). namespace) c.in-Some.namespace []
     c.args.self.now.by_namespace (same_namespace-itself c.in-Some.namespace) has.namespace
 
-pub returns-in-Some-clause-expects : goal.returns-in-Some-clause-expects
-returns-in-Some-clause-expects c namespaces places has =
-    let has = subst (λ namespace. Expects c.args.self.now (option_to_list namespace ++ namespaces) places)
+pub returns-in-Some-clause-reserves : goal.returns-in-Some-clause-reserves
+returns-in-Some-clause-reserves c namespaces places has =
+    let has = subst (λ namespace. Reserves c.args.self.now (option_to_list namespace ++ namespaces) places)
     c.in-Some.is has in
     record {
-      namespace = expects-less same_namespace (λ (namespace : NamespaceId). namespace) c.in-Some.namespace namespaces
-          c.args.self.now.by_namespace c.put_in.new.self c.put_in.ensures.expected has.namespace;
+      namespace = reserves-less same_namespace (λ (namespace : NamespaceId). namespace) c.in-Some.namespace namespaces
+          c.args.self.now.by_namespace c.put_in.new.self c.put_in.ensures.reserved has.namespace;
       parent = has.parent;
       place = has.place;
       inode = has.inode;

@@ -2,31 +2,31 @@ use Rattle.std.proofs.Common.{[]}
 use Rattle.vt_location.specs.declared.locations.Location.{Location}
 use Rattle.vt_mount.specs.Indexes.{same_inode, same_place}
 use Rattle.vt_mount.specs.Listed.{same_id}
-use Rattle.vt_mount.proofs.ExpectedLemmas.{expects-less, is-expected, same_id-itself, same_inode-itself, same_place-itself}
+use Rattle.vt_mount.proofs.ReservedLemmas.{reserves-less, is-reserved, same_id-itself, same_inode-itself, same_place-itself}
 use Rattle.vt_mount.proofs.indexes.Indexes.put_in.Goals as goal
 
 pub put_in-requires : goal.put_in-requires
 put_in-requires c =
-    is-expected same_id (λ (place : Location). place.mount) c.args.place [] c.args.self.now.by_parent
+    is-reserved same_id (λ (place : Location). place.mount) c.args.place [] c.args.self.now.by_parent
     (same_id-itself c.args.place.mount) c.requires.parent
 
 pub put_in-requires-2 : goal.put_in-requires-2
 put_in-requires-2 c =
-    is-expected same_place (λ (place : Location). place) c.args.place [] c.args.self.now.by_location
+    is-reserved same_place (λ (place : Location). place) c.args.place [] c.args.self.now.by_location
     (same_place-itself c.args.place) c.requires.place
 
 pub put_in-requires-3 : goal.put_in-requires-3
 put_in-requires-3 c =
-    is-expected same_inode (λ (place : Location). place.node) c.args.place [] c.args.self.now.by_inode
+    is-reserved same_inode (λ (place : Location). place.node) c.args.place [] c.args.self.now.by_inode
     (same_inode-itself c.args.place.node) c.requires.inode
 
-pub returns-clause-expects : goal.returns-clause-expects
-returns-clause-expects c namespaces places has = record {
+pub returns-clause-reserves : goal.returns-clause-reserves
+returns-clause-reserves c namespaces places has = record {
   namespace = has.namespace;
-  parent = expects-less same_id (λ (place : Location). place.mount) c.args.place places c.args.self.now.by_parent
-      c.put_in.new.self c.put_in.ensures.expected has.parent;
-  place = expects-less same_place (λ (place : Location). place) c.args.place places c.args.self.now.by_location
-      c.put_in-2.new.self c.put_in-2.ensures.expected has.place;
-  inode = expects-less same_inode (λ (place : Location). place.node) c.args.place places c.args.self.now.by_inode
-      c.put_in-3.new.self c.put_in-3.ensures.expected has.inode;
+  parent = reserves-less same_id (λ (place : Location). place.mount) c.args.place places c.args.self.now.by_parent
+      c.put_in.new.self c.put_in.ensures.reserved has.parent;
+  place = reserves-less same_place (λ (place : Location). place) c.args.place places c.args.self.now.by_location
+      c.put_in-2.new.self c.put_in-2.ensures.reserved has.place;
+  inode = reserves-less same_inode (λ (place : Location). place.node) c.args.place places c.args.self.now.by_inode
+      c.put_in-3.new.self c.put_in-3.ensures.reserved has.inode;
 }

@@ -1,9 +1,9 @@
 use Rattle.std.proofs.Common.{[], ap, inr, map, refl, ◌++◌, ◌∙◌}
 use Rattle.vt_location.specs.MountValue.{mount_of}
-use Rattle.vt_mount.specs.Expected.{mount_points_of, moved_places, namespaces_of}
+use Rattle.vt_mount.specs.Reserved.{mount_points_of, moved_places, namespaces_of}
 use Rattle.vt_mount.specs.MountsValue.{are_ascending, entries_of, mounts_in}
 use Rattle.vt_mount.proofs.EnteringLemmas.{ascending-moved}
-use Rattle.vt_mount.proofs.ExpectedLemmas.{expects-first}
+use Rattle.vt_mount.proofs.ReservedLemmas.{reserves-first}
 use Rattle.vt_mount.proofs.KeptLemmas.{not-err}
 use Rattle.vt_mount.proofs.mounts.Mounts.attach_all_then.Goals as goal
 
@@ -11,11 +11,11 @@ pub returns-in-Err-clause-last_err : goal.returns-in-Err-clause-last_err
 returns-in-Err-clause-last_err g c =
     inr (record { shown = _; shows = refl; left = _; met = c.in-Err.ensures; leaves = refl })
 
-pub move_all-requires-clause-expects : goal.move_all-requires-clause-expects
-move_all-requires-clause-expects g c =
+pub move_all-requires-clause-reserves : goal.move_all-requires-clause-reserves
+move_all-requires-clause-reserves g c =
     let new = c.args.new.now in
-    expects-first c.make_room.new.indexes [] (namespaces_of new) (moved_places c.args.points.now) (mount_points_of new)
-    (not-err c.make_room.result c.if-is_err.ensures.value c.make_room.ensures.expects)
+    reserves-first c.make_room.new.indexes [] (namespaces_of new) (moved_places c.args.points.now) (mount_points_of new)
+    (not-err c.make_room.result c.if-is_err.ensures.value c.make_room.ensures.reserves)
 
 pub enter_all-requires-clause-order : goal.enter_all-requires-clause-order
 enter_all-requires-clause-order g c =
@@ -26,8 +26,8 @@ enter_all-requires-clause-order g c =
     (ap entries_of c.make_room.ensures.mounts ∙ c.self.view_is)
     ∙ c.requires.order
 
-pub enter_all-requires-clause-expects : goal.enter_all-requires-clause-expects
-enter_all-requires-clause-expects g c =
+pub enter_all-requires-clause-reserves : goal.enter_all-requires-clause-reserves
+enter_all-requires-clause-reserves g c =
     let new = c.args.new.now in
-    c.move_all.ensures.expects (namespaces_of new) (mount_points_of new)
-    (not-err c.make_room.result c.if-is_err.ensures.value c.make_room.ensures.expects)
+    c.move_all.ensures.reserves (namespaces_of new) (mount_points_of new)
+    (not-err c.make_room.result c.if-is_err.ensures.value c.make_room.ensures.reserves)

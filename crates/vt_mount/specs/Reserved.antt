@@ -8,7 +8,7 @@ use Rattle.vt_mount.specs.declared.indexes.Indexes.{Indexes}
 use Rattle.vt_mount.specs.declared.lists.MountsBy.{MountsBy}
 use Rattle.vt_mount.specs.declared.moving.NewPoint.{NewPoint}
 use Rattle.vt_mount.specs.Indexes.{same_inode, same_namespace, same_place}
-use Rattle.vt_mount.specs.Listed.{expected, same_id}
+use Rattle.vt_mount.specs.Listed.{reserved, same_id}
 
 -- how many of them pass a test
 abbrev pub count_of : {X : Type 0} → (X → Bool) → List X → ℕ
@@ -16,15 +16,15 @@ count_of test [] = 0
 count_of test (x ∷ xs) = if test x then count_of test xs + 1 else count_of test xs
 
 -- under each key there is room for those of them that it is the key of
-abbrev pub ExpectsBy : {K X : Type 0} → (K → K → Bool) → (X → K) → List X → MountsBy K → Type 0
-ExpectsBy eq key_of xs lists = (q : _) → count_of (λ x. eq q (key_of x)) xs ≤ expected eq q lists
+abbrev pub ReservesBy : {K X : Type 0} → (K → K → Bool) → (X → K) → List X → MountsBy K → Type 0
+ReservesBy eq key_of xs lists = (q : _) → count_of (λ x. eq q (key_of x)) xs ≤ reserved eq q lists
 
 -- there is room for a mount in each of these namespaces, and for one at each of these locations
-pub record Expects (indexes : Indexes) (namespaces : List NamespaceId) (places : List Location) : Type 0 where
-  pub namespace : ExpectsBy same_namespace (λ namespace. namespace) namespaces indexes.by_namespace
-  pub parent : ExpectsBy same_id (λ place. place.mount) places indexes.by_parent
-  pub place : ExpectsBy same_place (λ place. place) places indexes.by_location
-  pub inode : ExpectsBy same_inode (λ place. place.node) places indexes.by_inode
+pub record Reserves (indexes : Indexes) (namespaces : List NamespaceId) (places : List Location) : Type 0 where
+  pub namespace : ReservesBy same_namespace (λ namespace. namespace) namespaces indexes.by_namespace
+  pub parent : ReservesBy same_id (λ place. place.mount) places indexes.by_parent
+  pub place : ReservesBy same_place (λ place. place) places indexes.by_location
+  pub inode : ReservesBy same_inode (λ place. place.node) places indexes.by_inode
 
 -- the namespaces and the mount points of mounts that come
 abbrev pub namespaces_of : List Mount → List NamespaceId

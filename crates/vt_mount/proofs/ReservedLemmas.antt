@@ -8,9 +8,9 @@ use Rattle.vt_location.specs.declared.numbers.NamespaceId.{NamespaceId}
 use Rattle.vt_mount.specs.declared.indexes.Indexes.{Indexes}
 use Rattle.vt_mount.specs.declared.lists.MountsBy.{MountsBy}
 use Rattle.vt_mount.specs.declared.moving.NewPoint.{NewPoint}
-use Rattle.vt_mount.specs.Expected.{Expects, ExpectsBy, count_of, moved_places}
+use Rattle.vt_mount.specs.Reserved.{Reserves, ReservesBy, count_of, moved_places}
 use Rattle.vt_mount.specs.Indexes.{same_inode, same_namespace, same_place}
-use Rattle.vt_mount.specs.Listed.{expected, same_id}
+use Rattle.vt_mount.specs.Listed.{reserved, same_id}
 
 count-first : {X : Type 0} (test : X → Bool) (xs ys : List X) → count_of test xs ≤ count_of test (xs ++ ys)
 count-first test [] ys = omega arith
@@ -23,55 +23,55 @@ count-first test (x ∷ xs) ys = by (test x) (count-first test xs ys)
     by false rest = rest
 
 module _ {K X : Type 0} (eq : K → K → Bool) (key_of : X → K) (x : X) (xs : List X) (old : MountsBy K) where
-  -- one more is expected, or one less
-  pub expects-more : (new : MountsBy K)
-      → ((q : K) → expected eq q new ≡ cond (eq q (key_of x)) (expected eq q old + 1) (expected eq q old))
-      → ExpectsBy eq key_of xs old → ExpectsBy eq key_of (x ∷ xs) new
-  expects-more new more has q = by (eq q (key_of x)) (more q) (has q)
+  -- room for one more, or for one less
+  pub reserves-more : (new : MountsBy K)
+      → ((q : K) → reserved eq q new ≡ cond (eq q (key_of x)) (reserved eq q old + 1) (reserved eq q old))
+      → ReservesBy eq key_of xs old → ReservesBy eq key_of (x ∷ xs) new
+  reserves-more new more has q = by (eq q (key_of x)) (more q) (has q)
     where
-      by : (b : Bool) → expected eq q new ≡ cond b (expected eq q old + 1) (expected eq q old)
-          → count_of (λ x. eq q (key_of x)) xs ≤ expected eq q old
-          → cond b (count_of (λ x. eq q (key_of x)) xs + 1) (count_of (λ x. eq q (key_of x)) xs) ≤ expected eq q new
+      by : (b : Bool) → reserved eq q new ≡ cond b (reserved eq q old + 1) (reserved eq q old)
+          → count_of (λ x. eq q (key_of x)) xs ≤ reserved eq q old
+          → cond b (count_of (λ x. eq q (key_of x)) xs + 1) (count_of (λ x. eq q (key_of x)) xs) ≤ reserved eq q new
       by true is was = omega (arith, is, was)
       by false is was = omega (arith, is, was)
 
-  pub expects-less : (new : MountsBy K)
-      → ((q : K) → expected eq q new ≡ cond (eq q (key_of x)) (expected eq q old - 1) (expected eq q old))
-      → ExpectsBy eq key_of (x ∷ xs) old → ExpectsBy eq key_of xs new
-  expects-less new less has q = by (eq q (key_of x)) (less q) (has q)
+  pub reserves-less : (new : MountsBy K)
+      → ((q : K) → reserved eq q new ≡ cond (eq q (key_of x)) (reserved eq q old - 1) (reserved eq q old))
+      → ReservesBy eq key_of (x ∷ xs) old → ReservesBy eq key_of xs new
+  reserves-less new less has q = by (eq q (key_of x)) (less q) (has q)
     where
-      by : (b : Bool) → expected eq q new ≡ cond b (expected eq q old - 1) (expected eq q old)
-          → cond b (count_of (λ x. eq q (key_of x)) xs + 1) (count_of (λ x. eq q (key_of x)) xs) ≤ expected eq q old
-          → count_of (λ x. eq q (key_of x)) xs ≤ expected eq q new
+      by : (b : Bool) → reserved eq q new ≡ cond b (reserved eq q old - 1) (reserved eq q old)
+          → cond b (count_of (λ x. eq q (key_of x)) xs + 1) (count_of (λ x. eq q (key_of x)) xs) ≤ reserved eq q old
+          → count_of (λ x. eq q (key_of x)) xs ≤ reserved eq q new
       by true is was = omega (arith, is, was)
       by false is was = omega (arith, is, was)
 
-  pub expects-rest : ExpectsBy eq key_of (x ∷ xs) old → ExpectsBy eq key_of xs old
-  expects-rest has q = by (eq q (key_of x)) (has q)
+  pub reserves-rest : ReservesBy eq key_of (x ∷ xs) old → ReservesBy eq key_of xs old
+  reserves-rest has q = by (eq q (key_of x)) (has q)
     where
       by : (b : Bool)
-          → cond b (count_of (λ x. eq q (key_of x)) xs + 1) (count_of (λ x. eq q (key_of x)) xs) ≤ expected eq q old
-          → count_of (λ x. eq q (key_of x)) xs ≤ expected eq q old
+          → cond b (count_of (λ x. eq q (key_of x)) xs + 1) (count_of (λ x. eq q (key_of x)) xs) ≤ reserved eq q old
+          → count_of (λ x. eq q (key_of x)) xs ≤ reserved eq q old
       by true was = omega (arith, was)
       by false was = was
 
-  pub is-expected : eq (key_of x) (key_of x) ≡ true → ExpectsBy eq key_of (x ∷ xs) old
-      → 0 < expected eq (key_of x) old
-  is-expected itself has =
+  pub is-reserved : eq (key_of x) (key_of x) ≡ true → ReservesBy eq key_of (x ∷ xs) old
+      → 0 < reserved eq (key_of x) old
+  is-reserved itself has =
       let there = subst (λ (b : Bool). cond b (count_of (λ x'. eq (key_of x) (key_of x')) xs + 1)
-      (count_of (λ x'. eq (key_of x) (key_of x')) xs) ≤ expected eq (key_of x) old) itself (has (key_of x)) in
+      (count_of (λ x'. eq (key_of x) (key_of x')) xs) ≤ reserved eq (key_of x) old) itself (has (key_of x)) in
       omega (arith, there)
 
--- as many are expected as before
-pub expects-same : {K X : Type 0} (eq : K → K → Bool) (key_of : X → K) (xs : List X) (old new : MountsBy K)
-    → ((q : K) → expected eq q new ≡ expected eq q old)
-    → ExpectsBy eq key_of xs old → ExpectsBy eq key_of xs new
-expects-same eq key_of xs old new same has q = let is = same q in let was = has q in omega (arith, is, was)
+-- as much room as before
+pub reserves-same : {K X : Type 0} (eq : K → K → Bool) (key_of : X → K) (xs : List X) (old new : MountsBy K)
+    → ((q : K) → reserved eq q new ≡ reserved eq q old)
+    → ReservesBy eq key_of xs old → ReservesBy eq key_of xs new
+reserves-same eq key_of xs old new same has q = let is = same q in let was = has q in omega (arith, is, was)
 
--- where more are expected, so are the first of them
-pub expects-first : (indexes : Indexes) (namespaces later : List NamespaceId) (places after : List Location)
-    → Expects indexes (namespaces ++ later) (places ++ after) → Expects indexes namespaces places
-expects-first indexes namespaces later places after has = record {
+-- where there is room for more, there is room for the first of them
+pub reserves-first : (indexes : Indexes) (namespaces later : List NamespaceId) (places after : List Location)
+    → Reserves indexes (namespaces ++ later) (places ++ after) → Reserves indexes namespaces places
+reserves-first indexes namespaces later places after has = record {
   namespace = λ q. fewer (λ namespace. same_namespace q namespace) namespaces later _ (has.namespace q);
   parent = λ q. fewer (λ (place : Location). same_id q place.mount) places after _ (has.parent q);
   place = λ q. fewer (λ place. same_place q place) places after _ (has.place q);
@@ -83,21 +83,21 @@ expects-first indexes namespaces later places after has = record {
     fewer test xs ys n most = let less = count-first test xs ys in omega (arith, less, most)
 
 -- one fewer
-pub expects-later : (indexes : Indexes) (namespaces : List NamespaceId) (place : Location) (places : List Location)
-    → Expects indexes namespaces (place ∷ places) → Expects indexes namespaces places
-expects-later indexes namespaces place places has = record {
+pub reserves-later : (indexes : Indexes) (namespaces : List NamespaceId) (place : Location) (places : List Location)
+    → Reserves indexes namespaces (place ∷ places) → Reserves indexes namespaces places
+reserves-later indexes namespaces place places has = record {
   namespace = has.namespace;
-  parent = expects-rest same_id (λ (place : Location). place.mount) place places indexes.by_parent has.parent;
-  place = expects-rest same_place (λ (place : Location). place) place places indexes.by_location has.place;
-  inode = expects-rest same_inode (λ (place : Location). place.node) place places indexes.by_inode has.inode;
+  parent = reserves-rest same_id (λ (place : Location). place.mount) place places indexes.by_parent has.parent;
+  place = reserves-rest same_place (λ (place : Location). place) place places indexes.by_location has.place;
+  inode = reserves-rest same_inode (λ (place : Location). place.node) place places indexes.by_inode has.inode;
 }
 
 pub moved_places-last : (points : List NewPoint) (point : NewPoint)
     → moved_places (points ++ point ∷ []) ≡ point.place ∷ moved_places points
 moved_places-last points point = ap (map (λ (point : NewPoint). point.place)) (reverse-append points (point ∷ []))
 
-pub expects-none : (indexes : Indexes) → Expects indexes [] []
-expects-none indexes = record {
+pub reserves-none : (indexes : Indexes) → Reserves indexes [] []
+reserves-none indexes = record {
   namespace = λ q. omega arith;
   parent = λ q. omega arith;
   place = λ q. omega arith;

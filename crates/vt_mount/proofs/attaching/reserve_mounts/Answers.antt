@@ -2,14 +2,14 @@ use Rattle.std.proofs.Common.{List, [], ap, subst, sym, ◌++◌, ◌∙◌, ◌
 use Rattle.std.proofs.lemmas.List.{append_assoc, nil_from_length}
 use Rattle.std.specs.Prelude.{option_to_list}
 use Rattle.vt_location.specs.declared.mounts.Mount.{Mount}
-use Rattle.vt_mount.specs.Expected.{Expects, mount_points_of, namespaces_of}
+use Rattle.vt_mount.specs.Reserved.{Reserves, mount_points_of, namespaces_of}
 use Rattle.vt_mount.proofs.MoveLemmas.{indexed-same}
-use Rattle.vt_mount.proofs.attaching.expect_mounts.Goals as goal
+use Rattle.vt_mount.proofs.attaching.reserve_mounts.Goals as goal
 
-pub returns-in_err-expect-clause-same : goal.returns-in_err-expect-clause-same
-returns-in_err-expect-clause-same c kept indexed =
-    indexed-same kept c.loop-mount.indexes c.expect.new.self c.in_err-expect.ensures.namespace
-    c.in_err-expect.ensures.parent c.in_err-expect.ensures.place c.in_err-expect.ensures.inode
+pub returns-in_err-reserve-clause-same : goal.returns-in_err-reserve-clause-same
+returns-in_err-reserve-clause-same c kept indexed =
+    indexed-same kept c.loop-mount.indexes c.reserve.new.self c.in_err-reserve.ensures.namespace
+    c.in_err-reserve.ensures.parent c.in_err-reserve.ensures.place c.in_err-reserve.ensures.inode
     (c.loop-mount.invariant.2 kept indexed)
 
 pub loop-mount-preserved : goal.loop-mount-preserved
@@ -20,20 +20,20 @@ loop-mount-preserved c =
       mount ∷ back,
       so_far.1 ∙ ap (λ (rest : List Mount). rest ++ back) c.in-Some.ensures.steps
           ∙ append_assoc c.next.new.self.iter.rest.now (mount ∷ []) back,
-      λ kept indexed. indexed-same kept c.loop-mount.indexes c.expect.new.self c.expect.ensures.namespace
-          c.expect.ensures.parent c.expect.ensures.place c.expect.ensures.inode (so_far.2 kept indexed),
+      λ kept indexed. indexed-same kept c.loop-mount.indexes c.reserve.new.self c.reserve.ensures.namespace
+          c.reserve.ensures.parent c.reserve.ensures.place c.reserve.ensures.inode (so_far.2 kept indexed),
       λ namespaces places has.
-          subst (λ (all : List _). Expects c.expect.new.self all (mount_points_of (mount ∷ back) ++ places))
+          subst (λ (all : List _). Reserves c.reserve.new.self all (mount_points_of (mount ∷ back) ++ places))
           (sym (append_assoc (option_to_list mount.namespace) (namespaces_of back) namespaces))
-          (subst (Expects c.expect.new.self (option_to_list mount.namespace ++ (namespaces_of back ++ namespaces)))
+          (subst (Reserves c.reserve.new.self (option_to_list mount.namespace ++ (namespaces_of back ++ namespaces)))
           (sym (append_assoc (option_to_list mount.mount_point) (mount_points_of back) places))
-          (c.in_ok-expect.ensures.ok (namespaces_of back ++ namespaces) (mount_points_of back ++ places)
+          (c.in_ok-reserve.ensures.ok (namespaces_of back ++ namespaces) (mount_points_of back ++ places)
           (so_far.3 namespaces places has))),
     )
 
 pub returns-clause-ok : goal.returns-clause-ok
 returns-clause-ok c namespaces places has =
-    subst (λ (all : List Mount). Expects c.loop-mount.indexes (namespaces_of all ++ namespaces)
+    subst (λ (all : List Mount). Reserves c.loop-mount.indexes (namespaces_of all ++ namespaces)
     (mount_points_of all ++ places))
     (sym (c.loop-mount.invariant.1 ∙ ap (λ (rest : List Mount). rest ++ c.loop-mount.invariant.0)
     (nil_from_length _ c.in-None.ensures.steps.0)))
