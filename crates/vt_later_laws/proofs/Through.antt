@@ -38,6 +38,7 @@ use Rattle.vt_later_laws.proofs.Stays.{still_called, still_seen}
 use Rattle.vt_spec.proofs.Refusals.{passing, same_ok}
 use Rattle.vt_spec.proofs.Found.{found_among}
 use Rattle.vt_spec.proofs.Options.{and_then-Ok}
+use Rattle.vt_tree_laws.proofs.trees.TreesTasks.{called_there}
 
 -- bytes with zeros after them, as long as they must be
 padded_long : (offset : ℕ) (old : List ℕ) → length (padded offset old) ≡ length old + (offset - length old)
@@ -159,7 +160,7 @@ open_regular : (world : World ℕ) (name : TaskName) (task : Task ℕ) (number :
 open_regular world name task number descriptor is called found =
     passes (λ (d : Descriptor ℕ). is_kind_in File (node_at nat_eq world d.location)) task.descriptors
     (passes (has_regular_files_open nat_eq world) world.tasks is.tasks.open_files task
-    (found_among (λ (t : Task ℕ). same_name name t.name) world.tasks task called))
+    (called_there world.tasks name task called))
     descriptor (found_among (λ (d : Descriptor ℕ). nat_eq number d.number) task.descriptors descriptor found)
 
 -- a descriptor's file is among what its task uses

@@ -68,6 +68,7 @@ use Rattle.vt_world_laws.specs.Worlds.Permits.{IsDestination, IsReached, NamesWh
 use Rattle.vt_later_laws.proofs.AfterChange.{listed}
 use Rattle.vt_later_laws.specs.Ends.{KeepsAllButMasters, sets_type, takes_uses}
 use Rattle.vt_later_laws.specs.Whiteouts.{AllTypesLeaveAllButMasters, OtherCallsLetWhiteoutsGo, replaced_as, replaced_by, replaced_if, replaced_in, replaced_over}
+use Rattle.vt_tree_laws.proofs.trees.TreesTasks.{called_there}
 
 -- the sweep takes nothing
 abbrev KeepsAll : World ℕ → Type 0
@@ -138,7 +139,7 @@ module _ (world : World ℕ) (fresh : Fresh ℕ) (task : Task ℕ) (is : IsWorld
   among_tasks : Contains world.tasks task
   among_tasks =
       contains_from_among world.tasks task
-      (found_among (λ (t : Task ℕ). same_name task.name t.name) world.tasks task called)
+      (called_there world.tasks task.name task called)
 
   -- A change of a tree, plain or an overlay, by which no name is lost
   module _ (call : Call) (permit : Permit ℕ) (judged : judge_in nat_eq fresh world task call ≡ Ok permit)

@@ -12,8 +12,9 @@ use Rattle.vt_spec.specs.Machine.World.{Layer, Overlay, World, filesystem_number
 use Rattle.vt_spec.specs.Machine.Invariants.{IsWorld, ListsNumbers, number_at_path}
 use Rattle.vt_spec.specs.Tree.{Node, bytes_in, bytes_of, entries_in, entries_of, is_directory_node, kind_of, new_directory, node_with_bytes}
 use Rattle.vt_spec.specs.TreeInvariant.{IsDirectory, IsReached, IsTree, entry_at}
-use Rattle.vt_layer_laws.specs.Layers.Untouched.{IsKept, inode_in}
+use Rattle.vt_layer_laws.specs.Layers.Untouched.{IsKept}
 use Rattle.vt_layer_laws.specs.Layers.Upper.{IsThere, SpeaksOfWhatIsThere}
+use Rattle.vt_tree_laws.specs.Trees.Settling.{inode_in}
 
 -- an inode of the overlay has a real object in the upper layer
 abbrev pub StandsInUpper : Merge ℕ → ℕ → Type 0

@@ -3,8 +3,8 @@ use Rattle.std.proofs.Common.{◌≡◌, ◌≢◌, refl, sym, ap, ◌∙◌, tr
 use Rattle.std.proofs.Math.Nat.{mod-lt}
 use Rattle.std.proofs.lemmas.List.{length-append}
 use Rattle.std.proofs.lemmas.Bool.{and_parts}
-use Rattle.std.specs.List.{filter, list_all}
-use Rattle.vt_spec.specs.Language.Calls.{Access, ForkWords, opens_for_reading, opens_for_writing, same_name}
+use Rattle.std.specs.List.{filter, find, list_all}
+use Rattle.vt_spec.specs.Language.Calls.{Access, ForkWords, TaskName, opens_for_reading, opens_for_writing, same_name}
 use Rattle.vt_spec.specs.Machine.Mounts.{Location}
 use Rattle.vt_spec.specs.Machine.Outcome.Descriptors.{free_from, free_number, inserted, with_descriptor, without_descriptor}
 use Rattle.vt_spec.specs.Language.Limits.{deepest_name, most_descriptors, most_forks}
@@ -12,8 +12,14 @@ use Rattle.vt_spec.specs.Machine.Outcome.Tasks.{child_credentials, child_name, c
 use Rattle.vt_spec.specs.Machine.World.{Descriptor, Task, replaced_if_called}
 use Rattle.vt_spec.specs.Machine.Invariants.{are_ascending_from, is_within_limits}
 pub use Rattle.std.proofs.lemmas.Bool.{and_from as both}
-use Rattle.vt_spec.proofs.Lists.{all-filter}
+use Rattle.vt_spec.proofs.Found.{found_among}
+use Rattle.vt_spec.proofs.Lists.{Among, all-filter}
 use Rattle.vt_spec.proofs.Descriptors.{ascending-filter, free_above}
+
+-- a task that is called is there
+pub called_there : (tasks : List (Task ℕ)) (name : TaskName) (task : Task ℕ)
+    → find (λ (other : Task ℕ). same_name name other.name) tasks ≡ Some task → Among task tasks
+called_there tasks name task called = found_among (λ (other : Task ℕ). same_name name other.name) tasks task called
 
 -- the limits, one by one
 pub record IsWithin (task : Task ℕ) : Type 0 where

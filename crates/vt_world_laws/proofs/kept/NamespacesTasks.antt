@@ -13,19 +13,6 @@ use Rattle.vt_spec.proofs.Lists.{Among, among-append, among-append_left, among-f
 use Rattle.vt_world_laws.proofs.kept.NamespacesListed.{IsListedIn, TasksStay, mapped_tasks_stay}
 use Rattle.vt_world_laws.proofs.TasksNamed.{AreNamedApart}
 
--- a task that is called is there
-pub called_there : (tasks : List (Task ℕ)) (name : TaskName) (task : Task ℕ)
-    → find (λ (other : Task ℕ). same_name name other.name) tasks ≡ Some task → Among task tasks
-called_there [] name task e = absurd (true≢false (sym (ap is_some e)))
-called_there (first ∷ rest) name task e =
-    by (same_name name first.name) e (called_there rest name task)
-  where
-    by : (b : Bool) → cond b (Some first) (find (λ (other : Task ℕ). same_name name other.name) rest) ≡ Some task
-        → (find (λ (other : Task ℕ). same_name name other.name) rest ≡ Some task → Among task rest)
-        → Among task (first ∷ rest)
-    by true f later = inl (sym (same_Some first task f))
-    by false f later = inr (later f)
-
 -- a task is the only one of its name
 one_of_its_name : (tasks : List (Task ℕ)) → AreNamedApart tasks → (a b : Task ℕ) → Among a tasks → Among b tasks
     → a.name ≡ b.name → a ≡ b

@@ -25,9 +25,9 @@ use Rattle.vt_spec.proofs.Lists.{Among, among-append, among-append_right, among-
 use Rattle.vt_mount_laws.proofs.mounts.MountsReplaced.{found_itself}
 use Rattle.vt_world_laws.proofs.worlds.FewMounts.{Shrinks, StaysOrLeaves, change_shrinks, count, ended_few, few_of, filtered_no_more, lazily_shrinks, mapped_no_more, none_counted, not_too_many, regrouped_shrinks, shrinks_few, shrinks_itself, shrinks_then, taken_shrinks}
 use Rattle.vt_world_laws.proofs.worlds.FitPermits.{attaches}
-use Rattle.vt_world_laws.proofs.worlds.ReachedWalks.{task_among}
 use Rattle.vt_spec.proofs.Worlds.{number-mount_in}
 use Rattle.vt_letting_go.specs.Ends.{is_in}
+use Rattle.vt_tree_laws.proofs.trees.TreesTasks.{called_there}
 
 and_first : (a : Bool) → (a && true) ≡ true → a ≡ true
 and_first true e = refl
@@ -162,7 +162,7 @@ module _ (fresh : Fresh ℕ) (world : World ℕ) (whole : IsWorld nat_eq world) 
       (among_numbers (map (λ (n : Namespace ℕ). n.number) world.namespaces) task.namespace
       (among_from_list_all (λ (t : Task ℕ). is_listed nat_eq world t.namespace) world.tasks
       whole.namespaces.tasks_listed task
-      (task_among world whole task called))) in
+      (called_there world.tasks task.name task called))) in
       ap (λ n. nat_lt most_mounts (count world.mounts n)) from.2
       ∙ few_of world whole.namespaces.few_mounts from.0 from.1
 

@@ -29,6 +29,7 @@ use Rattle.vt_world_laws.proofs.TasksNamed.GoOn.{all_moved, one_changed, one_lef
 use Rattle.vt_spec.proofs.Found.{found_among}
 use Rattle.vt_spec.proofs.Worlds.{tasks-taken_away, tasks-with_change, tasks-without_replaced}
 use Rattle.vt_tree_laws.specs.Trees.Limits.{HasSmallTasks}
+use Rattle.vt_tree_laws.proofs.trees.TreesTasks.{called_there}
 
 module _ (world : World ℕ) (fresh : Fresh ℕ) (task : Task ℕ) where
   abbrev after : Permit ℕ → World ℕ
@@ -128,7 +129,7 @@ module _ (world : World ℕ) (fresh : Fresh ℕ) (task : Task ℕ) where
 pub all_permits_keep_names : KeptByAllPermits OneTaskAName
 all_permits_keep_names world fresh task permit is serves called fits =
     go_on_apart task world.tasks
-    (found_among (λ (other : Task ℕ). same_name task.name other.name) world.tasks task called)
+    (called_there world.tasks task.name task called)
     is.tasks.one_task (counted_among world is.tasks.forks_counted) (after world fresh task permit).tasks
     (tasks_go_on world fresh task permit fits.names)
 
@@ -140,7 +141,7 @@ pub all_permits_keep_counting_forks : KeptByAllPermits ForksAreCounted
 all_permits_keep_counting_forks world fresh task permit is serves called fits =
     counted_from (after world fresh task permit)
     (go_on_counted task world.tasks
-    (found_among (λ (other : Task ℕ). same_name task.name other.name) world.tasks task called)
+    (called_there world.tasks task.name task called)
     is.tasks.one_task (counted_among world is.tasks.forks_counted) (after world fresh task permit).tasks
     (tasks_go_on world fresh task permit fits.names))
 

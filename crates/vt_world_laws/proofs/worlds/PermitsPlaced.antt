@@ -40,6 +40,7 @@ use Rattle.vt_world_laws.proofs.Plain.{plain_numbered}
 use Rattle.vt_world_laws.proofs.worlds.SeenMerges.{new_inode_seen}
 use Rattle.vt_spec.proofs.Found.{found_among}
 use Rattle.vt_spec.proofs.Worlds.{tasks-taken_away, tasks-with_change, tasks-without_replaced}
+use Rattle.vt_tree_laws.proofs.trees.TreesTasks.{called_there}
 
 -- where a walk led
 pub reached_stands : (world : World ℕ) (task : Task ℕ) (location : Location ℕ) → IsReachedDirectory world task location
@@ -78,11 +79,8 @@ module _ (world : World ℕ) (fresh : Fresh ℕ) (task : Task ℕ) (is : IsWorld
   all_placed : ArePlaced world world.tasks
   all_placed = all_are_placed world is.tasks.locations_live is.tasks.directories is.tasks.open_files
 
-  pub task_there : Among task world.tasks
-  task_there = found_among (λ (other : Task ℕ). same_name task.name other.name) world.tasks task called
-
   placed : IsPlaced world task
-  placed = all_placed task task_there
+  placed = all_placed task (called_there world.tasks task.name task called)
 
   abbrev Fits : Permit ℕ → Type 0
   Fits permit = NamesWhatIsThere world task permit

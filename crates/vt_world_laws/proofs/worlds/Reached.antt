@@ -26,7 +26,7 @@ use Rattle.vt_mount_laws.proofs.mounts.MountsFound.{found_in, placed_among}
 use Rattle.vt_mount_laws.proofs.mounts.MountsNumbered.{is_one_of}
 use Rattle.vt_mount_laws.proofs.mounts.MountsPlaces.{stands_there}
 use Rattle.vt_mount_laws.proofs.mounts.MountsReplaced.{found_itself}
-use Rattle.vt_tree_laws.proofs.trees.TreesEntered.{chain_ends}
+use Rattle.vt_tree_laws.proofs.trees.TreesEntered.{chain_ends, directory_in_tree}
 use Rattle.vt_tree_laws.proofs.trees.TreesOfMounts.{worlds_are_standing}
 use Rattle.vt_tree_laws.proofs.trees.TreesOfWorlds.{numbered_all}
 use Rattle.vt_tree_laws.proofs.trees.TreesWalked.{ok_same}
@@ -110,15 +110,6 @@ module _ (world : World ℕ) (whole : IsWorld nat_eq world) (task : Task ℕ) wh
   pub is_reached_directory : (location : Location ℕ) → IsFound location → IsDirectory location
       → IsReachedDirectory world task location
   is_reached_directory location is directory = record { reached = is_reached location is; directory = directory }
-
-  -- where a directory is, there is a tree
-  tree_there : (location : Location ℕ) → IsDirectory location → IsTree (files_at nat_eq world location).tree
-  tree_there location is =
-      ⊎_elim (λ tree. tree)
-      (λ missing. absurd (true≢false (sym is ∙ ap (λ (f : Filesystem ℕ). is_directory_node
-      (f.files.tree.node location.node)) missing.0)))
-      (numbered_all (λ filesystem. IsTree filesystem.files.tree) (mount_at nat_eq world location).filesystem
-      world.filesystems whole.files.trees)
 
   -- a mount over a place
   child_found : (a b : Location ℕ) → IsOn a.mount → option_map root_of (child_at nat_eq world.mounts a) ≡ Some b
@@ -208,7 +199,7 @@ module _ (world : World ℕ) (whole : IsWorld nat_eq world) (task : Task ℕ) wh
 
   parent_found : (location : Location ℕ) → IsFoundDirectory location
       → IsFoundDirectory (parent_location nat_eq world location)
-  parent_found location is = (is.0, (tree_there location is.1).parent_directory location.node is.1)
+  parent_found location is = (is.0, (directory_in_tree world whole.files.trees location is.1).parent_directory location.node is.1)
 
   no_denial : (deny : Deny) (a : Location ℕ) → Err deny ≡ Ok a → ⊥
   no_denial deny a e = true≢false (sym (ap is_answer e))
@@ -241,7 +232,7 @@ module _ (world : World ℕ) (whole : IsWorld nat_eq world) (task : Task ℕ) wh
           → option_map (λ number. record { mount = here.mount; node = number }) o ≡ Some object → IsFound object
       by None f h = none_is_not None object refl h
       by (Some number) f h =
-          subst IsFound (same_Some _ object h) (is.0, (tree_there here is.1).alive here.node name number f)
+          subst IsFound (same_Some _ object h) (is.0, (directory_in_tree world whole.files.trees here is.1).alive here.node name number f)
 
   -- one word
   pub step_found : (here : Location ℕ) (word : LastWord) (reached : Location ℕ) → IsFoundDirectory here

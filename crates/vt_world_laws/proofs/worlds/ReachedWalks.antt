@@ -15,6 +15,7 @@ use Rattle.vt_spec.proofs.Lists.{Among, among-flat_map, among_from_list_all}
 use Rattle.vt_tree_laws.proofs.trees.TreesWalked.{Ends, ends_next, ends_step, ends_then, ends_unless, not_true}
 use Rattle.vt_world_laws.proofs.worlds.Reached.{IsEnd, IsFound, IsFoundDirectory, directory_end, step_found}
 use Rattle.vt_spec.proofs.Found.{found_among}
+use Rattle.vt_tree_laws.proofs.trees.TreesTasks.{called_there}
 pub use Rattle.vt_spec.proofs.Found.{found_among}
 
 module _ (world : World ℕ) (whole : IsWorld nat_eq world) (task : Task ℕ)
@@ -28,21 +29,19 @@ module _ (world : World ℕ) (whole : IsWorld nat_eq world) (task : Task ℕ)
   abbrev pub End : Location ℕ → Type 0
   End location = IsEnd world whole task location
 
-  pub task_among : Among task world.tasks
-  task_among = found_among (λ other. same_name task.name other.name) world.tasks task called
-
   -- the task's own root and directory
   own_place : (location : Location ℕ) → Among location (locations_of task)
       → is_directory_seen_in nat_eq world task.namespace location ≡ true → FoundDirectory location
   own_place location m seen =
       let located = and_parts _ _
       (among_from_list_all (is_located_well nat_eq world) (all_locations world) whole.tasks.locations_live location
-      (among-flat_map locations_of world.tasks task location task_among m)) in
+      (among-flat_map locations_of world.tasks task location (called_there world.tasks task.name task called) m)) in
       let parts = and_parts _ _ seen in
       ((located.0, parts.1), parts.0)
 
   stands : stands_on_directories nat_eq world task ≡ true
-  stands = among_from_list_all (stands_on_directories nat_eq world) world.tasks whole.tasks.directories task task_among
+  stands = among_from_list_all (stands_on_directories nat_eq world) world.tasks whole.tasks.directories task
+      (called_there world.tasks task.name task called)
 
   pub root_found : FoundDirectory task.root
   root_found = own_place task.root (inl refl) (and_parts _ _ stands).0
