@@ -24,8 +24,8 @@ use Rattle.vt_spec.specs.Machine.Permits.Permit.{ToBind, ToMountOverlay, ToMount
 use Rattle.vt_spec.specs.Machine.SameWorlds.{SameFilesystem, SameFilesystems}
 use Rattle.vt_spec.specs.Machine.World.{Filesystem, Layer, Namespace, Overlay, Task, World, filesystem_numbered, mount_at, mount_numbered, open_layer, shown_layers}
 
--- what attaches mounts
-abbrev attaches : Permit ℕ → Bool
+-- the permits that attach mounts: those for which M9 is judged, and which raise no filesystem's change number
+abbrev pub attaches : Permit ℕ → Bool
 attaches (ToMountPlain place flags) = true
 attaches (ToMountOverlay place overlay flags) = true
 attaches (ToBind source place recursive) = true

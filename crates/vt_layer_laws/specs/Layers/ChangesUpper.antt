@@ -20,6 +20,10 @@ use Rattle.vt_tree_laws.specs.Trees.Settling.{inode_in}
 abbrev pub StandsInUpper : Merge ℕ → ℕ → Type 0
 StandsInUpper merge number = is_some (upper_object (merge.real number)) ≡ true
 
+-- an inode with one of the numbers that are handed in
+abbrev pub IsNewBy : Fresh ℕ → ℕ → Type 0
+IsNewBy fresh object = (k : ℕ) × (object ≡ fresh k)
+
 -- What holds of an overlay with an upper layer, and of the new numbers that a change is handed: its tree is a tree; its
 -- root stands in the upper layer, and so does each directory that has an entry for what stands there; what lies only
 -- below has one name; two inodes have two upper objects, and one with a name has one of its own kind; and no upper

@@ -57,7 +57,7 @@ use Rattle.vt_spec.proofs.Worlds.{lower_is_layer, upper_real}
 use Rattle.vt_tree_laws.specs.Trees.Settling.{inode_in}
 
 -- a call that asks for a change is one on files
-makes_files : (call : Call) → makes_a_name call ≡ true → changes_no_mount call ≡ true
+pub makes_files : (call : Call) → makes_a_name call ≡ true → changes_no_mount call ≡ true
 makes_files (Write path bytes) e = refl
 makes_files (Mkdir path mode) e = refl
 makes_files (SymlinkAt text path) e = refl

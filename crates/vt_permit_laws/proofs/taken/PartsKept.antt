@@ -14,16 +14,7 @@ use Rattle.vt_spec.specs.Machine.Receives.{receivers, receives}
 use Rattle.vt_spec.specs.Machine.World.{Filesystem, World, filesystem_numbered, mount_at, no_filesystem}
 use Rattle.vt_spec.specs.Tree.{is_directory_node}
 use Rattle.vt_spec.proofs.Found.{filter_alike}
-
--- receivers are mounts of the world
-pub receivers_there : (world : World ℕ) (mount one : Mount ℕ) → Among one (receivers_of nat_eq world mount)
-    → Among one world.mounts
-receivers_there world mount one = by (group_of mount.propagation)
-  where
-    by : (group : Option ℕ) → Among one (unwrap_or (option_map (receivers nat_eq world) group) [])
-        → Among one world.mounts
-    by None m = absurd m
-    by (Some group) m = (among-from_filter (receives nat_eq world group) world.mounts one m).0
+pub use Rattle.vt_mount_laws.proofs.mounts.Receivers.{receivers_there}
 
 module _ (world : World ℕ) (whole : IsWorld nat_eq world) (added : Filesystem ℕ) where
   abbrev larger : World ℕ
