@@ -39,6 +39,7 @@ use Rattle.vt_spec.proofs.Refusals.{passing, same_ok}
 use Rattle.vt_spec.proofs.Found.{found_among}
 use Rattle.vt_spec.proofs.Options.{and_then-Ok}
 use Rattle.vt_tree_laws.proofs.trees.TreesTasks.{called_there}
+use Rattle.vt_world_laws.proofs.worlds.PermitsPlaced.{tasks-pwritten}
 
 -- bytes with zeros after them, as long as they must be
 padded_long : (offset : ℕ) (old : List ℕ) → length (padded offset old) ≡ length old + (offset - length old)
@@ -172,10 +173,6 @@ descriptor_located task number descriptor found =
 
 module _ (world : World ℕ) (fresh : Fresh ℕ) (plain : IsPlain world) (file other : Location ℕ) (offset : ℕ)
     (same : IsOneInode world other file) (regular : is_kind_in File (node_at nat_eq world file) ≡ true) where
-  written_tasks : (bytes : List ℕ) → (pwritten nat_eq fresh world file offset bytes).tasks ≡ world.tasks
-  written_tasks [] = refl
-  written_tasks (byte ∷ bytes) = change_tasks fresh world plain file _
-
   written_there : (bytes : List ℕ)
       → take (length bytes)
       (drop offset (bytes_in (node_at nat_eq (pwritten nat_eq fresh world file offset bytes) other))) ≡ bytes
@@ -223,6 +220,5 @@ pwrite_then_pread world fresh name reader task reading written read offset bytes
     there =
         ap (λ w. task_called w reader) spent
         ∙ ap (find (λ (t : Task ℕ). same_name reader t.name))
-        (written_tasks world fresh plain written.location read.location offset same
-        (open_regular world name task written.number written is called found) bytes)
+        (tasks-pwritten fresh world written.location offset bytes)
         ∙ called_too

@@ -22,7 +22,7 @@ use Rattle.vt_mount_laws.proofs.ends.UnmountingEnds.{lazy_is_of_mounts}
 use Rattle.vt_world_laws.specs.Worlds.Kept.{KeptByAllPermits, KeptByPermits}
 use Rattle.vt_world_laws.specs.Worlds.Permits.{NamesWhatIsThere}
 use Rattle.vt_world_laws.specs.Worlds.Tasks.{OneTaskAName}
-use Rattle.vt_world_laws.proofs.worlds.PermitsPlaced.{permits_keep_directories, permits_keep_locations, permits_keep_open_files}
+use Rattle.vt_world_laws.proofs.worlds.PermitsPlaced.{permits_keep_directories, permits_keep_locations, permits_keep_open_files, tasks-with_copy, tasks-pwritten}
 use Rattle.vt_world_laws.proofs.worlds.PermitsSeen.{gone_on}
 use Rattle.vt_world_laws.proofs.TasksNamed.{GoOn, counted_among, counted_from, go_on_apart, go_on_counted}
 use Rattle.vt_world_laws.proofs.TasksNamed.GoOn.{all_moved, one_changed, one_left, one_more, same_ones}
@@ -38,20 +38,6 @@ module _ (world : World ℕ) (fresh : Fresh ℕ) (task : Task ℕ) where
   abbrev Goes : Permit ℕ → Type 0
   Goes permit = GoOn task world.tasks (after permit).tasks
 
-  changed_alike : (location : Location ℕ) (change : Change ℕ)
-      → (with_change nat_eq fresh world location change).tasks ≡ world.tasks
-  changed_alike location change = tasks-with_change fresh world location change
-
-  copied_alike : (b : Bool) (file : Location ℕ)
-      → (with_copy nat_eq b fresh world file).tasks ≡ world.tasks
-  copied_alike true file = changed_alike file (CopyUp file.node)
-  copied_alike false file = refl
-
-  written_alike : (file : Location ℕ) (offset : ℕ) (bytes : List ℕ)
-      → (pwritten nat_eq fresh world file offset bytes).tasks ≡ world.tasks
-  written_alike file offset [] = refl
-  written_alike file offset (byte ∷ bytes) = changed_alike file _
-
   pub tasks_go_on : (permit : Permit ℕ) → NamesWhatIsThere world task permit → Goes permit
   tasks_go_on Allowed fits = same_ones world.tasks refl
   tasks_go_on (ToList directory) fits = same_ones world.tasks refl
@@ -59,7 +45,7 @@ module _ (world : World ℕ) (fresh : Fresh ℕ) (task : Task ℕ) where
   tasks_go_on (ToRead file) fits = same_ones world.tasks refl
   tasks_go_on (ToReadPart file offset size) fits = same_ones world.tasks refl
   tasks_go_on (ToChange location change) fits = same_ones (after (ToChange location change)).tasks
-      (changed_alike location change)
+      (tasks-with_change fresh world location change)
   tasks_go_on (ToMake directory name node) fits =
       same_ones (after (ToMake directory name node)).tasks
       (tasks-with_change (odds fresh) world directory
@@ -77,7 +63,7 @@ module _ (world : World ℕ) (fresh : Fresh ℕ) (task : Task ℕ) where
   tasks_go_on (ToOpen file access) fits =
       one_changed (with_descriptor task file access) (after (ToOpen file access)).tasks refl refl
       (ap (map (replaced_if_called (with_descriptor task file access)))
-      (copied_alike (is_copied_up nat_eq world file access) file))
+      (tasks-with_copy fresh world (is_copied_up nat_eq world file access) file))
   tasks_go_on (ToOpenNew directory name node access) fits =
       let file : Location ℕ = record { mount = directory.mount; node = evens fresh 0 } in
       one_changed (with_descriptor task file access) (after (ToOpenNew directory name node access)).tasks refl refl
@@ -85,7 +71,7 @@ module _ (world : World ℕ) (fresh : Fresh ℕ) (task : Task ℕ) where
       (tasks-with_change (odds fresh) world directory
       (Make directory.node name (evens fresh 0) node)))
   tasks_go_on (ToWritePart file offset bytes) fits =
-      same_ones (after (ToWritePart file offset bytes)).tasks (written_alike file offset bytes)
+      same_ones (after (ToWritePart file offset bytes)).tasks (tasks-pwritten fresh world file offset bytes)
   tasks_go_on (ToClose descriptor) fits = one_changed (without_descriptor task descriptor)
       (after (ToClose descriptor)).tasks refl refl refl
   tasks_go_on (ToSetDirectory directory) fits =

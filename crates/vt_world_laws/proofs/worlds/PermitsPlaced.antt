@@ -64,6 +64,17 @@ opened_placed world task file access at opens =
           (among-inserted _ task.descriptors descriptor m);
     }
 
+-- a file that is copied up, or written, leaves the tasks as they were
+pub tasks-with_copy : (fresh : Fresh ℕ) (world : World ℕ) (copies : Bool) (file : Location ℕ)
+    → (with_copy nat_eq copies fresh world file).tasks ≡ world.tasks
+tasks-with_copy fresh world true file = tasks-with_change fresh world file (CopyUp file.node)
+tasks-with_copy fresh world false file = refl
+
+pub tasks-pwritten : (fresh : Fresh ℕ) (world : World ℕ) (file : Location ℕ) (offset : ℕ) (bytes : List ℕ)
+    → (pwritten nat_eq fresh world file offset bytes).tasks ≡ world.tasks
+tasks-pwritten fresh world file offset [] = refl
+tasks-pwritten fresh world file offset (byte ∷ bytes) = tasks-with_change fresh world file _
+
 -- A new file is made where there is a layer to write to: EROFS of open(2)
 abbrev pub HasLayerToWrite : World ℕ → Permit ℕ → Type 0
 HasLayerToWrite world (ToOpenNew directory name node access) =
@@ -115,20 +126,6 @@ module _ (world : World ℕ) (fresh : Fresh ℕ) (task : Task ℕ) (is : IsWorld
       (tasks-taken_away middle _)
       (all_placed_after middle (namespaces_ended nat_eq middle) (namespaces_ended_seen middle) middle.tasks at)
 
-  one_change_keeps_tasks : (location : Location ℕ) (change : Change ℕ)
-      → (with_change nat_eq fresh world location change).tasks ≡ world.tasks
-  one_change_keeps_tasks location change = tasks-with_change fresh world location change
-
-  copy_keeps_tasks : (b : Bool) (file : Location ℕ)
-      → (with_copy nat_eq b fresh world file).tasks ≡ world.tasks
-  copy_keeps_tasks true file = one_change_keeps_tasks file (CopyUp file.node)
-  copy_keeps_tasks false file = refl
-
-  writing_keeps_tasks : (file : Location ℕ) (offset : ℕ) (bytes : List ℕ)
-      → (pwritten nat_eq fresh world file offset bytes).tasks ≡ world.tasks
-  writing_keeps_tasks file offset [] = refl
-  writing_keeps_tasks file offset (byte ∷ bytes) = one_change_keeps_tasks file _
-
   -- a new file is open
   new_file_opens : (directory : Location ℕ) (name : List ℕ) (node : Node ℕ) (access : Access)
       → Fits (ToOpenNew directory name node access) → HasLayerToWrite world (ToOpenNew directory name node access)
@@ -157,7 +154,7 @@ module _ (world : World ℕ) (fresh : Fresh ℕ) (task : Task ℕ) (is : IsWorld
   permits_keep_tasks_placed (ToRead file) fits writes = all_placed
   permits_keep_tasks_placed (ToReadPart file offset size) fits writes = all_placed
   permits_keep_tasks_placed (ToChange location change) fits writes =
-      unchanged (ToChange location change) fits (one_change_keeps_tasks location change)
+      unchanged (ToChange location change) fits (tasks-with_change fresh world location change)
   permits_keep_tasks_placed (ToMake directory name node) fits writes =
       unchanged (ToMake directory name node) fits
       (tasks-with_change (odds fresh) world directory
@@ -176,7 +173,7 @@ module _ (world : World ℕ) (fresh : Fresh ℕ) (task : Task ℕ) (is : IsWorld
       let permit = ToOpen file access in
       changed_task permit fits (with_descriptor task file access)
       (ap (map (replaced_if_called (with_descriptor task file access)))
-      (copy_keeps_tasks (is_copied_up nat_eq world file access) file))
+      (tasks-with_copy fresh world (is_copied_up nat_eq world file access) file))
       (opened_placed (after permit) task file access (placed_still permit fits)
       (opens_after world (after permit) (seen permit fits) file
       (record { located = fits.reached.there; regular = fits.regular })))
@@ -190,7 +187,7 @@ module _ (world : World ℕ) (fresh : Fresh ℕ) (task : Task ℕ) (is : IsWorld
       (opened_placed (after permit) task file access (placed_still permit fits)
       (new_file_opens directory name node access fits writes))
   permits_keep_tasks_placed (ToWritePart file offset bytes) fits writes =
-      unchanged (ToWritePart file offset bytes) fits (writing_keeps_tasks file offset bytes)
+      unchanged (ToWritePart file offset bytes) fits (tasks-pwritten fresh world file offset bytes)
   permits_keep_tasks_placed (ToClose descriptor) fits writes =
       let permit = ToClose descriptor in
       let still = placed_still permit fits in

@@ -38,11 +38,7 @@ use Rattle.vt_mount_laws.proofs.ends.Unmounting.{root_mounts_stay, unmount_keeps
 use Rattle.vt_mount_laws.proofs.ends.UnmountingGoes.{what_goes_is_named}
 use Rattle.vt_spec.proofs.Worlds.{master-regrouped_by, number-mount_in}
 use Rattle.vt_mount_laws.proofs.mounts.Receivers.{receiver_receives}
-
--- the attachment of one mount, of which no copy goes onto another mount
-abbrev pub one_of : World ℕ → Fresh ℕ → Location ℕ → Mount ℕ → Attachment
-one_of world fresh place first =
-    record { world = world; fresh = fresh; mount_point = place; moves = false; mounts = first ∷ [] }
+use Rattle.vt_mount_laws.proofs.propagation.OneAttached.{one_of, later_number, part_old, hears_group}
 
 -- No mount stands at the node of the place on a mount that receives from the destination's group
 abbrev pub NoneAtReceivers : World ℕ → Location ℕ → Type 0
@@ -233,14 +229,7 @@ module _ (world : World ℕ) (fresh : Fresh ℕ) (place : Location ℕ) (first :
   left_among : (number : ℕ) → is_mount world number ≡ true → Among (mount_left after gone number) undone.mounts
   left_among number is =
       found_there undone.mounts number
-      (ap (is_among nat_eq number) (unmount_keeps_the_order after gone) ∙ later_number number is)
-    where
-      later_number : (one : ℕ) → is_mount world one ≡ true → is_mount after one ≡ true
-      later_number one old =
-          let t = new_mounts_follow world fresh place false (first ∷ []) in
-          ap (is_among nat_eq one) t.1
-          ∙ is_among_numbers (numbers_of world.mounts ++ t.0) one
-          (among-append_left (numbers_of world.mounts) t.0 one (among_numbers (numbers_of world.mounts) one old))
+      (ap (is_among nat_eq number) (unmount_keeps_the_order after gone) ∙ later_number world fresh place first there number is)
 
   type_stays : (number : ℕ) → is_mount world number ≡ true
       → has_its_master undone (mount_numbered nat_eq world number).propagation ≡ true
@@ -311,48 +300,19 @@ module _ (world : World ℕ) (fresh : Fresh ℕ) (place : Location ℕ) (first :
       }
 
   -- All copies go
-  later_number : (one : ℕ) → is_mount world one ≡ true → is_mount after one ≡ true
-  later_number one old =
-      let t = new_mounts_follow world fresh place false (first ∷ []) in
-      ap (is_among nat_eq one) t.1
-      ∙ is_among_numbers (numbers_of world.mounts ++ t.0) one
-      (among-append_left (numbers_of world.mounts) t.0 one (among_numbers (numbers_of world.mounts) one old))
-
-  part_old : (part : Mount ℕ) → IsPart it part → Among part world.mounts
-  part_old part c =
-      ⊎_elim
-      (λ same. subst (λ x. Among x world.mounts) (sym same) destination_among)
-      (λ rest. taker_there world place part rest)
-      (among_from_contains parts part c)
-
   part_later : (part : Mount ℕ) → IsPart it part → Among part after.mounts
   part_later part c =
-      subst (λ x. Among x after.mounts) (kept_itself part (part_old part c))
+      subst (λ x. Among x after.mounts) (kept_itself part (part_old world fresh place first there part c))
       (found_there after.mounts part.number
-      (later_number part.number (is_one_of world.mounts part (part_old part c))))
-
-  hears_group : (part : Mount ℕ) → IsPart it part → (group : ℕ) → destination.propagation ≡ Shared group
-      → receives nat_eq world group part ≡ true
-  hears_group part c group e =
-      ⊎_elim
-      (λ same.
-      subst (λ x. receives nat_eq world group x ≡ true) (sym same)
-      (receives_from_source world group destination (ap source_of e)))
-      (λ rest.
-      let t =
-      receiver_receives world destination part
-      (among-from_filter (takes_part nat_eq world place) (receivers_of nat_eq world destination) part rest).0 in
-      subst (λ g. receives nat_eq world g part ≡ true)
-      (same_Some t.0 group (ap group_of (sym t.1 ∙ e))) t.3)
-      (among_from_contains parts part c)
+      (later_number world fresh place first there part.number (is_one_of world.mounts part (part_old world fresh place first there part c))))
 
   hears_later : (part : Mount ℕ) → IsPart it part → (group : ℕ) → destination.propagation ≡ Shared group
       → receives nat_eq after group part ≡ true
   hears_later part c group e =
-      let t = heard world part group (hears_group part c group e) in
+      let t = heard world part group (hears_group world fresh place first there part c group e) in
       hears after groups_later part (part_later part c) t.0 group t.1
       (old_up_after world (supply it can) place false (first ∷ []) (serve_images it can) can.each_once t.0 group
-      (lives_in world can.groups part (part_old part c) t.0 t.1) t.2)
+      (lives_in world can.groups part (part_old world fresh place first there part c) t.0 t.1) t.2)
 
   -- nothing stands on a copy
   off_copy : (part : Mount ℕ) → IsPart it part → (mount : Mount ℕ) → Among mount after.mounts → (at : Location ℕ)
@@ -367,7 +327,7 @@ module _ (world : World ℕ) (fresh : Fresh ℕ) (place : Location ℕ) (first :
       same_Some (record { mount = copied.0.number; node = place.node }) at
       (sym (copy_stands copied.0 copied.1) ∙ ap (λ (x : Mount ℕ). x.mount_point) (sym copied.2) ∙ e) in
       true≢false
-      (sym (is_one_of world.mounts copied.0 (part_old copied.0 copied.1))
+      (sym (is_one_of world.mounts copied.0 (part_old world fresh place first there copied.0 copied.1))
       ∙ ap (λ (l : Location ℕ). is_mount world l.mount) on ∙ no_mount_there))
       (old_or_new mount m))
 
