@@ -6,7 +6,7 @@ use Rattle.std.specs.List.{list_any}
 use Rattle.std.proofs.lemmas.Bool.{eqb-true, or_parts}
 use Rattle.std.proofs.lemmas.List.{length-append, length-map}
 use Rattle.std.proofs.lemmas.List.Elements.{filter-append}
-use Rattle.vt_spec.specs.Lists.{any_pair, folded, holds_of, is_among}
+use Rattle.vt_spec.specs.Lists.{folded, holds_of, is_among}
 use Rattle.vt_spec.specs.Machine.Attach.{Copies, Graft, attached_by, copies_at, copy_at, graft_of, parts_of, pushed_onto, pushed_up, receiver_stood_on, receivers_of, takes_part, twig_of}
 use Rattle.vt_spec.specs.Machine.Mounts.{Location, Mount, group_of, mount_in, no_mount, with_mount}
 use Rattle.vt_spec.specs.Machine.World.{World, mount_at}
@@ -115,7 +115,8 @@ put_nowhere (mount ∷ rest) new none =
 
 -- one mount in the place of another of its number
 module _ (new : Mount ℕ) (namespace : ℕ) where
-  one_counted : (mounts : List (Mount ℕ)) → OneNumberAMount mounts → is_among nat_eq new.number (numbers_of mounts) ≡ true
+  one_counted : (mounts : List (Mount ℕ)) → OneNumberAMount mounts → is_among nat_eq new.number (numbers_of mounts)
+      ≡ true
       → count_in (with_mount nat_eq mounts new) namespace + count_in
       (mount_in nat_eq mounts new.number ∷ []) namespace
       ≡ count_in mounts namespace + count_in (new ∷ []) namespace

@@ -1,12 +1,12 @@
 -- Inodes that get some uses and lose some.
-use Rattle.std.proofs.Common.{◌≡◌, ◌≢◌, refl, sym, ap, subst, ◌∙◌, ⊎_elim, inl, inr, ℕ, ◌+◌, ◌≤◌, nat_eq, eqb-true, eq-eqb, ne_eqb, Bool, true, false, true≢false, cond, not, ◌&&◌, ◌||◌, List, [], ◌∷◌, ◌++◌, length, map, filter, find, flat_map, Option, Some, None, is_some, unwrap_or, arith}
+use Rattle.std.proofs.Common.{◌≡◌, refl, sym, ap, subst, ◌∙◌, ⊎_elim, inl, inr, ℕ, ◌+◌, ◌≤◌, nat_eq, eqb-true, Bool, true, false, true≢false, cond, not, ◌&&◌, ◌||◌, List, [], ◌∷◌, map, filter, find, Option, Some, None, is_some, unwrap_or, arith}
 use Rattle.std.specs.List.{list_all}
 use Rattle.std.proofs.lemmas.Bool.{and_parts, or_cases}
 use Rattle.std.proofs.lemmas.Bool.Decides.{eqb_tells}
 use Rattle.vt_spec.specs.FileTree.{targets_in}
 use Rattle.vt_spec.specs.Lists.{folded, is_among}
 use Rattle.vt_spec.specs.Machine.Settled.{named_in, used_in}
-use Rattle.vt_spec.specs.Machine.World.{Filesystem, World, filesystem_numbered, is_overlay, no_filesystem}
+use Rattle.vt_spec.specs.Machine.World.{Filesystem, World, filesystem_numbered, no_filesystem}
 use Rattle.vt_spec.specs.Inodes.{Inodes, node_in}
 use Rattle.vt_spec.specs.Inodes as Trees
 use Rattle.vt_spec.specs.Tree.{Node}
@@ -15,7 +15,7 @@ use Rattle.vt_letting_go.specs.InUse.{HasTrees, InodesInUse, IsListedTree, is_in
 use Rattle.vt_letting_go.specs.OneByOne.{Inode, is_inode_among, let_go_inode, let_go_inode_of, let_go_inodes, without_inode}
 use Rattle.vt_letting_go.specs.OneByOne as LettingGo
 use Rattle.vt_letting_go.proofs.sweeps.InUse.{unused_are_empty}
-use Rattle.vt_letting_go.proofs.Lists.{Among, among-from_map, among_from_all, fails, flat_map-filter, flat_map_alike, none_passes, passes}
+use Rattle.vt_letting_go.proofs.Lists.{Among, among_from_all, flat_map-filter, flat_map_alike, passes}
 use Rattle.vt_one_text.specs.OneTree.{times_in}
 use Rattle.vt_one_text.proofs.one_tree.OneTreeCounts as Counts
 use Rattle.vt_one_text.proofs.one_tree.OneTreeCounts.{counted_pinned, some_inode}
@@ -227,7 +227,8 @@ module _ (world : World ℕ) (inode : Inode) (plain : LettingGo.IsPlain world) w
     -- it goes
     left_without : nat_eq k inode.0 ≡ true → inode_uses world f inode.1 ≡ 0 → IsLeft k world f (inode ∷ []) next gone_f
     left_without here zero_uses = record {
-      uses = λ n. plain_uses_are next (plain-step world inode plain) gone_f n ∙ ap (λ l. base_of world f n + times_in n l) named
+      uses = λ n. plain_uses_are next (plain-step world inode plain) gone_f n
+          ∙ ap (λ l. base_of world f n + times_in n l) named
           ∙ sym (plain_uses_are world plain f n);
       used = λ n some. ⊎_elim
           (λ t. absurd (let none : inode_uses world f n ≡ 0 = ap (inode_uses world f) t.1 ∙ zero_uses in omega arith))

@@ -1,21 +1,21 @@
 -- The sweep after a change of one plain tree, where inodes count their uses.
-use Rattle.std.proofs.Common.{◌≡◌, ◌≢◌, refl, sym, ap, subst, ◌∙◌, ⊎_elim, inl, inr, ◌⊎◌, ℕ, ◌+◌, ◌≤◌, nat_eq, eqb-true, eq-eqb, ne_eqb, Bool, true, false, true≢false, cond, not, ◌||◌, List, [], ◌∷◌, ◌++◌, map, filter, find, flat_map, Option, Some, None, is_some, option_map, unwrap_or, arith}
+use Rattle.std.proofs.Common.{◌≡◌, ◌≢◌, refl, sym, ap, subst, ◌∙◌, ⊎_elim, inl, inr, ℕ, ◌+◌, ◌≤◌, nat_eq, eqb-true, eq-eqb, ne_eqb, Bool, true, false, true≢false, cond, not, ◌||◌, List, [], ◌∷◌, ◌++◌, map, filter, find, flat_map, Option, Some, None, is_some, option_map, unwrap_or, arith}
 use Rattle.std.specs.List.{list_all}
 use Rattle.std.proofs.lemmas.Bool.{or_cases}
 use Rattle.vt_spec.specs.FileTree.{FileTree, targets_in}
 use Rattle.vt_spec.specs.Lists.{is_among}
 use Rattle.vt_spec.specs.Machine.Filesystems.{with_files}
-use Rattle.vt_spec.specs.Machine.Settled.{filesystem_lives, is_mounted, layers_in, located_in, named_in, objects_of_overlay, only_among, only_used, only_used_by, real_among, settled, used_in, without_dead_filesystems, without_dead_groups, without_dead_in, without_dead_inodes, without_dead_mounts}
+use Rattle.vt_spec.specs.Machine.Settled.{layers_in, located_in, named_in, objects_of_overlay, only_among, only_used, only_used_by, real_among, settled, used_in, without_dead_groups, without_dead_in, without_dead_inodes}
 use Rattle.vt_spec.specs.Machine.World.{Filesystem, Overlay, World, filesystem_numbered, is_overlay, no_filesystem, replaced_if_numbered}
 use Rattle.vt_spec.specs.Inodes.{Inode, Inodes, node_in, uses_in}
 use Rattle.vt_spec.specs.Tree.{Node}
 use Rattle.vt_letting_go.specs.Counts.{inode_uses, times}
-use Rattle.vt_letting_go.specs.InUse.{AllInUse, FilesystemsInUse, IsListedTree, is_inode_used}
+use Rattle.vt_letting_go.specs.InUse.{AllInUse, IsListedTree, is_inode_used}
 use Rattle.vt_letting_go.specs.OneByOne as LettingGo
 use Rattle.vt_letting_go.specs.TreeChanges.{with_tree}
-use Rattle.vt_letting_go.proofs.sweeps.InUse.{UnusedAreEmpty, filesystems_stay, groups_stay, mounts_stay, named-left}
+use Rattle.vt_letting_go.proofs.sweeps.InUse.{UnusedAreEmpty, groups_stay, named-left}
 use Rattle.vt_letting_go.proofs.Lists.{Among, all_pass, among-from_map, among_from_all, among_numbers, fails, map_same, none_passes, or_first, passes}
-use Rattle.vt_letting_go.proofs.leaving.PlacesLeft.{no_layers, no_layers_of}
+use Rattle.vt_letting_go.proofs.leaving.PlacesLeft.{no_layers_of}
 use Rattle.vt_one_text.specs.OneTree.{times_in}
 use Rattle.vt_one_text.proofs.one_tree.OneTreeCounts as Counts
 use Rattle.vt_one_text.proofs.one_tree.OneTreeEntries.{named_by, one_if}
@@ -285,7 +285,8 @@ module _ (world : World ℕ) (number : ℕ) (files : FileTree ℕ) (in_use : All
   no_overlays =
       ap (λ filesystems. record raw { filesystems = filesystems })
       (map_same (λ f. only_used nat_eq raw (is_overlay f) f) raw.filesystems
-      (λ f m. ap (λ b. only_used nat_eq raw b f) (fails is_overlay raw.filesystems (plain_after world number files in_use plain there) f m)))
+      (λ f m. ap (λ b. only_used nat_eq raw b f) (fails is_overlay raw.filesystems
+      (plain_after world number files in_use plain there) f m)))
 
   -- inodes of other filesystems stay
   used_same : (some : FileTree ℕ) (f : Filesystem ℕ)
@@ -346,7 +347,11 @@ module _ (world : World ℕ) (number : ℕ) (files : FileTree ℕ) (in_use : All
         by : (b : Bool) → list_all (λ n. is_among nat_eq n used) files.numbers ≡ b
             → only_used_by nat_eq b used new ≡ with_files old swept
         by true e = ap (with_files old) (all_kept e)
-        by false e = λ i. record old { files = swept; overlay = no_real old.overlay (plain_old world number files in_use plain there) i }
+        by false e = λ i. record old {
+          files = swept;
+          overlay =
+              no_real old.overlay (plain_old world number files in_use plain there) i;
+        }
 
     inodes_swept : without_dead_in nat_eq (λ f. not (is_overlay f)) raw ≡ done
     inodes_swept =

@@ -123,7 +123,11 @@ module _ (files : FileTree ℕ) (first : ℕ → Option (Real ℕ)) (fresh : Fre
 
   is_old : (number seen : ℕ) → upper_object (real number) ≡ Some seen → upper_of there number ≢ fresh 0
   is_old number seen has same =
-      sound.spared number seen has (0, sym (upper_is files first (IsNewBy fresh) real upper sound number seen has) ∙ same)
+      sound.spared number seen has (
+        0,
+        sym (upper_is files first (IsNewBy fresh) real upper sound number seen has)
+            ∙ same,
+      )
 
   module _ (directory : ℕ) (name : List ℕ) (number : ℕ) (node : Node ℕ) (seen : ℕ)
       (has : upper_object (real directory) ≡ Some seen) (reached : IsReachedDirectory files directory) where

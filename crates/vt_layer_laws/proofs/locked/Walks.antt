@@ -13,14 +13,13 @@ use Rattle.vt_spec.specs.Machine.Walk.{Follow, Here, LastWord, Stop, final_word,
 use Rattle.vt_spec.specs.Language.Limits.{most_symlinks}
 use Rattle.vt_spec.specs.Machine.Walk.LastWord.{Dot, DotDot, Named, NoWord}
 use Rattle.vt_spec.specs.Machine.World.{Descriptor, Task, World, all_locations, files_at, is_directory_at, locations_of, node_at, task_called}
-use Rattle.vt_spec.specs.Language.Calls.{same_name}
-use Rattle.vt_spec.specs.Machine.Invariants.{IsWorld, is_located_well, stands_on_directories}
+use Rattle.vt_spec.specs.Machine.Invariants.{IsWorld, is_located_well}
 use Rattle.vt_spec.proofs.Lists.{Among, among-flat_map, among-map, among_from_list_all}
 use Rattle.vt_spec.proofs.Nodes.{directory_used}
 use Rattle.vt_tree_laws.proofs.trees.TreesWalked.{Ends, ends_next, ends_then, ends_unless, ok_same}
 use Rattle.vt_tree_laws.proofs.trees.TreesEntered.{word_there}
 use Rattle.vt_tree_laws.proofs.trees.TreesOfMounts.{worlds_are_standing}
-use Rattle.vt_tree_laws.proofs.trees.TreesTasks.{called_there}
+use Rattle.vt_tree_laws.proofs.trees.TreesTasks.{called_there, called_stands}
 use Rattle.vt_spec.proofs.Found.{found_among}
 use Rattle.vt_spec.proofs.Truths.{and_true_left, and_true_right}
 
@@ -29,21 +28,18 @@ module _ (world : World ℕ) (conditions : IsWorld nat_eq world) (task : Task �
   abbrev There : Location ℕ → Type 0
   There location = is_some (node_at nat_eq world location) ≡ true
 
-  stands : stands_on_directories nat_eq world task ≡ true
-  stands = among_from_list_all
-      (stands_on_directories nat_eq world) world.tasks conditions.tasks.directories task
-      (called_there world.tasks task.name task called)
-
   directory_is : (location : Location ℕ) → is_directory_at nat_eq world location ≡ true → There location
   directory_is location is = directory_used (files_at nat_eq world location).tree location.node is
 
   root_there : There task.root
   root_there =
-      directory_is task.root (and_true_left (is_directory_at nat_eq world task.root) _ (and_true_left _ _ stands))
+      directory_is task.root (and_true_left (is_directory_at nat_eq world task.root) _ (and_true_left _ _
+      (called_stands world conditions task called)))
 
   own_there : There task.directory
   own_there = directory_is task.directory
-      (and_true_left (is_directory_at nat_eq world task.directory) _ (and_true_right _ _ stands))
+      (and_true_left (is_directory_at nat_eq world task.directory) _ (and_true_right _ _
+      (called_stands world conditions task called)))
 
   start_there : (directory : Location ℕ) (path : List ℕ) → There directory → There (start_of task directory path)
   start_there directory path is = by (is_absolute path)

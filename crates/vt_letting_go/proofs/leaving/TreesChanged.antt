@@ -52,7 +52,8 @@ module _ (world : World ℕ) (number : ℕ) (files : FileTree ℕ) (in_use : All
   is_new_or_old : (filesystem : Filesystem ℕ) → Among filesystem with_new.filesystems
       → (filesystem ≡ with_files before files) ⊎ Among filesystem world.filesystems
   is_new_or_old filesystem m =
-      let from = among-from_map (replaced_if_numbered nat_eq (with_files before files)) world.filesystems filesystem m in
+      let from =
+      among-from_map (replaced_if_numbered nat_eq (with_files before files)) world.filesystems filesystem m in
       by (nat_eq before.number from.0.number) from.0 from.1 from.2
     where
       by : (b : Bool) (f : Filesystem ℕ) → Among f world.filesystems → filesystem ≡ cond b (with_files before files) f
@@ -203,11 +204,13 @@ module _ (world : World ℕ) (number : ℕ) (files : FileTree ℕ) (unnamed : Li
 
   unnamed_goes : settled nat_eq after ≡ let_go after losers
   unnamed_goes =
-      all_goes_one_by_one after losers (plain_after world number files settles.in_use settles.plain there) trees_after (record {
+      all_goes_one_by_one after losers (plain_after world number files settles.in_use settles.plain there) trees_after
+      (record {
         mounts = settles.in_use.mounts;
         filesystems = subst (FilesystemsInUseBut []) (sym same_mounted)
             (filesystems_after world number files settles.in_use settles.plain there);
-        inodes = subst (InodesInUseBut losers.inodes) (sym (same_living world number files settles.in_use settles.plain there))
+        inodes = subst (InodesInUseBut losers.inodes) (sym (same_living world number files settles.in_use
+            settles.plain there))
             inodes_after;
         groups = subst (GroupsInUseBut []) (sym same_mounted) (λ group among none. settles.in_use.groups group none);
       })

@@ -1,5 +1,5 @@
 -- What goes after a change of mounts in worlds with overlays.
-use Rattle.std.proofs.Common.{not, refl, ◌≡◌, sym, ap, subst, ◌∙◌, ◌⊎◌, inl, inr, ⊎_elim, ℕ, nat_eq, true, ◌||◌, ◌&&◌, List, [], ◌∷◌, flat_map, ◌++◌, Option}
+use Rattle.std.proofs.Common.{not, refl, ◌≡◌, sym, ap, subst, ◌∙◌, inl, inr, ⊎_elim, ℕ, nat_eq, true, ◌||◌, ◌&&◌, List, [], ◌∷◌, flat_map, ◌++◌, Option}
 use Rattle.std.specs.List.{list_all}
 use Rattle.std.proofs.lemmas.Bool.{and_parts, or_cases}
 use Rattle.std.proofs.lemmas.List.Folds.{list_any-append}

@@ -24,7 +24,7 @@ use Rattle.vt_mount_laws.proofs.mounts.MountsFound.{found_there, placed_among, u
 use Rattle.vt_mount_laws.proofs.mounts.MountsNumbered.{is_one_of, same_number, same_origin}
 use Rattle.vt_mount_laws.proofs.mounts.MountsReplaced.{found-with_mount_itself, found_itself, numbers-with_mount, one_number_by_numbers}
 use Rattle.vt_spec.proofs.Truths.{nat_eq_false_turned}
-use Rattle.vt_spec.proofs.Worlds.{number-mount_in, found_or_none}
+use Rattle.vt_spec.proofs.Worlds.{number-mount_in}
 
 -- mounts that are replaced by others with numbers of their own are found
 pub found_folded : (mounts copies : List (Mount ℕ)) → OneNumberAMount copies → (copy : Mount ℕ) → Among copy copies

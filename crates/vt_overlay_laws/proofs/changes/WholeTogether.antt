@@ -1,5 +1,5 @@
 -- A whole change of an overlay: copies first, and then what is asked.
-use Rattle.std.proofs.Common.{true, ◌⊎◌, ⊎_elim, inl, inr, ◌*◌, ◌+◌, ◌≡◌, ◌≢◌, sym, subst, ◌∙◌, ℕ, nat_eq, None, refl, ap, List, [], ◌∷◌, ◌++◌, ◌&&◌, ◌||◌, map, not, false, Option, Some, is_some, option_and_then, unwrap_or}
+use Rattle.std.proofs.Common.{true, ◌⊎◌, ⊎_elim, inl, inr, ◌*◌, ◌+◌, ◌≡◌, sym, subst, ◌∙◌, ℕ, nat_eq, None, refl, ap, List, [], ◌∷◌, ◌++◌, ◌&&◌, ◌||◌, map, not, false, Option, Some, is_some, option_and_then, unwrap_or}
 use Rattle.vt_spec.specs.Language.Changes.Change.{AddName, CopyUp, Make, Move, Remove, SetAttr, SetBytes, SetMark}
 use Rattle.vt_spec.specs.Lists.{Fresh, evens, odds}
 use Rattle.vt_spec.specs.Machine.CopyUp.{Merge, Stack, copied_up, path_to, upper_of}

@@ -22,7 +22,7 @@ use Rattle.vt_layer_laws.specs.Layers.Mounted.{IsAlike}
 use Rattle.vt_layer_laws.specs.Layers.Shown.{IsFrontOf}
 use Rattle.vt_layer_laws.specs.Layers.Views.{goes_through, names_entry, view_in}
 use Rattle.vt_overlay_laws.specs.WhatIsShown.{IsWhole, RemoveKeepsShown, real_seen}
-use Rattle.vt_layer_laws.proofs.layers.CopyingParts.{parent_keeps, without_entries_keeps, without_entry_keeps}
+use Rattle.vt_layer_laws.proofs.layers.CopyingParts.{without_entry_keeps}
 use Rattle.vt_layer_laws.proofs.layers.LowersKept.{kept_elsewhere}
 use Rattle.vt_layer_laws.proofs.layers.ShownAlike.{white_alike}
 use Rattle.vt_layer_laws.proofs.layers.ShownDirectories.{append_assoc, last_of, led_is_there}
@@ -36,7 +36,7 @@ use Rattle.vt_layer_laws.proofs.views.Lower.{way_goes_elsewhere}
 use Rattle.vt_layer_laws.proofs.views.Entries.{taken}
 use Rattle.vt_layer_laws.proofs.views.Fronts.{prefixes_agree, hides_so, hiding_alike}
 use Rattle.vt_layer_laws.proofs.views.Moves.{no_way_up, through_is_split}
-use Rattle.vt_layer_laws.proofs.views.Names.{alike_after, alike_both, alike_same, make_adds_inode, make_ends_paths, names_leave_inodes, no_entries, remove_takes_path}
+use Rattle.vt_layer_laws.proofs.views.Names.{alike_after, alike_both, make_adds_inode, make_ends_paths, names_leave_inodes, no_entries, remove_takes_path}
 use Rattle.vt_layer_laws.proofs.views.Stay.{led_where}
 use Rattle.vt_layer_laws.proofs.views.Walks.{entry_gone, goes_through_it}
 use Rattle.vt_overlay_laws.proofs.steps.WholeAttributes.{top_open, upper_real}

@@ -1,8 +1,7 @@
 -- Permits with other numbers.
-use Rattle.std.proofs.Common.{◌≡◌, refl, ap, sym, true≢false, ℕ, Bool, true, ◌&&◌, List, [], ◌∷◌, Option, Some, None}
-use Rattle.std.specs.Prelude.{map, option_map}
-use Rattle.std.specs.List.{list_all}
-use Rattle.vt_laws.specs.Numbers.{content_named, location_named, node_named, none_or}
+use Rattle.std.proofs.Common.{◌≡◌, refl, ap, sym, true≢false, ℕ, Bool, true, ◌&&◌, Option}
+use Rattle.std.specs.Prelude.{option_map}
+use Rattle.vt_laws.specs.Numbers.{location_named, node_named, none_or}
 use Rattle.vt_laws.proofs.numbers.Commuting.{Named, node_itself, option_itself, change_itself}
 use Rattle.vt_laws.proofs.numbers.Renamings.{overlay_itself}
 use Rattle.vt_laws.specs.Renaming.{Leaves, Renaming, renamed_change}
@@ -12,9 +11,7 @@ use Rattle.vt_spec.specs.Language.Changes.Change.{AddName, CopyUp, Make, Move, R
 use Rattle.vt_spec.specs.Machine.Mounts.{Location}
 use Rattle.vt_spec.specs.Machine.Permits.{Permit}
 use Rattle.vt_spec.specs.Machine.Permits.Permit.{Allowed, ToBind, ToChange, ToClose, ToEnterNamespace, ToExit, ToFork, ToList, ToListMounts, ToMake, ToMountOverlay, ToMountPlain, ToMove, ToOpen, ToOpenNew, ToPivot, ToRead, ToReadPart, ToRemoveDirectory, ToRename, ToSetCredentials, ToSetDirectory, ToSetFlags, ToSetRoot, ToSetType, ToSetUmask, ToStat, ToUnmount, ToUnmountLazily, ToUnshare, ToWritePart}
-use Rattle.vt_spec.specs.Machine.Renaming.{renamed_content, renamed_entry, renamed_location, renamed_node}
-use Rattle.vt_spec.specs.Tree.{Content, Node}
-use Rattle.vt_spec.specs.Tree.Content.{Directory, Regular, Symlink, Whiteout}
+use Rattle.vt_spec.specs.Machine.Renaming.{renamed_location}
 use Rattle.std.proofs.lemmas.Bool.{and_parts}
 use Rattle.vt_laws.proofs.numbers.NamedWorlds.{location_left, node_left, option_left}
 
@@ -79,7 +76,8 @@ module _ (named : ℕ → Bool) (renaming : Renaming ℕ ℕ) (leaves : Leaves r
   change_left (Make directory name number node) e =
       let last = and_parts (named directory && named number) (node_named named node) e in
       let first = and_parts (named directory) (named number) last.0 in
-      λ i. Make (leaves directory first.0 i) name (leaves number first.1 i) (node_left named renaming leaves node last.1 i)
+      λ i. Make (leaves directory first.0 i) name (leaves number first.1 i)
+      (node_left named renaming leaves node last.1 i)
   change_left (AddName directory name object) e =
       let parts = and_parts (named directory) (named object) e in
       λ i. AddName (leaves directory parts.0 i) name (leaves object parts.1 i)
@@ -100,16 +98,19 @@ module _ (named : ℕ → Bool) (renaming : Renaming ℕ ℕ) (leaves : Leaves r
   permit_left (ToList directory) e = ap ToList (location_left named renaming leaves directory e)
   permit_left (ToStat object) e = ap ToStat (location_left named renaming leaves object e)
   permit_left (ToRead file) e = ap ToRead (location_left named renaming leaves file e)
-  permit_left (ToReadPart file offset size) e = λ i. ToReadPart (location_left named renaming leaves file e i) offset size
+  permit_left (ToReadPart file offset size) e =
+      λ i. ToReadPart (location_left named renaming leaves file e i) offset size
   permit_left (ToChange location change) e =
       let parts = and_parts (location_named named location) (change_named named change) e in
       λ i. ToChange (location_left named renaming leaves location parts.0 i) (change_left change parts.1 i)
   permit_left (ToMake directory name node) e =
       let parts = and_parts (location_named named directory) (node_named named node) e in
-      λ i. ToMake (location_left named renaming leaves directory parts.0 i) name (node_left named renaming leaves node parts.1 i)
+      λ i. ToMake (location_left named renaming leaves directory parts.0 i) name
+      (node_left named renaming leaves node parts.1 i)
   permit_left (ToRemoveDirectory parent name directory) e =
       let parts = and_parts (location_named named parent) (location_named named directory) e in
-      λ i. ToRemoveDirectory (location_left named renaming leaves parent parts.0 i) name (location_left named renaming leaves directory parts.1 i)
+      λ i. ToRemoveDirectory (location_left named renaming leaves parent parts.0 i) name
+      (location_left named renaming leaves directory parts.1 i)
   permit_left (ToRename from old to new object replaced) e =
       let last =
       and_parts (location_named named from && location_named named to && location_named named object)
@@ -117,13 +118,16 @@ module _ (named : ℕ → Bool) (renaming : Renaming ℕ ℕ) (leaves : Leaves r
       let next = and_parts (location_named named from && location_named named to)
       (location_named named object) last.0 in
       let first = and_parts (location_named named from) (location_named named to) next.0 in
-      λ i. ToRename (location_left named renaming leaves from first.0 i) old (location_left named renaming leaves to first.1 i) new (location_left named renaming leaves object next.1 i)
+      λ i. ToRename (location_left named renaming leaves from first.0 i) old
+      (location_left named renaming leaves to first.1 i) new (location_left named renaming leaves object next.1 i)
       (places_left replaced last.1 i)
   permit_left (ToOpen file access) e = λ i. ToOpen (location_left named renaming leaves file e i) access
   permit_left (ToOpenNew directory name node access) e =
       let parts = and_parts (location_named named directory) (node_named named node) e in
-      λ i. ToOpenNew (location_left named renaming leaves directory parts.0 i) name (node_left named renaming leaves node parts.1 i) access
-  permit_left (ToWritePart file offset bytes) e = λ i. ToWritePart (location_left named renaming leaves file e i) offset bytes
+      λ i. ToOpenNew (location_left named renaming leaves directory parts.0 i) name
+      (node_left named renaming leaves node parts.1 i) access
+  permit_left (ToWritePart file offset bytes) e =
+      λ i. ToWritePart (location_left named renaming leaves file e i) offset bytes
   permit_left (ToClose descriptor) e = refl
   permit_left (ToSetDirectory directory) e = ap ToSetDirectory (location_left named renaming leaves directory e)
   permit_left (ToSetRoot root) e = ap ToSetRoot (location_left named renaming leaves root e)
@@ -137,7 +141,8 @@ module _ (named : ℕ → Bool) (renaming : Renaming ℕ ℕ) (leaves : Leaves r
   permit_left (ToMountOverlay place overlay flags) e = absurd (true≢false (sym e))
   permit_left (ToBind source place recursive) e =
       let parts = and_parts (location_named named source) (location_named named place) e in
-      λ i. ToBind (location_left named renaming leaves source parts.0 i) (location_left named renaming leaves place parts.1 i) recursive
+      λ i. ToBind (location_left named renaming leaves source parts.0 i)
+      (location_left named renaming leaves place parts.1 i) recursive
   permit_left (ToMove mount place) e =
       let parts = and_parts (named mount) (location_named named place) e in
       λ i. ToMove (leaves mount parts.0 i) (location_left named renaming leaves place parts.1 i)

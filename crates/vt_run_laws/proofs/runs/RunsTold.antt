@@ -8,7 +8,7 @@ use Rattle.vt_laws.proofs.numbers.Stages.{stage, stage_rows}
 use Rattle.vt_laws.proofs.numbers.Supports.{opening_alike, opening_keeps_to_four, named_supply}
 use Rattle.vt_laws.proofs.numbers.Texts.{joined-early, joined-new, joined-same, joined_with_row, refused_keeps, stage_serves, first_early, line_alike, line_leads, refused_alike, refused_leads, whole_machine_has_one_text, worlds_keep_to_hand}
 use Rattle.vt_laws.specs.Numbers.{KeepsTo, TellsWithRoom, first_four, is_in_hand}
-use Rattle.vt_laws.proofs.numbers.Commuting.{Named, commutes_nat}
+use Rattle.vt_laws.proofs.numbers.Commuting.{commutes_nat}
 use Rattle.vt_laws.specs.Renaming.{Renaming}
 use Rattle.vt_run_laws.proofs.answered.AlikeLines.{line_step_alike}
 use Rattle.vt_run_laws.proofs.answered.AlikeRenamed.{same_renamed}

@@ -69,7 +69,8 @@ pub few_of : (world : World ℕ) → has_too_many nat_eq world ≡ false → (na
     → Among namespace world.namespaces
     → nat_lt most_mounts (count_in world.mounts namespace.number) ≡ false
 few_of world few namespace m =
-    none_among (λ (n : Namespace ℕ). nat_lt most_mounts (count_in world.mounts n.number)) world.namespaces few namespace m
+    none_among (λ (n : Namespace ℕ). nat_lt most_mounts (count_in world.mounts n.number)) world.namespaces few
+    namespace m
 
 pub few_after : (world after : World ℕ) → NoMore after.mounts world.mounts
     → ((namespace : Namespace ℕ) → Among namespace after.namespaces → Among namespace world.namespaces)
@@ -77,7 +78,8 @@ pub few_after : (world after : World ℕ) → NoMore after.mounts world.mounts
 few_after world after no_more within few =
     none_from_among (λ (n : Namespace ℕ). nat_lt most_mounts (count_in after.mounts n.number)) after.namespaces
     (λ namespace m.
-    not_too_many (count_in after.mounts namespace.number) (count_in world.mounts namespace.number) (no_more namespace.number)
+    not_too_many (count_in after.mounts namespace.number) (count_in world.mounts namespace.number)
+    (no_more namespace.number)
     (few_of world few namespace (within namespace m)))
 
 -- a world with the same namespaces, none of which has more mounts
@@ -96,7 +98,8 @@ pub shrinks_then : (a b c : World ℕ) → Shrinks c b → Shrinks b a → Shrin
 shrinks_then a b c later first =
     (λ number. below number (later.0 number) (first.0 number), later.1 ∙ first.1)
   where
-    below : (number : ℕ) → count_in c.mounts number ≤ count_in b.mounts number → count_in b.mounts number ≤ count_in a.mounts number
+    below : (number : ℕ) → count_in c.mounts number ≤ count_in b.mounts number → count_in b.mounts number
+        ≤ count_in a.mounts number
         → count_in c.mounts number ≤ count_in a.mounts number
     below number x y = omega (arith, x, y)
 

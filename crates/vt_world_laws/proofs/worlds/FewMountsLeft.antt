@@ -146,7 +146,8 @@ module _ (fresh : Fresh ℕ) (world : World ℕ) (whole : IsWorld nat_eq world) 
               ∙ serves.unused (2 * 0)))
           test false f = f
 
-  counts : (number : ℕ) → count_in (world.mounts ++ copies) number ≡ count_in world.mounts number + count_in copies number
+  counts : (number : ℕ) → count_in (world.mounts ++ copies) number
+      ≡ count_in world.mounts number + count_in copies number
   counts number =
       ap length (filter-append (is_in number) world.mounts copies)
       ∙ length-append (filter (is_in number) world.mounts) (filter (is_in number) copies)
@@ -167,7 +168,8 @@ module _ (fresh : Fresh ℕ) (world : World ℕ) (whole : IsWorld nat_eq world) 
       ap (λ n. nat_lt most_mounts (count_in world.mounts n)) from.2
       ∙ few_of world whole.namespaces.few_mounts from.0 from.1
 
-  in_new : (number : ℕ) → nat_eq number new ≡ true → nat_lt most_mounts (count_in (world.mounts ++ copies) number) ≡ false
+  in_new : (number : ℕ) → nat_eq number new ≡ true → nat_lt most_mounts (count_in (world.mounts ++ copies) number)
+      ≡ false
   in_new number e =
       not_too_many (count_in (world.mounts ++ copies) number) (length own)
       (bound (counts number)
@@ -180,7 +182,8 @@ module _ (fresh : Fresh ℕ) (world : World ℕ) (whole : IsWorld nat_eq world) 
           → count_in (world.mounts ++ copies) number ≤ length own
       bound a b c d = omega (arith, a, b, c, d)
 
-  in_old : (number : ℕ) → nat_eq number new ≡ false → count_in (world.mounts ++ copies) number ≤ count_in world.mounts number
+  in_old : (number : ℕ) → nat_eq number new ≡ false → count_in (world.mounts ++ copies) number
+      ≤ count_in world.mounts number
   in_old number other =
       bound (counts number) (none_counted copies number (copy_is_new number other))
     where

@@ -9,7 +9,6 @@ use Rattle.vt_spec.specs.Machine.Attach.{has_too_many}
 use Rattle.vt_spec.specs.Machine.Judge.{Judgement}
 use Rattle.vt_spec.specs.Lists.{Fresh, holds_of}
 use Rattle.vt_spec.specs.Machine.Permits.{Permit}
-use Rattle.vt_spec.specs.Machine.Permits.Permit.{ToBind, ToMountOverlay, ToMountPlain, ToMove}
 use Rattle.vt_spec.specs.Machine.Walk.{Stop, walk_end}
 use Rattle.vt_spec.specs.Machine.World.{Task, World}
 use Rattle.vt_tree_laws.proofs.trees.TreesWalked.{Ends, Passed}

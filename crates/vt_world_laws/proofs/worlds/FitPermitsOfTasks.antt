@@ -6,7 +6,7 @@ use Rattle.vt_spec.specs.declared.attributes.Kind.TheVariants.{File}
 use Rattle.vt_spec.specs.declared.errors.Deny.{Deny}
 use Rattle.vt_spec.specs.declared.errors.Rule.TheVariants.{K1, S2, S4}
 use Rattle.vt_spec.specs.Errors.{denial}
-use Rattle.vt_spec.specs.Language.Calls.{Access, Creation, ForkWords, TaskName, same_name}
+use Rattle.vt_spec.specs.Language.Calls.{Access, Creation, ForkWords, TaskName}
 use Rattle.vt_spec.specs.Language.Calls.Creation.{Exclusive, NoCreation, OrCreate}
 use Rattle.vt_spec.specs.FileTree.{is_kind_in}
 use Rattle.vt_spec.specs.Machine.Judge.{Judgement, chdir_permit, chroot_permit, close_permit, create_file_permit, fork_permit, open_by_permit, open_file_permit, open_new_permit, open_permit, opened_or_created_permit, pread_permit, pwrite_permit, setns_permit, unnumbered, unshare_permit}

@@ -1,35 +1,31 @@
 -- A permit that fits keeps the names of tasks apart, where tasks have counted their forks; and they go on counting
 -- them.
-use Rattle.std.proofs.Common.{◌≡◌, refl, ap, ◌∙◌, ℕ, nat_eq, Bool, true, false, List, [], ◌∷◌, map}
+use Rattle.std.proofs.Common.{refl, ap, ◌∙◌, ℕ, nat_eq, map}
 use Rattle.std.specs.Prelude.{unwrap_or}
 use Rattle.vt_spec.specs.Machine.Apply.{apply}
-use Rattle.vt_spec.specs.Language.Changes.Change.{CopyUp, Make, Move, Remove}
-use Rattle.vt_spec.specs.Language.Changes.{Change}
+use Rattle.vt_spec.specs.Language.Changes.Change.{Make, Move, Remove}
 use Rattle.vt_spec.specs.Machine.Detach.{going, without_mounts_on}
-use Rattle.vt_spec.specs.Machine.Filesystems.{with_change}
 use Rattle.vt_spec.specs.Lists.{Fresh, evens, odds}
 use Rattle.vt_spec.specs.Machine.Mounts.{Location, numbers_by}
 use Rattle.vt_spec.specs.Machine.Namespaces.{entered_at, namespace_entered, namespace_root, unshared, unshared_task}
-use Rattle.vt_spec.specs.Machine.Outcome.Descriptors.{is_copied_up, pwritten, with_copy, with_descriptor, without_descriptor}
+use Rattle.vt_spec.specs.Machine.Outcome.Descriptors.{is_copied_up, with_descriptor, without_descriptor}
 use Rattle.vt_spec.specs.Machine.Outcome.Removing.{without_replaced}
 use Rattle.vt_spec.specs.Machine.Permits.{Permit}
 use Rattle.vt_spec.specs.Machine.Permits.Permit.{Allowed, ToBind, ToChange, ToClose, ToEnterNamespace, ToExit, ToFork, ToList, ToListMounts, ToMake, ToMountOverlay, ToMountPlain, ToMove, ToOpen, ToOpenNew, ToPivot, ToRead, ToReadPart, ToRemoveDirectory, ToRename, ToSetCredentials, ToSetDirectory, ToSetFlags, ToSetRoot, ToSetType, ToSetUmask, ToStat, ToUnmount, ToUnmountLazily, ToUnshare, ToWritePart}
 use Rattle.vt_spec.specs.Machine.World.{Task, World, mount_at, mount_numbered, mounts_of, replaced_if_called, without_task}
-use Rattle.vt_spec.specs.Language.Calls.{same_name}
 use Rattle.vt_spec.specs.Machine.Invariants.{ForksAreCounted, TaskInvariants}
 use Rattle.vt_mount_laws.proofs.mounts.MountsRetyped.{types_are_of_mounts}
 use Rattle.vt_mount_laws.proofs.ends.UnmountingEnds.{lazy_is_of_mounts}
 use Rattle.vt_world_laws.specs.Worlds.Kept.{KeptByAllPermits, KeptByPermits}
 use Rattle.vt_world_laws.specs.Worlds.Permits.{NamesWhatIsThere}
 use Rattle.vt_world_laws.specs.Worlds.Tasks.{OneTaskAName}
-use Rattle.vt_world_laws.proofs.worlds.PermitsPlaced.{permits_keep_directories, permits_keep_locations, permits_keep_open_files, tasks-with_copy, tasks-pwritten}
+use Rattle.vt_world_laws.proofs.worlds.PermitsPlaced.{permits_keep_directories, permits_keep_locations, permits_keep_open_files}
 use Rattle.vt_world_laws.proofs.worlds.PermitsSeen.{gone_on}
 use Rattle.vt_world_laws.proofs.TasksNamed.{GoOn, counted_among, counted_from, go_on_apart, go_on_counted}
 use Rattle.vt_world_laws.proofs.TasksNamed.GoOn.{all_moved, one_changed, one_left, one_more, same_ones}
-use Rattle.vt_spec.proofs.Found.{found_among}
 use Rattle.vt_spec.proofs.Worlds.{tasks-taken_away, tasks-with_change, tasks-without_replaced}
 use Rattle.vt_tree_laws.specs.Trees.Limits.{HasSmallTasks}
-use Rattle.vt_tree_laws.proofs.trees.TreesTasks.{called_there}
+use Rattle.vt_tree_laws.proofs.trees.TreesTasks.{called_there, tasks-with_copy, tasks-pwritten}
 
 module _ (world : World ℕ) (fresh : Fresh ℕ) (task : Task ℕ) where
   abbrev after : Permit ℕ → World ℕ

@@ -1,19 +1,17 @@
 -- A permit that fits leaves each task on directories that are there, with regular files open.
-use Rattle.std.proofs.Common.{◌≡◌, refl, sym, ap, subst, ◌∙◌, ⊎_elim, ℕ, nat_eq, Bool, true, false, not, List, [], ◌∷◌, Some, is_some, map}
+use Rattle.std.proofs.Common.{◌≡◌, refl, sym, ap, subst, ◌∙◌, ⊎_elim, ℕ, nat_eq, true, false, not, List, [], ◌∷◌, Some, is_some, map}
 use Rattle.std.specs.Prelude.{unwrap_or, ◌==◌, ◌+◌}
 use Rattle.std.proofs.lemmas.Bool.{and_from, and_parts}
 use Rattle.vt_spec.specs.declared.attributes.Kind.TheVariants.{File}
 use Rattle.vt_spec.specs.Machine.Apply.{apply}
 use Rattle.vt_spec.specs.Language.Calls.{Access, same_name}
-use Rattle.vt_spec.specs.Language.Changes.{Change}
-use Rattle.vt_spec.specs.Language.Changes.Change.{CopyUp, Make, Move, Remove}
+use Rattle.vt_spec.specs.Language.Changes.Change.{Make, Move, Remove}
 use Rattle.vt_spec.specs.Machine.Detach.{going, without_mounts_on}
-use Rattle.vt_spec.specs.Machine.Filesystems.{with_change}
 use Rattle.vt_spec.specs.FileTree.{is_kind}
 use Rattle.vt_spec.specs.Lists.{Fresh, evens, holds_of, odds}
 use Rattle.vt_spec.specs.Machine.Mounts.{Location, numbers_by}
 use Rattle.vt_spec.specs.Machine.Namespaces.{entered_at, namespace_entered, namespace_root, namespaces_ended, pivoted_task, unshared, unshared_task}
-use Rattle.vt_spec.specs.Machine.Outcome.Descriptors.{is_copied_up, pwritten, with_copy, with_descriptor, without_descriptor}
+use Rattle.vt_spec.specs.Machine.Outcome.Descriptors.{is_copied_up, with_descriptor, without_descriptor}
 use Rattle.vt_spec.specs.Machine.Outcome.Removing.{without_replaced}
 use Rattle.vt_spec.specs.Machine.Outcome.Tasks.{child_of}
 use Rattle.vt_spec.specs.Machine.Permits.{Permit}
@@ -22,7 +20,7 @@ use Rattle.vt_spec.specs.Machine.Run.{Serves}
 use Rattle.vt_spec.specs.Machine.World.{Descriptor, Task, World, filesystem_at, mount_at, mount_numbered, mounts_of, node_at, replaced_if_called, task_called, without_task}
 use Rattle.vt_spec.specs.Machine.Invariants.{IsWorld}
 use Rattle.vt_spec.specs.Tree.{Node, kind_of}
-use Rattle.vt_spec.proofs.Lists.{Among, among-append, among-from_filter, among-from_map}
+use Rattle.vt_spec.proofs.Lists.{among-append, among-from_filter, among-from_map}
 use Rattle.vt_mount_laws.specs.Mounts.Attaching.{is_mount}
 use Rattle.vt_mount_laws.proofs.mounts.MountsRetyped.{types_are_of_mounts}
 use Rattle.vt_mount_laws.proofs.ends.UnmountingEnds.{lazy_is_of_mounts}
@@ -38,9 +36,8 @@ use Rattle.vt_world_laws.proofs.worlds.Roots.{namespace_root_stands, own_there, 
 use Rattle.vt_world_laws.proofs.worlds.Seen.{KeepsWhatIsSeen, kind_is, kind_seen, seen_alike, there_is}
 use Rattle.vt_world_laws.proofs.Plain.{plain_numbered}
 use Rattle.vt_world_laws.proofs.worlds.SeenMerges.{new_inode_seen}
-use Rattle.vt_spec.proofs.Found.{found_among}
 use Rattle.vt_spec.proofs.Worlds.{tasks-taken_away, tasks-with_change, tasks-without_replaced}
-use Rattle.vt_tree_laws.proofs.trees.TreesTasks.{called_there}
+use Rattle.vt_tree_laws.proofs.trees.TreesTasks.{called_there, tasks-with_copy, tasks-pwritten}
 
 -- where a walk led
 pub reached_stands : (world : World ℕ) (task : Task ℕ) (location : Location ℕ) → IsReachedDirectory world task location
@@ -63,17 +60,6 @@ opened_placed world task file access at opens =
           ⊎_elim (λ e. subst (λ (d : Descriptor ℕ). OpensAt world d.location) (sym e) opens) (at.files descriptor)
           (among-inserted _ task.descriptors descriptor m);
     }
-
--- a file that is copied up, or written, leaves the tasks as they were
-pub tasks-with_copy : (fresh : Fresh ℕ) (world : World ℕ) (copies : Bool) (file : Location ℕ)
-    → (with_copy nat_eq copies fresh world file).tasks ≡ world.tasks
-tasks-with_copy fresh world true file = tasks-with_change fresh world file (CopyUp file.node)
-tasks-with_copy fresh world false file = refl
-
-pub tasks-pwritten : (fresh : Fresh ℕ) (world : World ℕ) (file : Location ℕ) (offset : ℕ) (bytes : List ℕ)
-    → (pwritten nat_eq fresh world file offset bytes).tasks ≡ world.tasks
-tasks-pwritten fresh world file offset [] = refl
-tasks-pwritten fresh world file offset (byte ∷ bytes) = tasks-with_change fresh world file _
 
 -- A new file is made where there is a layer to write to: EROFS of open(2)
 abbrev pub HasLayerToWrite : World ℕ → Permit ℕ → Type 0

@@ -10,7 +10,7 @@ use Rattle.vt_spec.specs.declared.attributes.Kind.TheVariants.{File}
 use Rattle.vt_spec.specs.FileTree.{is_kind, is_kind_in}
 use Rattle.vt_spec.specs.Lists.{holds_of, is_among}
 use Rattle.vt_spec.specs.Machine.Mounts.{Location, Mount, mount_in}
-use Rattle.vt_spec.specs.Machine.World.{World, filesystem_numbered, is_directory_at, mount_at, mount_numbered, node_at}
+use Rattle.vt_spec.specs.Machine.World.{World, is_directory_at, mount_at, mount_numbered, node_at}
 use Rattle.vt_spec.specs.Machine.Invariants.{is_located_well, is_there}
 use Rattle.vt_spec.specs.Rights.{is_directory}
 use Rattle.vt_spec.specs.Tree.{Node, is_directory_node, kind_of}

@@ -2,7 +2,7 @@
 use Rattle.std.proofs.Common.{◌≡◌, refl, sym, ap, ◌∙◌, Bool, List, [], None, eq-eqb, eqb-true, true≢false, Option, Some, cond, false, flat_map, map, nat_eq, option_map, true, unwrap_or, ℕ, ◌+◌, ◌∷◌, inl, inr}
 use Rattle.std.proofs.lemmas.List.Folds.{flat_map-map}
 use Rattle.std.proofs.lemmas.Bool.{false_from_ne_true}
-use Rattle.vt_spec.proofs.Lists.{Among, among-append_left, among-append_right, among-filter, among-from_filter, among-map}
+use Rattle.vt_spec.proofs.Lists.{Among, among-filter, among-from_filter}
 use Rattle.vt_spec.specs.FileTree.{path_down}
 use Rattle.vt_spec.specs.Machine.Listing.{groups_shown, mount_line, number_among, mount_point_spot, root_spot, spot_of, type_line}
 use Rattle.vt_spec.specs.Lists.{Fresh, each_once, evens, holds_of, odds, index_from}
@@ -12,10 +12,8 @@ use Rattle.vt_spec.specs.Language.Answers.{Spot}
 use Rattle.vt_spec.specs.Machine.Run.{Serves}
 use Rattle.vt_spec.specs.Machine.World.{Task, World, filesystem_numbered, is_overlay, mount_numbered, mounts_of}
 use Rattle.vt_spec.specs.Machine.Invariants.{MountInvariants}
-use Rattle.vt_mount_laws.specs.Mounts.Attaching.{OneNumberAMount}
 use Rattle.vt_mount_laws.specs.Mounts.Propagation.{UnshareListsOthersTheSame, UnshareListsTheSame}
-use Rattle.vt_mount_laws.proofs.mounts.MountsNumbered.{is_one_of, one_index, unshare_keeps_numbers}
-use Rattle.vt_mount_laws.proofs.mounts.MountsReplaced.{found_itself}
+use Rattle.vt_mount_laws.proofs.mounts.MountsNumbered.{is_one_of, one_index}
 use Rattle.vt_mount_laws.proofs.namespaces.Unsharing.{itself, parent_of, copy_found, old_found}
 use Rattle.vt_mount_laws.proofs.namespaces.UnsharingNamespaces.{unshare_copies_mounts, unshare_leaves_namespaces}
 use Rattle.vt_spec.proofs.FreshNumbers.{odds-distinct, served-distinct}
