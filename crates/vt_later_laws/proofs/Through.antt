@@ -38,8 +38,7 @@ use Rattle.vt_later_laws.proofs.Stays.{still_called, still_seen}
 use Rattle.vt_spec.proofs.Refusals.{passing, same_ok}
 use Rattle.vt_spec.proofs.Found.{found_among}
 use Rattle.vt_spec.proofs.Options.{and_then-Ok}
-use Rattle.vt_tree_laws.proofs.trees.TreesTasks.{called_there}
-use Rattle.vt_world_laws.proofs.worlds.PermitsPlaced.{tasks-pwritten}
+use Rattle.vt_tree_laws.proofs.trees.TreesTasks.{called_there, tasks-pwritten}
 
 -- bytes with zeros after them, as long as they must be
 padded_long : (offset : ℕ) (old : List ℕ) → length (padded offset old) ≡ length old + (offset - length old)

@@ -232,7 +232,8 @@ module _ (world : World ℕ) (fresh : Fresh ℕ) (place : Location ℕ) (first :
   push_among : (mount : Mount ℕ) → Among mount world.mounts → Among (push_it mount) after.mounts
   push_among mount m =
       subst (λ x. Among x after.mounts) (kept_itself mount m)
-      (found_there after.mounts mount.number (later_number world fresh place first there mount.number (is_one_of world.mounts mount m)))
+      (found_there after.mounts mount.number (later_number world fresh place first there mount.number
+      (is_one_of world.mounts mount m)))
 
   copy_among : (part : Mount ℕ) → IsPart it part → Among (copy part) after.mounts
   copy_among part c =
@@ -242,7 +243,8 @@ module _ (world : World ℕ) (fresh : Fresh ℕ) (place : Location ℕ) (first :
       → receives nat_eq after group (push_it part) ≡ true
   hears_later part c group e =
       let t = heard world part group (hears_group world fresh place first there part c group e) in
-      hears after groups_later (push_it part) (push_among part (part_old world fresh place first there part c)) t.0 group
+      hears after groups_later (push_it part) (push_among part (part_old world fresh place first there part c)) t.0
+      group
       (ap source_of (keeps part).propagation ∙ t.1)
       (old_up_after world (supply it can) place false (first ∷ []) (serve_images it can) can.each_once t.0 group
       (lives_in world can.groups part (part_old world fresh place first there part c) t.0 t.1) t.2)
@@ -315,7 +317,8 @@ module _ (world : World ℕ) (fresh : Fresh ℕ) (place : Location ℕ) (first :
           at_receiver (record { mount = destination.number; node = place.node }) group (push_it part) (copy part)
           (copy_stands destination destination_part)
           (destination_later ∙ e)
-          (contains_from_among after.mounts (push_it part) (push_among part (part_old world fresh place first there part c)))
+          (contains_from_among after.mounts (push_it part) (push_among part
+          (part_old world fresh place first there part c)))
           (receives_soundly after group (push_it part) (hears_later part c group e))
           (found_at_its_place after.mounts one_place (copy part) (copy_among part c)
           (record { mount = (push_it part).number; node = place.node })
@@ -375,7 +378,8 @@ module _ (world : World ℕ) (fresh : Fresh ℕ) (place : Location ℕ) (first :
           (record { mount = part.number; node = place.node })
           (sym risen.2 ∙ stands_there (record { mount = part.number; node = place.node }) mount stood) in
           let one : risen.0 ≡ part =
-          sym (found_itself world.mounts can.one_number risen.0 (part_old world fresh place first there risen.0 risen.1))
+          sym (found_itself world.mounts can.one_number risen.0 (part_old world fresh place first there risen.0
+          risen.1))
           ∙ ap (λ (l : Location ℕ). mount_numbered nat_eq world l.mount) here
           ∙ found_itself world.mounts can.one_number part (part_old world fresh place first there part c) in
           risen.3 ∙ ap (λ x. Some (root_of (copy x))) one
@@ -475,7 +479,8 @@ module _ (world : World ℕ) (fresh : Fresh ℕ) (place : Location ℕ) (first :
         ⊎_elim
         (λ other. inl (ap (λ n. nat_eq n place.node) (each_is_copied it part first can c of_first).root ∙ other))
         (λ stays_on. inr (ap (may_go nat_eq after) (sym (kept_itself mount m)) ∙ stays_on)) rest)
-        (apart_from group part mount e (part_old world fresh place first there part c) (hears_group world fresh place first there part c group e) m
+        (apart_from group part mount e (part_old world fresh place first there part c)
+        (hears_group world fresh place first there part c group e) m
         (stands_at_its_place (record { mount = part.number; node = place.node }) mount at))
 
     -- nothing that was there goes
@@ -585,7 +590,8 @@ module _ (world : World ℕ) (fresh : Fresh ℕ) (place : Location ℕ) (first :
     left_among : (number : ℕ) → is_mount world number ≡ true → Among (mount_left after gone number) undone.mounts
     left_among number is =
         found_there undone.mounts number
-        (ap (is_among nat_eq number) (unmount_keeps_the_order after gone) ∙ later_number world fresh place first there number is)
+        (ap (is_among nat_eq number) (unmount_keeps_the_order after gone)
+        ∙ later_number world fresh place first there number is)
 
     same_type : (number : ℕ) → is_mount world number ≡ true
         → (mount_numbered nat_eq after number).propagation ≡ (mount_numbered nat_eq world number).propagation

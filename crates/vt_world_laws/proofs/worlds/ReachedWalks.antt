@@ -28,13 +28,17 @@ module _ (world : World ℕ) (whole : IsWorld nat_eq world) (task : Task ℕ)
   abbrev pub End : Location ℕ → Type 0
   End location = IsEnd world whole task location
 
+  -- a task that is called is there
+  pub task_among : Among task world.tasks
+  task_among = called_there world.tasks task.name task called
+
   -- the task's own root and directory
   own_place : (location : Location ℕ) → Among location (locations_of task)
       → is_directory_seen_in nat_eq world task.namespace location ≡ true → FoundDirectory location
   own_place location m seen =
       let located = and_parts _ _
       (among_from_list_all (is_located_well nat_eq world) (all_locations world) whole.tasks.locations_live location
-      (among-flat_map locations_of world.tasks task location (called_there world.tasks task.name task called) m)) in
+      (among-flat_map locations_of world.tasks task location task_among m)) in
       let parts = and_parts _ _ seen in
       ((located.0, parts.1), parts.0)
 
