@@ -1,7 +1,7 @@
 -- A right stands behind each effect: what a call tells its task may read, and what it changes its task may write, or
 -- owns.
 use Rattle.std.specs.Prelude.{Bool, List, Ok, Some, drop, false, nat_eq, take, true, ℕ, ◌==◌, ◌||◌, ◌≡◌, ◌⊎◌}
-use Rattle.vt_call_laws.specs.Inodes.{IsNotHanded, inode_in, owner_of}
+use Rattle.vt_call_laws.specs.Inodes.{IsNotHanded, owner_of}
 use Rattle.vt_spec.specs.declared.attributes.Kind.TheVariants.{Symlink}
 use Rattle.vt_spec.specs.FileTree.{is_kind_in, opaque_of}
 use Rattle.vt_spec.specs.Language.Answers.Answer.{Bytes, Names, Opened}
@@ -22,6 +22,7 @@ use Rattle.vt_spec.specs.Rights.{cap_chown, cap_sys_admin, execute_right, has_al
 use Rattle.vt_spec.specs.Tree.{Node, bytes_in, bytes_of, entries_of, entry_named, names_in}
 use Rattle.vt_tree_laws.specs.Trees.Calls.{mounts_overlay}
 use Rattle.vt_laws.specs.Plain.{IsPlain}
+use Rattle.vt_tree_laws.specs.Trees.Settling.{inode_in}
 
 -- the task has the wanted rights on an inode of a filesystem: path_resolution(7), "Permissions"
 abbrev pub MayDo : World ℕ → Task ℕ → ℕ → ℕ → ℕ → Type 0

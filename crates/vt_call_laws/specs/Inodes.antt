@@ -15,14 +15,11 @@ use Rattle.vt_spec.specs.Machine.Outcome.Descriptors.{overwritten}
 use Rattle.vt_spec.specs.Machine.Permits.{Permit}
 use Rattle.vt_spec.specs.Machine.Permits.Permit.{ToChange, ToMake, ToMountPlain, ToOpenNew, ToRemoveDirectory, ToRename, ToWritePart}
 use Rattle.vt_spec.specs.Machine.Policy.{policy}
-use Rattle.vt_spec.specs.Machine.World.{Task, World, files_at, filesystem_numbered, mount_at, node_at, task_called}
+use Rattle.vt_spec.specs.Machine.World.{Task, World, files_at, mount_at, node_at, task_called}
 use Rattle.vt_spec.specs.Tree.{Node, bytes_in, bytes_of, entries_in, entries_of, entry_named, kind_of}
 use Rattle.vt_tree_laws.specs.Trees.Calls.{mounts_overlay}
 use Rattle.vt_laws.specs.Plain.{IsPlain}
-
--- the inode of a filesystem in a world
-abbrev pub inode_in : World ℕ → ℕ → ℕ → Option (Node ℕ)
-inode_in world filesystem number = (filesystem_numbered nat_eq world filesystem).files.tree.node number
+use Rattle.vt_tree_laws.specs.Trees.Settling.{inode_in}
 
 -- What a permit names
 

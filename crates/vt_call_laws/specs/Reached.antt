@@ -2,7 +2,6 @@
 -- reach. In every world roots stay.
 use Rattle.std.specs.Prelude.{Bool, Err, List, None, Ok, Option, Result, Some, [], false, find, nat_eq, option_map, option_to_list, ℕ, ◌&&◌, ◌++◌, ◌∷◌, ◌≡◌, ◌⊎◌}
 use Rattle.std.specs.List.{list_any}
-use Rattle.vt_call_laws.specs.Inodes.{inode_in}
 use Rattle.vt_spec.specs.Language.Calls.{Call, TaskName}
 use Rattle.vt_spec.specs.Language.Calls.Call.{Chmod, Chown, LinkTo, MakeWhiteout, Mkdir, MountPlain, Opaque, OpenFile, Pwrite, Rename, Rmdir, SymlinkAt, Unlink, Write}
 use Rattle.vt_spec.specs.Language.Calls.Creation.{Exclusive, OrCreate}
@@ -14,6 +13,7 @@ use Rattle.vt_spec.specs.Machine.Walk.{Here, Place, Stop, directory_walk, file_w
 use Rattle.vt_spec.specs.Machine.World.{Task, World, mount_at, task_called}
 use Rattle.vt_tree_laws.specs.Trees.Calls.{mounts_overlay}
 use Rattle.vt_laws.specs.Plain.{IsPlain}
+use Rattle.vt_tree_laws.specs.Trees.Settling.{inode_in}
 
 -- Where a path leads: to an object; to a directory, to that and what has the name there, to that and what is made there
 abbrev pub object_at : Result (Here ℕ) (Stop ℕ) → List (Location ℕ)

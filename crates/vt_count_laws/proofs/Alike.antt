@@ -2,7 +2,7 @@
 use Rattle.std.proofs.Common.{◌≡◌, refl, sym, ap, subst, ◌∙◌, ℕ, ◌+◌, nat_eq, Bool, true, false, cond, ◌||◌, List, [], ◌∷◌, ◌++◌, map, find, flat_map, Option, Some, is_some, unwrap_or, arith}
 use Rattle.std.specs.Prelude.{filter_map, sum_by}
 use Rattle.std.specs.List.{list_any}
-use Rattle.std.proofs.lemmas.List.Sorted.{IsPermutation-refl, length_permutation, sum_by-IsPermutation}
+use Rattle.std.proofs.lemmas.List.Sorted.{length_permutation, sum_by-IsPermutation}
 use Rattle.std.proofs.lemmas.List.Sums.{sum_by-cons}
 use Rattle.vt_spec.specs.FileTree.{targets_in}
 use Rattle.vt_spec.specs.Machine.Mounts.{root_of}
@@ -19,6 +19,7 @@ use Rattle.vt_count_laws.specs.Sweeping.{SameWorldsCountAlike}
 use Rattle.vt_count_laws.proofs.Listed.{no_repeats, once_times}
 use Rattle.vt_count_laws.proofs.using.Places.{count_in}
 use Rattle.vt_count_laws.proofs.using.Swept.{plain_of, plain_uses_are}
+use Rattle.vt_laws.proofs.same.SameMany.{same_filesystem_itself}
 
 -- sums over a list do not hang on its order
 times_sum : (n : ℕ) (list : List ℕ) → times_in n list ≡ sum_by (one_if n) list
@@ -35,22 +36,10 @@ named_sum n node (first ∷ rest) =
     (named_by node rest) = times_append n (targets_in (node first)) (named_by node rest) in
     omega arith
 
-pub same_itself : (f : Filesystem ℕ) → SameFilesystem f f
-same_itself f =
-    record {
-      number = refl;
-      files = record {
-        tree = refl;
-        numbers = IsPermutation-refl
-            f.files.numbers;
-      };
-      overlay = refl;
-    }
-
 found_same : (ones others : List (Filesystem ℕ)) → SameFilesystems ones others → (k : ℕ)
     → SameFilesystem (unwrap_or (find (λ f. nat_eq k f.number) ones) (no_filesystem k))
     (unwrap_or (find (λ f. nat_eq k f.number) others) (no_filesystem k))
-found_same [] [] same k = same_itself (no_filesystem k)
+found_same [] [] same k = same_filesystem_itself (no_filesystem k)
 found_same [] (other ∷ others) same k = absurd same
 found_same (one ∷ ones) [] same k = absurd same
 found_same (one ∷ ones) (other ∷ others) same k =

@@ -31,6 +31,8 @@ use Rattle.vt_detach.proofs.Moving.{Moves, Use}
 use Rattle.vt_detach.proofs.Remaining.{remade}
 use Rattle.vt_detach.proofs.Splits.{IsSplit, locations_around, replaced_split, times_replaced, writes_replaced}
 use Rattle.vt_detach.proofs.Staying.{IsDone, after, staying_is_done}
+use Rattle.vt_tasks.proofs.LocationLemmas.{place_of}
+pub use Rattle.vt_tasks.proofs.LocationLemmas.{place_of as place}
 
 -- Descriptors
 
@@ -89,10 +91,6 @@ one_goes number least (first ∷ rest) descriptor rising found =
 pub around : {A : Type 0} (front p q back : List A) → front ++ ((p ++ q) ++ back) ≡ (front ++ p) ++ (q ++ back)
 around front p q back = ap (λ list. front ++ list) (append_assoc p q back) ∙ sym (append_assoc front p (q ++ back))
 
--- the location of a descriptor
-abbrev pub place : Descriptor ℕ → meant.Location ℕ
-place descriptor = descriptor.location
-
 -- how a descriptor uses its location
 abbrev pub used_by : Descriptor ℕ → Use
 used_by descriptor = record { location = descriptor.location; writes = descriptor.writes }
@@ -109,17 +107,18 @@ module _ (value : WorldValue) (whole : IsHeld value) (name : TaskName) (task : T
 
   closed_moves : Moves value (replaced new value.tasks) [] (used_by descriptor ∷ [])
   closed_moves = record {
-    front = locations_in split.front ++ (task.root ∷ task.directory ∷ map place goes.front);
-    back = map place goes.back ++ locations_in split.back;
+    front = locations_in split.front ++ (task.root ∷ task.directory ∷ map place_of goes.front);
+    back = map place_of goes.back ++ locations_in split.back;
     was = ap locations_in split.was ∙ locations_around split.front task split.back
         ∙ ap (λ places. locations_in split.front ++ ((task.root ∷ task.directory ∷ places) ++ locations_in split.back))
-        (ap (map place) goes.was ∙ map-append place goes.front (descriptor ∷ goes.back))
-        ∙ around (locations_in split.front) (task.root ∷ task.directory ∷ map place goes.front)
-        (descriptor.location ∷ map place goes.back) (locations_in split.back);
+        (ap (map place_of) goes.was ∙ map-append place_of goes.front (descriptor ∷ goes.back))
+        ∙ around (locations_in split.front) (task.root ∷ task.directory ∷ map place_of goes.front)
+        (descriptor.location ∷ map place_of goes.back) (locations_in split.back);
     is = ap locations_in split.is ∙ locations_around split.front new split.back
         ∙ ap (λ places. locations_in split.front ++ ((task.root ∷ task.directory ∷ places) ++ locations_in split.back))
-        (ap (map place) goes.is ∙ map-append place goes.front goes.back)
-        ∙ around (locations_in split.front) (task.root ∷ task.directory ∷ map place goes.front) (map place goes.back)
+        (ap (map place_of) goes.is ∙ map-append place_of goes.front goes.back)
+        ∙ around (locations_in split.front) (task.root ∷ task.directory ∷ map place_of goes.front)
+        (map place_of goes.back)
         (locations_in split.back);
     there = refl;
     writes = λ mount.
@@ -194,7 +193,7 @@ nothing_is_closed value name number tasks whole permits was is =
       named = refl;
       applied = λ fresh. refl;
       same_name = refl;
-      same_places = (λ i. task.root ∷ task.directory ∷ map place (same i));
+      same_places = (λ i. task.root ∷ task.directory ∷ map place_of (same i));
       same_namespace = refl;
       same_descriptors = same;
     })

@@ -25,7 +25,7 @@ use Rattle.vt_detach.specs.WorldValue.{NamespaceEntry, WorldValue, namespace_of,
 use Rattle.vt_detach.proofs.Bridging.{IsSwept}
 use Rattle.vt_detach.proofs.Finishing.{CountsBeside, IsApplied}
 use Rattle.vt_detach.proofs.FollowedTypes.{gained_typed, own_types, uses_left_typed}
-use Rattle.vt_detach.proofs.LeavingNamespaces.{IsLeft, leaves, nothing_goes_with}
+use Rattle.vt_detach.proofs.LeavingNamespaces.{IsLeft, leaves}
 use Rattle.vt_detach.proofs.Midway.{Reached}
 use Rattle.vt_detach.proofs.MidwayBegins.{begins, ended, goes_attached, k_begins, parent_stays}
 use Rattle.vt_detach.proofs.MidwayDone.{leave_use, leaves_all, reached_counted, reached_swept}
@@ -35,6 +35,7 @@ use Rattle.vt_detach.proofs.NamespacesEnded.{CountsOneMore, ends, in_ended_is, l
 use Rattle.vt_detach.proofs.NamespacesTyped.{nowhere_private, taken_is_left}
 use Rattle.vt_detach.proofs.Staying.{IsDone, after, world_is_plain}
 use Rattle.vt_detach.proofs.TypedEvents.{typed_done}
+use Rattle.std.proofs.Math.Bool.{and-false}
 
 module _ (value : WorldValue) (whole : IsHeld value) (tasks : Tasks) (more less : List Use)
     (moves : Moves value tasks more less)
@@ -54,7 +55,7 @@ module _ (value : WorldValue) (whole : IsHeld value) (tasks : Tasks) (more less 
   inside o = ends count tasks entries counts && holds_of (nat_eq (counted count)) o
 
   pub nowhere_stays : inside None ≡ false
-  nowhere_stays = nothing_goes_with (ends count tasks entries counts)
+  nowhere_stays = and-false (ends count tasks entries counts)
 
   abbrev going : Mount ℕ → Bool
   going mount = inside mount.namespace

@@ -11,7 +11,7 @@ use Rattle.vt_letting_go.specs.Counts.{mounts_showing}
 use Rattle.vt_letting_go.specs.Detaching.{detached_if}
 use Rattle.vt_letting_go.specs.Mounting.{inode_at}
 use Rattle.vt_letting_go.specs.OneByOne.{Inode}
-use Rattle.vt_letting_go.proofs.Lists.{Among, all_from_among, among-from_map, among-map, among_from_all}
+use Rattle.vt_letting_go.proofs.Lists.{Among, all_from_among, among-from_map, among-map, among_from_all, found_in}
 use Rattle.vt_location.specs.declared.locations.Location.{Location}
 use Rattle.vt_location.specs.Locations.{location_of, number_of}
 use Rattle.vt_location.specs.Numbers.{counted}
@@ -20,7 +20,6 @@ use Rattle.vt_detach.specs.Held.{CountsItsUses}
 use Rattle.vt_detach.specs.Uses.{Kept, detached_entry, detached_use, inode_of, point_of, unpinned_at, without_attachment}
 use Rattle.vt_detach.specs.WorldValue.{WorldValue, world_of}
 use Rattle.vt_detach.proofs.Keeping.{IsKeptBut, IsShownIn, append_three, detached_in, looked_at, points_lost}
-use Rattle.vt_detach.proofs.Leaving.{found_it}
 use Rattle.vt_detach.proofs.MountsGone.{mount_looked_at}
 use Rattle.vt_detach.proofs.Moving.{map_itself, swap_eq}
 use Rattle.vt_detach.proofs.Shown.{found_entry}
@@ -107,7 +106,7 @@ module _ (old : WorldValue) (number : ℕ) (pending : List ℕ) (gained lost : L
       seen one None e h small = absurd cc
       seen one (Some entry) e h small =
           is.points entry.mount (among-map (λ (x : MountEntry). x.mount) k.mounts entry
-          (found_it (λ (x : MountEntry). nat_eq number x.mount.number) k.mounts entry e).0) one (sym h) small
+          (found_in (λ (x : MountEntry). nat_eq number x.mount.number) k.mounts entry e).0) one (sym h) small
 
       by : (o : Option Location) → option_map location_of o ≡ point_of number k.mounts
           → IfSome o (λ point. point.node.slot < 18446744073709551616)
@@ -190,7 +189,7 @@ module _ (old : WorldValue) (number : ℕ) (pending : List ℕ) (gained lost : L
   apart : (entry : MountEntry) → entry_numbered kept_now.mounts number ≡ Some entry
       → (is_some entry.mount.namespace ≡ false) × (entry.mount.mount_point ≡ None)
   apart entry e =
-      let found = found_it (λ (x : MountEntry). nat_eq number x.mount.number) kept_now.mounts entry e in
+      let found = found_in (λ (x : MountEntry). nat_eq number x.mount.number) kept_now.mounts entry e in
       let from = among-from_map (detached_entry_if number) k.mounts entry found.0 in
       by from.0 (nat_eq number from.0.mount.number) refl from.2 found.1
     where

@@ -21,7 +21,7 @@ use Rattle.vt_letting_go.specs.Leaving.{MountsStand, stands_on_attached}
 use Rattle.vt_letting_go.specs.Mounting.{inode_at}
 use Rattle.vt_letting_go.specs.OneByOne.{Inode, MountsInUseBut}
 use Rattle.vt_letting_go.specs.OneByOne as Looks
-use Rattle.vt_letting_go.proofs.Lists.{Among, all_from_among, all_pass, among-from_map, among_from_all, any-map, any_passes, among-from_filter, fails, filter_all, filter_alike, filter_twice, map_same, one_passes, or_second, passes}
+use Rattle.vt_letting_go.proofs.Lists.{Among, all_from_among, all_pass, among-from_map, among_from_all, any-map, any_passes, among-from_filter, fails, filter_all, filter_alike, filter_twice, map_same, one_passes, or_second, passes, found_in}
 use Rattle.vt_letting_go.proofs.sweeps.OneByOne.{mounts_go_one_by_one}
 use Rattle.vt_location.specs.Numbers.{counted}
 use Rattle.vt_mount.specs.MountsValue.{mounts_in}
@@ -30,7 +30,6 @@ use Rattle.vt_detach.specs.Uses.{Kept}
 use Rattle.vt_detach.specs.WorldValue.{WorldValue, world_of}
 use Rattle.vt_detach.proofs.Detached.{IsDetaching, detach_first}
 use Rattle.vt_detach.proofs.Keeping.{IsKeptBut, IsShownIn, detached_in, lives_plainly, looked_at, no_more, points_lost, same_number}
-use Rattle.vt_detach.proofs.Leaving.{found_it}
 use Rattle.vt_detach.proofs.MountsGone.{found_mapped, none_numbered, pending_filesystem, pending_number}
 use Rattle.vt_detach.proofs.Moving.{map_itself, swap_eq}
 use Rattle.vt_spec.proofs.Lists.{map_alike, map_twice}
@@ -77,7 +76,7 @@ not_gone_stays gone mounts number stays =
     by (Some mount) e =
         ap (λ b. cond b (detached mount) mount)
         (ap (λ n. is_among nat_eq n gone)
-        (sym (eqb-true number mount.number (found_it (λ (x : Mount ℕ). nat_eq number x.number) mounts mount e).1))
+        (sym (eqb-true number mount.number (found_in (λ (x : Mount ℕ). nat_eq number x.number) mounts mount e).1))
         ∙ stays)
 
 -- Mount points that are lost
@@ -152,7 +151,7 @@ module _ (before : World ℕ) where
           (λ x m. ap (λ b. cond b (detached x) x) (none_numbered number world.mounts e x m))))
           (record { same = refl; uses = λ n. refl })
       by (Some mount) e =
-          let found = found_it (λ (x : Mount ℕ). nat_eq number x.number) world.mounts mount e in
+          let found = found_in (λ (x : Mount ℕ). nat_eq number x.number) world.mounts mount e in
           let numbered : number ≡ mount.number = eqb-true number mount.number found.1 in
           let split = detached_at world.mounts number mount one found.0 (sym numbered) in
           subst (λ all. Exchanges [] all filesystem world (without_place world number))

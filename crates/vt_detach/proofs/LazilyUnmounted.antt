@@ -12,7 +12,7 @@ use Rattle.vt_spec.specs.Machine.Receives.{regrouped}
 use Rattle.vt_spec.specs.Machine.World.{World, mount_at, mount_numbered, with_mounts}
 use Rattle.vt_spec.specs.Machine.Invariants.{HasLivingGroups, Lives, MountInvariants, is_nowhere_or_attached, is_private}
 use Rattle.vt_spec.proofs.Lists as Spec
-use Rattle.vt_letting_go.proofs.Lists.{Among, all_from_among, among-flat_map, among_from_all, among-from_filter, among-from_flat_map, among-from_map, among-map, among_numbers, is_among_numbers, passes}
+use Rattle.vt_letting_go.proofs.Lists.{Among, all_from_among, among-flat_map, among_from_all, among-from_filter, among-from_flat_map, among-from_map, among-map, among_numbers, is_among_numbers, passes, found_in}
 use Rattle.vt_letting_go.proofs.mounting.MountingTaken as Taken
 use Rattle.vt_letting_go.proofs.leaving.PlacesLeft.{found_is_there, found_itself}
 use Rattle.vt_mount_laws.proofs.mounts.Standing.{standing_is_computed}
@@ -22,7 +22,6 @@ use Rattle.vt_group.proofs.Together.{regrouped_living}
 use Rattle.vt_detach.proofs.DetachingBegins.{HasChildrenOf, detached_world}
 use Rattle.vt_detach.proofs.Keeping.{detached_in}
 use Rattle.vt_detach.proofs.Grouped.{members_alike, no_peer, no_source}
-use Rattle.vt_detach.proofs.Leaving.{found_it}
 use Rattle.vt_detach.proofs.MountsGone.{found_mapped}
 use Rattle.vt_detach.proofs.Moving.{map_itself}
 use Rattle.vt_detach.proofs.UnmountedAlone.{goes_apart}
@@ -30,6 +29,8 @@ use Rattle.vt_mount_laws.proofs.ends.EndingCounts.{tree_placed}
 use Rattle.vt_spec.proofs.Lists.{map_alike, map_twice}
 use Rattle.vt_mount_laws.specs.Mounts.Receivers.{AllGroupsLive}
 use Rattle.vt_permit_laws.specs.Taken.{is_ungrouped}
+use Rattle.vt_letting_go.specs.Unmounting.{numbers_of_trees}
+pub use Rattle.vt_letting_go.specs.Unmounting.{numbers_of_trees as trees_numbers}
 
 -- Mounts ordered by their depth are the same mounts
 
@@ -199,7 +200,7 @@ module _ (world : World ℕ) (live : AllGroupsLive world)
             → is_shared (unwrap_or (option_map so.change o) (no_mount n)).propagation ≡ false
         by None e h = refl
         by (Some mount) e h =
-            kept mount (found_it (λ (x : Mount ℕ). nat_eq n x.number) world.mounts mount e).0 h
+            kept mount (found_in (λ (x : Mount ℕ). nat_eq n x.number) world.mounts mount e).0 h
             (is_among nat_eq mount.number tree) refl
 
   module _ (done : List ℕ) (now : World ℕ) (so : IsUnderway done now) (number : ℕ)
@@ -216,7 +217,7 @@ module _ (world : World ℕ) (live : AllGroupsLive world)
             → is_shared (mount_at nat_eq world place).propagation ≡ false
         by None e q = absurd (none_some place q)
         by (Some mount) e q =
-            let its = found_it (λ (x : Mount ℕ). nat_eq number x.number) world.mounts mount e in
+            let its = found_in (λ (x : Mount ℕ). nat_eq number x.number) world.mounts mount e in
             so.apart_still mount its.0
             (ap (λ n. is_among nat_eq n tree) (sym (eqb-true number mount.number its.1)) ∙ in_tree) place q
 
@@ -535,12 +536,9 @@ append_none : {A : Type 0} (xs : List A) → xs ++ [] ≡ xs
 append_none [] = refl
 append_none (x ∷ xs) = ap (λ rest. x ∷ rest) (append_none xs)
 
-abbrev pub trees_numbers : World ℕ → List (Mount ℕ) → List ℕ
-trees_numbers world tops = map (λ (mount : Mount ℕ). mount.number) (flat_map (mount_tree nat_eq world.mounts) tops)
-
 -- trees of mounts have all that stands on them
 pub trees_have_children : (world : World ℕ) → MountInvariants nat_eq world → (tops : List (Mount ℕ))
-    → HasChildrenOf (trees_numbers world tops) world.mounts
+    → HasChildrenOf (numbers_of_trees world tops) world.mounts
 trees_have_children world kept tops mount m place p goes =
     trees_closed world kept.one_number ((standing_is_computed world kept.one_number).0 kept.standing) tops mount place
     (to_spec mount world.mounts m) p goes

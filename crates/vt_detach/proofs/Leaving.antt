@@ -13,7 +13,8 @@ use Rattle.vt_count_laws.proofs.using.MountRoots as Roots
 use Rattle.vt_fs.specs.FilesystemsValue.{Filesystems}
 use Rattle.vt_letting_go.specs.Counts.{mount_uses, times}
 use Rattle.vt_letting_go.specs.OneByOne.{without_mount}
-use Rattle.vt_letting_go.proofs.Lists.{Among, among-append_right, among-from_map, passes}
+use Rattle.vt_letting_go.proofs.Lists.{Among, among-append_right, among-from_map, passes, found_in}
+pub use Rattle.vt_letting_go.proofs.Lists.{found_in as found_it}
 use Rattle.vt_letting_go.proofs.sweeps.OneByOne.{mounts_go_one_by_one}
 use Rattle.vt_letting_go.proofs.sweeps.OfWorlds.{mounts_of_worlds_stand}
 use Rattle.vt_letting_go.proofs.leaving.PlacesLeft.{mounts_but}
@@ -30,15 +31,6 @@ use Rattle.vt_detach.proofs.Moving.{Moves, Use, entry_counts, folded_entry, moun
 use Rattle.vt_detach.proofs.Remaining.{remade, remains_done}
 use Rattle.vt_detach.proofs.Shown.{found_entry}
 use Rattle.vt_detach.proofs.Staying.{IsDone, after}
-
-pub found_it : {A : Type 0} (p : A → Bool) (xs : List A) (x : A) → find p xs ≡ Some x → Among x xs × (p x ≡ true)
-found_it p [] x e = absurd cc
-found_it p (y ∷ ys) x e = by (p y) refl e (found_it p ys x)
-  where
-    by : (b : Bool) → p y ≡ b → cond b (Some y) (find p ys) ≡ Some x → (find p ys ≡ Some x → Among x ys × (p x ≡ true))
-        → Among x (y ∷ ys) × (p x ≡ true)
-    by true passed here later = let same : y ≡ x = cc in (inl (sym same), ap p (sym same) ∙ passed)
-    by false passed here later = let found = later here in (inr found.0, found.1)
 
 pub none_among : (number : ℕ) (mounts : List (Mount ℕ)) → find (λ x. nat_eq number x.number) mounts ≡ None
     → is_among nat_eq number (map (λ x. x.number) mounts) ≡ false
@@ -105,7 +97,7 @@ module _ (value : WorldValue) (whole : IsHeld value) (tasks : Tasks) (more : Lis
       by (Some entry) e = chosen (is_some entry.mount.namespace) refl (nat_eq entry.uses 0) refl
         where
           found : Among entry moved.mounts × (nat_eq number entry.mount.number ≡ true)
-          found = found_it (λ (x : MountEntry). nat_eq number x.mount.number) moved.mounts entry e
+          found = found_in (λ (x : MountEntry). nat_eq number x.mount.number) moved.mounts entry e
 
           numbered : number ≡ entry.mount.number
           numbered = eqb-true number entry.mount.number found.1

@@ -23,14 +23,12 @@ use Rattle.vt_detach.proofs.Midway.{Reached}
 use Rattle.vt_detach.proofs.MidwayDone.{detaches_all}
 use Rattle.vt_detach.proofs.NamespacesEnded.{CountsOneMore, ends, ends_by}
 use Rattle.vt_detach.proofs.NamespacesTyped.{gone_numbers, left_has_groups, left_has_same, left_world}
+use Rattle.std.proofs.Math.Bool.{and-false}
+pub use Rattle.std.proofs.Math.Bool.{and-false as nothing_goes_with}
 
 -- the mounts of a namespace go, if it ends
 abbrev pub goes_with : Bool → ℕ → Mount ℕ → Bool
 goes_with ends namespace mount = ends && holds_of (nat_eq namespace) mount.namespace
-
-pub nothing_goes_with : (ends : Bool) → (ends && false) ≡ false
-nothing_goes_with true = refl
-nothing_goes_with false = refl
 
 goes_with_attached : (ends : Bool) (namespace : ℕ) (mount : Mount ℕ) → goes_with ends namespace mount ≡ true
     → is_some mount.namespace ≡ true
@@ -107,7 +105,7 @@ module _ (value : WorldValue) (whole : IsHeld value) (world : World ℕ) (invari
           gone.ends.gone [] old (record new { mounts = gone.entries }) gone.ends.detached reached;
       all_gone = λ entry m.
           ap (λ b. ends_now && b) (fails (is_attached_in (counted count)) gone.entries gone.ends.none_left entry m)
-          ∙ nothing_goes_with ends_now;
+          ∙ and-false ends_now;
       typed = gone.types (has_ordered world before has) typed;
       has = left_has_groups world invariants tasks going namespaces stays before groups has
           (subst (TakesAway before groups) (inside last) gone.groups);

@@ -32,15 +32,7 @@ use Rattle.vt_detach.specs.WorldValue.{WorldValue, world_of}
 use Rattle.vt_detach.proofs.FilesystemsFound.{found, found_number, found_plain, holds_at, in_no_other, no_counted_inode, own_filesystem}
 use Rattle.vt_fs.proofs.Parents.{parents_named}
 use Rattle.vt_fs.proofs.TreesLookedAt.{nowhere_removed, nowhere_under, under_nowhere}
-use Rattle.std.proofs.Math.Bool.{or-false}
-
-and_false : (b : Bool) → (b && false) ≡ false
-and_false true = refl
-and_false false = refl
-
-and_true : (b : Bool) → (b && true) ≡ b
-and_true true = refl
-and_true false = refl
+use Rattle.std.proofs.Math.Bool.{or-false, and-false, and-true}
 
 either_false : (a b : Bool) → (a && b) ≡ false → (P : Type 0) → (a ≡ false → P) → (a ≡ true → b ≡ false → P) → P
 either_false true b e P first second = second refl e
@@ -50,7 +42,7 @@ either_false false b e P first second = first refl
 any_filtered : {A : Type 0} (seen : Bool) (on over test : A → Bool) (xs : List A)
     → ((x : A) → Among x xs → on x ≡ (seen && over x))
     → list_any test (filter on xs) ≡ (seen && list_any (λ x. over x && test x) xs)
-any_filtered {A = A} seen on over test [] same = sym (and_false seen)
+any_filtered {A = A} seen on over test [] same = sym (and-false seen)
 any_filtered {A = A} seen on over test (x ∷ xs) same =
     ap (λ b. list_any test (cond b (x ∷ filter on xs) (filter on xs))) (same x (inl refl))
     ∙ by seen (over x) (any_filtered seen on over test xs (λ y m. same y (inr m)))
@@ -197,7 +189,7 @@ module _ (value : WorldValue) (held : IsHeld value) where
             → (b && nat_eq (mount_at nat_eq (world_of value) place).filesystem
             (mount_at nat_eq (world_of value) (location_of at)).filesystem)
             ≡ (is_seen value at && b)
-        there place is false e = sym (and_false (is_seen value at))
+        there place is false e = sym (and-false (is_seen value at))
         there place is true e =
             let own = own_filesystem value.filesystems held.own_inodes
             (mount_at nat_eq (world_of value) place).filesystem place.node is in
@@ -205,7 +197,7 @@ module _ (value : WorldValue) (held : IsHeld value) where
             (ap (is_inode_of own.0) (sym (eqb-true place.node (number_of at.node) e)) ∙ own.2) in
             ap (λ n. nat_eq n (mount_at nat_eq (world_of value) (location_of at)).filesystem) (own.1 ∙ ap counted one)
             ∙ turned (counted at.node.filesystem.count) (mount_at nat_eq (world_of value) (location_of at)).filesystem
-            ∙ sym (and_true (is_seen value at))
+            ∙ sym (and-true (is_seen value at))
 
         by : (o : Option (meant.Location ℕ))
             → list_all (is_directory_at nat_eq (world_of value)) (option_to_list o) ≡ true
@@ -213,7 +205,7 @@ module _ (value : WorldValue) (held : IsHeld value) where
             && nat_eq (mount_at nat_eq (world_of value) place).filesystem
             (mount_at nat_eq (world_of value) (location_of at)).filesystem) o
             ≡ (is_seen value at && holds_of (λ place. nat_eq place.node (number_of at.node)) o)
-        by None e = sym (and_false (is_seen value at))
+        by None e = sym (and-false (is_seen value at))
         by (Some place) e =
             there place (directory_there (node_at nat_eq (world_of value) place)
             (and_parts (is_directory_at nat_eq (world_of value) place) true e).0)

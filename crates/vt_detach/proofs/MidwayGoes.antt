@@ -41,6 +41,7 @@ use Rattle.vt_detach.proofs.Moving.{Use, inodes_of_uses, swap_eq}
 use Rattle.vt_spec.proofs.Lists.{map_alike, map_twice}
 use Rattle.std.proofs.Math.Bool.{or-false}
 use Rattle.vt_letting_go.specs.TreesOverlays.{in_use_of}
+use Rattle.vt_detach.proofs.Keeping.{lives_plainly}
 
 -- What the sweep leaves when a dead mount and filesystems that no mount shows are gone already
 
@@ -65,13 +66,8 @@ module _ (now : World ℕ) (number : ℕ) (stays : ℕ → Bool) (plain : IsPlai
   abbrev showing : List (Mount ℕ) → ℕ → Bool
   showing mounts f = list_any (λ (mount : Mount ℕ). nat_eq f mount.filesystem) mounts
 
-  lives_is : (v : World ℕ) → IsPlain v → (f : Filesystem ℕ) → filesystem_lives nat_eq v f ≡ is_mounted nat_eq v f.number
-  lives_is v is f =
-      ap (λ b. is_mounted nat_eq v f.number || b) (no_layers f.number v v.filesystems (plain_of v is))
-      ∙ or-false (is_mounted nat_eq v f.number)
-
-  plain_second : IsPlain second
-  plain_second =
+  pub second_is_plain : IsPlain second
+  second_is_plain =
       all_from_among (λ f. is_overlay f ≡ false) second.filesystems (λ f m.
       among_from_all (λ f. is_overlay f ≡ false) now.filesystems plain f
       (among-from_filter (λ (f : Filesystem ℕ). stays f.number) now.filesystems f m).0)
@@ -92,19 +88,16 @@ module _ (now : World ℕ) (number : ℕ) (stays : ℕ → Bool) (plain : IsPlai
   same_filesystems =
       filter_alike (filesystem_lives nat_eq (without_dead_mounts nat_eq second))
       (λ (f : Filesystem ℕ). showing mounts_left f.number) second.filesystems
-      (λ f m. lives_is (without_dead_mounts nat_eq second) plain_second f
+      (λ f m. lives_plainly (without_dead_mounts nat_eq second) second_is_plain f
       ∙ ap (λ mounts. showing mounts f.number) same_left)
       ∙ filter_less (λ (f : Filesystem ℕ). showing mounts_left f.number)
       (λ (f : Filesystem ℕ). stays f.number) now.filesystems not_shown
       ∙ filter_alike (λ (f : Filesystem ℕ). showing mounts_left f.number)
       (filesystem_lives nat_eq (without_dead_mounts nat_eq now)) now.filesystems
-      (λ f m. sym (lives_is (without_dead_mounts nat_eq now) plain f))
+      (λ f m. sym (lives_plainly (without_dead_mounts nat_eq now) plain f))
 
   pub living_alike : in_use_of second ≡ in_use_of now
   living_alike = λ i. record now { mounts = same_left i; filesystems = same_filesystems i }
-
-  pub second_is_plain : IsPlain second
-  second_is_plain = plain_second
 
 module _ (value : WorldValue) (whole : IsHeld value) (start : World ℕ) (gained : List Inode) (goes : Mount ℕ → Bool)
     (attached : (mount : Mount ℕ) → goes mount ≡ true → is_some mount.namespace ≡ true)

@@ -20,7 +20,7 @@ use Rattle.vt_letting_go.specs.Leaving.{MountsStand, stands_on_attached}
 use Rattle.vt_letting_go.specs.Mounting.{root_inode}
 use Rattle.vt_letting_go.specs.OneByOne.{Inode, is_mount_used, without_mount}
 use Rattle.vt_letting_go.specs.OneByOne as Looks
-use Rattle.vt_letting_go.proofs.Lists.{Among, all_from_among, all_pass, among-filter, among-from_filter, among-from_map, among-map, among_from_all, among_numbers, fails, filter-map, filter_all, filter_alike, is_among_numbers, or_second, passes}
+use Rattle.vt_letting_go.proofs.Lists.{Among, all_from_among, all_pass, among-filter, among-from_filter, among-from_map, among-map, among_from_all, among_numbers, fails, filter-map, filter_all, filter_alike, is_among_numbers, or_second, passes, found_in}
 use Rattle.vt_letting_go.proofs.leaving.PlacesLeft.{found_in_filter}
 use Rattle.vt_letting_go.proofs.sweeps.UpperUses.{times_append}
 use Rattle.vt_letting_go.proofs.sweeps.UsesCounted.{located_while_counted, mounted_while_counted}
@@ -32,7 +32,6 @@ use Rattle.vt_detach.specs.Uses.{Kept, mounts_shown, released_if}
 use Rattle.vt_detach.specs.WorldValue.{WorldValue, world_of}
 use Rattle.vt_detach.proofs.Going.{map_filtered}
 use Rattle.vt_detach.proofs.Keeping.{IsKeptBut, IsShownIn, detached_in, lives_plainly, looked_at, points_lost, points_without}
-use Rattle.vt_detach.proofs.Leaving.{found_it}
 use Rattle.vt_detach.proofs.Moving.{swap_eq}
 use Rattle.vt_detach.proofs.Shown.{found_entry}
 use Rattle.vt_detach.proofs.LostUses.{found_unless, positive, shown_by_rule, folded_append}
@@ -167,7 +166,7 @@ module _ (old : WorldValue) (number : ℕ) (pending : List ℕ) (gained lost : L
 
     -- the entry is one of those kept, with the number
     entry_found : Among entry k.mounts × (nat_eq number entry.mount.number ≡ true)
-    entry_found = found_it (λ (x : MountEntry). nat_eq number x.mount.number) k.mounts entry e
+    entry_found = found_in (λ (x : MountEntry). nat_eq number x.mount.number) k.mounts entry e
 
     numbered : number ≡ mount.number
     numbered = eqb-true number mount.number entry_found.1

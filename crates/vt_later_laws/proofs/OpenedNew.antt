@@ -47,6 +47,7 @@ use Rattle.vt_spec.proofs.Refusals.{passing, same_ok}
 use Rattle.vt_later_laws.proofs.Through.{descriptor_located, pread_of, raised_descriptors}
 use Rattle.vt_spec.proofs.Found.{found_among}
 use Rattle.vt_spec.proofs.Options.{and_then-Ok}
+use Rattle.vt_tree_laws.proofs.trees.TreesTasks.{called_there}
 
 -- A call that leaves a descriptor on a file, in a world that has the tasks of the one before
 module _ (world : World ℕ) (fresh : Fresh ℕ) (name : TaskName) (task : Task ℕ) (path : List ℕ) (access : Access)
@@ -89,7 +90,7 @@ module _ (world : World ℕ) (fresh : Fresh ℕ) (name : TaskName) (task : Task 
   in_order : is_within_limits task ≡ true
   in_order =
       passes is_within_limits world.tasks is.tasks.small_tasks task
-      (found_among (λ (t : Task ℕ). same_name name t.name) world.tasks task called)
+      (called_there world.tasks name task called)
 
   found : descriptor_numbered new_task number ≡ Some new_descriptor
   found =

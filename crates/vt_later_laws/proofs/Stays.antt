@@ -22,6 +22,7 @@ use Rattle.vt_world_laws.proofs.RaisedInUse.{namespace_if, number_if, numbers_ra
 use Rattle.vt_world_laws.proofs.settling.SettledTasks.{of_task, same_node}
 use Rattle.vt_later_laws.proofs.Granted.{IsPermitted, called_raised}
 use Rattle.vt_spec.proofs.Found.{found_among}
+use Rattle.vt_tree_laws.proofs.trees.TreesTasks.{called_there}
 
 -- raised numbers hide no inode
 pub node_raised : (before : World ℕ) (name : TaskName) (changed : List ℕ) (world : World ℕ) (location : Location ℕ)
@@ -66,4 +67,4 @@ module _ (world : World ℕ) (fresh : Fresh ℕ) (name : TaskName) (call : Call)
       ∙ node_raised world name (filesystems_changed nat_eq world did.permit) (settled nat_eq spent_world) location
       ∙ same_node spent_world spent_unsettled location
       (of_task spent_world spent_unsettled reading
-      (found_among (λ (t : Task ℕ). same_name reader t.name) spent_world.tasks reading e) location m)
+      (called_there spent_world.tasks reader reading e) location m)

@@ -38,6 +38,7 @@ use Rattle.vt_later_laws.proofs.Stays.{still_called, still_seen}
 use Rattle.vt_spec.proofs.Refusals.{passing, same_ok}
 use Rattle.vt_spec.proofs.Found.{found_among}
 use Rattle.vt_spec.proofs.Options.{and_then-Ok}
+use Rattle.vt_tree_laws.proofs.trees.TreesTasks.{called_there, tasks-pwritten}
 
 -- bytes with zeros after them, as long as they must be
 padded_long : (offset : ℕ) (old : List ℕ) → length (padded offset old) ≡ length old + (offset - length old)
@@ -159,7 +160,7 @@ open_regular : (world : World ℕ) (name : TaskName) (task : Task ℕ) (number :
 open_regular world name task number descriptor is called found =
     passes (λ (d : Descriptor ℕ). is_kind_in File (node_at nat_eq world d.location)) task.descriptors
     (passes (has_regular_files_open nat_eq world) world.tasks is.tasks.open_files task
-    (found_among (λ (t : Task ℕ). same_name name t.name) world.tasks task called))
+    (called_there world.tasks name task called))
     descriptor (found_among (λ (d : Descriptor ℕ). nat_eq number d.number) task.descriptors descriptor found)
 
 -- a descriptor's file is among what its task uses
@@ -171,10 +172,6 @@ descriptor_located task number descriptor found =
 
 module _ (world : World ℕ) (fresh : Fresh ℕ) (plain : IsPlain world) (file other : Location ℕ) (offset : ℕ)
     (same : IsOneInode world other file) (regular : is_kind_in File (node_at nat_eq world file) ≡ true) where
-  written_tasks : (bytes : List ℕ) → (pwritten nat_eq fresh world file offset bytes).tasks ≡ world.tasks
-  written_tasks [] = refl
-  written_tasks (byte ∷ bytes) = change_tasks fresh world plain file _
-
   written_there : (bytes : List ℕ)
       → take (length bytes)
       (drop offset (bytes_in (node_at nat_eq (pwritten nat_eq fresh world file offset bytes) other))) ≡ bytes
@@ -222,6 +219,5 @@ pwrite_then_pread world fresh name reader task reading written read offset bytes
     there =
         ap (λ w. task_called w reader) spent
         ∙ ap (find (λ (t : Task ℕ). same_name reader t.name))
-        (written_tasks world fresh plain written.location read.location offset same
-        (open_regular world name task written.number written is called found) bytes)
+        (tasks-pwritten fresh world written.location offset bytes)
         ∙ called_too

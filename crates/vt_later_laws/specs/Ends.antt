@@ -1,7 +1,6 @@
 -- Which calls end an inode, and what the sweep at the end of the other calls takes, in a world that has the invariants,
 -- and no overlay.
 use Rattle.std.specs.Prelude.{Bool, List, Some, false, is_some, nat_eq, true, ℕ, ◌≡◌}
-use Rattle.vt_call_laws.specs.Inodes.{inode_in}
 use Rattle.vt_spec.specs.Language.Calls.{Call, TaskName, TypeWord}
 use Rattle.vt_spec.specs.Language.Calls.Call.{Chdir, Chroot, Close, Exit, Lazy, MoveMount, PivotRoot, Rename, Rmdir, SetType, Setns, Umount, Unlink, Unshare}
 use Rattle.vt_spec.specs.Lists.{Fresh}
@@ -12,6 +11,7 @@ use Rattle.vt_spec.specs.Machine.World.{Task, World, task_called}
 use Rattle.vt_spec.specs.Machine.Invariants.{IsWorld}
 use Rattle.vt_world_laws.specs.Worlds.Kept.{IsPlain}
 use Rattle.vt_tree_laws.specs.Trees.Calls.{mounts_overlay}
+use Rattle.vt_tree_laws.specs.Trees.Settling.{inode_in}
 
 -- the calls that take a name away, a descriptor, a location of a task, or a mount from where it stands
 abbrev pub takes_uses : Call → Bool

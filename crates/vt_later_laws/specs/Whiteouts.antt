@@ -18,13 +18,13 @@ use Rattle.vt_spec.specs.Machine.Policy.{call_outcome, policy}
 use Rattle.vt_spec.specs.Machine.Run.{Serves}
 use Rattle.vt_spec.specs.Machine.Settled.{settled}
 use Rattle.vt_spec.specs.Machine.World.{Layer, Overlay, Task, World, filesystem_at, filesystem_numbered, is_overlay, task_called}
-use Rattle.vt_call_laws.specs.Inodes.{inode_in}
 use Rattle.vt_letting_go.specs.InUse.{has_upper_in}
 use Rattle.vt_letting_go.specs.OneByOne.{Inode}
 use Rattle.vt_letting_go.specs.Overlays.{let_go_plain}
 use Rattle.vt_overlays_let_go.specs.NamesGiven.{replaced_in_upper}
 use Rattle.vt_overlay_permit_laws.specs.Asked.{change_asked}
 use Rattle.vt_later_laws.specs.Ends.{KeepsAllButMasters, sets_type, takes_uses}
+use Rattle.vt_tree_laws.specs.Trees.Settling.{inode_in}
 
 -- What the upper layer has at the name that a change gives: of an overlay with an upper layer,
 abbrev pub replaced_in : World ℕ → Overlay ℕ → Option (Layer ℕ) → Change ℕ → List Inode

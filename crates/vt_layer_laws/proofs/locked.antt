@@ -4,5 +4,4 @@ pub mod Change
 pub mod EachCall
 pub mod EveryCall
 pub mod Paths
-pub mod Steps
 pub mod Walks

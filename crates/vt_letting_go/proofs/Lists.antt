@@ -28,6 +28,13 @@ module _ {A : Type 0} where
       by true f h later = let same : first ≡ found = same_Some first found h in (inl (sym same), ap test (sym same) ∙ f)
       by false f h later = let t : Among found rest × (test found ≡ true) = later h in (inr t.0, t.1)
 
+  -- where nothing passes nothing is found
+  pub find_none : (test : A → Bool) (xs : List A) → ((x : A) → Among x xs → test x ≡ false) → find test xs ≡ None
+  find_none test [] none = refl
+  find_none test (first ∷ rest) none =
+      ap (λ b. cond b (Some first) (find test rest)) (none first (inl refl))
+      ∙ find_none test rest (λ x m. none x (inr m))
+
   -- what is there is found by its number
   pub found_by : (number : A → ℕ) (default : A) (xs : List A)
       → any_pair (λ (a b : A). nat_eq (number a) (number b)) xs ≡ false

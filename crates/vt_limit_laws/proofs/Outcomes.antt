@@ -14,14 +14,6 @@ use Rattle.vt_spec.proofs.Found.{found_passes}
 use Rattle.vt_spec.proofs.Worlds.{same_task_name}
 use Rattle.vt_laws.proofs.judged.CallsJudged.{policy_judges_then_applies}
 
--- a task that is called is there by its own name
-pub called_by_its_name : (world : World ℕ) (name : TaskName) (task : Task ℕ) → task_called world name ≡ Some task
-    → task_called world task.name ≡ Some task
-called_by_its_name world name task called =
-    ap (task_called world)
-    (sym (same_task_name name task.name (found_passes (λ other. same_name name other.name) world.tasks task called)))
-    ∙ called
-
 module _ (world : World ℕ) (fresh : Fresh ℕ) (name : TaskName) (task : Task ℕ) (call : Call)
     (called : task_called world name ≡ Some task) where
   -- a call of a task by its judgement

@@ -41,9 +41,10 @@ use Rattle.vt_world_laws.proofs.worlds.ReachedWalks.{root_found}
 use Rattle.vt_later_laws.proofs.Granted.{called_raised}
 use Rattle.vt_limit_laws.proofs.AddedMount.{added_filesystem, added_mount, attached_is_mount, master-new_mount, other_number}
 use Rattle.vt_limit_laws.proofs.PathWalks.{HasOneWord}
-use Rattle.vt_limit_laws.proofs.Outcomes.{called_by_its_name, policy_by_judgement, refused_call}
+use Rattle.vt_limit_laws.proofs.Outcomes.{policy_by_judgement, refused_call}
 use Rattle.vt_limit_laws.proofs.StackedMounts.{IsStack, judged_by_room, mounted_world, mounts_after, one_more_mount}
 use Rattle.vt_limit_laws.proofs.TopmostGrows.{topmost_is_new, topmost_of_free}
+use Rattle.vt_later_laws.proofs.Readers.{own_name}
 
 -- a filesystem with a directory is found where another comes last
 pub filesystem_stays : (world : World ℕ) (added : Filesystem ℕ) (number node : ℕ)
@@ -228,7 +229,7 @@ module _ (world : World ℕ) (name : TaskName) (path word : List ℕ) (one : Has
     root_mount_stays =
         ap (λ mounts. mount_in nat_eq mounts stack.task.root.mount) mounts_are
         ∙ found-append world.mounts (new ∷ []) stack.task.root.mount
-        (root_found world stack.is stack.task (called_by_its_name world name stack.task stack.called)).0.0
+        (root_found world stack.is stack.task (own_name world name stack.task stack.called)).0.0
 
     -- the root directory of the task stays
     root_stays : node_at nat_eq stacked_world stack.task.root ≡ node_at nat_eq world stack.task.root

@@ -29,7 +29,7 @@ use Rattle.vt_mount_laws.proofs.mounts.MountsNumbered.{is_one_of}
 use Rattle.vt_mount_laws.proofs.mounts.MountsReplaced.{found-append}
 use Rattle.vt_letting_go.specs.Detaching.{StandsUnshared, detached_if, without_place}
 use Rattle.vt_letting_go.specs.InUse.{AllInUse}
-use Rattle.vt_letting_go.proofs.Lists.{passes}
+use Rattle.vt_letting_go.proofs.Lists.{passes, find_none}
 use Rattle.vt_letting_go.proofs.leaving.Detached.{unmount_is_of_one}
 use Rattle.vt_letting_go.proofs.leaving.PlacesLeft.{place_attached}
 use Rattle.vt_letting_go.proofs.sweeps.InUse.{groups_stay, inodes_stay}
@@ -37,14 +37,6 @@ use Rattle.vt_letting_go.proofs.sweeps.OfWorlds.{locations_of_worlds_stand, moun
 use Rattle.vt_world_laws.specs.Worlds.Kept.{IsPlain}
 use Rattle.vt_world_laws.proofs.Plain.{no_overlay}
 use Rattle.vt_limit_laws.proofs.AddedMount.{added_filesystem, added_mount, attached_is_mount, other_number}
-
--- what passes nowhere in a list is not found
-pub nothing_found : {A : Type 0} (test : A → Bool) (list : List A) → ((a : A) → Among a list → test a ≡ false)
-    → find test list ≡ None
-nothing_found test [] none = refl
-nothing_found test (first ∷ list) none =
-    ap (λ b. cond b (Some first) (find test list)) (none first (inl refl))
-    ∙ nothing_found test list (λ a m. none a (inr m))
 
 -- a group that lives has a member
 lives_has_members : {members : ℕ → Bool} {master : ℕ → Option ℕ} {group : ℕ} → Lives members master group
@@ -139,7 +131,7 @@ module _ (world : World ℕ) (fresh : Fresh ℕ) (place : Location ℕ) (flags :
         ap (λ found. unwrap_or found (no_mount new.number))
         (find-append (λ (mount : Mount ℕ). nat_eq new.number mount.number) world.mounts (new ∷ [])
         ∙ ap (λ found. option_or found (find (λ (mount : Mount ℕ). nat_eq new.number mount.number) (new ∷ [])))
-        (nothing_found (λ (mount : Mount ℕ). nat_eq new.number mount.number) world.mounts
+        (find_none (λ (mount : Mount ℕ). nat_eq new.number mount.number) world.mounts
         (λ mount m. nat_eq_false_turned mount.number new.number (other_mount mount m)))
         ∙ ap (λ b. cond b (Some new) None) (eq-eqb new.number new.number refl))
 

@@ -1,5 +1,5 @@
 -- What a line asks for, by its texts.
-use Rattle.std.proofs.Common.{inl, inr, IfSome, is_some, Bool, List, None, Option, Some, Err, [], ap, arith, codes, cond, false, length, lit≤, option_map, refl, subst, suc, sym, true, unwrap_or, ℕ, ◌<◌, ◌≡◌, ◌≤◌, ◌∙◌, ◌∷◌, ◌++◌, leb, IsSomeAnd}
+use Rattle.std.proofs.Common.{inl, inr, IfSome, Bool, List, None, Option, Some, Err, [], ap, arith, codes, cond, false, length, lit≤, option_map, refl, subst, suc, sym, true, unwrap_or, ℕ, ◌<◌, ◌≡◌, ◌≤◌, ◌∙◌, ◌∷◌, ◌++◌, leb, IsSomeAnd}
 use Rattle.std.specs.List.{list_any}
 use Rattle.std.specs.Str.{bytes_eq}
 use Rattle.std.proofs.lemmas.Bool.Decides.{nat_tests}
@@ -314,10 +314,6 @@ some_takes : (task : List ℕ) (call : Option Call) → IsSomeAnd call KeepsWord
     → IsSomeAnd (option_map (Calling task) call) TakesMemory
 some_takes task None keeps = keeps
 some_takes task (Some call) keeps = inl keeps
-
-pub some_value : {A : Type 0} (a : Option A) → is_some a ≡ true → (x : A) × (a ≡ Some x)
-some_value None e = cc
-some_value (Some x) e = (x, refl)
 
 pub request-long : (asked : Option Request) (task : List ℕ) (call : Option Call) (c : Call)
     → asked ≡ option_map (Calling task) call → call ≡ Some c

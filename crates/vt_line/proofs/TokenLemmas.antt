@@ -13,6 +13,7 @@ use Rattle.vt_spec.specs.Language.Script.{each_of, is_plain, is_silent, raw_toke
 use Rattle.vt_spec.specs.Language.Script.Reading.{AfterBackslash, Between, Failed}
 use Rattle.vt_line.specs.Tokens.{cut, few_texts}
 use Rattle.std.proofs.lemmas.Bool.{and_parts, false≢true}
+use Rattle.vt_spec.proofs.Options.{cond-None}
 
 -- the parts of a text are those of a split
 with_byte-onto_first : (byte : ℕ) (texts : List (List ℕ)) → with_byte false byte texts ≡ onto_first byte texts
@@ -180,12 +181,8 @@ few_texts-many line many =
     let test : leb (length (raw_tokens line)) 6 ≡ false = grind (arith, nat_tests) in
     ap (λ test. cond test (each_of token_text (raw_tokens line)) None) test
 
-none-either : {A : Type 0} (test : Bool) (read : Option A) → read ≡ None → cond test read None ≡ None
-none-either true read e = e
-none-either false read e = refl
-
 pub few_texts-wrong : (line : List ℕ) → each_of token_text (raw_tokens line) ≡ None → few_texts line ≡ None
-few_texts-wrong line wrong = none-either (leb (length (raw_tokens line)) 6) (each_of token_text (raw_tokens line)) wrong
+few_texts-wrong line wrong = cond-None (leb (length (raw_tokens line)) 6) (each_of token_text (raw_tokens line)) wrong
 
 -- the sum of sizes
 pub sum-cons : (size : ℕ) (sizes : List ℕ) → sum (size ∷ sizes) ≡ size + sum sizes

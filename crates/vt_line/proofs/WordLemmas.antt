@@ -16,6 +16,7 @@ use Rattle.vt_cred.specs.Caps.{capability_table}
 use Rattle.vt_spec.specs.Language.Calls.CapabilityWord.{These}
 use Rattle.vt_spec.specs.PathText.{parts}
 use Rattle.vt_spec.specs.Language.Script.{task_word, name_of_parts, each_of, with_first, child_number, capability_named, capabilities_word, union, groups_word, identity_word}
+use Rattle.vt_spec.proofs.Options.{cond-None}
 
 -- a task's name by its first part
 pub task_word-other : (text first : List ℕ) (rest : List (List ℕ)) → parts 46 text ≡ first ∷ rest → bytes_eq first (codes "t") ≡ false → task_word text ≡ None
@@ -146,14 +147,10 @@ groups_word-many text some many =
     let test : leb (length (parts 44 text)) 32 ≡ false = grind (arith, nat_tests) in
     groups_word-parts text some ∙ ap (λ test. cond test (each_of identity_word (parts 44 text)) None) test
 
-none-either : (test : Bool) (read : Option (List ℕ)) → read ≡ None → cond test read None ≡ None
-none-either true read e = e
-none-either false read e = refl
-
 pub groups_word-wrong : (text : List ℕ) → bytes_eq text (codes "-") ≡ false → each_of identity_word (parts 44 text) ≡ None → groups_word text ≡ None
 groups_word-wrong text some wrong =
     groups_word-parts text some
-    ∙ none-either (leb (length (parts 44 text)) 32) (each_of identity_word (parts 44 text)) wrong
+    ∙ cond-None (leb (length (parts 44 text)) 32) (each_of identity_word (parts 44 text)) wrong
 
 pub words_end : {A : Type 0} (all left : List A) (at : ℕ) (size : ℕ) (ended : Option (Unit {0}))
     → ended ≡ then_some (leb size at) tt → size ≡ length all

@@ -19,6 +19,7 @@ use Rattle.vt_spec.specs.Machine.Mounts.{Mount}
 use Rattle.vt_mount.specs.Attached.{AreOf}
 use Rattle.vt_listing.specs.GroupsListed.{SeesMore, group_numbers}
 use Rattle.vt_mount.proofs.AttachedLemmas.{picked_next, place_of, places_alike}
+use Rattle.vt_group.specs.Sets.{same_group}
 
 -- Each once, with one more
 
@@ -85,13 +86,10 @@ module _ {A : Type 0} (number : A → ℕ) (same : A → A → Bool)
 abbrev pub numbers_of : List FilesystemId → List ℕ
 numbers_of ids = map (λ (id : FilesystemId). counted id.count) ids
 
-abbrev pub group_eq : GroupId → GroupId → Bool
-group_eq a b = nat_eq a.count b.count
-
 filesystems_tested : (a b : FilesystemId) → nat_eq (counted a.count) (counted b.count) ≡ key_eq a b
 filesystems_tested a b = counted_test a.count b.count
 
-groups_tested : (a b : GroupId) → nat_eq (counted a.count) (counted b.count) ≡ group_eq a b
+groups_tested : (a b : GroupId) → nat_eq (counted a.count) (counted b.count) ≡ same_group a b
 groups_tested a b = counted_test a.count b.count
 
 -- the filesystems so far, with that of the next mount
@@ -115,9 +113,9 @@ module _ (h : MountId → Option ℕ) (i : ℕ) (d : MountId) (ids : List MountI
 -- Groups: one more, several one after the other, and none
 
 pub one_more : (seen : List GroupId) (group : GroupId)
-    → SeesMore seen (insert_key group_eq seen group) (counted group.count ∷ [])
+    → SeesMore seen (insert_key same_group seen group) (counted group.count ∷ [])
 one_more seen group before is =
-    inserted_numbers (λ (id : GroupId). counted id.count) group_eq groups_tested group seen
+    inserted_numbers (λ (id : GroupId). counted id.count) same_group groups_tested group seen
     ∙ ap (λ ks. insert_key nat_eq ks (counted group.count)) is
     ∙ sym (once_more (counted group.count) before)
 
@@ -214,9 +212,9 @@ pub numbered_index : (id : FilesystemId) (ids : List FilesystemId) (o : Option �
 numbered_index id ids o is = index_by_number
     (λ (one : FilesystemId). counted one.count) key_eq filesystems_tested id ids o is
 
-pub grouped_index : (id : GroupId) (ids : List GroupId) (o : Option ℕ) → position (group_eq id) ids ≡ o
+pub grouped_index : (id : GroupId) (ids : List GroupId) (o : Option ℕ) → position (same_group id) ids ≡ o
     → number_among nat_eq (group_numbers ids) (counted id.count) ≡ unwrap_or (option_map (λ i. 1 + i) o) 0
-grouped_index id ids o is = index_by_number (λ (one : GroupId). counted one.count) group_eq groups_tested id ids o is
+grouped_index id ids o is = index_by_number (λ (one : GroupId). counted one.count) same_group groups_tested id ids o is
 
 mapped_places : (n k : ℕ) (all : List (Mount ℕ))
     → index_from (λ (mount : Mount ℕ). nat_eq n mount.number) k all

@@ -1,4 +1,5 @@
 -- What the proofs of src/propagation.rt use.
+pub mod OneAttached
 pub mod PropagationAbove
 pub mod PropagationAttaching
 pub mod PropagationCopies

@@ -12,7 +12,7 @@ use Rattle.vt_spec.specs.Machine.World.Real.{Upper}
 use Rattle.vt_spec.specs.TreeInvariant.{IsDirectory, entry_at, led}
 use Rattle.vt_tree_laws.specs.Trees.{IsFileTree, MayAddName, MayMake, MayMove, MayRemove}
 use Rattle.vt_tree_laws.specs.Trees.Sizes.{IsFitChange, is_fit_tree}
-use Rattle.vt_layer_laws.specs.Layers.ChangesUpper.{StandsInUpper}
+use Rattle.vt_layer_laws.specs.Layers.ChangesUpper.{StandsInUpper, IsNewBy}
 use Rattle.vt_overlay_laws.specs.WhatIsShown.{IsWhole}
 use Rattle.vt_overlay_laws.specs.WholeChanges.{IsAskedWell}
 
@@ -55,10 +55,6 @@ MoveKeepsWhole =
 pub record AreNew (fresh : Fresh ℕ) (merge : Merge ℕ) : Type 0 where
   pub distinct : (j k : ℕ) → fresh j ≡ fresh k → j ≡ k
   pub unused : (k : ℕ) → merge.upper.tree.node (fresh k) ≡ None
-
--- an inode with one of these numbers
-abbrev pub IsNewBy : Fresh ℕ → ℕ → Type 0
-IsNewBy fresh object = (k : ℕ) × (object ≡ fresh k)
 
 -- an upper object of the overlay that is no directory, or that names lead to from the upper layer's directory
 abbrev pub IsOwnPlaced : Stack ℕ → Merge ℕ → ℕ → Type 0

@@ -12,13 +12,13 @@ use Rattle.vt_spec.specs.Machine.Permits.Permit.{ToMake, ToOpenNew}
 use Rattle.vt_spec.specs.Machine.Policy.{call_outcome}
 use Rattle.vt_spec.specs.Machine.Run.{Serves}
 use Rattle.vt_spec.specs.Machine.World.{Layer, Overlay, Task, World, filesystem_at, filesystem_numbered, task_called}
-use Rattle.vt_layer_laws.specs.Layers.Untouched.{inode_in}
 use Rattle.vt_overlay_laws.specs.WholeChanges.{IsAskedWell}
 use Rattle.vt_overlays_let_go.specs.OverlayChanges.{CanChange}
 use Rattle.vt_merge_laws.specs.UpperChanges.{seen_below}
 use Rattle.vt_merge_laws.specs.UpperCalls.{Asks, ChangeAt, changed_above}
 use Rattle.vt_merge_laws.specs.BelowChanges.{IsEnded, LiesUnder}
 use Rattle.vt_overlay_permit_laws.specs.Asked.{change_asked}
+use Rattle.vt_tree_laws.specs.Trees.Settling.{inode_in}
 
 -- The change of an overlay that asks for what it may leaves both trees trees.
 abbrev pub AskedChangesCanBeMade : Type 0

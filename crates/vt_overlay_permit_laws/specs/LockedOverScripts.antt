@@ -11,8 +11,9 @@ use Rattle.vt_spec.specs.Machine.Run.{Serves, line_step, step_world}
 use Rattle.vt_spec.specs.Machine.World.{Layer, Overlay, World, filesystem_numbered, is_overlay, opening}
 use Rattle.vt_tree_laws.specs.Trees.Limits.{names_few_groups}
 use Rattle.vt_layer_laws.specs.Layers.Locked.{LeadsAsBefore}
-use Rattle.vt_layer_laws.specs.Layers.Untouched.{IsKept, inode_in}
+use Rattle.vt_layer_laws.specs.Layers.Untouched.{IsKept}
 use Rattle.vt_world_laws.specs.Worlds.Calls.{LeadsTo}
+use Rattle.vt_tree_laws.specs.Trees.Settling.{inode_in}
 
 -- the overlay of this number is live
 abbrev pub is_live : World ℕ → ℕ → Bool

@@ -16,10 +16,11 @@ use Rattle.vt_spec.specs.Machine.Run.{Serves, line_step, step_world}
 use Rattle.vt_spec.specs.Machine.World.{Layer, Overlay, Task, World, filesystem_at, filesystem_numbered, is_overlay, layers_of, mount_at, opening, task_called}
 use Rattle.vt_tree_laws.specs.Trees.Limits.{names_few_groups}
 use Rattle.vt_layer_laws.specs.Layers.Locked.{GoesThrough, LeadsAsBefore}
-use Rattle.vt_layer_laws.specs.Layers.Untouched.{IsKept, changes_no_mount, inode_in}
+use Rattle.vt_layer_laws.specs.Layers.Untouched.{IsKept, changes_no_mount}
 use Rattle.vt_world_laws.specs.Worlds.Calls.{LeadsTo}
 use Rattle.vt_overlay_permit_laws.specs.Asked.{change_asked}
 use Rattle.vt_overlay_permit_laws.specs.LockedOverScripts.{is_live}
+use Rattle.vt_tree_laws.specs.Trees.Settling.{inode_in}
 
 -- A granted call that changes something goes through the filesystem of the location that it changes. (The world is the
 -- one before what nothing uses any more is let go.)

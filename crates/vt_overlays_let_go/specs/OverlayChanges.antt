@@ -13,11 +13,11 @@ use Rattle.vt_spec.specs.Machine.Settled.{named_in, settled}
 use Rattle.vt_spec.specs.Machine.World.{Layer, Overlay, World, filesystem_at, filesystem_numbered, files_at, mount_at}
 use Rattle.vt_spec.specs.Machine.Invariants.{IsWorld}
 use Rattle.vt_spec.specs.TreeInvariant.{entry_at}
-use Rattle.vt_layer_laws.specs.Layers.Untouched.{inode_in}
 use Rattle.vt_letting_go.specs.FileChanges.{MayChange, names_lost}
 use Rattle.vt_letting_go.specs.InUse.{IsListedTree}
 use Rattle.vt_letting_go.specs.OneByOne.{Inode}
 use Rattle.vt_letting_go.specs.Overlays.{let_go_all_inodes}
+use Rattle.vt_tree_laws.specs.Trees.Settling.{inode_in}
 
 -- a name that is removed is there
 abbrev pub NameIsThere : FileTree ℕ → Change ℕ → Type 0

@@ -11,28 +11,28 @@ use Rattle.vt_spec.specs.Machine.Mounts.{Location, Mount, no_mount}
 use Rattle.vt_spec.specs.Machine.World.{Namespace, World, mount_at}
 use Rattle.vt_spec.specs.Machine.Invariants.{NamespaceInvariants, is_listed}
 use Rattle.vt_spec.proofs.Lists.{Among, among-from_filter, among-from_map, among_from_all, among_from_contains, among_from_list_all, among_numbers, any_among, any_from_among, none_among}
-use Rattle.vt_mount_laws.proofs.Counting.{Own, count-inside, moved_fewer}
+use Rattle.vt_mount_laws.proofs.Counting.{count-inside, moved_fewer}
 pub use Rattle.vt_mount_laws.proofs.Counting.{absent_counted, added_counted, moved_all}
 use Rattle.vt_location.specs.declared.mounts.Mount.{Mount as Kept}
 use Rattle.vt_location.specs.declared.numbers.NamespaceId.{NamespaceId}
 use Rattle.vt_location.specs.MountValue.{mount_of}
 use Rattle.vt_location.specs.Numbers.{counted}
 use Rattle.vt_mount.proofs.EntryLemmas.{same_count}
-use Rattle.vt_propagate.specs.Filling.{GrowsBy, MovesFrom, is_overfilled, leaving, mount_count, parts_in}
+use Rattle.vt_propagate.specs.Filling.{GrowsBy, MovesFrom, is_overfilled, leaving, parts_in}
 use Rattle.vt_propagate.specs.declared.filling.Load.{Load}
 use Rattle.vt_propagate.proofs.Found.{numbered}
-use Rattle.vt_propagate.proofs.TakingPart.{receivers_there}
 use Rattle.vt_spec.proofs.Truths.{same_truth}
 use Rattle.vt_letting_go.proofs.Lists.{found_in}
-use Rattle.vt_mount_laws.specs.Mounts.Attaching.{OneNumberAMount, numbers_of}
+use Rattle.vt_mount_laws.specs.Mounts.Attaching.{OneNumberAMount}
 use Rattle.vt_mount.specs.Indexes.{same_namespace, is_in as is_part_in}
-use Rattle.vt_letting_go.specs.Ends.{is_in}
+use Rattle.vt_mount_laws.specs.Mounts.Ending.{count_in, is_in}
+use Rattle.vt_mount_laws.proofs.mounts.Receivers.{receivers_there}
 
 -- parts as they are kept
 
 -- the parts of a namespace are counted as code counts them
 pub parts_counted : (parts : List Kept) (namespace : NamespaceId)
-    → mount_count (map mount_of parts) (counted namespace.count) ≡ parts_in parts namespace
+    → count_in (map mount_of parts) (counted namespace.count) ≡ parts_in parts namespace
 parts_counted parts namespace = all parts ∙ length-filter (is_part_in namespace) parts
   where
     same : (part : Kept) → is_in (counted namespace.count) (mount_of part) ≡ is_part_in namespace part
@@ -77,10 +77,10 @@ module _ (world : World ℕ) (parts : List (Mount ℕ)) (invariants : NamespaceI
     (part_listed : (part : Mount ℕ) (namespace : ℕ) → Among part parts → part.namespace ≡ Some namespace
     → is_listed nat_eq world namespace ≡ true)
     (after : World ℕ) (same : after.namespaces ≡ world.namespaces)
-    (small : (namespace : ℕ) → mount_count parts namespace ≡ 0
-    → mount_count after.mounts namespace ≤ mount_count world.mounts namespace) where
+    (small : (namespace : ℕ) → count_in parts namespace ≡ 0
+    → count_in after.mounts namespace ≤ count_in world.mounts namespace) where
   abbrev full : ℕ → Bool
-  full namespace = nat_lt most_mounts (mount_count after.mounts namespace)
+  full namespace = nat_lt most_mounts (count_in after.mounts namespace)
 
   parts_tell : list_any (λ part. holds_of full part.namespace) parts
       ≡ list_any (λ namespace. full namespace.number) world.namespaces
@@ -110,9 +110,9 @@ module _ (world : World ℕ) (parts : List (Mount ℕ)) (invariants : NamespaceI
           found : (one : Namespace ℕ) × Among one world.namespaces × (full one.number ≡ true)
           found = any_among (λ (one : Namespace ℕ). full one.number) world.namespaces h
 
-          few : nat_lt most_mounts (mount_count world.mounts found.0.number) ≡ false
+          few : nat_lt most_mounts (count_in world.mounts found.0.number) ≡ false
           few = none_among (λ (one : Namespace ℕ). nat_lt most_mounts
-              (mount_count world.mounts one.number)) world.namespaces invariants.few_mounts found.0 found.1
+              (count_in world.mounts one.number)) world.namespaces invariants.few_mounts found.0 found.1
 
           of_it : (o : Option ℕ) → holds_of (nat_eq found.0.number) o ≡ true → holds_of full o ≡ true
           of_it None e = absurd (true≢false (sym e))
@@ -121,14 +121,15 @@ module _ (world : World ℕ) (parts : List (Mount ℕ)) (invariants : NamespaceI
           by : (list : List (Mount ℕ)) → filter (is_in found.0.number) parts ≡ list
               → list_any (λ part. holds_of full part.namespace) parts ≡ true
           by [] e =
-              let low : mount_count after.mounts found.0.number ≤ mount_count world.mounts found.0.number = small found.0.number (ap length e) in
+              let low : count_in after.mounts found.0.number ≤ count_in world.mounts found.0.number =
+              small found.0.number (ap length e) in
               absurd (omega (
                 arith,
                 low,
                 ltb-true most_mounts
-                    (mount_count after.mounts found.0.number) found.2,
+                    (count_in after.mounts found.0.number) found.2,
                 ltb-false most_mounts
-                    (mount_count world.mounts found.0.number) few,
+                    (count_in world.mounts found.0.number) few,
               ))
           by (part ∷ list) e =
               let inside : Among part parts × (is_in found.0.number part ≡ true) =
@@ -140,8 +141,8 @@ module _ (world : World ℕ) (parts : List (Mount ℕ)) (invariants : NamespaceI
   kept_tell : (mounts : List (Mount ℕ)) → mounts ≡ world.mounts → (kept : List Kept) → map mount_of kept ≡ parts
       → (load : Load) (counts : NamespaceId → ℕ)
       → ((namespace : NamespaceId) → counts namespace ≡ parts_in kept namespace)
-      → ((namespace : NamespaceId) → mount_count after.mounts (counted namespace.count)
-      ≡ mount_count world.mounts (counted namespace.count) - leaving load namespace + mount_count parts
+      → ((namespace : NamespaceId) → count_in after.mounts (counted namespace.count)
+      ≡ count_in world.mounts (counted namespace.count) - leaving load namespace + count_in parts
       (counted namespace.count) * load.count)
       → list_any (λ part. is_overfilled mounts load counts part.namespace) kept ≡ has_too_many nat_eq after
   kept_tell mounts same_mounts kept are load counts right exact =
@@ -153,9 +154,9 @@ module _ (world : World ℕ) (parts : List (Mount ℕ)) (invariants : NamespaceI
       one None = refl
       one (Some namespace) =
           ap (nat_lt most_mounts) (
-          (λ i. mount_count (same_mounts i) (counted namespace.count) - leaving load namespace
+          (λ i. count_in (same_mounts i) (counted namespace.count) - leaving load namespace
           + (right namespace ∙ sym (parts_counted kept namespace)
-          ∙ ap (λ list. mount_count list (counted namespace.count)) are) i * load.count)
+          ∙ ap (λ list. count_in list (counted namespace.count)) are) i * load.count)
           ∙ sym (exact namespace))
 
       over : (list : List Kept) → list_any (λ part. is_overfilled mounts load counts part.namespace) list
@@ -209,23 +210,23 @@ module _ (world : World ℕ) (place : Location ℕ) where
         kept_tell world parts invariants
         (part_listed invariants) added refl small mounts same kept are load counts right exact
       where
-        small : (namespace : ℕ) → mount_count parts namespace ≡ 0
-            → mount_count added.mounts namespace ≤ mount_count world.mounts namespace
+        small : (namespace : ℕ) → count_in parts namespace ≡ 0
+            → count_in added.mounts namespace ≤ count_in world.mounts namespace
         small namespace e =
             let all = added_counted world place new tree namespace in
-            let none : mount_count parts namespace * length tree ≡ 0 = ap (λ n. n * length tree) e ∙ omega arith in
+            let none : count_in parts namespace * length tree ≡ 0 = ap (λ n. n * length tree) e ∙ omega arith in
             omega (arith, all, none)
 
-        exact : (namespace : NamespaceId) → mount_count added.mounts (counted namespace.count)
-            ≡ mount_count world.mounts (counted namespace.count) - leaving load namespace + mount_count parts
+        exact : (namespace : NamespaceId) → count_in added.mounts (counted namespace.count)
+            ≡ count_in world.mounts (counted namespace.count) - leaving load namespace + count_in parts
             (counted namespace.count) * load.count
         exact namespace =
             let all = added_counted world place new tree (counted namespace.count) in
             let none : leaving load namespace
             ≡ 0 = ap (λ o. cond (holds_of (same_namespace namespace) o) load.count 0) stay in
-            let sized : mount_count parts (counted namespace.count) * length tree
-            ≡ mount_count parts (counted namespace.count) * load.count =
-            ap (λ n. mount_count parts (counted namespace.count) * n) size in
+            let sized : count_in parts (counted namespace.count) * length tree
+            ≡ count_in parts (counted namespace.count) * load.count =
+            ap (λ n. count_in parts (counted namespace.count) * n) size in
             omega (arith, all, none, sized)
 
   -- Mounts that move
@@ -234,7 +235,7 @@ module _ (world : World ℕ) (place : Location ℕ) where
     abbrev moved : World ℕ
     moved = attached_by nat_eq world new place true tree
 
-    module _ (own : Own world.mounts) (apart : Own tree)
+    module _ (own : OneNumberAMount world.mounts) (apart : OneNumberAMount tree)
         (within : (mount : Mount ℕ) → Among mount tree → Among mount world.mounts) where
       moved_tell : NamespaceInvariants nat_eq world → (mounts : List (Mount ℕ)) → mounts ≡ world.mounts
           → (kept : List Kept) → map mount_of kept ≡ parts
@@ -246,14 +247,14 @@ module _ (world : World ℕ) (place : Location ℕ) where
           kept_tell world parts invariants
           (part_listed invariants) moved refl small mounts same kept are load counts right exact
         where
-          small : (namespace : ℕ) → mount_count parts namespace ≡ 0
-              → mount_count moved.mounts namespace ≤ mount_count world.mounts namespace
+          small : (namespace : ℕ) → count_in parts namespace ≡ 0
+              → count_in moved.mounts namespace ≤ count_in world.mounts namespace
           small namespace e =
               let all = moved_all world place new tree own apart within namespace in
-              let none : mount_count parts namespace * length tree ≡ 0 = ap (λ n. n * length tree) e ∙ omega arith in
+              let none : count_in parts namespace * length tree ≡ 0 = ap (λ n. n * length tree) e ∙ omega arith in
               omega (arith, all, none)
 
-          leave : (namespace : NamespaceId) → mount_count tree (counted namespace.count) ≡ leaving load namespace
+          leave : (namespace : NamespaceId) → count_in tree (counted namespace.count) ≡ leaving load namespace
           leave namespace =
               count-inside tree (option_map (λ n. counted n.count) load.leaves) inside (counted namespace.count)
               ∙ by load.leaves
@@ -264,16 +265,16 @@ module _ (world : World ℕ) (place : Location ℕ) where
               by None = refl
               by (Some other) = λ i. cond (same_count namespace.count other.count i) (size i) 0
 
-          exact : (namespace : NamespaceId) → mount_count moved.mounts (counted namespace.count)
-              ≡ mount_count world.mounts (counted namespace.count) - leaving load namespace + mount_count parts
+          exact : (namespace : NamespaceId) → count_in moved.mounts (counted namespace.count)
+              ≡ count_in world.mounts (counted namespace.count) - leaving load namespace + count_in parts
               (counted namespace.count) * load.count
           exact namespace =
               let all = moved_all world place new tree own apart within (counted namespace.count) in
               let gone = leave namespace in
               let fewer = moved_fewer world.mounts tree own apart within (counted namespace.count) in
-              let sized : mount_count parts (counted namespace.count) * length tree
-              ≡ mount_count parts (counted namespace.count) * load.count =
-              ap (λ n. mount_count parts (counted namespace.count) * n) size in
+              let sized : count_in parts (counted namespace.count) * length tree
+              ≡ count_in parts (counted namespace.count) * load.count =
+              ap (λ n. count_in parts (counted namespace.count) * n) size in
               omega (arith, all, gone, fewer, sized)
 
 -- What code counts tells whether a namespace overfills where a tree moves with copies.
@@ -307,16 +308,16 @@ more_tell world after invariants mounts same kept load stay grows counts right =
     (among_from_all (Contains world.mounts) (map mount_of kept) grows.there part m)) is)
     after grows.namespaces small mounts same kept refl load counts right exact
   where
-    small : (namespace : ℕ) → mount_count (map mount_of kept) namespace ≡ 0
-        → mount_count after.mounts namespace ≤ mount_count world.mounts namespace
+    small : (namespace : ℕ) → count_in (map mount_of kept) namespace ≡ 0
+        → count_in after.mounts namespace ≤ count_in world.mounts namespace
     small namespace e =
         let all = grows.counts namespace in
-        let none : mount_count (map mount_of kept) namespace * load.count ≡ 0 = ap (λ n. n * load.count) e
+        let none : count_in (map mount_of kept) namespace * load.count ≡ 0 = ap (λ n. n * load.count) e
         ∙ omega arith in
         omega (arith, all, none)
 
-    exact : (namespace : NamespaceId) → mount_count after.mounts (counted namespace.count)
-        ≡ mount_count world.mounts (counted namespace.count) - leaving load namespace + mount_count (map mount_of kept)
+    exact : (namespace : NamespaceId) → count_in after.mounts (counted namespace.count)
+        ≡ count_in world.mounts (counted namespace.count) - leaving load namespace + count_in (map mount_of kept)
         (counted namespace.count) * load.count
     exact namespace =
         let all = grows.counts (counted namespace.count) in

@@ -1,5 +1,5 @@
 -- Mounts that are found by their numbers.
-use Rattle.std.proofs.Common.{◌≡◌, ℕ, Bool, true, false, cond, List, [], ◌∷◌, map, filter, nat_eq, nat_lt, Option, None, Some, refl, sym, ap, ◌∙◌, arith, inl, inr, ⊎_elim, eq-eqb, ne_eqb}
+use Rattle.std.proofs.Common.{◌≡◌, ℕ, Bool, true, false, cond, List, [], ◌∷◌, filter, nat_eq, nat_lt, Option, None, Some, refl, sym, ap, ◌∙◌, arith, inl, inr, ⊎_elim, eq-eqb, ne_eqb}
 use Rattle.std.specs.Prelude.{find as seek}
 use Rattle.std.specs.List.{cons_option, list_all}
 use Rattle.std.proofs.lemmas.Bool.{and_parts, ltb-true}
@@ -8,12 +8,9 @@ use Rattle.vt_spec.proofs.Lists.{Among, among_from_list_all}
 use Rattle.vt_location.specs.declared.numbers.MountId.{MountId}
 use Rattle.vt_location.specs.Numbers.{counted}
 use Rattle.vt_mount.specs.MountsValue.{are_ascending}
+pub use Rattle.vt_mount.proofs.PlaceLemmas.{counts}
 use Rattle.vt_propagate.specs.Seen.{mounts_numbered}
 use Rattle.vt_mount_laws.specs.Mounts.Attaching.{numbers_of}
-
--- the numbers of mounts by their counts
-abbrev pub counts : List MountId → List ℕ
-counts ids = map (λ id. counted id.count) ids
 
 -- the first mount with a number
 abbrev pub numbered : List (Mount ℕ) → ℕ → Option (Mount ℕ)

@@ -1,6 +1,6 @@
 -- A tree of mounts moves: what its plans say of the world then.
-use Rattle.std.proofs.Common.{◌≡◌, ℕ, Bool, true, false, ◌&&◌, List, [], ◌∷◌, ◌⊎◌, inl, inr, ⊎_elim, map, nat_eq, Option, None, Some, is_some, refl, sym, ap, subst, true≢false, cond, ◌∙◌, eq-eqb}
-use Rattle.std.specs.Prelude.{Contains, find as seek, if◌then◌else◌, option_map, unwrap_or}
+use Rattle.std.proofs.Common.{◌≡◌, ℕ, Bool, true, false, ◌&&◌, List, [], ◌∷◌, ◌⊎◌, inl, inr, ⊎_elim, map, nat_eq, Option, None, Some, is_some, refl, sym, ap, subst, true≢false, ◌∙◌, eq-eqb}
+use Rattle.std.specs.Prelude.{Contains, if◌then◌else◌, option_map, unwrap_or}
 use Rattle.vt_spec.specs.Lists.{first_of_list, folded, holds_of, or_else, rest_of}
 use Rattle.vt_spec.specs.Machine.Attach.{Copies, Twig, copies_at, copy_at, copy_number, is_top, parts_of, mount_point_on_copy, pushed_onto, pushed_up, twig_of}
 use Rattle.vt_spec.specs.Machine.Attach as meant
@@ -20,6 +20,7 @@ use Rattle.vt_propagate.specs.Pushing.{KeepsLeaver, PushesBy, leaver}
 use Rattle.vt_propagate.proofs.Pushed.{receivers_apart}
 use Rattle.vt_spec.proofs.Truths.{nat_eq-swapped}
 use Rattle.vt_spec.proofs.Worlds.{number-mount_in}
+use Rattle.vt_letting_go.proofs.Lists.{find_none}
 
 -- each mount is one of the new ones, or it was there and has the number of none of them
 among-folded : (new mounts : List (Mount ℕ)) (mount : Mount ℕ) → Among mount (folded (with_mount nat_eq) mounts new)
@@ -51,11 +52,6 @@ among-folded (a ∷ new) mounts mount m =
                   (λ here. (λ i. nat_eq (same i).number (here i).number) ∙ nat_eq-swapped a.number old.number false e)
                   (λ later. apart one later) n,
             )
-
-none_found : {A : Type 0} (p : A → Bool) (xs : List A) → ((x : A) → Among x xs → p x ≡ false) → seek p xs ≡ None
-none_found p [] none = refl
-none_found p (x ∷ xs) none =
-    ap (λ b. cond b (Some x) (seek p xs)) (none x (inl refl)) ∙ none_found p xs (λ y m. none y (inr m))
 
 not_first : (number : ℕ) (twigs : List (Twig ℕ))
     → ((twig : Twig ℕ) → Among twig twigs → nat_eq number twig.origin.number ≡ false)
@@ -131,7 +127,7 @@ module _ (world : World ℕ) (graft : Graft) (counts : Counts) (points : List (�
       → pushed (copy origin) ≡ moved_by points (copy origin)
   first_stays origin e =
       ap (pushed_onto nat_eq world new seen parts (copy origin))
-      (none_found at_part (rest_of parts) (λ part m. apart part m))
+      (find_none at_part (rest_of parts) (λ part m. apart part m))
       ∙ (λ i. record (copy origin) {
         mount_point = or_else (sym (keeps (copy origin).number
             (ap (λ n. holds_of (nat_eq n) (leaver graft)) (number_kept origin.number)

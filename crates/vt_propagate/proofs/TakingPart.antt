@@ -1,27 +1,17 @@
 -- The parts of an attachment, by the numbers of receivers.
-use Rattle.std.proofs.Common.{◌≡◌, ℕ, Bool, true, ◌&&◌, List, [], ◌∷◌, filter, nat_eq, Option, None, Some, option_map, is_some, not, sym, ap, ◌∙◌}
+use Rattle.std.proofs.Common.{◌≡◌, ℕ, Bool, true, ◌&&◌, List, ◌∷◌, filter, nat_eq, Some, is_some, not, sym, ap, ◌∙◌}
 use Rattle.std.specs.Prelude.{unwrap_or}
 use Rattle.vt_spec.specs.Machine.Attach.{parts_of, receivers_of, takes_part}
-use Rattle.vt_spec.specs.Machine.Mounts.{Location, Mount, group_of, no_mount}
-use Rattle.vt_spec.specs.Machine.Receives.{receivers, receives}
+use Rattle.vt_spec.specs.Machine.Mounts.{Location, Mount, no_mount}
+use Rattle.vt_spec.specs.Machine.Receives.{receivers}
 use Rattle.vt_spec.specs.Machine.World.{World, mount_at}
-use Rattle.vt_spec.proofs.Lists.{Among, among-from_filter}
 use Rattle.vt_group.specs.Grouping.{Grouping}
 use Rattle.vt_location.specs.declared.numbers.MountId.{MountId}
 use Rattle.vt_mount.specs.MountsValue.{MountEntry, are_ascending, mounts_in}
 use Rattle.vt_propagate.specs.Seen.{IsSeen, ReachesAs, joins, mounts_numbered}
 use Rattle.vt_propagate.proofs.Found.{counts, numbered, numbered_again, passing}
 use Rattle.vt_mount_laws.specs.Mounts.Attaching.{numbers_of}
-
--- receivers are mounts
-pub receivers_there : (world : World ℕ) (mount : Mount ℕ) (one : Mount ℕ) → Among one (receivers_of nat_eq world mount)
-    → Among one world.mounts
-receivers_there world mount one = by (group_of mount.propagation)
-  where
-    by : (group : Option ℕ) → Among one (unwrap_or (option_map (receivers nat_eq world) group) [])
-        → Among one world.mounts
-    by None m = absurd m
-    by (Some group) m = (among-from_filter (receives nat_eq world group) world.mounts one m).0
+use Rattle.vt_mount_laws.proofs.mounts.Receivers.{receivers_there}
 
 module _ (world : World ℕ) (kept : List MountEntry) (grouping : Grouping) (seen : IsSeen world kept grouping) where
   -- the mount at a place

@@ -1,5 +1,5 @@
 -- How many mounts a namespace has.
-use Rattle.std.specs.Prelude.{All, Bool, Contains, List, Option, count_by, filter, length}
+use Rattle.std.specs.Prelude.{All, Bool, Contains, List, Option, count_by}
 use Rattle.std.specs.Prelude.{if◌then◌else◌, nat_eq, nat_lt, option_map, false, ℕ, ◌*◌, ◌+◌, ◌-◌, ◌≡◌}
 use Rattle.vt_spec.specs.Language.Limits.{most_mounts}
 use Rattle.vt_spec.specs.Lists.{any_pair, holds_of}
@@ -10,13 +10,11 @@ use Rattle.vt_location.specs.declared.numbers.NamespaceId.{NamespaceId}
 use Rattle.vt_location.specs.Numbers.{counted}
 use Rattle.vt_propagate.specs.declared.filling.Load.{Load}
 use Rattle.vt_mount.specs.Indexes.{same_namespace, is_in as is_part_in}
-use Rattle.vt_letting_go.specs.Ends.{is_in}
+use Rattle.vt_mount_laws.specs.Mounts.Ending.{count_in}
+pub use Rattle.vt_mount_laws.specs.Mounts.Ending.{count_in as mount_count}
 
 abbrev pub parts_in : List Mount → NamespaceId → ℕ
 parts_in parts namespace = count_by (is_part_in namespace) parts
-
-abbrev pub mount_count : List (meant.Mount ℕ) → ℕ → ℕ
-mount_count mounts namespace = length (filter (is_in namespace) mounts)
 
 -- how many mounts leave a namespace
 abbrev pub leaving : Load → NamespaceId → ℕ
@@ -26,7 +24,7 @@ leaving load namespace = if holds_of (same_namespace namespace) load.leaves then
 abbrev pub is_overfilled : List (meant.Mount ℕ) → Load → (NamespaceId → ℕ) → Option NamespaceId → Bool
 is_overfilled mounts load parts namespace =
     holds_of (λ one. nat_lt most_mounts
-    (mount_count mounts (counted one.count) - leaving load one + parts one * load.count)) namespace
+    (count_in mounts (counted one.count) - leaving load one + parts one * load.count)) namespace
 
 -- these are mounts of the world, each once, all of one namespace, or all of none
 pub record MovesFrom (world : World ℕ) (namespace : Option NamespaceId) (tree : List (meant.Mount ℕ)) : Type 0 where
@@ -40,4 +38,4 @@ pub record GrowsBy (world after : World ℕ) (parts : List (meant.Mount ℕ)) (c
   pub there : All (Contains world.mounts) parts
   pub namespaces : after.namespaces ≡ world.namespaces
   pub counts : (namespace : ℕ)
-      → mount_count after.mounts namespace ≡ mount_count world.mounts namespace + mount_count parts namespace * count
+      → count_in after.mounts namespace ≡ count_in world.mounts namespace + count_in parts namespace * count

@@ -21,7 +21,3 @@ pub none_locked : (looks : Looks ℕ) → HasNoOverlays looks → (places : List
 none_locked looks plain [] = refl
 none_locked looks plain (place ∷ places) =
     ap (λ locked. locked || list_any looks.is_locked places) (plain.unlocked place) ∙ none_locked looks plain places
-
-pub not_both : (one other : Bool) → other ≡ false → (one && other) ≡ false
-not_both true other e = e
-not_both false other e = refl

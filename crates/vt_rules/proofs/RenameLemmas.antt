@@ -15,11 +15,12 @@ use Rattle.vt_spec.specs.Machine.World.{Task}
 use Rattle.vt_spec.specs.Rights.{write_right}
 use Rattle.vt_looks.specs.Looking.{HasNoOverlays}
 use Rattle.vt_rules.specs.Tables.{kind_rules, right_rules, way_rules}
-use Rattle.vt_rules.proofs.PlainRows.{has_an_upper, mounter_may, none_locked, not_both}
+use Rattle.vt_rules.proofs.PlainRows.{has_an_upper, mounter_may, none_locked}
 use Rattle.vt_rules.proofs.Refusals.{unless-stopped}
 use Rattle.vt_rules.proofs.Rows.{kept, skipped}
 use Rattle.std.proofs.lemmas.Bool.{or_from}
 use Rattle.vt_spec.proofs.Refusals.{unless-let_through}
+use Rattle.vt_spec.proofs.Truths.{and_false_right}
 
 -- the caller's rights, and then what does not fail
 rights : {A : Type 0} (may_not moved kept_by stuck mounter mounter_of_moved : Bool)
@@ -65,9 +66,9 @@ rename_parts looks plain task from to old answer =
     (rights (may_not looks task from.parent write_right || may_not looks task to.parent write_right)
     (changes_parent nat_eq looks from to old && may_not looks task old write_right)
     (is_kept looks task from.parent old || holds_of (is_kept looks task to.parent) to.object) _ _ _ _ answer
-    (not_both (is_directory_at looks old) _ (plain.lower from.parent (name_of from.last)))
+    (and_false_right (is_directory_at looks old) _ (plain.lower from.parent (name_of from.last)))
     (or_from _ _ (mounter_may looks plain from.parent write_right) (mounter_may looks plain to.parent write_right))
-    (not_both (changes_parent nat_eq looks from to old) _ (mounter_may looks plain old write_right))
+    (and_false_right (changes_parent nat_eq looks from to old) _ (mounter_may looks plain old write_right))
     (plain.mounter from.parent (moving from to old))))
 
 -- each table in turn

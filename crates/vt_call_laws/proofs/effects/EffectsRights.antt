@@ -10,7 +10,7 @@ use Rattle.vt_call_laws.proofs.inodes.InodesOwn.{calls_change_their_own}
 use Rattle.vt_call_laws.proofs.inodes.InodesPartLaws.{only_chmod_changes_modes, only_chown_changes_owners, only_naming_changes_entries, only_opaque_changes_marks, only_writes_change_bytes}
 use Rattle.vt_call_laws.specs.Effects.{ChangesAreByRight, HasOpenFor, MayDo}
 use Rattle.vt_laws.specs.Given.{NoneFails}
-use Rattle.vt_call_laws.specs.Inodes.{IsNotHanded, StaysIfThere, change_of, changes_names, entries_named_by, inode_in, is_own, is_own_entry, owner_of, same_entry, sets_mark, sets_mode, sets_owner, writes_bytes}
+use Rattle.vt_call_laws.specs.Inodes.{IsNotHanded, StaysIfThere, change_of, changes_names, entries_named_by, is_own, is_own_entry, owner_of, same_entry, sets_mark, sets_mode, sets_owner, writes_bytes}
 use Rattle.vt_spec.specs.declared.attributes.Attr.{Attr}
 use Rattle.vt_spec.specs.declared.errors.Deny.{Deny}
 use Rattle.vt_spec.specs.declared.errors.Rule.TheVariants.{E1, E2, E6, S4}
@@ -44,6 +44,7 @@ use Rattle.vt_spec.specs.Tree.{Node, bytes_of, entries_of, entry_named}
 use Rattle.vt_tree_laws.proofs.trees.TreesWalked.{Ends, not_true}
 use Rattle.vt_laws.proofs.given.GivenPermits.{given}
 use Rattle.vt_spec.proofs.Worlds.{special_word}
+use Rattle.vt_tree_laws.specs.Trees.Settling.{inode_in}
 
 module _ (fresh : Fresh ℕ) (world : World ℕ) (task : Task ℕ) (R : Permit ℕ → Type 0) where
   abbrev Gives : Judgement ℕ → Type 0

@@ -8,7 +8,7 @@ use Rattle.vt_call_laws.proofs.inodes.InodesLeft.{LeftBy, MadeBy, inode_left}
 use Rattle.vt_call_laws.proofs.inodes.InodesParts.{KeptByParents, KeptIn, Stays, at_node, change_holds_if_kept, itself, kept_at, made_kept, moved_kept, removed_kept}
 use Rattle.vt_call_laws.proofs.inodes.InodesSettled.{inode_after_call}
 use Rattle.vt_laws.specs.Given.{IsFor}
-use Rattle.vt_call_laws.specs.Inodes.{IsNotHanded, OtherEntriesStay, change_of, entries_named_by, inode_in, is_own_entry, same_entry}
+use Rattle.vt_call_laws.specs.Inodes.{IsNotHanded, OtherEntriesStay, change_of, entries_named_by, is_own_entry, same_entry}
 use Rattle.vt_spec.specs.declared.attributes.Attr.{Attr}
 use Rattle.vt_spec.specs.Language.Calls.{Call}
 use Rattle.vt_spec.specs.Language.Changes.{Change, changed, content_with_mark, content_with_parent, node_with_attr, node_with_mark, node_without_entry, with_name, without_entry, without_name}
@@ -27,6 +27,7 @@ use Rattle.vt_spec.proofs.Nodes.{entry_named-with_entry, entry_named-without_ent
 use Rattle.std.proofs.lemmas.Bool.{or_parts}
 use Rattle.vt_tree_laws.specs.Trees.Calls.{mounts_overlay}
 use Rattle.vt_laws.specs.Plain.{IsPlain}
+use Rattle.vt_tree_laws.specs.Trees.Settling.{inode_in}
 
 module _ (entry : List ℕ) where
   -- the number that the name leads to

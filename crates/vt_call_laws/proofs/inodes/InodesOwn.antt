@@ -5,7 +5,7 @@ use Rattle.vt_laws.proofs.given.GivenPermits.{permits_are_for_their_calls}
 use Rattle.vt_call_laws.proofs.inodes.InodesLeft.{LeftBy, MadeBy, inode_left}
 use Rattle.vt_call_laws.proofs.inodes.InodesSettled.{inode_after_call}
 use Rattle.vt_laws.specs.Given.{IsFor}
-use Rattle.vt_call_laws.specs.Inodes.{CallsChangeTheirOwn, change_of, inode_in, is_own, named_by, own_by}
+use Rattle.vt_call_laws.specs.Inodes.{CallsChangeTheirOwn, change_of, is_own, named_by, own_by}
 use Rattle.vt_spec.specs.Language.Calls.{Call}
 use Rattle.vt_spec.specs.Language.Changes.{Change, changed, with_name, without_name, without_parent}
 use Rattle.vt_spec.specs.Language.Changes.Change.{AddName, CopyUp, Make, Move, Remove, SetAttr, SetBytes, SetMark}
@@ -21,6 +21,7 @@ use Rattle.vt_spec.specs.Tree.{Node, entries_in, entry_named}
 use Rattle.std.proofs.lemmas.Bool.{or_parts}
 use Rattle.vt_tree_laws.specs.Trees.Calls.{mounts_overlay}
 use Rattle.vt_laws.specs.Plain.{IsPlain}
+use Rattle.vt_tree_laws.specs.Trees.Settling.{inode_in}
 
 -- an inode that a change does not name stays
 skip : (b : Bool) (new was : Option (Node ℕ)) → b ≡ false → cond b new was ≡ was

@@ -4,7 +4,7 @@ use Rattle.vt_laws.proofs.given.GivenPermits.{permits_are_for_their_calls}
 use Rattle.vt_call_laws.proofs.inodes.InodesLeft.{ChangeHolds, LeftBy, MadeBy, inode_left}
 use Rattle.vt_call_laws.proofs.inodes.InodesSettled.{inode_after_call}
 use Rattle.vt_laws.specs.Given.{IsFor, IsForAttr, makes_a_name}
-use Rattle.vt_call_laws.specs.Inodes.{IsNotHanded, StaysIfThere, change_of, changes_names, inode_in, sets_mark, sets_mode, sets_owner, writes_bytes}
+use Rattle.vt_call_laws.specs.Inodes.{IsNotHanded, StaysIfThere, change_of, changes_names, sets_mark, sets_mode, sets_owner, writes_bytes}
 use Rattle.vt_spec.specs.declared.attributes.Attr.{Attr}
 use Rattle.vt_spec.specs.Language.Calls.{Call, TaskName}
 use Rattle.vt_spec.specs.Language.Calls.Call.{MakeWhiteout, Mkdir, SymlinkAt, Write}
@@ -22,6 +22,7 @@ use Rattle.vt_spec.specs.Machine.World.{Task, World, files_at}
 use Rattle.vt_spec.specs.Tree.{Node, entries_in, entry_named, node_with_bytes, node_with_entry}
 use Rattle.vt_tree_laws.specs.Trees.Calls.{mounts_overlay}
 use Rattle.vt_laws.specs.Plain.{IsPlain}
+use Rattle.vt_tree_laws.specs.Trees.Settling.{inode_in}
 
 -- what makes a name changes entries
 makes_changes : (call : Call) → makes_a_name call ≡ true → changes_names call ≡ true

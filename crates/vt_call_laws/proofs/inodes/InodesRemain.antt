@@ -3,7 +3,7 @@ use Rattle.std.proofs.Common.{◌≡◌, refl, sym, ap, ◌∙◌, true≢false,
 use Rattle.vt_laws.proofs.given.GivenPermits.{permits_are_for_their_calls}
 use Rattle.vt_call_laws.proofs.inodes.InodesLeft.{LeftBy, MadeBy, inode_left}
 use Rattle.vt_laws.specs.Given.{IsFor}
-use Rattle.vt_call_laws.specs.Inodes.{OnlyUnusedInodesEnd, change_of, inode_in}
+use Rattle.vt_call_laws.specs.Inodes.{OnlyUnusedInodesEnd, change_of}
 use Rattle.vt_spec.specs.Language.Calls.{Call}
 use Rattle.vt_spec.specs.Language.Changes.{Change, changed, changed_node, node_with_attr, node_with_mark, node_with_parent, node_without_entry, with_inode, with_name, without_name, without_parent}
 use Rattle.vt_spec.specs.Language.Changes.Change.{AddName, CopyUp, Make, Move, Remove, SetAttr, SetBytes, SetMark}
@@ -17,6 +17,7 @@ use Rattle.vt_spec.specs.Machine.World.{Task, World, files_at}
 use Rattle.vt_spec.specs.Tree.{Node, entries_in, entry_named, node_with_bytes, node_with_entry}
 use Rattle.vt_tree_laws.specs.Trees.Calls.{mounts_overlay}
 use Rattle.vt_laws.specs.Plain.{IsPlain}
+use Rattle.vt_tree_laws.specs.Trees.Settling.{inode_in}
 
 abbrev pub Remains : Option (Node ℕ) → Option (Node ℕ) → Type 0
 Remains was now = is_some was ≡ true → is_some now ≡ true

@@ -8,9 +8,9 @@ use Rattle.vt_spec.specs.Language.Calls.{Call, TaskName, same_name}
 use Rattle.vt_spec.specs.Machine.Detach.{deepest_first, without_mounts_on}
 use Rattle.vt_spec.specs.Machine.Judge.{Judgement, judge_in}
 use Rattle.vt_spec.specs.Lists.{Fresh, evens, odds}
-use Rattle.vt_spec.specs.Machine.Mounts.{Location, mount_tree, numbers_by}
+use Rattle.vt_spec.specs.Machine.Mounts.{mount_tree, numbers_by}
 use Rattle.vt_spec.specs.Machine.Namespaces.{entered_at, namespace_entered, namespace_root, pivoted_task, unshared, unshared_task}
-use Rattle.vt_spec.specs.Machine.Outcome.Descriptors.{is_copied_up, pwritten, with_copy, with_descriptor, without_descriptor}
+use Rattle.vt_spec.specs.Machine.Outcome.Descriptors.{is_copied_up, with_descriptor, without_descriptor}
 use Rattle.vt_spec.specs.Machine.Outcome.Removing.{without_replaced}
 use Rattle.vt_spec.specs.Machine.Outcome.Tasks.{child_of}
 use Rattle.vt_spec.specs.Machine.Outcomes.{after, denied}
@@ -20,16 +20,7 @@ use Rattle.vt_spec.specs.Machine.Policy.{filesystems_changed_by, finished, finis
 use Rattle.vt_spec.specs.Machine.World.{Task, World, mount_at, mount_numbered, mounts_of, replaced_if_called, task_called, without_task}
 use Rattle.vt_tree_laws.proofs.trees.TreesLimits.{lazily_tasks, typed_tasks}
 use Rattle.vt_spec.proofs.Worlds.{tasks-taken_away, tasks-with_change, tasks-without_replaced}
-
-copied_tasks : (copies : Bool) (fresh : Fresh ℕ) (world : World ℕ) (file : Location ℕ)
-    → (with_copy nat_eq copies fresh world file).tasks ≡ world.tasks
-copied_tasks true fresh world file = tasks-with_change fresh world file _
-copied_tasks false fresh world file = refl
-
-written_tasks : (fresh : Fresh ℕ) (world : World ℕ) (file : Location ℕ) (offset : ℕ) (bytes : List ℕ)
-    → (pwritten nat_eq fresh world file offset bytes).tasks ≡ world.tasks
-written_tasks fresh world file offset [] = refl
-written_tasks fresh world file offset (byte ∷ bytes) = tasks-with_change fresh world file _
+use Rattle.vt_tree_laws.proofs.trees.TreesTasks.{tasks-with_copy, tasks-pwritten}
 
 abbrev Tasks : Type 0
 Tasks = List (Task ℕ)
@@ -78,12 +69,12 @@ module _ (fresh : Fresh ℕ) (world : World ℕ) (task : Task ℕ) where
       ∙ tasks-without_replaced world replaced
   tasks_left (ToOpen file access) =
       ap (map (replaced_if_called (with_descriptor task file access)))
-      (copied_tasks (is_copied_up nat_eq world file access) fresh world file)
+      (tasks-with_copy fresh world (is_copied_up nat_eq world file access) file)
   tasks_left (ToOpenNew directory name node access) =
       ap (map (replaced_if_called
       (with_descriptor task (record { mount = directory.mount; node = evens fresh 0 }) access)))
       (tasks-with_change (odds fresh) world directory _)
-  tasks_left (ToWritePart file offset bytes) = written_tasks fresh world file offset bytes
+  tasks_left (ToWritePart file offset bytes) = tasks-pwritten fresh world file offset bytes
   tasks_left ToExit = tasks-taken_away (without_task world task.name) _
   tasks_left ToUnshare = tasks-taken_away (unshared nat_eq world fresh task) _
   tasks_left (ToEnterNamespace namespace) = tasks-taken_away (namespace_entered nat_eq world task namespace) _

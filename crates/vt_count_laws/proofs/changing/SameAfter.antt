@@ -9,7 +9,7 @@ use Rattle.vt_letting_go.specs.TreeChanges.{with_tree}
 use Rattle.vt_count_laws.specs.Changing.{CountedChangesAreSwept, filesystem_of}
 use Rattle.vt_count_laws.proofs.changing.Changes as Changes
 use Rattle.vt_count_laws.proofs.Listed.{among_by_times, same_numbers_are_permuted}
-use Rattle.vt_count_laws.proofs.Alike.{same_itself}
+use Rattle.vt_laws.proofs.same.SameMany.{same_filesystem_itself}
 
 -- two worlds that differ in the order of the numbers of one filesystem
 same_filesystems : (one other : Filesystem ℕ) → one.number ≡ other.number → SameFilesystem one other
@@ -26,7 +26,7 @@ same_filesystems one other number same (first ∷ rest) = (
   where
     by : (b : Bool) → SameFilesystem (cond b one first) (cond b other first)
     by true = same
-    by false = same_itself first
+    by false = same_filesystem_itself first
 
 pub counted_changes_are_swept : CountedChangesAreSwept
 counted_changes_are_swept fresh world location inodes change is files tree once lists =

@@ -1,12 +1,12 @@
 -- Inodes that get some uses and lose some.
-use Rattle.std.proofs.Common.{◌≡◌, ◌≢◌, refl, sym, ap, subst, ◌∙◌, ⊎_elim, inl, inr, ℕ, ◌+◌, ◌≤◌, nat_eq, eqb-true, eq-eqb, ne_eqb, Bool, true, false, true≢false, cond, not, ◌&&◌, ◌||◌, List, [], ◌∷◌, ◌++◌, length, map, filter, find, flat_map, Option, Some, None, is_some, unwrap_or, arith}
+use Rattle.std.proofs.Common.{◌≡◌, refl, sym, ap, subst, ◌∙◌, ⊎_elim, inl, inr, ℕ, ◌+◌, ◌≤◌, nat_eq, eqb-true, Bool, true, false, true≢false, cond, not, ◌&&◌, ◌||◌, List, [], ◌∷◌, map, filter, find, Option, Some, None, is_some, unwrap_or, arith}
 use Rattle.std.specs.List.{list_all}
 use Rattle.std.proofs.lemmas.Bool.{and_parts, or_cases}
 use Rattle.std.proofs.lemmas.Bool.Decides.{eqb_tells}
 use Rattle.vt_spec.specs.FileTree.{targets_in}
 use Rattle.vt_spec.specs.Lists.{folded, is_among}
 use Rattle.vt_spec.specs.Machine.Settled.{named_in, used_in}
-use Rattle.vt_spec.specs.Machine.World.{Filesystem, World, filesystem_numbered, is_overlay, no_filesystem}
+use Rattle.vt_spec.specs.Machine.World.{Filesystem, World, filesystem_numbered, no_filesystem}
 use Rattle.vt_spec.specs.Inodes.{Inodes, node_in}
 use Rattle.vt_spec.specs.Inodes as Trees
 use Rattle.vt_spec.specs.Tree.{Node}
@@ -15,7 +15,7 @@ use Rattle.vt_letting_go.specs.InUse.{HasTrees, InodesInUse, IsListedTree, is_in
 use Rattle.vt_letting_go.specs.OneByOne.{Inode, is_inode_among, let_go_inode, let_go_inode_of, let_go_inodes, without_inode}
 use Rattle.vt_letting_go.specs.OneByOne as LettingGo
 use Rattle.vt_letting_go.proofs.sweeps.InUse.{unused_are_empty}
-use Rattle.vt_letting_go.proofs.Lists.{Among, among-from_map, among_from_all, fails, flat_map-filter, flat_map_alike, none_passes, passes}
+use Rattle.vt_letting_go.proofs.Lists.{Among, among_from_all, flat_map-filter, flat_map_alike, passes}
 use Rattle.vt_one_text.specs.OneTree.{times_in}
 use Rattle.vt_one_text.proofs.one_tree.OneTreeCounts as Counts
 use Rattle.vt_one_text.proofs.one_tree.OneTreeCounts.{counted_pinned, some_inode}
@@ -30,6 +30,7 @@ use Rattle.vt_count_laws.proofs.using.Swept.{base_of, found_is, found_number, pl
 use Rattle.vt_count_laws.proofs.changing.TreeCounts.{other_uses, unpinned_counts}
 use Rattle.std.proofs.Math.Bool.{or-false}
 use Rattle.vt_spec.proofs.Inodes.{is_some-node_in, node_in-none, uses_in-none}
+use Rattle.vt_letting_go.proofs.sweeps.Inodes.{number-step, plain-step}
 
 -- one if the test passes
 abbrev pub one_when : Bool → ℕ
@@ -184,31 +185,12 @@ module _ (world : World ℕ) (inode : Inode) (plain : LettingGo.IsPlain world) w
   abbrev step : Filesystem ℕ → Filesystem ℕ
   step = let_go_inode_of world inode
 
-  step_number : (f : Filesystem ℕ) → (step f).number ≡ f.number
-  step_number f = by (nat_eq f.number inode.0 && not (is_inode_used world f inode.1))
-    where
-      by : (b : Bool) → (cond b (record f { files = without_inode inode.1 f.files }) f).number ≡ f.number
-      by true = refl
-      by false = refl
-
-  step_overlay : (f : Filesystem ℕ) → is_overlay (step f) ≡ is_overlay f
-  step_overlay f = by (nat_eq f.number inode.0 && not (is_inode_used world f inode.1))
-    where
-      by : (b : Bool) → is_overlay (cond b (record f { files = without_inode inode.1 f.files }) f) ≡ is_overlay f
-      by true = refl
-      by false = refl
-
-  plain_next : LettingGo.IsPlain next
-  plain_next = none_passes is_overlay next.filesystems (λ f m.
-      let from = among-from_map step world.filesystems f m in
-      ap is_overlay from.2 ∙ step_overlay from.0 ∙ fails is_overlay world.filesystems plain from.0 from.1)
-
   module _ (k : ℕ) (f : Filesystem ℕ) (is : f.number ≡ k) (empty : EmptyUnused world f) (stand : StandOnce f) where
     abbrev gone_f : Filesystem ℕ
     gone_f = record f { files = without_inode inode.1 f.files }
 
     same_uses : (n : ℕ) → inode_uses next f n ≡ inode_uses world f n
-    same_uses n = plain_uses_are next plain_next f n ∙ sym (plain_uses_are world plain f n)
+    same_uses n = plain_uses_are next (plain-step world inode plain) f n ∙ sym (plain_uses_are world plain f n)
 
     among_one : (n : ℕ) → is_inode_among k n (inode ∷ []) ≡ (nat_eq k inode.0 && nat_eq n inode.1)
     among_one n = or-false (nat_eq k inode.0 && nat_eq n inode.1)
@@ -245,7 +227,8 @@ module _ (world : World ℕ) (inode : Inode) (plain : LettingGo.IsPlain world) w
     -- it goes
     left_without : nat_eq k inode.0 ≡ true → inode_uses world f inode.1 ≡ 0 → IsLeft k world f (inode ∷ []) next gone_f
     left_without here zero_uses = record {
-      uses = λ n. plain_uses_are next plain_next gone_f n ∙ ap (λ l. base_of world f n + times_in n l) named
+      uses = λ n. plain_uses_are next (plain-step world inode plain) gone_f n
+          ∙ ap (λ l. base_of world f n + times_in n l) named
           ∙ sym (plain_uses_are world plain f n);
       used = λ n some. ⊎_elim
           (λ t. absurd (let none : inode_uses world f n ≡ 0 = ap (inode_uses world f) t.1 ∙ zero_uses in omega arith))
@@ -318,8 +301,8 @@ all_left k world [] plain there empty stand = record {
   once = stand;
 }
 all_left k world (inode ∷ rest) plain there empty stand =
-    then_left (all_left k (let_go_inode world inode) rest (plain_next world inode plain)
-    (ap (is_among nat_eq k) (numbers_mapped (step world inode plain) (step_number world inode plain) world.filesystems)
+    then_left (all_left k (let_go_inode world inode) rest (plain-step world inode plain)
+    (ap (is_among nat_eq k) (numbers_mapped (step world inode plain) (number-step world inode plain) world.filesystems)
     ∙ there)
     (λ n none. empty_left n (sym (first_left.uses n) ∙ none)) first_left.once)
   where
@@ -332,7 +315,7 @@ all_left k world (inode ∷ rest) plain there empty stand =
     first_left : IsLeft k world f (inode ∷ []) (let_go_inode world inode) f1
     first_left =
         subst (IsLeft k world f (inode ∷ []) (let_go_inode world inode))
-        (sym (found_mapped (step world inode plain) (step_number world inode plain) world.filesystems k there))
+        (sym (found_mapped (step world inode plain) (number-step world inode plain) world.filesystems k there))
         (one_left world inode plain k f (found_number world.filesystems k) empty stand)
 
     among_one : (n : ℕ) (b : Bool) → is_inode k n inode ≡ b → is_inode_among k n (inode ∷ []) ≡ b

@@ -6,7 +6,6 @@ use Rattle.vt_spec.specs.Lists.{is_among}
 use Rattle.vt_spec.specs.Machine.Settled.{filesystem_lives, named_in, only_used_of, settled, used_in, without_dead_groups, without_dead_inodes, without_dead_mounts}
 use Rattle.vt_spec.specs.Machine.World.{Filesystem, World, filesystem_numbered, is_overlay}
 use Rattle.vt_spec.specs.Inodes.{Inodes, node_in, uses_in}
-use Rattle.vt_spec.specs.Inodes as Trees
 use Rattle.vt_letting_go.specs.Counts.{inode_uses}
 use Rattle.vt_letting_go.specs.InUse.{HasTrees, InodesInUse}
 use Rattle.vt_letting_go.specs.OneByOne.{Inode}

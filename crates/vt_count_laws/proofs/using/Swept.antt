@@ -1,21 +1,21 @@
 -- The sweep after a change of one plain tree, where inodes count their uses.
-use Rattle.std.proofs.Common.{◌≡◌, ◌≢◌, refl, sym, ap, subst, ◌∙◌, ⊎_elim, inl, inr, ◌⊎◌, ℕ, ◌+◌, ◌≤◌, nat_eq, eqb-true, eq-eqb, ne_eqb, Bool, true, false, true≢false, cond, not, ◌||◌, List, [], ◌∷◌, ◌++◌, map, filter, find, flat_map, Option, Some, None, is_some, option_map, unwrap_or, arith}
+use Rattle.std.proofs.Common.{◌≡◌, ◌≢◌, refl, sym, ap, subst, ◌∙◌, ⊎_elim, inl, inr, ℕ, ◌+◌, ◌≤◌, nat_eq, eqb-true, eq-eqb, ne_eqb, Bool, true, false, true≢false, cond, not, ◌||◌, List, [], ◌∷◌, ◌++◌, map, filter, find, flat_map, Option, Some, None, is_some, option_map, unwrap_or, arith}
 use Rattle.std.specs.List.{list_all}
 use Rattle.std.proofs.lemmas.Bool.{or_cases}
 use Rattle.vt_spec.specs.FileTree.{FileTree, targets_in}
 use Rattle.vt_spec.specs.Lists.{is_among}
 use Rattle.vt_spec.specs.Machine.Filesystems.{with_files}
-use Rattle.vt_spec.specs.Machine.Settled.{filesystem_lives, is_mounted, layers_in, located_in, named_in, objects_of_overlay, only_among, only_used, only_used_by, real_among, settled, used_in, without_dead_filesystems, without_dead_groups, without_dead_in, without_dead_inodes, without_dead_mounts}
+use Rattle.vt_spec.specs.Machine.Settled.{layers_in, located_in, named_in, objects_of_overlay, only_among, only_used, only_used_by, real_among, settled, used_in, without_dead_groups, without_dead_in, without_dead_inodes}
 use Rattle.vt_spec.specs.Machine.World.{Filesystem, Overlay, World, filesystem_numbered, is_overlay, no_filesystem, replaced_if_numbered}
 use Rattle.vt_spec.specs.Inodes.{Inode, Inodes, node_in, uses_in}
 use Rattle.vt_spec.specs.Tree.{Node}
 use Rattle.vt_letting_go.specs.Counts.{inode_uses, times}
-use Rattle.vt_letting_go.specs.InUse.{AllInUse, FilesystemsInUse, IsListedTree, is_inode_used}
+use Rattle.vt_letting_go.specs.InUse.{AllInUse, IsListedTree, is_inode_used}
 use Rattle.vt_letting_go.specs.OneByOne as LettingGo
 use Rattle.vt_letting_go.specs.TreeChanges.{with_tree}
-use Rattle.vt_letting_go.proofs.sweeps.InUse.{UnusedAreEmpty, filesystems_stay, groups_stay, mounts_stay, named-left}
+use Rattle.vt_letting_go.proofs.sweeps.InUse.{UnusedAreEmpty, groups_stay, named-left}
 use Rattle.vt_letting_go.proofs.Lists.{Among, all_pass, among-from_map, among_from_all, among_numbers, fails, map_same, none_passes, or_first, passes}
-use Rattle.vt_letting_go.proofs.leaving.PlacesLeft.{no_layers, no_layers_of}
+use Rattle.vt_letting_go.proofs.leaving.PlacesLeft.{no_layers_of}
 use Rattle.vt_one_text.specs.OneTree.{times_in}
 use Rattle.vt_one_text.proofs.one_tree.OneTreeCounts as Counts
 use Rattle.vt_one_text.proofs.one_tree.OneTreeEntries.{named_by, one_if}
@@ -28,6 +28,7 @@ use Rattle.vt_one_text.proofs.one_tree.OneTreeCounts.{one_if-itself}
 use Rattle.vt_spec.proofs.Inodes.{is_some-node_in, node_in-none, node_in_is_there, uses_in-none}
 use Rattle.vt_letting_go.proofs.sweeps.Inodes.{no_objects_of}
 use Rattle.vt_spec.proofs.Lists.{map_alike, map_twice}
+use Rattle.vt_letting_go.proofs.leaving.TreesChanged.{plain_after, plain_old, same_living}
 
 pub plain_of : (world : World ℕ) → IsPlain world → LettingGo.IsPlain world
 plain_of world plain = none_passes is_overlay world.filesystems
@@ -280,62 +281,20 @@ module _ (world : World ℕ) (number : ℕ) (files : FileTree ℕ) (in_use : All
   abbrev pub done : World ℕ
   done = with_tree world number swept
 
-  old_there : Among old world.filesystems
-  old_there = found_is world.filesystems number there
-
-  plain_old : is_overlay old ≡ false
-  plain_old = fails is_overlay world.filesystems plain old old_there
-
-  -- a world with other files there is plain still, and lives
-  module _ (some : FileTree ℕ) where
-    is_new_or_old : (f : Filesystem ℕ) → Among f (with_tree world number some).filesystems
-        → (f ≡ with_files old some) ⊎ Among f world.filesystems
-    is_new_or_old f m =
-        let from = among-from_map (replaced_if_numbered nat_eq (with_files old some)) world.filesystems f m in
-        by (nat_eq old.number from.0.number) from.0 from.1 from.2
-      where
-        by : (b : Bool) (g : Filesystem ℕ) → Among g world.filesystems → f ≡ cond b (with_files old some) g
-            → (f ≡ with_files old some) ⊎ Among f world.filesystems
-        by true g n e = inl e
-        by false g n e = inr (subst (λ h. Among h world.filesystems) (sym e) n)
-
-    pub plain_with : LettingGo.IsPlain (with_tree world number some)
-    plain_with = none_passes is_overlay (with_tree world number some).filesystems (λ f m.
-        ⊎_elim (λ e. ap is_overlay e ∙ plain_old) (λ n. fails is_overlay world.filesystems plain f n)
-        (is_new_or_old f m))
-
-  mounted_old : (f : Filesystem ℕ) → Among f world.filesystems → is_mounted nat_eq world f.number ≡ true
-  mounted_old f m =
-      ⊎_elim (λ e. e) (λ layered. absurd (true≢false (sym layered ∙ no_layers f.number world world.filesystems plain)))
-      (or_cases (is_mounted nat_eq world f.number) _
-      (passes (filesystem_lives nat_eq world) world.filesystems in_use.filesystems f m))
-
-  filesystems_raw : FilesystemsInUse raw
-  filesystems_raw =
-      all_pass (filesystem_lives nat_eq raw) raw.filesystems (λ f m.
-      ⊎_elim
-      (λ e. ap (filesystem_lives nat_eq raw) e
-      ∙ or_first (is_mounted nat_eq raw new.number) _ (mounted_old old old_there))
-      (λ n. or_first (is_mounted nat_eq raw f.number) _ (mounted_old f n))
-      (is_new_or_old files f m))
-
-  same_living : without_dead_filesystems nat_eq (without_dead_mounts nat_eq raw) ≡ raw
-  same_living = ap (without_dead_filesystems nat_eq) (mounts_stay raw in_use.mounts)
-      ∙ filesystems_stay raw filesystems_raw
-
   no_overlays : without_dead_in nat_eq is_overlay raw ≡ raw
   no_overlays =
       ap (λ filesystems. record raw { filesystems = filesystems })
       (map_same (λ f. only_used nat_eq raw (is_overlay f) f) raw.filesystems
-      (λ f m. ap (λ b. only_used nat_eq raw b f) (fails is_overlay raw.filesystems (plain_with files) f m)))
+      (λ f m. ap (λ b. only_used nat_eq raw b f) (fails is_overlay raw.filesystems
+      (plain_after world number files in_use plain there) f m)))
 
   -- inodes of other filesystems stay
   used_same : (some : FileTree ℕ) (f : Filesystem ℕ)
       → used_in nat_eq (with_tree world number some) f ≡ used_in nat_eq world f
   used_same some f = λ i. f.files.tree.root ∷ (named_in f.files ++ located_in nat_eq world f.number
-      ++ (no_layers_of (with_tree world number some) (plain_with some) f.number
+      ++ (no_layers_of (with_tree world number some) (plain_after world number some in_use plain there) f.number
       ∙ sym (no_layers_of world plain f.number)) i
-      ++ (no_objects_of (with_tree world number some) (plain_with some) f.number
+      ++ (no_objects_of (with_tree world number some) (plain_after world number some in_use plain there) f.number
       ∙ sym (no_objects_of world plain f.number)) i)
 
   abbrev step : Filesystem ℕ → Filesystem ℕ
@@ -378,7 +337,7 @@ module _ (world : World ℕ) (number : ℕ) (files : FileTree ℕ) (in_use : All
             (passes (λ n. is_among nat_eq n used) files.numbers all))
 
     step_new : step new ≡ with_files old swept
-    step_new = ap (λ b. only_used nat_eq raw (not b) new) plain_old
+    step_new = ap (λ b. only_used nat_eq raw (not b) new) (plain_old world number files in_use plain there)
         ∙ by (list_all (λ n. is_among nat_eq n used) files.numbers) refl
       where
         no_real : (o : Option (Overlay ℕ)) → is_some o ≡ false → option_map (real_among nat_eq used) o ≡ o
@@ -388,7 +347,11 @@ module _ (world : World ℕ) (number : ℕ) (files : FileTree ℕ) (in_use : All
         by : (b : Bool) → list_all (λ n. is_among nat_eq n used) files.numbers ≡ b
             → only_used_by nat_eq b used new ≡ with_files old swept
         by true e = ap (with_files old) (all_kept e)
-        by false e = λ i. record old { files = swept; overlay = no_real old.overlay plain_old i }
+        by false e = λ i. record old {
+          files = swept;
+          overlay =
+              no_real old.overlay (plain_old world number files in_use plain there) i;
+        }
 
     inodes_swept : without_dead_in nat_eq (λ f. not (is_overlay f)) raw ≡ done
     inodes_swept =
@@ -405,7 +368,8 @@ module _ (world : World ℕ) (number : ℕ) (files : FileTree ℕ) (in_use : All
 
     pub settled_is : settled nat_eq raw ≡ done
     settled_is =
-        ap (λ w. without_dead_groups nat_eq (without_dead_inodes nat_eq w)) same_living
+        ap (λ w. without_dead_groups nat_eq (without_dead_inodes nat_eq w))
+        (same_living world number files in_use plain there)
         ∙ ap (λ w. without_dead_groups nat_eq (without_dead_in nat_eq (λ f. not (is_overlay f)) w)) no_overlays
         ∙ ap (without_dead_groups nat_eq) inodes_swept
         ∙ groups_stay done in_use.groups
@@ -441,7 +405,7 @@ module _ (world : World ℕ) (number : ℕ) (files : FileTree ℕ) (in_use : All
         ∙ ap (λ r. (one_if n r + times_in n (located_in nat_eq world old.number)) + times_in n
         (named_by files.tree.node files.numbers))
         (sym root_same)
-        ∙ sym (plain_uses_are raw (plain_with files) new n)
+        ∙ sym (plain_uses_are raw (plain_after world number files in_use plain there) new n)
         ∙ times_is n used
 
     pub used_there : (n : ℕ) → is_among nat_eq n used ≡ is_some (inodes.inode n)
@@ -492,7 +456,7 @@ module _ (world : World ℕ) (number : ℕ) (files : FileTree ℕ) (in_use : All
           tallied.counted.uses_are n
           ∙ (λ i. (one_if n (sym root_same i) + times_in n (located_in nat_eq world old.number)) + times_in n
           (sym (named-left used new unused_empty false) i))
-          ∙ sym (plain_uses_are done (plain_with swept) (with_files old swept) n);
+          ∙ sym (plain_uses_are done (plain_after world number swept in_use plain there) (with_files old swept) n);
       count = tallied.counted.as_many
           ∙ as_long tallied.counted.list swept.numbers (λ n. tallied.counted.listed n ∙ sym (times_left n));
       once = no_repeats swept.numbers few;

@@ -26,7 +26,6 @@ use Rattle.vt_spec.specs.Machine.World.{Filesystem, Layer, Overlay, Task, World,
 use Rattle.vt_spec.proofs.Lists.{all_from_among}
 use Rattle.vt_spec.proofs.Options.{none_from_not_some, none_is_some}
 use Rattle.vt_layer_laws.specs.Layers.Untouched.{changes_no_mount}
-use Rattle.vt_call_laws.specs.Inodes.{inode_in}
 use Rattle.vt_laws.specs.Given.{IsFor}
 use Rattle.vt_laws.proofs.given.GivenPermits.{permits_are_for_their_calls}
 use Rattle.vt_letting_go.specs.InUse.{has_upper_in}
@@ -47,6 +46,7 @@ use Rattle.vt_later_laws.proofs.ends.Replaced.{replaced_are_whiteouts}
 use Rattle.vt_later_laws.proofs.ends.SweptWhiteouts.{leaves_all_but}
 use Rattle.vt_later_laws.specs.Ends.{KeepsAllButMasters, sets_type, takes_uses}
 use Rattle.vt_later_laws.specs.Whiteouts.{IsWhiteoutOfUpper, LeavesAllBut, OnlyTheseEndOtherInodes, OnlyWhiteoutsAreTaken, OtherCallsKeepAll, PlainChangesKeepAll, replaced_as, replaced_by, replaced_if, replaced_over}
+use Rattle.vt_tree_laws.specs.Trees.Settling.{inode_in}
 
 pub only_whiteouts_are_taken : OnlyWhiteoutsAreTaken
 only_whiteouts_are_taken world fresh task call is serves called only no_type =

@@ -68,6 +68,8 @@ use Rattle.vt_world_laws.specs.Worlds.Permits.{IsDestination, IsReached, NamesWh
 use Rattle.vt_later_laws.proofs.AfterChange.{listed}
 use Rattle.vt_later_laws.specs.Ends.{KeepsAllButMasters, sets_type, takes_uses}
 use Rattle.vt_later_laws.specs.Whiteouts.{AllTypesLeaveAllButMasters, OtherCallsLetWhiteoutsGo, replaced_as, replaced_by, replaced_if, replaced_in, replaced_over}
+use Rattle.vt_tree_laws.proofs.trees.TreesTasks.{called_there}
+use Rattle.vt_overlay_permit_laws.proofs.worlds.LowersAfterCalls.{makes_files}
 
 -- the sweep takes nothing
 abbrev KeepsAll : World ℕ → Type 0
@@ -89,13 +91,6 @@ kept_but_masters left e =
     e ∙ ap (λ master. record left { master = master }) (ap (λ (w : World ℕ). w.master) (sym e))
 
 -- Calls that change a mount ask for no change of a filesystem
-no_name_made : (call : Call) → makes_a_name call ≡ true → changes_no_mount call ≡ true
-no_name_made (Write path bytes) e = refl
-no_name_made (Mkdir path mode) e = refl
-no_name_made (SymlinkAt text path) e = refl
-no_name_made (MakeWhiteout path) e = refl
-no_name_made call e = absurd (true≢false (sym e))
-
 module _ (world : World ℕ) (fresh : Fresh ℕ) (task : Task ℕ) (call : Call)
     (of_mounts : changes_no_mount call ≡ false) where
   -- so it is none of the others
@@ -119,7 +114,7 @@ module _ (world : World ℕ) (fresh : Fresh ℕ) (task : Task ℕ) (call : Call)
       → change_asked fresh world permit ≡ None
   asks_nothing (ToChange location change) for = absurd (no_change location change for)
   asks_nothing (ToMake directory name node) for =
-      absurd (true≢false (sym (no_name_made call for) ∙ of_mounts))
+      absurd (true≢false (sym (makes_files call for) ∙ of_mounts))
   asks_nothing (ToRemoveDirectory parent name directory) for = not_that _ for.1 refl
   asks_nothing (ToRename from old to new object replaced) for = not_that _ for.2 refl
   asks_nothing (ToOpen file access) for = not_that _ for.2 refl
@@ -138,7 +133,7 @@ module _ (world : World ℕ) (fresh : Fresh ℕ) (task : Task ℕ) (is : IsWorld
   among_tasks : Contains world.tasks task
   among_tasks =
       contains_from_among world.tasks task
-      (found_among (λ (t : Task ℕ). same_name task.name t.name) world.tasks task called)
+      (called_there world.tasks task.name task called)
 
   -- A change of a tree, plain or an overlay, by which no name is lost
   module _ (call : Call) (permit : Permit ℕ) (judged : judge_in nat_eq fresh world task call ≡ Ok permit)

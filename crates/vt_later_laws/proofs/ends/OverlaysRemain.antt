@@ -11,12 +11,12 @@ use Rattle.vt_spec.specs.Machine.Invariants.{IsWorld}
 use Rattle.vt_spec.specs.Machine.Mounts.{Location}
 use Rattle.vt_spec.specs.Machine.World.{Filesystem, Layer, Overlay, World, filesystem_at, filesystem_numbered, mount_at, with_filesystem}
 use Rattle.vt_spec.specs.Tree.{Node, node_with_bytes}
-use Rattle.vt_call_laws.specs.Inodes.{inode_in}
 use Rattle.vt_call_laws.proofs.inodes.InodesRemain.{RemainsIn, at_node, changed_remains, made_remains, named_remains}
 use Rattle.vt_layer_laws.proofs.layers.LowersWorld.{filesystem_elsewhere, filesystem_there, number_of_filesystem}
 use Rattle.vt_layer_laws.proofs.layers.UpperWorld.{upper_elsewhere}
 use Rattle.vt_overlays_let_go.specs.NamesGiven.{takes_a_name}
 use Rattle.vt_overlays_let_go.specs.OverlayChanges.{merge_at}
+use Rattle.vt_tree_laws.specs.Trees.Settling.{inode_in}
 
 module _ (other : ℕ) where
   abbrev In : FileTree ℕ → FileTree ℕ → Type 0

@@ -17,7 +17,6 @@ use Rattle.vt_spec.specs.Machine.World.{Layer, Overlay, World, filesystem_at, fi
 use Rattle.vt_spec.specs.TreeInvariant.{entry_at, led}
 use Rattle.vt_spec.proofs.Lists.{Among, among_from_contains}
 use Rattle.vt_spec.proofs.Options.{none_is_some}
-use Rattle.vt_call_laws.specs.Inodes.{inode_in}
 use Rattle.vt_tree_laws.specs.Trees.{IsFree, IsProper}
 use Rattle.vt_layer_laws.proofs.layers.ShownNames.{last_name}
 use Rattle.vt_layer_laws.proofs.layers.UpperFit.{upper_is}
@@ -29,6 +28,7 @@ use Rattle.vt_overlays_let_go.specs.NamesGiven.{name_given, replaced_in_upper, u
 use Rattle.vt_overlay_permit_laws.specs.Asked.{change_asked}
 use Rattle.vt_overlay_permit_laws.proofs.asked.AskedOverlays.{permits_ask_properly}
 use Rattle.vt_later_laws.specs.Whiteouts.{IsWhiteoutOfUpper, ReplacedAreWhiteouts, replaced_as, replaced_if, replaced_in, replaced_over}
+use Rattle.vt_tree_laws.specs.Trees.Settling.{inode_in}
 
 -- what an option that leads on leads to
 leads_on : {A B : Type 0} (o : Option A) (next : A → Option B) (b : B) → then_some o next ≡ Some b

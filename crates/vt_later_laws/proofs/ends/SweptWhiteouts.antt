@@ -4,12 +4,12 @@ use Rattle.std.proofs.lemmas.Bool.{and_parts}
 use Rattle.vt_spec.specs.Machine.World.{Filesystem, World, no_filesystem}
 use Rattle.vt_spec.specs.Tree.{Node}
 use Rattle.vt_spec.proofs.Lists.{Among, contains_from_among}
-use Rattle.vt_call_laws.specs.Inodes.{inode_in}
 use Rattle.vt_letting_go.specs.InUse.{is_inode_used}
 use Rattle.vt_letting_go.specs.OneByOne.{Inode}
 use Rattle.vt_letting_go.specs.Overlays.{is_plain, let_go_in, let_go_in_of, let_go_plain, without_inode_of}
 use Rattle.vt_tree_laws.proofs.trees.TreesOfWorlds.{numbered}
 use Rattle.vt_later_laws.specs.Whiteouts.{LeavesAllBut}
+use Rattle.vt_tree_laws.specs.Trees.Settling.{inode_in}
 
 -- nothing changes but filesystems
 only_filesystems : (list : List Inode) (world : World ℕ)

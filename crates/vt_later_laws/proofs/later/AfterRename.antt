@@ -60,7 +60,7 @@ use Rattle.vt_later_laws.proofs.OpenedNew.{given_of}
 use Rattle.vt_later_laws.proofs.later.WaysMounts.{placed_before, stops}
 use Rattle.vt_later_laws.proofs.WaysStay.{node_in, tree_in}
 use Rattle.vt_spec.proofs.NodeChanges.{directory_from_entry}
-use Rattle.vt_spec.proofs.Worlds.{filesystems-without_replaced, number-mount_in}
+use Rattle.vt_spec.proofs.Worlds.{filesystems-without_replaced, number-mount_in, shown-without_replaced}
 
 -- Mounts that stand on an object, as its filesystem shows it
 module _ (world : World ℕ) (is : IsWorld nat_eq world) (object : Location ℕ)
@@ -162,19 +162,9 @@ module _ (world : World ℕ) (fresh : Fresh ℕ) (name : TaskName) (call : Call)
   middle_plain : IsPlain middle
   middle_plain = replaced_plain world replaced plain
 
-  middle_mount : (place : Location ℕ)
-      → (mount_at nat_eq middle place).filesystem ≡ (mount_at nat_eq world place).filesystem
-  middle_mount place = by replaced
-    where
-      by : (o : Option (Location ℕ))
-          → (mount_at nat_eq (without_replaced nat_eq world o) place).filesystem
-          ≡ (mount_at nat_eq world place).filesystem
-      by None = refl
-      by (Some gone) = same_mounted_without world gone place
-
   middle_files : files_at nat_eq middle from ≡ files_at nat_eq world from
   middle_files =
-      ap (λ n. (filesystem_numbered nat_eq middle n).files) (middle_mount from)
+      ap (λ n. (filesystem_numbered nat_eq middle n).files) (shown-without_replaced world replaced from)
       ∙ ap (λ list. (unwrap_or (find (λ (f : Filesystem ℕ). nat_eq shown f.number) list) (no_filesystem shown)).files)
       (filesystems-without_replaced world replaced)
 
@@ -185,7 +175,7 @@ module _ (world : World ℕ) (fresh : Fresh ℕ) (name : TaskName) (call : Call)
   spent_shown =
       ap (λ w. (filesystem_numbered nat_eq w shown).files) does
       ∙ ap (λ n. (filesystem_numbered nat_eq (with_change nat_eq fresh middle from change) n).files)
-      (sym (middle_mount from))
+      (sym (shown-without_replaced world replaced from))
       ∙ files_changed fresh middle middle_plain from change
       (ap (λ (f : FileTree ℕ). is_some (f.tree.node from.node)) middle_files
       ∙ directory_used (files_at nat_eq world from).tree from.node from_directory)
@@ -283,7 +273,7 @@ module _ (world : World ℕ) (fresh : Fresh ℕ) (name : TaskName) (call : Call)
       ∙ found_itself middle.mounts (replaced_keeps_mounts world replaced is.mounts).one_number
       (mount_numbered nat_eq left number)
       (in_middle (mount_numbered nat_eq left number) (found_there left.mounts number listed))))
-      ∙ middle_mount (record { mount = number; node = 0 })
+      ∙ shown-without_replaced world replaced (record { mount = number; node = 0 })
 
   -- none stands on the object
   pub free_left : (place : Location ℕ) → is_among nat_eq place.mount (numbers_of left.mounts) ≡ true

@@ -113,21 +113,18 @@ module _ (files : FileTree ℕ) (directory : ℕ) (name : List ℕ) (object : �
       by false same now was = inl (now ∙ was)
 
   -- the directory is empty, and stands alone
-  no_name_in : (other : List ℕ) (next : ℕ) → entry_at files.tree object other ≡ Some next → ⊥
-  no_name_in other next e = none_at (entries_in (files.tree.node object)) may.empty e
+  pub nothing_in_it : (other : List ℕ) (next : ℕ) → entry_at files.tree object other ≡ Some next → ⊥
+  nothing_in_it other next e = none_at (entries_in (files.tree.node object)) may.empty e
     where
       none_at : (entries : List (List ℕ × ℕ)) → entries ≡ [] → entry_named other entries ≡ Some next → ⊥
       none_at entries empty f = true≢false
           (sym (sym (ap (λ list. is_some (entry_named {N = ℕ} other list)) empty) ∙ ap is_some f))
 
-  pub nothing_in_it : (other : List ℕ) (next : ℕ) → entry_at files.tree object other ≡ Some next → ⊥
-  nothing_in_it other next e = no_name_in other next e
-
   removed_empty : entries_in (removed.tree.node object) ≡ []
   removed_empty =
       removed_entries object
       ∙ ⊎_elim
-      (λ t. absurd (no_name_in name object (ap (λ m. entry_at files.tree m name) t.1 ∙ may.named)))
+      (λ t. absurd (nothing_in_it name object (ap (λ m. entry_at files.tree m name) t.1 ∙ may.named)))
       (λ t. ap entries_in (elsewhere files directory (node_without_entry name) object t.1) ∙ may.empty)
       (eqb_tells object directory)
 

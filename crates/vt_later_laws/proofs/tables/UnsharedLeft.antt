@@ -28,10 +28,10 @@ use Rattle.vt_mount_laws.proofs.mounts.MountsFound.{found_there, numbers-map}
 use Rattle.vt_mount_laws.proofs.mounts.MountsReplaced.{found_itself, one_number_by_numbers}
 use Rattle.vt_mount_laws.proofs.namespaces.Unsharing.{Parent, parent_of, placed_inside, unshare_keeps_mounts}
 use Rattle.vt_world_laws.proofs.kept.NamespacesListed.{AreNamespaces, are_namespaces}
-use Rattle.vt_world_laws.proofs.kept.NamespacesTasks.{called_there}
 use Rattle.vt_spec.proofs.Found.{is_among_left, is_among_right}
 use Rattle.vt_spec.proofs.Worlds.{number-mount_in, same_task_name}
 use Rattle.vt_letting_go.specs.Ends.{is_in}
+use Rattle.vt_tree_laws.proofs.trees.TreesTasks.{called_there}
 
 -- where no two of a list pass a test, those that do are one
 only_one : {A : Type 0} (test : A → A → Bool) (xs : List A) → any_pair test xs ≡ false → (a b : A) → Among a xs
@@ -77,16 +77,13 @@ module _ (world : World ℕ) (fresh : Fresh ℕ) (task : Task ℕ) (is : IsWorld
   pub were : AreNamespaces world
   were = are_namespaces world is.namespaces
 
-  pub task_there : Among task world.tasks
-  task_there = called_there world.tasks task.name task called
-
   own_name : same_name task.name task.name ≡ true
   own_name = (bytes_decides task.name task.name).1 refl
 
   pub moved_there : Among moved base.tasks
   moved_there =
       subst (λ t. Among t base.tasks) (ap (λ b. cond b moved task) own_name)
-      (among-map (replaced_if_called moved) world.tasks task task_there)
+      (among-map (replaced_if_called moved) world.tasks task (called_there world.tasks task.name task called))
 
   -- a task of another name stays
   pub other_there : (other : Task ℕ) → Among other world.tasks → same_name task.name other.name ≡ false
@@ -97,7 +94,8 @@ module _ (world : World ℕ) (fresh : Fresh ℕ) (task : Task ℕ) (is : IsWorld
 
   pub that_task : (other : Task ℕ) → Among other world.tasks → same_name task.name other.name ≡ true → other ≡ task
   that_task other m e =
-      only_one (λ (a b : Task ℕ). same_name a.name b.name) world.tasks is.tasks.one_task other task m task_there
+      only_one (λ (a b : Task ℕ). same_name a.name b.name) world.tasks is.tasks.one_task other task m
+      (called_there world.tasks task.name task called)
       (ap (λ n. same_name other.name n) (same_task_name task.name other.name e)
       ∙ (bytes_decides other.name other.name).1 refl)
       e

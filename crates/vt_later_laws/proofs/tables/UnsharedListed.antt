@@ -40,13 +40,13 @@ use Rattle.vt_mount_laws.proofs.namespaces.Unsharing.{Parent, parent_of}
 use Rattle.vt_mount_laws.proofs.namespaces.UnsharingNamespaces.{new_namespace_is_empty}
 use Rattle.vt_world_laws.proofs.worlds.CallsKept.{name_found}
 use Rattle.vt_world_laws.proofs.kept.NamespacesListed.{IsListedIn, listed_in, number_of}
-use Rattle.vt_world_laws.proofs.kept.NamespacesTasks.{called_there}
 use Rattle.vt_later_laws.specs.Tables.{UnshareGivesANamespace, UnshareThenMounts}
 use Rattle.vt_later_laws.proofs.Granted.{IsPermitted, permitted}
 use Rattle.vt_spec.proofs.Refusals.{passing, same_ok}
 use Rattle.vt_later_laws.proofs.tables.UnsharedLeft
 use Rattle.vt_spec.proofs.Worlds.{same_task_name}
 use Rattle.vt_letting_go.specs.Ends.{is_in}
+use Rattle.vt_tree_laws.proofs.trees.TreesTasks.{called_there}
 
 -- a list that is changed and then shortened, of which those that pass a test stay as they are
 filter_left : {A : Type 0} (p q : A → Bool) (f : A → A) (xs : List A)

@@ -40,11 +40,7 @@ use Rattle.vt_mount_laws.proofs.ends.Unmounting.{root_mounts_stay, unmount_keeps
 use Rattle.vt_mount_laws.proofs.ends.UnmountingGoes.{what_goes_is_named}
 use Rattle.vt_spec.proofs.Worlds.{master-regrouped_by, number-mount_in}
 use Rattle.vt_mount_laws.proofs.mounts.Receivers.{receiver_receives}
-
--- the attachment of one mount, of which no copy goes onto another mount
-abbrev pub one_of : World ℕ → Fresh ℕ → Location ℕ → Mount ℕ → Attachment
-one_of world fresh place first =
-    record { world = world; fresh = fresh; mount_point = place; moves = false; mounts = first ∷ [] }
+use Rattle.vt_mount_laws.proofs.propagation.OneAttached.{one_of, later_number, part_old, hears_group}
 
 -- a mount that does not stand on itself is the topmost one over its root, where it is alone
 top_alone : (mount : Mount ℕ) → stands_at nat_eq (root_of mount) mount ≡ false
@@ -173,20 +169,6 @@ module _ (world : World ℕ) (fresh : Fresh ℕ) (place : Location ℕ) (first :
   destination_part : IsPart it destination
   destination_part = contains_from_among parts destination (inl refl)
 
-  later_number : (one : ℕ) → is_mount world one ≡ true → is_mount after one ≡ true
-  later_number one old =
-      let t = new_mounts_follow world fresh place false (first ∷ []) in
-      ap (is_among nat_eq one) t.1
-      ∙ is_among_numbers (numbers_of world.mounts ++ t.0) one
-      (among-append_left (numbers_of world.mounts) t.0 one (among_numbers (numbers_of world.mounts) one old))
-
-  part_old : (part : Mount ℕ) → IsPart it part → Among part world.mounts
-  part_old part c =
-      ⊎_elim
-      (λ same. subst (λ x. Among x world.mounts) (sym same) destination_among)
-      (λ rest. taker_there world place part rest)
-      (among_from_contains parts part c)
-
   -- a copy has the number of no mount that was there
   new_apart : (part : Mount ℕ) → IsPart it part → (other : Mount ℕ) → Among other world.mounts
       → nat_eq (copy part).number other.number ≡ false
@@ -234,7 +216,7 @@ module _ (world : World ℕ) (fresh : Fresh ℕ) (place : Location ℕ) (first :
           let off : stands_at nat_eq (root_of (copy part)) (copy part) ≡ false =
           ap (holds_of (same_location nat_eq (root_of (copy part)))) (copy_stands part contained)
           ∙ ap (λ b. b && nat_eq (copy part).root place.node)
-          (new_apart part contained part (part_old part contained)) in
+          (new_apart part contained part (part_old world fresh place first there part contained)) in
           inr (
             part,
             contained,
@@ -250,35 +232,22 @@ module _ (world : World ℕ) (fresh : Fresh ℕ) (place : Location ℕ) (first :
   push_among : (mount : Mount ℕ) → Among mount world.mounts → Among (push_it mount) after.mounts
   push_among mount m =
       subst (λ x. Among x after.mounts) (kept_itself mount m)
-      (found_there after.mounts mount.number (later_number mount.number (is_one_of world.mounts mount m)))
+      (found_there after.mounts mount.number (later_number world fresh place first there mount.number
+      (is_one_of world.mounts mount m)))
 
   copy_among : (part : Mount ℕ) → IsPart it part → Among (copy part) after.mounts
   copy_among part c =
       among_from_contains after.mounts (copy part) (each_is_copied it part first can c of_first).there
 
-  hears_group : (part : Mount ℕ) → IsPart it part → (group : ℕ) → destination.propagation ≡ Shared group
-      → receives nat_eq world group part ≡ true
-  hears_group part c group e =
-      ⊎_elim
-      (λ same.
-      subst (λ x. receives nat_eq world group x ≡ true) (sym same)
-      (receives_from_source world group destination (ap source_of e)))
-      (λ rest.
-      let t =
-      receiver_receives world destination part
-      (among-from_filter (takes_part nat_eq world place) (receivers_of nat_eq world destination) part rest).0 in
-      subst (λ g. receives nat_eq world g part ≡ true)
-      (same_Some t.0 group (ap group_of (sym t.1 ∙ e))) t.3)
-      (among_from_contains parts part c)
-
   hears_later : (part : Mount ℕ) → IsPart it part → (group : ℕ) → destination.propagation ≡ Shared group
       → receives nat_eq after group (push_it part) ≡ true
   hears_later part c group e =
-      let t = heard world part group (hears_group part c group e) in
-      hears after groups_later (push_it part) (push_among part (part_old part c)) t.0 group
+      let t = heard world part group (hears_group world fresh place first there part c group e) in
+      hears after groups_later (push_it part) (push_among part (part_old world fresh place first there part c)) t.0
+      group
       (ap source_of (keeps part).propagation ∙ t.1)
       (old_up_after world (supply it can) place false (first ∷ []) (serve_images it can) can.each_once t.0 group
-      (lives_in world can.groups part (part_old part c) t.0 t.1) t.2)
+      (lives_in world can.groups part (part_old world fresh place first there part c) t.0 t.1) t.2)
 
   -- what stands on a copy covers its root
   covers : (part : Mount ℕ) → IsPart it part → (mount : Mount ℕ) → Among mount after.mounts
@@ -298,7 +267,7 @@ module _ (world : World ℕ) (fresh : Fresh ℕ) (place : Location ℕ) (first :
           (sym (copy_stands copied.0 copied.1) ∙ ap (λ (x : Mount ℕ). x.mount_point) (sym copied.2) ∙ e) in
           absurd (no_old at same
           (ap (λ (l : Location ℕ). is_mount world l.mount) (sym on_part)
-          ∙ is_one_of world.mounts copied.0 (part_old copied.0 copied.1)))
+          ∙ is_one_of world.mounts copied.0 (part_old world fresh place first there copied.0 copied.1)))
       at_place at e same (inl old) =
           ⊎_elim
           (λ stayed. absurd (no_old at same (on_old old.0 old.1 at
@@ -348,7 +317,8 @@ module _ (world : World ℕ) (fresh : Fresh ℕ) (place : Location ℕ) (first :
           at_receiver (record { mount = destination.number; node = place.node }) group (push_it part) (copy part)
           (copy_stands destination destination_part)
           (destination_later ∙ e)
-          (contains_from_among after.mounts (push_it part) (push_among part (part_old part c)))
+          (contains_from_among after.mounts (push_it part) (push_among part
+          (part_old world fresh place first there part c)))
           (receives_soundly after group (push_it part) (hears_later part c group e))
           (found_at_its_place after.mounts one_place (copy part) (copy_among part c)
           (record { mount = (push_it part).number; node = place.node })
@@ -408,9 +378,10 @@ module _ (world : World ℕ) (fresh : Fresh ℕ) (place : Location ℕ) (first :
           (record { mount = part.number; node = place.node })
           (sym risen.2 ∙ stands_there (record { mount = part.number; node = place.node }) mount stood) in
           let one : risen.0 ≡ part =
-          sym (found_itself world.mounts can.one_number risen.0 (part_old risen.0 risen.1))
+          sym (found_itself world.mounts can.one_number risen.0 (part_old world fresh place first there risen.0
+          risen.1))
           ∙ ap (λ (l : Location ℕ). mount_numbered nat_eq world l.mount) here
-          ∙ found_itself world.mounts can.one_number part (part_old part c) in
+          ∙ found_itself world.mounts can.one_number part (part_old world fresh place first there part c) in
           risen.3 ∙ ap (λ x. Some (root_of (copy x))) one
           ∙ ap (λ n. Some (record { mount = (copy part).number; node = n }))
           ((each_is_copied it part first can c of_first).root ∙ eqb-true first.root place.node root)
@@ -478,7 +449,7 @@ module _ (world : World ℕ) (fresh : Fresh ℕ) (place : Location ℕ) (first :
 
           one : up.0 ≡ receiver
           one =
-              sym (found_itself world.mounts can.one_number up.0 (part_old up.0 up.1))
+              sym (found_itself world.mounts can.one_number up.0 (part_old world fresh place first there up.0 up.1))
               ∙ ap (λ (l : Location ℕ). mount_numbered nat_eq world l.mount) here
               ∙ found_itself world.mounts can.one_number receiver r
 
@@ -508,7 +479,8 @@ module _ (world : World ℕ) (fresh : Fresh ℕ) (place : Location ℕ) (first :
         ⊎_elim
         (λ other. inl (ap (λ n. nat_eq n place.node) (each_is_copied it part first can c of_first).root ∙ other))
         (λ stays_on. inr (ap (may_go nat_eq after) (sym (kept_itself mount m)) ∙ stays_on)) rest)
-        (apart_from group part mount e (part_old part c) (hears_group part c group e) m
+        (apart_from group part mount e (part_old world fresh place first there part c)
+        (hears_group world fresh place first there part c group e) m
         (stands_at_its_place (record { mount = part.number; node = place.node }) mount at))
 
     -- nothing that was there goes
@@ -618,7 +590,8 @@ module _ (world : World ℕ) (fresh : Fresh ℕ) (place : Location ℕ) (first :
     left_among : (number : ℕ) → is_mount world number ≡ true → Among (mount_left after gone number) undone.mounts
     left_among number is =
         found_there undone.mounts number
-        (ap (is_among nat_eq number) (unmount_keeps_the_order after gone) ∙ later_number number is)
+        (ap (is_among nat_eq number) (unmount_keeps_the_order after gone)
+        ∙ later_number world fresh place first there number is)
 
     same_type : (number : ℕ) → is_mount world number ≡ true
         → (mount_numbered nat_eq after number).propagation ≡ (mount_numbered nat_eq world number).propagation
@@ -676,7 +649,7 @@ module _ (world : World ℕ) (fresh : Fresh ℕ) (place : Location ℕ) (first :
         (ap (λ (x : Mount ℕ). x.mount_point) (found_itself after.mounts one_after (copy part) (copy_among part c))
         ∙ copy_stands part c)
         (rests (record { mount = part.number; node = place.node })
-        (stays part.number (is_one_of world.mounts part (part_old part c)))))
+        (stays part.number (is_one_of world.mounts part (part_old world fresh place first there part c)))))
 
     place_stays : (number : ℕ) → is_mount world number ≡ true
         → (mount_left after gone number).mount_point ≡ (mount_numbered nat_eq world number).mount_point

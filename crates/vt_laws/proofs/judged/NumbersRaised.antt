@@ -45,7 +45,8 @@ module _ {A : Type 0} (change : A → ℕ) (bare step : A → A) (same : (a : A)
   all_rise [] = tt
   all_rise (a ∷ rest) = (rises a, all_rise rest)
 
-abbrev bare_filesystem : Filesystem ℕ → Filesystem ℕ
+-- without their change numbers
+abbrev pub bare_filesystem : Filesystem ℕ → Filesystem ℕ
 bare_filesystem filesystem = record filesystem { change = 0 }
 
 abbrev pub bare_namespace : Namespace ℕ → Namespace ℕ

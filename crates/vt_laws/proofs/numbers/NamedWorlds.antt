@@ -21,7 +21,8 @@ list_left f test same (a ∷ rest) e =
     let parts = and_parts (test a) (list_all test rest) e in
     λ i. same a parts.0 i ∷ list_left f test same rest parts.1 i
 
-option_left : {A : Type 0} (f : A → A) (test : A → Bool) → ((a : A) → test a ≡ true → f a ≡ a) → (option : Option A)
+-- and in an option
+pub option_left : {A : Type 0} (f : A → A) (test : A → Bool) → ((a : A) → test a ≡ true → f a ≡ a) → (option : Option A)
     → none_or test option ≡ true → option_map f option ≡ option
 option_left f test same None e = refl
 option_left f test same (Some a) e = λ i. Some (same a e i)
@@ -62,7 +63,8 @@ module _ (named : ℕ → Bool) (renaming : Renaming ℕ ℕ) (leaves : Leaves r
       by false e = ap (option_map f) (found.nowhere_else (back number) (back_out number e))
           ∙ sym (found.nowhere_else number e)
 
-  location_left : (location : Location ℕ) → location_named named location ≡ true
+  -- a location of numbers that are left stays, as does a node
+  pub location_left : (location : Location ℕ) → location_named named location ≡ true
       → renamed_location there back location ≡ location
   location_left location e =
       let parts = and_parts (named location.mount) (named location.node) e in
@@ -106,7 +108,7 @@ module _ (named : ℕ → Bool) (renaming : Renaming ℕ ℕ) (leaves : Leaves r
   content_left (Symlink text) e = refl
   content_left Whiteout e = refl
 
-  node_left : (node : Node ℕ) → node_named named node ≡ true → renamed_node there back node ≡ node
+  pub node_left : (node : Node ℕ) → node_named named node ≡ true → renamed_node there back node ≡ node
   node_left node e = λ i. record { attr = node.attr; content = content_left node.content e i }
 
   layer_left : (layer : Layer ℕ) → layer_named named layer ≡ true → renamed_layer there back layer ≡ layer

@@ -38,7 +38,8 @@ lines_keep_to_numbers named grammar fresh world line keeps supplied renaming lea
 
 -- The opening world
 
-named_supply : Named Fresh
+-- a supply of numbers is renamed number by number
+unfoldable pub named_supply : Named Fresh
 named_supply = record { rename = λ A B there back fresh k. there (fresh k); itself = λ A fresh. refl }
 
 -- a supply of four numbers

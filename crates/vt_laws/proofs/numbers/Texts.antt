@@ -238,7 +238,7 @@ module _ (grammar : Grammar) where
       )
 
 -- nothing renamed
-abbrev nothing_renamed : Renaming ℕ ℕ
+abbrev pub nothing_renamed : Renaming ℕ ℕ
 nothing_renamed = record { there = λ n. n; back = λ n. n; there_back = λ n. refl; back_there = λ n. refl }
 
 -- the opening world keeps to the first four numbers, which stand in the first row

@@ -13,9 +13,7 @@ use Rattle.vt_spec.specs.Machine.Looks.{looks_of}
 use Rattle.vt_spec.specs.Machine.SameWorlds.{without_changes}
 use Rattle.vt_spec.specs.Machine.World.{Filesystem, Task, World, is_overlay, locations_of, mount_numbered, no_filesystem}
 use Rattle.vt_spec.specs.Language.Calls.{TaskName, same_name}
-
-abbrev pub bare_task : Task ℕ → Task ℕ
-bare_task task = record task { change = 0 }
+use Rattle.vt_laws.proofs.judged.NumbersRaised.{bare_task}
 
 -- a world with all its change numbers at zero but those of filesystems
 abbrev pub bare : World ℕ → World ℕ

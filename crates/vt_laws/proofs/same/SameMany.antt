@@ -24,8 +24,8 @@ use Rattle.vt_spec.specs.Machine.Permits.Permit.{ToBind, ToMountOverlay, ToMount
 use Rattle.vt_spec.specs.Machine.SameWorlds.{SameFilesystem, SameFilesystems}
 use Rattle.vt_spec.specs.Machine.World.{Filesystem, Layer, Namespace, Overlay, Task, World, filesystem_numbered, mount_at, mount_numbered, open_layer, shown_layers}
 
--- what attaches mounts
-abbrev attaches : Permit ℕ → Bool
+-- the permits that attach mounts: those for which M9 is judged, and which raise no filesystem's change number
+abbrev pub attaches : Permit ℕ → Bool
 attaches (ToMountPlain place flags) = true
 attaches (ToMountOverlay place overlay flags) = true
 attaches (ToBind source place recursive) = true
@@ -50,16 +50,17 @@ any_bare : (test : ℕ → Bool) (namespaces : List (Namespace ℕ))
 any_bare test [] = refl
 any_bare test (namespace ∷ rest) = ap (λ b. test namespace.number || b) (any_bare test rest)
 
+-- a filesystem is the same as itself
+pub same_filesystem_itself : (filesystem : Filesystem ℕ) → SameFilesystem filesystem filesystem
+same_filesystem_itself filesystem = record {
+  number = refl;
+  files = record { tree = refl; numbers = IsPermutation-refl filesystem.files.numbers };
+  overlay = refl;
+}
+
 more_same : (ones others : List (Filesystem ℕ)) (new : Filesystem ℕ) → SameFilesystems ones others
     → SameFilesystems (ones ++ (new ∷ [])) (others ++ (new ∷ []))
-more_same [] [] new same = (
-  record {
-    number = refl;
-    files = record { tree = refl; numbers = IsPermutation-refl new.files.numbers };
-    overlay = refl;
-  },
-  tt,
-)
+more_same [] [] new same = (same_filesystem_itself new, tt)
 more_same [] (other ∷ others) new same = absurd same
 more_same (one ∷ ones) [] new same = absurd same
 more_same (one ∷ ones) (other ∷ others) new same = (same.0, more_same ones others new same.1)

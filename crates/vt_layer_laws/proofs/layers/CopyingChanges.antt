@@ -11,8 +11,7 @@ use Rattle.vt_spec.specs.TreeInvariant.{IsDirectory, IsTree, entry_at}
 use Rattle.vt_spec.specs.Machine.Invariants.{number_at_path}
 use Rattle.vt_spec.proofs.Nodes.{node_set}
 use Rattle.vt_spec.proofs.Trees.{led-append}
-use Rattle.vt_layer_laws.specs.Layers.ChangesUpper.{IsLeft}
-use Rattle.vt_layer_laws.proofs.layers.CopyingEach.{IsNew}
+use Rattle.vt_layer_laws.specs.Layers.ChangesUpper.{IsLeft, IsNewBy}
 use Rattle.vt_layer_laws.proofs.layers.CopyingNames.{emptied_is_empty, LeftWith, emptied_other, emptied_part, is_left_by, left_elsewhere, left_part, left_stays, left_where, marked_entries, marked_itself, marked_other, moved_part}
 use Rattle.vt_layer_laws.proofs.layers.CopyingSound.{IsSound, State}
 use Rattle.vt_layer_laws.proofs.layers.LowersKept.{kept_elsewhere}
@@ -79,9 +78,9 @@ directory_named merge directory name object e =
 -- Changes of an overlay where what they ask is copied
 module _ (files : FileTree ℕ) (tree : IsTree files.tree) (first : ℕ → Option (Real ℕ)) (fresh : Fresh ℕ)
     (stack : Stack ℕ) (real : ℕ → Option (Real ℕ)) (upper : FileTree ℕ)
-    (sound : IsSound files first (IsNew fresh) real upper) where
+    (sound : IsSound files first (IsNewBy fresh) real upper) where
   abbrev here : Merge ℕ
-  here = State files first (IsNew fresh) real upper
+  here = State files first (IsNewBy fresh) real upper
 
   old_differs : (number object : ℕ) → upper_object (real number) ≡ Some object → object ≢ fresh 0
   old_differs number object e same = sound.spared number object e (0, same)

@@ -11,9 +11,7 @@ use Rattle.vt_layer_laws.proofs.layers.CopyingSound.{IsSound, Soundly, State, so
 use Rattle.std.proofs.lemmas.Bool.{or_right}
 use Rattle.vt_spec.proofs.Truths.{or_false_left, or_false_right}
 use Rattle.vt_spec.proofs.Worlds.{stands_still}
-
-abbrev pub IsNew : Fresh ℕ → ℕ → Type 0
-IsNew fresh number = (k : ℕ) × (number ≡ fresh k)
+use Rattle.vt_layer_laws.specs.Layers.ChangesUpper.{IsNewBy}
 
 module _ (files : FileTree ℕ) (first : ℕ → Option (Real ℕ)) (spare : ℕ → Type 0) (fresh : Fresh ℕ)
     (distinct : (j k : ℕ) → fresh j ≡ fresh k → j ≡ k) (apart : (k : ℕ) → ¬ (spare (fresh k))) where
@@ -24,7 +22,7 @@ module _ (files : FileTree ℕ) (first : ℕ → Option (Real ℕ)) (spare : ℕ
   Sound = IsSound files first spare
 
   pub record CopiesAll (k : ℕ) (before : ℕ → Option (Real ℕ)) (list : List ℕ) (merge : Merge ℕ) : Type 0 where
-    pub soundly : Soundly files first spare before (IsNew fresh) merge
+    pub soundly : Soundly files first spare before (IsNewBy fresh) merge
     pub all : (number : ℕ) → is_among nat_eq number list ≡ true → is_some (files.tree.node number) ≡ true
         → is_some (upper_object (soundly.real number)) ≡ true
     pub bound : (number seen : ℕ) → upper_object (soundly.real number) ≡ Some seen

@@ -7,11 +7,11 @@ use Rattle.vt_spec.specs.Lists.{Fresh, evens, odds}
 use Rattle.vt_spec.specs.Machine.World.{upper_object}
 use Rattle.vt_spec.specs.Tree.{node_with_bytes}
 use Rattle.vt_spec.proofs.Nodes.{directory_used, node_set}
-use Rattle.vt_layer_laws.specs.Layers.ChangesUpper.{ChangesUpper, IsFitToChange, IsLeft, MarksAreRight, NamesLeft, ReachesUpper, RemovedIsEmpty}
+use Rattle.vt_layer_laws.specs.Layers.ChangesUpper.{ChangesUpper, IsFitToChange, IsLeft, MarksAreRight, NamesLeft, ReachesUpper, RemovedIsEmpty, IsNewBy}
 use Rattle.vt_layer_laws.specs.Layers.Untouched.{IsKept}
 use Rattle.vt_layer_laws.specs.Layers.Upper.{SpeaksOfWhatIsThere}
 use Rattle.vt_layer_laws.proofs.layers.CopyingChanges.{made_marked, moved_empty, moved_left, moved_marked, object_there, removed_empty, removed_left}
-use Rattle.vt_layer_laws.proofs.layers.CopyingEach.{IsNew, last_in_line}
+use Rattle.vt_layer_laws.proofs.layers.CopyingEach.{last_in_line}
 use Rattle.vt_layer_laws.proofs.layers.CopyingReaches.{linked_named, made_as, made_named, made_real, moved_named}
 use Rattle.vt_layer_laws.proofs.layers.CopyingReady.{IsReady, leaves_upper, next_line, one_line, parent_in_line, stands_now}
 use Rattle.vt_layer_laws.proofs.layers.UpperChanges.{changes_keep}
@@ -32,10 +32,10 @@ module _ (fresh : Fresh ℕ) (stack : Stack ℕ) (before : Merge ℕ) (fit : IsF
   nothing_spared number = ⊥
 
   -- copies by one supply, with the other spared
-  pub by_evens : (object : ℕ) → IsReady fresh before fit (IsNew (odds fresh)) (line_to nat_eq before.files object)
+  pub by_evens : (object : ℕ) → IsReady fresh before fit (IsNewBy (odds fresh)) (line_to nat_eq before.files object)
       (copied_up nat_eq (evens fresh) before object)
   by_evens object =
-      one_line fresh before fit (IsNew (odds fresh)) (λ number s. (2 * s.0 + 1, s.1)) (evens fresh)
+      one_line fresh before fit (IsNewBy (odds fresh)) (λ number s. (2 * s.0 + 1, s.1)) (evens fresh)
       (λ j k e. let same = fit.distinct (2 * j) (2 * k) e in omega arith)
       (λ k s. let same = fit.distinct (2 * k) (2 * s.0 + 1) s.1 in let no : ⊥ = omega arith in no)
       (λ k. (2 * k, refl)) object
@@ -51,17 +51,17 @@ module _ (fresh : Fresh ℕ) (stack : Stack ℕ) (before : Merge ℕ) (fit : IsF
       (line_to nat_eq before.files object ++ line_to nat_eq before.files other)
       (copied_up nat_eq (odds fresh) (copied_up nat_eq (evens fresh) before object) other)
   then_odds object other =
-      next_line fresh before fit (IsNew (odds fresh)) nothing_spared (λ number s. absurd s)
+      next_line fresh before fit (IsNewBy (odds fresh)) nothing_spared (λ number s. absurd s)
       (line_to nat_eq before.files object) _ (by_evens object) (odds fresh)
       (λ j k e. let same = fit.distinct (2 * j + 1) (2 * k + 1) e in omega arith)
       (λ k s. s) (λ k. (k, refl)) (λ k. (2 * k + 1, refl)) other
 
   pub then_odd_evens : (object other : ℕ)
-      → IsReady fresh before fit (IsNew (odds (odds fresh)))
+      → IsReady fresh before fit (IsNewBy (odds (odds fresh)))
       (line_to nat_eq before.files object ++ line_to nat_eq before.files other)
       (copied_up nat_eq (evens (odds fresh)) (copied_up nat_eq (evens fresh) before object) other)
   then_odd_evens object other =
-      next_line fresh before fit (IsNew (odds fresh)) (IsNew (odds (odds fresh))) (λ number s. (2 * s.0 + 1, s.1))
+      next_line fresh before fit (IsNewBy (odds fresh)) (IsNewBy (odds (odds fresh))) (λ number s. (2 * s.0 + 1, s.1))
       (line_to nat_eq before.files object) _ (by_evens object) (evens (odds fresh))
       (λ j k e. let same = fit.distinct (2 * (2 * j) + 1) (2 * (2 * k) + 1) e in omega arith)
       (λ k s. let same = fit.distinct (2 * (2 * k) + 1) (2 * (2 * s.0 + 1) + 1) s.1 in let no : ⊥ = omega arith in no)
@@ -118,7 +118,7 @@ module _ (fresh : Fresh ℕ) (stack : Stack ℕ) (before : Merge ℕ) (fit : IsF
                   (odds fresh) stack ready.soundly.real ready.soundly.upper ready.soundly.sound directory name number
                   node seen.0 seen.1 reached,
             ));
-        stands = stands_now fresh before fit (IsNew (odds fresh)) (line_to nat_eq before.files directory) _ ready;
+        stands = stands_now fresh before fit (IsNewBy (odds fresh)) (line_to nat_eq before.files directory) _ ready;
         names_left = tt;
         removed_empty = tt;
         marks = subst (λ m. MarksAreRight stack m (made nat_eq (odds fresh) stack m directory name number node)
@@ -151,7 +151,7 @@ module _ (fresh : Fresh ℕ) (stack : Stack ℕ) (before : Merge ℕ) (fit : IsF
       record {
         tree = ap (λ m. (removed nat_eq (odds fresh) stack m directory name object).files) ready.soundly.is;
         reaches = tt;
-        stands = stands_now fresh before fit (IsNew (odds fresh)) (line_to nat_eq before.files directory) _ ready;
+        stands = stands_now fresh before fit (IsNewBy (odds fresh)) (line_to nat_eq before.files directory) _ ready;
         names_left = subst (λ m. NamesLeft stack m (removed nat_eq (odds fresh) stack m directory name object)
             (Remove directory name object)) (sym ready.soundly.is)
             (λ e. removed_left before.files fit.tree before.real
@@ -185,7 +185,7 @@ module _ (fresh : Fresh ℕ) (stack : Stack ℕ) (before : Merge ℕ) (fit : IsF
             (λ reached another. moved_named before.files before.real
             (odds (odds fresh)) stack ready.soundly.real ready.soundly.upper ready.soundly.sound from old to name object
             seen_from.0 seen_to.0 there.0 seen_from.1 seen_to.1 reached another);
-        stands = stands_now fresh before fit (IsNew (odds (odds fresh)))
+        stands = stands_now fresh before fit (IsNewBy (odds (odds fresh)))
             (line_to nat_eq before.files object ++ line_to nat_eq before.files to) _ ready;
         names_left = subst (λ m. IsLeft stack m
             (moved nat_eq (odds (odds fresh)) stack m from old to name object) from old) (sym ready.soundly.is)

@@ -11,8 +11,7 @@ use Rattle.vt_spec.specs.Tree.{Content, Node, bytes_of, entries_in, entry_named,
 use Rattle.vt_spec.specs.Tree.Content.{Directory, Regular, Symlink, Whiteout}
 use Rattle.vt_spec.specs.TreeInvariant.{entry_at}
 use Rattle.vt_spec.proofs.Nodes.{node_set}
-use Rattle.vt_layer_laws.specs.Layers.ChangesUpper.{IsMadeAs, IsReachedDirectory}
-use Rattle.vt_layer_laws.proofs.layers.CopyingEach.{IsNew}
+use Rattle.vt_layer_laws.specs.Layers.ChangesUpper.{IsMadeAs, IsReachedDirectory, IsNewBy}
 use Rattle.vt_layer_laws.proofs.layers.CopyingNames.{emptied_part, freed_part, marked_entries, name_put, name_stays_put, name_stays_without}
 use Rattle.vt_layer_laws.proofs.layers.CopyingParts.{parent_keeps, without_entry_keeps}
 use Rattle.vt_layer_laws.proofs.layers.CopyingSound.{IsSound, State}
@@ -118,13 +117,17 @@ module _ (files : FileTree ℕ) (first : ℕ → Option (Real ℕ)) (spare : ℕ
       (directory_there directory seen has reached)
 
 module _ (files : FileTree ℕ) (first : ℕ → Option (Real ℕ)) (fresh : Fresh ℕ) (stack : Stack ℕ)
-    (real : ℕ → Option (Real ℕ)) (upper : FileTree ℕ) (sound : IsSound files first (IsNew fresh) real upper) where
+    (real : ℕ → Option (Real ℕ)) (upper : FileTree ℕ) (sound : IsSound files first (IsNewBy fresh) real upper) where
   abbrev there : Merge ℕ
-  there = State files first (IsNew fresh) real upper
+  there = State files first (IsNewBy fresh) real upper
 
   is_old : (number seen : ℕ) → upper_object (real number) ≡ Some seen → upper_of there number ≢ fresh 0
   is_old number seen has same =
-      sound.spared number seen has (0, sym (upper_is files first (IsNew fresh) real upper sound number seen has) ∙ same)
+      sound.spared number seen has (
+        0,
+        sym (upper_is files first (IsNewBy fresh) real upper sound number seen has)
+            ∙ same,
+      )
 
   module _ (directory : ℕ) (name : List ℕ) (number : ℕ) (node : Node ℕ) (seen : ℕ)
       (has : upper_object (real directory) ≡ Some seen) (reached : IsReachedDirectory files directory) where
@@ -152,7 +155,7 @@ module _ (files : FileTree ℕ) (first : ℕ → Option (Real ℕ)) (fresh : Fre
         ∙ name_put name (fresh 0) (added.tree.node (upper_of there directory))
         (ap is_directory_node (ap (λ b. cond b (Some object) (upper.tree.node (upper_of there directory)))
         (ne_eqb (upper_of there directory) (fresh 0) (is_old directory seen has)))
-        ∙ directory_there files first (IsNew fresh) real upper sound directory seen has reached)
+        ∙ directory_there files first (IsNewBy fresh) real upper sound directory seen has reached)
 
     pub made_as : IsMadeAs node ((made nat_eq fresh stack there directory name number node).upper.tree.node (fresh 0))
     made_as =
@@ -186,7 +189,7 @@ module _ (files : FileTree ℕ) (first : ℕ → Option (Real ℕ)) (fresh : Fre
         ∙ freed_part is_directory_node (λ change keeps. keeps.directory) freed replaced (upper_of there to)
         ∙ emptied_part is_directory_node (λ change keeps. keeps.directory) upper (upper_directory_named there to name)
         (upper_of there to)
-        ∙ directory_there files first (IsNew fresh) real upper sound to seen_to has_to reached
+        ∙ directory_there files first (IsNewBy fresh) real upper sound to seen_to has_to reached
 
     away_named : entry_at away.tree (upper_of there to) name ≡ Some (upper_of there object)
     away_named =
@@ -202,8 +205,8 @@ module _ (files : FileTree ℕ) (first : ℕ → Option (Real ℕ)) (fresh : Fre
     -- in one directory the names are two
     apart : upper_of there to ≡ upper_of there from → name ≢ old
     apart same name_same =
-        let to_is = upper_is files first (IsNew fresh) real upper sound to seen_to has_to in
-        let from_is = upper_is files first (IsNew fresh) real upper sound from seen_from has_from in
+        let to_is = upper_is files first (IsNewBy fresh) real upper sound to seen_to has_to in
+        let from_is = upper_is files first (IsNewBy fresh) real upper sound from seen_from has_from in
         let one : to ≡ from = sound.one to from seen_to has_to
         (has_from ∙ ap Some (sym (sym to_is ∙ same ∙ from_is))) in
         another ((λ i. entry_at files.tree (one i) (name_same i)) ∙ e)

@@ -8,8 +8,8 @@ use Rattle.vt_spec.specs.FileTree.{FileTree, a_name, named_parent}
 use Rattle.vt_spec.specs.Lists.{Fresh, chain, is_among}
 use Rattle.vt_spec.specs.Machine.World.{Real, upper_object}
 use Rattle.vt_spec.specs.TreeInvariant.{entry_at}
-use Rattle.vt_layer_laws.specs.Layers.ChangesUpper.{IsFitToChange, StandsNow}
-use Rattle.vt_layer_laws.proofs.layers.CopyingEach.{IsNew, line_copied}
+use Rattle.vt_layer_laws.specs.Layers.ChangesUpper.{IsFitToChange, StandsNow, IsNewBy}
+use Rattle.vt_layer_laws.proofs.layers.CopyingEach.{line_copied}
 use Rattle.vt_spec.proofs.Worlds.{stands_still}
 use Rattle.vt_layer_laws.proofs.layers.CopyingSound.{IsSound, Soundly, State}
 use Rattle.vt_layer_laws.proofs.layers.UpperLine.{named_so}
@@ -54,7 +54,7 @@ module _ (fresh : Fresh ℕ) (before : Merge ℕ) (fit : IsFitToChange fresh bef
 
   -- numbers that the supply has
   abbrev Spares : (ℕ → Type 0) → Type 0
-  Spares spare = (number : ℕ) → spare number → IsNew fresh number
+  Spares spare = (number : ℕ) → spare number → IsNewBy fresh number
 
   pub start : (spare : ℕ → Type 0) → Spares spare → IsSound files before.real spare before.real before.upper
   start spare new = record {
@@ -66,12 +66,12 @@ module _ (fresh : Fresh ℕ) (before : Merge ℕ) (fit : IsFitToChange fresh bef
 
   -- what is asked is copied, with some numbers spared
   pub record IsReady (spare : ℕ → Type 0) (list : List ℕ) (merge : Merge ℕ) : Type 0 where
-    pub soundly : Soundly files before.real spare before.real (IsNew fresh) merge
+    pub soundly : Soundly files before.real spare before.real (IsNewBy fresh) merge
     pub all : (number : ℕ) → is_among nat_eq number list ≡ true → is_some (files.tree.node number) ≡ true
         → is_some (upper_object (soundly.real number)) ≡ true
 
   pub one_line : (spare : ℕ → Type 0) → Spares spare → (supply : Fresh ℕ) → ((j k : ℕ) → supply j ≡ supply k → j ≡ k)
-      → ((k : ℕ) → ¬ (spare (supply k))) → ((k : ℕ) → IsNew fresh (supply k))
+      → ((k : ℕ) → ¬ (spare (supply k))) → ((k : ℕ) → IsNewBy fresh (supply k))
       → (object : ℕ) → IsReady spare (line_to nat_eq files object) (copied_up nat_eq supply before object)
   one_line spare new supply distinct apart own object =
       let copies = line_copied files before.real spare supply distinct apart object before.real before.upper
@@ -93,7 +93,7 @@ module _ (fresh : Fresh ℕ) (before : Merge ℕ) (fit : IsFitToChange fresh bef
   pub next_line : (wide spare : ℕ → Type 0) → ((number : ℕ) → spare number → wide number)
       → (list : List ℕ) (merge : Merge ℕ) → IsReady wide list merge
       → (supply : Fresh ℕ) → ((j k : ℕ) → supply j ≡ supply k → j ≡ k) → ((k : ℕ) → ¬ (spare (supply k)))
-      → ((k : ℕ) → wide (supply k)) → ((k : ℕ) → IsNew fresh (supply k))
+      → ((k : ℕ) → wide (supply k)) → ((k : ℕ) → IsNewBy fresh (supply k))
       → (object : ℕ) → IsReady spare (list ++ line_to nat_eq files object) (copied_up nat_eq supply merge object)
   next_line wide spare narrower list merge ready supply distinct apart spared own object =
       let sound = ready.soundly.sound in

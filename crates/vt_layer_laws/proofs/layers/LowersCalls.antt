@@ -12,9 +12,10 @@ use Rattle.vt_spec.specs.Machine.Mounts.{Location}
 use Rattle.vt_spec.specs.Machine.Outcomes.{Outcome, after, judged}
 use Rattle.vt_spec.specs.Machine.World.{World, filesystem_at, filesystem_numbered, mount_at, no_filesystem}
 use Rattle.vt_spec.proofs.Refusals.{AllPass}
-use Rattle.vt_layer_laws.specs.Layers.Untouched.{HasNoUpperLayer, IsKept, inode_in, inodes_changed}
+use Rattle.vt_layer_laws.specs.Layers.Untouched.{HasNoUpperLayer, IsKept, inodes_changed}
 use Rattle.vt_layer_laws.proofs.layers.LowersKept.{kept_itself, kept_same, others_stay}
 use Rattle.vt_layer_laws.proofs.layers.LowersWorld.{filesystem_there, number_of_filesystem, others_elsewhere}
+use Rattle.vt_tree_laws.specs.Trees.Settling.{inode_in}
 
 -- what holds of the world of each refusal, and of the one that is granted, holds of the world that the call leaves
 module _ {N : Type 0} (P : World N → Type 0) (world : World N) (refused : P world) where

@@ -24,7 +24,7 @@ use Rattle.vt_layer_laws.proofs.layers.LowersCalls.{Stays, after_leads, change_s
 use Rattle.vt_layer_laws.proofs.layers.LowersMounts.{same_filesystems_without, same_mounted_without}
 use Rattle.std.proofs.lemmas.Bool.{not-false, or_from}
 use Rattle.vt_spec.proofs.Truths.{or_false_left, or_false_right}
-use Rattle.vt_spec.proofs.Worlds.{filesystems-without_replaced}
+use Rattle.vt_spec.proofs.Worlds.{filesystems-without_replaced, shown-without_replaced}
 
 module _ (world : World ℕ) (filesystem inode : ℕ) (own : HasNoUpperLayer world filesystem)
     (locked : is_locked nat_eq world filesystem inode ≡ true) (task : Task ℕ) where
@@ -127,12 +127,6 @@ module _ (world : World ℕ) (filesystem inode : ℕ) (own : HasNoUpperLayer wor
         (differs place.parent (or_false_right (is_locked_at nat_eq world (object_there place)) _ passed.1.1.1.1.0)
         (at ∙ same_mounted_without world (object_there place) place.parent)) refl))))
 
-    same_mounted_replaced : (object : Option (Location ℕ)) (location : Location ℕ)
-        → (mount_at nat_eq (without_replaced nat_eq world object) location).filesystem
-        ≡ (mount_at nat_eq world location).filesystem
-    same_mounted_replaced None location = refl
-    same_mounted_replaced (Some object) location = same_mounted_without world object location
-
     renamed_stays : (one : Bool) (from to : Place ℕ) (old : Location ℕ)
         → Kept (renamed_by nat_eq one fresh world task from to old).world
     renamed_stays true from to old =
@@ -142,7 +136,7 @@ module _ (world : World ℕ) (filesystem inode : ℕ) (own : HasNoUpperLayer wor
         change_stays world filesystem inode own fresh (without_replaced nat_eq world to.object)
         (filesystems-without_replaced world to.object)
         from.parent (moving from to old)
-        (λ at. let there = at ∙ same_mounted_replaced to.object from.parent in
+        (λ at. let there = at ∙ shown-without_replaced world to.object from.parent in
         or_from (nat_eq inode from.parent.node) _
         (differs from.parent (or_false_left (is_locked_at nat_eq world from.parent) _ passed.1.1.1.1.1.1.0) there)
         (or_from (nat_eq inode to.parent.node) false

@@ -10,11 +10,11 @@ use Rattle.vt_spec.specs.Machine.World.Real.{Lower, Upper}
 use Rattle.vt_spec.specs.Machine.Invariants.{IsWorld, SameObject, is_there, number_at_path}
 use Rattle.vt_spec.specs.Tree.{Node, is_directory_node}
 use Rattle.vt_layer_laws.specs.Layers.ChangesUpper.{IsFitToChange}
-use Rattle.vt_layer_laws.specs.Layers.Untouched.{inode_in}
 use Rattle.vt_layer_laws.proofs.layers.UpperWorld.{above_upper, one_below, overlay_merges, overlay_numbers, overlay_tree, real_named, root_is_upper}
 use Rattle.std.proofs.lemmas.Option.{same_Some}
 use Rattle.vt_spec.proofs.NodeChanges.{same_content_kind}
 use Rattle.vt_spec.proofs.Options.{none_is_some}
+use Rattle.vt_tree_laws.specs.Trees.Settling.{inode_in}
 
 -- an upper object is a real one
 pub upper_is : (real : Option (Real ℕ)) (object : ℕ) → upper_object real ≡ Some object → real ≡ Some (Upper object)

@@ -21,7 +21,7 @@ use Rattle.vt_spec.specs.Tree.{Node, is_directory_node}
 use Rattle.vt_spec.specs.TreeInvariant.{IsTree, entry_at, led}
 use Rattle.vt_spec.proofs.Trees.{led-append}
 use Rattle.vt_layer_laws.specs.Layers.Mounted.{AreLayers}
-use Rattle.vt_layer_laws.specs.Layers.Untouched.{IsKept, inode_in}
+use Rattle.vt_layer_laws.specs.Layers.Untouched.{IsKept}
 use Rattle.vt_layer_laws.specs.Layers.Upper.{IsUpperObject, SpeaksOfWhatIsThere}
 use Rattle.vt_layer_laws.proofs.layers.LowersKept.{kept_same}
 use Rattle.vt_layer_laws.proofs.layers.LowersWorld.{filesystem_elsewhere, filesystem_there, number_of_filesystem}
@@ -32,6 +32,7 @@ use Rattle.vt_layer_laws.proofs.layers.UpperShown.{below_is_at, without_last_of_
 use Rattle.std.proofs.lemmas.Option.{same_Some}
 use Rattle.vt_spec.proofs.Options.{none_is_some}
 use Rattle.vt_spec.proofs.Truths.{and_true_left, and_true_right}
+use Rattle.vt_tree_laws.specs.Trees.Settling.{inode_in}
 
 -- What holds of each filesystem of a list holds of the one that is found.
 pub all_found : (P : Filesystem ℕ → Type 0) (test : Filesystem ℕ → Bool) (list : List (Filesystem ℕ)) → All P list

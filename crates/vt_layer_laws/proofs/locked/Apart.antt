@@ -10,13 +10,13 @@ use Rattle.vt_spec.specs.Machine.Invariants.{IsWorld, ListsNumbers, SameObject, 
 use Rattle.vt_spec.specs.Tree.{Node, is_directory_node}
 use Rattle.vt_spec.proofs.Lists.{Among, among-append_right, among-filter, among-flat_map, among_from_list_all, among_numbers, any_among, any_from_among, none_among}
 use Rattle.vt_layer_laws.proofs.layers.LowersWorld.{number_of_filesystem}
-use Rattle.vt_layer_laws.specs.Layers.Untouched.{inode_in}
 use Rattle.vt_layer_laws.specs.Layers.Upper.{IsUpperObject}
 use Rattle.vt_layer_laws.proofs.layers.UpperWorld.{all_found, overlay_found, overlay_merges}
 use Rattle.std.proofs.lemmas.Bool.{and_from, or_cases, or_left, or_right}
 use Rattle.std.proofs.lemmas.Option.{same_Some}
 use Rattle.vt_spec.proofs.Options.{none_is_some}
 use Rattle.vt_spec.proofs.Truths.{and_true_left, and_true_right, or_false_left, or_false_right}
+use Rattle.vt_tree_laws.specs.Trees.Settling.{inode_in}
 
 pub never_both : (a b : Bool) → (a && b) ≡ false → a ≡ true → b ≡ true → ⊥
 never_both a b e f g = true≢false (sym (and_from a b f g) ∙ e)

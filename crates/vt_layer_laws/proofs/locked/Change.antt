@@ -8,7 +8,7 @@ use Rattle.vt_spec.specs.Machine.Locked.{is_locked}
 use Rattle.vt_spec.specs.Machine.Mounts.{Location}
 use Rattle.vt_spec.specs.Machine.World.{Filesystem, Layer, Overlay, World, filesystem_numbered, mount_at}
 use Rattle.vt_spec.specs.Machine.Invariants.{IsWorld}
-use Rattle.vt_layer_laws.specs.Layers.Untouched.{IsKept, inode_in, inodes_changed}
+use Rattle.vt_layer_laws.specs.Layers.Untouched.{IsKept, inodes_changed}
 use Rattle.vt_layer_laws.specs.Layers.Upper.{IsUpperObject, SpeaksOfWhatIsThere}
 use Rattle.vt_layer_laws.proofs.layers.LowersCalls.{Stays, same_filesystem, stays_itself}
 use Rattle.vt_layer_laws.proofs.layers.LowersKept.{kept_same, others_stay}
@@ -16,6 +16,7 @@ use Rattle.vt_layer_laws.proofs.layers.LowersWorld.{changed_elsewhere, filesyste
 use Rattle.vt_layer_laws.proofs.layers.UpperWorld.{change_keeps}
 use Rattle.std.proofs.lemmas.Option.{same_Some}
 use Rattle.vt_spec.proofs.Options.{none_is_some}
+use Rattle.vt_tree_laws.specs.Trees.Settling.{inode_in}
 
 -- a world with a change of the filesystem that has a number
 abbrev pub changed_in : Fresh ℕ → World ℕ → ℕ → Change ℕ → World ℕ

@@ -18,7 +18,7 @@ use Rattle.std.specs.Prelude.{Contains}
 use Rattle.vt_spec.specs.Machine.Invariants.{IsWorld}
 use Rattle.vt_spec.proofs.Lists.{Among, among-append_left, among-append_right, among_from_contains, any_from_among}
 use Rattle.vt_layer_laws.specs.Layers.Locked.{GoesThrough}
-use Rattle.vt_layer_laws.specs.Layers.Untouched.{IsKept, changes_no_mount, inode_in}
+use Rattle.vt_layer_laws.specs.Layers.Untouched.{IsKept, changes_no_mount}
 use Rattle.vt_layer_laws.specs.Layers.Upper.{IsUpperObject}
 use Rattle.vt_layer_laws.proofs.locked.Apart.{layer_among, layer_plain, no_lower, no_other, no_overlay_in, object_counts}
 use Rattle.vt_layer_laws.proofs.locked.Change.{IsChanged, IsNew, IsNotOf, Leaves, as_it_was, changed_in, changed_stays}
@@ -26,6 +26,7 @@ use Rattle.vt_layer_laws.proofs.locked.EachCall.{chmod_left, chown_left, link_le
 use Rattle.vt_layer_laws.proofs.locked.Walks.{descriptor_there, link_walk_there, object_walk_there}
 use Rattle.vt_layer_laws.proofs.layers.LowersCalls.{after_leads, judged_leads, same_filesystem}
 use Rattle.vt_layer_laws.proofs.layers.LowersWorld.{changed_elsewhere, number_of_filesystem}
+use Rattle.vt_tree_laws.specs.Trees.Settling.{inode_in}
 
 -- Calls that look, and calls on what a task has, change no filesystem
 module _ (world : World ℕ) (fresh : Fresh ℕ) (task : Task ℕ) where

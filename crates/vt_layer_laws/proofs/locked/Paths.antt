@@ -12,7 +12,7 @@ use Rattle.vt_spec.specs.Tree.{entry_named, is_directory_node}
 use Rattle.vt_spec.specs.TreeInvariant.{IsDirectory, IsTree}
 use Rattle.vt_spec.proofs.Lists.{Among, among-append_left, among-append_right, among_from_contains}
 use Rattle.vt_layer_laws.specs.Layers.Locked.{AreNoInodes, LeadsAsBefore, LowerPathsAreLocked, OtherPathsStay}
-use Rattle.vt_layer_laws.specs.Layers.Untouched.{IsKept, inode_in}
+use Rattle.vt_layer_laws.specs.Layers.Untouched.{IsKept}
 use Rattle.vt_layer_laws.proofs.directories.Lower.{led_below}
 use Rattle.vt_layer_laws.proofs.locked.Apart.{layer_plain, under_itself}
 use Rattle.vt_layer_laws.proofs.locked.EveryCall.{lower_layers_stay_locked}
@@ -21,6 +21,7 @@ use Rattle.vt_layer_laws.proofs.layers.ShownDirectories.{led_is_there}
 use Rattle.vt_layer_laws.proofs.layers.UpperWorld.{all_found}
 use Rattle.vt_layer_laws.proofs.views.Stay.{led_where}
 use Rattle.vt_spec.proofs.Truths.{and_true_right}
+use Rattle.vt_tree_laws.specs.Trees.Settling.{inode_in}
 
 module _ (world : World ℕ) (conditions : IsWorld nat_eq world) (layer : Layer ℕ)
     (plain : is_plain_layer nat_eq world layer ≡ true) where

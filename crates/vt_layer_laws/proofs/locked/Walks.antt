@@ -13,12 +13,13 @@ use Rattle.vt_spec.specs.Machine.Walk.{Follow, Here, LastWord, Stop, final_word,
 use Rattle.vt_spec.specs.Language.Limits.{most_symlinks}
 use Rattle.vt_spec.specs.Machine.Walk.LastWord.{Dot, DotDot, Named, NoWord}
 use Rattle.vt_spec.specs.Machine.World.{Descriptor, Task, World, all_locations, files_at, is_directory_at, locations_of, node_at, task_called}
-use Rattle.vt_spec.specs.Language.Calls.{same_name}
-use Rattle.vt_spec.specs.Machine.Invariants.{IsWorld, is_located_well, stands_on_directories}
+use Rattle.vt_spec.specs.Machine.Invariants.{IsWorld, is_located_well}
 use Rattle.vt_spec.proofs.Lists.{Among, among-flat_map, among-map, among_from_list_all}
 use Rattle.vt_spec.proofs.Nodes.{directory_used}
 use Rattle.vt_tree_laws.proofs.trees.TreesWalked.{Ends, ends_next, ends_then, ends_unless, ok_same}
-use Rattle.vt_layer_laws.proofs.locked.Steps.{word_there}
+use Rattle.vt_tree_laws.proofs.trees.TreesEntered.{word_there}
+use Rattle.vt_tree_laws.proofs.trees.TreesOfMounts.{worlds_are_standing}
+use Rattle.vt_tree_laws.proofs.trees.TreesTasks.{called_there, called_stands}
 use Rattle.vt_spec.proofs.Found.{found_among}
 use Rattle.vt_spec.proofs.Truths.{and_true_left, and_true_right}
 
@@ -27,23 +28,18 @@ module _ (world : World ℕ) (conditions : IsWorld nat_eq world) (task : Task �
   abbrev There : Location ℕ → Type 0
   There location = is_some (node_at nat_eq world location) ≡ true
 
-  task_among : Among task world.tasks
-  task_among = found_among (λ other. same_name task.name other.name) world.tasks task called
-
-  stands : stands_on_directories nat_eq world task ≡ true
-  stands = among_from_list_all
-      (stands_on_directories nat_eq world) world.tasks conditions.tasks.directories task task_among
-
   directory_is : (location : Location ℕ) → is_directory_at nat_eq world location ≡ true → There location
   directory_is location is = directory_used (files_at nat_eq world location).tree location.node is
 
   root_there : There task.root
   root_there =
-      directory_is task.root (and_true_left (is_directory_at nat_eq world task.root) _ (and_true_left _ _ stands))
+      directory_is task.root (and_true_left (is_directory_at nat_eq world task.root) _ (and_true_left _ _
+      (called_stands world conditions task called)))
 
   own_there : There task.directory
   own_there = directory_is task.directory
-      (and_true_left (is_directory_at nat_eq world task.directory) _ (and_true_right _ _ stands))
+      (and_true_left (is_directory_at nat_eq world task.directory) _ (and_true_right _ _
+      (called_stands world conditions task called)))
 
   start_there : (directory : Location ℕ) (path : List ℕ) → There directory → There (start_of task directory path)
   start_there directory path is = by (is_absolute path)
@@ -54,6 +50,9 @@ module _ (world : World ℕ) (conditions : IsWorld nat_eq world) (task : Task �
 
   abbrev EndsThere : Result (Here ℕ) (Stop ℕ) → Type 0
   EndsThere walk = Ends (λ here. There here.location) walk
+
+  word_ends : (here : Here ℕ) (word : LastWord) → EndsThere (word_walked nat_eq world task here word)
+  word_ends = word_there world conditions.files.trees (worlds_are_standing world conditions) task
 
   abbrev FollowEnds : Follow ℕ → Type 0
   FollowEnds follow =
@@ -73,7 +72,7 @@ module _ (world : World ℕ) (conditions : IsWorld nat_eq world) (task : Task �
       (words_walked nat_eq world task follow here front) _ (words_there follow goes here is front) (λ reached end.
       ends_then (λ next. There next.location) (λ next. There next.location)
       (word_walked nat_eq world task reached (last_word word)) _
-      (word_there world conditions task reached (last_word word))
+      (word_ends reached (last_word word))
       (λ next found.
       if_link_there next (follow reached.location next) found (λ text. goes reached.location next text end)
       (symlink_text (node_at nat_eq world next.location))))
@@ -117,9 +116,9 @@ module _ (world : World ℕ) (conditions : IsWorld nat_eq world) (task : Task �
   last_there : (here : Here ℕ) (word : LastWord) → There here.location
       → EndsThere (last_walked nat_eq world task here word)
   last_there here NoWord is = is
-  last_there here Dot is = word_there world conditions task here Dot
-  last_there here DotDot is = word_there world conditions task here DotDot
-  last_there here (Named name) is = word_there world conditions task here (Named name)
+  last_there here Dot is = word_ends here Dot
+  last_there here DotDot is = word_ends here DotDot
+  last_there here (Named name) is = word_ends here (Named name)
 
   link_walk_by_there : (b : Bool) (path : List ℕ) → EndsThere (symlink_walk_by nat_eq b world task path)
   link_walk_by_there true path = object_walk_there path
@@ -140,7 +139,8 @@ module _ (world : World ℕ) (conditions : IsWorld nat_eq world) (task : Task �
       and_true_right _ _
       (among_from_list_all (is_located_well nat_eq world)
       (all_locations world) conditions.tasks.locations_live descriptor.location
-      (among-flat_map locations_of world.tasks task descriptor.location task_among
+      (among-flat_map locations_of world.tasks task descriptor.location
+      (called_there world.tasks task.name task called)
       (inr (inr (among-map (λ d. d.location) task.descriptors descriptor
       (by (descriptor_numbered task number) refl e))))))
     where

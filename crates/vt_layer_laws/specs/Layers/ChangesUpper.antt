@@ -12,12 +12,17 @@ use Rattle.vt_spec.specs.Machine.World.{Layer, Overlay, World, filesystem_number
 use Rattle.vt_spec.specs.Machine.Invariants.{IsWorld, ListsNumbers, number_at_path}
 use Rattle.vt_spec.specs.Tree.{Node, bytes_in, bytes_of, entries_in, entries_of, is_directory_node, kind_of, new_directory, node_with_bytes}
 use Rattle.vt_spec.specs.TreeInvariant.{IsDirectory, IsReached, IsTree, entry_at}
-use Rattle.vt_layer_laws.specs.Layers.Untouched.{IsKept, inode_in}
+use Rattle.vt_layer_laws.specs.Layers.Untouched.{IsKept}
 use Rattle.vt_layer_laws.specs.Layers.Upper.{IsThere, SpeaksOfWhatIsThere}
+use Rattle.vt_tree_laws.specs.Trees.Settling.{inode_in}
 
 -- an inode of the overlay has a real object in the upper layer
 abbrev pub StandsInUpper : Merge ℕ → ℕ → Type 0
 StandsInUpper merge number = is_some (upper_object (merge.real number)) ≡ true
+
+-- an inode with one of the numbers that are handed in
+abbrev pub IsNewBy : Fresh ℕ → ℕ → Type 0
+IsNewBy fresh object = (k : ℕ) × (object ≡ fresh k)
 
 -- What holds of an overlay with an upper layer, and of the new numbers that a change is handed: its tree is a tree; its
 -- root stands in the upper layer, and so does each directory that has an entry for what stands there; what lies only

@@ -9,8 +9,9 @@ use Rattle.vt_spec.specs.Machine.Locked.{lies_or_counts_under, upper_and_work}
 use Rattle.vt_spec.specs.Machine.Policy.{call_outcome}
 use Rattle.vt_spec.specs.Machine.World.{Layer, Overlay, Task, World, filesystem_numbered, open_layer, task_called}
 use Rattle.vt_spec.specs.Machine.Invariants.{IsWorld}
-use Rattle.vt_layer_laws.specs.Layers.Untouched.{IsKept, changes_no_mount, inode_in}
+use Rattle.vt_layer_laws.specs.Layers.Untouched.{IsKept, changes_no_mount}
 use Rattle.vt_layer_laws.specs.Layers.Upper.{IsUpperObject}
+use Rattle.vt_tree_laws.specs.Trees.Settling.{inode_in}
 
 -- Every call of every task that changes no mount by its own, granted or refused, leaves what lies under a lower layer
 -- of a live overlay. (The world is the one before what nothing uses any more is let go.)

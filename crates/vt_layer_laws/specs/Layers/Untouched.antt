@@ -13,6 +13,7 @@ use Rattle.vt_spec.specs.Machine.Mounts.{Location}
 use Rattle.vt_spec.specs.Machine.Policy.{call_outcome}
 use Rattle.vt_spec.specs.Machine.World.{Layer, Overlay, Task, World, filesystem_at, filesystem_numbered, mount_at}
 use Rattle.vt_spec.specs.Tree.{Node, bytes_in, entries_in}
+use Rattle.vt_tree_laws.specs.Trees.Settling.{inode_in}
 
 -- an inode keeps its kind, owner and mode, names, bytes or text, and mark
 pub record IsKept (old new : Option (Node ℕ)) : Type 0 where
@@ -22,9 +23,6 @@ pub record IsKept (old new : Option (Node ℕ)) : Type 0 where
   pub names : entries_in new ≡ entries_in old
   pub bytes : bytes_in new ≡ bytes_in old
   pub mark : is_opaque_in new ≡ is_opaque_in old
-
-abbrev pub inode_in : World ℕ → ℕ → ℕ → Option (Node ℕ)
-inode_in world filesystem inode = (filesystem_numbered nat_eq world filesystem).files.tree.node inode
 
 -- the inodes of a tree that a change makes, or gives other names, bytes, attributes or mark
 abbrev pub inodes_changed : Change ℕ → List ℕ

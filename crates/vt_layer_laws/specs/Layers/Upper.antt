@@ -11,7 +11,8 @@ use Rattle.vt_spec.specs.Machine.World.{Layer, Overlay, World, files_at, filesys
 use Rattle.vt_spec.specs.Machine.World.Real.{Upper}
 use Rattle.vt_spec.specs.Machine.Invariants.{IsWorld}
 use Rattle.vt_spec.specs.TreeInvariant.{entry_at}
-use Rattle.vt_layer_laws.specs.Layers.Untouched.{IsKept, inode_in}
+use Rattle.vt_layer_laws.specs.Layers.Untouched.{IsKept}
+use Rattle.vt_tree_laws.specs.Trees.Settling.{inode_in}
 
 abbrev pub IsThere : FileTree ℕ → ℕ → Type 0
 IsThere files number = is_some (files.tree.node number) ≡ true

@@ -7,7 +7,7 @@ use Rattle.vt_spec.specs.Machine.Filesystems.{with_files}
 use Rattle.vt_spec.specs.Lists.{is_among}
 use Rattle.vt_spec.specs.Machine.Settled.{filesystem_lives, is_mounted, layers_in, located_in, named_in, objects_of_overlay, settled, without_dead_filesystems, without_dead_mounts}
 use Rattle.vt_spec.specs.Machine.World.{Filesystem, World, filesystem_numbered, is_overlay, no_filesystem, replaced_if_numbered}
-use Rattle.vt_letting_go.specs.InUse.{FilesystemsInUse, HasTrees, IsListedTree, is_inode_used}
+use Rattle.vt_letting_go.specs.InUse.{FilesystemsInUse, HasTrees, IsListedTree, is_inode_used, AllInUse}
 use Rattle.vt_letting_go.specs.Leaving.{IsSettledPlain}
 use Rattle.vt_letting_go.specs.OneByOne.{FilesystemsInUseBut, GroupsInUseBut, InodesInUseBut, IsPlain, Losers, is_inode_among, is_used_or_among, let_go}
 use Rattle.vt_letting_go.specs.TreeChanges.{ChangesTree, NamedStay, UnnamedGo, with_tree}
@@ -36,6 +36,65 @@ found_filesystem (first ∷ rest) number h = by (nat_eq number first.number) ref
     by true e g next = (inl refl, sym (eqb-true number first.number e))
     by false e g next = let later = next g in (inr later.0, later.1)
 
+-- Another tree in one filesystem of a plain world in which all is in use
+module _ (world : World ℕ) (number : ℕ) (files : FileTree ℕ) (in_use : AllInUse world) (plain : IsPlain world)
+    (there : is_among nat_eq number (map (λ filesystem. filesystem.number) world.filesystems) ≡ true) where
+  abbrev before : Filesystem ℕ
+  before = filesystem_numbered nat_eq world number
+
+  abbrev with_new : World ℕ
+  with_new = with_tree world number files
+
+  pub old_there : Among before world.filesystems
+  old_there = (found_filesystem world.filesystems number there).0
+
+  -- a filesystem of the changed world is the changed one, or was there
+  is_new_or_old : (filesystem : Filesystem ℕ) → Among filesystem with_new.filesystems
+      → (filesystem ≡ with_files before files) ⊎ Among filesystem world.filesystems
+  is_new_or_old filesystem m =
+      let from =
+      among-from_map (replaced_if_numbered nat_eq (with_files before files)) world.filesystems filesystem m in
+      by (nat_eq before.number from.0.number) from.0 from.1 from.2
+    where
+      by : (b : Bool) (f : Filesystem ℕ) → Among f world.filesystems → filesystem ≡ cond b (with_files before files) f
+          → (filesystem ≡ with_files before files) ⊎ Among filesystem world.filesystems
+      by true f n e = inl e
+      by false f n e = inr (subst (λ g. Among g world.filesystems) (sym e) n)
+
+  pub for_each : (P : Filesystem ℕ → Type 0) → P (with_files before files)
+      → ((f : Filesystem ℕ) → Among f world.filesystems → P f)
+      → (filesystem : Filesystem ℕ) → Among filesystem with_new.filesystems → P filesystem
+  for_each P here others filesystem m =
+      ⊎_elim (λ e. subst P (sym e) here) (λ n. others filesystem n) (is_new_or_old filesystem m)
+
+  pub plain_old : is_overlay before ≡ false
+  plain_old = fails is_overlay world.filesystems plain before old_there
+
+  pub plain_after : IsPlain with_new
+  plain_after =
+      none_passes is_overlay with_new.filesystems (for_each (λ f. is_overlay f ≡ false) plain_old
+      (λ f m. fails is_overlay world.filesystems plain f m))
+
+  mounted_old : (f : Filesystem ℕ) → Among f world.filesystems → is_mounted nat_eq world f.number ≡ true
+  mounted_old f m =
+      ⊎_elim (λ e. e) (λ layered. absurd
+      (true≢false (sym layered ∙ no_layers f.number world world.filesystems plain)))
+      (or_cases (is_mounted nat_eq world f.number) _
+      (passes (filesystem_lives nat_eq world) world.filesystems in_use.filesystems f m))
+
+  pub filesystems_after : FilesystemsInUse with_new
+  filesystems_after =
+      all_pass (filesystem_lives nat_eq with_new) with_new.filesystems
+      (for_each (λ f. filesystem_lives nat_eq with_new f ≡ true)
+      (or_first (is_mounted nat_eq with_new before.number) _ (mounted_old before old_there))
+      (λ f m. or_first (is_mounted nat_eq with_new f.number) _ (mounted_old f m)))
+
+  -- so no mount and no filesystem goes
+  pub same_living : without_dead_filesystems nat_eq (without_dead_mounts nat_eq with_new) ≡ with_new
+  same_living =
+      ap (without_dead_filesystems nat_eq) (mounts_stay with_new in_use.mounts)
+      ∙ filesystems_stay with_new filesystems_after
+
 module _ (world : World ℕ) (number : ℕ) (files : FileTree ℕ) (unnamed : List ℕ) (settles : IsSettledPlain world)
     (there : is_among nat_eq number (map (λ filesystem. filesystem.number) world.filesystems) ≡ true)
     (changes : ChangesTree (filesystem_numbered nat_eq world number).files files unnamed) where
@@ -51,62 +110,17 @@ module _ (world : World ℕ) (number : ℕ) (files : FileTree ℕ) (unnamed : Li
   abbrev losers : Losers
   losers = record { mounts = []; filesystems = []; inodes = map (λ inode. (number, inode)) unnamed; groups = [] }
 
-  old_there : Among old world.filesystems
-  old_there = (found_filesystem world.filesystems number there).0
-
   old_number : old.number ≡ number
   old_number = (found_filesystem world.filesystems number there).1
-
-  -- a filesystem of the changed world is the changed one, or was there
-  is_new_or_old : (filesystem : Filesystem ℕ) → Among filesystem after.filesystems
-      → (filesystem ≡ new) ⊎ Among filesystem world.filesystems
-  is_new_or_old filesystem m =
-      let from = among-from_map (replaced_if_numbered nat_eq new) world.filesystems filesystem m in
-      by (nat_eq new.number from.0.number) from.0 from.1 from.2
-    where
-      by : (b : Bool) (f : Filesystem ℕ) → Among f world.filesystems → filesystem ≡ cond b new f
-          → (filesystem ≡ new) ⊎ Among filesystem world.filesystems
-      by true f n e = inl e
-      by false f n e = inr (subst (λ g. Among g world.filesystems) (sym e) n)
-
-  for_each : (P : Filesystem ℕ → Type 0) → P new → ((f : Filesystem ℕ) → Among f world.filesystems → P f)
-      → (filesystem : Filesystem ℕ) → Among filesystem after.filesystems → P filesystem
-  for_each P here others filesystem m =
-      ⊎_elim (λ e. subst P (sym e) here) (λ n. others filesystem n) (is_new_or_old filesystem m)
-
-  plain_old : is_overlay old ≡ false
-  plain_old = fails is_overlay world.filesystems settles.plain old old_there
-
-  plain_after : IsPlain after
-  plain_after =
-      none_passes is_overlay after.filesystems (for_each (λ f. is_overlay f ≡ false) plain_old
-      (λ f m. fails is_overlay world.filesystems settles.plain f m))
 
   trees_after : HasTrees after
   trees_after =
       all_from_among (λ f. IsListedTree f.files) after.filesystems
-      (for_each (λ f. IsListedTree f.files) changes.tree
+      (for_each world number files settles.in_use settles.plain there (λ f. IsListedTree f.files) changes.tree
       (λ f m. among_from_all (λ g. IsListedTree g.files) world.filesystems settles.trees f m))
-
-  mounted_old : (f : Filesystem ℕ) → Among f world.filesystems → is_mounted nat_eq world f.number ≡ true
-  mounted_old f m =
-      ⊎_elim (λ e. e) (λ layered. absurd
-      (true≢false (sym layered ∙ no_layers f.number world world.filesystems settles.plain)))
-      (or_cases (is_mounted nat_eq world f.number) _
-      (passes (filesystem_lives nat_eq world) world.filesystems settles.in_use.filesystems f m))
-
-  filesystems_after : FilesystemsInUse after
-  filesystems_after =
-      all_pass (filesystem_lives nat_eq after) after.filesystems
-      (for_each (λ f. filesystem_lives nat_eq after f ≡ true)
-      (or_first (is_mounted nat_eq after new.number) _ (mounted_old old old_there))
-      (λ f m. or_first (is_mounted nat_eq after f.number) _ (mounted_old f m)))
 
   same_mounted : without_dead_mounts nat_eq after ≡ after
   same_mounted = mounts_stay after settles.in_use.mounts
-
-  same_living : without_dead_filesystems nat_eq (without_dead_mounts nat_eq after) ≡ after
-  same_living = ap (without_dead_filesystems nat_eq) same_mounted ∙ filesystems_stay after filesystems_after
 
   -- what is at a place, or has a name, is used
   used_after : (f : Filesystem ℕ) (inode : ℕ)
@@ -157,7 +171,8 @@ module _ (world : World ℕ) (number : ℕ) (files : FileTree ℕ) (unnamed : Li
       (plain_uses world settles.plain old inode
       (passes (is_inode_used world old) old.files.numbers
       (among_from_all (λ f. list_all (is_inode_used world f) f.files.numbers
-      ≡ true) world.filesystems settles.in_use.inodes old old_there)
+      ≡ true) world.filesystems settles.in_use.inodes old
+      (old_there world number files settles.in_use settles.plain there))
       inode (among_numbers inode old.files.numbers was))))
       (λ named. still (inr (inl named)))
       (or_cases (is_among nat_eq inode old.files.numbers) (is_among nat_eq inode (named_in files))
@@ -182,16 +197,21 @@ module _ (world : World ℕ) (number : ℕ) (files : FileTree ℕ) (unnamed : Li
   inodes_after : InodesInUseBut losers.inodes after
   inodes_after =
       all_from_among (λ f. list_all (is_used_or_among losers.inodes after f) f.files.numbers ≡ true) after.filesystems
-      (for_each (λ f. list_all (is_used_or_among losers.inodes after f) f.files.numbers ≡ true)
+      (for_each world number files settles.in_use settles.plain there
+      (λ f. list_all (is_used_or_among losers.inodes after f) f.files.numbers ≡ true)
       (all_pass (is_used_or_among losers.inodes after new) files.numbers of_new)
       (λ f n. all_pass (is_used_or_among losers.inodes after f) f.files.numbers (of_others f n)))
 
   unnamed_goes : settled nat_eq after ≡ let_go after losers
   unnamed_goes =
-      all_goes_one_by_one after losers plain_after trees_after (record {
+      all_goes_one_by_one after losers (plain_after world number files settles.in_use settles.plain there) trees_after
+      (record {
         mounts = settles.in_use.mounts;
-        filesystems = subst (FilesystemsInUseBut []) (sym same_mounted) filesystems_after;
-        inodes = subst (InodesInUseBut losers.inodes) (sym same_living) inodes_after;
+        filesystems = subst (FilesystemsInUseBut []) (sym same_mounted)
+            (filesystems_after world number files settles.in_use settles.plain there);
+        inodes = subst (InodesInUseBut losers.inodes) (sym (same_living world number files settles.in_use
+            settles.plain there))
+            inodes_after;
         groups = subst (GroupsInUseBut []) (sym same_mounted) (λ group among none. settles.in_use.groups group none);
       })
 

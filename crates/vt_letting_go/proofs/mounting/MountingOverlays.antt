@@ -1,5 +1,5 @@
 -- What goes after a change of mounts in worlds with overlays.
-use Rattle.std.proofs.Common.{not, refl, ◌≡◌, sym, ap, subst, ◌∙◌, ◌⊎◌, inl, inr, ⊎_elim, ℕ, nat_eq, true, ◌||◌, ◌&&◌, List, [], ◌∷◌, flat_map, ◌++◌, Option}
+use Rattle.std.proofs.Common.{not, refl, ◌≡◌, sym, ap, subst, ◌∙◌, inl, inr, ⊎_elim, ℕ, nat_eq, true, ◌||◌, ◌&&◌, List, [], ◌∷◌, flat_map, ◌++◌, Option}
 use Rattle.std.specs.List.{list_all}
 use Rattle.std.proofs.lemmas.Bool.{and_parts, or_cases}
 use Rattle.std.proofs.lemmas.List.Folds.{list_any-append}
@@ -41,12 +41,6 @@ module _ (world : World ℕ) (mounts : List (Mount ℕ)) (master : ℕ → Optio
   abbrev lost : List Inode
   lost = inodes world mounts master filesystems namespaces tasks gone left groups in_use stand loses hears come
 
-  stays_mounted : (number : ℕ) → is_mounted nat_eq world number ≡ true
-      → (is_mounted nat_eq now number ≡ true)
-      ⊎ ((one : ℕ) × Among one gone × (number ≡ (mount_numbered nat_eq world one).filesystem))
-  stays_mounted =
-      still_mounted world mounts master filesystems namespaces tasks gone left groups in_use stand loses hears come
-
   old_filesystem : (f : Filesystem ℕ) → Among f world.filesystems
       → (is_among nat_eq f.number losing || filesystem_lives nat_eq now f) ≡ true
   old_filesystem f m =
@@ -58,7 +52,8 @@ module _ (world : World ℕ) (mounts : List (Mount ℕ)) (master : ℕ → Optio
       (is_among_numbers f.number losing
       (among-flat_map (filesystems_of_mount world) gone gone_with.0 f.number gone_with.1
       (inl gone_with.2))))
-      (stays_mounted f.number here))
+      (still_mounted world mounts master filesystems namespaces tasks gone left groups in_use stand loses hears
+      come f.number here))
       (λ layered. let t = one_passes (λ merged. has_layer_on nat_eq f.number merged
       && is_mounted nat_eq world merged.number) world.filesystems layered in
       let parts = and_parts (has_layer_on nat_eq f.number t.0) (is_mounted nat_eq world t.0.number) t.2 in
@@ -73,7 +68,8 @@ module _ (world : World ℕ) (mounts : List (Mount ℕ)) (master : ℕ → Optio
       (among-flat_map (filesystems_of_mount world) gone gone_with.0 f.number gone_with.1
       (inr (in_layers world f.number t.0 t.1
       (mount_numbered nat_eq world gone_with.0).filesystem gone_with.2 parts.0)))))
-      (stays_mounted t.0.number parts.1))
+      (still_mounted world mounts master filesystems namespaces tasks gone left groups in_use stand loses hears
+      come t.0.number parts.1))
       (or_cases (is_mounted nat_eq world f.number) _
       (passes (filesystem_lives nat_eq world) world.filesystems in_use.filesystems f m))
 

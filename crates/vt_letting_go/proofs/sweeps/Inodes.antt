@@ -153,13 +153,14 @@ module _ (world : World ℕ) (inode : Inode) (plain : IsPlain world) where
   abbrev step : Filesystem ℕ → Filesystem ℕ
   step filesystem = let_go_inode_of world inode filesystem
 
-  number-step : (filesystem : Filesystem ℕ) → (step filesystem).number ≡ filesystem.number
+  -- it leaves filesystems their numbers, and the world plain
+  pub number-step : (filesystem : Filesystem ℕ) → (step filesystem).number ≡ filesystem.number
   number-step filesystem = ap (λ f. f.number) (one_step world inode filesystem)
 
   overlay-step : (filesystem : Filesystem ℕ) → (step filesystem).overlay ≡ filesystem.overlay
   overlay-step filesystem = ap (λ f. f.overlay) (one_step world inode filesystem)
 
-  plain-step : IsPlain next
+  pub plain-step : IsPlain next
   plain-step = none_passes is_overlay next.filesystems (λ filesystem m.
       let from = among-from_map step world.filesystems filesystem m in
       ap is_overlay from.2 ∙ ap is_some (overlay-step from.0) ∙ fails is_overlay world.filesystems plain from.0 from.1)

@@ -1,5 +1,5 @@
 -- Uses are counted.
-use Rattle.std.proofs.Common.{◌≡◌, sym, ap, ◌∙◌, ℕ, nat_eq, cond, ◌||◌, ◌+◌, ◌++◌, List, ◌∷◌}
+use Rattle.std.proofs.Common.{sym, ap, ◌∙◌, ℕ, nat_eq, cond, ◌+◌, List}
 use Rattle.vt_spec.specs.Machine.Mounts.{Location, Mount}
 use Rattle.vt_spec.specs.Machine.Receives.{is_member_of}
 use Rattle.vt_spec.specs.Machine.Settled.{used_in}

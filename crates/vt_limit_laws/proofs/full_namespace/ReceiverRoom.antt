@@ -6,7 +6,7 @@ use Rattle.std.specs.Prelude.{codes, option_to_list, unwrap_or}
 use Rattle.std.specs.List.{list_all, list_any}
 use Rattle.std.proofs.lemmas.Bool.{and_parts}
 use Rattle.vt_letting_go.specs.Ends.{is_in, mount_count}
-use Rattle.vt_letting_go.proofs.Lists.{any-map, nothing_passes, passes}
+use Rattle.vt_letting_go.proofs.Lists.{any-map, nothing_passes, passes, find_none}
 use Rattle.vt_mount_laws.proofs.mounts.MountsPlaces.{stands_there}
 use Rattle.vt_mount_laws.proofs.mounts.Receivers.{start_among}
 use Rattle.vt_spec.specs.FileTree.{is_directory_under, is_removed}
@@ -31,7 +31,6 @@ use Rattle.vt_world_laws.proofs.worlds.Roots.{child_in}
 use Rattle.vt_limit_laws.specs.Room.{how_many_in, lacks_room, none_fails}
 use Rattle.vt_limit_laws.proofs.TopmostGrows.{topmost_of_free}
 use Rattle.vt_limit_laws.proofs.PathWalks.{HasTwoWords, WordLeads, destination_is_walked, end_of_two, two_words_lead}
-use Rattle.vt_limit_laws.proofs.UnmountedAgain.{nothing_found}
 use Rattle.vt_limit_laws.proofs.full_namespace.ReceiverWorld.{first_of_two, four_mounts, root_mount, shared_mount}
 
 -- the two trees of the world: `/` with `q` and `s`, and that on `/s` with `d`
@@ -123,14 +122,14 @@ module _ (first second : Filesystem ℕ) (trees : TwoTrees first second) (world 
   nothing_on_root : child_at nat_eq world.mounts (record { mount = 17; node = 22 }) ≡ None
   nothing_on_root =
       ap (λ mounts. child_at nat_eq mounts (record { mount = 17; node = 22 })) has.mounts
-      ∙ nothing_found (stands_at nat_eq (record { mount = 17; node = 22 })) has.rest
+      ∙ find_none (stands_at nat_eq (record { mount = 17; node = 22 })) has.rest
       (λ mount m. rest_stands_apart mount m 22)
 
   -- nor at the place
   nothing_on_place : child_at nat_eq world.mounts place ≡ None
   nothing_on_place =
       ap (λ mounts. child_at nat_eq mounts place) has.mounts
-      ∙ nothing_found (stands_at nat_eq place) has.rest (λ mount m. rest_stands_apart mount m 24)
+      ∙ find_none (stands_at nat_eq place) has.rest (λ mount m. rest_stands_apart mount m 24)
 
   -- Filesystems
   first_is_found : filesystem_numbered nat_eq world 2 ≡ first

@@ -24,8 +24,9 @@ use Rattle.vt_spec.proofs.Worlds.{answer-finished_by}
 use Rattle.vt_tree_laws.proofs.trees.TreesWalked.{Ends}
 use Rattle.vt_world_laws.proofs.worlds.ReachedPlaces.{HereDirectory, source_walk_end}
 use Rattle.vt_limit_laws.specs.Room.{BindNeedsRoom, MoveNeedsRoom, NeedsRoom, NewMountNeedsRoom, lacks_room, lacks_room_for_moved, none_fails, tree_of}
-use Rattle.vt_limit_laws.proofs.Outcomes.{called_by_its_name, policy_by_judgement, refused_call}
+use Rattle.vt_limit_laws.proofs.Outcomes.{policy_by_judgement, refused_call}
 use Rattle.vt_limit_laws.proofs.room.Counted.{binds_ask_for_room, moves_ask_for_room, new_mounts_ask_for_room}
+use Rattle.vt_later_laws.proofs.Readers.{own_name}
 
 -- a table of rules with M9 in it, in which no other rule fails
 module _ {A : Type 0} (answer : Result A Deny) (behind : Rules) where
@@ -129,5 +130,5 @@ move_needs_room world fresh name task source path from here is called admin from
 
     there : is_mount world from.location.mount ≡ true
     there =
-        (subst (Ends (HereDirectory world is task (called_by_its_name world name task called))) from_walk
-        (source_walk_end world is task (called_by_its_name world name task called) source)).0.0
+        (subst (Ends (HereDirectory world is task (own_name world name task called))) from_walk
+        (source_walk_end world is task (own_name world name task called) source)).0.0

@@ -41,7 +41,7 @@ use Rattle.vt_world_laws.proofs.kept.NamespacesListed.{are_namespaces, attached_
 use Rattle.vt_world_laws.proofs.worlds.Placed.{all_are_placed, all_placed_after, locations_are_there, open_files_are_regular, tasks_stand_on_directories}
 use Rattle.vt_world_laws.proofs.worlds.Reached.{directory_found, is_reached_directory}
 use Rattle.vt_world_laws.proofs.worlds.ReachedPlaces.{IsTopmost, destination_walk_end}
-use Rattle.vt_world_laws.proofs.worlds.Seen.{KeepsWhatIsSeen, directory_after, node_in}
+use Rattle.vt_world_laws.proofs.worlds.Seen.{KeepsWhatIsSeen, directory_after}
 use Rattle.vt_world_laws.proofs.worlds.SeenMounts.{added_seen, attached_seen, mounted_seen}
 use Rattle.vt_world_laws.proofs.worlds.SeenTrees.{unused_by_filesystem, unused_number}
 use Rattle.vt_world_laws.proofs.worlds.Shows.{AllShow, IsPlace, all_show_after, mounts_show, world_shows}
@@ -51,6 +51,7 @@ use Rattle.vt_merge_laws.proofs.mounted.Left.{mounting_lets_nothing_go}
 use Rattle.vt_layer_laws.proofs.mounting.Kept.{mounting_keeps_overlays, mounting_keeps_trees}
 use Rattle.vt_spec.proofs.Truths.{nat_eq_itself}
 use Rattle.vt_spec.proofs.FreshNumbers.{evens-distinct, served-distinct, served-differ}
+use Rattle.vt_tree_laws.specs.Trees.Settling.{inode_in}
 
 -- each of a list is one of the numbers that are handed in
 abbrev AreOf : Fresh ℕ → List ℕ → Type 0
@@ -249,7 +250,7 @@ module _ (world : World ℕ) (is : IsWorld nat_eq world) (fresh : Fresh ℕ) (se
             open_files = open_files_are_regular later placed;
           }
 
-      root_there : is_directory_node (node_in larger new.number new.files.tree.root) ≡ true
+      root_there : is_directory_node (inode_in larger new.number new.files.tree.root) ≡ true
       root_there =
           ap (λ (o : Option (Filesystem ℕ)). is_directory_node
           ((unwrap_or o (no_filesystem new.number)).files.tree.node new.files.tree.root))
@@ -273,7 +274,7 @@ module _ (world : World ℕ) (is : IsWorld nat_eq world) (fresh : Fresh ℕ) (se
           })
           is.mounts.one_number
           (new_mounts_keep_numbers world (odds fresh) place new flags odds_serve is.mounts.one_number)
-          (λ origin m. ⊎_elim (λ e. ap (λ (x : Mount ℕ). is_directory_node (node_in larger x.filesystem x.root)) e
+          (λ origin m. ⊎_elim (λ e. ap (λ (x : Mount ℕ). is_directory_node (inode_in larger x.filesystem x.root)) e
           ∙ root_there)
           (λ none. absurd none) m)
           (λ origin m below on e. ⊎_elim

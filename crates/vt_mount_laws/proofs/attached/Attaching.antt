@@ -67,6 +67,27 @@ top_among [] place copy m = absurd m
 top_among (first ∷ rest) place copy m =
     over_among (first ∷ rest) (length (first ∷ rest)) (root_of first) first (inl refl) refl
 
+-- what a mount stands on is there, where mounts outside every namespace have no place
+pub stood_on_there : (world : World ℕ) → NowhereOrAttached world → (number : ℕ) (on : Location ℕ)
+    → (mount_numbered nat_eq world number).mount_point ≡ Some on
+    → (mount_numbered nat_eq world number).namespace ≡ (mount_numbered nat_eq world on.mount).namespace
+    → is_mount world on.mount ≡ true
+stood_on_there world nowhere number on e f =
+    ⊎_elim
+    (λ found. subst (λ n. is_mount world n ≡ true) (number-mount_in world.mounts on.mount)
+    (is_one_of world.mounts (mount_numbered nat_eq world on.mount) found))
+    (λ none.
+    absurd (outside (mount_numbered nat_eq world number) (placed_among world.mounts number on e) e
+    (f ∙ ap (λ (x : Mount ℕ). x.namespace) none)))
+    (found_or_none world.mounts on.mount)
+  where
+    outside : (mount : Mount ℕ) → Among mount world.mounts → mount.mount_point ≡ Some on → mount.namespace ≡ None → ⊥
+    outside mount m p none =
+        true≢false
+        (sym (among_from_list_all is_nowhere_or_attached world.mounts nowhere mount m)
+        ∙ ap (λ n. is_some n || (not (is_some mount.mount_point) && is_private mount.propagation)) none
+        ∙ ap (λ q. not (is_some q) && is_private mount.propagation) p)
+
 -- a receiver that takes part is one of the world's mounts
 pub taker_there : (world : World ℕ) (place : Location ℕ) (mount : Mount ℕ)
     → Among mount (rest_of (parts_of nat_eq world place)) → Among mount world.mounts
@@ -195,32 +216,8 @@ module _ (world : World ℕ) (new : Copies ℕ) (place : Location ℕ) (mounts :
             (parent_stands parent.0 parent.1 parent.2))
 
   -- what was there goes on standing
-  is_taker : (mount : Mount ℕ) → Among mount (rest_of parts) → Among mount world.mounts
-  is_taker mount m = taker_there world place mount m
-
   push_namespace : (mount : Mount ℕ) → (push mount).namespace ≡ mount.namespace
   push_namespace mount = (push_keeps world new tree parts mount).namespace
-
-  -- its parent is there, where mounts outside every namespace have no place
-  pub parent_there : NowhereOrAttached world → (number : ℕ) (on : Location ℕ)
-      → (mount_numbered nat_eq world number).mount_point ≡ Some on
-      → (mount_numbered nat_eq world number).namespace ≡ (mount_numbered nat_eq world on.mount).namespace
-      → is_mount world on.mount ≡ true
-  parent_there nowhere number on e f =
-      ⊎_elim
-      (λ found. subst (λ n. is_mount world n ≡ true) (number-mount_in world.mounts on.mount)
-      (is_one_of world.mounts (mount_numbered nat_eq world on.mount) found))
-      (λ none.
-      absurd (outside (mount_numbered nat_eq world number) (placed_among world.mounts number on e) e
-      (f ∙ ap (λ (x : Mount ℕ). x.namespace) none)))
-      (found_or_none world.mounts on.mount)
-    where
-      outside : (mount : Mount ℕ) → Among mount world.mounts → mount.mount_point ≡ Some on → mount.namespace ≡ None → ⊥
-      outside mount m p none =
-          true≢false
-          (sym (among_from_list_all is_nowhere_or_attached world.mounts nowhere mount m)
-          ∙ ap (λ n. is_some n || (not (is_some mount.mount_point) && is_private mount.propagation)) none
-          ∙ ap (λ q. not (is_some q) && is_private mount.propagation) p)
 
   stands_after : NowhereOrAttached world → (number : ℕ) → Stands nat_eq world number → is_mount world number ≡ true
       → Stands nat_eq after number
@@ -238,7 +235,7 @@ module _ (world : World ℕ) (new : Copies ℕ) (place : Location ℕ) (mounts :
           || list_any (λ other. stands_at nat_eq (place_at other) (mount_numbered nat_eq world it)) list) e
           ∙ at_no_place list
   stands_after nowhere number (on_parent it on e f stands) is =
-      let parent_is = parent_there nowhere it on e f in
+      let parent_is = stood_on_there world nowhere it on e f in
       by (receiver_stood_on nat_eq tree parts (mount_numbered nat_eq world it)) refl parent_is
       (stands_after nowhere on.mount stands parent_is)
     where
@@ -262,7 +259,7 @@ module _ (world : World ℕ) (new : Copies ℕ) (place : Location ℕ) (mounts :
           let same : on.mount ≡ receiver.number =
           ap (λ (p : Location ℕ). p.mount) (same_Some on (place_at receiver) (sym e ∙ part_place)) in
           let receiver_itself : mount_numbered nat_eq world receiver.number ≡ receiver =
-          found_itself world.mounts one receiver (is_taker receiver found.0) in
+          found_itself world.mounts one receiver (taker_there world place receiver found.0) in
           let receiver_is : is_mount world receiver.number ≡ true =
           subst (λ n. is_mount world n ≡ true) same parent_is in
           let in_its : (mount_numbered nat_eq after receiver.number).namespace ≡ receiver.namespace =
@@ -323,7 +320,7 @@ module _ (world : World ℕ) (new : Copies ℕ) (place : Location ℕ) (mounts :
       (λ l. copied destination (inl refl) destination_there l)
       (among-append old first mount here))
       (λ later. let from = among-from_flat_map copies (rest_of parts) mount later in
-      copied from.0 (inr from.1) (is_taker from.0 from.1) from.2)
+      copied from.0 (inr from.1) (taker_there world place from.0 from.1) from.2)
       (among-append (old ++ first) rest mount m))
     where
       destination_there : Among destination world.mounts

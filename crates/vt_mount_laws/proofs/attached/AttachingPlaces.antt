@@ -18,7 +18,7 @@ use Rattle.vt_mount_laws.specs.Mounts.Invariants.{NowhereOrAttached}
 use Rattle.vt_mount_laws.specs.Mounts.Copies.{ServeAsCopies}
 use Rattle.vt_mount_laws.specs.Mounts.MountPoints.{OneMountAMountPoint}
 use Rattle.vt_mount_laws.specs.Mounts.Standing.{AllStand}
-use Rattle.vt_mount_laws.proofs.attached.Attaching.{Hangs, all_stand_after, cover, hanging, parent_there, taker_there, top_among}
+use Rattle.vt_mount_laws.proofs.attached.Attaching.{Hangs, all_stand_after, cover, hanging, taker_there, top_among, stood_on_there}
 use Rattle.vt_mount_laws.proofs.attached.Attaching.Hangs.{from_parent, from_top}
 use Rattle.vt_mount_laws.proofs.mounts.MountsFound.{found_in, found_there, unfound}
 use Rattle.vt_mount_laws.proofs.mounts.MountsNumbered.{copies_keep_numbers, is_one_of, number_in_use, pair-append, pair-flat_map, parts_apart, same_number, same_origin}
@@ -467,7 +467,7 @@ module _ (world : World ℕ) (new : Copies ℕ) (place : Location ℕ) (mounts :
             ap (λ (l : Location ℕ). l.mount)
             (same_Some at on (sym f ∙ ap (λ (x : Mount ℕ). x.mount_point) itself ∙ e)) in
             subst (λ n. is_mount world n ≡ true) same
-            (parent_there world new place mounts serve own one there hangs top others is_tree nowhere number at f g)
+            (stood_on_there world nowhere number at f g)
 
     two_old : OneMountAMountPoint world.mounts → (a b : Mount ℕ) → Among a world.mounts → Among b world.mounts
         → test a b ≡ false → test (push a) (push b) ≡ false

@@ -11,7 +11,7 @@ use Rattle.vt_spec.specs.Machine.Receives.{inheriting}
 use Rattle.vt_spec.specs.Machine.World.{Namespace, World, mount_at, mount_numbered}
 use Rattle.vt_spec.specs.Machine.Invariants.{is_root_mount}
 use Rattle.vt_mount_laws.specs.Mounts.Invariants.{OneNumberEach}
-use Rattle.vt_mount_laws.specs.Mounts.Ending.{ByEndedNamespaces, ByPoints, ByReplaced, ByTrees, ByUnmount, EndedNamespacesKeepRootMounts, HasNoMoreMounts, IsOutOrStays, PointsKeepRootMounts, ReplacedKeepsRootMounts, TakesNoMountsIn, TreesKeepRootMounts, UnmountKeepsRootMounts, root_mounts_in}
+use Rattle.vt_mount_laws.specs.Mounts.Ending.{ByEndedNamespaces, ByPoints, ByReplaced, ByTrees, ByUnmount, EndedNamespacesKeepRootMounts, HasNoMoreMounts, IsOutOrStays, PointsKeepRootMounts, ReplacedKeepsRootMounts, TakesNoMountsIn, TreesKeepRootMounts, UnmountKeepsRootMounts, root_mounts_in, is_in}
 use Rattle.vt_mount_laws.proofs.Groups.{mounts-regrouped}
 use Rattle.vt_mount_laws.proofs.mounts.MountsReplaced.{found_itself}
 use Rattle.vt_mount_laws.proofs.ends.Unmounting.{going_is_detached, middle, staying_is_placed}
@@ -19,7 +19,6 @@ use Rattle.vt_mount_laws.proofs.ends.UnmountingNamespaces.{in_ended}
 use Rattle.vt_mount_laws.proofs.ends.UnmountingPlaces.{goes_or_may}
 use Rattle.std.proofs.Math.Bool.{and-false}
 use Rattle.vt_spec.proofs.Worlds.{number-after_going, number-mount_in}
-use Rattle.vt_mount_laws.proofs.mounts.MountsCounted.{is_in}
 
 -- Lists that are filtered
 module _ {A : Type 0} where

@@ -7,6 +7,7 @@ use Rattle.vt_spec.specs.Machine.Mounts.{Mount}
 use Rattle.vt_spec.specs.Machine.World.{World, mounts_of}
 use Rattle.vt_spec.specs.Machine.Invariants.{is_root_mount}
 use Rattle.vt_mount_laws.specs.Mounts.Namespaces.{HasAsMany}
+use Rattle.vt_mount_laws.specs.Mounts.Ending.{is_in}
 
 -- what a filter keeps of changed elements is what it kept, changed
 pub filter-map : {A B : Type 0} (later : B → Bool) (p : A → Bool) (f : A → B) (xs : List A)
@@ -22,9 +23,6 @@ filter-map later p f (y ∷ ys) same =
         ∙ ap (map f) (sym (filter_here p y ys e))
     by false e here rest =
         filter_skip later (f y) (map f ys) (here ∙ e) ∙ rest ∙ ap (map f) (sym (filter_skip p y ys e))
-
-abbrev pub is_in : ℕ → Mount ℕ → Bool
-is_in namespace mount = holds_of (nat_eq namespace) mount.namespace
 
 pub same_root : (a b : Mount ℕ) → a.mount_point ≡ b.mount_point → is_root_mount nat_eq a ≡ is_root_mount nat_eq b
 same_root a b e = ap (λ p. not (is_some p)) e

@@ -15,6 +15,16 @@ use Rattle.vt_mount_laws.specs.Mounts.Receivers.{GroupsLive, IsClosed, Receivers
 use Rattle.vt_spec.proofs.Lists.{Among, all_from_among, among-filter, among-from_filter, among_cases, among_from_all, among_from_contains, among_from_list_all, chain_ends, chain_goes_on, contains_from_among, head_among, last_of_chain, tail_among}
 use Rattle.vt_spec.specs.Machine.Attach.{receivers_of}
 
+-- receivers are mounts of the world
+pub receivers_there : (world : World ℕ) (mount one : Mount ℕ) → Among one (receivers_of nat_eq world mount)
+    → Among one world.mounts
+receivers_there world mount one = by (group_of mount.propagation)
+  where
+    by : (group : Option ℕ) → Among one (unwrap_or (option_map (receivers nat_eq world) group) [])
+        → Among one world.mounts
+    by None m = absurd m
+    by (Some group) m = (among-from_filter (receives nat_eq world group) world.mounts one m).0
+
 module _ (master : ℕ → Option ℕ) where
   -- what goes up the masters goes up a chain of them
   pub along_chain : (P : ℕ → Type 0) → ((group lower : ℕ) → master lower ≡ Some group → P lower → P group)

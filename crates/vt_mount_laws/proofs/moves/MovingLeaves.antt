@@ -24,7 +24,7 @@ use Rattle.vt_mount_laws.proofs.mounts.MountsFound.{found_there, placed_among, u
 use Rattle.vt_mount_laws.proofs.mounts.MountsNumbered.{is_one_of, same_number, same_origin}
 use Rattle.vt_mount_laws.proofs.mounts.MountsReplaced.{found-with_mount_itself, found_itself, numbers-with_mount, one_number_by_numbers}
 use Rattle.vt_spec.proofs.Truths.{nat_eq_false_turned}
-use Rattle.vt_spec.proofs.Worlds.{number-mount_in, found_or_none}
+use Rattle.vt_spec.proofs.Worlds.{number-mount_in}
 
 -- mounts that are replaced by others with numbers of their own are found
 pub found_folded : (mounts copies : List (Mount ℕ)) → OneNumberAMount copies → (copy : Mount ℕ) → Among copy copies
@@ -58,27 +58,6 @@ pair_by test (first ∷ rest) own each =
     (none_from_among (test first) rest (λ x m.
     each first x (inl refl) (inr m) (none_among (same_number first) rest parted.0 x m)))
     (pair_by test rest parted.1 (λ a b m n. each a b (inr m) (inr n)))
-
--- what a mount stands on is there, where mounts outside every namespace have no place
-pub stood_on_there : (world : World ℕ) → NowhereOrAttached world → (number : ℕ) (on : Location ℕ)
-    → (mount_numbered nat_eq world number).mount_point ≡ Some on
-    → (mount_numbered nat_eq world number).namespace ≡ (mount_numbered nat_eq world on.mount).namespace
-    → is_mount world on.mount ≡ true
-stood_on_there world nowhere number on e f =
-    ⊎_elim
-    (λ found. subst (λ n. is_mount world n ≡ true) (number-mount_in world.mounts on.mount)
-    (is_one_of world.mounts (mount_numbered nat_eq world on.mount) found))
-    (λ none.
-    absurd (outside (mount_numbered nat_eq world number) (placed_among world.mounts number on e) e
-    (f ∙ ap (λ (x : Mount ℕ). x.namespace) none)))
-    (found_or_none world.mounts on.mount)
-  where
-    outside : (mount : Mount ℕ) → Among mount world.mounts → mount.mount_point ≡ Some on → mount.namespace ≡ None → ⊥
-    outside mount m p none =
-        true≢false
-        (sym (among_from_list_all is_nowhere_or_attached world.mounts nowhere mount m)
-        ∙ ap (λ n. is_some n || (not (is_some mount.mount_point) && is_private mount.propagation)) none
-        ∙ ap (λ q. not (is_some q) && is_private mount.propagation) p)
 
 -- a mount of the list has this number
 abbrev pub is_moved : List (Mount ℕ) → ℕ → Bool

@@ -15,14 +15,14 @@ use Rattle.vt_spec.specs.Machine.Invariants.Stands.{at_root, on_parent}
 use Rattle.vt_mount_laws.specs.Mounts.Attaching.{is_mount}
 use Rattle.vt_mount_laws.specs.Mounts.Copies.{ServeAsCopies}
 use Rattle.vt_mount_laws.specs.Mounts.MountPoints.{OneMountAMountPoint}
-use Rattle.vt_mount_laws.proofs.attached.Attaching.{Hangs, hanging, taker_there, top_among}
+use Rattle.vt_mount_laws.proofs.attached.Attaching.{Hangs, hanging, taker_there, top_among, stood_on_there}
 use Rattle.vt_mount_laws.proofs.attached.Attaching.Hangs.{from_parent, from_top}
 use Rattle.vt_mount_laws.proofs.attached.AttachingPlaces.{beside, differ_by_mount, one_place, stand_together, test, topmost_free, two_of}
 use Rattle.vt_mount_laws.proofs.mounts.MountsFound.{found_in, found_there, unfound}
 use Rattle.vt_mount_laws.proofs.mounts.MountsNumbered.{is_one_of, number_in_use, pair-append, pair-flat_map, parts_apart, same_number, same_origin, taker_elsewhere}
 use Rattle.vt_mount_laws.proofs.mounts.MountsPlaces.{stands_at_its_place, stands_there}
 use Rattle.vt_mount_laws.proofs.mounts.MountsReplaced.{found_itself}
-use Rattle.vt_mount_laws.proofs.moves.MovingLeaves.{MayMove, all_left, left, nowhere_left, one_left, places_left, same_numbers, stood_on_there}
+use Rattle.vt_mount_laws.proofs.moves.MovingLeaves.{MayMove, all_left, left, nowhere_left, one_left, places_left, same_numbers}
 use Rattle.vt_mount_laws.proofs.moves.MovingStands.{after, all_after, copies_after, one_after}
 use Rattle.vt_spec.proofs.Truths.{nat_eq_false_turned}
 use Rattle.vt_spec.proofs.Worlds.{number-mount_in}

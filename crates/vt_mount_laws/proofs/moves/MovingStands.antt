@@ -13,14 +13,14 @@ use Rattle.vt_spec.specs.Machine.Invariants.Stands.{at_root, on_parent}
 use Rattle.vt_mount_laws.specs.Mounts.Attaching.{OneNumberAMount, is_mount}
 use Rattle.vt_mount_laws.specs.Mounts.Copies.{ServeAsCopies}
 use Rattle.vt_mount_laws.specs.Mounts.Standing.{AllStand}
-use Rattle.vt_mount_laws.proofs.attached.Attaching.{Hangs, hanging, taker_there, top_among}
+use Rattle.vt_mount_laws.proofs.attached.Attaching.{Hangs, hanging, taker_there, top_among, stood_on_there}
 use Rattle.vt_mount_laws.proofs.attached.Attaching.Hangs.{from_parent, from_top}
 use Rattle.vt_mount_laws.proofs.mounts.MountsAttached.{found_attached, none_pushes, push_keeps}
 use Rattle.vt_mount_laws.proofs.mounts.MountsFound.{found_in, found_there}
 use Rattle.vt_mount_laws.proofs.mounts.MountsNumbered.{copies_keep_numbers, is_one_of, same_origin}
 use Rattle.vt_mount_laws.proofs.mounts.MountsPlaces.{stands_there}
 use Rattle.vt_mount_laws.proofs.mounts.MountsReplaced.{found_itself}
-use Rattle.vt_mount_laws.proofs.moves.MovingLeaves.{MayMove, all_left, left, namespace_kept, nowhere_left, same_numbers, stood_on_there}
+use Rattle.vt_mount_laws.proofs.moves.MovingLeaves.{MayMove, all_left, left, namespace_kept, nowhere_left, same_numbers}
 use Rattle.vt_spec.proofs.Worlds.{number-mount_in}
 
 module _ (world : World ℕ) (new : Copies ℕ) (place : Location ℕ) (mounts : List (Mount ℕ))

@@ -11,11 +11,12 @@ use Rattle.vt_spec.specs.Machine.World.{World, mounts_of}
 use Rattle.vt_spec.specs.Machine.Invariants.{MountInvariants, is_root_mount}
 use Rattle.vt_mount_laws.specs.Mounts.Attaching.{OneNumberAMount}
 use Rattle.vt_mount_laws.specs.Mounts.Namespaces.{CanPivot, PivotKeepsCounts}
-use Rattle.vt_mount_laws.proofs.mounts.MountsCounted.{as_many_mounts, filter-map, is_in}
+use Rattle.vt_mount_laws.proofs.mounts.MountsCounted.{as_many_mounts, filter-map}
 use Rattle.vt_mount_laws.proofs.mounts.MountsNumbered.{same_number}
 use Rattle.vt_mount_laws.proofs.namespaces.Pivoting.{is_new, is_root, move, moved_namespace, moved_new, moved_other, moved_root, new_among, new_placed, root_among}
 use Rattle.vt_spec.proofs.Truths.{nat_eq_false_turned}
 use Rattle.vt_spec.proofs.Found.{filter_alike}
+use Rattle.vt_mount_laws.specs.Mounts.Ending.{is_in}
 
 -- but for one mount
 abbrev besides : (Mount ℕ → Bool) → Mount ℕ → Mount ℕ → Bool

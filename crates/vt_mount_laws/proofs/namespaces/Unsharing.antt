@@ -110,11 +110,12 @@ module _ (world : World ℕ) (fresh : Fresh ℕ) (task : Task ℕ) (serves : Ser
         parent.number,
       )
 
-  old_found : (mount : Mount ℕ) → Among mount world.mounts → mount_numbered nat_eq after mount.number ≡ mount
+  -- a mount that was there is found as it was, and each copy by its own number
+  pub old_found : (mount : Mount ℕ) → Among mount world.mounts → mount_numbered nat_eq after mount.number ≡ mount
   old_found mount m =
       found_itself after.mounts one_after mount (among-append_left world.mounts (map copy copied) mount m)
 
-  copy_found : (mount : Mount ℕ) → Among mount copied → mount_numbered nat_eq after (copy mount).number ≡ copy mount
+  pub copy_found : (mount : Mount ℕ) → Among mount copied → mount_numbered nat_eq after (copy mount).number ≡ copy mount
   copy_found mount m =
       found_itself after.mounts one_after (copy mount)
       (among-append_right world.mounts (map copy copied) (copy mount) (among-map copy copied mount m))

@@ -12,8 +12,9 @@ use Rattle.vt_spec.specs.Machine.Run.{numbers_in_use, used_by_filesystem, used_b
 use Rattle.vt_spec.specs.Machine.World.{Namespace, mounts_of}
 use Rattle.vt_spec.specs.Machine.Invariants.{is_listed, is_root_mount}
 use Rattle.vt_mount_laws.specs.Mounts.Namespaces.{NewNamespaceIsEmpty, UnshareCopiesMounts, UnshareKeepsCounts, UnshareLeavesNamespaces}
-use Rattle.vt_mount_laws.proofs.mounts.MountsCounted.{filter-map, is_in}
+use Rattle.vt_mount_laws.proofs.mounts.MountsCounted.{filter-map}
 use Rattle.vt_spec.proofs.Found.{filter_all}
+use Rattle.vt_mount_laws.specs.Mounts.Ending.{is_in}
 
 pub unshare_leaves_namespaces : UnshareLeavesNamespaces
 unshare_leaves_namespaces world fresh task namespace other =

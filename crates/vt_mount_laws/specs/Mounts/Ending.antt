@@ -1,6 +1,6 @@
 -- What takes mounts away keeps the invariants of mounts, and what namespaces have left of them: umount(2), MNT_DETACH,
 -- mount points that are removed, and namespaces that end: mount_namespaces(7).
-use Rattle.std.specs.Prelude.{All, Contains, List, None, Option, false, filter, is_some, length, nat_eq, nat_le, true, ℕ, ◌≡◌, ◌⊎◌}
+use Rattle.std.specs.Prelude.{All, Bool, Contains, List, None, Option, false, filter, is_some, length, nat_eq, nat_le, true, ℕ, ◌≡◌, ◌⊎◌}
 use Rattle.std.specs.List.{list_all}
 use Rattle.vt_spec.specs.Machine.Detach.{has_child, lazily_unmounted, trees_taken_away, unmounted, without_mounts_on}
 use Rattle.vt_spec.specs.Machine.Mounts.{Location, Mount}
@@ -9,6 +9,7 @@ use Rattle.vt_spec.specs.Machine.Outcome.Removing.{without_replaced}
 use Rattle.vt_spec.specs.Machine.World.{Namespace, World, mount_numbered, mounts_of}
 use Rattle.vt_spec.specs.Machine.Invariants.{MountInvariants, is_root_mount}
 use Rattle.vt_mount_laws.specs.Mounts.Invariants.{OneNumberEach}
+use Rattle.vt_spec.specs.Lists.{holds_of}
 
 -- The invariants of mounts
 
@@ -49,6 +50,14 @@ LazyUnmountKeepsMounts =
     → MountInvariants nat_eq (lazily_unmounted nat_eq world one)
 
 -- What namespaces have left
+
+-- the mount is in the namespace
+abbrev pub is_in : ℕ → Mount ℕ → Bool
+is_in namespace mount = holds_of (nat_eq namespace) mount.namespace
+
+-- how many of these mounts are in a namespace
+abbrev pub count_in : List (Mount ℕ) → ℕ → ℕ
+count_in mounts namespace = length (filter (is_in namespace) mounts)
 
 -- how many mounts a namespace has
 abbrev pub mount_count : World ℕ → ℕ → ℕ

@@ -20,6 +20,7 @@ use Rattle.vt_one_text.proofs.one_tree.OneTreeRuns.{RequestAnswered, files_are_t
 use Rattle.vt_laws.proofs.numbers.Commuting.{Named, commutes_nat, stay_apart}
 use Rattle.vt_laws.proofs.numbers.Exchanges.{exchange, exchange_leaves, swapped, swapped_first, swapped_other, swapped_twice}
 use Rattle.vt_one_text.proofs.one_tree.OneTreeNumbers.{outcome_itself}
+use Rattle.vt_laws.proofs.numbers.Texts.{nothing_renamed}
 
 -- Lines do not see numbers
 
@@ -198,9 +199,6 @@ ready_refused world number line ready =
       fit = ready.fit;
       keeps = λ renaming leaves. ready.keeps renaming (later_leaves renaming number leaves);
     })
-
-abbrev nothing_renamed : Renaming ℕ ℕ
-nothing_renamed = record { there = λ n. n; back = λ n. n; there_back = λ n. refl; back_there = λ n. refl }
 
 ready_opening : IsReady (opening nat_eq 0) 1
 ready_opening = record {

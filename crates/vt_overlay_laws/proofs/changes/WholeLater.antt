@@ -15,7 +15,7 @@ use Rattle.vt_spec.proofs.Lists.{among-append_right}
 use Rattle.vt_spec.proofs.Lists
 use Rattle.vt_spec.proofs.Nodes.{directory_used}
 use Rattle.vt_layer_laws.specs.Layers.Locked.{AreNoInodes, LeadsAsBefore}
-use Rattle.vt_layer_laws.specs.Layers.Untouched.{IsKept, inode_in}
+use Rattle.vt_layer_laws.specs.Layers.Untouched.{IsKept}
 use Rattle.vt_layer_laws.specs.Layers.Upper.{SpeaksOfWhatIsThere}
 use Rattle.vt_layer_laws.proofs.locked.Apart.{layer_among, layer_plain, no_lower}
 use Rattle.vt_layer_laws.proofs.locked.Paths.{leads_as_before, no_new}
@@ -32,6 +32,7 @@ use Rattle.vt_overlay_laws.proofs.changes.WholeWorlds.{overlays_are_whole, shown
 use Rattle.std.proofs.lemmas.Option.{same_Some}
 use Rattle.vt_spec.proofs.Options.{none_is_some}
 use Rattle.vt_spec.proofs.Truths.{and_true_right}
+use Rattle.vt_tree_laws.specs.Trees.Settling.{inode_in}
 
 -- what is asked well speaks of what is there
 pub spoken : (stack : Stack ℕ) (merge : Merge ℕ) (change : Change ℕ)

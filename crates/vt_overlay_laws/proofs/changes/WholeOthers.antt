@@ -18,7 +18,7 @@ use Rattle.vt_spec.proofs.Lists
 use Rattle.vt_spec.proofs.Lists.{among-append_left, among-append_right}
 use Rattle.vt_layer_laws.specs.Layers.Locked.{AreNoInodes, GoesThrough, LeadsAsBefore}
 use Rattle.vt_layer_laws.specs.Layers.Mounted.{IsAlike}
-use Rattle.vt_layer_laws.specs.Layers.Untouched.{IsKept, changes_no_mount, inode_in}
+use Rattle.vt_layer_laws.specs.Layers.Untouched.{IsKept, changes_no_mount}
 use Rattle.vt_layer_laws.specs.Layers.Upper.{IsUpperObject, SpeaksOfWhatIsThere}
 use Rattle.vt_layer_laws.specs.Layers.Views.{AllLeadAlike}
 use Rattle.vt_layer_laws.proofs.locked.Apart.{layer_among, layer_plain, no_lower, no_other, no_overlay_in, object_counts}
@@ -32,6 +32,7 @@ use Rattle.vt_layer_laws.proofs.layers.UpperWorld.{overlay_merges, upper_filesys
 use Rattle.vt_overlay_laws.specs.WholeChanges.{CallsKeepOtherOverlays, OtherOverlaysStayMerged}
 use Rattle.vt_overlay_laws.proofs.steps.WholeGrown.{alike_objects}
 use Rattle.vt_spec.proofs.Options.{none_is_some}
+use Rattle.vt_tree_laws.specs.Trees.Settling.{inode_in}
 
 -- An overlay whose layers lead as they did, and whose upper objects are as they were
 module _ (world later : World ℕ) (filesystem : Filesystem ℕ) (other : Overlay ℕ)

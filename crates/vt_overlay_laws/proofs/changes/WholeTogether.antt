@@ -1,11 +1,11 @@
 -- A whole change of an overlay: copies first, and then what is asked.
-use Rattle.std.proofs.Common.{true, ◌⊎◌, ⊎_elim, inl, inr, ◌*◌, ◌+◌, ◌≡◌, ◌≢◌, sym, subst, ◌∙◌, ℕ, nat_eq, None, refl, ap, List, [], ◌∷◌, ◌++◌, ◌&&◌, ◌||◌, map, not, false, Option, Some, is_some, option_and_then, unwrap_or}
+use Rattle.std.proofs.Common.{true, ◌⊎◌, ⊎_elim, inl, inr, ◌*◌, ◌+◌, ◌≡◌, sym, subst, ◌∙◌, ℕ, nat_eq, None, refl, ap, List, [], ◌∷◌, ◌++◌, ◌&&◌, ◌||◌, map, not, false, Option, Some, is_some, option_and_then, unwrap_or}
 use Rattle.vt_spec.specs.Language.Changes.Change.{AddName, CopyUp, Make, Move, Remove, SetAttr, SetBytes, SetMark}
 use Rattle.vt_spec.specs.Lists.{Fresh, evens, odds}
 use Rattle.vt_spec.specs.Machine.CopyUp.{Merge, Stack, copied_up, path_to, upper_of}
 use Rattle.vt_spec.proofs.Nodes.{directory_used}
 use Rattle.vt_tree_laws.specs.Trees.{MayAddName, MayMake, MayMove, MayRemove}
-use Rattle.vt_layer_laws.specs.Layers.ChangesUpper.{StandsInUpper}
+use Rattle.vt_layer_laws.specs.Layers.ChangesUpper.{StandsInUpper, IsNewBy}
 use Rattle.vt_layer_laws.specs.Layers.Upper.{IsThere}
 use Rattle.vt_layer_laws.proofs.layers.UpperLine.{has_entries, is_reached_in}
 use Rattle.vt_layer_laws.proofs.layers.UpperShown.{way_to}
@@ -23,7 +23,6 @@ use Rattle.vt_overlay_laws.specs.WholeChanges.{ChangesKeepShown}
 use Rattle.vt_overlay_laws.proofs.whole.UpperGoes.{Goes, goes_both}
 use Rattle.vt_tree_laws.specs.Trees.Sizes.{is_fit_tree}
 use Rattle.vt_overlay_laws.proofs.whole.UpperTold.{Told, told_both, told_wider}
-use Rattle.vt_overlay_laws.specs.WholeStays.{IsNewBy}
 use Rattle.vt_overlay_laws.proofs.steps.WholeAttributes.{attr_keeps_whole, bytes_keep_whole, upper_real}
 use Rattle.vt_overlay_laws.proofs.steps.WholeLines.{IsCopied, object_copied, stands_copied, to_object}
 use Rattle.vt_overlay_laws.proofs.steps.WholeMoved.{move_keeps_shown}

@@ -12,7 +12,7 @@ use Rattle.vt_spec.specs.Machine.Invariants.{ListsNumbers}
 use Rattle.vt_spec.specs.Tree.{entries_of, Node, is_directory_node, node_with_entry}
 use Rattle.vt_spec.specs.TreeInvariant.{IsDirectory, IsTree}
 use Rattle.vt_spec.proofs.Nodes.{directory_used, is_some-node_with_entry, node_other}
-use Rattle.vt_layer_laws.specs.Layers.ChangesUpper.{StandsInUpper}
+use Rattle.vt_layer_laws.specs.Layers.ChangesUpper.{StandsInUpper, IsNewBy}
 use Rattle.vt_layer_laws.specs.Layers.Upper.{IsThere}
 use Rattle.vt_layer_laws.specs.Layers.Views.{view_in}
 use Rattle.vt_spec.specs.Machine.Views.{cuts}
@@ -25,7 +25,6 @@ use Rattle.vt_tree_laws.specs.Trees.Sizes.{is_fit_node, is_fit_tree}
 use Rattle.vt_tree_laws.proofs.trees.ChangesOfSizes.{fits, inode_fits}
 use Rattle.vt_overlay_laws.proofs.whole.UpperSizes.{copy_fits_limits, fits_here, name_fits, name_sized}
 use Rattle.vt_overlay_laws.proofs.whole.UpperTold.{Told, told_both, told_inode, told_name, told_none}
-use Rattle.vt_overlay_laws.specs.WholeStays.{IsNewBy}
 use Rattle.vt_overlay_laws.proofs.steps.WholeCopied.{copy_cuts, copy_goes, copy_keeps_whole}
 use Rattle.vt_overlay_laws.proofs.steps.WholeNames.{top_good}
 use Rattle.std.proofs.lemmas.Option.{same_Some}

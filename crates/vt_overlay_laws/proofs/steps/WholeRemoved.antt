@@ -22,7 +22,7 @@ use Rattle.vt_layer_laws.specs.Layers.Mounted.{IsAlike}
 use Rattle.vt_layer_laws.specs.Layers.Shown.{IsFrontOf}
 use Rattle.vt_layer_laws.specs.Layers.Views.{goes_through, names_entry, view_in}
 use Rattle.vt_overlay_laws.specs.WhatIsShown.{IsWhole, RemoveKeepsShown, real_seen}
-use Rattle.vt_layer_laws.proofs.layers.CopyingParts.{parent_keeps, without_entries_keeps, without_entry_keeps}
+use Rattle.vt_layer_laws.proofs.layers.CopyingParts.{without_entry_keeps}
 use Rattle.vt_layer_laws.proofs.layers.LowersKept.{kept_elsewhere}
 use Rattle.vt_layer_laws.proofs.layers.ShownAlike.{white_alike}
 use Rattle.vt_layer_laws.proofs.layers.ShownDirectories.{append_assoc, last_of, led_is_there}
@@ -36,7 +36,7 @@ use Rattle.vt_layer_laws.proofs.views.Lower.{way_goes_elsewhere}
 use Rattle.vt_layer_laws.proofs.views.Entries.{taken}
 use Rattle.vt_layer_laws.proofs.views.Fronts.{prefixes_agree, hides_so, hiding_alike}
 use Rattle.vt_layer_laws.proofs.views.Moves.{no_way_up, through_is_split}
-use Rattle.vt_layer_laws.proofs.views.Names.{alike_after, alike_both, alike_same, make_adds_inode, make_ends_paths, names_leave_inodes, no_entries, remove_takes_path}
+use Rattle.vt_layer_laws.proofs.views.Names.{alike_after, alike_both, make_adds_inode, make_ends_paths, names_leave_inodes, no_entries, remove_takes_path}
 use Rattle.vt_layer_laws.proofs.views.Stay.{led_where}
 use Rattle.vt_layer_laws.proofs.views.Walks.{entry_gone, goes_through_it}
 use Rattle.vt_overlay_laws.proofs.steps.WholeAttributes.{top_open, upper_real}
@@ -49,6 +49,7 @@ use Rattle.std.proofs.lemmas.List.{append-nil}
 use Rattle.std.proofs.lemmas.Option.{same_Some}
 use Rattle.vt_spec.proofs.NodeChanges.{directory_no_whiteout}
 use Rattle.vt_spec.proofs.Options.{none_is_some}
+use Rattle.vt_overlay_laws.proofs.steps.WholeLeft.{emptied_alike}
 
 pub white_hides : (o : Option (Node ℕ)) → is_kind_in White o ≡ true → hides o ≡ true
 white_hides None e = absurd (true≢false (sym e))
@@ -363,13 +364,6 @@ module _ (stack : Stack ℕ) (merge : Merge ℕ) (whole : IsWhole stack merge) (
         (kept_elsewhere (changed_node nat_eq first uo node_without_entries) uo (node_with_parent uo) inode differ
         ∙ kept_elsewhere first uo node_without_entries inode differ))
 
-    emptied_alike : (o : Option ℕ) (u : ℕ) → IsAlike (first.tree.node u) ((emptied nat_eq first o).tree.node u)
-    emptied_alike None u = alike_same (first.tree.node u) (first.tree.node u) refl
-    emptied_alike (Some uo) u =
-        alike_both (first.tree.node u) ((changed_node nat_eq first uo node_without_entries).tree.node u) _
-        (alike_after first uo node_without_entries without_entries_keeps u)
-        (alike_after (changed_node nat_eq first uo node_without_entries) uo (node_with_parent uo) (parent_keeps uo) u)
-
   -- the upper directory that has the name is the object's
   is_own : (uo : ℕ) → upper_directory_named merge d w ≡ Some uo
       → (merge.real object ≡ Some (Upper uo)) × IsDirectory merge.files.tree object
@@ -429,7 +423,7 @@ module _ (stack : Stack ℕ) (merge : Merge ℕ) (whole : IsWhole stack merge) (
       (λ u there.
       alike_both (merge.upper.tree.node u) (first.tree.node u) _
       (alike_after merge.upper ud (node_without_entry w) (without_entry_keeps w) u)
-      (emptied_alike first None no_new plain_led o u))
+      (emptied_alike first o u))
       (inl (refl, none))
 
   -- with one
@@ -459,11 +453,11 @@ module _ (stack : Stack ℕ) (merge : Merge ℕ) (whole : IsWhole stack merge) (
         alike_both (merge.upper.tree.node u) (whited.tree.node u) _
         (inodes.1 u (λ same. true≢false
         (sym there ∙ ap (λ n. is_some (merge.upper.tree.node n)) same ∙ ap is_some vacant)))
-        (emptied_alike whited (Some c) new_number white_led o u))
+        (emptied_alike whited o u))
         (inr (
           c,
           refl,
-          white_alike (whited.tree.node c) _ (emptied_alike whited (Some c) new_number white_led o c)
+          white_alike (whited.tree.node c) _ (emptied_alike whited o c)
               ∙ ap (is_kind_in White) inodes.0,
         ))
 

@@ -19,7 +19,6 @@ use Rattle.vt_spec.proofs.Lists.{Among, among-append_left, among-append_right, a
 use Rattle.vt_spec.proofs.Nodes.{directory_used}
 use Rattle.vt_tree_laws.proofs.trees.TreesOfWorlds.{numbered_anyhow}
 use Rattle.vt_layer_laws.specs.Layers.Locked.{AreNoInodes, LeadsAsBefore}
-use Rattle.vt_layer_laws.specs.Layers.Untouched.{inode_in}
 use Rattle.vt_layer_laws.specs.Layers.Upper.{IsUpperObject}
 use Rattle.vt_layer_laws.proofs.locked.Apart.{layer_among, layer_plain, lies_there, never_both, no_overlay_in, object_counts, upper_in_layers, upper_is_layer}
 use Rattle.vt_layer_laws.proofs.locked.Paths.{layer_tree, leads_as_before}
@@ -30,7 +29,7 @@ use Rattle.vt_layer_laws.proofs.layers.UpperWorld.{overlay_merges}
 use Rattle.vt_overlay_laws.specs.LayersApart.{LayersStayApart, StandApart}
 use Rattle.vt_overlay_laws.specs.WhatIsShown.{IsWhole}
 use Rattle.vt_overlay_laws.specs.WholeChanges.{IsAskedWell}
-use Rattle.vt_overlay_laws.specs.WholeStays.{AreNew, IsNewBy}
+use Rattle.vt_overlay_laws.specs.WholeStays.{AreNew}
 use Rattle.vt_overlay_laws.proofs.whole.ApartPairs.{no_pair_later, two_apart}
 use Rattle.vt_overlay_laws.proofs.whole.ApartPaths.{led_under, under_led}
 use Rattle.vt_overlay_laws.proofs.whole.UpperGoes.{Goes}
@@ -44,6 +43,8 @@ use Rattle.std.proofs.lemmas.Option.{same_Some}
 use Rattle.vt_spec.proofs.Options.{none_is_some}
 use Rattle.vt_spec.proofs.Truths.{and_true_left, and_true_right, or_false_alone, or_false_left, or_false_right}
 use Rattle.vt_spec.proofs.Worlds.{layers_of_all}
+use Rattle.vt_tree_laws.specs.Trees.Settling.{inode_in}
+use Rattle.vt_layer_laws.specs.Layers.ChangesUpper.{IsNewBy}
 
 module _ (fresh : Fresh ℕ) (world : World ℕ) (location : Location ℕ) (change : Change ℕ) (overlay : Overlay ℕ)
     (upper : Layer ℕ) (conditions : IsWorld nat_eq world)

@@ -23,7 +23,6 @@ use Rattle.vt_layer_laws.proofs.layers.UpperLine.{has_entries}
 use Rattle.vt_layer_laws.proofs.layers.UpperWorld.{from_too, overlay_numbers, overlay_tree, root_is_upper}
 use Rattle.vt_layer_laws.proofs.views.Moves.{no_way_up}
 use Rattle.vt_overlay_laws.specs.WholeChanges.{IsAskedWell}
-use Rattle.vt_overlay_laws.specs.WholeStays.{IsNewBy}
 use Rattle.vt_overlay_laws.proofs.whole.ApartLater
 use Rattle.vt_overlay_laws.proofs.whole.UpperMade.{up_there}
 use Rattle.vt_overlay_laws.proofs.whole.UpperTold.{told_emptied}
@@ -34,6 +33,7 @@ use Rattle.std.proofs.lemmas.Option.{same_Some}
 use Rattle.vt_spec.proofs.NodeChanges.{entry_from, entry_to}
 use Rattle.vt_spec.proofs.Options.{none_is_some}
 use Rattle.vt_spec.proofs.Truths.{and_true_right}
+use Rattle.vt_layer_laws.specs.Layers.ChangesUpper.{IsNewBy}
 
 -- a directory that keeps its parent keeps its name
 stays_named : (before after : FileTree ℕ) → IsTree before.tree → IsTree after.tree → HasOwnParents after.tree

@@ -12,13 +12,13 @@ use Rattle.vt_spec.proofs.Trees.{led-append}
 use Rattle.vt_spec.specs.Tree.Content.{Directory, Regular, Symlink, Whiteout}
 use Rattle.vt_spec.proofs.Nodes.{directory_used, entries-node_with_bytes}
 use Rattle.vt_tree_laws.proofs.trees.ChangesNodes.{attr_keeps_place}
-use Rattle.vt_layer_laws.specs.Layers.ChangesUpper.{StandsInUpper}
+use Rattle.vt_layer_laws.specs.Layers.ChangesUpper.{StandsInUpper, IsNewBy}
 use Rattle.vt_layer_laws.specs.Layers.Upper.{IsThere}
 use Rattle.vt_layer_laws.proofs.layers.UpperLine.{has_entries, is_reached_in}
 use Rattle.vt_layer_laws.proofs.layers.UpperShown.{way_to}
 use Rattle.vt_overlay_laws.specs.WhatIsShown.{IsWhole}
 use Rattle.vt_overlay_laws.specs.WholeChanges.{IsAskedWell}
-use Rattle.vt_overlay_laws.specs.WholeStays.{AreNew, IsNewBy, IsOwnPlaced, NamesLeadToOwn, ObjectsAreOwn}
+use Rattle.vt_overlay_laws.specs.WholeStays.{AreNew, IsOwnPlaced, NamesLeadToOwn, ObjectsAreOwn}
 use Rattle.vt_overlay_laws.proofs.whole.UpperTold.{Told, told_both, told_emptied, told_inode, told_left, told_marked, told_moved, told_name, told_stay, told_wider}
 use Rattle.vt_overlay_laws.proofs.steps.WholeAttributes.{upper_real}
 use Rattle.vt_overlay_laws.proofs.steps.WholeLines.{object_copied}

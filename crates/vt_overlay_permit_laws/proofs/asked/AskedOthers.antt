@@ -45,10 +45,11 @@ use Rattle.vt_spec.specs.Machine.Invariants.{IsWorld, ListsNumbers, has_regular_
 use Rattle.vt_spec.specs.Rights.{cap_sys_admin, cap_sys_chroot, owns}
 use Rattle.vt_spec.specs.Tree.{Content, Node, bytes_in}
 use Rattle.vt_tree_laws.proofs.trees.TreesWalked.{ends_anyhow}
-use Rattle.vt_world_laws.proofs.worlds.ReachedWalks.{End, FoundDirectory, directory_walk_end, object_end, task_among}
+use Rattle.vt_world_laws.proofs.worlds.ReachedWalks.{End, FoundDirectory, directory_walk_end, object_end}
 use Rattle.vt_spec.proofs.Found.{found_among}
 use Rattle.vt_spec.proofs.NodeChanges.{file_is_there}
 use Rattle.vt_spec.proofs.Truths.{and_true_first}
+use Rattle.vt_tree_laws.proofs.trees.TreesTasks.{called_there}
 
 module _ (world : World ℕ) (whole : IsWorld nat_eq world) (task : Task ℕ)
     (called : task_called world task.name ≡ Some task)
@@ -151,7 +152,7 @@ module _ (world : World ℕ) (whole : IsWorld nat_eq world) (task : Task ℕ)
   open_file_is number descriptor e =
       among_from_list_all (λ (d : Descriptor ℕ). is_kind_in File (node_at nat_eq world d.location)) task.descriptors
       (among_from_list_all (has_regular_files_open nat_eq world) world.tasks whole.tasks.open_files task
-      (task_among world whole task called))
+      (called_there world.tasks task.name task called))
       descriptor (found_among (λ (d : Descriptor ℕ). number == d.number) task.descriptors descriptor e)
 
   -- whose bytes are within the limit

@@ -12,7 +12,6 @@ use Rattle.vt_spec.specs.Machine.Run.{Serves}
 use Rattle.vt_spec.specs.Machine.World.{Filesystem, World, mount_at}
 use Rattle.vt_tree_laws.proofs.trees.ChangesKeepTrees.{changes_keep_numbers, changes_keep_trees}
 use Rattle.vt_tree_laws.proofs.trees.TreesOfWorlds.{numbered_anyhow}
-use Rattle.vt_layer_laws.specs.Layers.Untouched.{inode_in}
 use Rattle.vt_layer_laws.proofs.layers.UpperWorld.{overlay_numbers, overlay_tree}
 use Rattle.vt_overlay_laws.specs.WholeChanges.{IsAskedWell}
 use Rattle.vt_overlay_laws.proofs.whole.UpperWhole.{change_goes, proper}
@@ -23,6 +22,7 @@ use Rattle.vt_world_laws.proofs.worlds.CallsKept.{new_numbers}
 use Rattle.vt_overlay_permit_laws.specs.Changed.{AskedChangesCanBeMade, PermitsCanChange, numbers_left}
 use Rattle.vt_overlay_permit_laws.proofs.asked.AskedOverlays.{permits_ask_overlays_well}
 use Rattle.vt_spec.proofs.FreshNumbers.{served-distinct}
+use Rattle.vt_tree_laws.specs.Trees.Settling.{inode_in}
 
 may_change : (stack : Stack ℕ) (merge : Merge ℕ) (change : Change ℕ) → IsAskedWell stack merge change
     → MayChange merge.files change

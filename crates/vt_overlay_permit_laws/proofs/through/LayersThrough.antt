@@ -6,7 +6,7 @@ use Rattle.vt_spec.specs.Machine.Policy.{call_outcome}
 use Rattle.vt_spec.specs.Machine.World.{Layer, Overlay, World, filesystem_numbered, layers_of}
 use Rattle.vt_spec.proofs.Lists.{Among, among-append, among_from_contains, contains_from_among}
 use Rattle.vt_laws.proofs.given.GivenPermits.{permits_are_for_their_calls}
-use Rattle.vt_layer_laws.specs.Layers.Untouched.{IsKept, inode_in}
+use Rattle.vt_layer_laws.specs.Layers.Untouched.{IsKept}
 use Rattle.vt_layer_laws.proofs.locked.Apart.{layer_plain}
 use Rattle.vt_layer_laws.proofs.locked.EveryCall.{lower_layers_stay_locked}
 use Rattle.vt_layer_laws.proofs.locked.Paths.{leads_as_before, no_new}
@@ -14,6 +14,7 @@ use Rattle.vt_world_laws.proofs.worlds.SeenTrees.{unused_inode}
 use Rattle.vt_overlay_permit_laws.specs.Through.{CallsLeaveOtherLayers, LayerStays, PlainCallsLeaveLayers}
 use Rattle.vt_overlay_permit_laws.proofs.through.CallsThrough.{calls_go_through_their_location}
 use Rattle.vt_overlay_permit_laws.proofs.worlds.LowersAfterCalls.{on_files}
+use Rattle.vt_tree_laws.specs.Trees.Settling.{inode_in}
 
 -- Where each inode is kept that is there and lies or counts under a layer, the layer stays
 module _ (world : World ℕ) (is : IsWorld nat_eq world) (number : ℕ) (overlay : Overlay ℕ)

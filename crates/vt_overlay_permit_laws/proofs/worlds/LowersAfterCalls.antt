@@ -33,7 +33,7 @@ use Rattle.vt_letting_go.proofs.sweeps.OfWorlds.{found_filesystem}
 use Rattle.vt_tree_laws.specs.Trees.Calls.{mounts_overlay}
 use Rattle.vt_tree_laws.specs.Trees.Limits.{names_few_groups}
 use Rattle.vt_layer_laws.specs.Layers.Locked.{LeadsAsBefore}
-use Rattle.vt_layer_laws.specs.Layers.Untouched.{IsKept, changes_no_mount, inode_in}
+use Rattle.vt_layer_laws.specs.Layers.Untouched.{IsKept, changes_no_mount}
 use Rattle.vt_layer_laws.proofs.locked.Apart.{layer_among, layer_plain, no_lower}
 use Rattle.vt_layer_laws.proofs.locked.Paths.{layer_tree, led_lies, lower_paths_are_locked}
 use Rattle.vt_layer_laws.proofs.layers.LowersCalls.{same_filesystem}
@@ -54,9 +54,10 @@ use Rattle.vt_overlay_permit_laws.proofs.worlds.SweptOverlays.{leads_same}
 use Rattle.std.proofs.lemmas.Bool.{or_cases}
 use Rattle.vt_spec.proofs.Truths.{and_true_left, and_true_right}
 use Rattle.vt_spec.proofs.Worlds.{lower_is_layer, upper_real}
+use Rattle.vt_tree_laws.specs.Trees.Settling.{inode_in}
 
 -- a call that asks for a change is one on files
-makes_files : (call : Call) → makes_a_name call ≡ true → changes_no_mount call ≡ true
+pub makes_files : (call : Call) → makes_a_name call ≡ true → changes_no_mount call ≡ true
 makes_files (Write path bytes) e = refl
 makes_files (Mkdir path mode) e = refl
 makes_files (SymlinkAt text path) e = refl

@@ -16,7 +16,6 @@ use Rattle.vt_spec.proofs.Lists.{Among, among-append_left, among-append_right, a
 use Rattle.vt_letting_go.proofs.sweeps.OfWorlds.{found_filesystem}
 use Rattle.vt_tree_laws.proofs.trees.TreesOfWorlds.{numbered_all, numbered_anyhow}
 use Rattle.vt_layer_laws.specs.Layers.Locked.{LeadsAsBefore}
-use Rattle.vt_layer_laws.specs.Layers.Untouched.{inode_in}
 use Rattle.vt_layer_laws.proofs.locked.Apart.{layer_among, merged_among}
 use Rattle.vt_layer_laws.proofs.layers.ShownDirectories.{led_is_there}
 use Rattle.vt_layer_laws.proofs.views.Names.{alike_kept}
@@ -27,6 +26,7 @@ use Rattle.std.proofs.lemmas.Bool.{and_from, or_cases, or_left, or_right}
 use Rattle.vt_spec.proofs.Options.{none_is_some}
 use Rattle.vt_spec.proofs.Truths.{and_true_left, and_true_right}
 use Rattle.vt_spec.proofs.Worlds.{upper_real}
+use Rattle.vt_tree_laws.specs.Trees.Settling.{inode_in}
 
 -- what is asked of trees
 pub record AreTrees (world : World ℕ) : Type 0 where

@@ -21,7 +21,7 @@ use Rattle.vt_tree_laws.proofs.trees.ChangesOfSizes.{changes_keep_sizes}
 use Rattle.vt_tree_laws.proofs.trees.TreesOfWorlds.{numbered_all, replaced_all}
 use Rattle.vt_letting_go.proofs.sweeps.OfWorlds.{found_filesystem}
 use Rattle.vt_layer_laws.specs.Layers.Locked.{LeadsAsBefore}
-use Rattle.vt_layer_laws.specs.Layers.Untouched.{IsKept, inode_in, inodes_changed}
+use Rattle.vt_layer_laws.specs.Layers.Untouched.{IsKept, inodes_changed}
 use Rattle.vt_layer_laws.specs.Layers.Upper.{IsUpperObject}
 use Rattle.vt_layer_laws.proofs.locked.Apart.{layer_among, layer_plain, object_counts, upper_in_layers}
 use Rattle.vt_layer_laws.proofs.locked.Paths.{layer_tree, leads_as_before, led_lies}
@@ -34,6 +34,7 @@ use Rattle.vt_overlay_permit_laws.specs.Unlocked.{SparesInode, SparesLocked}
 use Rattle.vt_overlay_permit_laws.proofs.worlds.OverlaysGoOn.{GoesOn, are_trees, overlays_go_on}
 use Rattle.vt_spec.proofs.Options.{none_is_some}
 use Rattle.vt_spec.proofs.Truths.{and_true_right}
+use Rattle.vt_tree_laws.specs.Trees.Settling.{inode_in}
 
 -- an inode that a change spares is none of those that it writes to
 none_written : (files : FileTree ℕ) (change : Change ℕ) → IsProper files.tree change → (inode : ℕ)

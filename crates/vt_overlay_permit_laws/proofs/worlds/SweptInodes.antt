@@ -17,13 +17,13 @@ use Rattle.vt_spec.specs.TreeInvariant.{IsReached, IsTree, led}
 use Rattle.vt_spec.proofs.Lists.{Among, among-filter, among-filter_map, among-flat_map, among-from_filter, among-map}
 use Rattle.vt_spec.proofs.Nodes.{directory_used}
 use Rattle.vt_tree_laws.specs.Trees.{IsFileTree}
-use Rattle.vt_tree_laws.specs.Trees.Settling.{HasFileTrees, HoldsTree}
+use Rattle.vt_tree_laws.specs.Trees.Settling.{HasFileTrees, HoldsTree, inode_in}
 use Rattle.vt_tree_laws.proofs.trees.TreesForgotten.{named_is_used, without_dead_in_is}
 use Rattle.vt_tree_laws.proofs.trees.TreesOfWorlds.{numbered_all}
 use Rattle.vt_letting_go.proofs.sweeps.InUse.{overlay-left}
 use Rattle.vt_letting_go.proofs.Lists.{flat_map-map, is_among_numbers, or_second}
 use Rattle.vt_layer_laws.specs.Layers.Locked.{LeadsAsBefore}
-use Rattle.vt_layer_laws.specs.Layers.Untouched.{IsKept, inode_in}
+use Rattle.vt_layer_laws.specs.Layers.Untouched.{IsKept}
 use Rattle.vt_layer_laws.specs.Layers.Upper.{IsUpperObject}
 use Rattle.vt_layer_laws.proofs.layers.LowersKept.{kept_same}
 use Rattle.vt_layer_laws.proofs.layers.LowersWorld.{number_of_filesystem}

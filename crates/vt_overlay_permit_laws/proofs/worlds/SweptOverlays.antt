@@ -15,7 +15,6 @@ use Rattle.std.proofs.lemmas.List.Elements.{All-filter}
 use Rattle.vt_letting_go.proofs.Lists.{or_second}
 use Rattle.vt_letting_go.proofs.sweeps.OfWorlds.{found_filesystem}
 use Rattle.vt_layer_laws.specs.Layers.Locked.{LeadsAsBefore}
-use Rattle.vt_layer_laws.specs.Layers.Untouched.{inode_in}
 use Rattle.vt_layer_laws.proofs.locked.Apart.{found_among, merged_among}
 use Rattle.vt_layer_laws.proofs.layers.LowersKept.{kept_same}
 use Rattle.vt_layer_laws.proofs.layers.LowersWorld.{number_of_filesystem}
@@ -23,6 +22,7 @@ use Rattle.vt_spec.proofs.Truths.{and_true_left, and_true_right}
 use Rattle.vt_overlay_laws.proofs.changes.WholeOthers.{stays_merged}
 use Rattle.vt_overlay_permit_laws.proofs.worlds.OverlaysGoOn.{AreTrees, GoesOn, overlays_go_on, plain_layer}
 use Rattle.vt_spec.proofs.Worlds.{layers_of_all}
+use Rattle.vt_tree_laws.specs.Trees.Settling.{inode_in}
 
 -- of which fewer pairs pass
 pairs_behind : {A : Type 0} (test : A → A → Bool) (front back : List A) → any_pair test (front ++ back) ≡ false

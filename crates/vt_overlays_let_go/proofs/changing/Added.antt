@@ -12,9 +12,8 @@ use Rattle.vt_spec.specs.Machine.World.{Real, upper_object}
 use Rattle.vt_spec.specs.Machine.World.Real.{Upper}
 use Rattle.vt_spec.specs.TreeInvariant.{HasName, IsTree, entry_at}
 use Rattle.vt_spec.proofs.Nodes.{directory_used}
-use Rattle.vt_layer_laws.specs.Layers.ChangesUpper.{IsFitToChange}
+use Rattle.vt_layer_laws.specs.Layers.ChangesUpper.{IsFitToChange, IsNewBy}
 use Rattle.vt_layer_laws.proofs.layers.CopyingChanges.{moved_with, object_there, removed_with}
-use Rattle.vt_layer_laws.proofs.layers.CopyingEach.{IsNew}
 use Rattle.vt_layer_laws.proofs.layers.CopyingEachChange.{among_first, by_evens, in_own_line, then_odd_evens}
 use Rattle.vt_layer_laws.proofs.layers.CopyingNames.{LeftWith}
 use Rattle.vt_layer_laws.proofs.layers.CopyingReady.{leaves_upper, parent_in_line}
@@ -42,9 +41,9 @@ pub record Adds (change : Change ℕ) (before later : Merge ℕ) : Type 0 where
 -- Whiteouts have a name
 module _ (files : FileTree ℕ) (tree : IsTree files.tree) (first : ℕ → Option (Real ℕ)) (fresh : Fresh ℕ)
     (stack : Stack ℕ)
-    (real : ℕ → Option (Real ℕ)) (upper : FileTree ℕ) (sound : IsSound files first (IsNew fresh) real upper) where
+    (real : ℕ → Option (Real ℕ)) (upper : FileTree ℕ) (sound : IsSound files first (IsNewBy fresh) real upper) where
   abbrev here : Merge ℕ
-  here = State files first (IsNew fresh) real upper
+  here = State files first (IsNewBy fresh) real upper
 
   abbrev WasOrIsNamed : FileTree ℕ → ℕ → Type 0
   WasOrIsNamed later inode = Among inode upper.numbers ⊎ HasName later.tree inode

@@ -18,8 +18,7 @@ use Rattle.vt_spec.specs.Tree.{Node, bytes_in, entries_in, entry_named, node_wit
 use Rattle.vt_spec.specs.TreeInvariant.{HasName, entry_at}
 use Rattle.vt_spec.proofs.Lists.{among_from_contains}
 use Rattle.vt_spec.proofs.Nodes.{node_other, entries-node_with_bytes}
-use Rattle.vt_layer_laws.specs.Layers.ChangesUpper.{IsFitToChange, copied_for}
-use Rattle.vt_layer_laws.proofs.layers.CopyingEach.{IsNew}
+use Rattle.vt_layer_laws.specs.Layers.ChangesUpper.{IsFitToChange, copied_for, IsNewBy}
 use Rattle.vt_layer_laws.proofs.layers.CopyingNames.{emptied_other, marked_entries}
 use Rattle.vt_letting_go.specs.FileChanges.{names_lost}
 use Rattle.vt_letting_go.specs.InUse.{IsListedTree}
@@ -225,14 +224,14 @@ module _ (fresh : Fresh ℕ) (stack : Stack ℕ) (before : Merge ℕ) (fit : IsF
 
   begin : (supply : Fresh ℕ) (distinct : (j k : ℕ) → supply j ≡ supply k → j ≡ k) (spare : ℕ → Type 0) (apart : (k : ℕ)
       → ¬ (spare (supply k)))
-      → ((k : ℕ) → IsNew fresh (supply k)) → ((number : ℕ) → spare number → IsNew fresh number)
+      → ((k : ℕ) → IsNewBy fresh (supply k)) → ((number : ℕ) → spare number → IsNewBy fresh number)
       → IsFine files fit.tree fit.numbers before.upper supply distinct spare apart 0 before.real before.upper
   begin supply distinct spare apart own new = record {
     stays = λ d n k e. e;
     free = free;
     one = fit.one_to_one;
     clear = λ inode left.
-        let is : IsNew fresh inode = ⊎_elim (λ j. let o = own j.0 in (o.0, j.2 ∙ o.1)) (λ s. new inode s) left in (
+        let is : IsNewBy fresh inode = ⊎_elim (λ j. let o = own j.0 in (o.0, j.2 ∙ o.1)) (λ s. new inode s) left in (
           ap (λ m. entries_in (before.upper.tree.node m)) is.1 ∙ ap entries_in (vacant is.0),
           λ number e. fit.unused is.0 number (e ∙ ap Some is.1),
         );
@@ -242,20 +241,20 @@ module _ (fresh : Fresh ℕ) (stack : Stack ℕ) (before : Merge ℕ) (fit : IsF
   no_spare number = ⊥
 
   not_odd : (supply : Fresh ℕ) → ((j k : ℕ) → supply j ≡ supply k → j ≡ k) → (k : ℕ)
-      → ¬ (IsNew (odds supply) (evens supply k))
+      → ¬ (IsNewBy (odds supply) (evens supply k))
   not_odd supply distinct k s = let same = distinct (2 * k) (2 * s.0 + 1) s.1 in let no : ⊥ = omega arith in no
 
   -- by one half of the numbers, with the other left
   by_evens : (object : ℕ)
       → Fine files fit.tree fit.numbers before.upper (evens fresh) (evens-distinct fresh fit.distinct)
-      (IsNew (odds fresh))
+      (IsNewBy (odds fresh))
       (not_odd fresh fit.distinct)
       (copied_up nat_eq (evens fresh) before object)
   by_evens object =
       line_fine files fit.tree fit.numbers before.upper (evens fresh) (evens-distinct fresh fit.distinct)
-      (IsNew (odds fresh))
+      (IsNewBy (odds fresh))
       (not_odd fresh fit.distinct) object before.real before.upper
-      (begin (evens fresh) (evens-distinct fresh fit.distinct) (IsNew (odds fresh)) (not_odd fresh fit.distinct)
+      (begin (evens fresh) (evens-distinct fresh fit.distinct) (IsNewBy (odds fresh)) (not_odd fresh fit.distinct)
       (λ k. (2 * k, refl))
       (λ number s. (2 * s.0 + 1, s.1)))
 
@@ -270,7 +269,7 @@ module _ (fresh : Fresh ℕ) (stack : Stack ℕ) (before : Merge ℕ) (fit : IsF
   -- and then by a part of the other
   then_by : (object other : ℕ) (supply : Fresh ℕ) (distinct : (j k : ℕ) → supply j ≡ supply k → j ≡ k) (spare : ℕ
       → Type 0) (apart : (k : ℕ) → ¬ (spare (supply k)))
-      → ((k : ℕ) → IsNew (odds fresh) (supply k)) → ((number : ℕ) → spare number → IsNew (odds fresh) number)
+      → ((k : ℕ) → IsNewBy (odds fresh) (supply k)) → ((number : ℕ) → spare number → IsNewBy (odds fresh) number)
       → Fine files fit.tree fit.numbers before.upper supply distinct spare apart
       (copied_up nat_eq supply (copied_up nat_eq (evens fresh) before object) other)
   then_by object other supply distinct spare apart own new =
@@ -347,7 +346,7 @@ module _ (fresh : Fresh ℕ) (stack : Stack ℕ) (before : Merge ℕ) (fit : IsF
       (copied.stays d n k e)
   loses (Move from old to new object) d n k e =
       let done = then_by object to (evens (odds fresh)) (evens-distinct (odds fresh) (odds-distinct fresh fit.distinct))
-      (IsNew (odds (odds fresh)))
+      (IsNewBy (odds (odds fresh)))
       (not_odd (odds fresh) (odds-distinct fresh fit.distinct)) (λ j. (2 * j, refl)) (λ m s. (2 * s.0 + 1, s.1)) in
       let copied = copied_up nat_eq (evens (odds fresh)) (copied_up nat_eq (evens fresh) before object) to in
       moved_loses (odds (odds fresh)) stack copied

@@ -1,8 +1,7 @@
 -- Permits with other numbers.
-use Rattle.std.proofs.Common.{◌≡◌, refl, ap, sym, true≢false, ℕ, Bool, true, ◌&&◌, List, [], ◌∷◌, Option, Some, None}
-use Rattle.std.specs.Prelude.{map, option_map}
-use Rattle.std.specs.List.{list_all}
-use Rattle.vt_laws.specs.Numbers.{content_named, location_named, node_named, none_or}
+use Rattle.std.proofs.Common.{◌≡◌, refl, ap, sym, true≢false, ℕ, Bool, true, ◌&&◌, Option}
+use Rattle.std.specs.Prelude.{option_map}
+use Rattle.vt_laws.specs.Numbers.{location_named, node_named, none_or}
 use Rattle.vt_laws.proofs.numbers.Commuting.{Named, node_itself, option_itself, change_itself}
 use Rattle.vt_laws.proofs.numbers.Renamings.{overlay_itself}
 use Rattle.vt_laws.specs.Renaming.{Leaves, Renaming, renamed_change}
@@ -12,10 +11,9 @@ use Rattle.vt_spec.specs.Language.Changes.Change.{AddName, CopyUp, Make, Move, R
 use Rattle.vt_spec.specs.Machine.Mounts.{Location}
 use Rattle.vt_spec.specs.Machine.Permits.{Permit}
 use Rattle.vt_spec.specs.Machine.Permits.Permit.{Allowed, ToBind, ToChange, ToClose, ToEnterNamespace, ToExit, ToFork, ToList, ToListMounts, ToMake, ToMountOverlay, ToMountPlain, ToMove, ToOpen, ToOpenNew, ToPivot, ToRead, ToReadPart, ToRemoveDirectory, ToRename, ToSetCredentials, ToSetDirectory, ToSetFlags, ToSetRoot, ToSetType, ToSetUmask, ToStat, ToUnmount, ToUnmountLazily, ToUnshare, ToWritePart}
-use Rattle.vt_spec.specs.Machine.Renaming.{renamed_content, renamed_entry, renamed_location, renamed_node}
-use Rattle.vt_spec.specs.Tree.{Content, Node}
-use Rattle.vt_spec.specs.Tree.Content.{Directory, Regular, Symlink, Whiteout}
+use Rattle.vt_spec.specs.Machine.Renaming.{renamed_location}
 use Rattle.std.proofs.lemmas.Bool.{and_parts}
+use Rattle.vt_laws.proofs.numbers.NamedWorlds.{location_left, node_left, option_left}
 
 -- With each number for itself nothing is renamed.
 module _ {N : Type 0} where
@@ -69,41 +67,17 @@ module _ (named : ℕ → Bool) (renaming : Renaming ℕ ℕ) (leaves : Leaves r
   abbrev back : ℕ → ℕ
   back = renaming.back
 
-  place_left : (location : Location ℕ) → location_named named location ≡ true
-      → renamed_location there back location ≡ location
-  place_left location e =
-      let parts = and_parts (named location.mount) (named location.node) e in
-      λ i. record { mount = leaves location.mount parts.0 i; node = leaves location.node parts.1 i }
-
   places_left : (location : Option (Location ℕ)) → none_or (location_named named) location ≡ true
       → option_map (renamed_location there back) location ≡ location
-  places_left None e = refl
-  places_left (Some location) e = ap Some (place_left location e)
-
-  entries_left : (entries : List (List ℕ × ℕ)) → list_all (λ (entry : List ℕ × ℕ). named entry.1) entries ≡ true
-      → map (renamed_entry there back) entries ≡ entries
-  entries_left [] e = refl
-  entries_left (entry ∷ rest) e =
-      let parts = and_parts (named entry.1) (list_all (λ (other : List ℕ × ℕ). named other.1) rest) e in
-      λ i. (entry.0, leaves entry.1 parts.0 i) ∷ entries_left rest parts.1 i
-
-  content_left : (content : Content ℕ) → content_named named content ≡ true
-      → renamed_content there back content ≡ content
-  content_left (Directory parent entries opaque) e =
-      let parts = and_parts (named parent) (list_all (λ (entry : List ℕ × ℕ). named entry.1) entries) e in
-      λ i. Directory (leaves parent parts.0 i) (entries_left entries parts.1 i) opaque
-  content_left (Regular bytes) e = refl
-  content_left (Symlink text) e = refl
-  content_left Whiteout e = refl
-
-  node_left : (node : Node ℕ) → node_named named node ≡ true → renamed_node there back node ≡ node
-  node_left node e = λ i. record { attr = node.attr; content = content_left node.content e i }
+  places_left =
+      option_left (renamed_location there back) (location_named named) (location_left named renaming leaves)
 
   change_left : (change : Change ℕ) → change_named named change ≡ true → renamed_change there back change ≡ change
   change_left (Make directory name number node) e =
       let last = and_parts (named directory && named number) (node_named named node) e in
       let first = and_parts (named directory) (named number) last.0 in
-      λ i. Make (leaves directory first.0 i) name (leaves number first.1 i) (node_left node last.1 i)
+      λ i. Make (leaves directory first.0 i) name (leaves number first.1 i)
+      (node_left named renaming leaves node last.1 i)
   change_left (AddName directory name object) e =
       let parts = and_parts (named directory) (named object) e in
       λ i. AddName (leaves directory parts.0 i) name (leaves object parts.1 i)
@@ -121,19 +95,22 @@ module _ (named : ℕ → Bool) (renaming : Renaming ℕ ℕ) (leaves : Leaves r
 
   pub permit_left : (permit : Permit ℕ) → permit_named named permit ≡ true → renamed_permit there back permit ≡ permit
   permit_left Allowed e = refl
-  permit_left (ToList directory) e = ap ToList (place_left directory e)
-  permit_left (ToStat object) e = ap ToStat (place_left object e)
-  permit_left (ToRead file) e = ap ToRead (place_left file e)
-  permit_left (ToReadPart file offset size) e = λ i. ToReadPart (place_left file e i) offset size
+  permit_left (ToList directory) e = ap ToList (location_left named renaming leaves directory e)
+  permit_left (ToStat object) e = ap ToStat (location_left named renaming leaves object e)
+  permit_left (ToRead file) e = ap ToRead (location_left named renaming leaves file e)
+  permit_left (ToReadPart file offset size) e =
+      λ i. ToReadPart (location_left named renaming leaves file e i) offset size
   permit_left (ToChange location change) e =
       let parts = and_parts (location_named named location) (change_named named change) e in
-      λ i. ToChange (place_left location parts.0 i) (change_left change parts.1 i)
+      λ i. ToChange (location_left named renaming leaves location parts.0 i) (change_left change parts.1 i)
   permit_left (ToMake directory name node) e =
       let parts = and_parts (location_named named directory) (node_named named node) e in
-      λ i. ToMake (place_left directory parts.0 i) name (node_left node parts.1 i)
+      λ i. ToMake (location_left named renaming leaves directory parts.0 i) name
+      (node_left named renaming leaves node parts.1 i)
   permit_left (ToRemoveDirectory parent name directory) e =
       let parts = and_parts (location_named named parent) (location_named named directory) e in
-      λ i. ToRemoveDirectory (place_left parent parts.0 i) name (place_left directory parts.1 i)
+      λ i. ToRemoveDirectory (location_left named renaming leaves parent parts.0 i) name
+      (location_left named renaming leaves directory parts.1 i)
   permit_left (ToRename from old to new object replaced) e =
       let last =
       and_parts (location_named named from && location_named named to && location_named named object)
@@ -141,35 +118,39 @@ module _ (named : ℕ → Bool) (renaming : Renaming ℕ ℕ) (leaves : Leaves r
       let next = and_parts (location_named named from && location_named named to)
       (location_named named object) last.0 in
       let first = and_parts (location_named named from) (location_named named to) next.0 in
-      λ i. ToRename (place_left from first.0 i) old (place_left to first.1 i) new (place_left object next.1 i)
+      λ i. ToRename (location_left named renaming leaves from first.0 i) old
+      (location_left named renaming leaves to first.1 i) new (location_left named renaming leaves object next.1 i)
       (places_left replaced last.1 i)
-  permit_left (ToOpen file access) e = λ i. ToOpen (place_left file e i) access
+  permit_left (ToOpen file access) e = λ i. ToOpen (location_left named renaming leaves file e i) access
   permit_left (ToOpenNew directory name node access) e =
       let parts = and_parts (location_named named directory) (node_named named node) e in
-      λ i. ToOpenNew (place_left directory parts.0 i) name (node_left node parts.1 i) access
-  permit_left (ToWritePart file offset bytes) e = λ i. ToWritePart (place_left file e i) offset bytes
+      λ i. ToOpenNew (location_left named renaming leaves directory parts.0 i) name
+      (node_left named renaming leaves node parts.1 i) access
+  permit_left (ToWritePart file offset bytes) e =
+      λ i. ToWritePart (location_left named renaming leaves file e i) offset bytes
   permit_left (ToClose descriptor) e = refl
-  permit_left (ToSetDirectory directory) e = ap ToSetDirectory (place_left directory e)
-  permit_left (ToSetRoot root) e = ap ToSetRoot (place_left root e)
+  permit_left (ToSetDirectory directory) e = ap ToSetDirectory (location_left named renaming leaves directory e)
+  permit_left (ToSetRoot root) e = ap ToSetRoot (location_left named renaming leaves root e)
   permit_left (ToSetUmask umask) e = refl
   permit_left (ToSetCredentials credentials) e = refl
   permit_left (ToFork credentials) e = refl
   permit_left ToExit e = refl
   permit_left ToUnshare e = refl
   permit_left (ToEnterNamespace namespace) e = ap ToEnterNamespace (leaves namespace e)
-  permit_left (ToMountPlain place flags) e = λ i. ToMountPlain (place_left place e i) flags
+  permit_left (ToMountPlain place flags) e = λ i. ToMountPlain (location_left named renaming leaves place e i) flags
   permit_left (ToMountOverlay place overlay flags) e = absurd (true≢false (sym e))
   permit_left (ToBind source place recursive) e =
       let parts = and_parts (location_named named source) (location_named named place) e in
-      λ i. ToBind (place_left source parts.0 i) (place_left place parts.1 i) recursive
+      λ i. ToBind (location_left named renaming leaves source parts.0 i)
+      (location_left named renaming leaves place parts.1 i) recursive
   permit_left (ToMove mount place) e =
       let parts = and_parts (named mount) (location_named named place) e in
-      λ i. ToMove (leaves mount parts.0 i) (place_left place parts.1 i)
+      λ i. ToMove (leaves mount parts.0 i) (location_left named renaming leaves place parts.1 i)
   permit_left (ToUnmount mount) e = ap ToUnmount (leaves mount e)
   permit_left (ToUnmountLazily mount) e = ap ToUnmountLazily (leaves mount e)
   permit_left (ToSetFlags mount flags) e = λ i. ToSetFlags (leaves mount e i) flags
   permit_left (ToSetType mount word recursive) e = λ i. ToSetType (leaves mount e i) word recursive
   permit_left (ToPivot new put) e =
       let parts = and_parts (named new) (location_named named put) e in
-      λ i. ToPivot (leaves new parts.0 i) (place_left put parts.1 i)
+      λ i. ToPivot (leaves new parts.0 i) (location_left named renaming leaves put parts.1 i)
   permit_left ToListMounts e = refl

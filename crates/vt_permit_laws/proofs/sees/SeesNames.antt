@@ -146,7 +146,8 @@ module _ (world : World ℕ) (whole : IsWorld nat_eq world) (plain : IsPlain wor
   unfolding hard_link_permit
   link_seen old new =
       gives_walk (SeesTo world task) (λ here. is_some (node_at nat_eq world here.location) ≡ true)
-      (symlink_walk nat_eq looks task old) _ (ends_link_walk world of_trees (worlds_are_standing world whole) task old)
+      (symlink_walk nat_eq looks task old) _ (ends_link_walk world whole.files.trees
+      (worlds_are_standing world whole) task old)
       (λ from there.
       gives_walk (SeesTo world task) NewPlace (new_leaf_walk nat_eq looks task new) _ (new_leaf_ends new) (λ place is.
       gives_unless (SeesTo world task) ((is_special place.last, E1) ∷ []) _ (λ named.

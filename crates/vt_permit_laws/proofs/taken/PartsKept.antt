@@ -1,29 +1,18 @@
 -- A filesystem that is added to a world changes no parts of an attachment.
-use Rattle.std.proofs.Common.{◌≡◌, refl, sym, ap, ◌∙◌, true≢false, ℕ, nat_eq, Bool, not, ◌&&◌, true, List, [], ◌∷◌, ◌++◌, filter, find, Option, None, Some, is_some, unwrap_or}
+use Rattle.std.proofs.Common.{◌≡◌, refl, sym, ap, ◌∙◌, true≢false, ℕ, nat_eq, Bool, not, ◌&&◌, true, [], ◌∷◌, ◌++◌, find, Option, None, Some, is_some, unwrap_or}
 use Rattle.std.proofs.lemmas.Bool.{and_parts}
 use Rattle.std.proofs.lemmas.List.Folds.{find-append}
 use Rattle.std.specs.Option.{option_or}
-use Rattle.std.specs.Prelude.{option_map}
-use Rattle.vt_letting_go.proofs.Lists.{Among, among-from_filter, passes}
+use Rattle.vt_letting_go.proofs.Lists.{Among, passes}
 use Rattle.vt_spec.specs.FileTree.{is_directory_under}
 use Rattle.vt_spec.specs.Machine.Attach.{parts_of, receivers_of, takes_part}
 use Rattle.vt_spec.specs.Machine.Invariants.{IsWorld, has_its_root}
-use Rattle.vt_spec.specs.Machine.Mounts.{Location, Mount, group_of}
+use Rattle.vt_spec.specs.Machine.Mounts.{Location, Mount}
 use Rattle.vt_spec.specs.Machine.Outcome.Mounting.{with_new_filesystem}
-use Rattle.vt_spec.specs.Machine.Receives.{receivers, receives}
 use Rattle.vt_spec.specs.Machine.World.{Filesystem, World, filesystem_numbered, mount_at, no_filesystem}
 use Rattle.vt_spec.specs.Tree.{is_directory_node}
 use Rattle.vt_spec.proofs.Found.{filter_alike}
-
--- receivers are mounts of the world
-pub receivers_there : (world : World ℕ) (mount one : Mount ℕ) → Among one (receivers_of nat_eq world mount)
-    → Among one world.mounts
-receivers_there world mount one = by (group_of mount.propagation)
-  where
-    by : (group : Option ℕ) → Among one (unwrap_or (option_map (receivers nat_eq world) group) [])
-        → Among one world.mounts
-    by None m = absurd m
-    by (Some group) m = (among-from_filter (receives nat_eq world group) world.mounts one m).0
+pub use Rattle.vt_mount_laws.proofs.mounts.Receivers.{receivers_there}
 
 module _ (world : World ℕ) (whole : IsWorld nat_eq world) (added : Filesystem ℕ) where
   abbrev larger : World ℕ

@@ -31,9 +31,9 @@ use Rattle.vt_spec.specs.Machine.Invariants.{IsWorld, has_one_root, is_listed, i
 use Rattle.vt_spec.specs.Tree.{Node, bytes_in}
 use Rattle.vt_spec.proofs.Lists.{among_from_list_all, among_numbers, among-from_map}
 use Rattle.vt_world_laws.proofs.Plain.{plain_numbered}
-use Rattle.vt_world_laws.proofs.worlds.ReachedWalks.{task_among}
 use Rattle.vt_world_laws.specs.Worlds.Kept.{IsPlain}
 use Rattle.vt_spec.proofs.Worlds.{filesystems-taken_away}
+use Rattle.vt_tree_laws.proofs.trees.TreesTasks.{called_there}
 
 -- the permit is not for the mount of an overlay
 abbrev pub IsNoOverlay : Permit ℕ → Type 0
@@ -107,7 +107,7 @@ module _ (world : World ℕ) (whole : IsWorld nat_eq world) (plain : IsPlain wor
   own_some =
       let listed : is_listed nat_eq world task.namespace ≡ true =
       among_from_list_all (λ (t : Task ℕ). is_listed nat_eq world t.namespace) world.tasks
-      whole.namespaces.tasks_listed task (task_among world whole task called) in
+      whole.namespaces.tasks_listed task (called_there world.tasks task.name task called) in
       let found =
       among-from_map (λ (namespace : Namespace ℕ). namespace.number) world.namespaces task.namespace
       (among_numbers (map (λ (namespace : Namespace ℕ). namespace.number) world.namespaces) task.namespace listed) in

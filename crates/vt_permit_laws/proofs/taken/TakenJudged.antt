@@ -1,5 +1,5 @@
 -- A judgement does not go by the numbers handed in.
-use Rattle.std.proofs.Common.{◌≡◌, refl, sym, ap, ◌∙◌, true≢false, ℕ, nat_eq, nat_lt, Bool, true, false, List, [], ◌∷◌, length, map, filter, None, Ok}
+use Rattle.std.proofs.Common.{◌≡◌, refl, sym, ap, ◌∙◌, true≢false, ℕ, nat_eq, nat_lt, Bool, true, false, List, [], ◌∷◌, length, map, filter, Ok}
 use Rattle.std.specs.List.{list_any}
 use Rattle.std.proofs.lemmas.List.{length-map}
 use Rattle.vt_letting_go.proofs.Lists.{filter-map}

@@ -49,7 +49,8 @@ module _ (mounts : List (Mount ℕ)) (gone : List ℕ) (number : ℕ) (mount : M
 -- Lists of pairs
 
 module _ {B : Type 0} where
-  lookup_pair : (number : ℕ) (pairs : List (ℕ × B)) (b : B) → lookup (nat_eq number) pairs ≡ Some b
+  -- what is looked up in a list stands there
+  pub lookup_pair : (number : ℕ) (pairs : List (ℕ × B)) (b : B) → lookup (nat_eq number) pairs ≡ Some b
       → Among (number, b) pairs
   lookup_pair number [] b e = absurd (true≢false (sym (ap is_some e)))
   lookup_pair number (pair ∷ rest) b e = by (nat_eq number pair.0) refl e (lookup_pair number rest b)

@@ -9,8 +9,9 @@ use Rattle.vt_laws.specs.Plain.{IsPlain}
 use Rattle.vt_run_laws.specs.Answered.{SameWorldsArePlainAlike, SamenessIsAnEquivalence}
 use Rattle.vt_spec.proofs.Options.{none_from_not_some}
 use Rattle.vt_spec.specs.FileTree.{FileTree}
-use Rattle.vt_spec.specs.Machine.SameWorlds.{SameFiles, SameFilesystem, SameFilesystems, SameWorlds}
+use Rattle.vt_spec.specs.Machine.SameWorlds.{SameFiles, SameFilesystems, SameWorlds}
 use Rattle.vt_spec.specs.Machine.World.{Filesystem, Namespace, Task, World, is_overlay}
+use Rattle.vt_laws.proofs.same.SameMany.{same_filesystem_itself}
 
 abbrev pub SameTask : Task ℕ → Task ℕ → Type 0
 SameTask one other = bare_task one ≡ bare_task other
@@ -55,12 +56,9 @@ files_onward one other last same next = record {
 }
 
 -- Sameness of worlds, whatever their filesystems are
-filesystem_itself : (filesystem : Filesystem ℕ) → SameFilesystem filesystem filesystem
-filesystem_itself filesystem = record { number = refl; files = files_itself filesystem.files; overlay = refl }
-
 filesystems_itself : (list : List (Filesystem ℕ)) → SameFilesystems list list
 filesystems_itself [] = tt
-filesystems_itself (filesystem ∷ rest) = (filesystem_itself filesystem, filesystems_itself rest)
+filesystems_itself (filesystem ∷ rest) = (same_filesystem_itself filesystem, filesystems_itself rest)
 
 filesystems_back : (ones others : List (Filesystem ℕ)) → SameFilesystems ones others → SameFilesystems others ones
 filesystems_back [] [] same = tt

@@ -5,10 +5,10 @@ use Rattle.std.proofs.lemmas.List.Elements.{All-cons, All-head, All-tail}
 use Rattle.vt_laws.proofs.numbers.Renamings.{named_world}
 use Rattle.vt_laws.proofs.numbers.Rows.{row, spread}
 use Rattle.vt_laws.proofs.numbers.Stages.{stage, stage_rows}
-use Rattle.vt_laws.proofs.numbers.Supports.{opening_alike, opening_keeps_to_four}
+use Rattle.vt_laws.proofs.numbers.Supports.{opening_alike, opening_keeps_to_four, named_supply}
 use Rattle.vt_laws.proofs.numbers.Texts.{joined-early, joined-new, joined-same, joined_with_row, refused_keeps, stage_serves, first_early, line_alike, line_leads, refused_alike, refused_leads, whole_machine_has_one_text, worlds_keep_to_hand}
 use Rattle.vt_laws.specs.Numbers.{KeepsTo, TellsWithRoom, first_four, is_in_hand}
-use Rattle.vt_laws.proofs.numbers.Commuting.{Named, commutes_nat}
+use Rattle.vt_laws.proofs.numbers.Commuting.{commutes_nat}
 use Rattle.vt_laws.specs.Renaming.{Renaming}
 use Rattle.vt_run_laws.proofs.answered.AlikeLines.{line_step_alike}
 use Rattle.vt_run_laws.proofs.answered.AlikeRenamed.{same_renamed}
@@ -98,9 +98,6 @@ module _ (grammar : Grammar) (in_hand : ℕ → Bool) where
       )
 
 -- The opening world
-
-named_supply : Named Fresh
-named_supply = record { rename = λ A B there back fresh k. there (fresh k); itself = λ A fresh. refl }
 
 opening_renamed : (renaming : Renaming ℕ ℕ) (fresh : Fresh ℕ)
     → opening nat_eq (λ k. renaming.there (fresh k)) ≡ renamed renaming.there renaming.back (opening nat_eq fresh)

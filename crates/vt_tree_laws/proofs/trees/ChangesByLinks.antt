@@ -43,7 +43,8 @@ pub link_keeps : (fresh : Fresh ℕ) (world : World ℕ) (task : Task ℕ) → I
 unfolding hard_link_outcome
 link_keeps fresh world task conditions standing old new =
     after_ends (λ here. is_some (node_at nat_eq world here.location) ≡ true) IsWorldOfTrees world
-    (symlink_walk nat_eq world task old) _ conditions (ends_link_walk world conditions standing task old) (λ from there.
+    (symlink_walk nat_eq world task old) _ conditions (ends_link_walk world
+    (λ k default short. (conditions.trees k default short).tree) standing task old) (λ from there.
     after_ends (IsNewPlace world task) IsWorldOfTrees world (new_leaf_walk nat_eq world task new) _ conditions
     (ends_new_leaf_walk world task new) (λ place is.
     judged_holds IsWorldOfTrees world ((is_special place.last, E1) ∷ []) _ conditions (λ plain.

@@ -16,8 +16,8 @@ use Rattle.vt_spec.specs.Machine.Walk.{Here, LastWord, Stop, entry_location, fin
 use Rattle.vt_spec.specs.Machine.Walk.LastWord.{Dot, DotDot, Named, NoWord}
 use Rattle.vt_spec.specs.Machine.World.{Filesystem, Task, World, files_at, is_directory_at, mount_at, node_at}
 use Rattle.vt_spec.proofs.Nodes.{directory_used, none_is_not}
-use Rattle.vt_tree_laws.specs.Trees.{IsFileTree}
-use Rattle.vt_tree_laws.specs.Trees.Calls.{IsStanding, IsWorldOfTrees}
+use Rattle.vt_spec.specs.TreeInvariant.{IsTree}
+use Rattle.vt_tree_laws.specs.Trees.Calls.{IsStanding}
 use Rattle.vt_tree_laws.proofs.trees.TreesOfWorlds.{numbered_all}
 use Rattle.vt_tree_laws.proofs.trees.TreesWalked.{Ends, ends_next, ends_step, ends_then, ends_unless, not_true, ok_same}
 
@@ -81,7 +81,19 @@ is_some_word word = by (bytes_eq word (codes ".")) (bytes_eq word (codes ".."))
     by false true = refl
     by false false = refl
 
-module _ (world : World ℕ) (conditions : IsWorldOfTrees world) (standing : IsStanding world) where
+-- where a directory is, there is a tree
+pub directory_in_tree : (world : World ℕ) → All (λ (f : Filesystem ℕ). IsTree f.files.tree) world.filesystems
+    → (location : Location ℕ) → is_directory_at nat_eq world location ≡ true
+    → IsTree (files_at nat_eq world location).tree
+directory_in_tree world trees location is =
+    ⊎_elim (λ tree. tree)
+    (λ missing. absurd (true≢false
+    (sym is ∙ ap (λ (f : Filesystem ℕ). is_directory_node (f.files.tree.node location.node)) missing.0)))
+    (numbered_all (λ filesystem. IsTree filesystem.files.tree)
+    (mount_at nat_eq world location).filesystem world.filesystems trees)
+
+module _ (world : World ℕ) (trees : All (λ (f : Filesystem ℕ). IsTree f.files.tree) world.filesystems)
+    (standing : IsStanding world) where
   abbrev IsThere : Location ℕ → Type 0
   IsThere location = is_some (node_at nat_eq world location) ≡ true
 
@@ -90,15 +102,6 @@ module _ (world : World ℕ) (conditions : IsWorldOfTrees world) (standing : IsS
 
   directory_there : (location : Location ℕ) → IsDirectoryThere location → IsThere location
   directory_there location is = directory_used (files_at nat_eq world location).tree location.node is
-
-  -- where a directory is, there is a tree
-  tree_there : (location : Location ℕ) → IsDirectoryThere location → IsFileTree (files_at nat_eq world location)
-  tree_there location is =
-      ⊎_elim (λ tree. tree)
-      (λ missing. absurd (true≢false
-      (sym is ∙ ap (λ (f : Filesystem ℕ). is_directory_node (f.files.tree.node location.node)) missing.0)))
-      (numbered_all (λ filesystem. IsFileTree filesystem.files)
-      (mount_at nat_eq world location).filesystem world.filesystems conditions.trees)
 
   -- mounts over a place
   child_there : (a b : Location ℕ) → option_map root_of (child_at nat_eq world.mounts a) ≡ Some b → IsDirectoryThere b
@@ -141,7 +144,7 @@ module _ (world : World ℕ) (conditions : IsWorldOfTrees world) (standing : IsS
 
     parent_there : (location : Location ℕ) → IsDirectoryThere location
         → IsDirectoryThere (parent_location nat_eq world location)
-    parent_there location is = (tree_there location is).tree.parent_directory location.node is
+    parent_there location is = (directory_in_tree world trees location is).parent_directory location.node is
 
     up_there : (location reached : Location ℕ) → IsDirectoryThere location
         → up_from nat_eq world task location ≡ Ok reached
@@ -173,7 +176,8 @@ module _ (world : World ℕ) (conditions : IsWorldOfTrees world) (standing : IsS
             → option_map (λ number. record { mount = here.mount; node = number }) o ≡ Some object → IsThere object
         by None f h = none_is_not None object refl h
         by (Some number) f h =
-            subst IsThere (ap (λ o. unwrap_or o object) h) ((tree_there here is).tree.alive here.node name number f)
+            subst IsThere (ap (λ o. unwrap_or o object) h)
+            ((directory_in_tree world trees here is).alive here.node name number f)
 
     -- one word
     step_there : (here : Location ℕ) (word : LastWord) (reached : Location ℕ) → IsDirectoryThere here
@@ -200,7 +204,8 @@ module _ (world : World ℕ) (conditions : IsWorldOfTrees world) (standing : IsS
     abbrev EndsThere : Result (Here ℕ) (Stop ℕ) → Type 0
     EndsThere walk = Ends (λ here. is_some (node_at nat_eq world here.location) ≡ true) walk
 
-    word_there : (here : Here ℕ) (word : LastWord) → EndsThere (word_walked nat_eq world task here word)
+    -- one word leads to what is there
+    pub word_there : (here : Here ℕ) (word : LastWord) → EndsThere (word_walked nat_eq world task here word)
     word_there here word =
         ends_step (λ next. is_some (node_at nat_eq world next.location) ≡ true) (steps_with nat_eq world task here word)
         (search_rules nat_eq world task here.location) (stepped nat_eq world task here.location word)

@@ -1,19 +1,46 @@
 -- What calls do to tasks keeps the limits of tasks.
-use Rattle.std.proofs.Common.{◌≡◌, ◌≢◌, refl, sym, ap, ◌∙◌, true≢false, ℕ, suc, ◌+◌, ◌<◌, ◌≤◌, ◌==◌, ◌%◌, arith, nat_le, nat_lt, eq-eqb, eqb-true, le-leb, le-ltb, leb-true, leb-false, lt-ltb, Bool, true, false, not, cond, List, [], ◌∷◌, ◌++◌, length, map, ◌&&◌, Option, Some, None}
+use Rattle.std.proofs.Common.{nat_eq, ◌≡◌, ◌≢◌, refl, sym, ap, ◌∙◌, true≢false, ℕ, suc, ◌+◌, ◌<◌, ◌≤◌, ◌==◌, ◌%◌, arith, nat_le, nat_lt, eq-eqb, eqb-true, le-leb, le-ltb, leb-true, leb-false, lt-ltb, Bool, true, false, not, cond, List, [], ◌∷◌, ◌++◌, length, map, ◌&&◌, Option, Some, None}
 use Rattle.std.proofs.Math.Nat.{mod-lt}
 use Rattle.std.proofs.lemmas.List.{length-append}
 use Rattle.std.proofs.lemmas.Bool.{and_parts}
-use Rattle.std.specs.List.{filter, list_all}
-use Rattle.vt_spec.specs.Language.Calls.{Access, ForkWords, opens_for_reading, opens_for_writing, same_name}
+use Rattle.std.specs.List.{filter, find, list_all}
+use Rattle.vt_spec.specs.Language.Calls.{Access, ForkWords, TaskName, opens_for_reading, opens_for_writing, same_name}
 use Rattle.vt_spec.specs.Machine.Mounts.{Location}
-use Rattle.vt_spec.specs.Machine.Outcome.Descriptors.{free_from, free_number, inserted, with_descriptor, without_descriptor}
+use Rattle.vt_spec.specs.Machine.Outcome.Descriptors.{free_from, free_number, inserted, with_descriptor, without_descriptor, pwritten, with_copy}
 use Rattle.vt_spec.specs.Language.Limits.{deepest_name, most_descriptors, most_forks}
 use Rattle.vt_spec.specs.Machine.Outcome.Tasks.{child_credentials, child_name, child_of, permission_bits}
-use Rattle.vt_spec.specs.Machine.World.{Descriptor, Task, replaced_if_called}
-use Rattle.vt_spec.specs.Machine.Invariants.{are_ascending_from, is_within_limits}
+use Rattle.vt_spec.specs.Machine.World.{Descriptor, Task, replaced_if_called, World, task_called}
+use Rattle.vt_spec.specs.Machine.Invariants.{are_ascending_from, is_within_limits, IsWorld, stands_on_directories}
 pub use Rattle.std.proofs.lemmas.Bool.{and_from as both}
-use Rattle.vt_spec.proofs.Lists.{all-filter}
+use Rattle.vt_spec.proofs.Found.{found_among}
+use Rattle.vt_spec.proofs.Lists.{Among, all-filter, among_from_list_all}
 use Rattle.vt_spec.proofs.Descriptors.{ascending-filter, free_above}
+use Rattle.vt_spec.specs.Language.Changes.Change.{CopyUp}
+use Rattle.vt_spec.specs.Lists.{Fresh}
+use Rattle.vt_spec.proofs.Worlds.{tasks-with_change}
+
+-- a task that is called is there
+pub called_there : (tasks : List (Task ℕ)) (name : TaskName) (task : Task ℕ)
+    → find (λ (other : Task ℕ). same_name name other.name) tasks ≡ Some task → Among task tasks
+called_there tasks name task called = found_among (λ (other : Task ℕ). same_name name other.name) tasks task called
+
+-- and stands on directories
+pub called_stands : (world : World ℕ) → IsWorld nat_eq world → (task : Task ℕ)
+    → task_called world task.name ≡ Some task → stands_on_directories nat_eq world task ≡ true
+called_stands world conditions task called =
+    among_from_list_all (stands_on_directories nat_eq world) world.tasks conditions.tasks.directories task
+    (called_there world.tasks task.name task called)
+
+-- a file that is copied up, or written, leaves the tasks as they were
+pub tasks-with_copy : (fresh : Fresh ℕ) (world : World ℕ) (copies : Bool) (file : Location ℕ)
+    → (with_copy nat_eq copies fresh world file).tasks ≡ world.tasks
+tasks-with_copy fresh world true file = tasks-with_change fresh world file (CopyUp file.node)
+tasks-with_copy fresh world false file = refl
+
+pub tasks-pwritten : (fresh : Fresh ℕ) (world : World ℕ) (file : Location ℕ) (offset : ℕ) (bytes : List ℕ)
+    → (pwritten nat_eq fresh world file offset bytes).tasks ≡ world.tasks
+tasks-pwritten fresh world file offset [] = refl
+tasks-pwritten fresh world file offset (byte ∷ bytes) = tasks-with_change fresh world file _
 
 -- the limits, one by one
 pub record IsWithin (task : Task ℕ) : Type 0 where

@@ -1,13 +1,18 @@
 -- What nothing uses goes, and what is left are trees.
-use Rattle.std.specs.Prelude.{All, List, None, false, map, nat_eq, true, ℕ, ◌≡◌}
+use Rattle.std.specs.Prelude.{All, List, None, Option, false, map, nat_eq, true, ℕ, ◌≡◌}
 use Rattle.std.specs.List.{list_any}
 use Rattle.vt_spec.specs.FileTree.{FileTree}
 use Rattle.vt_spec.specs.Lists.{is_among}
 use Rattle.vt_spec.specs.Machine.Mounts.{Location, same_location}
 use Rattle.vt_spec.specs.Machine.Settled.{is_mounted, only_among, only_used, settled, used_in, without_dead_mounts}
 use Rattle.vt_spec.specs.Machine.World.{Filesystem, World, all_locations, filesystem_numbered, node_at}
+use Rattle.vt_spec.specs.Tree.{Node}
 use Rattle.vt_spec.specs.TreeInvariant.{HasName}
 use Rattle.vt_tree_laws.specs.Trees.{IsFileTree}
+
+-- the inode of a filesystem in a world
+abbrev pub inode_in : World ℕ → ℕ → ℕ → Option (Node ℕ)
+inode_in world filesystem number = (filesystem_numbered nat_eq world filesystem).files.tree.node number
 
 -- a list that has the root of a tree, and every inode with a name
 pub record HoldsTree (used : List ℕ) (files : FileTree ℕ) : Type 0 where

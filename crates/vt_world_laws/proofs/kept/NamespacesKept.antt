@@ -31,7 +31,8 @@ use Rattle.vt_world_laws.proofs.kept.MountsKept.{can_pivot}
 use Rattle.vt_world_laws.proofs.kept.MountsKeptAttaching.{at_root_of}
 use Rattle.vt_world_laws.proofs.kept.NamespacesEnding.{entry_namespaces, exit_namespaces, unshare_namespaces}
 use Rattle.vt_world_laws.proofs.kept.NamespacesListed.{AreNamespaces, KeepsNamespaces, TasksStay, are_namespaces, attached_stay, counted_stay, from_namespaces, listed_in, namespaces_stay, same_tasks_stay, taken_stay}
-use Rattle.vt_world_laws.proofs.kept.NamespacesTasks.{called_there, forked_stays, pivoted_stay, replaced_stays}
+use Rattle.vt_world_laws.proofs.kept.NamespacesTasks.{forked_stays, pivoted_stay, replaced_stays}
+use Rattle.vt_tree_laws.proofs.trees.TreesTasks.{called_there}
 
 -- Mounts and namespaces as they were, and tasks in the namespaces in which some were
 same_mounts_stay : (before after : World ℕ) → after.namespaces ≡ before.namespaces → after.mounts ≡ before.mounts

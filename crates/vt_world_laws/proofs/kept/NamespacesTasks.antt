@@ -1,30 +1,16 @@
 -- Tasks that change, fork and end, and the namespaces that they are in.
-use Rattle.std.proofs.Common.{◌≡◌, refl, sym, ap, ◌∙◌, ⊎_elim, inl, inr, ℕ, nat_eq, Bool, true, false, cond, true≢false, List, [], ◌∷◌, ◌++◌, Some, find, is_some, if◌then◌else◌, map, subst}
+use Rattle.std.proofs.Common.{◌≡◌, refl, sym, ap, ◌∙◌, ⊎_elim, ℕ, nat_eq, Bool, true, false, cond, true≢false, List, [], ◌∷◌, ◌++◌, if◌then◌else◌, map, subst}
 use Rattle.std.specs.List.{list_any}
 use Rattle.std.specs.Cmp.Lexicographic.{bytes_decides}
 use Rattle.std.proofs.lemmas.Bool.{or_parts}
-use Rattle.std.proofs.lemmas.Option.{same_Some}
 use Rattle.vt_spec.specs.Lists.{any_pair}
 use Rattle.vt_spec.specs.Machine.Mounts.{Mount}
 use Rattle.vt_spec.specs.Machine.Namespaces.{pivoted_location, pivoted_task}
 use Rattle.vt_spec.specs.Machine.World.{Namespace, Task, World, replaced_if_called}
-use Rattle.vt_spec.specs.Language.Calls.{TaskName, same_name}
+use Rattle.vt_spec.specs.Language.Calls.{same_name}
 use Rattle.vt_spec.proofs.Lists.{Among, among-append, among-append_left, among-from_map, none_among}
 use Rattle.vt_world_laws.proofs.kept.NamespacesListed.{IsListedIn, TasksStay, mapped_tasks_stay}
 use Rattle.vt_world_laws.proofs.TasksNamed.{AreNamedApart}
-
--- a task that is called is there
-pub called_there : (tasks : List (Task ℕ)) (name : TaskName) (task : Task ℕ)
-    → find (λ (other : Task ℕ). same_name name other.name) tasks ≡ Some task → Among task tasks
-called_there [] name task e = absurd (true≢false (sym (ap is_some e)))
-called_there (first ∷ rest) name task e =
-    by (same_name name first.name) e (called_there rest name task)
-  where
-    by : (b : Bool) → cond b (Some first) (find (λ (other : Task ℕ). same_name name other.name) rest) ≡ Some task
-        → (find (λ (other : Task ℕ). same_name name other.name) rest ≡ Some task → Among task rest)
-        → Among task (first ∷ rest)
-    by true f later = inl (sym (same_Some first task f))
-    by false f later = inr (later f)
 
 -- a task is the only one of its name
 one_of_its_name : (tasks : List (Task ℕ)) → AreNamedApart tasks → (a b : Task ℕ) → Among a tasks → Among b tasks

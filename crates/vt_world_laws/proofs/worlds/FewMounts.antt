@@ -13,13 +13,10 @@ use Rattle.vt_spec.specs.Machine.Namespaces.{has_tasks, is_in_ended, namespaces_
 use Rattle.vt_spec.specs.Machine.Receives.{inheriting, lost_a_group, regrouped, regrouped_by}
 use Rattle.vt_spec.specs.Machine.World.{Filesystem, Layer, Namespace, Overlay, World, filesystem_at, mount_numbered, with_mounts}
 use Rattle.vt_spec.proofs.Lists.{Among, among-from_filter, none_among, none_from_among}
-use Rattle.vt_letting_go.specs.Ends.{is_in}
-
-abbrev pub count : List (Mount ℕ) → ℕ → ℕ
-count mounts number = length (filter (is_in number) mounts)
+use Rattle.vt_mount_laws.specs.Mounts.Ending.{count_in, is_in}
 
 abbrev pub NoMore : List (Mount ℕ) → List (Mount ℕ) → Type 0
-NoMore after before = (number : ℕ) → count after number ≤ count before number
+NoMore after before = (number : ℕ) → count_in after number ≤ count_in before number
 
 -- a mount stays in its namespace, or is in none
 abbrev pub StaysOrLeaves : (Mount ℕ → Mount ℕ) → Mount ℕ → Type 0
@@ -36,7 +33,7 @@ mapped_no_more f (first ∷ rest) h number =
         ⊎_elim (λ same. ap (holds_of (nat_eq number)) (sym same) ∙ is)
         (λ none. absurd (true≢false (sym is ∙ ap (holds_of (nat_eq number)) none))) (h first (inl refl))
 
-    by : (b c : Bool) → (b ≡ true → c ≡ true) → count (map f rest) number ≤ count rest number
+    by : (b c : Bool) → (b ≡ true → c ≡ true) → count_in (map f rest) number ≤ count_in rest number
         → length (cond b (f first ∷ filter (is_in number) (map f rest)) (filter (is_in number) (map f rest)))
         ≤ length (cond c (first ∷ filter (is_in number) rest) (filter (is_in number) rest))
     by true true imp le = omega (arith, le)
@@ -55,7 +52,7 @@ filtered_no_more test (first ∷ rest) = by (test first) (filtered_no_more test 
 
 pub none_counted : (mounts : List (Mount ℕ)) (number : ℕ) → ((mount : Mount ℕ) → Among mount mounts
     → is_in number mount ≡ false)
-    → count mounts number ≡ 0
+    → count_in mounts number ≡ 0
 none_counted [] number h = refl
 none_counted (first ∷ rest) number h =
     ap (λ b. length (cond b (first ∷ filter (is_in number) rest) (filter (is_in number) rest))) (h first (inl refl))
@@ -70,17 +67,19 @@ not_too_many a b le few = le-ltb most_mounts a (below (ltb-false most_mounts b f
 
 pub few_of : (world : World ℕ) → has_too_many nat_eq world ≡ false → (namespace : Namespace ℕ)
     → Among namespace world.namespaces
-    → nat_lt most_mounts (count world.mounts namespace.number) ≡ false
+    → nat_lt most_mounts (count_in world.mounts namespace.number) ≡ false
 few_of world few namespace m =
-    none_among (λ (n : Namespace ℕ). nat_lt most_mounts (count world.mounts n.number)) world.namespaces few namespace m
+    none_among (λ (n : Namespace ℕ). nat_lt most_mounts (count_in world.mounts n.number)) world.namespaces few
+    namespace m
 
 pub few_after : (world after : World ℕ) → NoMore after.mounts world.mounts
     → ((namespace : Namespace ℕ) → Among namespace after.namespaces → Among namespace world.namespaces)
     → has_too_many nat_eq world ≡ false → has_too_many nat_eq after ≡ false
 few_after world after no_more within few =
-    none_from_among (λ (n : Namespace ℕ). nat_lt most_mounts (count after.mounts n.number)) after.namespaces
+    none_from_among (λ (n : Namespace ℕ). nat_lt most_mounts (count_in after.mounts n.number)) after.namespaces
     (λ namespace m.
-    not_too_many (count after.mounts namespace.number) (count world.mounts namespace.number) (no_more namespace.number)
+    not_too_many (count_in after.mounts namespace.number) (count_in world.mounts namespace.number)
+    (no_more namespace.number)
     (few_of world few namespace (within namespace m)))
 
 -- a world with the same namespaces, none of which has more mounts
@@ -99,8 +98,9 @@ pub shrinks_then : (a b c : World ℕ) → Shrinks c b → Shrinks b a → Shrin
 shrinks_then a b c later first =
     (λ number. below number (later.0 number) (first.0 number), later.1 ∙ first.1)
   where
-    below : (number : ℕ) → count c.mounts number ≤ count b.mounts number → count b.mounts number ≤ count a.mounts number
-        → count c.mounts number ≤ count a.mounts number
+    below : (number : ℕ) → count_in c.mounts number ≤ count_in b.mounts number → count_in b.mounts number
+        ≤ count_in a.mounts number
+        → count_in c.mounts number ≤ count_in a.mounts number
     below number x y = omega (arith, x, y)
 
 -- A change of a filesystem

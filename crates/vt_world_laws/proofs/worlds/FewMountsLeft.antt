@@ -23,11 +23,12 @@ use Rattle.vt_spec.specs.Machine.World.{Namespace, Task, World, mount_at, mount_
 use Rattle.vt_spec.specs.Machine.Invariants.{IsWorld, is_listed}
 use Rattle.vt_spec.proofs.Lists.{Among, among-append, among-append_right, among-from_map, among_from_list_all, among_numbers, is_among_numbers, none_from_among}
 use Rattle.vt_mount_laws.proofs.mounts.MountsReplaced.{found_itself}
-use Rattle.vt_world_laws.proofs.worlds.FewMounts.{Shrinks, StaysOrLeaves, change_shrinks, count, ended_few, few_of, filtered_no_more, lazily_shrinks, mapped_no_more, none_counted, not_too_many, regrouped_shrinks, shrinks_few, shrinks_itself, shrinks_then, taken_shrinks}
-use Rattle.vt_world_laws.proofs.worlds.FitPermits.{attaches}
-use Rattle.vt_world_laws.proofs.worlds.ReachedWalks.{task_among}
+use Rattle.vt_world_laws.proofs.worlds.FewMounts.{Shrinks, StaysOrLeaves, change_shrinks, ended_few, few_of, filtered_no_more, lazily_shrinks, mapped_no_more, none_counted, not_too_many, regrouped_shrinks, shrinks_few, shrinks_itself, shrinks_then, taken_shrinks}
 use Rattle.vt_spec.proofs.Worlds.{number-mount_in}
 use Rattle.vt_letting_go.specs.Ends.{is_in}
+use Rattle.vt_tree_laws.proofs.trees.TreesTasks.{called_there}
+use Rattle.vt_laws.proofs.same.SameMany.{attaches}
+use Rattle.vt_mount_laws.specs.Mounts.Ending.{count_in}
 
 and_first : (a : Bool) → (a && true) ≡ true → a ≡ true
 and_first true e = refl
@@ -145,7 +146,8 @@ module _ (fresh : Fresh ℕ) (world : World ℕ) (whole : IsWorld nat_eq world) 
               ∙ serves.unused (2 * 0)))
           test false f = f
 
-  counts : (number : ℕ) → count (world.mounts ++ copies) number ≡ count world.mounts number + count copies number
+  counts : (number : ℕ) → count_in (world.mounts ++ copies) number
+      ≡ count_in world.mounts number + count_in copies number
   counts number =
       ap length (filter-append (is_in number) world.mounts copies)
       ∙ length-append (filter (is_in number) world.mounts) (filter (is_in number) copies)
@@ -162,44 +164,46 @@ module _ (fresh : Fresh ℕ) (world : World ℕ) (whole : IsWorld nat_eq world) 
       (among_numbers (map (λ (n : Namespace ℕ). n.number) world.namespaces) task.namespace
       (among_from_list_all (λ (t : Task ℕ). is_listed nat_eq world t.namespace) world.tasks
       whole.namespaces.tasks_listed task
-      (task_among world whole task called))) in
-      ap (λ n. nat_lt most_mounts (count world.mounts n)) from.2
+      (called_there world.tasks task.name task called))) in
+      ap (λ n. nat_lt most_mounts (count_in world.mounts n)) from.2
       ∙ few_of world whole.namespaces.few_mounts from.0 from.1
 
-  in_new : (number : ℕ) → nat_eq number new ≡ true → nat_lt most_mounts (count (world.mounts ++ copies) number) ≡ false
+  in_new : (number : ℕ) → nat_eq number new ≡ true → nat_lt most_mounts (count_in (world.mounts ++ copies) number)
+      ≡ false
   in_new number e =
-      not_too_many (count (world.mounts ++ copies) number) (length own)
+      not_too_many (count_in (world.mounts ++ copies) number) (length own)
       (bound (counts number)
-      (ap (count world.mounts) (eqb-true number new e) ∙ none_counted world.mounts new none_in)
+      (ap (count_in world.mounts) (eqb-true number new e) ∙ none_counted world.mounts new none_in)
       (filtered_no_more (is_in number) copies)
       (length-map own (copied_mount (numbers_by nat_eq (odds fresh) own) new))) few_own
     where
-      bound : count (world.mounts ++ copies) number ≡ count world.mounts number + count copies number
-          → count world.mounts number ≡ 0 → count copies number ≤ length copies → length copies ≡ length own
-          → count (world.mounts ++ copies) number ≤ length own
+      bound : count_in (world.mounts ++ copies) number ≡ count_in world.mounts number + count_in copies number
+          → count_in world.mounts number ≡ 0 → count_in copies number ≤ length copies → length copies ≡ length own
+          → count_in (world.mounts ++ copies) number ≤ length own
       bound a b c d = omega (arith, a, b, c, d)
 
-  in_old : (number : ℕ) → nat_eq number new ≡ false → count (world.mounts ++ copies) number ≤ count world.mounts number
+  in_old : (number : ℕ) → nat_eq number new ≡ false → count_in (world.mounts ++ copies) number
+      ≤ count_in world.mounts number
   in_old number other =
       bound (counts number) (none_counted copies number (copy_is_new number other))
     where
-      bound : count (world.mounts ++ copies) number ≡ count world.mounts number + count copies number
-          → count copies number ≡ 0 → count (world.mounts ++ copies) number ≤ count world.mounts number
+      bound : count_in (world.mounts ++ copies) number ≡ count_in world.mounts number + count_in copies number
+          → count_in copies number ≡ 0 → count_in (world.mounts ++ copies) number ≤ count_in world.mounts number
       bound a b = omega (arith, a, b)
 
   unshared_few : has_too_many nat_eq (unshared nat_eq world fresh task) ≡ false
   unshared_few =
-      none_from_among (λ (n : Namespace ℕ). nat_lt most_mounts (count (world.mounts ++ copies) n.number))
+      none_from_among (λ (n : Namespace ℕ). nat_lt most_mounts (count_in (world.mounts ++ copies) n.number))
       (world.namespaces ++ (record { number = new; change = 0 } ∷ [])) (λ namespace m.
       by namespace (nat_eq namespace.number new) refl
       (among-append world.namespaces (record { number = new; change = 0 } ∷ []) namespace m))
     where
       by : (namespace : Namespace ℕ) (b : Bool) → nat_eq namespace.number new ≡ b
           → Among namespace world.namespaces ⊎ Among namespace (record { number = new; change = 0 } ∷ [])
-          → nat_lt most_mounts (count (world.mounts ++ copies) namespace.number) ≡ false
+          → nat_lt most_mounts (count_in (world.mounts ++ copies) namespace.number) ≡ false
       by namespace true e m = in_new namespace.number e
       by namespace false e (inl m) =
-          not_too_many (count (world.mounts ++ copies) namespace.number) (count world.mounts namespace.number)
+          not_too_many (count_in (world.mounts ++ copies) namespace.number) (count_in world.mounts namespace.number)
           (in_old namespace.number e) (few_of world whole.namespaces.few_mounts namespace m)
       by namespace false e (inr m) =
           ⊎_elim (λ same. absurd (true≢false (sym (eq-eqb namespace.number new

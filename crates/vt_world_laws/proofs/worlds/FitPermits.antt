@@ -9,20 +9,12 @@ use Rattle.vt_spec.specs.Machine.Attach.{has_too_many}
 use Rattle.vt_spec.specs.Machine.Judge.{Judgement}
 use Rattle.vt_spec.specs.Lists.{Fresh, holds_of}
 use Rattle.vt_spec.specs.Machine.Permits.{Permit}
-use Rattle.vt_spec.specs.Machine.Permits.Permit.{ToBind, ToMountOverlay, ToMountPlain, ToMove}
 use Rattle.vt_spec.specs.Machine.Walk.{Stop, walk_end}
 use Rattle.vt_spec.specs.Machine.World.{Task, World}
 use Rattle.vt_tree_laws.proofs.trees.TreesWalked.{Ends, Passed}
 use Rattle.vt_world_laws.specs.Worlds.Permits.{NamesWhatIsThere}
 use Rattle.std.proofs.Math.Bool.{or-false}
-
--- the permits that attach mounts: those for which M9 is judged, and which raise no filesystem's change number
-abbrev pub attaches : Permit ℕ → Bool
-attaches (ToMountPlain place flags) = true
-attaches (ToMountOverlay place overlay flags) = true
-attaches (ToBind source place recursive) = true
-attaches (ToMove mount place) = true
-attaches permit = false
+use Rattle.vt_laws.proofs.same.SameMany.{attaches}
 
 module _ (fresh : Fresh ℕ) (world : World ℕ) (task : Task ℕ) where
   -- what is named is there, and what is attached leaves no namespace with too many mounts

@@ -16,10 +16,11 @@ use Rattle.vt_tree_laws.specs.Trees.Calls.{mounts_overlay}
 use Rattle.vt_world_laws.specs.Worlds.Calls.{AllPermitsFit, PermitsFit}
 use Rattle.vt_world_laws.specs.Worlds.Permits.{IsFitPermit}
 use Rattle.vt_world_laws.proofs.worlds.FewMountsLeft.{few_left}
-use Rattle.vt_world_laws.proofs.worlds.FitPermits.{Fits, Permits, attaches, permitted}
+use Rattle.vt_world_laws.proofs.worlds.FitPermits.{Fits, Permits, permitted}
 use Rattle.vt_world_laws.proofs.worlds.FitPermitsOfMounts.{bind_fits, lazy_fits, mount_plain_fits, move_fits, pivot_fits, remount_fits, type_fits, umount_fits}
 use Rattle.vt_world_laws.proofs.worlds.FitPermitsOfNames.{chmod_fits, chown_fits, exec_fits, link_fits, list_fits, lstat_fits, mkdir_fits, opaque_fits, read_fits, readlink_fits, rename_fits, rmdir_fits, stat_fits, symlink_fits, unlink_fits, whiteout_fits, write_fits}
 use Rattle.vt_world_laws.proofs.worlds.FitPermitsOfTasks.{chdir_fits, chroot_fits, close_fits, fork_fits, open_fits, pread_fits, pwrite_fits, setns_fits, unshare_fits}
+use Rattle.vt_laws.proofs.same.SameMany.{attaches}
 
 module _ (fresh : Fresh ℕ) (world : World ℕ) (whole : IsWorld nat_eq world) (task : Task ℕ)
     (called : task_called world task.name ≡ Some task) where

@@ -6,7 +6,7 @@ use Rattle.vt_spec.specs.declared.attributes.Kind.TheVariants.{File}
 use Rattle.vt_spec.specs.declared.errors.Deny.{Deny}
 use Rattle.vt_spec.specs.declared.errors.Rule.TheVariants.{K1, S2, S4}
 use Rattle.vt_spec.specs.Errors.{denial}
-use Rattle.vt_spec.specs.Language.Calls.{Access, Creation, ForkWords, TaskName, same_name}
+use Rattle.vt_spec.specs.Language.Calls.{Access, Creation, ForkWords, TaskName}
 use Rattle.vt_spec.specs.Language.Calls.Creation.{Exclusive, NoCreation, OrCreate}
 use Rattle.vt_spec.specs.FileTree.{is_kind_in}
 use Rattle.vt_spec.specs.Machine.Judge.{Judgement, chdir_permit, chroot_permit, close_permit, create_file_permit, fork_permit, open_by_permit, open_file_permit, open_new_permit, open_permit, opened_or_created_permit, pread_permit, pwrite_permit, setns_permit, unnumbered, unshare_permit}
@@ -35,9 +35,10 @@ use Rattle.vt_world_laws.proofs.worlds.FitPermits.{Permits, permits_then, permit
 use Rattle.vt_world_laws.proofs.worlds.FitPermitsOfNames.{end_is_file, parent_directory}
 use Rattle.vt_world_laws.proofs.worlds.Reached.{directory_found, is_reached, is_reached_directory}
 use Rattle.vt_world_laws.proofs.worlds.ReachedPlaces.{IsEndPlace, IsFoundPlace, IsPlaceIn, file_walk_end, new_walk_found}
-use Rattle.vt_world_laws.proofs.worlds.ReachedWalks.{End, FoundDirectory, directory_walk_end, object_end, task_among}
+use Rattle.vt_world_laws.proofs.worlds.ReachedWalks.{End, FoundDirectory, directory_walk_end, object_end}
 use Rattle.vt_spec.proofs.Found.{found_among}
 use Rattle.vt_spec.proofs.Truths.{or_false_left}
+use Rattle.vt_tree_laws.proofs.trees.TreesTasks.{called_there}
 
 -- a step that succeeds where something is there
 pub ok_or_some : {A : Type 0} (o : Option A) (deny : Deny) (a : A) → ok_or o deny ≡ Ok a → o ≡ Some a
@@ -149,7 +150,7 @@ module _ (fresh : Fresh ℕ) (world : World ℕ) (whole : IsWorld nat_eq world) 
       permitted fresh world task (ToWritePart descriptor.location offset bytes) refl
       (among_from_list_all (λ (d : Descriptor ℕ). is_kind_in File (node_at nat_eq world d.location)) task.descriptors
       (among_from_list_all (has_regular_files_open nat_eq world) world.tasks whole.tasks.open_files task
-      (task_among world whole task called))
+      (called_there world.tasks task.name task called))
       descriptor (descriptor_among number (λ d. d.writes) descriptor e))))
 
   pub close_fits : (number : ℕ) → Fit (close_permit task number)
@@ -210,4 +211,4 @@ module _ (fresh : Fresh ℕ) (world : World ℕ) (whole : IsWorld nat_eq world) 
           ap (is_listed nat_eq world) (sym (same_Some target.namespace namespace e))
           ∙ among_from_list_all (λ (t : Task ℕ). is_listed nat_eq world t.namespace) world.tasks
           whole.namespaces.tasks_listed target
-          (found_among (λ (t : Task ℕ). same_name name t.name) world.tasks target f)
+          (called_there world.tasks name target f)

@@ -1,21 +1,18 @@
 -- A permit that fits keeps the names of tasks apart, where tasks have counted their forks; and they go on counting
 -- them.
-use Rattle.std.proofs.Common.{◌≡◌, refl, ap, ◌∙◌, ℕ, nat_eq, Bool, true, false, List, [], ◌∷◌, map}
+use Rattle.std.proofs.Common.{refl, ap, ◌∙◌, ℕ, nat_eq, map}
 use Rattle.std.specs.Prelude.{unwrap_or}
 use Rattle.vt_spec.specs.Machine.Apply.{apply}
-use Rattle.vt_spec.specs.Language.Changes.Change.{CopyUp, Make, Move, Remove}
-use Rattle.vt_spec.specs.Language.Changes.{Change}
+use Rattle.vt_spec.specs.Language.Changes.Change.{Make, Move, Remove}
 use Rattle.vt_spec.specs.Machine.Detach.{going, without_mounts_on}
-use Rattle.vt_spec.specs.Machine.Filesystems.{with_change}
 use Rattle.vt_spec.specs.Lists.{Fresh, evens, odds}
 use Rattle.vt_spec.specs.Machine.Mounts.{Location, numbers_by}
 use Rattle.vt_spec.specs.Machine.Namespaces.{entered_at, namespace_entered, namespace_root, unshared, unshared_task}
-use Rattle.vt_spec.specs.Machine.Outcome.Descriptors.{is_copied_up, pwritten, with_copy, with_descriptor, without_descriptor}
+use Rattle.vt_spec.specs.Machine.Outcome.Descriptors.{is_copied_up, with_descriptor, without_descriptor}
 use Rattle.vt_spec.specs.Machine.Outcome.Removing.{without_replaced}
 use Rattle.vt_spec.specs.Machine.Permits.{Permit}
 use Rattle.vt_spec.specs.Machine.Permits.Permit.{Allowed, ToBind, ToChange, ToClose, ToEnterNamespace, ToExit, ToFork, ToList, ToListMounts, ToMake, ToMountOverlay, ToMountPlain, ToMove, ToOpen, ToOpenNew, ToPivot, ToRead, ToReadPart, ToRemoveDirectory, ToRename, ToSetCredentials, ToSetDirectory, ToSetFlags, ToSetRoot, ToSetType, ToSetUmask, ToStat, ToUnmount, ToUnmountLazily, ToUnshare, ToWritePart}
 use Rattle.vt_spec.specs.Machine.World.{Task, World, mount_at, mount_numbered, mounts_of, replaced_if_called, without_task}
-use Rattle.vt_spec.specs.Language.Calls.{same_name}
 use Rattle.vt_spec.specs.Machine.Invariants.{ForksAreCounted, TaskInvariants}
 use Rattle.vt_mount_laws.proofs.mounts.MountsRetyped.{types_are_of_mounts}
 use Rattle.vt_mount_laws.proofs.ends.UnmountingEnds.{lazy_is_of_mounts}
@@ -26,9 +23,9 @@ use Rattle.vt_world_laws.proofs.worlds.PermitsPlaced.{permits_keep_directories, 
 use Rattle.vt_world_laws.proofs.worlds.PermitsSeen.{gone_on}
 use Rattle.vt_world_laws.proofs.TasksNamed.{GoOn, counted_among, counted_from, go_on_apart, go_on_counted}
 use Rattle.vt_world_laws.proofs.TasksNamed.GoOn.{all_moved, one_changed, one_left, one_more, same_ones}
-use Rattle.vt_spec.proofs.Found.{found_among}
 use Rattle.vt_spec.proofs.Worlds.{tasks-taken_away, tasks-with_change, tasks-without_replaced}
 use Rattle.vt_tree_laws.specs.Trees.Limits.{HasSmallTasks}
+use Rattle.vt_tree_laws.proofs.trees.TreesTasks.{called_there, tasks-with_copy, tasks-pwritten}
 
 module _ (world : World ℕ) (fresh : Fresh ℕ) (task : Task ℕ) where
   abbrev after : Permit ℕ → World ℕ
@@ -37,20 +34,6 @@ module _ (world : World ℕ) (fresh : Fresh ℕ) (task : Task ℕ) where
   abbrev Goes : Permit ℕ → Type 0
   Goes permit = GoOn task world.tasks (after permit).tasks
 
-  changed_alike : (location : Location ℕ) (change : Change ℕ)
-      → (with_change nat_eq fresh world location change).tasks ≡ world.tasks
-  changed_alike location change = tasks-with_change fresh world location change
-
-  copied_alike : (b : Bool) (file : Location ℕ)
-      → (with_copy nat_eq b fresh world file).tasks ≡ world.tasks
-  copied_alike true file = changed_alike file (CopyUp file.node)
-  copied_alike false file = refl
-
-  written_alike : (file : Location ℕ) (offset : ℕ) (bytes : List ℕ)
-      → (pwritten nat_eq fresh world file offset bytes).tasks ≡ world.tasks
-  written_alike file offset [] = refl
-  written_alike file offset (byte ∷ bytes) = changed_alike file _
-
   pub tasks_go_on : (permit : Permit ℕ) → NamesWhatIsThere world task permit → Goes permit
   tasks_go_on Allowed fits = same_ones world.tasks refl
   tasks_go_on (ToList directory) fits = same_ones world.tasks refl
@@ -58,7 +41,7 @@ module _ (world : World ℕ) (fresh : Fresh ℕ) (task : Task ℕ) where
   tasks_go_on (ToRead file) fits = same_ones world.tasks refl
   tasks_go_on (ToReadPart file offset size) fits = same_ones world.tasks refl
   tasks_go_on (ToChange location change) fits = same_ones (after (ToChange location change)).tasks
-      (changed_alike location change)
+      (tasks-with_change fresh world location change)
   tasks_go_on (ToMake directory name node) fits =
       same_ones (after (ToMake directory name node)).tasks
       (tasks-with_change (odds fresh) world directory
@@ -76,7 +59,7 @@ module _ (world : World ℕ) (fresh : Fresh ℕ) (task : Task ℕ) where
   tasks_go_on (ToOpen file access) fits =
       one_changed (with_descriptor task file access) (after (ToOpen file access)).tasks refl refl
       (ap (map (replaced_if_called (with_descriptor task file access)))
-      (copied_alike (is_copied_up nat_eq world file access) file))
+      (tasks-with_copy fresh world (is_copied_up nat_eq world file access) file))
   tasks_go_on (ToOpenNew directory name node access) fits =
       let file : Location ℕ = record { mount = directory.mount; node = evens fresh 0 } in
       one_changed (with_descriptor task file access) (after (ToOpenNew directory name node access)).tasks refl refl
@@ -84,7 +67,7 @@ module _ (world : World ℕ) (fresh : Fresh ℕ) (task : Task ℕ) where
       (tasks-with_change (odds fresh) world directory
       (Make directory.node name (evens fresh 0) node)))
   tasks_go_on (ToWritePart file offset bytes) fits =
-      same_ones (after (ToWritePart file offset bytes)).tasks (written_alike file offset bytes)
+      same_ones (after (ToWritePart file offset bytes)).tasks (tasks-pwritten fresh world file offset bytes)
   tasks_go_on (ToClose descriptor) fits = one_changed (without_descriptor task descriptor)
       (after (ToClose descriptor)).tasks refl refl refl
   tasks_go_on (ToSetDirectory directory) fits =
@@ -128,7 +111,7 @@ module _ (world : World ℕ) (fresh : Fresh ℕ) (task : Task ℕ) where
 pub all_permits_keep_names : KeptByAllPermits OneTaskAName
 all_permits_keep_names world fresh task permit is serves called fits =
     go_on_apart task world.tasks
-    (found_among (λ (other : Task ℕ). same_name task.name other.name) world.tasks task called)
+    (called_there world.tasks task.name task called)
     is.tasks.one_task (counted_among world is.tasks.forks_counted) (after world fresh task permit).tasks
     (tasks_go_on world fresh task permit fits.names)
 
@@ -140,7 +123,7 @@ pub all_permits_keep_counting_forks : KeptByAllPermits ForksAreCounted
 all_permits_keep_counting_forks world fresh task permit is serves called fits =
     counted_from (after world fresh task permit)
     (go_on_counted task world.tasks
-    (found_among (λ (other : Task ℕ). same_name task.name other.name) world.tasks task called)
+    (called_there world.tasks task.name task called)
     is.tasks.one_task (counted_among world is.tasks.forks_counted) (after world fresh task permit).tasks
     (tasks_go_on world fresh task permit fits.names))
 

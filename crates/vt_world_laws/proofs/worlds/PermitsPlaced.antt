@@ -1,19 +1,17 @@
 -- A permit that fits leaves each task on directories that are there, with regular files open.
-use Rattle.std.proofs.Common.{◌≡◌, refl, sym, ap, subst, ◌∙◌, ⊎_elim, ℕ, nat_eq, Bool, true, false, not, List, [], ◌∷◌, Some, is_some, map}
+use Rattle.std.proofs.Common.{◌≡◌, refl, sym, ap, subst, ◌∙◌, ⊎_elim, ℕ, nat_eq, true, false, not, List, [], ◌∷◌, Some, is_some, map}
 use Rattle.std.specs.Prelude.{unwrap_or, ◌==◌, ◌+◌}
 use Rattle.std.proofs.lemmas.Bool.{and_from, and_parts}
 use Rattle.vt_spec.specs.declared.attributes.Kind.TheVariants.{File}
 use Rattle.vt_spec.specs.Machine.Apply.{apply}
 use Rattle.vt_spec.specs.Language.Calls.{Access, same_name}
-use Rattle.vt_spec.specs.Language.Changes.{Change}
-use Rattle.vt_spec.specs.Language.Changes.Change.{CopyUp, Make, Move, Remove}
+use Rattle.vt_spec.specs.Language.Changes.Change.{Make, Move, Remove}
 use Rattle.vt_spec.specs.Machine.Detach.{going, without_mounts_on}
-use Rattle.vt_spec.specs.Machine.Filesystems.{with_change}
 use Rattle.vt_spec.specs.FileTree.{is_kind}
 use Rattle.vt_spec.specs.Lists.{Fresh, evens, holds_of, odds}
 use Rattle.vt_spec.specs.Machine.Mounts.{Location, numbers_by}
 use Rattle.vt_spec.specs.Machine.Namespaces.{entered_at, namespace_entered, namespace_root, namespaces_ended, pivoted_task, unshared, unshared_task}
-use Rattle.vt_spec.specs.Machine.Outcome.Descriptors.{is_copied_up, pwritten, with_copy, with_descriptor, without_descriptor}
+use Rattle.vt_spec.specs.Machine.Outcome.Descriptors.{is_copied_up, with_descriptor, without_descriptor}
 use Rattle.vt_spec.specs.Machine.Outcome.Removing.{without_replaced}
 use Rattle.vt_spec.specs.Machine.Outcome.Tasks.{child_of}
 use Rattle.vt_spec.specs.Machine.Permits.{Permit}
@@ -22,7 +20,7 @@ use Rattle.vt_spec.specs.Machine.Run.{Serves}
 use Rattle.vt_spec.specs.Machine.World.{Descriptor, Task, World, filesystem_at, mount_at, mount_numbered, mounts_of, node_at, replaced_if_called, task_called, without_task}
 use Rattle.vt_spec.specs.Machine.Invariants.{IsWorld}
 use Rattle.vt_spec.specs.Tree.{Node, kind_of}
-use Rattle.vt_spec.proofs.Lists.{Among, among-append, among-from_filter, among-from_map}
+use Rattle.vt_spec.proofs.Lists.{among-append, among-from_filter, among-from_map}
 use Rattle.vt_mount_laws.specs.Mounts.Attaching.{is_mount}
 use Rattle.vt_mount_laws.proofs.mounts.MountsRetyped.{types_are_of_mounts}
 use Rattle.vt_mount_laws.proofs.ends.UnmountingEnds.{lazy_is_of_mounts}
@@ -38,8 +36,8 @@ use Rattle.vt_world_laws.proofs.worlds.Roots.{namespace_root_stands, own_there, 
 use Rattle.vt_world_laws.proofs.worlds.Seen.{KeepsWhatIsSeen, kind_is, kind_seen, seen_alike, there_is}
 use Rattle.vt_world_laws.proofs.Plain.{plain_numbered}
 use Rattle.vt_world_laws.proofs.worlds.SeenMerges.{new_inode_seen}
-use Rattle.vt_spec.proofs.Found.{found_among}
 use Rattle.vt_spec.proofs.Worlds.{tasks-taken_away, tasks-with_change, tasks-without_replaced}
+use Rattle.vt_tree_laws.proofs.trees.TreesTasks.{called_there, tasks-with_copy, tasks-pwritten}
 
 -- where a walk led
 pub reached_stands : (world : World ℕ) (task : Task ℕ) (location : Location ℕ) → IsReachedDirectory world task location
@@ -78,11 +76,8 @@ module _ (world : World ℕ) (fresh : Fresh ℕ) (task : Task ℕ) (is : IsWorld
   all_placed : ArePlaced world world.tasks
   all_placed = all_are_placed world is.tasks.locations_live is.tasks.directories is.tasks.open_files
 
-  pub task_there : Among task world.tasks
-  task_there = found_among (λ (other : Task ℕ). same_name task.name other.name) world.tasks task called
-
   placed : IsPlaced world task
-  placed = all_placed task task_there
+  placed = all_placed task (called_there world.tasks task.name task called)
 
   abbrev Fits : Permit ℕ → Type 0
   Fits permit = NamesWhatIsThere world task permit
@@ -117,20 +112,6 @@ module _ (world : World ℕ) (fresh : Fresh ℕ) (task : Task ℕ) (is : IsWorld
       (tasks-taken_away middle _)
       (all_placed_after middle (namespaces_ended nat_eq middle) (namespaces_ended_seen middle) middle.tasks at)
 
-  one_change_keeps_tasks : (location : Location ℕ) (change : Change ℕ)
-      → (with_change nat_eq fresh world location change).tasks ≡ world.tasks
-  one_change_keeps_tasks location change = tasks-with_change fresh world location change
-
-  copy_keeps_tasks : (b : Bool) (file : Location ℕ)
-      → (with_copy nat_eq b fresh world file).tasks ≡ world.tasks
-  copy_keeps_tasks true file = one_change_keeps_tasks file (CopyUp file.node)
-  copy_keeps_tasks false file = refl
-
-  writing_keeps_tasks : (file : Location ℕ) (offset : ℕ) (bytes : List ℕ)
-      → (pwritten nat_eq fresh world file offset bytes).tasks ≡ world.tasks
-  writing_keeps_tasks file offset [] = refl
-  writing_keeps_tasks file offset (byte ∷ bytes) = one_change_keeps_tasks file _
-
   -- a new file is open
   new_file_opens : (directory : Location ℕ) (name : List ℕ) (node : Node ℕ) (access : Access)
       → Fits (ToOpenNew directory name node access) → HasLayerToWrite world (ToOpenNew directory name node access)
@@ -159,7 +140,7 @@ module _ (world : World ℕ) (fresh : Fresh ℕ) (task : Task ℕ) (is : IsWorld
   permits_keep_tasks_placed (ToRead file) fits writes = all_placed
   permits_keep_tasks_placed (ToReadPart file offset size) fits writes = all_placed
   permits_keep_tasks_placed (ToChange location change) fits writes =
-      unchanged (ToChange location change) fits (one_change_keeps_tasks location change)
+      unchanged (ToChange location change) fits (tasks-with_change fresh world location change)
   permits_keep_tasks_placed (ToMake directory name node) fits writes =
       unchanged (ToMake directory name node) fits
       (tasks-with_change (odds fresh) world directory
@@ -178,7 +159,7 @@ module _ (world : World ℕ) (fresh : Fresh ℕ) (task : Task ℕ) (is : IsWorld
       let permit = ToOpen file access in
       changed_task permit fits (with_descriptor task file access)
       (ap (map (replaced_if_called (with_descriptor task file access)))
-      (copy_keeps_tasks (is_copied_up nat_eq world file access) file))
+      (tasks-with_copy fresh world (is_copied_up nat_eq world file access) file))
       (opened_placed (after permit) task file access (placed_still permit fits)
       (opens_after world (after permit) (seen permit fits) file
       (record { located = fits.reached.there; regular = fits.regular })))
@@ -192,7 +173,7 @@ module _ (world : World ℕ) (fresh : Fresh ℕ) (task : Task ℕ) (is : IsWorld
       (opened_placed (after permit) task file access (placed_still permit fits)
       (new_file_opens directory name node access fits writes))
   permits_keep_tasks_placed (ToWritePart file offset bytes) fits writes =
-      unchanged (ToWritePart file offset bytes) fits (writing_keeps_tasks file offset bytes)
+      unchanged (ToWritePart file offset bytes) fits (tasks-pwritten fresh world file offset bytes)
   permits_keep_tasks_placed (ToClose descriptor) fits writes =
       let permit = ToClose descriptor in
       let still = placed_still permit fits in

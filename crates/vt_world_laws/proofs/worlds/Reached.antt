@@ -10,13 +10,12 @@ use Rattle.vt_spec.specs.declared.errors.Rule.TheVariants.{W6, W8}
 use Rattle.vt_spec.specs.Errors.{denial, unless}
 use Rattle.vt_spec.specs.Tree.{Content, Node, entries_in, entry_named, is_directory_node}
 use Rattle.vt_spec.specs.Tree.Content.{Directory, Regular, Symlink, Whiteout}
-use Rattle.vt_spec.specs.TreeInvariant.{IsTree}
 use Rattle.vt_spec.specs.FileTree.{is_kind_in, symlink_text}
 use Rattle.vt_spec.specs.Lists.{is_among, last_or}
 use Rattle.vt_spec.specs.Machine.Mounts.{Location, Mount, child_at, root_of, same_location, stands_at, topmost}
 use Rattle.vt_spec.specs.Machine.Walk.{LastWord, entry_location, hop, hops, is_lost, is_top, parent_location, stepped, up_from}
 use Rattle.vt_spec.specs.Machine.Walk.LastWord.{Dot, DotDot, Named, NoWord}
-use Rattle.vt_spec.specs.Machine.World.{Filesystem, Task, World, files_at, is_directory_at, mount_at, mount_numbered, node_at}
+use Rattle.vt_spec.specs.Machine.World.{Task, World, files_at, is_directory_at, mount_at, mount_numbered, node_at}
 use Rattle.vt_spec.specs.Machine.Invariants.{IsWorld, Stands, is_nowhere_or_attached, is_private}
 use Rattle.vt_spec.specs.Machine.Invariants.Stands.{at_root, on_parent}
 use Rattle.vt_spec.proofs.Lists.{Among, among_from_all, among_from_list_all}
@@ -26,9 +25,8 @@ use Rattle.vt_mount_laws.proofs.mounts.MountsFound.{found_in, placed_among}
 use Rattle.vt_mount_laws.proofs.mounts.MountsNumbered.{is_one_of}
 use Rattle.vt_mount_laws.proofs.mounts.MountsPlaces.{stands_there}
 use Rattle.vt_mount_laws.proofs.mounts.MountsReplaced.{found_itself}
-use Rattle.vt_tree_laws.proofs.trees.TreesEntered.{chain_ends}
+use Rattle.vt_tree_laws.proofs.trees.TreesEntered.{chain_ends, directory_in_tree}
 use Rattle.vt_tree_laws.proofs.trees.TreesOfMounts.{worlds_are_standing}
-use Rattle.vt_tree_laws.proofs.trees.TreesOfWorlds.{numbered_all}
 use Rattle.vt_tree_laws.proofs.trees.TreesWalked.{ok_same}
 use Rattle.vt_world_laws.specs.Worlds.Permits.{IsReached, IsReachedDirectory}
 use Rattle.vt_spec.proofs.Worlds.{number-mount_in, found_or_none}
@@ -110,15 +108,6 @@ module _ (world : World ℕ) (whole : IsWorld nat_eq world) (task : Task ℕ) wh
   pub is_reached_directory : (location : Location ℕ) → IsFound location → IsDirectory location
       → IsReachedDirectory world task location
   is_reached_directory location is directory = record { reached = is_reached location is; directory = directory }
-
-  -- where a directory is, there is a tree
-  tree_there : (location : Location ℕ) → IsDirectory location → IsTree (files_at nat_eq world location).tree
-  tree_there location is =
-      ⊎_elim (λ tree. tree)
-      (λ missing. absurd (true≢false (sym is ∙ ap (λ (f : Filesystem ℕ). is_directory_node
-      (f.files.tree.node location.node)) missing.0)))
-      (numbered_all (λ filesystem. IsTree filesystem.files.tree) (mount_at nat_eq world location).filesystem
-      world.filesystems whole.files.trees)
 
   -- a mount over a place
   child_found : (a b : Location ℕ) → IsOn a.mount → option_map root_of (child_at nat_eq world.mounts a) ≡ Some b
@@ -208,7 +197,8 @@ module _ (world : World ℕ) (whole : IsWorld nat_eq world) (task : Task ℕ) wh
 
   parent_found : (location : Location ℕ) → IsFoundDirectory location
       → IsFoundDirectory (parent_location nat_eq world location)
-  parent_found location is = (is.0, (tree_there location is.1).parent_directory location.node is.1)
+  parent_found location is =
+      (is.0, (directory_in_tree world whole.files.trees location is.1).parent_directory location.node is.1)
 
   no_denial : (deny : Deny) (a : Location ℕ) → Err deny ≡ Ok a → ⊥
   no_denial deny a e = true≢false (sym (ap is_answer e))
@@ -241,7 +231,11 @@ module _ (world : World ℕ) (whole : IsWorld nat_eq world) (task : Task ℕ) wh
           → option_map (λ number. record { mount = here.mount; node = number }) o ≡ Some object → IsFound object
       by None f h = none_is_not None object refl h
       by (Some number) f h =
-          subst IsFound (same_Some _ object h) (is.0, (tree_there here is.1).alive here.node name number f)
+          subst IsFound (same_Some _ object h) (
+            is.0,
+            (directory_in_tree world whole.files.trees here is.1).alive
+                here.node name number f,
+          )
 
   -- one word
   pub step_found : (here : Location ℕ) (word : LastWord) (reached : Location ℕ) → IsFoundDirectory here

@@ -9,12 +9,12 @@ use Rattle.vt_spec.specs.Machine.Walk.{Follow, Here, LastWord, Stop, directory_w
 use Rattle.vt_spec.specs.Language.Limits.{most_symlinks}
 use Rattle.vt_spec.specs.Machine.Walk.LastWord.{Dot, DotDot, Named, NoWord}
 use Rattle.vt_spec.specs.Machine.World.{Task, World, all_locations, is_directory_at, locations_of, node_at, task_called}
-use Rattle.vt_spec.specs.Language.Calls.{same_name}
-use Rattle.vt_spec.specs.Machine.Invariants.{IsWorld, is_directory_seen_in, is_located_well, stands_on_directories}
+use Rattle.vt_spec.specs.Machine.Invariants.{IsWorld, is_directory_seen_in, is_located_well}
 use Rattle.vt_spec.proofs.Lists.{Among, among-flat_map, among_from_list_all}
 use Rattle.vt_tree_laws.proofs.trees.TreesWalked.{Ends, ends_next, ends_step, ends_then, ends_unless, not_true}
 use Rattle.vt_world_laws.proofs.worlds.Reached.{IsEnd, IsFound, IsFoundDirectory, directory_end, step_found}
 use Rattle.vt_spec.proofs.Found.{found_among}
+use Rattle.vt_tree_laws.proofs.trees.TreesTasks.{called_there, called_stands}
 pub use Rattle.vt_spec.proofs.Found.{found_among}
 
 module _ (world : World ℕ) (whole : IsWorld nat_eq world) (task : Task ℕ)
@@ -28,8 +28,9 @@ module _ (world : World ℕ) (whole : IsWorld nat_eq world) (task : Task ℕ)
   abbrev pub End : Location ℕ → Type 0
   End location = IsEnd world whole task location
 
+  -- a task that is called is there
   pub task_among : Among task world.tasks
-  task_among = found_among (λ other. same_name task.name other.name) world.tasks task called
+  task_among = called_there world.tasks task.name task called
 
   -- the task's own root and directory
   own_place : (location : Location ℕ) → Among location (locations_of task)
@@ -41,14 +42,12 @@ module _ (world : World ℕ) (whole : IsWorld nat_eq world) (task : Task ℕ)
       let parts = and_parts _ _ seen in
       ((located.0, parts.1), parts.0)
 
-  stands : stands_on_directories nat_eq world task ≡ true
-  stands = among_from_list_all (stands_on_directories nat_eq world) world.tasks whole.tasks.directories task task_among
-
   pub root_found : FoundDirectory task.root
-  root_found = own_place task.root (inl refl) (and_parts _ _ stands).0
+  root_found = own_place task.root (inl refl) (and_parts _ _ (called_stands world whole task called)).0
 
   pub own_directory_found : FoundDirectory task.directory
-  own_directory_found = own_place task.directory (inr (inl refl)) (and_parts _ _ stands).1
+  own_directory_found =
+      own_place task.directory (inr (inl refl)) (and_parts _ _ (called_stands world whole task called)).1
 
   pub start_end : (directory : Location ℕ) (path : List ℕ) → End directory → End (start_of task directory path)
   start_end directory path is = by (is_absolute path)

@@ -10,11 +10,12 @@ use Rattle.vt_spec.specs.declared.attributes.Kind.TheVariants.{File}
 use Rattle.vt_spec.specs.FileTree.{is_kind, is_kind_in}
 use Rattle.vt_spec.specs.Lists.{holds_of, is_among}
 use Rattle.vt_spec.specs.Machine.Mounts.{Location, Mount, mount_in}
-use Rattle.vt_spec.specs.Machine.World.{World, filesystem_numbered, is_directory_at, mount_at, mount_numbered, node_at}
+use Rattle.vt_spec.specs.Machine.World.{World, is_directory_at, mount_at, mount_numbered, node_at}
 use Rattle.vt_spec.specs.Machine.Invariants.{is_located_well, is_there}
 use Rattle.vt_spec.specs.Rights.{is_directory}
 use Rattle.vt_spec.specs.Tree.{Node, is_directory_node, kind_of}
 use Rattle.vt_mount_laws.specs.Mounts.Attaching.{is_mount, numbers_of}
+use Rattle.vt_tree_laws.specs.Trees.Settling.{inode_in}
 
 abbrev pub kind_seen : Option (Node ℕ) → Option Kind
 kind_seen None = None
@@ -24,9 +25,6 @@ kind_seen (Some node) = Some (kind_of node.content)
 abbrev pub KeepsKind : Option (Node ℕ) → Option (Node ℕ) → Type 0
 KeepsKind before after = (test : Kind → Bool) → holds_of test (kind_seen before) ≡ true
     → holds_of test (kind_seen after) ≡ true
-
-abbrev pub node_in : World ℕ → ℕ → ℕ → Option (Node ℕ)
-node_in world filesystem number = (filesystem_numbered nat_eq world filesystem).files.tree.node number
 
 -- the namespace is this one, or none
 abbrev pub is_in : ℕ → Mount ℕ → Bool
@@ -42,7 +40,7 @@ pub record KeepsWhatIsSeen (before after : World ℕ) : Type 0 where
   pub listed : (number : ℕ) → is_mount before number ≡ true → is_mount after number ≡ true
   pub views : (number : ℕ) → is_mount before number ≡ true
       → KeepsView (mount_numbered nat_eq before number) (mount_numbered nat_eq after number)
-  pub nodes : (filesystem number : ℕ) → KeepsKind (node_in before filesystem number) (node_in after filesystem number)
+  pub nodes : (filesystem number : ℕ) → KeepsKind (inode_in before filesystem number) (inode_in after filesystem number)
 
 -- Tests of an inode are tests of its kind
 pub there_is : (o : Option (Node ℕ)) → is_some o ≡ holds_of (λ (kind : Kind). true) (kind_seen o)
@@ -114,10 +112,10 @@ seen_alike before after mounts filesystems =
     }
   where
     same_nodes : (a b : World ℕ) → b.filesystems ≡ a.filesystems → (filesystem number : ℕ)
-        → KeepsKind (node_in a filesystem number) (node_in b filesystem number)
+        → KeepsKind (inode_in a filesystem number) (inode_in b filesystem number)
     same_nodes a b same filesystem number =
-        same_kind (node_in a filesystem number) (node_in b filesystem number)
-        (ap (λ list. kind_seen (node_in (record a { filesystems = list }) filesystem number)) same)
+        same_kind (inode_in a filesystem number) (inode_in b filesystem number)
+        (ap (λ list. kind_seen (inode_in (record a { filesystems = list }) filesystem number)) same)
 
 -- mounts changed, and filesystems as they were
 pub seen_by_mounts : (before after : World ℕ) → after.filesystems ≡ before.filesystems
@@ -130,13 +128,13 @@ seen_by_mounts before after same listed views =
       listed = listed;
       views = views;
       nodes = λ filesystem number.
-          same_kind (node_in before filesystem number) (node_in after filesystem number)
-          (ap (λ list. kind_seen (node_in (record before { filesystems = list }) filesystem number)) same);
+          same_kind (inode_in before filesystem number) (inode_in after filesystem number)
+          (ap (λ list. kind_seen (inode_in (record before { filesystems = list }) filesystem number)) same);
     }
 
 -- filesystems changed, and mounts as they were
 pub seen_by_nodes : (before after : World ℕ) → after.mounts ≡ before.mounts
-    → ((filesystem number : ℕ) → KeepsKind (node_in before filesystem number) (node_in after filesystem number))
+    → ((filesystem number : ℕ) → KeepsKind (inode_in before filesystem number) (inode_in after filesystem number))
     → KeepsWhatIsSeen before after
 seen_by_nodes before after same nodes =
     record {
@@ -156,7 +154,7 @@ module _ (before after : World ℕ) (seen : KeepsWhatIsSeen before after) where
   pub node_kept : (location : Location ℕ) → is_mount before location.mount ≡ true
       → KeepsKind (node_at nat_eq before location) (node_at nat_eq after location)
   node_kept location is test e =
-      ap (λ f. holds_of test (kind_seen (node_in after f location.node))) (same_filesystem location is)
+      ap (λ f. holds_of test (kind_seen (inode_in after f location.node))) (same_filesystem location is)
       ∙ seen.nodes (mount_at nat_eq before location).filesystem location.node test e
 
   pub mount_of_located : (location : Location ℕ) → is_located_well nat_eq before location ≡ true

@@ -19,9 +19,10 @@ use Rattle.vt_spec.specs.Tree.{Node, entries_in, entry_named, is_directory_node,
 use Rattle.vt_spec.proofs.Lists.{Among, all_from_among, among_from_list_all}
 use Rattle.vt_tree_laws.proofs.trees.ChangesNodes.{part_stays}
 use Rattle.vt_tree_laws.proofs.trees.TreesOfWorlds.{number_numbered, numbered, numbered_all}
-use Rattle.vt_world_laws.proofs.worlds.Seen.{KeepsKind, KeepsWhatIsSeen, kind_seen, node_in, same_kind, same_seen, seen_by_nodes, seen_on}
+use Rattle.vt_world_laws.proofs.worlds.Seen.{KeepsKind, KeepsWhatIsSeen, kind_seen, same_kind, same_seen, seen_by_nodes, seen_on}
 use Rattle.vt_world_laws.proofs.worlds.SeenTrees.{MakesNew, found_new, made_kind, unused_inode, SameKinds, changes_keep_kinds, found_other, keeps-with_inode, kind-with_attr, kind-with_bytes, kind-with_entries, kind-with_mark, kind-with_parent, kinds-with_name, kinds-without_name, kinds-without_parent, numbers-replaced, replaced_keeps}
 use Rattle.vt_spec.proofs.FreshNumbers.{evens-distinct, odds-distinct, odds-no_evens}
+use Rattle.vt_tree_laws.specs.Trees.Settling.{inode_in}
 
 -- Trees of which the second has the inodes of the first
 abbrev pub Keeps : FileTree ℕ → FileTree ℕ → Type 0
@@ -318,7 +319,7 @@ UppersAreElsewhere world =
 -- numbers that are handed in are no inode's
 pub record AreNewInodes (fresh : Fresh ℕ) (world : World ℕ) : Type 0 where
   pub distinct : (i j : ℕ) → fresh i ≡ fresh j → i ≡ j
-  pub vacant : (filesystem k : ℕ) → node_in world filesystem (fresh k) ≡ None
+  pub vacant : (filesystem k : ℕ) → inode_in world filesystem (fresh k) ≡ None
 
 -- A change at a location
 module _ (fresh : Fresh ℕ) (world : World ℕ) (elsewhere : UppersAreElsewhere world) (are_new : AreNewInodes fresh world)
@@ -464,7 +465,7 @@ module _ (fresh : Fresh ℕ) (world : World ℕ) (elsewhere : UppersAreElsewhere
       (found_new new world.filesystems)
 
   abbrev Is : World ℕ → Type 0
-  Is later = kind_seen (node_in later place number) ≡ Some (kind_of node.content)
+  Is later = kind_seen (inode_in later place number) ≡ Some (kind_of node.content)
 
   is_made : Is (with_change nat_eq fresh world location Made)
   is_made = by before_it.overlay refl writes
@@ -503,7 +504,7 @@ module _ (fresh : Fresh ℕ) (world : World ℕ) (elsewhere : UppersAreElsewhere
       (node_at nat_eq (with_change nat_eq fresh world location Made) (record { mount = location.mount; node = number }))
       ≡ Some (kind_of node.content)
   new_inode_seen =
-      ap (λ (mounts : List (Mount ℕ)). kind_seen (node_in (with_change nat_eq fresh world location Made)
+      ap (λ (mounts : List (Mount ℕ)). kind_seen (inode_in (with_change nat_eq fresh world location Made)
       (mount_in nat_eq mounts location.mount).filesystem number))
       (change_keeps_mounts fresh world location Made)
       ∙ is_made

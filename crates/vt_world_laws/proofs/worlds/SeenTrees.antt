@@ -18,9 +18,10 @@ use Rattle.vt_spec.proofs.Lists.{Among, all_from_among, among-append_left, among
 use Rattle.vt_tree_laws.proofs.trees.ChangesNodes.{part_stays}
 use Rattle.vt_tree_laws.proofs.trees.TreesOfWorlds.{number_numbered, numbered, numbered_anyhow}
 use Rattle.vt_world_laws.specs.Worlds.Kept.{IsPlain}
-use Rattle.vt_world_laws.proofs.worlds.Seen.{KeepsKind, KeepsWhatIsSeen, kind_seen, node_in, same_kind, seen_by_nodes}
+use Rattle.vt_world_laws.proofs.worlds.Seen.{KeepsKind, KeepsWhatIsSeen, kind_seen, same_kind, seen_by_nodes}
 use Rattle.vt_spec.proofs.Options.{none_from_not_some}
 use Rattle.vt_spec.proofs.Worlds.{number-replaced_if_numbered}
+use Rattle.vt_tree_laws.specs.Trees.Settling.{inode_in}
 
 -- Changes of an inode
 pub kind-with_entries : (content : Content ℕ) (entries : List (List ℕ × ℕ))
@@ -300,7 +301,7 @@ unused_by_filesystem world fresh serves k filesystem m number n =
 
 pub unused_inode : (world : World ℕ) (fresh : Fresh ℕ) → Serves nat_eq world fresh
     → All (λ filesystem. ListsNumbers nat_eq filesystem.files) world.filesystems
-    → (k filesystem : ℕ) → node_in world filesystem (fresh k) ≡ None
+    → (k filesystem : ℕ) → inode_in world filesystem (fresh k) ≡ None
 unused_inode world fresh serves lists k filesystem =
     numbered_anyhow (λ (f : Filesystem ℕ). f.files.tree.node (fresh k) ≡ None) filesystem world.filesystems
     (all_from_among (λ (f : Filesystem ℕ). f.files.tree.node (fresh k) ≡ None) world.filesystems (λ f m.

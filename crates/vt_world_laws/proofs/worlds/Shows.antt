@@ -25,10 +25,11 @@ use Rattle.vt_mount_laws.proofs.ends.Unmounting.{middle}
 use Rattle.vt_world_laws.specs.Worlds.Kept.{MountsShow}
 use Rattle.vt_world_laws.proofs.worlds.PermitsSeen.{unshared_seen}
 use Rattle.vt_world_laws.proofs.worlds.Roots.{copy_stands, in_own, is_numbered, itself, last_has, own_there}
-use Rattle.vt_world_laws.proofs.worlds.Seen.{KeepsWhatIsSeen, directory_after, directory_kept, node_in, seen_alike}
+use Rattle.vt_world_laws.proofs.worlds.Seen.{KeepsWhatIsSeen, directory_after, directory_kept, seen_alike}
 use Rattle.vt_world_laws.proofs.worlds.SeenMounts.{flags_seen, pivoted_seen, retyped_seen, taken_seen}
 use Rattle.vt_spec.proofs.Nodes.{directory_is_there}
 use Rattle.vt_spec.proofs.Worlds.{number-mount_in}
+use Rattle.vt_tree_laws.specs.Trees.Settling.{inode_in}
 
 -- a directory, seen through a mount of the list
 pub record IsPlace (world : World ℕ) (place : Location ℕ) : Type 0 where
@@ -36,7 +37,7 @@ pub record IsPlace (world : World ℕ) (place : Location ℕ) : Type 0 where
   pub directory : is_directory_at nat_eq world place ≡ true
 
 pub record ShowsWell (world : World ℕ) (mount : Mount ℕ) : Type 0 where
-  pub root : is_directory_node (node_in world mount.filesystem mount.root) ≡ true
+  pub root : is_directory_node (inode_in world mount.filesystem mount.root) ≡ true
   pub mount_point : (place : Location ℕ) → mount.mount_point ≡ Some place → IsPlace world place
 
 abbrev pub AllShow : World ℕ → Type 0
@@ -53,7 +54,7 @@ module _ (before after : World ℕ) (seen : KeepsWhatIsSeen before after) where
   pub shows_after : (mount : Mount ℕ) → ShowsWell before mount → ShowsWell after mount
   shows_after mount shows =
       record {
-        root = directory_kept (node_in before mount.filesystem mount.root) (node_in after mount.filesystem mount.root)
+        root = directory_kept (inode_in before mount.filesystem mount.root) (inode_in after mount.filesystem mount.root)
             (seen.nodes mount.filesystem mount.root) shows.root;
         mount_point = λ place e. place_after place (shows.mount_point place e);
       }
@@ -68,8 +69,8 @@ pub shows_alike : (world : World ℕ) (one other : Mount ℕ) → other.filesyst
     → ShowsWell world one → ShowsWell world other
 shows_alike world one other filesystem root place shows =
     record {
-      root = ap (λ f. is_directory_node (node_in world f other.root)) filesystem
-          ∙ ap (λ r. is_directory_node (node_in world one.filesystem r)) root ∙ shows.root;
+      root = ap (λ f. is_directory_node (inode_in world f other.root)) filesystem
+          ∙ ap (λ r. is_directory_node (inode_in world one.filesystem r)) root ∙ shows.root;
       mount_point = λ at e. shows.mount_point at (sym place ∙ e);
     }
 
@@ -77,7 +78,7 @@ shows_alike world one other filesystem root place shows =
 pub mounts_show : (world : World ℕ) → AllShow world → MountsShow world
 mounts_show world shows =
     list_all_from_among (has_its_root nat_eq world) world.mounts (λ mount m.
-    and_from (is_directory_node (node_in world mount.filesystem mount.root))
+    and_from (is_directory_node (inode_in world mount.filesystem mount.root))
     (list_all (is_directory_at nat_eq world) (option_to_list mount.mount_point))
     (shows mount m).root (by mount.mount_point (λ place e. ((shows mount m).mount_point place e).directory)))
   where
@@ -134,7 +135,7 @@ module _ (world : World ℕ) (is : IsWorld nat_eq world) where
 
   pub world_shows : AllShow world
   world_shows mount m =
-      let parts = and_parts (is_directory_node (node_in world mount.filesystem mount.root))
+      let parts = and_parts (is_directory_node (inode_in world mount.filesystem mount.root))
       (list_all (is_directory_at nat_eq world) (option_to_list mount.mount_point))
       (among_from_list_all (has_its_root nat_eq world) world.mounts is.roots mount m) in
       record {

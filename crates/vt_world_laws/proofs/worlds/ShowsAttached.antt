@@ -15,9 +15,10 @@ use Rattle.vt_mount_laws.proofs.mounts.MountsAttached.{graft, moved_ones, parts,
 use Rattle.vt_mount_laws.proofs.mounts.MountsFound.{found_in}
 use Rattle.vt_mount_laws.proofs.mounts.MountsReplaced.{found_itself}
 use Rattle.vt_world_laws.proofs.worlds.Roots.{last_has}
-use Rattle.vt_world_laws.proofs.worlds.Seen.{KeepsWhatIsSeen, node_in}
+use Rattle.vt_world_laws.proofs.worlds.Seen.{KeepsWhatIsSeen}
 use Rattle.vt_world_laws.proofs.worlds.Shows.{AllShow, IsPlace, ShowsWell, place_after, shows_after}
 use Rattle.vt_spec.proofs.Worlds.{among-folded_mounts, number-mount_in}
+use Rattle.vt_tree_laws.specs.Trees.Settling.{inode_in}
 
 -- the roots of mounts of a list are places, and so is the topmost over one of them
 module _ (world : World ℕ) (mounts : List (Mount ℕ))
@@ -46,12 +47,12 @@ module _ (world : World ℕ) (new : Copies ℕ) (place : Location ℕ) (moves : 
     (shows : AllShow world) (at_place : IsPlace world place) (one : OneNumberAMount world.mounts)
     (one_after : OneNumberAMount (attached_by nat_eq world new place moves mounts).mounts)
     (roots : (origin : Mount ℕ) → Among origin mounts
-    → is_directory_node (node_in world origin.filesystem origin.root) ≡ true)
+    → is_directory_node (inode_in world origin.filesystem origin.root) ≡ true)
     (parents : (origin : Mount ℕ) → Among origin mounts
     → is_top nat_eq (graft world new place moves mounts) origin.number ≡ false
     → (at : Location ℕ) → origin.mount_point ≡ Some at
     → (on : Mount ℕ) × Among on mounts × (on.number ≡ at.mount)
-    × (is_directory_node (node_in world on.filesystem at.node) ≡ true))
+    × (is_directory_node (inode_in world on.filesystem at.node) ≡ true))
     (moving : moves ≡ true → (origin : Mount ℕ) → Among origin mounts
     → (is_mount world origin.number ≡ true)
     × ((mount_numbered nat_eq world origin.number).filesystem ≡ origin.filesystem)) where
@@ -158,7 +159,7 @@ module _ (world : World ℕ) (new : Copies ℕ) (place : Location ℕ) (moves : 
       through listed same =
           record {
             listed = listed;
-            directory = ap (λ f. is_directory_node (node_in world f place.node)) same
+            directory = ap (λ f. is_directory_node (inode_in world f place.node)) same
                 ∙ at_place.directory;
           }
 
@@ -208,7 +209,7 @@ module _ (world : World ℕ) (new : Copies ℕ) (place : Location ℕ) (moves : 
           ap (copy_number nat_eq new tree part.number) parent.2 in
           record {
             listed = subst (λ k. is_mount after k ≡ true) number view.0;
-            directory = ap (λ f. is_directory_node (node_in after f on.node))
+            directory = ap (λ f. is_directory_node (inode_in after f on.node))
                 (ap (λ k. (mount_numbered nat_eq after k).filesystem) (sym number) ∙ view.1)
                 ∙ parent.3;
           }
@@ -221,7 +222,7 @@ module _ (world : World ℕ) (new : Copies ℕ) (place : Location ℕ) (moves : 
       let from = copied_from part mount n in
       let there = copy_after part (inl m) mount n in
       let directory : is_directory_at nat_eq after (root_of mount) ≡ true =
-      ap (λ (x : Mount ℕ). is_directory_node (node_in after x.filesystem mount.root))
+      ap (λ (x : Mount ℕ). is_directory_node (inode_in after x.filesystem mount.root))
       (found_itself after.mounts one_after mount there)
       ∙ (subst (ShowsWell after) (sym from.2) (copy_shows part (inr m) from.0 from.1)).root in
       record { listed = listed_after mount there; directory = directory })

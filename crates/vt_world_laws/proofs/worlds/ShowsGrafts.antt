@@ -16,13 +16,14 @@ use Rattle.vt_mount_laws.proofs.mounts.MountsAttached.{graft, supplied}
 use Rattle.vt_mount_laws.proofs.mounts.Standing.{bindable_child}
 use Rattle.vt_tree_laws.proofs.trees.TreesOfWorlds.{numbered}
 use Rattle.vt_world_laws.proofs.worlds.Roots.{is_numbered, itself}
-use Rattle.vt_world_laws.proofs.worlds.Seen.{KeepsWhatIsSeen, directory_after, node_in}
+use Rattle.vt_world_laws.proofs.worlds.Seen.{KeepsWhatIsSeen, directory_after}
 use Rattle.vt_world_laws.proofs.worlds.SeenMounts.{added_seen, attached_seen}
 use Rattle.vt_world_laws.proofs.worlds.SeenTrees.{unused_by_filesystem, unused_number}
 use Rattle.vt_world_laws.proofs.worlds.Shows.{AllShow, IsPlace, all_show_after, world_shows}
 use Rattle.vt_world_laws.proofs.worlds.ShowsAttached.{attached_show}
 use Rattle.vt_spec.proofs.Worlds.{number-mount_in, tree_among}
 use Rattle.vt_spec.proofs.FreshNumbers.{served-differ}
+use Rattle.vt_tree_laws.specs.Trees.Settling.{inode_in}
 
 module _ (world : World ℕ) (is : IsWorld nat_eq world) where
   -- the mount of a tree on which another one stands
@@ -104,7 +105,7 @@ module _ (world : World ℕ) (is : IsWorld nat_eq world) where
   pub stands_there_well : (mounts : List (Mount ℕ)) → ((mount : Mount ℕ) → Among mount mounts → IsNumberedWell mount)
       → (mount : Mount ℕ) → HasParent mounts mount → (at : Location ℕ) → mount.mount_point ≡ Some at
       → (on : Mount ℕ) × Among on mounts × (on.number ≡ at.mount)
-      × (is_directory_node (node_in world on.filesystem at.node) ≡ true)
+      × (is_directory_node (inode_in world on.filesystem at.node) ≡ true)
   stands_there_well mounts well mount has at e =
       let on = has.1.0 in
       let number : on.number ≡ at.mount =
@@ -113,7 +114,7 @@ module _ (world : World ℕ) (is : IsWorld nat_eq world) where
         on,
         has.1.1,
         number,
-        ap (λ f. is_directory_node (node_in world f at.node))
+        ap (λ f. is_directory_node (inode_in world f at.node))
             (sym (well on has.1.1) ∙ ap (λ n. (mount_numbered nat_eq world n).filesystem) number)
             ∙ ((world_shows world is mount has.0).mount_point at e).directory,
       )
@@ -128,7 +129,7 @@ module _ (world : World ℕ) (is : IsWorld nat_eq world) where
       is.mounts.one_number
       (binds_keep_numbers world fresh source place recursive serves is.mounts.one_number is.mounts.standing)
       (λ origin m. ⊎_elim
-      (λ e. ap (λ (x : Mount ℕ). is_directory_node (node_in world x.filesystem x.root)) e ∙ directory)
+      (λ e. ap (λ (x : Mount ℕ). is_directory_node (inode_in world x.filesystem x.root)) e ∙ directory)
       (λ has. (world_shows world is origin has.0).root)
       (bind_parents source recursive origin m))
       (λ origin m below on e. ⊎_elim
@@ -278,7 +279,7 @@ module _ (world : World ℕ) (is : IsWorld nat_eq world) (fresh : Fresh ℕ) (se
       (record { listed = at.listed; directory = directory_in at })
       is.mounts.one_number
       (new_mounts_keep_numbers world (odds fresh) place filesystem flags odds_serve is.mounts.one_number)
-      (λ origin m. ⊎_elim (λ e. ap (λ (x : Mount ℕ). is_directory_node (node_in larger x.filesystem x.root)) e
+      (λ origin m. ⊎_elim (λ e. ap (λ (x : Mount ℕ). is_directory_node (inode_in larger x.filesystem x.root)) e
       ∙ root) (λ none. absurd none) m)
       (λ origin m below on e. ⊎_elim
       (λ same. absurd (true≢false (sym (eq-eqb origin.number mount.number (ap (λ (x : Mount ℕ). x.number) same))
@@ -295,7 +296,7 @@ module _ (world : World ℕ) (is : IsWorld nat_eq world) (fresh : Fresh ℕ) (se
       directory_in : IsPlace world place → is_directory_at nat_eq larger place ≡ true
       directory_in p = directory_after world larger (added_seen filesystem world) place p.listed p.directory
 
-      root : is_directory_node (node_in larger filesystem.number filesystem.files.tree.root) ≡ true
+      root : is_directory_node (inode_in larger filesystem.number filesystem.files.tree.root) ≡ true
       root =
           ap (λ (f : Filesystem ℕ). is_directory_node (f.files.tree.node filesystem.files.tree.root))
           (found_behind world.filesystems

@@ -5,8 +5,9 @@ use Rattle.vt_spec.specs.Language.Script.Who.{Someone}
 use Rattle.vt_request.specs.Requests.{call_of}
 use Rattle.vt_line.specs.declared.calls.ReadError.TheVariants.{Memory}
 use Rattle.vt_line.specs.Calls.{IsRequestRead, call_named}
-use Rattle.vt_line.proofs.RequestLemmas.{if_some, request-long, request-refused, some_value, task-named}
+use Rattle.vt_line.proofs.RequestLemmas.{if_some, request-long, request-refused, task-named}
 use Rattle.vt_line.proofs.line.task_call.Goals as goal
+use Rattle.vt_spec.proofs.Options.{some_from_is_some}
 
 pub returns-in_err-call : goal.returns-in_err-call
 returns-in_err-call c =
@@ -14,7 +15,7 @@ returns-in_err-call c =
     let name = c.args.name.now in
     let words = c.args.words in
     let call = call_named c.in-Some.name words in
-    let named = some_value (task_word task) (sym c.is_task.ensures ∙ c.if-not-is_task.false) in
+    let named = some_from_is_some (task_word task) (sym c.is_task.ensures ∙ c.if-not-is_task.false) in
     let asked = task-named task name words named.0 c.in-Some.name named.1 c.in-Some.ensures.named in
     let all = asked_by propagation (option_map Someone (task_word task)) (name ∷ words) in
     let error : c.from_residual.result ≡ Err c.in_err-call.field-0.0 = search rules in
@@ -27,7 +28,7 @@ returns-in_err-task c =
     let name = c.args.name.now in
     let words = c.args.words in
     let call = call_named c.in-Some.name words in
-    let named = some_value (task_word task) (sym c.is_task.ensures ∙ c.if-not-is_task.false) in
+    let named = some_from_is_some (task_word task) (sym c.is_task.ensures ∙ c.if-not-is_task.false) in
     let asked = task-named task name words named.0 c.in-Some.name named.1 c.in-Some.ensures.named in
     let all = asked_by propagation (option_map Someone (task_word task)) (name ∷ words) in
     let error : c.from_residual-in_err-task.result ≡ Err Memory = search rules in

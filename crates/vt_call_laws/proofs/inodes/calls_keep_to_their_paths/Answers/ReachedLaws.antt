@@ -3,12 +3,12 @@ use Rattle.std.proofs.Common.{◌≡◌, refl, sym, ap, ◌∙◌, inl, inr, ◌
 use Rattle.vt_call_laws.proofs.inodes.InodesOwn.{calls_change_their_own}
 use Rattle.vt_call_laws.proofs.inodes.InodesSettled.{inode_after_call}
 use Rattle.vt_call_laws.proofs.inodes.calls_keep_to_their_paths.Answers.ReachedWalks.{IsSpared, spares}
-use Rattle.vt_call_laws.specs.Inodes.{inode_in}
 use Rattle.vt_call_laws.specs.Reached.{CallsKeepToTheirPaths}
 use Rattle.vt_spec.specs.Machine.Judge.{Judgement, judge_in}
 use Rattle.vt_spec.specs.Machine.Policy.{policy}
 use Rattle.vt_spec.specs.Tree.{Node}
 use Rattle.vt_laws.proofs.given.GivenPermits.{given}
+use Rattle.vt_tree_laws.specs.Trees.Settling.{inode_in}
 
 pub calls_keep_to_their_paths : CallsKeepToTheirPaths
 calls_keep_to_their_paths fresh world name call task filesystem number plain no_overlay is apart root =

@@ -25,6 +25,7 @@ use Rattle.vt_spec.specs.Machine.World.{Descriptor, Task, World, all_locations, 
 use Rattle.vt_world_laws.proofs.kept.MountsAlike.{same_mounts}
 use Rattle.vt_world_laws.proofs.worlds.CallsKept.{name_found}
 use Rattle.vt_later_laws.specs.Exits.{ExitLeavesOneByOne, closed_by, closed_in}
+use Rattle.vt_tree_laws.proofs.trees.TreesTasks.{called_there}
 
 -- the locations of a task with a descriptor less are locations of the task
 still_located : (task : Task ℕ) (number : ℕ) (location : Location ℕ)
@@ -115,7 +116,7 @@ module _ (fresh : Fresh ℕ) (task : Task ℕ) where
           ap (λ now. ended (one_by_one now rest))
           (one_sweep_with_overlays world changed.tasks trees uppers reals (mounts_stand world kept)
           (closing_comes_nowhere world one number
-          (found_among (λ (t : Task ℕ). same_name task.name t.name) world.tasks one e)))
+          (called_there world.tasks task.name one e)))
           ∙ later changed trees uppers reals (same_mounts world changed refl refl kept)
           ∙ ap (λ tasks. settled nat_eq (namespaces_ended nat_eq (record world { tasks = tasks })))
           (gone_alike task.name (without_descriptor one number) (name_found world task.name one e) world.tasks)

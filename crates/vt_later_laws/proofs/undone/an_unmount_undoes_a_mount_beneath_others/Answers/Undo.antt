@@ -16,7 +16,8 @@ use Rattle.vt_mount_laws.proofs.propagation.PropagationPremises.{binds_can, new_
 use Rattle.vt_mount_laws.proofs.mounts.Standing.{standing_is_computed}
 use Rattle.vt_mount_laws.proofs.namespaces.Unsharing.{stands_on_mount}
 use Rattle.vt_later_laws.specs.Undone.{CoveredTakePart, NoneGoesWithTheCopies, UnmountTakesWhatStoodBeside, UnmountTakesWhatStoodThere, UnmountUndoesBindBeneath, UnmountUndoesNewMountBeneath}
-use Rattle.vt_later_laws.proofs.undone.Beneath.{copy_is_gone, has_its_record_back, masters_back, one_of, taken_along, taken_beside}
+use Rattle.vt_later_laws.proofs.undone.Beneath.{copy_is_gone, has_its_record_back, masters_back, taken_along, taken_beside}
+use Rattle.vt_mount_laws.proofs.propagation.OneAttached.{one_of}
 
 they_take_part : (world : World ℕ) (place : Location ℕ) → CoveredTakePart world place
     → (group : ℕ) (receiver mount : Mount ℕ) → (mount_at nat_eq world place).propagation ≡ Shared group

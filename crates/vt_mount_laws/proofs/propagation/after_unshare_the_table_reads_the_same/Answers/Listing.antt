@@ -2,7 +2,7 @@
 use Rattle.std.proofs.Common.{◌≡◌, refl, sym, ap, ◌∙◌, Bool, List, [], None, eq-eqb, eqb-true, true≢false, Option, Some, cond, false, flat_map, map, nat_eq, option_map, true, unwrap_or, ℕ, ◌+◌, ◌∷◌, inl, inr}
 use Rattle.std.proofs.lemmas.List.Folds.{flat_map-map}
 use Rattle.std.proofs.lemmas.Bool.{false_from_ne_true}
-use Rattle.vt_spec.proofs.Lists.{Among, among-append_left, among-append_right, among-filter, among-from_filter, among-map}
+use Rattle.vt_spec.proofs.Lists.{Among, among-filter, among-from_filter}
 use Rattle.vt_spec.specs.FileTree.{path_down}
 use Rattle.vt_spec.specs.Machine.Listing.{groups_shown, mount_line, number_among, mount_point_spot, root_spot, spot_of, type_line}
 use Rattle.vt_spec.specs.Lists.{Fresh, each_once, evens, holds_of, odds, index_from}
@@ -12,14 +12,12 @@ use Rattle.vt_spec.specs.Language.Answers.{Spot}
 use Rattle.vt_spec.specs.Machine.Run.{Serves}
 use Rattle.vt_spec.specs.Machine.World.{Task, World, filesystem_numbered, is_overlay, mount_numbered, mounts_of}
 use Rattle.vt_spec.specs.Machine.Invariants.{MountInvariants}
-use Rattle.vt_mount_laws.specs.Mounts.Attaching.{OneNumberAMount}
 use Rattle.vt_mount_laws.specs.Mounts.Propagation.{UnshareListsOthersTheSame, UnshareListsTheSame}
-use Rattle.vt_mount_laws.proofs.mounts.MountsCounted.{is_in}
-use Rattle.vt_mount_laws.proofs.mounts.MountsNumbered.{is_one_of, one_index, unshare_keeps_numbers}
-use Rattle.vt_mount_laws.proofs.mounts.MountsReplaced.{found_itself}
-use Rattle.vt_mount_laws.proofs.namespaces.Unsharing.{itself, parent_of}
+use Rattle.vt_mount_laws.proofs.mounts.MountsNumbered.{is_one_of, one_index}
+use Rattle.vt_mount_laws.proofs.namespaces.Unsharing.{itself, parent_of, copy_found, old_found}
 use Rattle.vt_mount_laws.proofs.namespaces.UnsharingNamespaces.{unshare_copies_mounts, unshare_leaves_namespaces}
 use Rattle.vt_spec.proofs.FreshNumbers.{odds-distinct, served-distinct}
+use Rattle.vt_mount_laws.specs.Mounts.Ending.{is_in}
 
 pub map_alike : {A B C : Type 0} (f : A → C) (g : B → C) (h : A → B) (xs : List A)
     → ((x : A) → Among x xs → g (h x) ≡ f x) → map g (map h xs) ≡ map f xs
@@ -62,18 +60,6 @@ module _ (world : World ℕ) (fresh : Fresh ℕ) (task : Task ℕ) (serves : Ser
 
   abbrev copy : Mount ℕ → Mount ℕ
   copy = copied_mount new_number (evens fresh 0)
-
-  one_after : OneNumberAMount after.mounts
-  one_after = unshare_keeps_numbers world fresh task serves mounts.one_number
-
-  copy_found : (mount : Mount ℕ) → Among mount copied → mount_numbered nat_eq after (copy mount).number ≡ copy mount
-  copy_found mount m =
-      found_itself after.mounts one_after (copy mount)
-      (among-append_right world.mounts (map copy copied) (copy mount) (among-map copy copied mount m))
-
-  old_found : (mount : Mount ℕ) → Among mount world.mounts → mount_numbered nat_eq after mount.number ≡ mount
-  old_found mount m =
-      found_itself after.mounts one_after mount (among-append_left world.mounts (map copy copied) mount m)
 
   new_apart : (a b : Mount ℕ) → Among a copied → Among b copied
       → nat_eq (new_number a.number) (new_number b.number) ≡ nat_eq a.number b.number
@@ -129,7 +115,7 @@ module _ (world : World ℕ) (fresh : Fresh ℕ) (task : Task ℕ) (serves : Ser
       let shows : mount_point_spot nat_eq after (location_on_copy new_number place)
       ≡ mount_point_spot nat_eq world place =
       ap (λ n. spot (mount_numbered nat_eq after (new_number n)) place) (sym same)
-      ∙ ap (λ (x : Mount ℕ). spot x place) (copy_found parent m)
+      ∙ ap (λ (x : Mount ℕ). spot x place) (copy_found world fresh task serves mounts parent m)
       ∙ ap (λ (x : Mount ℕ). spot x place) (sym (itself world mounts parent there))
       ∙ ap (λ n. spot (mount_numbered nat_eq world n) place) same in
       λ i. (number i, shows i)
@@ -183,7 +169,7 @@ module _ (world : World ℕ) (fresh : Fresh ℕ) (task : Task ℕ) (serves : Ser
                 (mounts_of nat_eq world namespace)) place.mount,
             spot x place,
           ))
-          (ap (mount_numbered nat_eq after) (sym parent.2) ∙ old_found parent.0 parent.3
+          (ap (mount_numbered nat_eq after) (sym parent.2) ∙ old_found world fresh task serves mounts parent.0 parent.3
           ∙ sym (itself world mounts parent.0 parent.3) ∙ ap (mount_numbered nat_eq world) parent.2)
 
   other_line : (namespace : ℕ) (mount : Mount ℕ) → Among mount (mounts_of nat_eq world namespace)
