@@ -7,7 +7,7 @@ use Rattle.vt_spec.specs.Language.Changes.{changed, changed_node, content_with_p
 use Rattle.vt_spec.specs.Language.Changes.Change.{AddName, CopyUp, Make, Move, Remove, SetAttr, SetBytes, SetMark}
 use Rattle.vt_spec.specs.FileTree.{FileTree}
 use Rattle.vt_spec.specs.Lists.{Fresh, evens, folded, without_last, prefixes, last_or, odds, then_some, when}
-use Rattle.vt_spec.specs.Machine.CopyUp.{Merge, Stack, copied_content, copied_up, emptied, is_directory_shown, marked, merge_changed, name_left_by}
+use Rattle.vt_spec.specs.Machine.CopyUp.{Merge, Stack, copied_content, copied_up, is_directory_shown, merge_changed, name_left_by, with_mark, without_contents}
 use Rattle.vt_spec.specs.Machine.Layers.{OpenLayer, Shown, shown_in_lowers, node_at_path, shown}
 use Rattle.vt_spec.specs.Machine.Merging.{layer_node}
 use Rattle.vt_spec.specs.Machine.World.{Real, upper_object}
@@ -208,7 +208,7 @@ OpenedIsCopied =
 -- show a directory under the name.
 abbrev pub made_in : Fresh ℕ → Stack ℕ → FileTree ℕ → FileTree ℕ → List (List ℕ) → List ℕ → Node ℕ → FileTree ℕ
 made_in fresh stack upper copies path name node =
-    marked nat_eq (directory_below stack upper (path ++ name ∷ []))
+    with_mark nat_eq (directory_below stack upper (path ++ name ∷ []))
     (changed nat_eq copies
     (Make (object_above stack copies path) name (fresh 0)
     (record { attr = node.attr; content = content_with_parent (object_above stack copies path) node.content })))
@@ -240,7 +240,7 @@ LinkedAbove =
 -- its whiteouts.
 abbrev pub removed_in : Fresh ℕ → Stack ℕ → FileTree ℕ → FileTree ℕ → List (List ℕ) → List ℕ → FileTree ℕ
 removed_in fresh stack upper copies path name =
-    emptied nat_eq
+    without_contents nat_eq
     (name_left_by nat_eq (is_some (seen_below stack upper (path ++ name ∷ []))) fresh stack copies
     (object_above stack copies path) name)
     (directory_above stack copies (path ++ name ∷ []))
@@ -258,9 +258,9 @@ RemovedAbove =
 abbrev pub moved_in : Fresh ℕ → Stack ℕ → FileTree ℕ → FileTree ℕ → List (List ℕ) → List ℕ → List (List ℕ) → List ℕ
     → FileTree ℕ
 moved_in fresh stack upper copies from old to new =
-    marked nat_eq (directory_below stack upper (to ++ new ∷ []))
+    with_mark nat_eq (directory_below stack upper (to ++ new ∷ []))
     (name_left_by nat_eq (is_some (seen_below stack upper (from ++ old ∷ []))) fresh stack
-    (with_moved nat_eq (emptied nat_eq copies (directory_above stack copies (to ++ new ∷ [])))
+    (with_moved nat_eq (without_contents nat_eq copies (directory_above stack copies (to ++ new ∷ [])))
     (object_above stack copies from) old (object_above stack copies to) new
     (object_above stack copies (from ++ old ∷ [])))
     (object_above stack copies from) old)

@@ -6,7 +6,7 @@ use Rattle.vt_spec.specs.declared.attributes.Kind.TheVariants.{White}
 use Rattle.vt_spec.specs.FileTree.{a_name, is_kind, is_kind_in, is_opaque_in}
 use Rattle.vt_spec.specs.Language.Changes.{changed_node, node_with_attr, node_with_mark}
 use Rattle.vt_spec.specs.Lists.{Fresh, then_some}
-use Rattle.vt_spec.specs.Machine.CopyUp.{Merge, Stack, changed_both, copied_up, copy_of_node, linked, made, moved, path_to, removed, upper_of}
+use Rattle.vt_spec.specs.Machine.CopyUp.{Merge, Stack, changed_both, copied_up, copy_of_node, merge_with_link, merge_with_moved, merge_with_new, merge_without_name, path_to, upper_of}
 use Rattle.vt_spec.specs.Machine.Layers.{OpenLayer, has_lower_directory, lowers_have_directory, node_at_path, shown}
 use Rattle.vt_spec.specs.Machine.Merging.{layer_node, merged_at, real_object}
 use Rattle.vt_spec.specs.Machine.World.{Real, upper_object}
@@ -116,7 +116,7 @@ MakeKeepsShown =
     (fresh : Fresh ℕ) (stack : Stack ℕ) (merge : Merge ℕ) (directory : ℕ) (name : List ℕ) (number : ℕ) (node : Node ℕ)
     → IsWhole stack merge → StandsInUpper merge directory → merge.upper.tree.node (fresh 0) ≡ None
     → MayMake merge.files.tree directory name number node → is_kind White (kind_of node.content) ≡ false
-    → IsWhatIsShown stack (made nat_eq fresh stack merge directory name number node)
+    → IsWhatIsShown stack (merge_with_new nat_eq fresh stack merge directory name number node)
 
 -- An object that is no directory gets a further name; both stand in the upper layer.
 abbrev pub LinkKeepsShown : Type 0
@@ -124,7 +124,7 @@ LinkKeepsShown =
     (stack : Stack ℕ) (merge : Merge ℕ) (directory : ℕ) (name : List ℕ) (object : ℕ)
     → IsWhole stack merge → StandsInUpper merge directory → StandsInUpper merge object
     → MayAddName merge.files.tree directory name object
-    → IsWhatIsShown stack (linked nat_eq merge directory name object)
+    → IsWhatIsShown stack (merge_with_link nat_eq merge directory name object)
 
 -- The name of an object without names in it is taken away, with a whiteout where lower layers show something there, or
 -- without one.
@@ -133,7 +133,7 @@ RemoveKeepsShown =
     (fresh : Fresh ℕ) (stack : Stack ℕ) (merge : Merge ℕ) (directory : ℕ) (name : List ℕ) (object : ℕ)
     → IsWhole stack merge → StandsInUpper merge directory → merge.upper.tree.node (fresh 0) ≡ None
     → MayRemove merge.files.tree directory name object
-    → IsWhatIsShown stack (removed nat_eq fresh stack merge directory name object)
+    → IsWhatIsShown stack (merge_without_name nat_eq fresh stack merge directory name object)
 
 -- An object is moved, where it and both directories stand in the upper layer. A directory moves only where no lower
 -- layer that is not cut has one (O1).
@@ -145,4 +145,4 @@ MoveKeepsShown =
     → (IsDirectory merge.files.tree object
     → has_lower_directory (record { tree = merge.upper.tree; directory = stack.directory } ∷ []) stack.lowers
     (path_to nat_eq merge from old) ≡ false)
-    → IsWhatIsShown stack (moved nat_eq fresh stack merge from old to new object)
+    → IsWhatIsShown stack (merge_with_moved nat_eq fresh stack merge from old to new object)

@@ -5,7 +5,7 @@ use Rattle.vt_spec.specs.declared.attributes.Kind.TheVariants.{White}
 use Rattle.vt_spec.specs.FileTree.{is_kind}
 use Rattle.vt_spec.specs.Language.Changes.{Change}
 use Rattle.vt_spec.specs.Lists.{Fresh}
-use Rattle.vt_spec.specs.Machine.CopyUp.{Merge, Stack, linked, made, merge_changed, moved, path_to, removed}
+use Rattle.vt_spec.specs.Machine.CopyUp.{Merge, Stack, merge_changed, merge_with_link, merge_with_moved, merge_with_new, merge_without_name, path_to}
 use Rattle.vt_spec.specs.Machine.Layers.{has_lower_directory}
 use Rattle.vt_spec.specs.Tree.{Node, is_directory_node, kind_of}
 use Rattle.vt_spec.specs.Machine.World.Real.{Upper}
@@ -22,7 +22,7 @@ MakeKeepsWhole =
     (fresh : Fresh ℕ) (stack : Stack ℕ) (merge : Merge ℕ) (directory : ℕ) (name : List ℕ) (number : ℕ) (node : Node ℕ)
     → IsWhole stack merge → StandsInUpper merge directory → merge.upper.tree.node (fresh 0) ≡ None
     → MayMake merge.files.tree directory name number node → is_kind White (kind_of node.content) ≡ false
-    → IsWhole stack (made nat_eq fresh stack merge directory name number node)
+    → IsWhole stack (merge_with_new nat_eq fresh stack merge directory name number node)
 
 -- A further name of an object that is no directory: link(2).
 abbrev pub LinkKeepsWhole : Type 0
@@ -30,7 +30,7 @@ LinkKeepsWhole =
     (stack : Stack ℕ) (merge : Merge ℕ) (directory : ℕ) (name : List ℕ) (object : ℕ)
     → IsWhole stack merge → StandsInUpper merge directory → StandsInUpper merge object
     → MayAddName merge.files.tree directory name object
-    → IsWhole stack (linked nat_eq merge directory name object)
+    → IsWhole stack (merge_with_link nat_eq merge directory name object)
 
 -- A name that is taken away, of an object without names in it: unlink(2), rmdir(2).
 abbrev pub RemoveKeepsWhole : Type 0
@@ -38,7 +38,7 @@ RemoveKeepsWhole =
     (fresh : Fresh ℕ) (stack : Stack ℕ) (merge : Merge ℕ) (directory : ℕ) (name : List ℕ) (object : ℕ)
     → IsWhole stack merge → StandsInUpper merge directory → merge.upper.tree.node (fresh 0) ≡ None
     → MayRemove merge.files.tree directory name object
-    → IsWhole stack (removed nat_eq fresh stack merge directory name object)
+    → IsWhole stack (merge_without_name nat_eq fresh stack merge directory name object)
 
 -- An object that is moved, a directory only where no lower layer that is not cut has one: rename(2).
 abbrev pub MoveKeepsWhole : Type 0
@@ -49,7 +49,7 @@ MoveKeepsWhole =
     → (IsDirectory merge.files.tree object
     → has_lower_directory (record { tree = merge.upper.tree; directory = stack.directory } ∷ []) stack.lowers
     (path_to nat_eq merge from old) ≡ false)
-    → IsWhole stack (moved nat_eq fresh stack merge from old to new object)
+    → IsWhole stack (merge_with_moved nat_eq fresh stack merge from old to new object)
 
 -- numbers that are handed in: each is another, and none is an inode's of the upper layer's tree
 pub record AreNew (fresh : Fresh ℕ) (merge : Merge ℕ) : Type 0 where

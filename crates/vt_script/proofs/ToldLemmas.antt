@@ -18,9 +18,9 @@ use Rattle.vt_script.specs.Progress.{Moment, Runs, HasNoNewline, IsOpening, whol
 use Rattle.vt_script.proofs.RunLemmas.{whole_lines-rest, told_whole, text_from-front, text_from-padded, lines_of-whole}
 
 -- what a sink took of a text, where it holds a beginning of all
-pub without_last : (held text new : List ℕ) → length held ≤ length new → StartsWith (held ++ text) new
+pub rest_after_held : (held text new : List ℕ) → length held ≤ length new → StartsWith (held ++ text) new
     → (front : List ℕ) × (more : List ℕ) × (new ≡ held ++ front) × (text ≡ front ++ more)
-without_last held text new longer starts =
+rest_after_held held text new longer starts =
     let taken : length held + (length new - length held) ≡ length new = omega arith in (
       take (length new - length held) text,
       drop (length new - length held) text,
@@ -129,7 +129,8 @@ module _ {first : Moment} (opens : IsOpening first) where
     front_held : (script read unread text : List ℕ) (new : Moment) (x y : W) → script ≡ read ++ unread
         → Runs first read text new → WroteFront sink x y text → sink.tells x → BeginsToAnswer sink script x y
     front_held script read unread text new x y split runs wrote tells =
-        let taken = without_last (sink.written x) text (sink.written y) (wrote.no_shorter tells) (wrote.front tells) in
+        let taken = rest_after_held (sink.written x) text (sink.written y) (wrote.no_shorter tells)
+            (wrote.front tells) in
         let told = front_told read unread text new runs in (
           told.0,
           told.1 ∙ ap (λ script. length (lines_of script)) (sym split),
@@ -153,7 +154,7 @@ module _ {first : Moment} (opens : IsOpening first) where
         → BrokeLast sink (moment state fed.line) y z → sink.tells x → BeginsToAnswer sink read x z
     broke_last_held read state x y z fed broke tells =
         let wrote = WroteFront-append sink fed.wrote broke.wrote in
-        let taken = without_last (sink.written x) (fed.text ++ broke.text) (sink.written z) (wrote.no_shorter tells)
+        let taken = rest_after_held (sink.written x) (fed.text ++ broke.text) (sink.written z) (wrote.no_shorter tells)
         (wrote.front tells) in
         let told = all_told read fed.text
         (moment state fed.line) fed.runs broke.told.refused broke.text broke.told.tells broke.told.counted in

@@ -9,7 +9,7 @@ use Rattle.vt_spec.specs.FileTree.{FileTree}
 use Rattle.vt_spec.specs.Language.Calls.{TaskName, same_name}
 use Rattle.vt_spec.specs.Language.Changes.{Change, without_parent}
 use Rattle.vt_spec.specs.Lists.{Fresh, folded, holds_of, is_among}
-use Rattle.vt_spec.specs.Machine.CopyUp.{Stack, emptied, marked, name_left_by}
+use Rattle.vt_spec.specs.Machine.CopyUp.{Stack, name_left_by, with_mark, without_contents}
 use Rattle.vt_spec.specs.Machine.Detach.{after_going, mount_point_left, taken_away}
 use Rattle.vt_spec.specs.Machine.Filesystems.{filesystem_changed, overlay_changed, with_change}
 use Rattle.vt_spec.specs.Machine.Invariants.{Stands}
@@ -260,12 +260,13 @@ number-replaced_if_numbered new f = by (nat_eq new.number f.number) refl
 
 -- a mark keeps the root
 pub root-marked : (mark : Bool) (upper : FileTree ℕ) (object : ℕ)
-    → (marked nat_eq mark upper object).tree.root ≡ upper.tree.root
+    → (with_mark nat_eq mark upper object).tree.root ≡ upper.tree.root
 root-marked true upper object = refl
 root-marked false upper object = refl
 
 -- a directory that is emptied keeps the root
-pub root-emptied : (upper : FileTree ℕ) (object : Option ℕ) → (emptied nat_eq upper object).tree.root ≡ upper.tree.root
+pub root-emptied : (upper : FileTree ℕ) (object : Option ℕ) → (without_contents nat_eq upper object).tree.root
+    ≡ upper.tree.root
 root-emptied upper None = refl
 root-emptied upper (Some object) = refl
 

@@ -57,7 +57,7 @@ abbrev pub counted_from : {A : Type 0} → ℕ → List A → List (ℕ × A)
 counted_from k [] = []
 counted_from k (a ∷ rest) = (k, a) ∷ counted_from (k + 1) rest
 
--- the place of the first that passes, from a number on
+-- the index of the first that passes, counted from a number on
 abbrev pub index_from : {A : Type 0} → (A → Bool) → ℕ → List A → Option ℕ
 index_from test k [] = None
 index_from test k (a ∷ rest) = if test a then Some k else index_from test (k + 1) rest

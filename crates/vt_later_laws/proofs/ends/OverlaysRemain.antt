@@ -5,7 +5,7 @@ use Rattle.vt_spec.specs.FileTree.{FileTree, a_name}
 use Rattle.vt_spec.specs.Language.Changes.{Change, changed, content_with_parent, node_with_attr, node_with_mark, with_inode, with_name}
 use Rattle.vt_spec.specs.Language.Changes.Change.{AddName, CopyUp, Make, Move, Remove, SetAttr, SetBytes, SetMark}
 use Rattle.vt_spec.specs.Lists.{Fresh, evens, odds}
-use Rattle.vt_spec.specs.Machine.CopyUp.{Merge, Stack, changed_both, copied_content, copied_each, copied_up, copy_named, copy_of, copy_parent, hides_directory, line_to, marked, merge_changed, upper_of}
+use Rattle.vt_spec.specs.Machine.CopyUp.{Merge, Stack, changed_both, copied_content, copied_each, copied_up, copy_named, copy_of, copy_parent, hides_directory, line_to, merge_changed, upper_of, with_mark}
 use Rattle.vt_spec.specs.Machine.Filesystems.{filesystem_changed, overlay_changed, stack_of, with_change, with_files}
 use Rattle.vt_spec.specs.Machine.Invariants.{IsWorld}
 use Rattle.vt_spec.specs.Machine.Mounts.{Location}
@@ -71,7 +71,7 @@ module _ (other : ℕ) where
   up_remain fresh merge object = copies_remain fresh (line_to nat_eq merge.files object) 0 merge
 
   -- what is made or set
-  marked_remains : (opaque : Bool) (upper : FileTree ℕ) (object : ℕ) → In upper (marked nat_eq opaque upper object)
+  marked_remains : (opaque : Bool) (upper : FileTree ℕ) (object : ℕ) → In upper (with_mark nat_eq opaque upper object)
   marked_remains true upper object there = at_node other upper object (node_with_mark true) (λ node. refl) there
   marked_remains false upper object there = there
 

@@ -1,7 +1,7 @@
 -- A change of an overlay does to its upper layer what it is asked, clause by clause.
 use Rattle.std.proofs.Common.{◌≡◌, ◌≢◌, refl, sym, ap, ◌∙◌, true≢false, arith, ℕ, suc, nat_eq, eq-eqb, ne_eqb, Bool, true, false, cond, ◌||◌, List, [], ◌∷◌, ◌++◌, Option, Some, None, is_some, unwrap_or}
 use Rattle.vt_spec.specs.Language.Changes.{content_with_parent, node_with_parent, node_without_entry, with_inode, with_moved, with_name, without_name, without_parent}
-use Rattle.vt_spec.specs.Machine.CopyUp.{Merge, Stack, emptied, hides_directory, made, marked, moved, name_left_by, removed, shown_in_lowers_at, upper_directory_named, upper_of}
+use Rattle.vt_spec.specs.Machine.CopyUp.{Merge, Stack, hides_directory, merge_with_moved, merge_with_new, merge_without_name, name_left_by, shown_in_lowers_at, upper_directory_named, upper_of, with_mark, without_contents}
 use Rattle.vt_spec.specs.FileTree.{FileTree, is_opaque_in}
 use Rattle.vt_spec.specs.Lists.{Fresh, then_some}
 use Rattle.vt_spec.specs.Machine.World.{Real, upper_object}
@@ -89,7 +89,7 @@ module _ (files : FileTree ℕ) (tree : IsTree files.tree) (first : ℕ → Opti
   pub removed_with : (directory : ℕ) (name : List ℕ) (object seen : ℕ)
       → entry_at files.tree directory name ≡ Some object → upper_object (real directory) ≡ Some seen
       → LeftWith (fresh 0) (shown_in_lowers_at nat_eq stack here directory name) stack
-      (removed nat_eq fresh stack here directory name object).upper (upper_of here directory) name
+      (merge_without_name nat_eq fresh stack here directory name object).upper (upper_of here directory) name
   removed_with directory name object seen e has =
       let left = name_left_by nat_eq (is_some (shown_in_lowers_at nat_eq stack here directory name)) fresh stack upper
       (upper_of here directory) name in
@@ -99,7 +99,7 @@ module _ (files : FileTree ℕ) (tree : IsTree files.tree) (first : ℕ → Opti
       let new = λ (same : upper_of here directory ≡ fresh 0). old_differs directory seen has
       (sym (upper_of_is here directory seen has) ∙ same) in
       left_stays (fresh 0) (shown_in_lowers_at nat_eq stack here directory name) stack left
-      (emptied nat_eq left (upper_directory_named here directory name)) (upper_of here directory) name
+      (without_contents nat_eq left (upper_directory_named here directory name)) (upper_of here directory) name
       (ap entries_in (emptied_other left (upper_directory_named here directory name)
       (upper_of here directory) not_itself))
       (emptied_other left (upper_directory_named here directory name) (fresh 0) not_new)
@@ -120,15 +120,15 @@ module _ (files : FileTree ℕ) (tree : IsTree files.tree) (first : ℕ → Opti
 
   pub removed_left : (directory : ℕ) (name : List ℕ) (object seen : ℕ)
       → entry_at files.tree directory name ≡ Some object → upper_object (real directory) ≡ Some seen
-      → IsLeft stack here (removed nat_eq fresh stack here directory name object) directory name
+      → IsLeft stack here (merge_without_name nat_eq fresh stack here directory name object) directory name
   removed_left directory name object seen e has =
       is_left_by (fresh 0) (shown_in_lowers_at nat_eq stack here directory name) stack
-      (removed nat_eq fresh stack here directory name object).upper (upper_of here directory) name
+      (merge_without_name nat_eq fresh stack here directory name object).upper (upper_of here directory) name
       (removed_with directory name object seen e has)
 
   pub removed_empty : (directory : ℕ) (name : List ℕ) (object replaced : ℕ)
       → upper_directory_named here directory name ≡ Some replaced
-      → entries_in ((removed nat_eq fresh stack here directory name object).upper.tree.node replaced) ≡ []
+      → entries_in ((merge_without_name nat_eq fresh stack here directory name object).upper.tree.node replaced) ≡ []
   removed_empty directory name object replaced e =
       emptied_is_empty (name_left_by nat_eq (is_some
       (shown_in_lowers_at nat_eq stack here directory name)) fresh stack upper
@@ -136,8 +136,8 @@ module _ (files : FileTree ℕ) (tree : IsTree files.tree) (first : ℕ → Opti
 
   pub made_marked : (directory : ℕ) (name : List ℕ) (number : ℕ) (node : Node ℕ) (seen : ℕ)
       → upper_object (real directory) ≡ Some seen → (parent : ℕ) → node.content ≡ new_directory parent
-      → is_opaque_in ((made nat_eq fresh stack here directory name number node).upper.tree.node
-      (upper_of (made nat_eq fresh stack here directory name number node) number))
+      → is_opaque_in ((merge_with_new nat_eq fresh stack here directory name number node).upper.tree.node
+      (upper_of (merge_with_new nat_eq fresh stack here directory name number node) number))
       ≡ hides_directory nat_eq stack here directory name
   made_marked directory name number node seen has parent e =
       let object : Node ℕ = record {
@@ -153,7 +153,7 @@ module _ (files : FileTree ℕ) (tree : IsTree files.tree) (first : ℕ → Opti
       (λ same. old_differs directory seen has (sym (upper_of_is here directory seen has) ∙ sym same)))
       ∙ node_set upper.tree (fresh 0) (Some object) in
       let made_directory = ap (content_with_parent (upper_of here directory)) e in
-      ap (λ n. is_opaque_in ((marked nat_eq (hides_directory nat_eq stack here directory name) named
+      ap (λ n. is_opaque_in ((with_mark nat_eq (hides_directory nat_eq stack here directory name) named
       (fresh 0)).tree.node n))
       (ap (λ b. unwrap_or (upper_object (cond b (Some (Upper (fresh 0))) (real number))) number)
       (eq-eqb number number refl))
@@ -169,7 +169,7 @@ module _ (files : FileTree ℕ) (tree : IsTree files.tree) (first : ℕ → Opti
       (e : entry_at files.tree from old ≡ Some object) (has_from : upper_object (real from) ≡ Some seen_from)
       (has : upper_object (real object) ≡ Some seen) where
     abbrev freed : FileTree ℕ
-    freed = emptied nat_eq upper (upper_directory_named here to name)
+    freed = without_contents nat_eq upper (upper_directory_named here to name)
 
     abbrev away : FileTree ℕ
     away = with_moved nat_eq freed (upper_of here from) old (upper_of here to) name (upper_of here object)
@@ -198,10 +198,10 @@ module _ (files : FileTree ℕ) (tree : IsTree files.tree) (first : ℕ → Opti
     object_new same = old_differs object seen has (sym (upper_of_is here object seen has) ∙ same)
 
     pub moved_with : LeftWith (fresh 0) (shown_in_lowers_at nat_eq stack here from old) stack
-        (moved nat_eq fresh stack here from old to name object).upper (upper_of here from) old
+        (merge_with_moved nat_eq fresh stack here from old to name object).upper (upper_of here from) old
     moved_with =
         left_stays (fresh 0) (shown_in_lowers_at nat_eq stack here from old) stack left
-        (marked nat_eq (hides_directory nat_eq stack here to name) left (upper_of here object))
+        (with_mark nat_eq (hides_directory nat_eq stack here to name) left (upper_of here object))
         (upper_of here from) old
         (marked_entries (hides_directory nat_eq stack here to name) left (upper_of here object) (upper_of here from))
         (marked_other (hides_directory nat_eq stack here to name) left (upper_of here object) (fresh 0)
@@ -213,13 +213,14 @@ module _ (files : FileTree ℕ) (tree : IsTree files.tree) (first : ℕ → Opti
         (path_to files tree from old object e).1 has_from ∙ has_entries files.tree from old object e)
         from_new)
 
-    pub moved_left : IsLeft stack here (moved nat_eq fresh stack here from old to name object) from old
+    pub moved_left : IsLeft stack here (merge_with_moved nat_eq fresh stack here from old to name object) from old
     moved_left =
         is_left_by (fresh 0) (shown_in_lowers_at nat_eq stack here from old) stack
-        (moved nat_eq fresh stack here from old to name object).upper (upper_of here from) old moved_with
+        (merge_with_moved nat_eq fresh stack here from old to name object).upper (upper_of here from) old moved_with
 
     pub moved_marked : IsDirectory files.tree object
-        → is_opaque_in ((moved nat_eq fresh stack here from old to name object).upper.tree.node (upper_of here object))
+        → is_opaque_in ((merge_with_moved nat_eq fresh stack here from old to name object).upper.tree.node
+        (upper_of here object))
         ≡ (hides_directory nat_eq stack here to name || is_opaque_in (upper.tree.node (upper_of here object)))
     moved_marked d =
         marked_itself (hides_directory nat_eq stack here to name) left (upper_of here object)
@@ -241,7 +242,7 @@ module _ (files : FileTree ℕ) (tree : IsTree files.tree) (first : ℕ → Opti
     pub moved_empty : (replaced number : ℕ) → entry_at files.tree to name ≡ Some number
         → entries_in (files.tree.node number) ≡ []
         → upper_directory_named here to name ≡ Some replaced → (seen_to : ℕ) → upper_object (real to) ≡ Some seen_to
-        → entries_in ((moved nat_eq fresh stack here from old to name object).upper.tree.node replaced) ≡ []
+        → entries_in ((merge_with_moved nat_eq fresh stack here from old to name object).upper.tree.node replaced) ≡ []
     moved_empty replaced number named empty is seen_to has_to =
         let found = directory_named here to name replaced is in
         let same_number : number ≡ found.0 = same_Some number found.0 (sym named ∙ found.1) in

@@ -2,7 +2,7 @@
 use Rattle.std.proofs.Common.{◌≡◌, ◌≢◌, refl, sym, ap, subst, ◌∙◌, true≢false, arith, ℕ, ◌+◌, ◌*◌, nat_eq, Bool, true, false, ◌++◌, Some, is_some}
 use Rattle.vt_spec.specs.Language.Changes.{Change, node_with_attr, node_with_mark}
 use Rattle.vt_spec.specs.Language.Changes.Change.{AddName, CopyUp, Make, Move, Remove, SetAttr, SetBytes, SetMark}
-use Rattle.vt_spec.specs.Machine.CopyUp.{Merge, Stack, changed_both, copied_up, line_to, linked, made, merge_changed, moved, removed, upper_of}
+use Rattle.vt_spec.specs.Machine.CopyUp.{Merge, Stack, changed_both, copied_up, line_to, merge_changed, merge_with_link, merge_with_moved, merge_with_new, merge_without_name, upper_of}
 use Rattle.vt_spec.specs.Lists.{Fresh, evens, odds}
 use Rattle.vt_spec.specs.Machine.World.{upper_object}
 use Rattle.vt_spec.specs.Tree.{node_with_bytes}
@@ -103,8 +103,8 @@ module _ (fresh : Fresh ℕ) (stack : Stack ℕ) (before : Merge ℕ) (fit : IsF
       let ready = by_evens directory in
       let seen = object_there ready.soundly.real directory (ready.all directory (in_own_line directory) there) in
       record {
-        tree = ap (λ m. (made nat_eq (odds fresh) stack m directory name number node).files) ready.soundly.is;
-        reaches = subst (λ m. ReachesUpper m (made nat_eq (odds fresh) stack m directory name number node)
+        tree = ap (λ m. (merge_with_new nat_eq (odds fresh) stack m directory name number node).files) ready.soundly.is;
+        reaches = subst (λ m. ReachesUpper m (merge_with_new nat_eq (odds fresh) stack m directory name number node)
             (Make directory name number node)) (sym ready.soundly.is)
             (λ reached. (
               odds fresh 0,
@@ -121,7 +121,8 @@ module _ (fresh : Fresh ℕ) (stack : Stack ℕ) (before : Merge ℕ) (fit : IsF
         stands = stands_now fresh before fit (IsNewBy (odds fresh)) (line_to nat_eq before.files directory) _ ready;
         names_left = tt;
         removed_empty = tt;
-        marks = subst (λ m. MarksAreRight stack m (made nat_eq (odds fresh) stack m directory name number node)
+        marks = subst (λ m. MarksAreRight stack m (merge_with_new nat_eq
+            (odds fresh) stack m directory name number node)
             (Make directory name number node)) (sym ready.soundly.is)
             (made_marked before.files fit.tree before.real
             (odds fresh) stack ready.soundly.real ready.soundly.upper ready.soundly.sound directory name number node
@@ -133,8 +134,9 @@ module _ (fresh : Fresh ℕ) (stack : Stack ℕ) (before : Merge ℕ) (fit : IsF
       let seen = object_there ready.soundly.real directory
       (ready.all directory (among_second directory object directory (in_own_line directory)) there.0) in
       record {
-        tree = ap (λ m. (linked nat_eq m directory name object).files) ready.soundly.is;
-        reaches = subst (λ m. ReachesUpper m (linked nat_eq m directory name object) (AddName directory name object))
+        tree = ap (λ m. (merge_with_link nat_eq m directory name object).files) ready.soundly.is;
+        reaches = subst (λ m. ReachesUpper m (merge_with_link nat_eq m directory name object)
+            (AddName directory name object))
             (sym ready.soundly.is)
             (λ reached. linked_named before.files before.real nothing_spared ready.soundly.real ready.soundly.upper
             ready.soundly.sound directory seen.0 seen.1 reached name object);
@@ -149,15 +151,17 @@ module _ (fresh : Fresh ℕ) (stack : Stack ℕ) (before : Merge ℕ) (fit : IsF
       let ready = by_evens directory in
       let seen = object_there ready.soundly.real directory (ready.all directory (in_own_line directory) there) in
       record {
-        tree = ap (λ m. (removed nat_eq (odds fresh) stack m directory name object).files) ready.soundly.is;
+        tree = ap (λ m. (merge_without_name nat_eq (odds fresh) stack m directory name object).files) ready.soundly.is;
         reaches = tt;
         stands = stands_now fresh before fit (IsNewBy (odds fresh)) (line_to nat_eq before.files directory) _ ready;
-        names_left = subst (λ m. NamesLeft stack m (removed nat_eq (odds fresh) stack m directory name object)
+        names_left = subst (λ m. NamesLeft stack m (merge_without_name nat_eq
+            (odds fresh) stack m directory name object)
             (Remove directory name object)) (sym ready.soundly.is)
             (λ e. removed_left before.files fit.tree before.real
             (odds fresh) stack ready.soundly.real ready.soundly.upper ready.soundly.sound directory name object seen.0 e
             seen.1);
-        removed_empty = subst (λ m. RemovedIsEmpty m (removed nat_eq (odds fresh) stack m directory name object)
+        removed_empty = subst (λ m. RemovedIsEmpty m (merge_without_name nat_eq
+            (odds fresh) stack m directory name object)
             (Remove directory name object)) (sym ready.soundly.is)
             (removed_empty before.files fit.tree before.real
             (odds fresh) stack ready.soundly.real ready.soundly.upper ready.soundly.sound directory name object);
@@ -179,8 +183,9 @@ module _ (fresh : Fresh ℕ) (stack : Stack ℕ) (before : Merge ℕ) (fit : IsF
       let seen_to = object_there ready.soundly.real to
       (ready.all to (among_second to object to (in_own_line to)) there.1) in
       record {
-        tree = ap (λ m. (moved nat_eq (odds (odds fresh)) stack m from old to name object).files) ready.soundly.is;
-        reaches = subst (λ m. ReachesUpper m (moved nat_eq (odds (odds fresh)) stack m from old to name object)
+        tree = ap (λ m. (merge_with_moved nat_eq (odds (odds fresh)) stack m from old to name object).files) ready.soundly.is;
+        reaches = subst (λ m. ReachesUpper m (merge_with_moved nat_eq
+            (odds (odds fresh)) stack m from old to name object)
             (Move from old to name object)) (sym ready.soundly.is)
             (λ reached another. moved_named before.files before.real
             (odds (odds fresh)) stack ready.soundly.real ready.soundly.upper ready.soundly.sound from old to name object
@@ -188,17 +193,20 @@ module _ (fresh : Fresh ℕ) (stack : Stack ℕ) (before : Merge ℕ) (fit : IsF
         stands = stands_now fresh before fit (IsNewBy (odds (odds fresh)))
             (line_to nat_eq before.files object ++ line_to nat_eq before.files to) _ ready;
         names_left = subst (λ m. IsLeft stack m
-            (moved nat_eq (odds (odds fresh)) stack m from old to name object) from old) (sym ready.soundly.is)
+            (merge_with_moved nat_eq (odds (odds fresh)) stack m from old to name object) from old)
+            (sym ready.soundly.is)
             (moved_left before.files fit.tree before.real
             (odds (odds fresh)) stack ready.soundly.real ready.soundly.upper ready.soundly.sound from old to name object
             seen_from.0 seen.0 there.0 seen_from.1 seen.1);
-        removed_empty = subst (λ m. RemovedIsEmpty m (moved nat_eq (odds (odds fresh)) stack m from old to name object)
+        removed_empty = subst (λ m. RemovedIsEmpty m (merge_with_moved nat_eq
+            (odds (odds fresh)) stack m from old to name object)
             (Move from old to name object)) (sym ready.soundly.is)
             (λ replaced number named empty is.
             moved_empty before.files fit.tree before.real
             (odds (odds fresh)) stack ready.soundly.real ready.soundly.upper ready.soundly.sound from old to name object
             seen_from.0 seen.0 there.0 seen_from.1 seen.1 replaced number named empty is seen_to.0 seen_to.1);
-        marks = subst (λ m. MarksAreRight stack m (moved nat_eq (odds (odds fresh)) stack m from old to name object)
+        marks = subst (λ m. MarksAreRight stack m (merge_with_moved nat_eq
+            (odds (odds fresh)) stack m from old to name object)
             (Move from old to name object)) (sym ready.soundly.is)
             (moved_marked before.files fit.tree before.real
             (odds (odds fresh)) stack ready.soundly.real ready.soundly.upper ready.soundly.sound from old to name object

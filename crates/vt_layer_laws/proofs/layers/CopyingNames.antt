@@ -5,7 +5,7 @@ use Rattle.std.specs.Cmp.Lexicographic.{bytes_decides, nat_list_cmp_total, texts
 use Rattle.std.specs.Ordering.{eq_by_cmp, is_eq}
 use Rattle.std.specs.Str.{bytes_eq}
 use Rattle.vt_spec.specs.Language.Changes.{changed_node, content_with_mark, node_with_mark, node_with_parent, node_without_entries, node_without_entry, with_inode, with_moved, with_name, without_entry, without_name, without_parent}
-use Rattle.vt_spec.specs.Machine.CopyUp.{Stack, emptied, marked, name_left_by, whiteout_of}
+use Rattle.vt_spec.specs.Machine.CopyUp.{Stack, name_left_by, whiteout_of, with_mark, without_contents}
 use Rattle.vt_spec.specs.FileTree.{FileTree, is_opaque_in, opaque_of}
 use Rattle.vt_spec.specs.Machine.Layers.{Shown}
 use Rattle.vt_spec.specs.Lists.{Fresh}
@@ -154,9 +154,9 @@ left_elsewhere false fresh stack upper directory name inode differ new =
     kept_elsewhere upper directory (node_without_entry name) inode (ne_eqb inode directory differ)
 
 pub emptied_is_empty : (upper : FileTree ℕ) (replaced : Option ℕ) (object : ℕ) → replaced ≡ Some object
-    → entries_in ((emptied nat_eq upper replaced).tree.node object) ≡ []
+    → entries_in ((without_contents nat_eq upper replaced).tree.node object) ≡ []
 emptied_is_empty upper replaced object e =
-    subst (λ o. entries_in ((emptied nat_eq upper o).tree.node object) ≡ []) (sym e)
+    subst (λ o. entries_in ((without_contents nat_eq upper o).tree.node object) ≡ []) (sym e)
     (part-changed_node entries_in (changed_node nat_eq upper object node_without_entries) object
     (node_with_parent object)
     (entries-node_with_parent object) object
@@ -164,7 +164,7 @@ emptied_is_empty upper replaced object e =
     ∙ entries-node_without_entries (upper.tree.node object))
 
 pub emptied_other : (upper : FileTree ℕ) (replaced : Option ℕ) (inode : ℕ) → replaced ≢ Some inode
-    → (emptied nat_eq upper replaced).tree.node inode ≡ upper.tree.node inode
+    → (without_contents nat_eq upper replaced).tree.node inode ≡ upper.tree.node inode
 emptied_other upper None inode differ = refl
 emptied_other upper (Some object) inode differ =
     let other = ne_eqb inode object (λ e. differ (ap Some (sym e))) in
@@ -172,13 +172,13 @@ emptied_other upper (Some object) inode differ =
     ∙ kept_elsewhere upper object node_without_entries inode other
 
 pub marked_entries : (mark : Bool) (upper : FileTree ℕ) (object inode : ℕ)
-    → entries_in ((marked nat_eq mark upper object).tree.node inode) ≡ entries_in (upper.tree.node inode)
+    → entries_in ((with_mark nat_eq mark upper object).tree.node inode) ≡ entries_in (upper.tree.node inode)
 marked_entries true upper object inode =
     part-changed_node entries_in upper object (node_with_mark true) (entries-node_with_mark true) inode
 marked_entries false upper object inode = refl
 
 pub marked_other : (mark : Bool) (upper : FileTree ℕ) (object inode : ℕ) → inode ≢ object
-    → (marked nat_eq mark upper object).tree.node inode ≡ upper.tree.node inode
+    → (with_mark nat_eq mark upper object).tree.node inode ≡ upper.tree.node inode
 marked_other true upper object inode differ =
     kept_elsewhere upper object (node_with_mark true) inode (ne_eqb inode object differ)
 marked_other false upper object inode differ = refl
@@ -196,7 +196,7 @@ directory_marked (Some node) d = by node.content d
     by Whiteout d = absurd (true≢false (sym d))
 
 pub marked_itself : (mark : Bool) (upper : FileTree ℕ) (object : ℕ) → is_directory_node (upper.tree.node object) ≡ true
-    → is_opaque_in ((marked nat_eq mark upper object).tree.node object)
+    → is_opaque_in ((with_mark nat_eq mark upper object).tree.node object)
     ≡ (mark || is_opaque_in (upper.tree.node object))
 marked_itself true upper object d =
     ap is_opaque_in (node_set upper.tree object (node_with_mark true (upper.tree.node object)))
@@ -208,7 +208,7 @@ module _ {A : Type 0} (part : Option (Node ℕ) → A)
     (keeps : (change : Option (Node ℕ) → Option (Node ℕ)) → KeepsButNames change → (inode : Option (Node ℕ))
     → part (change inode) ≡ part inode) where
   pub emptied_part : (upper : FileTree ℕ) (replaced : Option ℕ) (inode : ℕ)
-      → part ((emptied nat_eq upper replaced).tree.node inode) ≡ part (upper.tree.node inode)
+      → part ((without_contents nat_eq upper replaced).tree.node inode) ≡ part (upper.tree.node inode)
   emptied_part upper None inode = refl
   emptied_part upper (Some object) inode =
       part-changed_node part (changed_node nat_eq upper object node_without_entries) object (node_with_parent object)

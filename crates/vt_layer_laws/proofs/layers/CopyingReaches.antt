@@ -2,7 +2,7 @@
 use Rattle.std.proofs.Common.{◌≡◌, ◌≢◌, refl, sym, ap, subst, ◌∙◌, ℕ, nat_eq, eq-eqb, ne_eqb, Bool, true, false, cond, List, Option, Some, None, is_some, unwrap_or, ⊎_elim}
 use Rattle.std.proofs.lemmas.Bool.Decides.{eqb_tells}
 use Rattle.vt_spec.specs.Language.Changes.{content_with_mark, content_with_parent, node_with_mark, node_with_parent, node_without_entry, with_inode, with_moved, with_name, without_name, without_parent}
-use Rattle.vt_spec.specs.Machine.CopyUp.{Merge, Stack, emptied, hides_directory, linked, made, marked, moved, name_left_by, shown_in_lowers_at, upper_directory_named, upper_of, whiteout_of}
+use Rattle.vt_spec.specs.Machine.CopyUp.{Merge, Stack, hides_directory, merge_with_link, merge_with_moved, merge_with_new, name_left_by, shown_in_lowers_at, upper_directory_named, upper_of, whiteout_of, with_mark, without_contents}
 use Rattle.vt_spec.specs.FileTree.{FileTree}
 use Rattle.vt_spec.specs.Lists.{Fresh}
 use Rattle.vt_spec.specs.Machine.World.{Real, upper_object}
@@ -42,7 +42,7 @@ mark_made node (Some inode) is = record {
 }
 
 marked_made : (mark : Bool) (upper : FileTree ℕ) (object : ℕ) (node : Node ℕ) → IsMadeAs node (upper.tree.node object)
-    → IsMadeAs node ((marked nat_eq mark upper object).tree.node object)
+    → IsMadeAs node ((with_mark nat_eq mark upper object).tree.node object)
 marked_made true upper object node is =
     subst (IsMadeAs node) (sym (node_set upper.tree object (node_with_mark true (upper.tree.node object))))
     (mark_made node (upper.tree.node object) is)
@@ -107,7 +107,7 @@ module _ (files : FileTree ℕ) (first : ℕ → Option (Real ℕ)) (spare : ℕ
 
   pub linked_named : (directory seen : ℕ) → upper_object (real directory) ≡ Some seen
       → IsReachedDirectory files directory → (name : List ℕ) (object : ℕ)
-      → entry_at (linked nat_eq here directory name object).upper.tree (upper_of here directory) name
+      → entry_at (merge_with_link nat_eq here directory name object).upper.tree (upper_of here directory) name
       ≡ Some (upper_of here object)
   linked_named directory seen has reached name object =
       ap (λ o. entry_named name (entries_in o))
@@ -140,11 +140,11 @@ module _ (files : FileTree ℕ) (first : ℕ → Option (Real ℕ)) (fresh : Fre
     abbrev named : FileTree ℕ
     named = with_name nat_eq added (upper_of there directory) name (fresh 0)
 
-    pub made_real : upper_object ((made nat_eq fresh stack there directory name number node).real number)
+    pub made_real : upper_object ((merge_with_new nat_eq fresh stack there directory name number node).real number)
         ≡ Some (fresh 0)
     made_real = ap (λ b. upper_object (cond b (Some (Upper (fresh 0))) (real number))) (eq-eqb number number refl)
 
-    pub made_named : entry_at (made nat_eq fresh stack there directory name number node).upper.tree
+    pub made_named : entry_at (merge_with_new nat_eq fresh stack there directory name number node).upper.tree
         (upper_of there directory) name ≡ Some (fresh 0)
     made_named =
         ap (entry_named name) (marked_entries (hides_directory nat_eq stack there directory name) named (fresh 0)
@@ -157,7 +157,8 @@ module _ (files : FileTree ℕ) (first : ℕ → Option (Real ℕ)) (fresh : Fre
         (ne_eqb (upper_of there directory) (fresh 0) (is_old directory seen has)))
         ∙ directory_there files first (IsNewBy fresh) real upper sound directory seen has reached)
 
-    pub made_as : IsMadeAs node ((made nat_eq fresh stack there directory name number node).upper.tree.node (fresh 0))
+    pub made_as : IsMadeAs node ((merge_with_new nat_eq fresh stack there directory name number node).upper.tree.node
+        (fresh 0))
     made_as =
         marked_made (hides_directory nat_eq stack there directory name) named (fresh 0) node
         (subst (IsMadeAs node)
@@ -171,7 +172,7 @@ module _ (files : FileTree ℕ) (first : ℕ → Option (Real ℕ)) (fresh : Fre
       (has_from : upper_object (real from) ≡ Some seen_from) (has_to : upper_object (real to) ≡ Some seen_to)
       (reached : IsReachedDirectory files to) (another : entry_at files.tree to name ≢ Some object) where
     abbrev freed : FileTree ℕ
-    freed = emptied nat_eq upper (upper_directory_named there to name)
+    freed = without_contents nat_eq upper (upper_directory_named there to name)
 
     abbrev replaced : Option ℕ
     replaced = entry_named name (entries_in (freed.tree.node (upper_of there to)))
@@ -211,7 +212,7 @@ module _ (files : FileTree ℕ) (first : ℕ → Option (Real ℕ)) (fresh : Fre
         (has_from ∙ ap Some (sym (sym to_is ∙ same ∙ from_is))) in
         another ((λ i. entry_at files.tree (one i) (name_same i)) ∙ e)
 
-    pub moved_named : entry_at (moved nat_eq fresh stack there from old to name object).upper.tree
+    pub moved_named : entry_at (merge_with_moved nat_eq fresh stack there from old to name object).upper.tree
         (upper_of there to) name ≡ Some (upper_of there object)
     moved_named =
         ap (entry_named name)

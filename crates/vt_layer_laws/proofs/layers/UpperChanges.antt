@@ -2,7 +2,7 @@
 use Rattle.std.proofs.Common.{◌≡◌, ◌≢◌, refl, sym, ap, subst, ◌∙◌, true≢false, ℕ, ◌+◌, ◌*◌, nat_eq, ne_eqb, Bool, true, false, cond, List, Option, Some, None, is_some}
 use Rattle.vt_spec.specs.Language.Changes.{Change, changed_node, node_with_attr, node_with_mark, node_with_parent, node_without_entries, node_without_entry, with_inode, with_moved, with_name, without_name, without_parent}
 use Rattle.vt_spec.specs.Language.Changes.Change.{AddName, CopyUp, Make, Move, Remove, SetAttr, SetBytes, SetMark}
-use Rattle.vt_spec.specs.Machine.CopyUp.{Merge, Stack, changed_both, copied_up, emptied, hides_directory, linked, made, marked, merge_changed, moved, name_left_by, removed, shown_in_lowers_at, upper_directory_named, upper_of, whiteout_of}
+use Rattle.vt_spec.specs.Machine.CopyUp.{Merge, Stack, changed_both, copied_up, hides_directory, merge_changed, merge_with_link, merge_with_moved, merge_with_new, merge_without_name, name_left_by, shown_in_lowers_at, upper_directory_named, upper_of, whiteout_of, with_mark, without_contents}
 use Rattle.vt_spec.specs.FileTree.{FileTree, a_name}
 use Rattle.vt_spec.specs.Lists.{Fresh, evens, odds, then_some}
 use Rattle.vt_spec.specs.Machine.World.{Real, upper_object}
@@ -17,7 +17,7 @@ use Rattle.vt_layer_laws.proofs.layers.UpperCopies.{HasUpper, IsApart, MergeOf, 
 -- Changes of the upper tree that are not of the inode
 module _ (inode : ℕ) where
   marked_elsewhere : (mark : Bool) (upper : FileTree ℕ) (object : ℕ) → nat_eq inode object ≡ false
-      → (marked nat_eq mark upper object).tree.node inode ≡ upper.tree.node inode
+      → (with_mark nat_eq mark upper object).tree.node inode ≡ upper.tree.node inode
   marked_elsewhere true upper object e = kept_elsewhere upper object (node_with_mark true) inode e
   marked_elsewhere false upper object e = refl
 
@@ -37,7 +37,7 @@ module _ (inode : ℕ) where
 
   emptied_elsewhere : (upper : FileTree ℕ) (object : Option ℕ)
       → ((number : ℕ) → object ≡ Some number → nat_eq inode number ≡ false)
-      → (emptied nat_eq upper object).tree.node inode ≡ upper.tree.node inode
+      → (without_contents nat_eq upper object).tree.node inode ≡ upper.tree.node inode
   emptied_elsewhere upper None e = refl
   emptied_elsewhere upper (Some object) e =
       kept_elsewhere (changed_node nat_eq upper object node_without_entries) object (node_with_parent object) inode
@@ -94,7 +94,8 @@ module _ (files : FileTree ℕ) (tree : IsTree files.tree) (numbers : ListsNumbe
   module _ (fresh : Fresh ℕ) (new : (k : ℕ) → inode ≢ fresh k) (stack : Stack ℕ) (real : ℕ → Option (Real ℕ))
       (upper : FileTree ℕ) (fine : Apart real upper) where
     made_keeps : (directory : ℕ) (name : List ℕ) (number : ℕ) (object : Node ℕ) → HasUpper real directory
-        → (made nat_eq fresh stack (With real upper) directory name number object).upper.tree.node inode ≡ node
+        → (merge_with_new nat_eq fresh stack (With real upper) directory name number object).upper.tree.node inode
+        ≡ node
     made_keeps directory name number object has =
         marked_elsewhere inode (hides_directory nat_eq stack (With real upper) directory name) _ (fresh 0)
         (ne_eqb inode (fresh 0) (new 0))
@@ -105,7 +106,7 @@ module _ (files : FileTree ℕ) (tree : IsTree files.tree) (numbers : ListsNumbe
         ∙ fine.here
 
     linked_keeps : (directory : ℕ) (name : List ℕ) (object : ℕ) → HasUpper real directory
-        → (linked nat_eq (With real upper) directory name object).upper.tree.node inode ≡ node
+        → (merge_with_link nat_eq (With real upper) directory name object).upper.tree.node inode ≡ node
     linked_keeps directory name object has =
         kept_elsewhere upper (upper_of (With real upper) directory)
         (node_with_entry name (upper_of (With real upper) object)) inode
@@ -113,7 +114,7 @@ module _ (files : FileTree ℕ) (tree : IsTree files.tree) (numbers : ListsNumbe
         ∙ fine.here
 
     removed_keeps : (directory : ℕ) (name : List ℕ) (object : ℕ) → HasUpper real directory
-        → (removed nat_eq fresh stack (With real upper) directory name object).upper.tree.node inode ≡ node
+        → (merge_without_name nat_eq fresh stack (With real upper) directory name object).upper.tree.node inode ≡ node
     removed_keeps directory name object has =
         emptied_elsewhere inode _ (upper_directory_named (With real upper) directory name)
         (replaced_differs real upper fine directory name)
@@ -125,9 +126,9 @@ module _ (files : FileTree ℕ) (tree : IsTree files.tree) (numbers : ListsNumbe
 
     moved_keeps : (from : ℕ) (old : List ℕ) (to : ℕ) (name : List ℕ) (object : ℕ) → HasUpper real from
         → HasUpper real to → HasUpper real object
-        → IsKept node ((moved nat_eq fresh stack (With real upper) from old to name object).upper.tree.node inode)
+        → IsKept node ((merge_with_moved nat_eq fresh stack (With real upper) from old to name object).upper.tree.node inode)
     moved_keeps from old to name object f t o =
-        let freed = emptied nat_eq upper (upper_directory_named (With real upper) to name) in
+        let freed = without_contents nat_eq upper (upper_directory_named (With real upper) to name) in
         let from_differs = upper_differs files tree numbers inode node real upper fine from f in
         let away = with_moved nat_eq freed (upper_of (With real upper) from) old (upper_of (With real upper) to) name
         (upper_of (With real upper) object) in
@@ -151,11 +152,11 @@ module _ (files : FileTree ℕ) (tree : IsTree files.tree) (numbers : ListsNumbe
     pub moved_leaves : (from : ℕ) (old : List ℕ) (to : ℕ) (name : List ℕ) (object : ℕ) → HasUpper real from
         → HasUpper real to → HasUpper real object
         → entry_named name (entries_in
-        ((emptied nat_eq upper (upper_directory_named (With real upper) to name)).tree.node
+        ((without_contents nat_eq upper (upper_directory_named (With real upper) to name)).tree.node
         (upper_of (With real upper) to))) ≢ Some inode
-        → (moved nat_eq fresh stack (With real upper) from old to name object).upper.tree.node inode ≡ node
+        → (merge_with_moved nat_eq fresh stack (With real upper) from old to name object).upper.tree.node inode ≡ node
     moved_leaves from old to name object f t o spared =
-        let freed = emptied nat_eq upper (upper_directory_named (With real upper) to name) in
+        let freed = without_contents nat_eq upper (upper_directory_named (With real upper) to name) in
         let from_differs = upper_differs files tree numbers inode node real upper fine from f in
         let object_differs = upper_differs files tree numbers inode node real upper fine object o in
         let away = with_moved nat_eq freed (upper_of (With real upper) from) old (upper_of (With real upper) to) name
@@ -188,7 +189,7 @@ module _ (files : FileTree ℕ) (tree : IsTree files.tree) (numbers : ListsNumbe
       → copied_up nat_eq (evens (odds fresh)) (copied_up nat_eq (evens fresh) (With real upper) object) to
       ≡ With moved_real moved_upper
       → Apart moved_real moved_upper → HasUpper moved_real from → HasUpper moved_real to → HasUpper moved_real object
-      → Kept ((moved nat_eq (odds (odds fresh)) stack
+      → Kept ((merge_with_moved nat_eq (odds (odds fresh)) stack
       (With moved_real moved_upper) from old to name object).upper.tree.node inode)) where
     abbrev After : Merge ℕ → Type 0
     After merge = Kept (merge.upper.tree.node inode)
@@ -209,7 +210,7 @@ module _ (files : FileTree ℕ) (tree : IsTree files.tree) (numbers : ListsNumbe
     each_keeps (Make directory name number object) is there from_too =
         let copied = (up_arrives files tree numbers inode node (evens fresh)
         (λ k. new (2 * k)) real upper fine directory there).arrives in
-        subst (λ m. After (made nat_eq (odds fresh) stack m directory name number object)) (sym copied.is)
+        subst (λ m. After (merge_with_new nat_eq (odds fresh) stack m directory name number object)) (sym copied.is)
         (same _ (made_keeps (odds fresh)
         (λ k. new (2 * k + 1)) stack copied.real copied.upper copied.fine directory name number object copied.copied))
     each_keeps (AddName directory name object) is there from_too =
@@ -217,15 +218,15 @@ module _ (files : FileTree ℕ) (tree : IsTree files.tree) (numbers : ListsNumbe
         (λ k. new (2 * k)) real upper fine object there.1).arrives in
         let copied = (up_arrives files tree numbers inode node (odds fresh)
         (λ k. new (2 * k + 1)) first.real first.upper first.fine directory there.0).arrives in
-        subst (λ m. After (linked nat_eq (copied_up nat_eq (odds fresh) m directory) directory name object))
+        subst (λ m. After (merge_with_link nat_eq (copied_up nat_eq (odds fresh) m directory) directory name object))
         (sym first.is)
-        (subst (λ m. After (linked nat_eq m directory name object)) (sym copied.is)
+        (subst (λ m. After (merge_with_link nat_eq m directory name object)) (sym copied.is)
         (same _ (linked_keeps fresh new stack copied.real copied.upper copied.fine directory name object
         copied.copied)))
     each_keeps (Remove directory name object) is there from_too =
         let copied = (up_arrives files tree numbers inode node (evens fresh)
         (λ k. new (2 * k)) real upper fine directory there).arrives in
-        subst (λ m. After (removed nat_eq (odds fresh) stack m directory name object)) (sym copied.is)
+        subst (λ m. After (merge_without_name nat_eq (odds fresh) stack m directory name object)) (sym copied.is)
         (same _ (removed_keeps (odds fresh)
         (λ k. new (2 * k + 1)) stack copied.real copied.upper copied.fine directory name object copied.copied))
     each_keeps (Move from old to name object) is there from_too =
@@ -234,9 +235,10 @@ module _ (files : FileTree ℕ) (tree : IsTree files.tree) (numbers : ListsNumbe
         let first = both.arrives in
         let copied = (up_arrives files tree numbers inode node (evens (odds fresh))
         (λ k. new (2 * (2 * k) + 1)) first.real first.upper first.fine to there.1).arrives in
-        subst (λ m. After (moved nat_eq (odds (odds fresh)) stack
+        subst (λ m. After (merge_with_moved nat_eq (odds (odds fresh)) stack
         (copied_up nat_eq (evens (odds fresh)) m to) from old to name object)) (sym first.is)
-        (subst (λ m. After (moved nat_eq (odds (odds fresh)) stack m from old to name object)) (sym copied.is)
+        (subst (λ m. After (merge_with_moved nat_eq (odds (odds fresh)) stack m from old to name object))
+        (sym copied.is)
         (moves from old to name object is copied.real copied.upper
         (ap (λ m. copied_up nat_eq (evens (odds fresh)) m to) first.is ∙ copied.is) copied.fine
         (copied.grows from (from_too from old object there.0 first.real first.grows first.copied both.parent))

@@ -4,7 +4,7 @@ use Rattle.vt_spec.specs.FileTree.{FileTree}
 use Rattle.vt_spec.specs.Language.Changes.{changed, content_with_parent, node_with_mark}
 use Rattle.vt_spec.specs.Language.Changes.Change.{AddName, Make, SetAttr, SetBytes}
 use Rattle.vt_spec.specs.Lists.{Fresh}
-use Rattle.vt_spec.specs.Machine.CopyUp.{Merge, Stack, copied_up, hides_directory, linked, made, marked, upper_of}
+use Rattle.vt_spec.specs.Machine.CopyUp.{Merge, Stack, copied_up, hides_directory, merge_with_link, merge_with_new, upper_of, with_mark}
 use Rattle.vt_spec.specs.Machine.Invariants.{number_at_path}
 use Rattle.vt_spec.specs.Machine.Views.{cuts, hides}
 use Rattle.vt_spec.specs.Machine.World.{upper_object}
@@ -114,9 +114,9 @@ not_named files d w way (word ∷ front) rest e none =
     (cons_is_not_empty word front) t) ∙ none))
 
 pub marked_hides : (files : FileTree ℕ) (c : ℕ) (b : Bool) → b ≡ true → is_some (files.tree.node c) ≡ true
-    → hides ((marked nat_eq b files c).tree.node c) ≡ true
+    → hides ((with_mark nat_eq b files c).tree.node c) ≡ true
 marked_hides files c b e used =
-    ap (λ x. hides ((marked nat_eq x files c).tree.node c)) e
+    ap (λ x. hides ((with_mark nat_eq x files c).tree.node c)) e
     ∙ ap hides (node_set files.tree c (node_with_mark true (files.tree.node c)))
     ∙ mark_hides (files.tree.node c) used
 
@@ -125,9 +125,9 @@ module _ (fresh : Fresh ℕ) (stack : Stack ℕ) (m : Merge ℕ) (whole : IsWhol
     (node : Node ℕ)
     (stands : StandsInUpper m d) (vacant : m.upper.tree.node (fresh 0) ≡ None)
     (may : MayMake m.files.tree d w number node)
-    (whole_later : IsWhole stack (made nat_eq fresh stack m d w number node)) where
+    (whole_later : IsWhole stack (merge_with_new nat_eq fresh stack m d w number node)) where
   abbrev later : Merge ℕ
-  later = made nat_eq fresh stack m d w number node
+  later = merge_with_new nat_eq fresh stack m d w number node
 
   abbrev ud : ℕ
   ud = upper_of m d
@@ -152,7 +152,7 @@ module _ (fresh : Fresh ℕ) (stack : Stack ℕ) (m : Merge ℕ) (whole : IsWhol
       may.number_is_new (new_bare d node may.fits) path
 
   alike : (b : Bool) (u : ℕ) → u ≢ fresh 0
-      → IsAlike (m.upper.tree.node u) ((marked nat_eq b grown (fresh 0)).tree.node u)
+      → IsAlike (m.upper.tree.node u) ((with_mark nat_eq b grown (fresh 0)).tree.node u)
   alike true u differ =
       alike_both (m.upper.tree.node u) (grown.tree.node u) _
       ((make_adds_inode m.upper m.upper.tree.root ud (fresh 0) w new_node ud_directory vacant).1 u differ)
@@ -230,9 +230,9 @@ module _ (fresh : Fresh ℕ) (stack : Stack ℕ) (m : Merge ℕ) (whole : IsWhol
 
 -- A further name
 module _ (stack : Stack ℕ) (m : Merge ℕ) (whole : IsWhole stack m) (d : ℕ) (w : List ℕ) (object : ℕ)
-    (may : MayAddName m.files.tree d w object) (whole_later : IsWhole stack (linked nat_eq m d w object)) where
+    (may : MayAddName m.files.tree d w object) (whole_later : IsWhole stack (merge_with_link nat_eq m d w object)) where
   abbrev further : Merge ℕ
-  further = linked nat_eq m d w object
+  further = merge_with_link nat_eq m d w object
 
   number_now : (path : List (List ℕ)) → number_at_path further.files path
       ≡ cond (names_entry (view_in m.files m.files.tree.root) d w path) (Some object) (number_at_path m.files path)

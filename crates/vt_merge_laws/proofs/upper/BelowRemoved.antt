@@ -4,7 +4,7 @@ use Rattle.vt_spec.specs.FileTree.{FileTree}
 use Rattle.vt_spec.specs.Language.Changes.{changed, node_with_mark, node_without_entry, with_inode, without_parent}
 use Rattle.vt_spec.specs.Language.Changes.Change.{Move}
 use Rattle.vt_spec.specs.Lists.{Fresh, then_some}
-use Rattle.vt_spec.specs.Machine.CopyUp.{Merge, Stack, emptied, hides_directory, marked, moved, name_left_by, removed, shown_in_lowers_at, upper_directory_named, upper_of, whiteout_of}
+use Rattle.vt_spec.specs.Machine.CopyUp.{Merge, Stack, hides_directory, merge_with_moved, merge_without_name, name_left_by, shown_in_lowers_at, upper_directory_named, upper_of, whiteout_of, with_mark, without_contents}
 use Rattle.vt_spec.specs.Machine.Invariants.{number_at_path}
 use Rattle.vt_spec.specs.Machine.Views.{hides}
 use Rattle.vt_spec.specs.Machine.World.{upper_object}
@@ -87,9 +87,9 @@ left_alike fresh stack upper false directory name u differ =
 -- A removed name
 module _ (fresh : Fresh ℕ) (stack : Stack ℕ) (m : Merge ℕ) (whole : IsWhole stack m) (d : ℕ) (w : List ℕ) (object : ℕ)
     (vacant : m.upper.tree.node (fresh 0) ≡ None) (may : MayRemove m.files.tree d w object)
-    (whole_later : IsWhole stack (removed nat_eq fresh stack m d w object)) where
+    (whole_later : IsWhole stack (merge_without_name nat_eq fresh stack m d w object)) where
   abbrev later : Merge ℕ
-  later = removed nat_eq fresh stack m d w object
+  later = merge_without_name nat_eq fresh stack m d w object
 
   number_later : (path : List (List ℕ)) → number_at_path later.files path
       ≡ cond (names_entry (view_in m.files m.files.tree.root) d w path) None (number_at_path m.files path)
@@ -132,10 +132,10 @@ module _ (fresh : Fresh ℕ) (stack : Stack ℕ) (m : Merge ℕ) (whole : IsWhol
 module _ (fresh : Fresh ℕ) (stack : Stack ℕ) (m : Merge ℕ) (whole : IsWhole stack m) (f : ℕ) (old : List ℕ) (t : ℕ)
     (new : List ℕ) (o : ℕ) (stands : StandsInUpper m o) (vacant : m.upper.tree.node (fresh 0) ≡ None)
     (may : MayMove m.files.tree f old t new o)
-    (whole_later : IsWhole stack (moved nat_eq fresh stack m f old t new o))
+    (whole_later : IsWhole stack (merge_with_moved nat_eq fresh stack m f old t new o))
     (from : List (List ℕ)) (from_leads : number_at_path m.files from ≡ Some f) where
   abbrev then_moved : Merge ℕ
-  then_moved = moved nat_eq fresh stack m f old t new o
+  then_moved = merge_with_moved nat_eq fresh stack m f old t new o
 
   abbrev uo : ℕ
   uo = upper_of m o
@@ -144,7 +144,7 @@ module _ (fresh : Fresh ℕ) (stack : Stack ℕ) (m : Merge ℕ) (whole : IsWhol
   real_o = upper_real m o stands
 
   abbrev empty : FileTree ℕ
-  empty = emptied nat_eq m.upper (upper_directory_named m t new)
+  empty = without_contents nat_eq m.upper (upper_directory_named m t new)
 
   abbrev unmarked : FileTree ℕ
   unmarked = name_left_by nat_eq (is_some (shown_in_lowers_at nat_eq stack m f old)) fresh stack
@@ -164,7 +164,7 @@ module _ (fresh : Fresh ℕ) (stack : Stack ℕ) (m : Merge ℕ) (whole : IsWhol
       true≢false (sym used ∙ ap (λ k. is_some (m.upper.tree.node k)) same ∙ ap is_some vacant)
 
   alike_moved : (b : Bool) (u : ℕ) → u ≢ fresh 0 → u ≢ uo
-      → IsAlike (m.upper.tree.node u) ((marked nat_eq b unmarked uo).tree.node u)
+      → IsAlike (m.upper.tree.node u) ((with_mark nat_eq b unmarked uo).tree.node u)
   alike_moved true u differ other =
       alike_both (m.upper.tree.node u) (unmarked.tree.node u) _ (unmarked_alike u differ)
       (alike_same (unmarked.tree.node u) _ (kept_elsewhere unmarked uo (node_with_mark true) u (ne_eqb u uo other)))

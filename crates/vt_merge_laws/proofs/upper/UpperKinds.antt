@@ -4,7 +4,7 @@ use Rattle.vt_spec.specs.FileTree.{FileTree}
 use Rattle.vt_spec.specs.Language.Changes.{changed, changed_node, content_with_parent, node_with_attr, node_with_mark, with_moved}
 use Rattle.vt_spec.specs.Language.Changes.Change.{AddName, Make}
 use Rattle.vt_spec.specs.Lists.{Fresh, evens, odds, then_some, when}
-use Rattle.vt_spec.specs.Machine.CopyUp.{Merge, Stack, changed_both, copied_each, copied_up, copy_of, emptied, hides_directory, is_directory_shown, is_in_upper, line_to, marked, name_left_by, path_to, shown_in_lowers_at, upper_directory_named, upper_of}
+use Rattle.vt_spec.specs.Machine.CopyUp.{Merge, Stack, changed_both, copied_each, copied_up, copy_of, hides_directory, is_directory_shown, is_in_upper, line_to, name_left_by, path_to, shown_in_lowers_at, upper_directory_named, upper_of, with_mark, without_contents}
 use Rattle.vt_spec.specs.Machine.Invariants.{number_at_path}
 use Rattle.vt_spec.specs.Machine.Layers.{shown_in_lowers}
 use Rattle.vt_spec.specs.Machine.World.{upper_object}
@@ -212,7 +212,7 @@ opened_is_copied fresh stack merge whole new object place there is =
 -- A new object
 abbrev made_by : ℕ → List ℕ → Node ℕ → Bool → FileTree ℕ → ℕ → FileTree ℕ
 made_by copy name node b u p =
-    marked nat_eq b (changed nat_eq u
+    with_mark nat_eq b (changed nat_eq u
     (Make p name copy (record { attr = node.attr; content = content_with_parent p node.content }))) copy
 
 pub made_above : MadeAbove
@@ -231,7 +231,7 @@ made_above fresh stack merge whole new path directory name number node is =
 
 -- A removed name
 abbrev removed_by : Fresh ℕ → Stack ℕ → List ℕ → Bool → FileTree ℕ → ℕ → Option ℕ → FileTree ℕ
-removed_by fresh stack name b u p gone = emptied nat_eq (name_left_by nat_eq b fresh stack u p name) gone
+removed_by fresh stack name b u p gone = without_contents nat_eq (name_left_by nat_eq b fresh stack u p name) gone
 
 pub removed_above : RemovedAbove
 removed_above fresh stack merge whole new path directory name object is =
@@ -282,8 +282,8 @@ linked_above fresh stack merge whole new old path directory object name is used 
 -- A move
 abbrev moved_by : Fresh ℕ → Stack ℕ → List ℕ → List ℕ → Bool → Bool → FileTree ℕ → Option ℕ → ℕ → ℕ → ℕ → FileTree ℕ
 moved_by fresh stack old new mark left u gone from to object =
-    marked nat_eq mark (name_left_by nat_eq left fresh stack
-    (with_moved nat_eq (emptied nat_eq u gone) from old to new object) from old) object
+    with_mark nat_eq mark (name_left_by nat_eq left fresh stack
+    (with_moved nat_eq (without_contents nat_eq u gone) from old to new object) from old) object
 
 pub moved_above : MovedAbove
 moved_above fresh stack merge whole new from_path to_path from to object old new_name from_leads to_leads may =

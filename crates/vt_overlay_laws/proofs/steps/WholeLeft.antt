@@ -4,7 +4,7 @@ use Rattle.vt_spec.specs.declared.attributes.Kind.TheVariants.{White}
 use Rattle.vt_spec.specs.FileTree.{FileTree, is_kind_in}
 use Rattle.vt_spec.specs.Language.Changes.{changed_node, node_with_parent, node_without_entries}
 use Rattle.vt_spec.specs.Lists.{holds_of, then_some, when}
-use Rattle.vt_spec.specs.Machine.CopyUp.{Merge, Stack, emptied, upper_directory_named}
+use Rattle.vt_spec.specs.Machine.CopyUp.{Merge, Stack, upper_directory_named, without_contents}
 use Rattle.vt_spec.specs.Machine.Layers.{OpenLayer, Shown, at_path, shown_from, view_of}
 use Rattle.vt_spec.specs.Machine.Views
 use Rattle.vt_spec.specs.Machine.Views.{View, cuts, hides, node_led, shown_over}
@@ -55,7 +55,7 @@ module _ (before after : Tree ℕ) (to : ℕ) (new : List ℕ) (value : Option �
 
 -- a directory that loses its whiteouts and its parent is as it was but for names
 pub emptied_alike : (files : FileTree ℕ) (o : Option ℕ) (u : ℕ)
-    → IsAlike (files.tree.node u) ((emptied nat_eq files o).tree.node u)
+    → IsAlike (files.tree.node u) ((without_contents nat_eq files o).tree.node u)
 emptied_alike files None u = alike_same (files.tree.node u) (files.tree.node u) refl
 emptied_alike files (Some k) u =
     alike_both (files.tree.node u) ((changed_node nat_eq files k node_without_entries).tree.node u) _
@@ -64,7 +64,7 @@ emptied_alike files (Some k) u =
 
 -- and all others have their names
 pub emptied_entries : (files : FileTree ℕ) (k other : ℕ) (word : List ℕ) → nat_eq other k ≡ false
-    → entry_at (emptied nat_eq files (Some k)).tree other word ≡ entry_at files.tree other word
+    → entry_at (without_contents nat_eq files (Some k)).tree other word ≡ entry_at files.tree other word
 emptied_entries files k other word differ =
     ap (λ n. entry_named word (entries_in n))
     (kept_elsewhere (changed_node nat_eq files k node_without_entries) k (node_with_parent k) other differ

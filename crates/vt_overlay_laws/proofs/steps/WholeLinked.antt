@@ -5,7 +5,7 @@ use Rattle.vt_spec.specs.FileTree.{FileTree, is_kind, is_kind_in, opaque_of}
 use Rattle.vt_spec.specs.Language.Changes.{changed}
 use Rattle.vt_spec.specs.Language.Changes.Change.{AddName}
 use Rattle.vt_spec.specs.Lists.{then_some, when}
-use Rattle.vt_spec.specs.Machine.CopyUp.{Merge, Stack, linked, upper_of}
+use Rattle.vt_spec.specs.Machine.CopyUp.{Merge, Stack, merge_with_link, upper_of}
 use Rattle.vt_spec.specs.Machine.Layers.{shown, view_of}
 use Rattle.vt_spec.specs.Machine.Views.{View, hides, node_led, shown_from}
 use Rattle.vt_spec.specs.Machine.World.Real.{Upper}
@@ -213,4 +213,5 @@ module _ (stack : Stack ℕ) (merge : Merge ℕ) (whole : IsWhole stack merge) (
 
 pub link_keeps_shown : LinkKeepsShown
 link_keeps_shown stack merge d w object whole stands own may =
-    what_is_shown stack (linked nat_eq merge d w object) (later_is_fine stack merge whole d w object stands own may)
+    what_is_shown stack (merge_with_link nat_eq merge d w object)
+        (later_is_fine stack merge whole d w object stands own may)

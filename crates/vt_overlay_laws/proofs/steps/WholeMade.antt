@@ -6,7 +6,7 @@ use Rattle.vt_spec.specs.Language.Changes.{changed, changed_node, content_with_m
 use Rattle.vt_spec.specs.Language.Changes.Change.{Make}
 use Rattle.vt_spec.specs.Laws.Trees.{IsNewIn}
 use Rattle.vt_spec.specs.Lists.{then_some, when}
-use Rattle.vt_spec.specs.Machine.CopyUp.{Merge, Stack, hides_directory, is_directory_shown, made, marked, shown_in_lowers_at, upper_of, with_real}
+use Rattle.vt_spec.specs.Machine.CopyUp.{Merge, Stack, hides_directory, is_directory_shown, merge_with_new, shown_in_lowers_at, upper_of, with_mark, with_real}
 use Rattle.vt_spec.specs.Machine.Layers.{Shown, shown_in_lowers, shown, view_of}
 use Rattle.vt_spec.specs.Machine.Views.{View, cuts, hides, node_led, shown_from, shown_over}
 use Rattle.vt_spec.specs.Machine.World.{Real}
@@ -390,7 +390,7 @@ mark_hides p node Whiteout = refl
 
 pub make_keeps_shown : MakeKeepsShown
 make_keeps_shown fresh stack merge d w number node whole stands vacant may white =
-    what_is_shown stack (made nat_eq fresh stack merge d w number node)
+    what_is_shown stack (merge_with_new nat_eq fresh stack merge d w number node)
     (by (hides_directory nat_eq stack merge d w) refl)
   where
     upper_directory : IsDirectory merge.upper.tree (upper_of merge d)
@@ -401,7 +401,7 @@ make_keeps_shown fresh stack merge d w number node whole stands vacant may white
         → IsFine stack (record {
           files = changed nat_eq merge.files (Make d w number node);
           real = with_real nat_eq merge.real number (Upper (fresh 0));
-          upper = marked nat_eq b (changed nat_eq merge.upper
+          upper = with_mark nat_eq b (changed nat_eq merge.upper
               (Make (upper_of merge d) w (fresh 0)
               (record { attr = node.attr; content = content_with_parent (upper_of merge d) node.content }))) (fresh 0);
         })

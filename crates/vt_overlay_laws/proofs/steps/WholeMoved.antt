@@ -6,7 +6,7 @@ use Rattle.vt_spec.specs.FileTree.{FileTree, is_kind, is_kind_in}
 use Rattle.vt_spec.specs.Language.Changes.{changed, changed_node, content_with_mark, node_with_mark, with_inode}
 use Rattle.vt_spec.specs.Language.Changes.Change.{Move}
 use Rattle.vt_spec.specs.Lists.{Fresh, then_some, when}
-use Rattle.vt_spec.specs.Machine.CopyUp.{Merge, Stack, emptied, hides_directory, is_directory_shown, moved as moved_overlay, path_to, shown_in_lowers_at, upper_directory_named, whiteout_of}
+use Rattle.vt_spec.specs.Machine.CopyUp.{Merge, Stack, hides_directory, is_directory_shown, merge_with_moved as moved_overlay, path_to, shown_in_lowers_at, upper_directory_named, whiteout_of, without_contents}
 use Rattle.vt_spec.specs.Machine.Layers.{Shown, has_lower_directory, view_of}
 use Rattle.vt_spec.specs.Machine.Views
 use Rattle.vt_spec.specs.Machine.Views.{View, cuts, hides, node_led, shown_from, shown_over}
@@ -224,32 +224,32 @@ module _ (fresh : Fresh ℕ) (stack : Stack ℕ) (merge : Merge ℕ) (whole : Is
   abbrev left_tree : FileTree ℕ
   left_tree =
       WholeMovedTree.left_base fresh stack merge whole f old t new o stands_f stands_t stands_o may vacant
-      (emptied nat_eq merge.upper (upper_directory_named merge t new))
+      (without_contents nat_eq merge.upper (upper_directory_named merge t new))
       (emptied_alike merge.upper (upper_directory_named merge t new)) left marks
 
   left_alike : (u : ℕ) → u ≢ c → IsAlike (merge.upper.tree.node u) (left_tree.tree.node u)
   left_alike =
       WholeMovedTree.inode_alike fresh stack merge whole f old t new o stands_f stands_t stands_o may vacant
-      (emptied nat_eq merge.upper (upper_directory_named merge t new))
+      (without_contents nat_eq merge.upper (upper_directory_named merge t new))
       (emptied_alike merge.upper (upper_directory_named merge t new)) left marks
 
   marked_other : (m : Bool) (u : ℕ) → nat_eq u uo ≡ false
-      → (Rattle.vt_spec.specs.Machine.CopyUp.marked nat_eq m left_tree uo).tree.node u ≡ left_tree.tree.node u
+      → (Rattle.vt_spec.specs.Machine.CopyUp.with_mark nat_eq m left_tree uo).tree.node u ≡ left_tree.tree.node u
   marked_other true u differ = kept_elsewhere left_tree uo (node_with_mark true) u differ
   marked_other false u differ = refl
 
-  marked_own : (m : Bool) → (Rattle.vt_spec.specs.Machine.CopyUp.marked nat_eq m left_tree uo).tree.node uo
+  marked_own : (m : Bool) → (Rattle.vt_spec.specs.Machine.CopyUp.with_mark nat_eq m left_tree uo).tree.node uo
       ≡ cond m (node_with_mark true (left_tree.tree.node uo)) (left_tree.tree.node uo)
   marked_own true = node_set left_tree.tree uo (node_with_mark true (left_tree.tree.node uo))
   marked_own false = refl
 
   marked_more : (m : Bool) (u : ℕ)
       → HidesMore (left_tree.tree.node u)
-      ((Rattle.vt_spec.specs.Machine.CopyUp.marked nat_eq m left_tree uo).tree.node u)
+      ((Rattle.vt_spec.specs.Machine.CopyUp.with_mark nat_eq m left_tree uo).tree.node u)
   marked_more m u =
       ⊎_elim
       (λ t. subst (λ k. HidesMore (left_tree.tree.node k)
-      ((Rattle.vt_spec.specs.Machine.CopyUp.marked nat_eq m left_tree uo).tree.node k)) (sym t.1)
+      ((Rattle.vt_spec.specs.Machine.CopyUp.with_mark nat_eq m left_tree uo).tree.node k)) (sym t.1)
       (subst (HidesMore (left_tree.tree.node uo)) (sym (marked_own m)) (own m)))
       (λ t. subst (HidesMore (left_tree.tree.node u)) (sym (marked_other m u t.0))
       (alike_more (left_tree.tree.node u) (left_tree.tree.node u)
@@ -363,7 +363,7 @@ module _ (fresh : Fresh ℕ) (stack : Stack ℕ) (merge : Merge ℕ) (whole : Is
   abbrev moved_base : FileTree ℕ
   moved_base =
       WholeMovedTree.moved_base fresh stack merge whole f old t new o stands_f stands_t stands_o may vacant
-      (emptied nat_eq merge.upper (upper_directory_named merge t new))
+      (without_contents nat_eq merge.upper (upper_directory_named merge t new))
       (emptied_alike merge.upper (upper_directory_named merge t new)) left marks
 
   abbrev apart : FileTree ℕ

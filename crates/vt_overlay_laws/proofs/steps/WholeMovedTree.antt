@@ -4,7 +4,7 @@ use Rattle.vt_spec.specs.FileTree.{FileTree}
 use Rattle.vt_spec.specs.Language.Changes.{node_with_mark, node_without_entry, with_inode, with_moved}
 use Rattle.vt_spec.specs.Language.Changes.Change.{Move}
 use Rattle.vt_spec.specs.Lists.{Fresh}
-use Rattle.vt_spec.specs.Machine.CopyUp.{Merge, Stack, emptied, marked, name_left_by, upper_directory_named, upper_of, whiteout_of}
+use Rattle.vt_spec.specs.Machine.CopyUp.{Merge, Stack, name_left_by, upper_directory_named, upper_of, whiteout_of, with_mark, without_contents}
 use Rattle.vt_spec.specs.Machine.Views.{View}
 use Rattle.vt_spec.specs.Machine.World.Real.{Upper}
 use Rattle.vt_spec.specs.Machine.Invariants.{number_at_path}
@@ -141,7 +141,7 @@ module _ (fresh : Fresh ℕ) (stack : Stack ℕ) (merge : Merge ℕ) (whole : Is
     left_base = name_left_by nat_eq left fresh stack moved_base uf old
 
     abbrev pub final : FileTree ℕ
-    final = marked nat_eq marks left_base uo
+    final = with_mark nat_eq marks left_base uo
 
     moved_alike : (u : ℕ) → IsAlike (merge.upper.tree.node u) (moved_base.tree.node u)
     moved_alike u =
@@ -173,7 +173,7 @@ module _ (fresh : Fresh ℕ) (stack : Stack ℕ) (merge : Merge ℕ) (whole : Is
     told_left false other word = taken moved_base uf old other word
 
     told_marked : (m : Bool) (other : ℕ) (word : List ℕ)
-        → entry_at (marked nat_eq m left_base uo).tree other word ≡ entry_at left_base.tree other word
+        → entry_at (with_mark nat_eq m left_base uo).tree other word ≡ entry_at left_base.tree other word
     told_marked true other word = ap (entry_named word)
         (entries_stay left_base uo (node_with_mark true) (entries-node_with_mark true) other)
     told_marked false other word = refl
@@ -439,7 +439,7 @@ module _ (fresh : Fresh ℕ) (stack : Stack ℕ) (merge : Merge ℕ) (whole : Is
 
     -- so nothing is otherwise when it is emptied
     abbrev pub whole_moved : FileTree ℕ
-    whole_moved = final (emptied nat_eq merge.upper (upper_directory_named merge t new))
+    whole_moved = final (without_contents nat_eq merge.upper (upper_directory_named merge t new))
         (emptied_alike merge.upper (upper_directory_named merge t new)) left marks
 
     pub led_emptied : (path : List (List ℕ))
@@ -447,7 +447,7 @@ module _ (fresh : Fresh ℕ) (stack : Stack ℕ) (merge : Merge ℕ) (whole : Is
     led_emptied path =
         led_where moved.tree whole_moved.tree path stack.directory
         (λ to inode l word.
-        told (emptied nat_eq merge.upper (upper_directory_named merge t new))
+        told (without_contents nat_eq merge.upper (upper_directory_named merge t new))
         (emptied_alike merge.upper (upper_directory_named merge t new)) left marks inode word
         ∙ ap (λ x. cond (is_entry ut new inode word) (Some uo) (cond (is_entry uf old inode word) (value left) x))
         (by (upper_directory_named merge t new) refl to inode l word)
@@ -455,7 +455,7 @@ module _ (fresh : Fresh ℕ) (stack : Stack ℕ) (merge : Merge ℕ) (whole : Is
       where
         by : (x : Option ℕ) → upper_directory_named merge t new ≡ x → (to : List (List ℕ)) (inode : ℕ)
             → led moved.tree stack.directory to ≡ Some inode → (word : List ℕ)
-            → entry_at (emptied nat_eq merge.upper x).tree inode word ≡ entry_at merge.upper.tree inode word
+            → entry_at (without_contents nat_eq merge.upper x).tree inode word ≡ entry_at merge.upper.tree inode word
         by None is to inode l word = refl
         by (Some r) is to inode l word =
             emptied_entries merge.upper r inode word (ne_eqb inode r (λ same. unreached r is to (l ∙ ap Some same)))

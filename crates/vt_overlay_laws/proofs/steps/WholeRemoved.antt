@@ -5,7 +5,7 @@ use Rattle.vt_spec.specs.FileTree.{FileTree, is_kind, is_kind_in}
 use Rattle.vt_spec.specs.Language.Changes.{changed, changed_node, node_with_parent, node_without_entries, node_without_entry, without_name}
 use Rattle.vt_spec.specs.Language.Changes.Change.{Make, Remove}
 use Rattle.vt_spec.specs.Lists.{then_some}
-use Rattle.vt_spec.specs.Machine.CopyUp.{Merge, Stack, emptied, name_left_by, removed, shown_in_lowers_at, upper_directory_named, upper_of, whiteout_of}
+use Rattle.vt_spec.specs.Machine.CopyUp.{Merge, Stack, merge_without_name, name_left_by, shown_in_lowers_at, upper_directory_named, upper_of, whiteout_of, without_contents}
 use Rattle.vt_spec.specs.Machine.Layers.{Shown, view_of}
 use Rattle.vt_spec.specs.Machine.Views.{View, cuts, hides, node_led, shown_from, shown_over}
 use Rattle.vt_spec.specs.Machine.World.{Real, upper_object}
@@ -353,11 +353,11 @@ module _ (stack : Stack ℕ) (merge : Merge ℕ) (whole : IsWhole stack merge) (
     -- so paths lead as they did when it is emptied
     emptied_led : (o : Option ℕ) →
         ((uo : ℕ) → o ≡ Some uo → (merge.real object ≡ Some (Upper uo)) × IsDirectory merge.files.tree object)
-        → (path : List (List ℕ)) → led (emptied nat_eq first o).tree stack.directory path
+        → (path : List (List ℕ)) → led (without_contents nat_eq first o).tree stack.directory path
         ≡ led first.tree stack.directory path
     emptied_led None is path = refl
     emptied_led (Some uo) is path =
-        led_where first.tree (emptied nat_eq first (Some uo)).tree path stack.directory
+        led_where first.tree (without_contents nat_eq first (Some uo)).tree path stack.directory
         (λ to inode l word.
         let differ = ne_eqb inode uo (λ same. unreached uo (is uo refl).0 (is uo refl).1 to (l ∙ ap Some same)) in
         ap (λ n. entry_named word (entries_in n))
@@ -411,14 +411,14 @@ module _ (stack : Stack ℕ) (merge : Merge ℕ) (whole : IsWhole stack merge) (
   pub plain_is_fine : shown_in_lowers_at nat_eq stack merge d w ≡ None
       → IsFine stack (record merge {
         files = files;
-        upper = emptied nat_eq (without_name nat_eq merge.upper ud w)
+        upper = without_contents nat_eq (without_name nat_eq merge.upper ud w)
             (upper_directory_named merge d w);
       })
   plain_is_fine none =
       let first = without_name nat_eq merge.upper ud w in
       let o = upper_directory_named merge d w in
       let no_new : (k : ℕ) → None ≡ Some k → merge.upper.tree.node k ≡ None = λ k e. none_is_some k e in
-      later_is_fine (emptied nat_eq first o) None
+      later_is_fine (without_contents nat_eq first o) None
       (λ path. emptied_led first None no_new plain_led o is_own path ∙ plain_led path)
       (λ u there.
       alike_both (merge.upper.tree.node u) (first.tree.node u) _
@@ -442,12 +442,12 @@ module _ (stack : Stack ℕ) (merge : Merge ℕ) (whole : IsWhole stack merge) (
     new_number k e = ap merge.upper.tree.node (sym (same_Some c k e)) ∙ vacant
 
     pub white_is_fine : IsFine stack
-        (record merge { files = files; upper = emptied nat_eq whited (upper_directory_named merge d w) })
+        (record merge { files = files; upper = without_contents nat_eq whited (upper_directory_named merge d w) })
     white_is_fine =
         let o = upper_directory_named merge d w in
         let inodes = make_adds_inode merge.upper stack.directory ud c w
         (whiteout_of stack.mounter) ud_directory vacant in
-        later_is_fine (emptied nat_eq whited o) (Some c)
+        later_is_fine (without_contents nat_eq whited o) (Some c)
         (λ path. emptied_led whited (Some c) new_number white_led o is_own path ∙ white_led path)
         (λ u there.
         alike_both (merge.upper.tree.node u) (whited.tree.node u) _
@@ -463,13 +463,13 @@ module _ (stack : Stack ℕ) (merge : Merge ℕ) (whole : IsWhole stack merge) (
 
 pub remove_keeps_shown : RemoveKeepsShown
 remove_keeps_shown fresh stack merge d w object whole stands vacant may =
-    what_is_shown stack (removed nat_eq fresh stack merge d w object) (by
+    what_is_shown stack (merge_without_name nat_eq fresh stack merge d w object) (by
     (shown_in_lowers_at nat_eq stack merge d w) refl)
   where
     by : (o : Option (Shown ℕ)) → shown_in_lowers_at nat_eq stack merge d w ≡ o
         → IsFine stack (record merge {
           files = changed nat_eq merge.files (Remove d w object);
-          upper = emptied nat_eq (name_left_by nat_eq (is_some o) fresh stack merge.upper (upper_of merge d) w)
+          upper = without_contents nat_eq (name_left_by nat_eq (is_some o) fresh stack merge.upper (upper_of merge d) w)
               (upper_directory_named merge d w);
         })
     by None e = plain_is_fine stack merge whole d w object stands may e

@@ -4,7 +4,7 @@ use Rattle.vt_spec.specs.FileTree.{FileTree, has_entry_to}
 use Rattle.vt_spec.specs.Language.Changes.{Change}
 use Rattle.vt_spec.specs.Language.Changes.Change.{Move}
 use Rattle.vt_spec.specs.Lists.{Fresh, odds}
-use Rattle.vt_spec.specs.Machine.CopyUp.{Merge, Stack, emptied, upper_directory_named, upper_of}
+use Rattle.vt_spec.specs.Machine.CopyUp.{Merge, Stack, upper_directory_named, upper_of, without_contents}
 use Rattle.vt_spec.specs.Machine.Filesystems.{merge_of, stack_of}
 use Rattle.vt_spec.specs.Machine.Invariants.{IsWorld, is_plain_layer}
 use Rattle.vt_spec.specs.Machine.Mounts.{Location}
@@ -218,7 +218,7 @@ module _ (fresh : Fresh ℕ) (world : World ℕ) (location : Location ℕ) (chan
 
     spared : (m : Merge ℕ) → two ≡ m
         → Rattle.vt_spec.specs.Tree.entry_named to
-        (entries_in ((emptied nat_eq m.upper (upper_directory_named m t to)).tree.node
+        (entries_in ((without_contents nat_eq m.upper (upper_directory_named m t to)).tree.node
         (upper_of m t))) ≢ Some layer.directory
     spared m copied e =
         ⊎_elim (λ entry. not_there (ap (λ (x : Merge ℕ). entry_at x.upper.tree (upper_of x t) to) copied ∙ entry))

@@ -3,7 +3,7 @@ use Rattle.std.proofs.Common.{◌≡◌, sym, ap, subst, ◌∙◌, ℕ, nat_eq,
 use Rattle.vt_spec.specs.Language.Changes.{Change, changed, content_with_parent, with_inode, with_moved}
 use Rattle.vt_spec.specs.Language.Changes.Change.{AddName, CopyUp, Make, Move, Remove, SetAttr, SetBytes, SetMark}
 use Rattle.vt_spec.specs.Lists.{Fresh, odds}
-use Rattle.vt_spec.specs.Machine.CopyUp.{Merge, Stack, copied_up, emptied, hides_directory, made, merge_changed, moved, name_left_by, removed, shown_in_lowers_at, upper_directory_named, upper_of}
+use Rattle.vt_spec.specs.Machine.CopyUp.{Merge, Stack, copied_up, hides_directory, merge_changed, merge_with_moved, merge_with_new, merge_without_name, name_left_by, shown_in_lowers_at, upper_directory_named, upper_of, without_contents}
 use Rattle.vt_spec.specs.Tree.{Node}
 use Rattle.vt_spec.proofs.Nodes.{directory_used}
 use Rattle.vt_tree_laws.specs.Trees.Sizes.{IsFitChange, is_fit_name, is_fit_node, is_fit_tree}
@@ -22,7 +22,7 @@ use Rattle.vt_spec.proofs.FreshNumbers.{odds-distinct}
 -- each part of a change
 module _ (fresh : Fresh ℕ) (stack : Stack ℕ) (merge : Merge ℕ) (h : is_fit_tree merge.upper ≡ true) where
   made_sized : (d : ℕ) (w : List ℕ) (number : ℕ) (node : Node ℕ) → is_fit_name w ≡ true → is_fit_node node ≡ true
-      → is_fit_tree (made nat_eq fresh stack merge d w number node).upper ≡ true
+      → is_fit_tree (merge_with_new nat_eq fresh stack merge d w number node).upper ≡ true
   made_sized d w number node name small =
       let inode : Node ℕ = record { attr = node.attr; content = content_with_parent (upper_of merge d) node.content } in
       let first = with_inode nat_eq merge.upper (fresh 0) inode in
@@ -32,7 +32,7 @@ module _ (fresh : Fresh ℕ) (stack : Stack ℕ) (merge : Merge ℕ) (h : is_fit
       (inode_fits merge.upper (fresh 0) inode (above_fits_limits (upper_of merge d) node small) h))
 
   removed_sized : (d : ℕ) (w : List ℕ) (object : ℕ) → is_fit_name w ≡ true
-      → is_fit_tree (removed nat_eq fresh stack merge d w object).upper ≡ true
+      → is_fit_tree (merge_without_name nat_eq fresh stack merge d w object).upper ≡ true
   removed_sized d w object name =
       emptied_sized (name_left_by nat_eq (is_some (shown_in_lowers_at nat_eq stack merge d w)) fresh stack merge.upper
       (upper_of merge d) w)
@@ -42,9 +42,9 @@ module _ (fresh : Fresh ℕ) (stack : Stack ℕ) (merge : Merge ℕ) (h : is_fit
 
   move_sized : (f : ℕ) (old : List ℕ) (t : ℕ) (to : List ℕ) (object : ℕ) → is_fit_name old ≡ true
       → is_fit_name to ≡ true
-      → is_fit_tree (moved nat_eq fresh stack merge f old t to object).upper ≡ true
+      → is_fit_tree (merge_with_moved nat_eq fresh stack merge f old t to object).upper ≡ true
   move_sized f old t to object name new =
-      let base = emptied nat_eq merge.upper (upper_directory_named merge t to) in
+      let base = without_contents nat_eq merge.upper (upper_directory_named merge t to) in
       let gone = with_moved nat_eq base (upper_of merge f) old (upper_of merge t) to (upper_of merge object) in
       marked_sized (name_left_by nat_eq (is_some (shown_in_lowers_at nat_eq stack merge f old)) fresh stack gone
       (upper_of merge f) old)

@@ -6,7 +6,7 @@ use Rattle.vt_spec.specs.Language.Changes.{changed, content_with_parent}
 use Rattle.vt_spec.specs.Language.Changes.Change.{AddName, Make, SetMark}
 use Rattle.vt_spec.specs.Laws.Trees.{IsNewIn}
 use Rattle.vt_spec.specs.Lists.{Fresh}
-use Rattle.vt_spec.specs.Machine.CopyUp.{Merge, Stack, hides_directory, linked, made, marked, upper_of}
+use Rattle.vt_spec.specs.Machine.CopyUp.{Merge, Stack, hides_directory, merge_with_link, merge_with_new, upper_of, with_mark}
 use Rattle.vt_spec.specs.Machine.World.Real.{Upper}
 use Rattle.vt_spec.specs.Machine.Invariants.{number_at_path}
 use Rattle.vt_spec.specs.Rights.{is_directory}
@@ -108,14 +108,14 @@ make_over top files d w c node good is reached plain vacant fits =
 
 -- a mark
 pub mark_goes : (top : ℕ) (files : FileTree ℕ) (b : Bool) (object : ℕ) → IsGood top files
-    → Goes top files (marked nat_eq b files object)
+    → Goes top files (with_mark nat_eq b files object)
 mark_goes top files true object good = goes_by top files (SetMark object true) good tt tt
 mark_goes top files false object good = goes_none top files good
 
 pub made_goes : (fresh : Fresh ℕ) (stack : Stack ℕ) (merge : Merge ℕ) (d : ℕ) (w : List ℕ) (number : ℕ) (node : Node ℕ)
     → IsWhole stack merge → StandsInUpper merge d → merge.upper.tree.node (fresh 0) ≡ None
     → MayMake merge.files.tree d w number node
-    → Goes stack.directory merge.upper (made nat_eq fresh stack merge d w number node).upper
+    → Goes stack.directory merge.upper (merge_with_new nat_eq fresh stack merge d w number node).upper
 made_goes fresh stack merge d w number node whole stands vacant may =
     let ud = upper_of merge d in
     let real_d = upper_real merge d stands in
@@ -132,7 +132,7 @@ made_goes fresh stack merge d w number node whole stands vacant may =
 
 pub linked_goes : (stack : Stack ℕ) (merge : Merge ℕ) (d : ℕ) (w : List ℕ) (object : ℕ)
     → IsWhole stack merge → StandsInUpper merge d → StandsInUpper merge object → MayAddName merge.files.tree d w object
-    → Goes stack.directory merge.upper (linked nat_eq merge d w object).upper
+    → Goes stack.directory merge.upper (merge_with_link nat_eq merge d w object).upper
 linked_goes stack merge d w object whole stands own may =
     let ud = upper_of merge d in
     let uo = upper_of merge object in

@@ -4,7 +4,7 @@ use Rattle.vt_spec.specs.FileTree.{FileTree}
 use Rattle.vt_spec.specs.Language.Changes.{changed, changed_node, content_with_parent, node_with_parent, with_moved, with_name, without_name, without_parent}
 use Rattle.vt_spec.specs.Language.Changes.Change.{Move}
 use Rattle.vt_spec.specs.Lists.{Fresh}
-use Rattle.vt_spec.specs.Machine.CopyUp.{Merge, Stack, emptied, hides_directory, marked, moved, name_left_by, shown_in_lowers_at, upper_directory_named, upper_of, whiteout_of}
+use Rattle.vt_spec.specs.Machine.CopyUp.{Merge, Stack, hides_directory, merge_with_moved, name_left_by, shown_in_lowers_at, upper_directory_named, upper_of, whiteout_of, with_mark, without_contents}
 use Rattle.vt_spec.specs.Machine.World.Real.{Upper}
 use Rattle.vt_spec.specs.Tree.{Content, Node, entries_in, entry_named, is_directory_node}
 use Rattle.vt_spec.specs.Tree.Content.{Directory, Regular, Symlink, Whiteout}
@@ -194,21 +194,21 @@ module _ (fresh : Fresh ℕ) (stack : Stack ℕ) (merge : Merge ℕ) (whole : Is
     leaves false = freed_goes top moved_up moves.good uf old plain
 
     pub moved_up_goes : (left marks : Bool)
-        → Goes top merge.upper (marked nat_eq marks (name_left_by nat_eq left fresh stack moved_up uf old) uo)
+        → Goes top merge.upper (with_mark nat_eq marks (name_left_by nat_eq left fresh stack moved_up uf old) uo)
     moved_up_goes left marks =
         let last = name_left_by nat_eq left fresh stack moved_up uf old in
         goes_both top merge.upper base _ to_base
         (goes_both top base moved_up _ moves
         (goes_both top moved_up last _ (leaves left) (mark_goes top last marks uo (leaves left).good)))
 
-  pub moved_goes : Goes top merge.upper (moved nat_eq fresh stack merge f old t new o).upper
+  pub moved_goes : Goes top merge.upper (merge_with_moved nat_eq fresh stack merge f old t new o).upper
   moved_goes = by (upper_directory_named merge t new) refl (is_some (shown_in_lowers_at nat_eq stack merge f old))
       (hides_directory nat_eq stack merge t new)
     where
       by : (x : Option ℕ) → upper_directory_named merge t new ≡ x → (left marks : Bool)
-          → Goes top merge.upper (marked nat_eq marks
+          → Goes top merge.upper (with_mark nat_eq marks
           (name_left_by nat_eq left fresh stack
-          (with_moved nat_eq (emptied nat_eq merge.upper x) uf old ut new uo) uf old) uo)
+          (with_moved nat_eq (without_contents nat_eq merge.upper x) uf old ut new uo) uf old) uo)
       by None e left marks =
           let plain = none_named stack merge whole t ut real_t may.reached.0 may.reached.1 new e in
           moved_up_goes merge.upper (goes_none top merge.upper good) (λ d n k g. g) (λ k. refl)
@@ -216,7 +216,7 @@ module _ (fresh : Fresh ℕ) (stack : Stack ℕ) (merge : Merge ℕ) (whole : Is
           (λ k g. entries_in-no_directory (merge.upper.tree.node k) (plain k g))
           (λ g. true≢false (sym good.directory ∙ plain top g)) left marks
       by (Some r) e left marks =
-          subst (λ x. Goes top merge.upper (marked nat_eq marks (name_left_by nat_eq left fresh stack x uf old) uo))
+          subst (λ x. Goes top merge.upper (with_mark nat_eq marks (name_left_by nat_eq left fresh stack x uf old) uo))
           (sym (moved_twice base uf old ut new uo r (bare_kept merge.upper r good.tree leaf ut new r ut_apart entry)))
           (moved_up_goes base (bare_goes merge.upper r good.tree leaf top good)
           (λ d n k g. (bare_told merge.upper r good.tree leaf d n k g).1)

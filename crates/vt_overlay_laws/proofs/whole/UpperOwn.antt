@@ -3,7 +3,7 @@ use Rattle.std.proofs.Common.{◌≡◌, refl, sym, ap, subst, ◌∙◌, inl, i
 use Rattle.vt_spec.specs.Language.Changes.{Change, changed, content_with_parent, node_with_attr, with_inode}
 use Rattle.vt_spec.specs.Language.Changes.Change.{AddName, CopyUp, Make, Move, Remove, SetAttr, SetBytes, SetMark}
 use Rattle.vt_spec.specs.Lists.{Fresh, evens, odds}
-use Rattle.vt_spec.specs.Machine.CopyUp.{Merge, Stack, copied_up, emptied, hides_directory, made, merge_changed, moved, name_left_by, removed, shown_in_lowers_at, upper_directory_named, upper_of}
+use Rattle.vt_spec.specs.Machine.CopyUp.{Merge, Stack, copied_up, hides_directory, merge_changed, merge_with_moved, merge_with_new, merge_without_name, name_left_by, shown_in_lowers_at, upper_directory_named, upper_of, without_contents}
 use Rattle.vt_spec.specs.Machine.World.{upper_object}
 use Rattle.vt_spec.specs.Machine.World.Real.{Upper}
 use Rattle.vt_spec.specs.Tree.{Content, Node, entries_of, is_directory_node, node_with_bytes}
@@ -37,9 +37,9 @@ bare_above p Whiteout e = refl
 -- each part of a change, where this holds of the inodes that names are given to
 module _ (P : ℕ → Type 0) (fresh : Fresh ℕ) (stack : Stack ℕ) (merge : Merge ℕ) (new : P (fresh 0)) where
   made_told : (d : ℕ) (w : List ℕ) (number : ℕ) (node : Node ℕ) → entries_of node.content ≡ []
-      → Told P merge.upper (made nat_eq fresh stack merge d w number node).upper
+      → Told P merge.upper (merge_with_new nat_eq fresh stack merge d w number node).upper
   made_told d w number node bare =
-      let last = (made nat_eq fresh stack merge d w number node).upper in
+      let last = (merge_with_new nat_eq fresh stack merge d w number node).upper in
       let inode : Node ℕ = record { attr = node.attr; content = content_with_parent (upper_of merge d) node.content } in
       let first = with_inode nat_eq merge.upper (fresh 0) inode in
       let second = changed nat_eq merge.upper (Make (upper_of merge d) w (fresh 0) inode) in
@@ -49,9 +49,9 @@ module _ (P : ℕ → Type 0) (fresh : Fresh ℕ) (stack : Stack ℕ) (merge : M
       (told_marked P second (hides_directory nat_eq stack merge d w) (fresh 0)))
 
   removed_told : (d : ℕ) (w : List ℕ) (object : ℕ)
-      → Told P merge.upper (removed nat_eq fresh stack merge d w object).upper
+      → Told P merge.upper (merge_without_name nat_eq fresh stack merge d w object).upper
   removed_told d w object =
-      let last = (removed nat_eq fresh stack merge d w object).upper in
+      let last = (merge_without_name nat_eq fresh stack merge d w object).upper in
       let left = name_left_by nat_eq (is_some (shown_in_lowers_at nat_eq stack merge d w)) fresh stack merge.upper
       (upper_of merge d) w in
       told_both P merge.upper left last
@@ -60,10 +60,10 @@ module _ (P : ℕ → Type 0) (fresh : Fresh ℕ) (stack : Stack ℕ) (merge : M
       (told_emptied P left (upper_directory_named merge d w))
 
   moved_told : (f : ℕ) (old : List ℕ) (t : ℕ) (to : List ℕ) (object : ℕ) → P (upper_of merge object)
-      → Told P merge.upper (moved nat_eq fresh stack merge f old t to object).upper
+      → Told P merge.upper (merge_with_moved nat_eq fresh stack merge f old t to object).upper
   moved_told f old t to object own =
-      let last = (moved nat_eq fresh stack merge f old t to object).upper in
-      let base = emptied nat_eq merge.upper (upper_directory_named merge t to) in
+      let last = (merge_with_moved nat_eq fresh stack merge f old t to object).upper in
+      let base = without_contents nat_eq merge.upper (upper_directory_named merge t to) in
       let gone = changed nat_eq base (Move (upper_of merge f) old (upper_of merge t) to (upper_of merge object)) in
       let left = name_left_by nat_eq (is_some (shown_in_lowers_at nat_eq stack merge f old)) fresh stack gone
       (upper_of merge f) old in

@@ -4,7 +4,7 @@ use Rattle.vt_spec.specs.FileTree.{FileTree}
 use Rattle.vt_spec.specs.Language.Changes.{changed, changed_node, node_with_parent, node_without_entries, node_without_entry, with_inode, with_name, without_name, without_parent}
 use Rattle.vt_spec.specs.Language.Changes.Change.{Make, Remove}
 use Rattle.vt_spec.specs.Lists.{Fresh, then_some}
-use Rattle.vt_spec.specs.Machine.CopyUp.{Merge, Stack, emptied, name_left_by, removed, shown_in_lowers_at, upper_directory_named, upper_of, whiteout_of}
+use Rattle.vt_spec.specs.Machine.CopyUp.{Merge, Stack, merge_without_name, name_left_by, shown_in_lowers_at, upper_directory_named, upper_of, whiteout_of, without_contents}
 use Rattle.vt_spec.specs.Machine.World.{upper_object}
 use Rattle.vt_spec.specs.Machine.World.Real.{Upper}
 use Rattle.vt_spec.specs.Machine.Invariants.{number_at_path}
@@ -200,7 +200,7 @@ module _ (top : ℕ) (files : FileTree ℕ) (good : IsGood top files) (d : ℕ) 
 pub removed_goes : (fresh : Fresh ℕ) (stack : Stack ℕ) (merge : Merge ℕ) (d : ℕ) (w : List ℕ) (object : ℕ)
     → IsWhole stack merge → StandsInUpper merge d → merge.upper.tree.node (fresh 0) ≡ None
     → MayRemove merge.files.tree d w object
-    → Goes stack.directory merge.upper (removed nat_eq fresh stack merge d w object).upper
+    → Goes stack.directory merge.upper (merge_without_name nat_eq fresh stack merge d w object).upper
 removed_goes fresh stack merge d w object whole stands vacant may =
     by (upper_directory_named merge d w) refl (is_some (shown_in_lowers_at nat_eq stack merge d w))
   where
@@ -229,7 +229,7 @@ removed_goes fresh stack merge d w object whole stands vacant may =
 
     by : (o : Option ℕ) → upper_directory_named merge d w ≡ o → (b : Bool)
         → Goes stack.directory merge.upper
-        (emptied nat_eq (name_left_by nat_eq b fresh stack merge.upper (upper_of merge d) w) o)
+        (without_contents nat_eq (name_left_by nat_eq b fresh stack merge.upper (upper_of merge d) w) o)
     by None e false = freed_goes stack.directory merge.upper good (upper_of merge d) w
         (none_named stack merge whole d (upper_of merge d) real_d way.0 way.1 w e)
     by None e true =

@@ -7,7 +7,7 @@ use Rattle.vt_spec.specs.FileTree.{FileTree}
 use Rattle.vt_spec.specs.Language.Changes.{changed_node, content_with_parent, node_with_parent, node_without_entries, node_without_entry, with_inode, with_moved, with_name, without_name}
 use Rattle.vt_spec.specs.Language.Changes.Change.{AddName, Move, SetMark}
 use Rattle.vt_spec.specs.Lists.{Fresh}
-use Rattle.vt_spec.specs.Machine.CopyUp.{Stack, copied_content, emptied, marked, name_left_by, whiteout_of}
+use Rattle.vt_spec.specs.Machine.CopyUp.{Stack, copied_content, name_left_by, whiteout_of, with_mark, without_contents}
 use Rattle.vt_spec.specs.Machine.Invariants.{ListsNumbers, has_fit_names, has_fit_text, is_no_larger}
 use Rattle.vt_spec.specs.Tree.{Content, Entries, Node, entries_in, entry_named, name_cmp}
 use Rattle.vt_spec.specs.Tree.Content.{Directory, Regular, Symlink, Whiteout}
@@ -60,7 +60,7 @@ pub name_sized : (files : FileTree ℕ) (d : ℕ) (w : List ℕ) (k : ℕ) → i
 name_sized files d w k fit h = changes_keep_sizes files (AddName d w k) h fit
 
 pub marked_sized : (files : FileTree ℕ) (b : Bool) (object : ℕ) → is_fit_tree files ≡ true
-    → is_fit_tree (marked nat_eq b files object) ≡ true
+    → is_fit_tree (with_mark nat_eq b files object) ≡ true
 marked_sized files true object h = changes_keep_sizes files (SetMark object true) h tt
 marked_sized files false object h = h
 
@@ -85,7 +85,7 @@ bare_fits (Some node) k = by node.attr node.content k
     by attr Whiteout g = g
 
 pub emptied_sized : (files : FileTree ℕ) (o : Option ℕ) → is_fit_tree files ≡ true
-    → is_fit_tree (emptied nat_eq files o) ≡ true
+    → is_fit_tree (without_contents nat_eq files o) ≡ true
 emptied_sized files None h = h
 emptied_sized files (Some r) h =
     let bare = changed_node nat_eq files r node_without_entries in

@@ -4,7 +4,7 @@ use Rattle.std.proofs.lemmas.Bool.Decides.{eqb_tells}
 use Rattle.vt_spec.specs.FileTree.{FileTree}
 use Rattle.vt_spec.specs.Language.Changes.{changed_node, node_with_mark, node_with_parent, node_without_entries, with_inode, with_moved, with_name, without_name, without_parent}
 use Rattle.vt_spec.specs.Lists.{Fresh}
-use Rattle.vt_spec.specs.Machine.CopyUp.{Stack, emptied, marked, name_left_by, whiteout_of}
+use Rattle.vt_spec.specs.Machine.CopyUp.{Stack, name_left_by, whiteout_of, with_mark, without_contents}
 use Rattle.vt_spec.specs.Tree.{Node, entries_in, entries_of, entry_named, is_directory_node, node_with_entry}
 use Rattle.vt_spec.specs.TreeInvariant.{entry_at}
 use Rattle.vt_spec.proofs.Nodes.{is_directory-node_with_entry, node_other, node_set}
@@ -91,10 +91,10 @@ told_bare P files r x n y e = ⊎_elim here other (eqb_tells x r)
     other : (nat_eq x r ≡ false) × (x ≢ r) → (entry_at files.tree x n ≡ Some y) ⊎ P y
     other t = inl (sym (ap (λ o. entry_named n (entries_in o)) (elsewhere files r node_without_entries x t.1)) ∙ e)
 
-pub told_emptied : (P : ℕ → Type 0) (files : FileTree ℕ) (o : Option ℕ) → Told P files (emptied nat_eq files o)
+pub told_emptied : (P : ℕ → Type 0) (files : FileTree ℕ) (o : Option ℕ) → Told P files (without_contents nat_eq files o)
 told_emptied P files None = told_none P files
 told_emptied P files (Some r) =
-    told_both P files (changed_node nat_eq files r node_without_entries) (emptied nat_eq files (Some r))
+    told_both P files (changed_node nat_eq files r node_without_entries) (without_contents nat_eq files (Some r))
     (told_bare P files r)
     (told_stay P (changed_node nat_eq files r node_without_entries) r (node_with_parent r) (entries-node_with_parent r))
 
@@ -104,7 +104,7 @@ told_unparented P files None = told_none P files
 told_unparented P files (Some r) = told_stay P files r (node_with_parent r) (entries-node_with_parent r)
 
 pub told_marked : (P : ℕ → Type 0) (files : FileTree ℕ) (b : Bool) (object : ℕ)
-    → Told P files (marked nat_eq b files object)
+    → Told P files (with_mark nat_eq b files object)
 told_marked P files true object = told_stay P files object (node_with_mark true) (entries-node_with_mark true)
 told_marked P files false object = told_none P files
 

@@ -3,7 +3,7 @@ use Rattle.std.proofs.Common.{◌≡◌, refl, sym, ap, subst, ◌∙◌, ℕ, z
 use Rattle.vt_spec.specs.Language.Changes.{Change, changed}
 use Rattle.vt_spec.specs.Language.Changes.Change.{AddName, CopyUp, Make, Move, Remove, SetAttr, SetBytes, SetMark}
 use Rattle.vt_spec.specs.Lists.{Fresh, odds}
-use Rattle.vt_spec.specs.Machine.CopyUp.{Merge, Stack, copied_up, linked, made, merge_changed, moved, removed, upper_of}
+use Rattle.vt_spec.specs.Machine.CopyUp.{Merge, Stack, copied_up, merge_changed, merge_with_link, merge_with_moved, merge_with_new, merge_without_name, upper_of}
 use Rattle.vt_spec.specs.Machine.Invariants.{ListsNumbers}
 use Rattle.vt_spec.specs.Machine.Layers.{OpenLayer}
 use Rattle.vt_spec.specs.TreeInvariant.{IsDirectory, IsTree}
@@ -49,25 +49,25 @@ whole_by stack merge later change whole files may good is = record {
 
 pub make_keeps_whole : MakeKeepsWhole
 make_keeps_whole fresh stack merge d w number node whole stands vacant may white =
-    whole_by stack merge (made nat_eq fresh stack merge d w number node) (Make d w number node) whole refl may
+    whole_by stack merge (merge_with_new nat_eq fresh stack merge d w number node) (Make d w number node) whole refl may
     (made_goes fresh stack merge d w number node whole stands vacant may).good
     (make_keeps_shown fresh stack merge d w number node whole stands vacant may white)
 
 pub link_keeps_whole : LinkKeepsWhole
 link_keeps_whole stack merge d w object whole stands own may =
-    whole_by stack merge (linked nat_eq merge d w object) (AddName d w object) whole refl may
+    whole_by stack merge (merge_with_link nat_eq merge d w object) (AddName d w object) whole refl may
     (linked_goes stack merge d w object whole stands own may).good
     (link_keeps_shown stack merge d w object whole stands own may)
 
 pub remove_keeps_whole : RemoveKeepsWhole
 remove_keeps_whole fresh stack merge d w object whole stands vacant may =
-    whole_by stack merge (removed nat_eq fresh stack merge d w object) (Remove d w object) whole refl may
+    whole_by stack merge (merge_without_name nat_eq fresh stack merge d w object) (Remove d w object) whole refl may
     (removed_goes fresh stack merge d w object whole stands vacant may).good
     (remove_keeps_shown fresh stack merge d w object whole stands vacant may)
 
 pub move_keeps_whole : MoveKeepsWhole
 move_keeps_whole fresh stack merge f old t new o whole from to own vacant may alone =
-    whole_by stack merge (moved nat_eq fresh stack merge f old t new o) (Move f old t new o) whole refl may
+    whole_by stack merge (merge_with_moved nat_eq fresh stack merge f old t new o) (Move f old t new o) whole refl may
     (moved_goes fresh stack merge whole f old t new o from to own may vacant).good
     (move_keeps_shown fresh stack merge f old t new o whole from to own vacant may alone)
 

@@ -6,7 +6,7 @@ use Rattle.vt_spec.specs.FileTree.{FileTree}
 use Rattle.vt_spec.specs.Language.Changes.{Change, changed, with_moved}
 use Rattle.vt_spec.specs.Language.Changes.Change.{AddName, CopyUp, Make, Move, Remove, SetAttr, SetBytes, SetMark}
 use Rattle.vt_spec.specs.Lists.{Fresh, evens, odds}
-use Rattle.vt_spec.specs.Machine.CopyUp.{Merge, Stack, copied_up, emptied, hides_directory, marked, merge_changed, moved, name_left_by, removed, shown_in_lowers_at, upper_directory_named, upper_of}
+use Rattle.vt_spec.specs.Machine.CopyUp.{Merge, Stack, copied_up, hides_directory, merge_changed, merge_with_moved, merge_without_name, name_left_by, shown_in_lowers_at, upper_directory_named, upper_of, with_mark, without_contents}
 use Rattle.vt_spec.specs.Machine.Layers.{Shown}
 use Rattle.vt_spec.specs.Machine.World.{Real, upper_object}
 use Rattle.vt_spec.specs.Machine.World.Real.{Upper}
@@ -50,14 +50,15 @@ module _ (files : FileTree ℕ) (tree : IsTree files.tree) (first : ℕ → Opti
 
   removed_named : (directory : ℕ) (name : List ℕ) (object seen : ℕ) → entry_at files.tree directory name ≡ Some object
       → upper_object (real directory) ≡ Some seen → (inode : ℕ)
-      → Among inode (removed nat_eq fresh stack here directory name object).upper.numbers
-      → WasOrIsNamed (removed nat_eq fresh stack here directory name object).upper inode
+      → Among inode (merge_without_name nat_eq fresh stack here directory name object).upper.numbers
+      → WasOrIsNamed (merge_without_name nat_eq fresh stack here directory name object).upper inode
   removed_named directory name object seen e has inode =
       by (shown_in_lowers_at nat_eq stack here directory name)
       (removed_with files tree first fresh stack real upper sound directory name object seen e has)
     where
       later : Option (Shown ℕ) → FileTree ℕ
-      later o = emptied nat_eq (name_left_by nat_eq (is_some o) fresh stack upper (upper_of here directory) name)
+      later o = without_contents nat_eq (name_left_by nat_eq (is_some o) fresh stack upper
+          (upper_of here directory) name)
           (upper_directory_named here directory name)
 
       by : (o : Option (Shown ℕ)) → LeftWith (fresh 0) o stack (later o) (upper_of here directory) name
@@ -70,27 +71,28 @@ module _ (files : FileTree ℕ) (tree : IsTree files.tree) (first : ℕ → Opti
   moved_named : (from : ℕ) (old : List ℕ) (to : ℕ) (name : List ℕ) (object seen_from seen : ℕ)
       → entry_at files.tree from old ≡ Some object
       → upper_object (real from) ≡ Some seen_from → upper_object (real object) ≡ Some seen → (inode : ℕ)
-      → Among inode (moved nat_eq fresh stack here from old to name object).upper.numbers
-      → WasOrIsNamed (moved nat_eq fresh stack here from old to name object).upper inode
+      → Among inode (merge_with_moved nat_eq fresh stack here from old to name object).upper.numbers
+      → WasOrIsNamed (merge_with_moved nat_eq fresh stack here from old to name object).upper inode
   moved_named from old to name object seen_from seen e has_from has inode =
       by (shown_in_lowers_at nat_eq stack here from old)
       (moved_with files tree first fresh stack real upper sound from old to name object seen_from seen e has_from has)
     where
       away : FileTree ℕ
-      away = with_moved nat_eq (emptied nat_eq upper (upper_directory_named here to name)) (upper_of here from) old
+      away = with_moved nat_eq (without_contents nat_eq upper (upper_directory_named here to name))
+          (upper_of here from) old
           (upper_of here to) name (upper_of here object)
 
       mark : Bool
       mark = hides_directory nat_eq stack here to name
 
       later : Option (Shown ℕ) → FileTree ℕ
-      later o = marked nat_eq mark (name_left_by nat_eq (is_some o) fresh stack away (upper_of here from) old)
+      later o = with_mark nat_eq mark (name_left_by nat_eq (is_some o) fresh stack away (upper_of here from) old)
           (upper_of here object)
 
       was : Among inode away.numbers → Among inode upper.numbers
       was m =
           subst (Among inode)
-          (numbers_moved (emptied nat_eq upper (upper_directory_named here to name)) (upper_of here from) old
+          (numbers_moved (without_contents nat_eq upper (upper_directory_named here to name)) (upper_of here from) old
           (upper_of here to) name
           (upper_of here object)
           ∙ numbers_emptied upper (upper_directory_named here to name)) m
@@ -233,9 +235,10 @@ module _ (fresh : Fresh ℕ) (stack : Stack ℕ) (before : Merge ℕ) (fit : IsF
       (odds fresh) stack
       (copied_up nat_eq (evens fresh) before directory).upper
       (upper_of (copied_up nat_eq (evens fresh) before directory) directory) name)
-      (subst (λ m. (inode : ℕ) → Among inode (removed nat_eq (odds fresh) stack m directory name object).upper.numbers
+      (subst (λ m. (inode : ℕ) → Among inode (merge_without_name nat_eq
+      (odds fresh) stack m directory name object).upper.numbers
       → Among inode m.upper.numbers ⊎ HasName
-      (removed nat_eq (odds fresh) stack m directory name object).upper.tree inode)
+      (merge_without_name nat_eq (odds fresh) stack m directory name object).upper.tree inode)
       (sym ready.soundly.is)
       (removed_named before.files fit.tree before.real
       (odds fresh) stack ready.soundly.real ready.soundly.upper ready.soundly.sound
@@ -263,13 +266,14 @@ module _ (fresh : Fresh ℕ) (stack : Stack ℕ) (before : Merge ℕ) (fit : IsF
       (root-marked (hides_directory nat_eq stack copied to new) _ (upper_of copied object)
       ∙ root-name_left_by (is_some (shown_in_lowers_at nat_eq stack copied from old)) (odds (odds fresh)) stack _
       (upper_of copied from) old
-      ∙ root_moved (emptied nat_eq copied.upper (upper_directory_named copied to new)) (upper_of copied from) old
+      ∙ root_moved (without_contents nat_eq copied.upper (upper_directory_named copied to new))
+      (upper_of copied from) old
       (upper_of copied to) new (upper_of copied object)
       ∙ root-emptied copied.upper (upper_directory_named copied to new))
       (subst (λ m. (inode : ℕ) → Among inode
-      (moved nat_eq (odds (odds fresh)) stack m from old to new object).upper.numbers
+      (merge_with_moved nat_eq (odds (odds fresh)) stack m from old to new object).upper.numbers
       → Among inode m.upper.numbers ⊎ HasName
-      (moved nat_eq (odds (odds fresh)) stack m from old to new object).upper.tree inode)
+      (merge_with_moved nat_eq (odds (odds fresh)) stack m from old to new object).upper.tree inode)
       (sym ready.soundly.is)
       (moved_named before.files fit.tree before.real
       (odds (odds fresh)) stack ready.soundly.real ready.soundly.upper ready.soundly.sound

@@ -5,7 +5,7 @@ use Rattle.vt_spec.specs.FileTree.{FileTree, a_name}
 use Rattle.vt_spec.specs.Language.Changes.{Change, changed, with_inode, with_moved}
 use Rattle.vt_spec.specs.Language.Changes.Change.{AddName, CopyUp, Make, Move, Remove, SetAttr, SetBytes, SetMark}
 use Rattle.vt_spec.specs.Lists.{Fresh}
-use Rattle.vt_spec.specs.Machine.CopyUp.{Merge, copied_content, copied_each, copied_up, copy_named, copy_of, copy_of_node, copy_parent, emptied, is_in_upper, line_to, marked, with_real}
+use Rattle.vt_spec.specs.Machine.CopyUp.{Merge, copied_content, copied_each, copied_up, copy_named, copy_of, copy_of_node, copy_parent, is_in_upper, line_to, with_mark, with_real, without_contents}
 use Rattle.vt_spec.specs.Machine.World.{Real, upper_object}
 use Rattle.vt_spec.specs.Machine.World.Real.{Upper}
 use Rattle.vt_spec.specs.Tree.{Node, entry_named, entries_in}
@@ -120,12 +120,13 @@ grows_up fresh merge object = grows_each fresh 0 merge (line_to nat_eq merge.fil
 
 -- Numbers and the root of a tree stay in changes of nodes
 
-pub numbers_emptied : (upper : FileTree ℕ) (object : Option ℕ) → (emptied nat_eq upper object).numbers ≡ upper.numbers
+pub numbers_emptied : (upper : FileTree ℕ) (object : Option ℕ) → (without_contents nat_eq upper object).numbers
+    ≡ upper.numbers
 numbers_emptied upper None = refl
 numbers_emptied upper (Some object) = refl
 
 pub numbers_marked : (mark : Bool) (upper : FileTree ℕ) (object : ℕ)
-    → (marked nat_eq mark upper object).numbers ≡ upper.numbers
+    → (with_mark nat_eq mark upper object).numbers ≡ upper.numbers
 numbers_marked true upper object = refl
 numbers_marked false upper object = refl
 

@@ -7,7 +7,7 @@ use Rattle.vt_spec.specs.FileTree.{FileTree, targets_in}
 use Rattle.vt_spec.specs.Language.Changes.{Change, content_with_parent, node_with_attr, node_with_mark, node_with_parent, with_inode, with_moved, with_name, without_name, without_parent}
 use Rattle.vt_spec.specs.Language.Changes.Change.{AddName, CopyUp, Make, Move, Remove, SetAttr, SetBytes, SetMark}
 use Rattle.vt_spec.specs.Lists.{Fresh, evens, is_among, odds}
-use Rattle.vt_spec.specs.Machine.CopyUp.{Merge, Stack, copied_up, emptied, hides_directory, linked, made, merge_changed, moved, name_left_by, removed, shown_in_lowers_at, upper_directory_named, upper_of, whiteout_of}
+use Rattle.vt_spec.specs.Machine.CopyUp.{Merge, Stack, copied_up, hides_directory, merge_changed, merge_with_link, merge_with_moved, merge_with_new, merge_without_name, name_left_by, shown_in_lowers_at, upper_directory_named, upper_of, whiteout_of, without_contents}
 use Rattle.vt_spec.specs.Machine.Filesystems.{stack_of, with_change}
 use Rattle.vt_spec.specs.Machine.Mounts.{Location}
 use Rattle.vt_spec.specs.Machine.Outcome.Descriptors.{opened, overwritten, with_copy, with_descriptor}
@@ -49,7 +49,7 @@ at_place files d directory n name k e same =
 
 -- an entry that is emptied out is in that directory
 emptied_out : (files : FileTree ℕ) (replaced : Option ℕ) (d : ℕ) (n : List ℕ) (k : ℕ) → entry_at files.tree d n ≡ Some k
-    → (entry_at (emptied nat_eq files replaced).tree d n ≡ Some k) ⊎ (replaced ≡ Some d)
+    → (entry_at (without_contents nat_eq files replaced).tree d n ≡ Some k) ⊎ (replaced ≡ Some d)
 emptied_out files None d n k e = inl e
 emptied_out files (Some object) d n k e =
     ⊎_elim (λ same. inr (ap Some (sym same.1)))
@@ -64,7 +64,7 @@ IsAt merge directory name d n = (d ≡ upper_of merge directory) × (n ≡ name)
 -- A further name takes the place of what had it, and of nothing else
 linked_loses : (merge : Merge ℕ) (directory : ℕ) (name : List ℕ) (object : ℕ) (d : ℕ) (n : List ℕ) (k : ℕ)
     → entry_at merge.upper.tree d n ≡ Some k
-    → HasName (linked nat_eq merge directory name object).upper.tree k ⊎ IsAt merge directory name d n
+    → HasName (merge_with_link nat_eq merge directory name object).upper.tree k ⊎ IsAt merge directory name d n
 linked_loses merge directory name object d n k e =
     ⊎_elim inr
     (λ differ. inl (
@@ -110,7 +110,8 @@ module _ (fresh : Fresh ℕ) (stack : Stack ℕ) (merge : Merge ℕ)
 
   made_loses : (directory : ℕ) (name : List ℕ) (number : ℕ) (node : Node ℕ) (d : ℕ) (n : List ℕ) (k : ℕ)
       → entry_at merge.upper.tree d n ≡ Some k
-      → HasName (made nat_eq fresh stack merge directory name number node).upper.tree k ⊎ IsAt merge directory name d n
+      → HasName (merge_with_new nat_eq fresh stack merge directory name number node).upper.tree k
+      ⊎ IsAt merge directory name d n
   made_loses directory name number node d n k e =
       ⊎_elim inr
       (λ differ. inl (
@@ -130,7 +131,7 @@ module _ (fresh : Fresh ℕ) (stack : Stack ℕ) (merge : Merge ℕ)
       object = record { attr = node.attr; content = content_with_parent (upper_of merge directory) node.content }
 
   removed_loses : (directory : ℕ) (name : List ℕ) (object : ℕ)
-      → NamedOr (removed nat_eq fresh stack merge directory name object).upper
+      → NamedOr (merge_without_name nat_eq fresh stack merge directory name object).upper
       (upper_names_lost merge (Remove directory name object))
   removed_loses directory name object d n k e =
       ⊎_elim
@@ -150,7 +151,7 @@ module _ (fresh : Fresh ℕ) (stack : Stack ℕ) (merge : Merge ℕ)
       hidden = is_some (shown_in_lowers_at nat_eq stack merge directory name)
 
   moved_loses : (from : ℕ) (old : List ℕ) (to : ℕ) (new : List ℕ) (object : ℕ)
-      → NamedOr (moved nat_eq fresh stack merge from old to new object).upper
+      → NamedOr (merge_with_moved nat_eq fresh stack merge from old to new object).upper
       (upper_names_lost merge (Move from old to new object))
   moved_loses from old to new object d n k e =
       ⊎_elim
@@ -194,7 +195,7 @@ module _ (fresh : Fresh ℕ) (stack : Stack ℕ) (merge : Merge ℕ)
       hidden = is_some (shown_in_lowers_at nat_eq stack merge from old)
 
       empty : FileTree ℕ
-      empty = emptied nat_eq merge.upper replaced
+      empty = without_contents nat_eq merge.upper replaced
 
       apart : FileTree ℕ
       apart = without_parent nat_eq empty (entry_named new (entries_in (empty.tree.node (upper_of merge to))))

@@ -146,51 +146,52 @@ module _ {N : Type 0} (eq : N → N → Bool) where
       (upper_of merge directory) name
 
   -- a directory that is removed or replaced loses the whiteouts in it, and is its own parent
-  abbrev pub emptied : FileTree N → Option N → FileTree N
-  emptied upper None = upper
-  emptied upper (Some object) = without_parent eq (changed_node eq upper object node_without_entries) (Some object)
+  abbrev pub without_contents : FileTree N → Option N → FileTree N
+  without_contents upper None = upper
+  without_contents upper (Some object) =
+      without_parent eq (changed_node eq upper object node_without_entries) (Some object)
 
   -- a directory under a new name becomes opaque if it must hide one; else it keeps its mark
-  abbrev pub marked : (opaque : Bool) → FileTree N → N → FileTree N
-  marked true upper object = changed_node eq upper object (node_with_mark true)
-  marked false upper object = upper
+  abbrev pub with_mark : (opaque : Bool) → FileTree N → N → FileTree N
+  with_mark true upper object = changed_node eq upper object (node_with_mark true)
+  with_mark false upper object = upper
 
   -- each change, after its objects were copied up
 
   -- a new object in the upper layer, opaque if it is a directory that hides one: mkdir(2), symlink(2), open(2) with
   -- O_CREAT
-  abbrev pub made : Fresh N → Stack N → Merge N → N → List ℕ → N → Node N → Merge N
-  made fresh stack merge directory name number node = record {
+  abbrev pub merge_with_new : Fresh N → Stack N → Merge N → N → List ℕ → N → Node N → Merge N
+  merge_with_new fresh stack merge directory name number node = record {
     files = changed eq merge.files (Make directory name number node);
     real = with_real merge.real number (Upper (fresh 0));
-    upper = marked (hides_directory stack merge directory name) (with_name eq
+    upper = with_mark (hides_directory stack merge directory name) (with_name eq
         (with_inode eq merge.upper (fresh 0)
         (record { attr = node.attr; content = content_with_parent (upper_of merge directory) node.content }))
         (upper_of merge directory) name (fresh 0)) (fresh 0);
   }
 
   -- a further name of an object: link(2)
-  abbrev pub linked : Merge N → N → List ℕ → N → Merge N
-  linked merge directory name object = record merge {
+  abbrev pub merge_with_link : Merge N → N → List ℕ → N → Merge N
+  merge_with_link merge directory name object = record merge {
     files = changed eq merge.files (AddName directory name object);
     upper = with_name eq merge.upper (upper_of merge directory) name (upper_of merge object);
   }
 
   -- a name is removed: unlink(2), rmdir(2)
-  abbrev pub removed : Fresh N → Stack N → Merge N → N → List ℕ → N → Merge N
-  removed fresh stack merge directory name object = record merge {
+  abbrev pub merge_without_name : Fresh N → Stack N → Merge N → N → List ℕ → N → Merge N
+  merge_without_name fresh stack merge directory name object = record merge {
     files = changed eq merge.files (Remove directory name object);
-    upper = emptied (name_left fresh stack merge merge.upper directory name)
+    upper = without_contents (name_left fresh stack merge merge.upper directory name)
         (upper_directory_named merge directory name);
   }
 
   -- an object gets another name: rename(2)
-  abbrev pub moved : Fresh N → Stack N → Merge N → N → List ℕ → N → List ℕ → N → Merge N
-  moved fresh stack merge from old to new object = record merge {
+  abbrev pub merge_with_moved : Fresh N → Stack N → Merge N → N → List ℕ → N → List ℕ → N → Merge N
+  merge_with_moved fresh stack merge from old to new object = record merge {
     files = changed eq merge.files (Move from old to new object);
-    upper = marked (hides_directory stack merge to new)
+    upper = with_mark (hides_directory stack merge to new)
         (name_left fresh stack merge
-        (with_moved eq (emptied merge.upper (upper_directory_named merge to new))
+        (with_moved eq (without_contents merge.upper (upper_directory_named merge to new))
         (upper_of merge from) old (upper_of merge to) new (upper_of merge object))
         from old)
         (upper_of merge object);
@@ -206,13 +207,13 @@ module _ {N : Type 0} (eq : N → N → Bool) where
   -- the objects of a change are copied up, and then it is made
   abbrev pub merge_changed : Fresh N → Stack N → Merge N → Change N → Merge N
   merge_changed fresh stack merge (Make directory name number node) =
-      made (odds fresh) stack (copied_up (evens fresh) merge directory) directory name number node
+      merge_with_new (odds fresh) stack (copied_up (evens fresh) merge directory) directory name number node
   merge_changed fresh stack merge (AddName directory name object) =
-      linked (copied_up (odds fresh) (copied_up (evens fresh) merge object) directory) directory name object
+      merge_with_link (copied_up (odds fresh) (copied_up (evens fresh) merge object) directory) directory name object
   merge_changed fresh stack merge (Remove directory name object) =
-      removed (odds fresh) stack (copied_up (evens fresh) merge directory) directory name object
+      merge_without_name (odds fresh) stack (copied_up (evens fresh) merge directory) directory name object
   merge_changed fresh stack merge (Move from old to new object) =
-      moved (odds (odds fresh)) stack
+      merge_with_moved (odds (odds fresh)) stack
       (copied_up (evens (odds fresh)) (copied_up (evens fresh) merge object) to) from old to new object
   merge_changed fresh stack merge (SetBytes file bytes) =
       changed_both (copied_up fresh merge file) file (node_with_bytes bytes)

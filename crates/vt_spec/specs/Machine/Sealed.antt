@@ -94,7 +94,7 @@ module _ {N : Type 0} (eq : N → N → Bool) where
   abbrev pub share_events : World N → Mount N → Mount N → Bool
   share_events world a b = receives_events_of world a b || receives_events_of world b a
 
-  -- no mount of theirs is linked with a mount of another namespace
+  -- no mount of theirs shares events with a mount of another namespace
   abbrev pub shares_no_events : World N → List TaskName → Bool
   shares_no_events world names =
       list_all (λ own. list_all (λ other. not (share_events world own other)) (other_mounts world names))
@@ -154,8 +154,8 @@ module _ {N : Type 0} (eq : N → N → Bool) where
       && used_alone world names merged.number) (overlays world)
       && all_named (filesystem_numbered eq world filesystem).files
 
-  -- The tasks are sealed off: no other task is in their namespaces, no mount of theirs is linked with others, no other
-  -- task is on one of them, and each filesystem that they use is used by them alone, or wholly locked for them
+  -- The tasks are sealed off: no other task is in their namespaces, no mount of theirs shares events with others, no
+  -- other task is on one of them, and each filesystem that they use is used by them alone, or wholly locked for them
   -- (profile).
   unfoldable pub sealed : World N → List TaskName → Bool
   sealed world names =

@@ -8,7 +8,7 @@ use Rattle.vt_spec.specs.Language.Changes.{Change, changed, changed_node, conten
 use Rattle.vt_spec.specs.Language.Changes.Change.{AddName, CopyUp, Make, Move, Remove, SetAttr, SetBytes, SetMark}
 use Rattle.vt_spec.specs.FileTree.{FileTree, a_name}
 use Rattle.vt_spec.specs.Lists.{Fresh, evens, odds}
-use Rattle.vt_spec.specs.Machine.CopyUp.{Merge, Stack, copied_each, copied_up, copy_named, copy_of, copy_of_node, copy_parent, copied_content, emptied, hides_directory, is_in_upper, line_to, made, marked, merge_changed, moved, name_left_by, removed, shown_in_lowers_at, upper_directory_named, upper_of, whiteout_of}
+use Rattle.vt_spec.specs.Machine.CopyUp.{Merge, Stack, copied_content, copied_each, copied_up, copy_named, copy_of, copy_of_node, copy_parent, hides_directory, is_in_upper, line_to, merge_changed, merge_with_moved, merge_with_new, merge_without_name, name_left_by, shown_in_lowers_at, upper_directory_named, upper_of, whiteout_of, with_mark, without_contents}
 use Rattle.vt_spec.specs.Machine.Filesystems.{filesystem_changed, merge_of, overlay_changed, stack_of, with_change, with_files}
 use Rattle.vt_spec.specs.Machine.Invariants.{ListsNumbers, OverlayInvariants, is_plain_layer}
 use Rattle.vt_spec.specs.Machine.Locked.{of_overlay, overlay_or}
@@ -138,7 +138,7 @@ up_copied fresh distinct merge object vacant =
     same j = omega arith
 
 -- Parts of a change of the upper layer
-kinds_marked : (b : Bool) (files : FileTree ℕ) (object : ℕ) → SameKinds files (marked nat_eq b files object)
+kinds_marked : (b : Bool) (files : FileTree ℕ) (object : ℕ) → SameKinds files (with_mark nat_eq b files object)
 kinds_marked true files object k = part_stays files object (node_with_mark true) kind_seen (kind-with_mark true) k
 kinds_marked false files object k = refl
 
@@ -146,7 +146,7 @@ kind_bare : (o : Option (Node ℕ)) → kind_seen (node_without_entries o) ≡ k
 kind_bare None = refl
 kind_bare (Some node) = ap Some (kind-with_entries node.content [])
 
-kinds_emptied : (files : FileTree ℕ) (o : Option ℕ) → SameKinds files (emptied nat_eq files o)
+kinds_emptied : (files : FileTree ℕ) (o : Option ℕ) → SameKinds files (without_contents nat_eq files o)
 kinds_emptied files None k = refl
 kinds_emptied files (Some object) k =
     kinds-without_parent (changed_node nat_eq files object node_without_entries) (Some object) k
@@ -175,7 +175,7 @@ left_keeps false fresh stack files directory name vacant =
 
 module _ (fresh : Fresh ℕ) (stack : Stack ℕ) (merge : Merge ℕ) (vacant : IsVacant merge.upper (fresh 0)) where
   made_keeps : (directory : ℕ) (name : List ℕ) (number : ℕ) (node : Node ℕ)
-      → Keeps merge.upper (made nat_eq fresh stack merge directory name number node).upper
+      → Keeps merge.upper (merge_with_new nat_eq fresh stack merge directory name number node).upper
   made_keeps directory name number node =
       let inode : Node ℕ = record {
         attr = node.attr;
@@ -184,34 +184,34 @@ module _ (fresh : Fresh ℕ) (stack : Stack ℕ) (merge : Merge ℕ) (vacant : I
       } in
       let first = with_inode nat_eq merge.upper (fresh 0) inode in
       let second = with_name nat_eq first (upper_of merge directory) name (fresh 0) in
-      let last = (made nat_eq fresh stack merge directory name number node).upper in
+      let last = (merge_with_new nat_eq fresh stack merge directory name number node).upper in
       keeps_both merge.upper first last (keeps-with_inode merge.upper (fresh 0) inode vacant)
       (keeps_both first second last (keeps_kinds first second
       (kinds-with_name first (upper_of merge directory) name (fresh 0)))
       (keeps_kinds second last (kinds_marked (hides_directory nat_eq stack merge directory name) second (fresh 0))))
 
   removed_keeps : (directory : ℕ) (name : List ℕ) (object : ℕ)
-      → Keeps merge.upper (removed nat_eq fresh stack merge directory name object).upper
+      → Keeps merge.upper (merge_without_name nat_eq fresh stack merge directory name object).upper
   removed_keeps directory name object =
       let left = name_left_by nat_eq (is_some
       (shown_in_lowers_at nat_eq stack merge directory name)) fresh stack merge.upper
       (upper_of merge directory) name in
-      let last = (removed nat_eq fresh stack merge directory name object).upper in
+      let last = (merge_without_name nat_eq fresh stack merge directory name object).upper in
       keeps_both merge.upper left last
       (left_keeps (is_some (shown_in_lowers_at nat_eq stack merge directory name)) fresh stack merge.upper
       (upper_of merge directory) name vacant)
       (keeps_kinds left last (kinds_emptied left (upper_directory_named merge directory name)))
 
   moved_keeps : (from : ℕ) (old : List ℕ) (to : ℕ) (name : List ℕ) (object : ℕ)
-      → Keeps merge.upper (moved nat_eq fresh stack merge from old to name object).upper
+      → Keeps merge.upper (merge_with_moved nat_eq fresh stack merge from old to name object).upper
   moved_keeps from old to name object =
-      let base = emptied nat_eq merge.upper (upper_directory_named merge to name) in
+      let base = without_contents nat_eq merge.upper (upper_directory_named merge to name) in
       let gone = with_moved nat_eq base (upper_of merge from) old (upper_of merge to) name (upper_of merge object) in
       let left = name_left_by nat_eq (is_some (shown_in_lowers_at nat_eq stack merge from old)) fresh stack gone
       (upper_of merge from) old in
       let base_kinds = kinds_emptied merge.upper (upper_directory_named merge to name) in
       let gone_kinds = kinds_moved base (upper_of merge from) old (upper_of merge to) name (upper_of merge object) in
-      let last = (moved nat_eq fresh stack merge from old to name object).upper in
+      let last = (merge_with_moved nat_eq fresh stack merge from old to name object).upper in
       keeps_both merge.upper base last (keeps_kinds merge.upper base base_kinds)
       (keeps_both base gone last (keeps_kinds base gone gone_kinds)
       (keeps_both gone left last

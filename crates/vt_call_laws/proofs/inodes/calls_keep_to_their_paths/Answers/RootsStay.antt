@@ -10,7 +10,7 @@ use Rattle.vt_spec.specs.Language.Changes.{Change, changed, with_moved, without_
 use Rattle.vt_spec.specs.Language.Changes.Change.{AddName, CopyUp, Make, Move, Remove, SetAttr, SetBytes, SetMark}
 use Rattle.vt_spec.specs.Lists.{Fresh, evens, odds}
 use Rattle.vt_spec.specs.Machine.Apply.{apply}
-use Rattle.vt_spec.specs.Machine.CopyUp.{Merge, Stack, copied_each, copied_up, copy_named, copy_of, emptied, hides_directory, is_in_upper, line_to, linked, made, merge_changed, moved, name_left, removed, shown_in_lowers_at, upper_directory_named, upper_of}
+use Rattle.vt_spec.specs.Machine.CopyUp.{Merge, Stack, copied_each, copied_up, copy_named, copy_of, hides_directory, is_in_upper, line_to, merge_changed, merge_with_link, merge_with_moved, merge_with_new, merge_without_name, name_left, shown_in_lowers_at, upper_directory_named, upper_of, without_contents}
 use Rattle.vt_spec.specs.Machine.Detach.{deepest_first}
 use Rattle.vt_spec.specs.Machine.Filesystems.{filesystem_changed, filesystems_raised, merge_of, overlay_changed, raised, raised_if_changed, stack_of, with_change, with_files}
 use Rattle.vt_spec.specs.Machine.Judge.{Judgement, judge_in}
@@ -78,7 +78,7 @@ up_roots : (fresh : Fresh ℕ) (merge : Merge ℕ) (object : ℕ) → SameRoots 
 up_roots fresh merge object = copied_roots fresh 0 merge (line_to nat_eq merge.files object)
 
 moved_roots : (fresh : Fresh ℕ) (stack : Stack ℕ) (merge : Merge ℕ) (from : ℕ) (old : List ℕ) (to : ℕ) (new : List ℕ)
-    (object : ℕ) → SameRoots merge (moved nat_eq fresh stack merge from old to new object)
+    (object : ℕ) → SameRoots merge (merge_with_moved nat_eq fresh stack merge from old to new object)
 moved_roots fresh stack merge from old to new object = (
   changed_root merge.files (Move from old to new object),
   root-marked (hides_directory nat_eq stack merge to new)
@@ -90,7 +90,7 @@ moved_roots fresh stack merge from old to new object = (
 )
   where
     upper : FileTree ℕ
-    upper = emptied nat_eq merge.upper (upper_directory_named merge to new)
+    upper = without_contents nat_eq merge.upper (upper_directory_named merge to new)
 
     renamed : FileTree ℕ
     renamed = with_moved nat_eq upper (upper_of merge from) old (upper_of merge to) new (upper_of merge object)
@@ -98,20 +98,20 @@ moved_roots fresh stack merge from old to new object = (
 merged_roots : (fresh : Fresh ℕ) (stack : Stack ℕ) (merge : Merge ℕ) (change : Change ℕ)
     → SameRoots merge (merge_changed nat_eq fresh stack merge change)
 merged_roots fresh stack merge (Make directory name number node) =
-    and_roots merge copied (made nat_eq (odds fresh) stack copied directory name number node)
+    and_roots merge copied (merge_with_new nat_eq (odds fresh) stack copied directory name number node)
     (up_roots (evens fresh) merge directory)
     (refl, root-marked (hides_directory nat_eq stack copied directory name) _ (odds fresh 0))
   where
     copied : Merge ℕ
     copied = copied_up nat_eq (evens fresh) merge directory
 merged_roots fresh stack merge (AddName directory name object) =
-    and_roots merge first (linked nat_eq (copied_up nat_eq (odds fresh) first directory) directory name object)
+    and_roots merge first (merge_with_link nat_eq (copied_up nat_eq (odds fresh) first directory) directory name object)
     (up_roots (evens fresh) merge object) (up_roots (odds fresh) first directory)
   where
     first : Merge ℕ
     first = copied_up nat_eq (evens fresh) merge object
 merged_roots fresh stack merge (Remove directory name object) =
-    and_roots merge copied (removed nat_eq (odds fresh) stack copied directory name object)
+    and_roots merge copied (merge_without_name nat_eq (odds fresh) stack copied directory name object)
     (up_roots (evens fresh) merge directory) (
       refl,
       root-emptied (name_left nat_eq (odds fresh) stack copied copied.upper directory name)
@@ -124,7 +124,7 @@ merged_roots fresh stack merge (Remove directory name object) =
     copied : Merge ℕ
     copied = copied_up nat_eq (evens fresh) merge directory
 merged_roots fresh stack merge (Move from old to new object) =
-    and_roots merge both (moved nat_eq (odds (odds fresh)) stack both from old to new object)
+    and_roots merge both (merge_with_moved nat_eq (odds (odds fresh)) stack both from old to new object)
     (and_roots merge first both (up_roots (evens fresh) merge object) (up_roots (evens (odds fresh)) first to))
     (moved_roots (odds (odds fresh)) stack both from old to new object)
   where
