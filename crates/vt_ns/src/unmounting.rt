@@ -15,7 +15,6 @@ ghost use Rattle.vt_detach.specs.Events.{Becomes, Permits};
 ghost use Rattle.vt_permit_laws.specs.Taken.{is_ungrouped};
 
 use crate::world::World;
-use std::alloc::Global;
 use vt_attach::planned::{Planned, attach_planned};
 use vt_detach::detaching::{detach, detach_each, detach_together};
 use vt_fs::Filesystems;
@@ -72,7 +71,7 @@ impl World {
         newest_first(&mut plan);
         let mounts = &mut self.mounts;
         let groups = &mut self.groups;
-        take_away(self.alloc, mounts, groups, &mut self.filesystems, &plan)?;
+        take_away(mounts, groups, &mut self.filesystems, &plan)?;
         Ok(())
     }
 
@@ -126,14 +125,13 @@ impl World {
         newest_first(&mut plan);
         let mounts = &mut self.mounts;
         let groups = &mut self.groups;
-        take_away(self.alloc, mounts, groups, &mut self.filesystems, &plan)?;
+        take_away(mounts, groups, &mut self.filesystems, &plan)?;
         Ok(())
     }
 }
 
 // Mounts that stay move as a plan says, and those that go are detached: all or nothing.
 fn take_away(
-    alloc: Global,
     mounts: &mut Mounts,
     groups: &mut Groups,
     filesystems: &mut Filesystems,

@@ -130,7 +130,7 @@ module _ {first : Moment} (opens : IsOpening first) where
         → Runs first read text new → WroteFront sink x y text → sink.tells x → BeginsToAnswer sink script x y
     front_held script read unread text new x y split runs wrote tells =
         let taken = rest_after_held (sink.written x) text (sink.written y) (wrote.no_shorter tells)
-            (wrote.front tells) in
+        (wrote.front tells) in
         let told = front_told read unread text new runs in (
           told.0,
           told.1 ∙ ap (λ script. length (lines_of script)) (sym split),

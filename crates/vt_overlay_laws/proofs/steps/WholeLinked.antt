@@ -214,4 +214,4 @@ module _ (stack : Stack ℕ) (merge : Merge ℕ) (whole : IsWhole stack merge) (
 pub link_keeps_shown : LinkKeepsShown
 link_keeps_shown stack merge d w object whole stands own may =
     what_is_shown stack (merge_with_link nat_eq merge d w object)
-        (later_is_fine stack merge whole d w object stands own may)
+    (later_is_fine stack merge whole d w object stands own may)
