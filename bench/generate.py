@@ -27,6 +27,10 @@ ending10, ending100
 handed10
         the same, and each container has one in it whose mount is its slave and which ends later: the group that ends
         hands it to the host's
+climbs  a tree, each directory in the one before, and 20 paths of 1,364 `..` from its end
+parts   the same under a mount of a part of the filesystem
+exits   tasks that are all forked first, and then end in the order in which they were forked
+stacks  mounts over one another at one place, and paths that lead through all of them
 later60, later600, later2000
         so many mounted filesystems, of which the oldest is unmounted, again and again, and a new one mounted in its place
 
@@ -403,6 +407,58 @@ def later_round(i, count):
     yield f't read /l/{(i + 1) % count}/f'
 
 
+UPWARD = 1364
+
+
+def climbs(lines, top='/tree'):
+    """A tree, each directory in the one before, and 20 paths that go up from its end."""
+    paths = min(20, lines // 4)
+    yield 't mkdir /tree'
+    if top != '/tree':
+        yield f't mkdir {top}'
+        yield f't bind /tree {top}'
+    yield f't chdir {top}'
+    depth = (lines - paths - 4) // 2
+    for _ in range(depth):
+        yield 't mkdir a'
+        yield 't chdir a'
+    for _ in range(paths):
+        yield 't stat ' + '../' * min(UPWARD, depth)
+
+
+def tasks_in_turn(count):
+    """The names of so many tasks beside the first, in an order in which each can be forked: 64 forks of each."""
+    names = collections.deque(['t'])
+    made = []
+    while len(made) < count:
+        parent = names.popleft()
+        for number in range(1, 65):
+            if len(made) == count:
+                break
+            child = f'{parent}.{number}'
+            yield parent, child
+            made.append(child)
+            names.append(child)
+
+
+def exits(lines):
+    tasks = list(tasks_in_turn(lines // 2))
+    for parent, _ in tasks:
+        yield f'{parent} fork'
+    for _, child in tasks:
+        yield f'{child} exit'
+
+
+def stacks(lines):
+    high = min(2000, max(1, lines // 10))
+    yield 't mkdir /m'
+    for _ in range(high):
+        yield 't mount plain /m'
+    yield 't mkdir /m/d'
+    for i in range(lines - high - 2):
+        yield 't stat /m/d'
+
+
 KINDS = {
     'files': files, 'listed': listed, 'deep': deep, 'one': one, 'users': users, 'links': links, 'mounts': mounts,
     'spaces': spaces,
@@ -415,6 +471,7 @@ KINDS = {
     'ending100': lambda lines: ending(lines, 100), 'handed10': lambda lines: ending(lines, 10, is_nested=True),
     'later60': lambda lines: later(lines, 60), 'later600': lambda lines: later(lines, 600),
     'later2000': lambda lines: later(lines, 2000),
+    'climbs': climbs, 'parts': lambda lines: climbs(lines, '/part'), 'exits': exits, 'stacks': stacks,
 }
 
 

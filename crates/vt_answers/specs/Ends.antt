@@ -1,17 +1,18 @@
 -- How a call of the code ends, as the definitions see it.
-use Rattle.std.specs.Prelude.{Err, Ok, Result, ⊤, nat_eq, ℕ, ◌≡◌, ◌⊎◌}
+use Rattle.std.specs.Prelude.{Err, Ok, Result, if◌then◌else◌, ⊤, nat_eq, ℕ, ◌≡◌, ◌⊎◌}
 use Rattle.vt_spec.specs.declared.errors.Deny.{Deny}
 use Rattle.vt_spec.specs.declared.errors.Rule.TheVariants.{S5}
 use Rattle.vt_spec.specs.Errors.{denial}
 use Rattle.vt_spec.specs.Language.Answers as spec
 use Rattle.vt_spec.specs.Language.Calls.{Call, TaskName}
+use Rattle.vt_spec.specs.Machine.Filesystems.{raised}
 use Rattle.vt_spec.specs.Machine.Outcomes.{Outcome}
-use Rattle.vt_spec.specs.Machine.Policy.{policy}
+use Rattle.vt_spec.specs.Machine.Policy.{only_looks, policy}
 use Rattle.vt_spec.specs.Machine.SameWorlds.{SameWorlds}
 use Rattle.vt_spec.specs.Machine.World.{World}
-use Rattle.vt_laws.specs.Numbers.{Allotment}
-use Rattle.vt_run_laws.specs.Handed.{may_be_given}
-use Rattle.vt_run_laws.specs.Runs.{ServesInHand}
+use Rattle.vt_laws_rules.specs.Numbers.{Allotment}
+use Rattle.vt_laws_runs.specs.Handed.{may_be_given}
+use Rattle.vt_laws_runs.specs.Runs.{ServesInHand}
 use Rattle.vt_request.specs.declared.answer.Answer.{Answer}
 use Rattle.vt_request.specs.Answers.{answer_of, result_of}
 use Rattle.vt_permits.specs.Allocating.{TakesMemory}
@@ -37,3 +38,7 @@ module _ {W : Type 0} (seen : W → World ℕ) where
     pub serves : ServesInHand may_be_given (seen old) allotment
     pub outcome : Meets call (policy nat_eq allotment.new (seen old) name call) result old new
     pub memory : ¬ TakesMemory call → result_of result ≡ (policy nat_eq allotment.new (seen old) name call).answer
+
+-- the world's change number after a call that succeeds: one more, unless the call only looks; the largest one stays
+abbrev pub change_after : Call → ℕ → ℕ
+change_after call change = if only_looks call then change else raised change

@@ -1,10 +1,14 @@
--- The numbers that a world opens with, and those that are there for a line.
-use Rattle.std.specs.Prelude.{nat_eq, ℕ, ◌≡◌}
+-- The numbers that a world opens with, those that are there for a line, and the change number after one.
+use Rattle.std.specs.Prelude.{Ok, nat_eq, ℕ, ◌≡◌}
+use Rattle.vt_spec.specs.Language.Answers.{Answer}
+use Rattle.vt_spec.specs.Language.Calls.{Call, TaskName}
 use Rattle.vt_spec.specs.Lists.{Fresh}
+use Rattle.vt_spec.specs.Machine.Policy.{policy}
 use Rattle.vt_spec.specs.Machine.World.{World, opening}
-use Rattle.vt_laws.specs.Numbers.{Allotment}
-use Rattle.vt_run_laws.specs.Handed.{may_be_given}
-use Rattle.vt_run_laws.specs.Runs.{OpensInHand, ServesInHand}
+use Rattle.vt_laws_rules.specs.Numbers.{Allotment}
+use Rattle.vt_laws_runs.specs.Handed.{may_be_given}
+use Rattle.vt_laws_runs.specs.Runs.{OpensInHand, ServesInHand}
+use Rattle.vt_answers.specs.Ends.{change_after}
 
 -- the definitions' opening world, of numbers that may be given
 abbrev pub IsOpened : World ℕ → Type 0
@@ -13,3 +17,10 @@ IsOpened world = (fresh : Fresh ℕ) × OpensInHand may_be_given fresh × (world
 -- some numbers serve the world, and leave endless numbers over
 abbrev pub HasNumbers : World ℕ → Type 0
 HasNumbers world = (allotment : Allotment) × ServesInHand may_be_given world allotment
+
+-- the policy leaves that change number, whatever numbers are handed in
+abbrev pub RaisesTheChangeNumber : Type 0
+RaisesTheChangeNumber =
+    (fresh : Fresh ℕ) (world : World ℕ) (name : TaskName) (call : Call) (answer : Answer)
+    → (policy nat_eq fresh world name call).answer ≡ Ok answer
+    → (policy nat_eq fresh world name call).world.change ≡ change_after call world.change

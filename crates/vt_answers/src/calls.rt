@@ -1,5 +1,5 @@
 //! The trait `Calls`.
-ghost use Rattle.std.specs.Prelude.{◌≡◌, IfErr, IfOk, Ok, nat_eq, true, ℕ};
+ghost use Rattle.std.specs.Prelude.{◌≡◌, IfErr, IfOk, Ok, OnOk, nat_eq, true, ℕ};
 ghost use Rattle.vt_spec.specs.declared.errors.Rule.TheVariants.{S5};
 ghost use Rattle.vt_spec.specs.Errors.{denial};
 ghost use Rattle.vt_spec.specs.Language.Script.{propagation};
@@ -7,7 +7,7 @@ ghost use Rattle.vt_spec.specs.Machine.Sealed.{directed};
 ghost use Rattle.vt_spec.specs.Machine.World.{World};
 ghost use Rattle.vt_request.specs.Answers.{answer_of};
 ghost use Rattle.vt_request.specs.Requests.{call_of, directive_of};
-ghost use Rattle.vt_answers.specs.Ends.{Ends};
+ghost use Rattle.vt_answers.specs.Ends.{Ends, change_after};
 ghost use Rattle.vt_answers.specs.Numbers.{HasNumbers, IsOpened};
 
 use std::alloc::Global;
@@ -32,7 +32,9 @@ pub trait Calls {
     /// rules are those of the call, in its order.
     fn call(&mut self, name: &TaskName, call: Call) -> Result<Answer, Deny>
         requires { propagation.has (call_of call) ≡ true }
-        ensures { Ends world self.old name.now (call_of call) result self.new };
+        ensures ends { Ends world self.old name.now (call_of call) result self.new }
+        ensures change { OnOk result
+            ((world self.new).change ≡ change_after (call_of call) (world self.old).change) };
 
     /// What a directive tells. It is nobody's call, and changes nothing.
     ///

@@ -3,5 +3,6 @@
 #![tactic(auto)]
 
 mod calls;
+pub mod numbers;
 
 pub use calls::Calls;

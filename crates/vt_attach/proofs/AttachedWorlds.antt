@@ -8,11 +8,11 @@ use Rattle.vt_spec.specs.Machine.World.{Filesystem, World, filesystem_numbered, 
 use Rattle.vt_spec.specs.Machine.Invariants.{has_its_root}
 use Rattle.vt_spec.specs.Inodes.{Inode as Counted, node_in}
 use Rattle.vt_spec.specs.Tree.{is_directory_node}
-use Rattle.vt_count_laws.specs.Using.{AreThere}
+use Rattle.vt_laws_counts.specs.Using.{AreThere}
 use Rattle.vt_fs.specs.FilesystemsValue.{FilesystemEntry, Filesystems, filesystem_seen, filesystems_seen, inodes_seen}
-use Rattle.vt_letting_go.specs.OneByOne.{Inode}
-use Rattle.vt_letting_go.proofs.Lists.{Among, among-append_right, among-map, passes}
-use Rattle.vt_letting_go.proofs.leaving.PlacesLeft.{found_itself}
+use Rattle.vt_laws_letting_go.specs.OneByOne.{Inode}
+use Rattle.vt_laws_letting_go.proofs.Lists.{Among, among-append_right, among-map, passes}
+use Rattle.vt_laws_letting_go.proofs.leaving.PlacesLeft.{found_itself}
 use Rattle.vt_location.specs.declared.locations.Location.{Location}
 use Rattle.vt_location.specs.declared.locations.NodeRef.{NodeRef}
 use Rattle.vt_location.specs.declared.mounts.Mount.{Mount}
@@ -20,14 +20,14 @@ use Rattle.vt_location.specs.Locations.{location_of, number_of}
 use Rattle.vt_location.specs.MountValue.{mount_of}
 use Rattle.vt_location.specs.Numbers.{counted}
 use Rattle.vt_location.proofs.NumberLemmas.{inode_same, slot_of}
-use Rattle.vt_world_laws.specs.Worlds.Kept.{IsUnderWay}
-use Rattle.vt_world_laws.proofs.worlds.Roots.{directory_there}
+use Rattle.vt_laws_worlds.specs.Worlds.Kept.{IsUnderWay}
+use Rattle.vt_laws_worlds.proofs.worlds.Roots.{directory_there}
 use Rattle.vt_detach.proofs.Detached.{inodes_of_point}
-use Rattle.vt_detach.specs.Held.{HasOwnInodes}
+use Rattle.vt_world.specs.Held.{HasOwnInodes}
 use Rattle.vt_attach.specs.Room.{has_small_slots, point_is_small}
 use Rattle.vt_attach.proofs.AddedUses.{IsFoundIn, gained_by}
 use Rattle.vt_detach.proofs.FilesSeen.{seen_in}
-use Rattle.vt_letting_go.proofs.sweeps.OfWorlds.{found_filesystem}
+use Rattle.vt_laws_letting_go.proofs.sweeps.OfWorlds.{found_filesystem}
 
 -- an inode of which there is a node is there
 pub inode_is_there : (o : Option (Counted ℕ)) → is_some (node_in o) ≡ true → is_some o ≡ true

@@ -12,37 +12,37 @@ use Rattle.vt_spec.specs.Machine.Permits.Permit.{ToBind}
 use Rattle.vt_spec.specs.Machine.Receives.{has_members, is_member_of}
 use Rattle.vt_spec.specs.Machine.World.{World, mount_at}
 use Rattle.vt_spec.specs.Machine.Invariants.{is_located_well}
-use Rattle.vt_count_laws.specs.Counted.{IsCounted}
-use Rattle.vt_count_laws.proofs.using.MountRoots as Roots
+use Rattle.vt_laws_counts.specs.Counted.{IsCounted}
+use Rattle.vt_laws_counts.proofs.using.MountRoots as Roots
 use Rattle.vt_fs.specs.FilesystemsValue.{Filesystems, filesystem_seen, inodes_seen}
 use Rattle.vt_group.specs.Grouping.{Grouping, HasGroup}
 use Rattle.vt_group.specs.Together.{new_group}
-use Rattle.vt_laws.specs.Numbers.{KeepsTo}
-use Rattle.vt_letting_go.proofs.mounting.AttachedSwept.{binds_keep_all}
-use Rattle.vt_letting_go.proofs.Lists.{Among, among-map, among_from_all, any_passes}
-use Rattle.vt_letting_go.proofs.sweeps.OfWorlds.{found_filesystem, mounts_of_worlds_stand, worlds_have_trees}
-use Rattle.vt_letting_go.proofs.leaving.PlacesLeft.{found_is_there}
+use Rattle.vt_laws_rules.specs.Numbers.{KeepsTo}
+use Rattle.vt_laws_letting_go.proofs.mounting.AttachedSwept.{binds_keep_all}
+use Rattle.vt_laws_letting_go.proofs.Lists.{Among, among-map, among_from_all, any_passes}
+use Rattle.vt_laws_letting_go.proofs.sweeps.OfWorlds.{found_filesystem, mounts_of_worlds_stand, worlds_have_trees}
+use Rattle.vt_laws_letting_go.proofs.leaving.PlacesLeft.{found_is_there}
 use Rattle.vt_location.specs.declared.locations.Location.{Location}
 use Rattle.vt_location.specs.Locations.{location_of}
 use Rattle.vt_location.specs.MountValue.{mount_of}
 use Rattle.vt_location.specs.Numbers.{counted}
 use Rattle.vt_mount.specs.MountsValue.{MountEntry, are_ascending, mounts_in}
-use Rattle.vt_mount_laws.proofs.attached.BindsStand.{bind_there_or_source}
-use Rattle.vt_mount_laws.proofs.mounts.MountsNumbered.{parts_apart}
-use Rattle.vt_mount_laws.proofs.mounts.Standing.{binds_take_each_once}
+use Rattle.vt_laws_mounts.proofs.attached.BindsStand.{bind_there_or_source}
+use Rattle.vt_laws_mounts.proofs.mounts.MountsNumbered.{parts_apart}
+use Rattle.vt_laws_mounts.proofs.mounts.Standing.{binds_take_each_once}
 use Rattle.vt_propagate.specs.declared.copying.Counts.{Counts}
 use Rattle.vt_propagate.specs.declared.copying.Graft.{Graft}
 use Rattle.vt_propagate.specs.Copying as planned
 use Rattle.vt_propagate.specs.Planned.{planned_copies}
 use Rattle.vt_propagate.specs.Seen.{IsSeen}
-use Rattle.vt_run_laws.specs.Handed.{counts_from, is_counted_before}
+use Rattle.vt_laws_runs.specs.Handed.{counts_from, is_counted_before}
 use Rattle.vt_spec.proofs.Lists.{among_from_contains}
-use Rattle.vt_world_laws.proofs.RaisedInUse.{worlds_are_in_use}
-use Rattle.vt_world_laws.specs.Worlds.Permits.{NamesWhatIsThere}
+use Rattle.vt_laws_worlds.proofs.RaisedInUse.{worlds_are_in_use}
+use Rattle.vt_laws_worlds.specs.Worlds.Permits.{NamesWhatIsThere}
 use Rattle.vt_detach.specs.Events.{Permits, left_by}
-use Rattle.vt_detach.specs.Held.{CountsItsMounts, IsHeld}
+use Rattle.vt_world.specs.Held.{CountsItsMounts, IsHeld}
 use Rattle.vt_detach.specs.Uses.{kept}
-use Rattle.vt_detach.specs.WorldValue.{WorldValue, world_of}
+use Rattle.vt_world.specs.WorldValue.{WorldValue, world_of}
 use Rattle.vt_detach.proofs.FileEvents.{permit_fits}
 use Rattle.vt_detach.proofs.Places.{located_is_named}
 use Rattle.vt_detach.proofs.Staying.{IsDone}
@@ -55,8 +55,8 @@ use Rattle.vt_attach.proofs.CopiesAscend.{planned_ascend}
 use Rattle.vt_attach.proofs.GraftedDone.{IsBase, graft_is_done, grafted_value, plan_attaches}
 use Rattle.vt_attach.proofs.NumbersByParts.{binds_keep_to_numbers}
 use Rattle.vt_attach.proofs.TakingNumbers.{TakesNumbers}
-use Rattle.vt_permit_laws.proofs.taken.TakenFirst.{bind_some}
-use Rattle.vt_mount_laws.specs.Mounts.Attaching.{OneNumberAMount}
+use Rattle.vt_laws_permits.proofs.taken.TakenFirst.{bind_some}
+use Rattle.vt_laws_mounts.specs.Mounts.Attaching.{OneNumberAMount}
 
 -- the filesystems of the code's world
 pub same_base : (value : WorldValue) → IsHeld value → IsBase value value.filesystems

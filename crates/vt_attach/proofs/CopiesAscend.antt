@@ -6,13 +6,13 @@ use Rattle.std.specs.List.{list_all, list_any}
 use Rattle.std.proofs.Math.Nat.{mul-le-mul_left}
 use Rattle.std.proofs.lemmas.Bool.{lt-ltb, ne_eqb, or_parts}
 use Rattle.std.proofs.lemmas.List.{length-map}
-use Rattle.vt_letting_go.proofs.Lists.{Among, all_pass, among-from_flat_map, among-from_map, fails, flat_map_alike}
+use Rattle.vt_laws_letting_go.proofs.Lists.{Among, all_pass, among-from_flat_map, among-from_map, fails, flat_map_alike}
 use Rattle.vt_location.specs.Locations.{location_of}
 use Rattle.vt_location.specs.MountValue.{mount_of}
 use Rattle.vt_location.specs.Numbers.{counted}
 use Rattle.vt_mount.specs.MountsValue.{are_ascending}
-use Rattle.vt_mount_laws.proofs.mounts.MountsNumbered.{parts_apart, same_number}
-use Rattle.vt_permit_laws.proofs.taken.TakenAttached.{index_bound}
+use Rattle.vt_laws_mounts.proofs.mounts.MountsNumbered.{parts_apart, same_number}
+use Rattle.vt_laws_permits.proofs.taken.TakenAttached.{index_bound}
 use Rattle.vt_propagate.specs.declared.copying.Counts.{Counts}
 use Rattle.vt_propagate.specs.declared.copying.Graft.{Graft}
 use Rattle.vt_propagate.specs.Planned.{graft_in, numbers_at, planned_copies}
@@ -22,7 +22,7 @@ use Rattle.vt_spec.specs.Machine.Mounts.{Mount, group_of, index_of}
 use Rattle.vt_spec.specs.Machine.World.{World, mount_at}
 use Rattle.vt_attach.proofs.EnteringLemmas.{ascending_joined}
 use Rattle.vt_spec.proofs.Lists.{map_twice}
-use Rattle.vt_mount_laws.specs.Mounts.Attaching.{OneNumberAMount}
+use Rattle.vt_laws_mounts.specs.Mounts.Attaching.{OneNumberAMount}
 
 pub differs : (first : Mount ℕ) (rest : List (Mount ℕ)) → OneNumberAMount (first ∷ rest) → (mount : Mount ℕ)
     → Among mount rest

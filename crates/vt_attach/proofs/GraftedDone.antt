@@ -3,18 +3,18 @@
 use Rattle.std.proofs.Common.{◌≡◌, refl, sym, ap, subst, ◌∙◌, ⊎_elim, inl, inr, ℕ, ◌+◌, nat_eq, Bool, true, false, cond, List, [], ◌∷◌, ◌++◌, map, Option, is_some}
 use Rattle.std.specs.Prelude.{All}
 use Rattle.std.specs.List.{list_all}
-use Rattle.vt_count_laws.specs.Counted.{IsCounted}
-use Rattle.vt_count_laws.specs.Using.{exchanged}
-use Rattle.vt_count_laws.proofs.using.Exchanged.{uses_are_exchanged}
+use Rattle.vt_laws_counts.specs.Counted.{IsCounted}
+use Rattle.vt_laws_counts.specs.Using.{exchanged}
+use Rattle.vt_laws_counts.proofs.using.Exchanged.{uses_are_exchanged}
 use Rattle.vt_fs.specs.FilesystemsValue.{FilesystemEntry, Filesystems, Shown, filesystem_seen, filesystems_seen, inodes_seen, shown, shown_entry}
 use Rattle.vt_group.specs.Grouping.{Grouping, Has, master_in}
 use Rattle.vt_group.specs.Together.{Grows, new_group, typed}
-use Rattle.vt_laws.specs.Numbers.{KeepsTo}
-use Rattle.vt_letting_go.specs.Counts.{mounts_showing, times}
-use Rattle.vt_letting_go.specs.InUse.{HasTrees, InodesInUse}
-use Rattle.vt_letting_go.specs.OneByOne.{Inode}
-use Rattle.vt_letting_go.proofs.Lists.{Among, all_from_among, among-append, among-from_map, among-map, among_from_all}
-use Rattle.vt_letting_go.proofs.sweeps.UpperUses.{times_append}
+use Rattle.vt_laws_rules.specs.Numbers.{KeepsTo}
+use Rattle.vt_laws_letting_go.specs.Counts.{mounts_showing, times}
+use Rattle.vt_laws_letting_go.specs.InUse.{HasTrees, InodesInUse}
+use Rattle.vt_laws_letting_go.specs.OneByOne.{Inode}
+use Rattle.vt_laws_letting_go.proofs.Lists.{Among, all_from_among, among-append, among-from_map, among-map, among_from_all}
+use Rattle.vt_laws_letting_go.proofs.sweeps.UpperUses.{times_append}
 use Rattle.vt_location.specs.declared.locations.Location.{Location}
 use Rattle.vt_location.specs.declared.mounts.Mount.{Mount}
 use Rattle.vt_location.specs.Locations.{location_of}
@@ -29,7 +29,7 @@ use Rattle.vt_propagate.specs.Falling.{moved_by}
 use Rattle.vt_propagate.specs.Planned.{numbers_at}
 use Rattle.vt_propagate.specs.Pushing.{MovesOnce}
 use Rattle.vt_retype.specs.Retyping.{with_kind, with_type_in}
-use Rattle.vt_run_laws.specs.Handed.{is_counted_before}
+use Rattle.vt_laws_runs.specs.Handed.{is_counted_before}
 use Rattle.vt_spec.specs.Language.Calls.{TaskName}
 use Rattle.vt_spec.specs.Lists.{Fresh, folded, is_among}
 use Rattle.vt_spec.specs.Machine.Attach.{Copies, attach, attached_by, copies_from, masters_with, parts_of}
@@ -39,11 +39,11 @@ use Rattle.vt_spec.specs.Machine.Permits.{Permit}
 use Rattle.vt_spec.specs.Machine.Receives.{has_members}
 use Rattle.vt_spec.specs.Machine.World.{Filesystem, World, filesystem_numbered}
 use Rattle.vt_spec.specs.Machine.Invariants.{IsWorld, has_its_root}
-use Rattle.vt_world_laws.specs.Worlds.Kept.{IsUnderWay}
+use Rattle.vt_laws_worlds.specs.Worlds.Kept.{IsUnderWay}
 use Rattle.vt_detach.specs.Events.{Permits, left_by}
-use Rattle.vt_detach.specs.Held.{CountsItsUses, CountsWhatIsInIt, HasOwnInodes, IsHeld}
+use Rattle.vt_world.specs.Held.{CountsItsUses, CountsWhatIsInIt, HasOwnInodes, IsHeld}
 use Rattle.vt_detach.specs.Uses.{kept, unused_entry}
-use Rattle.vt_detach.specs.WorldValue.{WorldValue, world_of}
+use Rattle.vt_world.specs.WorldValue.{WorldValue, world_of}
 use Rattle.vt_detach.proofs.FilesSeen.{files_are_plain}
 use Rattle.vt_detach.proofs.Finishing.{CountsBeside, own_exchanged}
 use Rattle.vt_detach.proofs.MountsChanged.{times_map}

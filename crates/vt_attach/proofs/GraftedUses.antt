@@ -6,18 +6,18 @@ use Rattle.std.specs.Map.{lookup}
 use Rattle.std.proofs.lemmas.Bool.{and_parts, ltb-true, ne_eqb}
 use Rattle.std.proofs.lemmas.List.{map-append}
 use Rattle.std.proofs.lemmas.List.Folds.{list_all-append}
-use Rattle.vt_count_laws.specs.Using.{AreThere, Exchanges, is_inode, is_on, places_of}
-use Rattle.vt_count_laws.proofs.using.MountRoots as Roots
-use Rattle.vt_count_laws.proofs.using.MountRoots.{places_stand}
-use Rattle.vt_count_laws.proofs.using.Places.{exchanges_follow}
+use Rattle.vt_laws_counts.specs.Using.{AreThere, Exchanges, is_inode, is_on, places_of}
+use Rattle.vt_laws_counts.proofs.using.MountRoots as Roots
+use Rattle.vt_laws_counts.proofs.using.MountRoots.{places_stand}
+use Rattle.vt_laws_counts.proofs.using.Places.{exchanges_follow}
 use Rattle.vt_fs.specs.FilesystemsValue.{FilesystemEntry, Filesystems, filesystems_seen, inodes_seen}
-use Rattle.vt_letting_go.specs.Counts.{times}
-use Rattle.vt_letting_go.specs.Mounting.{inode_at}
-use Rattle.vt_letting_go.specs.OneByOne.{Inode, let_go_inode_of, let_go_inodes, without_inode}
-use Rattle.vt_letting_go.specs.InUse.{is_inode_used}
-use Rattle.vt_letting_go.proofs.Lists.{Among, all_pass, among-append_left, among-append_right, among-filter_map, among-from_map, among-map, among_from_all, among_numbers, map_same, none_passes, passes}
-use Rattle.vt_letting_go.proofs.sweeps.OfWorlds.{found_filesystem, mounts_of_worlds_stand}
-use Rattle.vt_letting_go.proofs.sweeps.UpperUses.{times_append}
+use Rattle.vt_laws_letting_go.specs.Counts.{times}
+use Rattle.vt_laws_letting_go.specs.Mounting.{inode_at}
+use Rattle.vt_laws_letting_go.specs.OneByOne.{Inode, let_go_inode_of, let_go_inodes, without_inode}
+use Rattle.vt_laws_letting_go.specs.InUse.{is_inode_used}
+use Rattle.vt_laws_letting_go.proofs.Lists.{Among, all_pass, among-append_left, among-append_right, among-filter_map, among-from_map, among-map, among_from_all, among_numbers, map_same, none_passes, passes}
+use Rattle.vt_laws_letting_go.proofs.sweeps.OfWorlds.{found_filesystem, mounts_of_worlds_stand}
+use Rattle.vt_laws_letting_go.proofs.sweeps.UpperUses.{times_append}
 use Rattle.vt_location.specs.declared.locations.Location.{Location}
 use Rattle.vt_location.specs.declared.mounts.Mount.{Mount}
 use Rattle.vt_location.specs.Locations.{location_of, number_of}
@@ -25,7 +25,7 @@ use Rattle.vt_location.specs.MountValue.{mount_of}
 use Rattle.vt_location.specs.Numbers.{counted}
 use Rattle.vt_location.proofs.NumberLemmas.{inode_same, slot_of}
 use Rattle.vt_mount.specs.MountsValue.{MountEntry, are_ascending, mounts_in}
-use Rattle.vt_mount_laws.proofs.mounts.MountsReplaced.{one_number_by_numbers}
+use Rattle.vt_laws_mounts.proofs.mounts.MountsReplaced.{one_number_by_numbers}
 use Rattle.vt_propagate.specs.Pushing.{MovesOnce}
 use Rattle.vt_spec.specs.Lists.{any_pair, is_among, or_else}
 use Rattle.vt_spec.specs.Machine.Mounts as meant
@@ -34,12 +34,12 @@ use Rattle.vt_spec.specs.Machine.World.{Filesystem, World, all_locations, filesy
 use Rattle.vt_spec.specs.Machine.Invariants.{IsWorld, ListsNumbers, has_its_root}
 use Rattle.vt_spec.specs.Machine.Settled.{layers_in, named_in, objects_of_overlay, used_in}
 use Rattle.vt_spec.specs.Tree.{is_directory_node}
-use Rattle.vt_world_laws.specs.Worlds.Kept.{IsUnderWay}
-use Rattle.vt_world_laws.proofs.RaisedInUse.{worlds_are_in_use}
-use Rattle.vt_world_laws.proofs.worlds.Roots.{directory_there}
-use Rattle.vt_detach.specs.Held.{HasOwnInodes, IsHeld}
+use Rattle.vt_laws_worlds.specs.Worlds.Kept.{IsUnderWay}
+use Rattle.vt_laws_worlds.proofs.RaisedInUse.{worlds_are_in_use}
+use Rattle.vt_laws_worlds.proofs.worlds.Roots.{directory_there}
+use Rattle.vt_world.specs.Held.{HasOwnInodes, IsHeld}
 use Rattle.vt_detach.specs.Uses.{inode_of, unused_entry}
-use Rattle.vt_detach.specs.WorldValue.{WorldValue, world_of}
+use Rattle.vt_world.specs.WorldValue.{WorldValue, world_of}
 use Rattle.vt_detach.proofs.FilesSeen.{seen_in}
 use Rattle.vt_attach.specs.Planned.{Point, is_small, points_left, points_taken, with_points}
 use Rattle.vt_attach.specs.PlannedUses.{point_seen}

@@ -2,20 +2,20 @@
 use Rattle.std.proofs.Common.{◌≡◌, ap, subst, ◌∙◌, inl, ℕ, nat_eq, true, List, [], ◌∷◌, is_some}
 use Rattle.std.specs.Prelude.{option_to_list}
 use Rattle.std.specs.List.{list_all}
-use Rattle.vt_letting_go.specs.InUse.{AllInUse}
-use Rattle.vt_letting_go.specs.Keeping.{LocationsStand}
-use Rattle.vt_letting_go.specs.Leaving.{MountsStand}
-use Rattle.vt_letting_go.specs.OneByOne.{AllInUseBut, IsPlain}
-use Rattle.vt_letting_go.specs.Mounting.{used_by_mounts}
-use Rattle.vt_letting_go.proofs.mounting.Attached.{attached_groups, attached_loses}
-use Rattle.vt_letting_go.proofs.Lists.{Among}
-use Rattle.vt_letting_go.proofs.mounting.MountingLosers.{all_but_losers}
-use Rattle.vt_letting_go.proofs.sweeps.OneByOne.{filesystems_go_one_by_one, mounts_go_one_by_one}
+use Rattle.vt_laws_letting_go.specs.InUse.{AllInUse}
+use Rattle.vt_laws_letting_go.specs.Keeping.{LocationsStand}
+use Rattle.vt_laws_letting_go.specs.Leaving.{MountsStand}
+use Rattle.vt_laws_letting_go.specs.OneByOne.{AllInUseBut, IsPlain}
+use Rattle.vt_laws_letting_go.specs.Mounting.{used_by_mounts}
+use Rattle.vt_laws_letting_go.proofs.mounting.Attached.{attached_groups, attached_loses}
+use Rattle.vt_laws_letting_go.proofs.Lists.{Among}
+use Rattle.vt_laws_letting_go.proofs.mounting.MountingLosers.{all_but_losers}
+use Rattle.vt_laws_letting_go.proofs.sweeps.OneByOne.{filesystems_go_one_by_one, mounts_go_one_by_one}
 use Rattle.vt_spec.specs.Machine.Attach.{Copies, attached_by}
 use Rattle.vt_spec.specs.Machine.Mounts.{Location, Mount}
 use Rattle.vt_spec.specs.Machine.Settled.{mount_lives, without_dead_filesystems, without_dead_mounts}
 use Rattle.vt_spec.specs.Machine.World.{World, mount_at}
-use Rattle.vt_letting_go.specs.TreesOverlays.{in_use_of}
+use Rattle.vt_laws_letting_go.specs.TreesOverlays.{in_use_of}
 
 module _ (world : World ℕ) (in_use : AllInUse world) (stand : MountsStand world) (located : LocationsStand world)
     (plain : IsPlain world) (new : Copies ℕ) (place : Location ℕ)

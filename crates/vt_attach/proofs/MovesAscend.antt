@@ -5,12 +5,12 @@ use Rattle.std.specs.Prelude.{flat_map, if◌then◌else◌, nat_lt}
 use Rattle.std.specs.List.{list_all, list_any}
 use Rattle.std.proofs.lemmas.Bool.{and_parts, ltb-true, ne_eqb, or_parts}
 use Rattle.std.proofs.lemmas.List.{length-map}
-use Rattle.vt_letting_go.proofs.Lists.{Among, among-from_flat_map, among-from_map, flat_map_alike, none_passes, passes}
+use Rattle.vt_laws_letting_go.proofs.Lists.{Among, among-from_flat_map, among-from_map, flat_map_alike, none_passes, passes}
 use Rattle.vt_location.specs.Locations.{location_of}
 use Rattle.vt_location.specs.MountValue.{mount_of}
 use Rattle.vt_location.specs.Numbers.{counted}
 use Rattle.vt_mount.specs.MountsValue.{are_ascending}
-use Rattle.vt_mount_laws.proofs.mounts.MountsNumbered.{parts_apart}
+use Rattle.vt_laws_mounts.proofs.mounts.MountsNumbered.{parts_apart}
 use Rattle.vt_propagate.specs.declared.copying.Counts.{Counts}
 use Rattle.vt_propagate.specs.declared.copying.Graft.{Graft}
 use Rattle.vt_propagate.specs.Planned.{graft_in, numbers_at}
@@ -22,7 +22,7 @@ use Rattle.vt_spec.specs.Machine.World.{World, mount_at}
 use Rattle.vt_attach.proofs.CopiesAscend.{number_at, numbers_grow, place_in, place_later, rows_ascend}
 use Rattle.vt_attach.proofs.EnteringLemmas.{ascending_joined}
 use Rattle.vt_spec.proofs.Lists.{map_twice}
-use Rattle.vt_mount_laws.specs.Mounts.Attaching.{OneNumberAMount}
+use Rattle.vt_laws_mounts.specs.Mounts.Attaching.{OneNumberAMount}
 
 -- mounts in the order of their numbers have one number each
 pub ascending_once : (mounts : List (Mount ℕ)) → are_ascending mounts ≡ true → OneNumberAMount mounts

@@ -11,34 +11,34 @@ use Rattle.vt_spec.specs.Machine.Attach.{attach, parts_of, receivers_of, takes_p
 use Rattle.vt_spec.specs.Machine.Locked.{of_overlay}
 use Rattle.vt_spec.specs.Machine.Mounts as meant
 use Rattle.vt_spec.specs.Machine.Mounts.{Location, group_of, mount_in}
-use Rattle.vt_spec.specs.Machine.Outcome.Mounting.{mounted, new_mount, plain_filesystem}
+use Rattle.vt_spec.specs.Machine.NewMounts.{mounted, new_mount, plain_filesystem}
 use Rattle.vt_spec.specs.Machine.Permits.Permit.{ToMountPlain}
 use Rattle.vt_spec.specs.Machine.Receives.{receivers, receives}
 use Rattle.vt_spec.specs.Machine.Settled.{layers_in, located_in, named_in, objects_of_overlay, used_in}
 use Rattle.vt_spec.specs.Machine.World.{Filesystem, World, all_locations, filesystem_numbered, is_directory_at, layers_of, mount_at, new_plain, no_filesystem, root_attr}
 use Rattle.vt_spec.specs.Machine.Invariants.{IsWorld, has_its_root, is_located_well}
 use Rattle.vt_spec.specs.Tree.{is_directory_node}
-use Rattle.vt_count_laws.specs.Counted.{IsCounted, IsPlain}
-use Rattle.vt_count_laws.specs.Using.{is_on, is_outside, one_counted, places_of}
-use Rattle.vt_count_laws.proofs.using.Exchanged.{uses_are_exchanged}
-use Rattle.vt_count_laws.proofs.using.MountRoots as Roots
-use Rattle.vt_count_laws.proofs.using.MountRoots.{places_stand}
-use Rattle.vt_count_laws.proofs.using.Places.{new_tree_is_counted, others_use_nothing}
+use Rattle.vt_laws_counts.specs.Counted.{IsCounted, IsPlain}
+use Rattle.vt_laws_counts.specs.Using.{is_on, is_outside, one_counted, places_of}
+use Rattle.vt_laws_counts.proofs.using.Exchanged.{uses_are_exchanged}
+use Rattle.vt_laws_counts.proofs.using.MountRoots as Roots
+use Rattle.vt_laws_counts.proofs.using.MountRoots.{places_stand}
+use Rattle.vt_laws_counts.proofs.using.Places.{new_tree_is_counted, others_use_nothing}
 use Rattle.vt_fs.specs.FilesystemsValue.{FilesystemEntry, Filesystems, IsNew, filesystem_seen, filesystems_seen, inodes_seen}
-use Rattle.vt_letting_go.specs.Counts.{mounts_showing}
-use Rattle.vt_letting_go.specs.InUse.{HasTrees, InodesInUse, is_inode_used}
-use Rattle.vt_letting_go.proofs.mounting.AttachedSwept.{new_mounts_of_trees_keep_all}
-use Rattle.vt_letting_go.proofs.Lists.{Among, all_from_among, all_pass, among-append, among-append_left, among-append_right, among-filter_map, among-from_filter, among-from_filter_map, among-from_map, among-map, among_from_all, among_numbers, filter_alike, passes}
-use Rattle.vt_letting_go.proofs.sweeps.OfWorlds.{found_filesystem, mounts_of_worlds_stand, worlds_have_trees}
-use Rattle.vt_letting_go.proofs.leaving.PlacesLeft.{found_itself}
+use Rattle.vt_laws_letting_go.specs.Counts.{mounts_showing}
+use Rattle.vt_laws_letting_go.specs.InUse.{HasTrees, InodesInUse, is_inode_used}
+use Rattle.vt_laws_letting_go.proofs.mounting.AttachedSwept.{new_mounts_of_trees_keep_all}
+use Rattle.vt_laws_letting_go.proofs.Lists.{Among, all_from_among, all_pass, among-append, among-append_left, among-append_right, among-filter_map, among-from_filter, among-from_filter_map, among-from_map, among-map, among_from_all, among_numbers, filter_alike, passes}
+use Rattle.vt_laws_letting_go.proofs.sweeps.OfWorlds.{found_filesystem, mounts_of_worlds_stand, worlds_have_trees}
+use Rattle.vt_laws_letting_go.proofs.leaving.PlacesLeft.{found_itself}
 use Rattle.vt_location.specs.Numbers.{counted, inode_number}
 use Rattle.vt_mount.specs.MountsValue.{mounts_in}
-use Rattle.vt_run_laws.specs.Handed.{handed_from}
-use Rattle.vt_world_laws.proofs.RaisedInUse.{worlds_are_in_use}
-use Rattle.vt_world_laws.proofs.worlds.Roots.{directory_there}
+use Rattle.vt_laws_runs.specs.Handed.{handed_from}
+use Rattle.vt_laws_worlds.proofs.RaisedInUse.{worlds_are_in_use}
+use Rattle.vt_laws_worlds.proofs.worlds.Roots.{directory_there}
 use Rattle.vt_detach.specs.Events.{Permits, left_by}
-use Rattle.vt_detach.specs.Held.{CountsItsMounts, IsHeld}
-use Rattle.vt_detach.specs.WorldValue.{WorldValue, world_of}
+use Rattle.vt_world.specs.Held.{CountsItsMounts, IsHeld}
+use Rattle.vt_world.specs.WorldValue.{WorldValue, world_of}
 use Rattle.vt_detach.proofs.FileEvents.{permit_fits}
 use Rattle.vt_detach.proofs.FilesSeen.{seen_in}
 use Rattle.vt_detach.proofs.LookLemmas.{turned}

@@ -8,17 +8,17 @@ use Rattle.vt_spec.proofs.Truths.{and_true_left, and_true_right}
 use Rattle.vt_spec.specs.Machine.Run.{used_by_filesystem, used_by_mount}
 use Rattle.vt_spec.specs.Machine.World.{Namespace, root_attr}
 use Rattle.vt_spec.specs.Inodes.{Inodes}
-use Rattle.vt_count_laws.specs.Using.{root_counted}
+use Rattle.vt_laws_counts.specs.Using.{root_counted}
 use Rattle.vt_fs.specs.FilesystemsValue.{FilesystemEntry, Filesystems, IsNew, entry_of, filesystem_seen, inodes_seen, without}
-use Rattle.vt_laws.proofs.numbers.Supports.{used_numbers_are_named}
-use Rattle.vt_letting_go.proofs.Lists.{Among, all_from_among, among-append, among-append_left, among-append_right, among-flat_map, among-map, among_from_all, filter_here, filter_skip, is_among_numbers}
+use Rattle.vt_laws_rules.proofs.numbers.Supports.{used_numbers_are_named}
+use Rattle.vt_laws_letting_go.proofs.Lists.{Among, all_from_among, among-append, among-append_left, among-append_right, among-flat_map, among-map, among_from_all, filter_here, filter_skip, is_among_numbers}
 use Rattle.vt_location.specs.Numbers.{counted, inode_number, is_inode_of}
 use Rattle.vt_location.proofs.NumberLemmas.{is_inode}
-use Rattle.vt_run_laws.specs.Handed.{is_counted_before}
-use Rattle.vt_detach.specs.Held.{HasOwnInodes, IsHeld}
-use Rattle.vt_detach.specs.WorldValue.{WorldValue, world_of}
+use Rattle.vt_laws_runs.specs.Handed.{is_counted_before}
+use Rattle.vt_world.specs.Held.{HasOwnInodes, IsHeld}
+use Rattle.vt_world.specs.WorldValue.{WorldValue, world_of}
 use Rattle.vt_detach.proofs.OwnInodesKept.{IsOwn}
-use Rattle.vt_permit_laws.proofs.in_use.InUseServes.{leaves_two}
+use Rattle.vt_laws_permits.proofs.in_use.InUseServes.{leaves_two}
 
 -- what is counted before
 pub counted_before : (next count : ℕ) → is_counted_before next (counted count) ≡ true → count < next

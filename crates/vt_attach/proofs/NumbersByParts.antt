@@ -1,18 +1,18 @@
 -- The numbers that an attachment takes, whatever groups there are: two for each mount of the tree at each part.
 use Rattle.std.proofs.Common.{◌≡◌, refl, sym, ap, subst, ◌∙◌, ℕ, ◌+◌, ◌*◌, ◌-◌, ◌%◌, ◌/◌, ◌==◌, ◌<◌, nat_eq, eq-eqb, Bool, true, false, cond, ◌&&◌, ◌||◌, List, [], ◌∷◌, map, Some, length, unwrap_or, arith}
 use Rattle.std.specs.Prelude.{nat_lt}
-use Rattle.vt_laws.specs.Numbers.{KeepsTo}
-use Rattle.vt_permit_laws.proofs.named.NamedPermits.{permit_left}
-use Rattle.vt_permit_laws.proofs.named.PermitsKeepTo.{left_renamed}
-use Rattle.vt_permit_laws.proofs.taken.TakenAttached.{index_bound}
-use Rattle.vt_permit_laws.proofs.taken.TakenNumbers.{counted_later}
-use Rattle.vt_permit_laws.specs.Left.{left_by}
-use Rattle.vt_permit_laws.specs.Named.{permit_named}
-use Rattle.vt_run_laws.specs.Handed.{counts_from, handed_from, is_counted_before}
+use Rattle.vt_laws_rules.specs.Numbers.{KeepsTo}
+use Rattle.vt_laws_permits.proofs.named.NamedPermits.{permit_left}
+use Rattle.vt_laws_permits.proofs.named.PermitsKeepTo.{left_renamed}
+use Rattle.vt_laws_permits.proofs.taken.TakenAttached.{index_bound}
+use Rattle.vt_laws_permits.proofs.taken.TakenNumbers.{counted_later}
+use Rattle.vt_laws_permits.specs.Left.{left_by}
+use Rattle.vt_laws_permits.specs.Named.{permit_named}
+use Rattle.vt_laws_runs.specs.Handed.{counts_from, handed_from, is_counted_before}
 use Rattle.vt_spec.specs.Lists.{Fresh, odds, index_from}
 use Rattle.vt_spec.specs.Machine.Attach.{Copies, attach, attached_by, bind_tree, copies_from, index_of_group, index_in_rows, parts_of}
 use Rattle.vt_spec.specs.Machine.Mounts.{Location, Mount, index_of, mount_tree}
-use Rattle.vt_spec.specs.Machine.Outcome.Mounting.{mounted, new_mount, plain_filesystem, with_new_filesystem}
+use Rattle.vt_spec.specs.Machine.NewMounts.{mounted, new_mount, plain_filesystem, with_new_filesystem}
 use Rattle.vt_spec.specs.Machine.Permits.{Permit}
 use Rattle.vt_spec.specs.Machine.Permits.Permit.{ToBind, ToMountPlain, ToMove, ToUnshare}
 use Rattle.vt_spec.specs.Machine.Receives.{is_member_of}
@@ -21,10 +21,10 @@ use Rattle.vt_spec.specs.Machine.World.{Namespace, Task, World, mount_numbered, 
 use Rattle.vt_spec.specs.Machine.Invariants.{IsWorld, has_one_root, is_listed}
 use Rattle.vt_spec.specs.Machine.Namespaces.{namespaces_ended, unshared_by}
 use Rattle.vt_spec.proofs.Lists.{among_from_list_all, among_numbers, among-from_map}
-use Rattle.vt_world_laws.proofs.worlds.ReachedWalks.{task_among}
+use Rattle.vt_laws_worlds.proofs.worlds.ReachedWalks.{task_among}
 use Rattle.vt_attach.specs.AttachedNumbers.{BindsKeepToNumbers, MovesKeepToNumbers, NewMountsKeepToNumbers, UnsharesKeepToNumbers, numbers_of_new_mount, numbers_of_parts}
-use Rattle.vt_permit_laws.proofs.taken.TakenFirst.{nonempty, numbers_same, tree_some, bind_some}
-use Rattle.vt_permit_laws.proofs.taken.TakenHanded.{counted_here}
+use Rattle.vt_laws_permits.proofs.taken.TakenFirst.{nonempty, numbers_same, tree_some, bind_some}
+use Rattle.vt_laws_permits.proofs.taken.TakenHanded.{counted_here}
 
 -- places in a table
 

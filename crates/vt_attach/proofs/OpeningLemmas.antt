@@ -11,14 +11,14 @@ use Rattle.vt_spec.specs.Machine.World.{Filesystem, World, first_mount, first_ta
 use Rattle.vt_spec.specs.Machine.Invariants.{IsWorld}
 use Rattle.vt_spec.specs.Inodes.{Inodes, node_in, one_directory, pinned, tree_of, used_once_more}
 use Rattle.vt_spec.specs.Tree.{new_directory, tree_of_root}
-use Rattle.vt_count_laws.specs.Counted.{IsCounted}
-use Rattle.vt_count_laws.specs.Using.{one_counted, root_counted}
-use Rattle.vt_count_laws.proofs.using.Places.{opening_is_counted}
-use Rattle.vt_laws.specs.Numbers.{KeepsTo}
-use Rattle.vt_laws.proofs.numbers.Supports.{opening_keeps_to_four}
+use Rattle.vt_laws_counts.specs.Counted.{IsCounted}
+use Rattle.vt_laws_counts.specs.Using.{one_counted, root_counted}
+use Rattle.vt_laws_counts.proofs.using.Places.{opening_is_counted}
+use Rattle.vt_laws_rules.specs.Numbers.{KeepsTo}
+use Rattle.vt_laws_rules.proofs.numbers.Supports.{opening_keeps_to_four}
 use Rattle.vt_group.specs.Grouping.{Grouping, Has, no_groups}
 use Rattle.vt_group.proofs.Showing.{opening_has_no_groups}
-use Rattle.vt_letting_go.specs.Counts.{mounts_showing}
+use Rattle.vt_laws_letting_go.specs.Counts.{mounts_showing}
 use Rattle.vt_cred.specs.declared.mount_flags.MountFlags.{MountFlags}
 use Rattle.vt_location.specs.declared.locations.NodeRef.{NodeRef}
 use Rattle.vt_location.specs.declared.mounts.Propagation.TheVariants.{Private}
@@ -30,16 +30,16 @@ use Rattle.vt_location.specs.Locations.{location_of}
 use Rattle.vt_location.specs.MountValue.{mount_of}
 use Rattle.vt_location.specs.Numbers.{counted, inode_number, is_inode_of}
 use Rattle.vt_location.proofs.NumberLemmas.{is_inode}
-use Rattle.vt_run_laws.specs.Handed.{is_counted_before}
-use Rattle.vt_world_laws.proofs.opening.OpeningWorld.{opening_is_a_world}
+use Rattle.vt_laws_runs.specs.Handed.{is_counted_before}
+use Rattle.vt_laws_worlds.proofs.opening.OpeningWorld.{opening_is_a_world}
 use Rattle.vt_fs.specs.FilesystemsValue.{ChangesInodes, FilesystemEntry, Filesystems, IsNew, Shown, filesystem_seen, inodes_seen, numbers_seen, shown, shown_entry, shown_with, with_changed}
 use Rattle.vt_fs.proofs.NewFilesystem.{only_one}
 use Rattle.vt_fs.proofs.Numbers.{numbers_counted, numbers_listed}
 use Rattle.vt_mount.specs.MountsValue.{MountEntry, mounts_in}
 use Rattle.vt_tasks.specs.TasksValue.{first_task_at}
-use Rattle.vt_detach.specs.Held.{CountsItsMounts, CountsItsUses, CountsWhatIsInIt, HasOwnInodes, IsHeld}
+use Rattle.vt_world.specs.Held.{CountsItsMounts, CountsItsUses, CountsWhatIsInIt, HasOwnInodes, IsHeld}
 use Rattle.vt_attach.specs.Opening.{first_shown, opening_numbers}
-use Rattle.vt_detach.specs.WorldValue.{NamespaceEntry, WorldValue, namespace_of, world_of}
+use Rattle.vt_world.specs.WorldValue.{NamespaceEntry, WorldValue, namespace_of, world_of}
 
 -- One filesystem, with a use more of its root again and again
 pub pinned_once : (root uses : ℕ) → pinned nat_eq (one_counted root uses) root ≡ one_counted root (uses + 1)

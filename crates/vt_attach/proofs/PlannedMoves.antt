@@ -10,8 +10,8 @@ use Rattle.vt_spec.specs.declared.errors.Deny.{Deny}
 use Rattle.vt_spec.specs.declared.errors.Rule.TheVariants.{S5}
 use Rattle.vt_spec.specs.Errors.{denial}
 use Rattle.vt_spec.specs.Inodes.{pinned, uses_in}
-use Rattle.vt_letting_go.proofs.Lists.{Among, among-append_left, among-append_right, among-map, passes}
-use Rattle.vt_letting_go.specs.OneByOne.{Inode}
+use Rattle.vt_laws_letting_go.proofs.Lists.{Among, among-append_left, among-append_right, among-map, passes}
+use Rattle.vt_laws_letting_go.specs.OneByOne.{Inode}
 use Rattle.vt_location.specs.declared.locations.Location.{Location}
 use Rattle.vt_location.specs.declared.mounts.Mount.{Mount}
 use Rattle.vt_location.specs.Locations.{location_of, number_of}

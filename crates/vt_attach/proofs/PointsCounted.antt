@@ -1,15 +1,15 @@
 -- Where mounts get other mount points, they count what they counted, and show what they showed.
 use Rattle.std.proofs.Common.{◌≡◌, refl, sym, subst, ◌∙◌, ℕ, ◌+◌, nat_eq, Bool, true, false, cond, List, [], ◌∷◌, if◌then◌else◌}
 use Rattle.std.specs.Prelude.{All}
-use Rattle.vt_letting_go.specs.Counts.{times}
-use Rattle.vt_letting_go.proofs.Lists.{all_from_among, among-from_map, among_from_all}
+use Rattle.vt_laws_letting_go.specs.Counts.{times}
+use Rattle.vt_laws_letting_go.proofs.Lists.{all_from_among, among-from_map, among_from_all}
 use Rattle.vt_location.specs.declared.locations.Location.{Location}
 use Rattle.vt_location.specs.Numbers.{counted}
 use Rattle.vt_mount.specs.MountsValue.{MountEntry, changed, mounts_in}
 use Rattle.vt_spec.specs.Machine.Mounts.{Mount}
 use Rattle.vt_spec.specs.Machine.World.{World}
 use Rattle.vt_attach.specs.Planned.{Point, placed_entry, with_points}
-use Rattle.vt_detach.specs.Held.{CountsItsUses}
+use Rattle.vt_world.specs.Held.{CountsItsUses}
 
 module _ (world : World ℕ) where
   one_counts : (number : ℕ) (place : Location) (entries : List MountEntry) → All (CountsItsUses world) entries

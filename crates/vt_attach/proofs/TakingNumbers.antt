@@ -6,19 +6,19 @@ use Rattle.vt_spec.specs.Machine.Permits.{Permit}
 use Rattle.vt_spec.specs.Machine.Permits.Permit.{ToUnshare}
 use Rattle.vt_spec.specs.Machine.World.{Task, mounts_of, task_called}
 use Rattle.vt_spec.specs.Machine.Invariants.{IsWorld}
-use Rattle.vt_count_laws.specs.Counted.{IsPlain}
+use Rattle.vt_laws_counts.specs.Counted.{IsPlain}
 use Rattle.vt_fs.specs.FilesystemsValue.{FilesystemEntry, inodes_seen}
-use Rattle.vt_laws.specs.Numbers.{KeepsTo}
-use Rattle.vt_letting_go.proofs.Lists.{Among, all_from_among}
-use Rattle.vt_permit_laws.specs.Left.{IsGiven}
-use Rattle.vt_permit_laws.specs.Taken.{handed_to}
-use Rattle.vt_permit_laws.proofs.left.PermitsLeave.{given_permits_leave_worlds}
-use Rattle.vt_permit_laws.proofs.same.SameInUse.{same_worlds_are_worlds}
-use Rattle.vt_permit_laws.proofs.same.SameNumbers.{same_worlds_keep_to_numbers}
-use Rattle.vt_run_laws.specs.Handed.{is_counted_before}
+use Rattle.vt_laws_rules.specs.Numbers.{KeepsTo}
+use Rattle.vt_laws_letting_go.proofs.Lists.{Among, all_from_among}
+use Rattle.vt_laws_permits.specs.Left.{IsGiven}
+use Rattle.vt_laws_permits.specs.Taken.{handed_to}
+use Rattle.vt_laws_permits.proofs.left.PermitsLeave.{given_permits_leave_worlds}
+use Rattle.vt_laws_permits.proofs.same.SameInUse.{same_worlds_are_worlds}
+use Rattle.vt_laws_permits.proofs.same.SameNumbers.{same_worlds_keep_to_numbers}
+use Rattle.vt_laws_runs.specs.Handed.{is_counted_before}
 use Rattle.vt_detach.specs.Events.{left_by, supply_of}
-use Rattle.vt_detach.specs.Held.{CountsItsMounts, HasOwnInodes, IsHeld}
-use Rattle.vt_detach.specs.WorldValue.{WorldValue, world_of}
+use Rattle.vt_world.specs.Held.{CountsItsMounts, HasOwnInodes, IsHeld}
+use Rattle.vt_world.specs.WorldValue.{WorldValue, world_of}
 use Rattle.vt_attach.proofs.NumbersByParts.{unshares_keep_to_numbers}
 use Rattle.vt_detach.proofs.Finishing.{CountsBeside}
 use Rattle.vt_detach.proofs.OwnInodesKept.{IsOwn}

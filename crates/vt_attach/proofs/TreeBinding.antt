@@ -3,29 +3,29 @@ use Rattle.std.proofs.Common.{◌≡◌, ◌<◌, refl, sym, ap, subst, ◌∙�
 use Rattle.std.specs.Prelude.{filter, flat_map}
 use Rattle.std.specs.List.{cons_option}
 use Rattle.std.proofs.lemmas.Bool.{and_parts}
-use Rattle.vt_letting_go.proofs.Lists.{Among}
-use Rattle.vt_letting_go.proofs.leaving.PlacesLeft.{number_found}
+use Rattle.vt_laws_letting_go.proofs.Lists.{Among}
+use Rattle.vt_laws_letting_go.proofs.leaving.PlacesLeft.{number_found}
 use Rattle.vt_location.specs.declared.locations.Location.{Location as Place}
 use Rattle.vt_location.specs.declared.numbers.MountId.{MountId}
 use Rattle.vt_location.specs.Locations.{location_of, number_of}
 use Rattle.vt_location.specs.Numbers.{counted}
 use Rattle.vt_mount.specs.MountsValue.{are_ascending, mounts_in}
-use Rattle.vt_mount_laws.proofs.attached.BindsStand.{bind_there_or_source}
-use Rattle.vt_mount_laws.proofs.mounts.Standing.{binds_take_each_once}
+use Rattle.vt_laws_mounts.proofs.attached.BindsStand.{bind_there_or_source}
+use Rattle.vt_laws_mounts.proofs.mounts.Standing.{binds_take_each_once}
 use Rattle.vt_spec.specs.Machine.Attach.{bind_tree, bindable_children, bindable_tree, bound, stands_under}
 use Rattle.vt_spec.specs.Machine.Mounts.{Mount, no_mount}
 use Rattle.vt_spec.specs.Machine.World.{World, mount_at}
 use Rattle.vt_spec.specs.Machine.Invariants.{is_located_well}
 use Rattle.vt_attach.specs.BoundMounts.{bound_mounts, rooted_at}
 use Rattle.vt_mount.specs.Attached.{AreOf}
-use Rattle.vt_detach.specs.Held.{IsHeld}
-use Rattle.vt_detach.specs.WorldValue.{WorldValue, world_of}
+use Rattle.vt_world.specs.Held.{IsHeld}
+use Rattle.vt_world.specs.WorldValue.{WorldValue, world_of}
 use Rattle.vt_detach.proofs.FilesSeen.{IsLocated, located}
 use Rattle.vt_attach.proofs.Binding.{found_some}
 use Rattle.vt_attach.proofs.CopiesAscend.{differs}
 use Rattle.vt_mount.proofs.AttachedLemmas.{ascending_found, picked}
-use Rattle.vt_world_laws.proofs.worlds.FitPermits.{some_of}
-use Rattle.vt_mount_laws.specs.Mounts.Attaching.{OneNumberAMount}
+use Rattle.vt_laws_worlds.proofs.worlds.FitPermits.{some_of}
+use Rattle.vt_laws_mounts.specs.Mounts.Attaching.{OneNumberAMount}
 
 module _ (value : WorldValue) (whole : IsHeld value) (source : Place) (recursive : Bool)
     (small : source.node.slot < 18446744073709551616)

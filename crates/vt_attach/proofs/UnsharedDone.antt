@@ -11,30 +11,30 @@ use Rattle.vt_spec.specs.Machine.SameWorlds.{SameWorlds}
 use Rattle.vt_spec.specs.Machine.Settled.{settled}
 use Rattle.vt_spec.specs.Machine.World.{Namespace, Task, World, mount_at, mounts_of}
 use Rattle.vt_spec.specs.Machine.Invariants.{IsWorld, MountInvariants}
-use Rattle.vt_count_laws.specs.Counted.{IsPlain}
-use Rattle.vt_count_laws.specs.Using.{AreThere, places_of}
+use Rattle.vt_laws_counts.specs.Counted.{IsPlain}
+use Rattle.vt_laws_counts.specs.Using.{AreThere, places_of}
 use Rattle.vt_fs.specs.FilesystemsValue.{FilesystemEntry, Filesystems, inodes_seen, shown}
 use Rattle.vt_group.specs.Grouping.{Grouping, Has, are_rising}
 use Rattle.vt_group.specs.Together.{GrowsTo, typed}
-use Rattle.vt_laws.specs.Numbers.{KeepsTo}
-use Rattle.vt_letting_go.specs.Counts.{times}
-use Rattle.vt_letting_go.specs.Mounting.{inode_at}
-use Rattle.vt_letting_go.specs.OneByOne.{Inode}
-use Rattle.vt_letting_go.proofs.Lists.{Among}
+use Rattle.vt_laws_rules.specs.Numbers.{KeepsTo}
+use Rattle.vt_laws_letting_go.specs.Counts.{times}
+use Rattle.vt_laws_letting_go.specs.Mounting.{inode_at}
+use Rattle.vt_laws_letting_go.specs.OneByOne.{Inode}
+use Rattle.vt_laws_letting_go.proofs.Lists.{Among}
 use Rattle.vt_location.specs.declared.mounts.Mount.{Mount as Attached}
 use Rattle.vt_location.specs.MountValue.{mount_of}
 use Rattle.vt_location.specs.Numbers.{counted}
 use Rattle.vt_mount.specs.MountsValue.{MountEntry, are_ascending, mounts_in}
-use Rattle.vt_permit_laws.proofs.same.SameNumbers.{same_worlds_keep_to_numbers}
-use Rattle.vt_run_laws.specs.Handed.{counts_from, is_counted_before}
+use Rattle.vt_laws_permits.proofs.same.SameNumbers.{same_worlds_keep_to_numbers}
+use Rattle.vt_laws_runs.specs.Handed.{counts_from, is_counted_before}
 use Rattle.vt_tasks.specs.TasksValue.{Tasks}
 use Rattle.vt_mount.specs.Attached.{attached_in}
 use Rattle.vt_attach.specs.Copying.{copies_of}
 use Rattle.vt_detach.specs.Events.{Permits, left_by}
-use Rattle.vt_detach.specs.Held.{CountsWhatIsInIt, IsHeld}
+use Rattle.vt_world.specs.Held.{CountsWhatIsInIt, IsHeld}
 use Rattle.vt_detach.specs.NamespacesLeft.{MountsAreLeft, namespace_entry, numbers_inside, with_one_task_less}
 use Rattle.vt_detach.specs.Uses.{kept, with_attached}
-use Rattle.vt_detach.specs.WorldValue.{NamespaceEntry, WorldValue, namespace_of, world_of}
+use Rattle.vt_world.specs.WorldValue.{NamespaceEntry, WorldValue, namespace_of, world_of}
 use Rattle.vt_attach.proofs.AddedBegins as Begins
 use Rattle.vt_attach.proofs.AddedBegins.{IsAdded, KeepsAdded, with_added}
 use Rattle.vt_attach.proofs.GrownGroups.{ascending_rises}
@@ -56,7 +56,7 @@ use Rattle.vt_attach.proofs.TakingNumbers.{TakesNumbers, left_is_world, left_kee
 use Rattle.vt_attach.proofs.UnsharedGroups as Groups
 use Rattle.vt_attach.proofs.UnsharedTasks as Tasks
 use Rattle.vt_attach.proofs.UnsharedWorlds as Worlds
-use Rattle.vt_mount_laws.specs.Mounts.Attaching.{numbers_of}
+use Rattle.vt_laws_mounts.specs.Mounts.Attaching.{numbers_of}
 
 module _ (value : WorldValue) (whole : IsHeld value) (name : TaskName) (permits : Permits value name ToUnshare)
     (count : ℕ) (in_namespace : counted count ≡ permits.task.namespace)

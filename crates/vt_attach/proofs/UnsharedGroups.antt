@@ -9,21 +9,21 @@ use Rattle.vt_spec.specs.Machine.World.{Task, World, task_called}
 use Rattle.vt_group.specs.Grouping.{Grouping, Has, HasGroup, are_rising}
 use Rattle.vt_group.specs.Laws.{typed_by}
 use Rattle.vt_group.specs.Together.{Grows, GrowsTo, typed}
-use Rattle.vt_letting_go.proofs.Lists.{Among, all_from_among, among-map, any_passes, map_same, one_passes}
+use Rattle.vt_laws_letting_go.proofs.Lists.{Among, all_from_among, among-map, any_passes, map_same, one_passes}
 use Rattle.vt_location.specs.declared.mounts.Mount.{Mount as Attached}
 use Rattle.vt_location.specs.MountValue.{mount_of}
 use Rattle.vt_location.specs.Numbers.{counted}
 use Rattle.vt_mount.specs.MountsValue.{MountEntry, mounts_in}
-use Rattle.vt_run_laws.specs.Handed.{counts_from}
+use Rattle.vt_laws_runs.specs.Handed.{counts_from}
 use Rattle.vt_attach.specs.AttachedGroups.{type_of}
-use Rattle.vt_detach.specs.Held.{IsHeld}
+use Rattle.vt_world.specs.Held.{IsHeld}
 use Rattle.vt_retype.specs.Retyping.{AreTyped}
-use Rattle.vt_detach.specs.WorldValue.{WorldValue, world_of}
+use Rattle.vt_world.specs.WorldValue.{WorldValue, world_of}
 use Rattle.vt_detach.proofs.FollowedTypes.{world_typed}
 use Rattle.vt_attach.proofs.GrownGroups.{attached_worlds_grow}
 use Rattle.vt_attach.proofs.UnsharedWorlds as Worlds
 use Rattle.vt_spec.proofs.Lists.{map_twice}
-use Rattle.vt_mount_laws.specs.Mounts.Attaching.{numbers_of}
+use Rattle.vt_laws_mounts.specs.Mounts.Attaching.{numbers_of}
 
 module _ (value : WorldValue) (whole : IsHeld value) (name : TaskName) (task : Task ℕ)
     (found : task_called (world_of value) name ≡ Some task)

@@ -13,13 +13,13 @@ use Rattle.vt_spec.specs.Machine.World.{Filesystem, Task, World, filesystem_numb
 use Rattle.vt_spec.specs.Machine.Invariants.{has_its_root, is_located_well, is_there}
 use Rattle.vt_spec.specs.Inodes.{node_in}
 use Rattle.vt_spec.specs.Inodes as Trees
-use Rattle.vt_count_laws.specs.Using.{AreThere, places_of}
+use Rattle.vt_laws_counts.specs.Using.{AreThere, places_of}
 use Rattle.vt_fs.specs.FilesystemsValue.{FilesystemEntry, filesystem_seen, inodes_seen}
-use Rattle.vt_letting_go.specs.Counts.{times}
-use Rattle.vt_letting_go.specs.Mounting.{inode_at}
-use Rattle.vt_letting_go.specs.OneByOne.{Inode}
-use Rattle.vt_letting_go.proofs.Lists.{Among, among-append_right, among-filter, among-from_filter, among-from_map, among-map, passes}
-use Rattle.vt_letting_go.proofs.leaving.PlacesLeft.{found_itself}
+use Rattle.vt_laws_letting_go.specs.Counts.{times}
+use Rattle.vt_laws_letting_go.specs.Mounting.{inode_at}
+use Rattle.vt_laws_letting_go.specs.OneByOne.{Inode}
+use Rattle.vt_laws_letting_go.proofs.Lists.{Among, among-append_right, among-filter, among-from_filter, among-from_map, among-map, passes}
+use Rattle.vt_laws_letting_go.proofs.leaving.PlacesLeft.{found_itself}
 use Rattle.vt_location.specs.declared.locations.Location.{Location}
 use Rattle.vt_location.specs.declared.locations.NodeRef.{NodeRef}
 use Rattle.vt_location.specs.declared.mounts.Mount.{Mount}
@@ -27,18 +27,18 @@ use Rattle.vt_location.specs.Locations.{location_of, number_of}
 use Rattle.vt_location.specs.MountValue.{mount_of}
 use Rattle.vt_location.specs.Numbers.{counted}
 use Rattle.vt_location.proofs.NumberLemmas.{inode_same, slot_of}
-use Rattle.vt_mount_laws.proofs.namespaces.Unsharing.{parent_of}
-use Rattle.vt_world_laws.proofs.worlds.Roots.{directory_there}
+use Rattle.vt_laws_mounts.proofs.namespaces.Unsharing.{parent_of}
+use Rattle.vt_laws_worlds.proofs.worlds.Roots.{directory_there}
 use Rattle.vt_detach.proofs.Detached.{inodes_of_point}
-use Rattle.vt_detach.specs.Held.{IsHeld}
+use Rattle.vt_world.specs.Held.{IsHeld}
 use Rattle.vt_attach.specs.Room.{has_small_slots, point_is_small}
-use Rattle.vt_detach.specs.WorldValue.{WorldValue, world_of}
+use Rattle.vt_world.specs.WorldValue.{WorldValue, world_of}
 use Rattle.vt_attach.proofs.AddedBegins.{nothing_moves, with_added}
 use Rattle.vt_attach.proofs.AddedUses.{IsFoundIn, gained_by, gained_uses}
 use Rattle.vt_detach.proofs.FilesSeen.{seen_in}
 use Rattle.vt_detach.proofs.MidwayBegins.{point_is_located}
 use Rattle.vt_attach.proofs.UnsharedTasks.{added, copied, copy, copy_is, from_spec, new_namespace, one_number, tasks_moved, to_spec}
-use Rattle.vt_letting_go.proofs.sweeps.OfWorlds.{found_filesystem}
+use Rattle.vt_laws_letting_go.proofs.sweeps.OfWorlds.{found_filesystem}
 
 module _ (value : WorldValue) (whole : IsHeld value) (name : TaskName) (task : Task ℕ)
     (found : task_called (world_of value) name ≡ Some task)

@@ -12,17 +12,17 @@ use Rattle.vt_spec.specs.Machine.Namespaces.{copied_mount, is_copied, location_o
 use Rattle.vt_spec.specs.Machine.Run.{Serves, numbers_in_use, used_by_filesystem, used_by_mount}
 use Rattle.vt_spec.specs.Machine.World.{Namespace, Task, World, all_locations, locations_of, mount_at, mount_numbered, mounts_of, task_called}
 use Rattle.vt_spec.specs.Machine.Invariants.{is_listed, is_located_well}
-use Rattle.vt_letting_go.specs.Mounting.{inode_at}
-use Rattle.vt_letting_go.proofs.Lists.{Among, among-append_left, among-append_right, among-filter, among-from_filter, among-from_map, among-map, among_numbers, is_among_left, is_among_numbers, one_passes, passes}
-use Rattle.vt_letting_go.proofs.leaving.PlacesLeft.{found_itself}
-use Rattle.vt_mount_laws.proofs.mounts.MountsNumbered.{unshare_keeps_numbers}
-use Rattle.vt_mount_laws.proofs.namespaces.Unsharing.{parent_of}
+use Rattle.vt_laws_letting_go.specs.Mounting.{inode_at}
+use Rattle.vt_laws_letting_go.proofs.Lists.{Among, among-append_left, among-append_right, among-filter, among-from_filter, among-from_map, among-map, among_numbers, is_among_left, is_among_numbers, one_passes, passes}
+use Rattle.vt_laws_letting_go.proofs.leaving.PlacesLeft.{found_itself}
+use Rattle.vt_laws_mounts.proofs.mounts.MountsNumbered.{unshare_keeps_numbers}
+use Rattle.vt_laws_mounts.proofs.namespaces.Unsharing.{parent_of}
 use Rattle.vt_tasks.specs.Counts.{locations_in}
 use Rattle.vt_tasks.specs.TasksValue.{Tasks, replaced}
-use Rattle.vt_world_laws.proofs.worlds.Roots.{found_copy}
-use Rattle.vt_mount_laws.specs.Mounts.Attaching.{OneNumberAMount}
-use Rattle.vt_detach.specs.Held.{IsHeld, writes_of_task}
-use Rattle.vt_detach.specs.WorldValue.{WorldValue, world_of}
+use Rattle.vt_laws_worlds.proofs.worlds.Roots.{found_copy}
+use Rattle.vt_laws_mounts.specs.Mounts.Attaching.{OneNumberAMount}
+use Rattle.vt_world.specs.Held.{IsHeld, writes_of_task}
+use Rattle.vt_world.specs.WorldValue.{WorldValue, world_of}
 use Rattle.vt_attach.proofs.AddedBegins.{IsAdded, with_added}
 use Rattle.vt_detach.proofs.Splits.{IsSplit, locations_around, replaced_split, writes_replaced}
 

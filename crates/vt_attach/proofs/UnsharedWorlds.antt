@@ -14,16 +14,16 @@ use Rattle.vt_spec.specs.Machine.Run.{Serves, numbers_in_use, used_by_filesystem
 use Rattle.vt_spec.specs.Machine.World.{Namespace, Task, World, mount_at, task_called}
 use Rattle.vt_spec.specs.Machine.Invariants.{MountInvariants, is_listed}
 use Rattle.vt_location.proofs.NumberLemmas.{counted_test}
-use Rattle.vt_mount_laws.proofs.namespaces.Unsharing.{unshare_keeps_mounts}
-use Rattle.vt_letting_go.specs.Counts.{times}
-use Rattle.vt_letting_go.proofs.Lists.{Among, among-append, among-append_right, among-from_filter, among-from_map, among-map, among_from_all, among_numbers, filter_alike, is_among_left, is_among_right, is_among_numbers, passes}
+use Rattle.vt_laws_mounts.proofs.namespaces.Unsharing.{unshare_keeps_mounts}
+use Rattle.vt_laws_letting_go.specs.Counts.{times}
+use Rattle.vt_laws_letting_go.proofs.Lists.{Among, among-append, among-append_right, among-from_filter, among-from_map, among-map, among_from_all, among_numbers, filter_alike, is_among_left, is_among_right, is_among_numbers, passes}
 use Rattle.vt_location.specs.Numbers.{counted}
-use Rattle.vt_run_laws.specs.Handed.{counts_from}
+use Rattle.vt_laws_runs.specs.Handed.{counts_from}
 use Rattle.vt_tasks.specs.Counts.{one_if}
 use Rattle.vt_tasks.specs.TasksValue.{Tasks}
-use Rattle.vt_detach.specs.Held.{CountsWhatIsInIt, IsHeld}
+use Rattle.vt_world.specs.Held.{CountsWhatIsInIt, IsHeld}
 use Rattle.vt_detach.specs.NamespacesLeft.{with_one_task_less}
-use Rattle.vt_detach.specs.WorldValue.{NamespaceEntry, WorldValue, namespace_of, world_of}
+use Rattle.vt_world.specs.WorldValue.{NamespaceEntry, WorldValue, namespace_of, world_of}
 use Rattle.vt_attach.proofs.AddedBegins.{IsAdded, with_added}
 use Rattle.vt_detach.proofs.LeavingNamespaces.{nothing_goes_with}
 use Rattle.vt_detach.proofs.Moving.{swap_eq}

@@ -6,25 +6,25 @@ use Rattle.std.specs.List.{list_all, list_any}
 use Rattle.std.proofs.lemmas.Bool.{and_parts, lt-ltb, ltb-true}
 use Rattle.indexmap.specs.IndexMap.{insert_entry}
 use Rattle.vt_fs.specs.FilesystemsValue.{Filesystems}
-use Rattle.vt_letting_go.proofs.Lists.{Among, all_pass, among-append_right, among-from_map, among-map, is_among_numbers, passes}
+use Rattle.vt_laws_letting_go.proofs.Lists.{Among, all_pass, among-append_right, among-from_map, among-map, is_among_numbers, passes}
 use Rattle.vt_location.specs.declared.locations.Location.{Location}
 use Rattle.vt_location.specs.declared.mounts.Mount.{Mount as Attached}
 use Rattle.vt_location.specs.declared.numbers.NamespaceId.{NamespaceId}
 use Rattle.vt_location.specs.Locations.{location_of}
 use Rattle.vt_location.specs.Numbers.{counted}
 use Rattle.vt_mount.specs.MountsValue.{MountEntry, are_ascending, changed, entry_numbered, held, mounts_in, released, uses_of, writers_of}
-use Rattle.vt_run_laws.specs.Handed.{counts_from}
+use Rattle.vt_laws_runs.specs.Handed.{counts_from}
 use Rattle.vt_spec.specs.Lists.{index_from}
 use Rattle.vt_spec.specs.Machine.Mounts as meant
 use Rattle.vt_spec.specs.Machine.Mounts.{Mount, index_of}
 use Rattle.vt_spec.specs.Machine.Namespaces.{location_on_copy}
 use Rattle.vt_spec.specs.Machine.Run.{Serves, numbers_in_use, used_by_filesystem, used_by_mount}
 use Rattle.vt_spec.specs.Machine.World.{Namespace as meant_namespace}
-use Rattle.vt_detach.specs.declared.namespaces.Namespace.{Namespace}
+use Rattle.vt_world.specs.declared.namespaces.Namespace.{Namespace}
 use Rattle.vt_attach.specs.Copying.{copied_by, copies_of, copy_numbers, moved_in, with_use_moved}
-use Rattle.vt_detach.specs.Held.{IsHeld}
+use Rattle.vt_world.specs.Held.{IsHeld}
 use Rattle.vt_detach.specs.Uses.{kept, unused_entry, with_attached}
-use Rattle.vt_detach.specs.WorldValue.{NamespaceEntry, WorldValue, entries_of, entry_of, namespace_of, world_of}
+use Rattle.vt_world.specs.WorldValue.{NamespaceEntry, WorldValue, entries_of, entry_of, namespace_of, world_of}
 use Rattle.vt_attach.proofs.AttachedCounts.{lower_numbers}
 use Rattle.vt_attach.proofs.EnteringLemmas.{ascending_joined}
 use Rattle.vt_mount.specs.Indexes.{same_namespace}

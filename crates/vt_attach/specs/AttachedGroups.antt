@@ -7,7 +7,7 @@ use Rattle.vt_spec.specs.Machine.Attach.{Copies, all_groups_made, copies_at, gra
 use Rattle.vt_spec.specs.Machine.Mounts.{Location, Mount, Propagation, group_of}
 use Rattle.vt_spec.specs.Machine.Receives.{has_members}
 use Rattle.vt_spec.specs.Machine.World.{World}
-use Rattle.vt_mount_laws.specs.Mounts.Attaching.{numbers_of}
+use Rattle.vt_laws_mounts.specs.Mounts.Attaching.{numbers_of}
 
 -- a mount's number and its type
 abbrev pub type_of : Mount ℕ → ℕ × Propagation ℕ

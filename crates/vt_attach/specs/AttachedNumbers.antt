@@ -1,14 +1,14 @@
 -- The numbers that an attachment takes of the supply that it is handed, whatever groups there are: for each mount of
 -- the tree at each part one for its copy, and one for a group.
 use Rattle.std.specs.Prelude.{Bool, List, Some, length, nat_eq, true, ℕ, ◌%◌, ◌*◌, ◌+◌, ◌≡◌}
-use Rattle.vt_laws.specs.Numbers.{KeepsTo}
-use Rattle.vt_permit_laws.specs.Left.{left_by}
-use Rattle.vt_permit_laws.specs.Named.{permit_named}
-use Rattle.vt_run_laws.specs.Handed.{counts_from, handed_from, is_counted_before}
+use Rattle.vt_laws_rules.specs.Numbers.{KeepsTo}
+use Rattle.vt_laws_permits.specs.Left.{left_by}
+use Rattle.vt_laws_permits.specs.Named.{permit_named}
+use Rattle.vt_laws_runs.specs.Handed.{counts_from, handed_from, is_counted_before}
 use Rattle.vt_spec.specs.Language.Calls.{MountFlags}
 use Rattle.vt_spec.specs.Machine.Attach.{bind_tree, parts_of}
 use Rattle.vt_spec.specs.Machine.Mounts.{Location, Mount, mount_tree}
-use Rattle.vt_spec.specs.Machine.Outcome.Mounting.{plain_filesystem, with_new_filesystem}
+use Rattle.vt_spec.specs.Machine.NewMounts.{plain_filesystem, with_new_filesystem}
 use Rattle.vt_spec.specs.Machine.Permits.Permit.{ToBind, ToMountPlain, ToMove, ToUnshare}
 use Rattle.vt_spec.specs.Machine.World.{Task, World, mount_numbered, mounts_of, task_called}
 use Rattle.vt_spec.specs.Machine.Invariants.{IsWorld}

@@ -21,7 +21,7 @@ use Rattle.vt_attach.specs.Planned.{Point, is_small, points_left, points_taken, 
 use Rattle.vt_attach.specs.PlannedUses.{point_seen}
 use Rattle.vt_attach.specs.Room.{has_small_slots}
 use Rattle.vt_detach.specs.Uses.{Kept}
-use Rattle.vt_mount_laws.specs.Mounts.Attaching.{OneNumberAMount}
+use Rattle.vt_laws_mounts.specs.Mounts.Attaching.{OneNumberAMount}
 
 -- These are the parts of a world with these mounts and groups. The mounts that come have greater numbers than all
 -- others.

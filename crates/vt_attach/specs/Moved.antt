@@ -24,7 +24,7 @@ use Rattle.vt_attach.specs.Planned.{Point, is_small, points_left, points_taken, 
 use Rattle.vt_attach.specs.PlannedUses.{point_seen}
 use Rattle.vt_attach.specs.Room.{has_small_slots}
 use Rattle.vt_detach.specs.Uses.{Kept}
-use Rattle.vt_mount_laws.specs.Mounts.Attaching.{OneNumberAMount}
+use Rattle.vt_laws_mounts.specs.Mounts.Attaching.{OneNumberAMount}
 
 -- mounts get types, one after the other
 abbrev pub typed_all : List (ℕ × Propagation ℕ) → List MountEntry → List MountEntry

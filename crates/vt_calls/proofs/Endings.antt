@@ -16,23 +16,23 @@ use Rattle.vt_spec.specs.Machine.Settled.{settled}
 use Rattle.vt_spec.specs.Machine.World.{Task, task_called}
 use Rattle.vt_permits.specs.Allocating.{TakesMemory}
 use Rattle.vt_permits.specs.Memory.{JudgesAlike, JudgesByReceivers}
-use Rattle.vt_permits.specs.PermitValue.{permit_of}
-use Rattle.vt_permits.specs.declared.permit.Permit as code
+use Rattle.vt_permits.specs.GrantValue.{permit_of}
+use Rattle.vt_permits.specs.declared.grant.Grant.{Grant}
 use Rattle.vt_request.specs.Answers.{answer_of}
 use Rattle.vt_request.specs.declared.answer.Answer.{Answer}
 use Rattle.vt_request.specs.declared.answer.Answer.TheVariants.{Done}
-use Rattle.vt_run_laws.proofs.answered.AlikeWorlds.{sameness_is_an_equivalence}
-use Rattle.vt_run_laws.specs.Handed.{counts_from}
+use Rattle.vt_laws_runs.proofs.answered.AlikeWorlds.{sameness_is_an_equivalence}
+use Rattle.vt_laws_runs.specs.Handed.{counts_from}
 use Rattle.vt_detach.specs.Events.{Becomes, Permits, left_by, supply_of}
-use Rattle.vt_detach.specs.Held.{IsHeld}
-use Rattle.vt_detach.specs.WorldValue.{WorldValue, world_of}
+use Rattle.vt_world.specs.Held.{IsHeld}
+use Rattle.vt_world.specs.WorldValue.{WorldValue, world_of}
 use Rattle.vt_calls.proofs.Finishing.{answers, grants, leaves, refuses}
 use Rattle.vt_calls.proofs.Forms.{frees, is_free}
 use Rattle.vt_calls.proofs.Supplies.{AreVacant, allotted, counts, judged_with, permits}
 use Rattle.vt_calls.specs.Answered.{answered}
 use Rattle.vt_answers.specs.Ends.{MayBeRefusedMemory}
 use Rattle.vt_calls.specs.Meets.{Ends, Meets}
-use Rattle.vt_calls.specs.Permitted.{EndsGiven, IsGiven, IsPermitted}
+use Rattle.vt_calls.specs.Permitted.{EndsGiven, IsGiven, IsGivenFor}
 
 -- A call that is refused
 
@@ -109,12 +109,12 @@ module _ (value : WorldValue) (name : TaskName) (call : Call) (held : IsHeld val
                 alike none in let same : refusal ≡ deny = cc in sym (handed ∙ ap Err same);
           }
 
--- A call that is given a permit
+-- A call that is granted what it asks for
 
-module _ (old : WorldValue) (name : TaskName) (call : Call) (permit : code.Permit)
-    (given : IsPermitted old name call permit) where
+module _ (old : WorldValue) (name : TaskName) (call : Call) (grant : Grant)
+    (given : IsGivenFor old name call grant) where
   abbrev granted : Permit ℕ
-  granted = permit_of given.task permit
+  granted = permit_of given.task grant
 
   -- it is applied
   ends_ok : (new : WorldValue) (answer : Answer) → AreVacant old granted
@@ -124,7 +124,7 @@ module _ (old : WorldValue) (name : TaskName) (call : Call) (permit : code.Permi
       let fresh = supply_of old granted in
       let supplied = allotted old given.held granted vacant in
       let judged : judge_in nat_eq fresh (world_of old) given.task call
-      ≡ Ok granted = judged_with old name call permit given fresh in
+      ≡ Ok granted = judged_with old name call grant given fresh in
       let meets : Meets call (policy nat_eq fresh (world_of old) name call) (Ok answer) old new = (
         answers fresh (world_of old) name given.task call given.called (Ok granted) judged ∙ told,
         sameness_is_an_equivalence.onward (policy nat_eq fresh (world_of old) name call).world
@@ -156,41 +156,41 @@ module _ (old : WorldValue) (name : TaskName) (call : Call) (permit : code.Permi
       (overfills nat_eq fresh (world_of old) given.task) given.task call granted given.judged
       taken))
 
--- The permit, as an arm of code has it, and as the definitions see it
+-- The grant, and the permit that the definitions see in it
 
-module _ (old : WorldValue) (name : TaskName) (permit arm : code.Permit) (meant : Permit ℕ) (is : permit ≡ arm)
-    (seen : (task : Task ℕ) → task_called (world_of old) name ≡ Some task → permit_of task arm ≡ meant) where
-  granted_is : (call : Call) (given : IsPermitted old name call permit) → permit_of given.task permit ≡ meant
-  granted_is call given = ap (permit_of given.task) is ∙ seen given.task given.called
+module _ (old : WorldValue) (name : TaskName) (grant : Grant) (meant : Permit ℕ)
+    (seen : (task : Task ℕ) → task_called (world_of old) name ≡ Some task → permit_of task grant ≡ meant) where
+  granted_is : (call : Call) (given : IsGivenFor old name call grant) → permit_of given.task grant ≡ meant
+  granted_is call given = seen given.task given.called
 
-  pub permitted : AreVacant old meant → IsGiven old name permit → Permits old name meant
+  pub permitted : AreVacant old meant → IsGiven old name grant → Permits old name meant
   permitted vacant given =
       let same = granted_is given.0 given.1 in
-      subst (Permits old name) same (permits old name given.0 permit given.1 (subst (AreVacant old) (sym same) vacant))
+      subst (Permits old name) same (permits old name given.0 grant given.1 (subst (AreVacant old) (sym same) vacant))
 
   pub made : (new : WorldValue) (answer : Answer) → AreVacant old meant
       → ((task : Task ℕ) → task_called (world_of old) name ≡ Some task
       → (apply nat_eq (supply_of old meant) (world_of old) task meant).answer ≡ Ok (answer_of answer))
-      → Becomes old name meant new → EndsGiven old name permit (Ok answer) new
+      → Becomes old name meant new → EndsGiven old name grant (Ok answer) new
   made new answer vacant told becomes call given =
       let same = granted_is call given in
-      ends_ok old name call permit given new answer (subst (AreVacant old) (sym same) vacant)
+      ends_ok old name call grant given new answer (subst (AreVacant old) (sym same) vacant)
       (subst (λ p. (apply nat_eq (supply_of old p) (world_of old) given.task p).answer ≡ Ok (answer_of answer))
       (sym same)
       (told given.task given.called))
       (subst (λ p. Becomes old name p new) (sym same) becomes)
 
   pub short : (new : WorldValue) (deny : Deny) → deny ≡ denial S5 → new ≡ old → is_free meant ≡ false
-      → EndsGiven old name permit (Err deny) new
+      → EndsGiven old name grant (Err deny) new
   short new deny refused same taken call given =
-      ends_short old name call permit given new deny refused same (ap is_free (granted_is call given) ∙ taken)
+      ends_short old name call grant given new deny refused same (ap is_free (granted_is call given) ∙ taken)
 
   -- it only looks
   pub looked : (answer : Answer) → AreVacant old meant
       → ((task : Task ℕ) → task_called (world_of old) name ≡ Some task
       → (apply nat_eq (supply_of old meant) (world_of old) task meant).answer ≡ Ok (answer_of answer))
       → ((task : Task ℕ) → (apply nat_eq (supply_of old meant) (world_of old) task meant).world ≡ world_of old)
-      → EndsGiven old name permit (Ok answer) old
+      → EndsGiven old name grant (Ok answer) old
   looked answer vacant told kept call given =
       made old answer vacant told (λ task called.
       subst (λ world. SameWorlds world (world_of old))
@@ -203,11 +203,11 @@ module _ (old : WorldValue) (name : TaskName) (permit arm : code.Permit) (meant 
       → ((task : Task ℕ) → task_called (world_of old) name ≡ Some task
       → (apply nat_eq (supply_of old meant) (world_of old) task meant).answer ≡ Ok (answer_of Done))
       → is_free meant ≡ false → OnOk change (Becomes old name meant new) → IfErr change (λ deny. deny ≡ denial S5)
-      → OnErr change (new ≡ old) → EndsGiven old name permit result new
+      → OnErr change (new ≡ old) → EndsGiven old name grant result new
   changed new (Ok done) result e vacant told taken becomes memory same =
-      subst (λ r. EndsGiven old name permit r new) (sym e) (made new Done vacant told becomes)
+      subst (λ r. EndsGiven old name grant r new) (sym e) (made new Done vacant told becomes)
   changed new (Err deny) result e vacant told taken becomes memory same =
-      subst (λ r. EndsGiven old name permit r new) (sym e) (short new deny memory same taken)
+      subst (λ r. EndsGiven old name grant r new) (sym e) (short new deny memory same taken)
 
   -- or one that allocates in some cases alone
   pub changed_if : (new : WorldValue) (change : Result ⊤ Deny) (result : Result Answer Deny) → result ≡ answered change
@@ -215,8 +215,8 @@ module _ (old : WorldValue) (name : TaskName) (permit arm : code.Permit) (meant 
       → ((task : Task ℕ) → task_called (world_of old) name ≡ Some task
       → (apply nat_eq (supply_of old meant) (world_of old) task meant).answer ≡ Ok (answer_of Done))
       → (P : Type 0) → (P → is_free meant ≡ false) → OnErr change P → OnOk change (Becomes old name meant new)
-      → IfErr change (λ deny. deny ≡ denial S5) → OnErr change (new ≡ old) → EndsGiven old name permit result new
+      → IfErr change (λ deny. deny ≡ denial S5) → OnErr change (new ≡ old) → EndsGiven old name grant result new
   changed_if new (Ok done) result e vacant told P taken when becomes memory same =
-      subst (λ r. EndsGiven old name permit r new) (sym e) (made new Done vacant told becomes)
+      subst (λ r. EndsGiven old name grant r new) (sym e) (made new Done vacant told becomes)
   changed_if new (Err deny) result e vacant told P taken when becomes memory same =
-      subst (λ r. EndsGiven old name permit r new) (sym e) (short new deny memory same (taken when))
+      subst (λ r. EndsGiven old name grant r new) (sym e) (short new deny memory same (taken when))

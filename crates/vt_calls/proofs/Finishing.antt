@@ -11,15 +11,15 @@ use Rattle.vt_spec.specs.Machine.Apply.{apply}
 use Rattle.vt_spec.specs.Machine.Judge.{Judgement, judge_in}
 use Rattle.vt_spec.specs.Machine.Outcomes.{Outcome, after}
 use Rattle.vt_spec.specs.Machine.Permits.{Permit}
-use Rattle.vt_spec.specs.Machine.Permits.Permit.{Allowed, ToBind, ToChange, ToClose, ToEnterNamespace, ToExit, ToFork, ToList, ToListMounts, ToMake, ToMountOverlay, ToMountPlain, ToMove, ToOpen, ToOpenNew, ToPivot, ToRead, ToReadPart, ToRemoveDirectory, ToRename, ToSetCredentials, ToSetDirectory, ToSetFlags, ToSetRoot, ToSetType, ToSetUmask, ToStat, ToUnmount, ToUnmountLazily, ToUnshare, ToWritePart}
 use Rattle.vt_spec.specs.Machine.Policy.{call_outcome, filesystems_changed_by, finished, finished_by, only_looks, policy}
 use Rattle.vt_spec.specs.Machine.SameWorlds.{SameFiles, SameFilesystems, SameWorlds, without_changes}
 use Rattle.vt_spec.specs.Machine.Settled.{settled}
 use Rattle.vt_spec.specs.Machine.World.{Filesystem, Task, World, task_called}
-use Rattle.vt_laws.proofs.judged.CallsJudged.{call_is_judged_then_applied}
-use Rattle.vt_laws.proofs.judged.NumbersRaised.{last_step_raises_numbers_alone}
-use Rattle.vt_laws.proofs.denials.Unchanged.{look_changes_nothing}
-use Rattle.vt_run_laws.proofs.answered.AlikeWorlds.{files_itself, sameness_is_an_equivalence}
+use Rattle.vt_laws_rules.proofs.judged.CallsJudged.{call_is_judged_then_applied}
+use Rattle.vt_laws_rules.proofs.judged.NumbersRaised.{last_step_raises_numbers_alone}
+use Rattle.vt_laws_rules.proofs.denials.Unchanged.{look_changes_nothing}
+use Rattle.vt_laws_runs.proofs.answered.AlikeWorlds.{files_itself, sameness_is_an_equivalence}
+use Rattle.vt_spec.specs.Machine.Permits.Permit.{Allowed}
 
 -- Worlds that are one but for change numbers are the same.
 abbrev bare : Filesystem ℕ → Filesystem ℕ
@@ -41,7 +41,7 @@ files_same (one ∷ ones) (other ∷ others) e =
       files_same ones others rest,
     )
 
-same_but_for_changes : (one other : World ℕ) → without_changes one ≡ without_changes other → SameWorlds one other
+pub same_but_for_changes : (one other : World ℕ) → without_changes one ≡ without_changes other → SameWorlds one other
 same_but_for_changes one other e = record {
   mounts = ap (λ (w : World ℕ). w.mounts) e;
   master = ap (λ (w : World ℕ). w.master) e;
@@ -54,36 +54,7 @@ same_but_for_changes one other e = record {
 pub grants : (fresh : Fresh ℕ) (world : World ℕ) (task : Task ℕ) (permit : Permit ℕ)
     → (answer : Answer) × ((apply nat_eq fresh world task permit).answer ≡ Ok answer)
 grants fresh world task Allowed = (_, refl)
-grants fresh world task (ToList directory) = (_, refl)
-grants fresh world task (ToStat object) = (_, refl)
-grants fresh world task (ToRead file) = (_, refl)
-grants fresh world task (ToReadPart file offset size) = (_, refl)
-grants fresh world task (ToChange location change) = (_, refl)
-grants fresh world task (ToMake directory name node) = (_, refl)
-grants fresh world task (ToRemoveDirectory parent name directory) = (_, refl)
-grants fresh world task (ToRename from old to new object replaced) = (_, refl)
-grants fresh world task (ToOpen file access) = (_, refl)
-grants fresh world task (ToOpenNew directory name node access) = (_, refl)
-grants fresh world task (ToWritePart file offset bytes) = (_, refl)
-grants fresh world task (ToClose descriptor) = (_, refl)
-grants fresh world task (ToSetDirectory directory) = (_, refl)
-grants fresh world task (ToSetRoot root) = (_, refl)
-grants fresh world task (ToSetUmask umask) = (_, refl)
-grants fresh world task (ToSetCredentials credentials) = (_, refl)
-grants fresh world task (ToFork credentials) = (_, refl)
-grants fresh world task ToExit = (_, refl)
-grants fresh world task ToUnshare = (_, refl)
-grants fresh world task (ToEnterNamespace namespace) = (_, refl)
-grants fresh world task (ToMountPlain place flags) = (_, refl)
-grants fresh world task (ToMountOverlay place overlay flags) = (_, refl)
-grants fresh world task (ToBind source place recursive) = (_, refl)
-grants fresh world task (ToMove mount place) = (_, refl)
-grants fresh world task (ToUnmount mount) = (_, refl)
-grants fresh world task (ToUnmountLazily mount) = (_, refl)
-grants fresh world task (ToSetFlags mount flags) = (_, refl)
-grants fresh world task (ToSetType mount word recursive) = (_, refl)
-grants fresh world task (ToPivot new put) = (_, refl)
-grants fresh world task ToListMounts = (_, refl)
+grants fresh world task permit = (_, refl)
 
 -- the call of a task that exists
 module _ (fresh : Fresh ℕ) (world : World ℕ) (name : TaskName) (task : Task ℕ) (call : Call)

@@ -5,3 +5,5 @@ pub mod Tied
 pub mod Endings
 pub mod Judging
 pub mod Told
+pub mod Spending
+pub mod Numbered

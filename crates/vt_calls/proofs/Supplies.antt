@@ -4,27 +4,27 @@ use Rattle.std.specs.Prelude.{⊤}
 use Rattle.vt_spec.specs.Language.Calls.{Call, TaskName}
 use Rattle.vt_spec.specs.Machine.Judge.{judge_in}
 use Rattle.vt_spec.specs.Machine.Permits.{Permit}
-use Rattle.vt_spec.specs.Machine.Permits.Permit.{Allowed, ToBind, ToChange, ToClose, ToEnterNamespace, ToExit, ToFork, ToList, ToListMounts, ToMake, ToMountOverlay, ToMountPlain, ToMove, ToOpen, ToOpenNew, ToPivot, ToRead, ToReadPart, ToRemoveDirectory, ToRename, ToSetCredentials, ToSetDirectory, ToSetFlags, ToSetRoot, ToSetType, ToSetUmask, ToStat, ToUnmount, ToUnmountLazily, ToUnshare, ToWritePart}
+use Rattle.vt_spec.specs.Machine.Permits.Permit.{ToMake, ToMountPlain, ToOpenNew}
 use Rattle.vt_spec.specs.Machine.Run.{Serves}
 use Rattle.vt_spec.specs.Machine.World.{task_called}
-use Rattle.vt_laws.specs.Numbers.{Allotment}
-use Rattle.vt_laws.proofs.numbers.Texts.{room_serves}
+use Rattle.vt_laws_rules.specs.Numbers.{Allotment}
+use Rattle.vt_laws_rules.proofs.numbers.Texts.{room_serves}
 use Rattle.vt_location.specs.Numbers.{inode_number}
-use Rattle.vt_permit_laws.proofs.in_use.InUseServes.{worlds_keep_to_named_before}
-use Rattle.vt_permit_laws.proofs.taken.TakenJudged.{judgements_do_not_see_supplies}
-use Rattle.vt_permits.specs.PermitValue.{permit_of}
-use Rattle.vt_permits.specs.declared.permit.Permit as code
-use Rattle.vt_run_laws.proofs.handed.Counts.{counts_serve}
-use Rattle.vt_run_laws.proofs.handed.InodesAllotted.{allotted_numbers_serve}
-use Rattle.vt_run_laws.specs.Handed.{counts_from, handed_from, may_be_given}
-use Rattle.vt_run_laws.specs.Runs.{ServesInHand}
+use Rattle.vt_laws_permits.proofs.in_use.InUseServes.{worlds_keep_to_named_before}
+use Rattle.vt_laws_permits.proofs.taken.TakenJudged.{judgements_do_not_see_supplies}
+use Rattle.vt_permits.specs.GrantValue.{permit_of}
+use Rattle.vt_permits.specs.declared.grant.Grant.{Grant}
+use Rattle.vt_laws_runs.proofs.handed.Counts.{counts_serve}
+use Rattle.vt_laws_runs.proofs.handed.InodesAllotted.{allotted_numbers_serve}
+use Rattle.vt_laws_runs.specs.Handed.{counts_from, handed_from, may_be_given}
+use Rattle.vt_laws_runs.specs.Runs.{ServesInHand}
 use Rattle.vt_detach.specs.Events.{Permits, next_inode, supply_of}
-use Rattle.vt_detach.specs.Held.{IsHeld}
+use Rattle.vt_world.specs.Held.{IsHeld}
 use Rattle.vt_ns.specs.Vacancy.{IsVacant, NextInodeIsVacant, NextRootIsVacant}
-use Rattle.vt_detach.specs.WorldValue.{WorldValue, world_of}
-use Rattle.vt_world_laws.proofs.worlds.CallsKept.{name_found}
-use Rattle.vt_calls.specs.Permitted.{IsPermitted}
-use Rattle.vt_run_laws.proofs.runs.GrammarsPlain.{propagation_mounts_no_overlay}
+use Rattle.vt_world.specs.WorldValue.{WorldValue, world_of}
+use Rattle.vt_laws_worlds.proofs.worlds.CallsKept.{name_found}
+use Rattle.vt_calls.specs.Permitted.{IsGivenFor}
+use Rattle.vt_laws_runs.proofs.runs.GrammarsPlain.{propagation_mounts_no_overlay}
 use Rattle.vt_detach.proofs.Staying.{world_is_plain}
 
 -- what a permit is handed beside counts is not in use
@@ -46,7 +46,8 @@ handed : (value : WorldValue) → IsHeld value → (place inode : ℕ) → IsVac
     → IsAllotted value (handed_from value.next place inode)
 handed value held place inode vacant =
     allotted_numbers_serve value.next place inode vacant.even (world_of value)
-    (worlds_keep_to_named_before value.next inode (world_of value) held.in_world (world_is_plain value) held.given vacant.unused)
+    (worlds_keep_to_named_before value.next inode (world_of value) held.in_world (world_is_plain value) held.given
+    vacant.unused)
 
 pub allotted : (value : WorldValue) → IsHeld value → (permit : Permit ℕ) → AreVacant value permit
     → IsAllotted value (supply_of value permit)
@@ -54,41 +55,14 @@ allotted value held (ToMake directory name node) vacant = handed value held 0 (n
 allotted value held (ToOpenNew directory name node access) vacant = handed value held 0
     (next_inode value directory) vacant
 allotted value held (ToMountPlain place flags) vacant = handed value held 2 (inode_number value.next 0) vacant
-allotted value held Allowed vacant = counts value held
-allotted value held (ToList directory) vacant = counts value held
-allotted value held (ToStat object) vacant = counts value held
-allotted value held (ToRead file) vacant = counts value held
-allotted value held (ToReadPart file offset size) vacant = counts value held
-allotted value held (ToChange location change) vacant = counts value held
-allotted value held (ToRemoveDirectory parent name directory) vacant = counts value held
-allotted value held (ToRename from old to new object replaced) vacant = counts value held
-allotted value held (ToOpen file access) vacant = counts value held
-allotted value held (ToWritePart file offset bytes) vacant = counts value held
-allotted value held (ToClose descriptor) vacant = counts value held
-allotted value held (ToSetDirectory directory) vacant = counts value held
-allotted value held (ToSetRoot root) vacant = counts value held
-allotted value held (ToSetUmask umask) vacant = counts value held
-allotted value held (ToSetCredentials credentials) vacant = counts value held
-allotted value held (ToFork credentials) vacant = counts value held
-allotted value held ToExit vacant = counts value held
-allotted value held ToUnshare vacant = counts value held
-allotted value held (ToEnterNamespace namespace) vacant = counts value held
-allotted value held (ToMountOverlay place overlay flags) vacant = counts value held
-allotted value held (ToBind source place recursive) vacant = counts value held
-allotted value held (ToMove mount place) vacant = counts value held
-allotted value held (ToUnmount mount) vacant = counts value held
-allotted value held (ToUnmountLazily mount) vacant = counts value held
-allotted value held (ToSetFlags mount flags) vacant = counts value held
-allotted value held (ToSetType mount word recursive) vacant = counts value held
-allotted value held (ToPivot new put) vacant = counts value held
-allotted value held ToListMounts vacant = counts value held
+allotted value held permit vacant = counts value held
 
-module _ (value : WorldValue) (name : TaskName) (call : Call) (permit : code.Permit)
-    (given : IsPermitted value name call permit) where
+module _ (value : WorldValue) (name : TaskName) (call : Call) (grant : Grant)
+    (given : IsGivenFor value name call grant) where
   abbrev granted : Permit ℕ
-  granted = permit_of given.task permit
+  granted = permit_of given.task grant
 
-  -- whatever is handed in, the call is given the permit
+  -- whatever is handed in, the call is given that permit
   pub judged_with : (fresh : ℕ → ℕ) → judge_in nat_eq fresh (world_of value) given.task call ≡ Ok granted
   judged_with fresh =
       judgements_do_not_see_supplies (world_of value) given.task call fresh (counts_from value.next)

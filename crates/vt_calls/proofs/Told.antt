@@ -3,8 +3,8 @@ use Rattle.std.proofs.Common.{◌≡◌, ap, ◌∙◌, ℕ, List, Option, Some,
 use Rattle.vt_spec.specs.declared.errors.Deny.{Deny}
 use Rattle.vt_spec.specs.Language.Answers.{Answer}
 use Rattle.vt_spec.specs.Language.Answers.Answer.{Child, Opened}
-use Rattle.vt_spec.specs.Machine.Outcome.Descriptors.{free_number}
-use Rattle.vt_spec.specs.Machine.Outcome.Tasks.{child_name}
+use Rattle.vt_spec.specs.Machine.Descriptors.{free_number}
+use Rattle.vt_spec.specs.Machine.Tasks.{child_name}
 use Rattle.vt_spec.specs.Machine.World.{Task}
 
 abbrev opened_as : ℕ → Result Answer Deny

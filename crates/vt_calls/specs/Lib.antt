@@ -1,4 +1,4 @@
 pub mod Meets
 pub mod Permitted
-pub mod Kinds
 pub mod Answered
+pub mod KernelValue

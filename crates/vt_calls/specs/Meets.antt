@@ -5,7 +5,7 @@ use Rattle.vt_spec.specs.Language.Calls.{Call, TaskName}
 use Rattle.vt_spec.specs.Machine.Outcomes.{Outcome}
 use Rattle.vt_request.specs.declared.answer.Answer.{Answer}
 use Rattle.vt_answers.specs.Ends as any
-use Rattle.vt_detach.specs.WorldValue.{WorldValue, world_of}
+use Rattle.vt_world.specs.WorldValue.{WorldValue, world_of}
 
 abbrev pub Meets : Call → Outcome ℕ → Result Answer Deny → WorldValue → WorldValue → Type 0
 Meets = any.Meets world_of

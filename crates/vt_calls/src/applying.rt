@@ -1,5 +1,5 @@
-//! Applies the change that a permit grants. All memory that a change takes is taken before the change.
-ghost use Rattle.vt_calls.specs.Permitted.{EndsGiven, IsGiven};
+//! Spends permits: the change that is granted is applied. All memory that a change takes is taken before the change.
+ghost use Rattle.vt_calls.specs.Permitted.{EndsPermitted, MayBeSpent};
 
 use crate::descriptors::change_descriptors;
 use crate::files::change_file;
@@ -9,40 +9,30 @@ use crate::mounting::change_mounts;
 use crate::removing::remove;
 use crate::tasks::change_tasks;
 use vt_ns::World;
-use vt_permits::Permit;
+use vt_permits::Grant;
+use vt_policy::Permit;
 use vt_request::{Answer, TaskName};
 use vt_spec::errors::Deny;
 
-// Applies the change that a permit grants. S5 (ENOMEM): an allocation failed, or a count of uses is full; nothing has changed.
+// Spends a permit of a task in the world of this change number: what it grants is applied. S5 (ENOMEM): an allocation
+// failed, or a count of uses is full; nothing has changed, and the permit is spent.
 #[inline(always)]
-pub(crate) fn apply(world: &mut World, name: &TaskName, permit: Permit) -> Result<Answer, Deny>
-    requires { IsGiven world.old name.now permit }
-    ensures { EndsGiven world.old name.now permit result world.new }
+pub(crate) fn apply(
+    world: &mut World,
+    change: u64,
+    name: &TaskName,
+    permit: Permit,
+) -> Result<Answer, Deny>
+    requires { MayBeSpent world.old change name.now permit }
+    ensures { EndsPermitted world.old change name.now permit result world.new }
 {
-    match permit {
-        Permit::Allowed
-        | Permit::ToList { .. }
-        | Permit::ToStat { .. }
-        | Permit::ToRead { .. }
-        | Permit::ToReadPart { .. }
-        | Permit::ToListMounts => look(world, name, permit),
-        Permit::ToMake { .. } | Permit::ToLink { .. } => make(world, name, permit),
-        Permit::ToUnlink { .. } | Permit::ToRemoveDirectory { .. } | Permit::ToRename { .. } => {
-            remove(world, name, permit)
-        }
-        Permit::ToWrite { .. } | Permit::ToSetAttr { .. } | Permit::ToWritePart { .. } => {
-            change_file(world, name, permit)
-        }
-        Permit::ToOpen { .. } | Permit::ToOpenNew { .. } | Permit::ToClose { .. } => {
-            change_descriptors(world, name, permit)
-        }
-        Permit::ToMountPlain { .. }
-        | Permit::ToBind { .. }
-        | Permit::ToMove { .. }
-        | Permit::ToUnmount { .. }
-        | Permit::ToUnmountLazily { .. }
-        | Permit::ToSetFlags { .. }
-        | Permit::ToSetType { .. } => change_mounts(world, name, permit),
-        _ => change_tasks(world, name, permit),
+    match permit.spend(change) {
+        Grant::Look(grant) => look(world, name, grant),
+        Grant::Make(grant) => make(world, name, grant),
+        Grant::Remove(grant) => remove(world, name, grant),
+        Grant::Write(grant) => change_file(world, name, grant),
+        Grant::Descriptor(grant) => change_descriptors(world, name, grant),
+        Grant::Task(grant) => change_tasks(world, name, grant),
+        Grant::Mount(grant) => change_mounts(world, name, grant),
     }
 }

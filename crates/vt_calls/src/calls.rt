@@ -2,7 +2,8 @@
 ghost use Rattle.std.specs.Prelude.{◌≡◌, Err, IfErr, IfOk, true};
 ghost use Rattle.vt_spec.specs.Language.Script.{propagation};
 ghost use Rattle.vt_request.specs.Requests.{call_of};
-ghost use Rattle.vt_detach.specs.WorldValue.{world_of};
+ghost use Rattle.vt_answers.specs.Ends.{change_after};
+ghost use Rattle.vt_calls.specs.KernelValue.{kernel_world};
 ghost use Rattle.vt_calls.specs.Meets.{Ends};
 ghost use Rattle.vt_calls.specs.Permitted.{IsPermitted};
 
@@ -11,36 +12,40 @@ use std::alloc::Global;
 use std::marker::Model;
 use vt_answers::Calls;
 use vt_ns::World;
-use vt_permits::Permit;
-use vt_policy::judge;
+use vt_policy::{Permit, judge};
 use vt_request::{Answer, Call, Directive, TaskName};
 use vt_spec::errors::{Deny, Rule};
 
-/// A world that answers calls.
+/// A world that answers calls, and its change number.
 #[derive(Debug, Drop)]
 pub struct Kernel {
     world: World,
+    change: u64,
 }
 
 impl Model for Kernel {
-    ghost use Rattle.vt_detach.specs.WorldValue.{WorldValue};
+    ghost use Rattle.vt_calls.specs.KernelValue.{KernelValue};
 
-    ghost Value = { WorldValue };
+    ghost Value = { KernelValue };
 
-    ghost view = { λ kernel. kernel.world };
+    ghost view = { λ kernel. record { world = kernel.world; change = kernel.change } };
 }
 
 impl Calls for Kernel {
-    ghost world = { world_of };
+    ghost world = { kernel_world };
 
     fn opening(alloc: Global) -> Result<Kernel, Deny> {
         Ok(Kernel {
             world: World::new(alloc)?,
+            change: 0,
         })
     }
 
     fn call(&mut self, name: &TaskName, call: Call) -> Result<Answer, Deny> {
-        judged_call(&mut self.world, name, call)
+        let after = change_after(&call, self.change);
+        let answer = judged_call(&mut self.world, self.change, name, call)?;
+        self.change = after;
+        Ok(answer)
     }
 
     fn direct(&self, directive: Directive) -> Result<Answer, Deny> {
@@ -54,28 +59,39 @@ impl Calls for Kernel {
     }
 }
 
-// Judges a call, and applies its permit.
+// The world's change number once a call has succeeded; the largest one stays.
+fn change_after(call: &Call, change: u64) -> u64
+    ensures { result ≡ change_after (call_of call.now) change }
+{
+    if call.only_looks() || change == u64::MAX {
+        return change;
+    }
+    change + 1
+}
+
+// Judges a call in the world of this change number, and spends its permit.
 #[inline(always)]
-fn judged_call(world: &mut World, name: &TaskName, call: Call) -> Result<Answer, Deny>
+fn judged_call(world: &mut World, change: u64, name: &TaskName, call: Call) -> Result<Answer, Deny>
     requires { propagation.has (call_of call) ≡ true }
     ensures { Ends world.old name.now (call_of call) result world.new }
 {
-    match permit_of(world, name, call) {
-        Ok(permit) => apply(world, name, permit),
+    match permit_of(world, change, name, call) {
+        Ok(permit) => apply(world, change, name, permit),
         Err(deny) => Err(deny),
     }
 }
 
-// What a call is permitted in the world. S2 (ESRCH): there is no such task. The other rules are those of the call.
+// The permit of a call in the world of this change number. S2 (ESRCH): there is no such task. The other rules are those
+// of the call.
 #[inline(always)]
-fn permit_of(world: &World, name: &TaskName, call: Call) -> Result<Permit, Deny>
+fn permit_of(world: &World, change: u64, name: &TaskName, call: Call) -> Result<Permit, Deny>
     requires { propagation.has (call_of call) ≡ true }
-    ensures ok { IfOk result (λ permit. IsPermitted world.now name.now (call_of call) permit) }
+    ensures ok { IfOk result (λ permit. IsPermitted world.now change name.now (call_of call) permit) }
     ensures err { IfErr result (λ deny. Ends world.now name.now (call_of call) (Err deny) world.now) }
 {
     world.is_held();
     let Some(task) = world.task(name) else {
         return Err(Rule::S2.denial());
     };
-    judge(world.alloc(), world, task, call)
+    judge(world.alloc(), world, change, task, call)
 }

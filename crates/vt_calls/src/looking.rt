@@ -1,29 +1,24 @@
-//! What permits to look are answered.
-ghost use Rattle.std.specs.Prelude.{◌≡◌, true};
-ghost use Rattle.vt_calls.specs.Kinds.{is_to_look};
+//! What grants to look are answered.
+ghost use Rattle.vt_permits.specs.declared.grant.Grant.TheVariants.{Look};
 ghost use Rattle.vt_calls.specs.Permitted.{EndsGiven, IsGiven};
 
 use vt_ns::World;
-use vt_permits::Permit;
+use vt_permits::LookGrant;
 use vt_request::{Answer, TaskName};
 use vt_spec::errors::Deny;
 
-// What a permit to look is answered. S5 (ENOMEM): an allocation failed.
+// What a grant to look is answered. S5 (ENOMEM): an allocation failed.
 #[inline(always)]
-pub(crate) fn look(world: &World, name: &TaskName, permit: Permit) -> Result<Answer, Deny>
-    requires given { IsGiven world.now name.now permit }
-    requires kind { is_to_look permit ≡ true }
-    ensures { EndsGiven world.now name.now permit result world.now }
+pub(crate) fn look(world: &World, name: &TaskName, grant: LookGrant) -> Result<Answer, Deny>
+    requires { IsGiven world.now name.now (Look grant) }
+    ensures { EndsGiven world.now name.now (Look grant) result world.now }
 {
-    match permit {
-        Permit::Allowed => Ok(Answer::Done),
-        Permit::ToList { directory } => Ok(Answer::Names(world.list(name, directory)?)),
-        Permit::ToStat { object } => Ok(Answer::Told(world.stat(name, object))),
-        Permit::ToRead { file } => Ok(Answer::Bytes(world.read(name, file)?)),
-        Permit::ToReadPart { file, offset, size } => {
-            Ok(Answer::Bytes(world.read_part(name, file, offset, size)?))
-        }
-        Permit::ToListMounts => Ok(Answer::MountList(world.mounts(name)?)),
-        _ => unreachable!(),
+    match grant {
+        LookGrant::Nothing => Ok(Answer::Done),
+        LookGrant::List { directory } => Ok(Answer::Names(world.list(name, directory)?)),
+        LookGrant::Stat { object } => Ok(Answer::Told(world.stat(name, object))),
+        LookGrant::Read { file } => Ok(Answer::Bytes(world.read(name, file)?)),
+        LookGrant::ReadPart(part) => Ok(Answer::Bytes(world.read_part(name, part)?)),
+        LookGrant::ListMounts => Ok(Answer::MountList(world.mounts(name)?)),
     }
 }

@@ -6,24 +6,24 @@ use Rattle.vt_spec.specs.Machine.SameWorlds.{SameWorlds, without_changes}
 use Rattle.vt_spec.specs.Machine.Settled.{only_used, settled, without_dead_in}
 use Rattle.vt_spec.specs.Machine.World.{World, filesystem_numbered, is_overlay}
 use Rattle.vt_spec.specs.Machine.Invariants.{IsWorld}
-use Rattle.vt_count_laws.specs.Counted.{IsCounted, IsPlain}
-use Rattle.vt_count_laws.specs.Using.{AreThere, Exchanges, exchanged}
-use Rattle.vt_count_laws.proofs.using.Exchanged.{numbers_mapped}
-use Rattle.vt_count_laws.proofs.using.Sweeps.{uses_are_swept}
+use Rattle.vt_laws_counts.specs.Counted.{IsCounted, IsPlain}
+use Rattle.vt_laws_counts.specs.Using.{AreThere, Exchanges, exchanged}
+use Rattle.vt_laws_counts.proofs.using.Exchanged.{numbers_mapped}
+use Rattle.vt_laws_counts.proofs.using.Sweeps.{uses_are_swept}
 use Rattle.vt_fs.specs.FilesystemsValue.{FilesystemEntry, filesystem_seen, inodes_seen}
 use Rattle.vt_group.specs.Grouping.{Has}
-use Rattle.vt_letting_go.specs.OneByOne.{Inode}
-use Rattle.vt_letting_go.proofs.Lists.{Among, among-map, among_from_all}
-use Rattle.vt_letting_go.proofs.sweeps.OfWorlds.{worlds_have_trees}
+use Rattle.vt_laws_letting_go.specs.OneByOne.{Inode}
+use Rattle.vt_laws_letting_go.proofs.Lists.{Among, among-map, among_from_all}
+use Rattle.vt_laws_letting_go.proofs.sweeps.OfWorlds.{worlds_have_trees}
 use Rattle.vt_location.specs.Numbers.{counted}
 use Rattle.vt_mount.specs.MountsValue.{mounts_in}
-use Rattle.vt_world_laws.proofs.settling.SettledSeen.{used_number}
-use Rattle.vt_world_laws.proofs.RaisedInUse.{worlds_are_in_use}
-use Rattle.vt_detach.specs.Held.{CountsItsMounts, IsHeld}
-use Rattle.vt_detach.specs.WorldValue.{WorldValue, world_of}
-use Rattle.vt_letting_go.proofs.sweeps.OfWorlds.{found_filesystem}
+use Rattle.vt_laws_worlds.proofs.settling.SettledSeen.{used_number}
+use Rattle.vt_laws_worlds.proofs.RaisedInUse.{worlds_are_in_use}
+use Rattle.vt_world.specs.Held.{CountsItsMounts, IsHeld}
+use Rattle.vt_world.specs.WorldValue.{WorldValue, world_of}
+use Rattle.vt_laws_letting_go.proofs.sweeps.OfWorlds.{found_filesystem}
 use Rattle.vt_detach.proofs.Showing.{ShowsAs, shown_has, shown_is_counted, shown_is_same}
-use Rattle.vt_letting_go.specs.TreesOverlays.{in_use_of}
+use Rattle.vt_laws_letting_go.specs.TreesOverlays.{in_use_of}
 
 -- An entry comes from one of the same filesystem, in which inodes got these uses and lost those.
 pub record ComesFrom (old : WorldValue) (after : World ℕ) (gained lost : List Inode)

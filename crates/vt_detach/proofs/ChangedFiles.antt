@@ -17,27 +17,27 @@ use Rattle.vt_spec.specs.Machine.World.{Filesystem, Task, World, filesystem_at, 
 use Rattle.vt_spec.specs.Machine.Invariants.{IsWorld}
 use Rattle.vt_spec.specs.Fits.{Fits}
 use Rattle.vt_spec.specs.Inodes.{Inodes, changed, node_in, tree_of}
-use Rattle.vt_count_laws.specs.Changing.{IsChange, LinksWhatIsThere, after_change, filesystem_of}
-use Rattle.vt_count_laws.specs.Counted.{IsCounted, IsPlain}
-use Rattle.vt_count_laws.proofs.Alike.{same_worlds_count_alike}
-use Rattle.vt_count_laws.proofs.changing.Changes.{counts_follow_changes, only_files_change, other_counts_stay}
-use Rattle.vt_count_laws.proofs.Listed.{same_numbers_are_permuted}
-use Rattle.vt_count_laws.proofs.changing.SameAfter.{counted_changes_are_swept}
+use Rattle.vt_laws_counts.specs.Changing.{IsChange, LinksWhatIsThere, after_change, filesystem_of}
+use Rattle.vt_laws_counts.specs.Counted.{IsCounted, IsPlain}
+use Rattle.vt_laws_counts.proofs.Alike.{same_worlds_count_alike}
+use Rattle.vt_laws_counts.proofs.changing.Changes.{counts_follow_changes, only_files_change, other_counts_stay}
+use Rattle.vt_laws_counts.proofs.Listed.{same_numbers_are_permuted}
+use Rattle.vt_laws_counts.proofs.changing.SameAfter.{counted_changes_are_swept}
 use Rattle.vt_fs.specs.FilesystemsValue.{ChangesInodes, FilesystemEntry, Filesystems, Shown, entry_of, files_seen, filesystem_seen, filesystems_seen, inodes_seen, no_entry, numbers_seen, shown_entry, shown_if}
-use Rattle.vt_laws.specs.Numbers.{IsSuppliedFrom, KeepsTo}
-use Rattle.vt_letting_go.specs.Counts.{mounts_showing}
-use Rattle.vt_letting_go.specs.TreeChanges.{with_tree}
-use Rattle.vt_letting_go.proofs.Lists.{Among, all_from_among, among_from_all}
+use Rattle.vt_laws_rules.specs.Numbers.{IsSuppliedFrom, KeepsTo}
+use Rattle.vt_laws_letting_go.specs.Counts.{mounts_showing}
+use Rattle.vt_laws_letting_go.specs.TreeChanges.{with_tree}
+use Rattle.vt_laws_letting_go.proofs.Lists.{Among, all_from_among, among_from_all}
 use Rattle.vt_location.specs.Numbers.{counted, is_inode_of}
 use Rattle.vt_location.proofs.NumberLemmas.{counted_same, counted_test}
-use Rattle.vt_permit_laws.specs.Named.{permit_named}
-use Rattle.vt_permit_laws.proofs.named.PermitsKeepTo.{same_keeps_to_numbers_too}
-use Rattle.vt_permit_laws.proofs.left.PermitsLeave.{same_is_a_world_too}
-use Rattle.vt_run_laws.specs.Handed.{is_counted_before}
-use Rattle.vt_run_laws.proofs.answered.AlikeWorlds.{same_worlds_are_plain_alike, sameness_is_an_equivalence}
+use Rattle.vt_laws_permits.specs.Named.{permit_named}
+use Rattle.vt_laws_permits.proofs.named.PermitsKeepTo.{same_keeps_to_numbers_too}
+use Rattle.vt_laws_permits.proofs.left.PermitsLeave.{same_is_a_world_too}
+use Rattle.vt_laws_runs.specs.Handed.{is_counted_before}
+use Rattle.vt_laws_runs.proofs.answered.AlikeWorlds.{same_worlds_are_plain_alike, sameness_is_an_equivalence}
 use Rattle.vt_detach.specs.Events.{Becomes, Permits, left_by, supply_of}
-use Rattle.vt_detach.specs.Held.{CountsItsMounts, CountsItsUses, CountsWhatIsInIt, HasOwnInodes, IsHeld}
-use Rattle.vt_detach.specs.WorldValue.{WorldValue, world_of}
+use Rattle.vt_world.specs.Held.{CountsItsMounts, CountsItsUses, CountsWhatIsInIt, HasOwnInodes, IsHeld}
+use Rattle.vt_world.specs.WorldValue.{WorldValue, world_of}
 use Rattle.vt_detach.proofs.ChangedNumbers.{MakesOther, none_stays}
 use Rattle.vt_detach.proofs.Grouped.{same_has}
 use Rattle.vt_detach.proofs.FilesSeen.{files_are_plain, one_entry}

@@ -5,14 +5,14 @@ use Rattle.std.proofs.lemmas.Bool.{and_parts, eqb-true, leb-true}
 use Rattle.std.proofs.lemmas.List.{map-append}
 use Rattle.vt_spec.specs.Language.Calls.{TaskName, opens_for_writing}
 use Rattle.vt_spec.specs.Machine.Mounts as meant
-use Rattle.vt_spec.specs.Machine.Outcome.Descriptors.{without_descriptor}
+use Rattle.vt_spec.specs.Machine.Descriptors.{without_descriptor}
 use Rattle.vt_spec.specs.Machine.Permits.Permit.{ToClose}
 use Rattle.vt_spec.specs.Machine.Rules.Descriptors.{descriptor_numbered}
 use Rattle.vt_spec.specs.Machine.World.{Descriptor, Task, all_locations, task_called}
 use Rattle.vt_spec.specs.Machine.Invariants.{are_ascending_from, is_located_well}
 use Rattle.vt_fs.specs.FilesystemsValue.{Filesystems}
-use Rattle.vt_letting_go.specs.Counts.{times}
-use Rattle.vt_letting_go.proofs.Lists.{Among, among-append_right, passes, times_around}
+use Rattle.vt_laws_letting_go.specs.Counts.{times}
+use Rattle.vt_laws_letting_go.proofs.Lists.{Among, among-append_right, passes, times_around}
 use Rattle.vt_location.specs.Locations.{location_of, number_of}
 use Rattle.vt_location.specs.Numbers.{counted}
 use Rattle.vt_mount.specs.MountsValue.{MountEntry}
@@ -22,9 +22,9 @@ use Rattle.vt_tasks.specs.declared.descriptors.OpenFile.{OpenFile}
 use Rattle.vt_tasks.specs.Open.{numbered}
 use Rattle.vt_tasks.specs.TasksValue.{Tasks, called, changed_by, changed_called, replaced}
 use Rattle.vt_detach.specs.Events.{Permits}
-use Rattle.vt_detach.specs.Held.{IsHeld, writes_of_task, writes_on}
+use Rattle.vt_world.specs.Held.{IsHeld, writes_of_task, writes_on}
 use Rattle.vt_detach.specs.Uses.{kept, let_go_mount, released_use, without_location}
-use Rattle.vt_detach.specs.WorldValue.{WorldValue, world_of}
+use Rattle.vt_world.specs.WorldValue.{WorldValue, world_of}
 use Rattle.vt_detach.proofs.LocationsSeen.{seen_where_located}
 use Rattle.vt_detach.proofs.Leaving.{left_done}
 use Rattle.vt_detach.proofs.Moving.{Moves, Use}

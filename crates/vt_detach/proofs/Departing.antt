@@ -13,15 +13,15 @@ use Rattle.vt_spec.specs.Machine.World.{Namespace, Task, World, mount_at}
 use Rattle.vt_spec.specs.Machine.Invariants.{is_listed}
 use Rattle.vt_fs.specs.FilesystemsValue.{Filesystems}
 use Rattle.vt_group.specs.Grouping.{Grouping}
-use Rattle.vt_letting_go.proofs.Lists.{Among, filter_alike, passes}
+use Rattle.vt_laws_letting_go.proofs.Lists.{Among, filter_alike, passes}
 use Rattle.vt_location.specs.Numbers.{counted}
 use Rattle.vt_mount.specs.MountsValue.{MountEntry}
 use Rattle.vt_tasks.specs.TasksValue.{Tasks}
-use Rattle.vt_detach.specs.Held.{CountsWhatIsInIt, IsHeld}
+use Rattle.vt_world.specs.Held.{CountsWhatIsInIt, IsHeld}
 use Rattle.vt_detach.specs.NamespacesLeft.{MountsAreLeft, namespace_entry, numbers_inside, with_one_task_less}
 use Rattle.vt_retype.specs.Retyping.{AreTyped}
 use Rattle.vt_detach.specs.Uses.{Kept, kept}
-use Rattle.vt_detach.specs.WorldValue.{NamespaceEntry, WorldValue, namespace_of, world_of}
+use Rattle.vt_world.specs.WorldValue.{NamespaceEntry, WorldValue, namespace_of, world_of}
 use Rattle.vt_detach.proofs.Bridging.{IsSwept}
 use Rattle.vt_detach.proofs.Finishing.{CountsBeside, IsApplied}
 use Rattle.vt_detach.proofs.FollowedTypes.{gained_typed, own_types, uses_left_typed}
@@ -96,7 +96,7 @@ module _ (value : WorldValue) (whole : IsHeld value) (tasks : Tasks) (more less 
       (folded (Rattle.vt_detach.proofs.Moving.gain world) (kept value.mounts value.filesystems) more)
       (gained_typed value.groups world more (kept value.mounts value.filesystems) (own_types value whole))
 
-  abbrev gained : List Rattle.vt_letting_go.specs.OneByOne.Inode
+  abbrev gained : List Rattle.vt_laws_letting_go.specs.OneByOne.Inode
   gained = inodes_of_uses world more
 
   abbrev k_gained : Kept

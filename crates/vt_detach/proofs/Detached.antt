@@ -5,20 +5,20 @@ use Rattle.std.specs.Prelude.{IfSome, option_to_list, ◌<◌}
 use Rattle.vt_spec.specs.Lists.{folded, is_among}
 use Rattle.vt_spec.specs.Machine.Mounts.{Mount, detached, mount_in, no_mount}
 use Rattle.vt_spec.specs.Machine.World.{World, mount_at}
-use Rattle.vt_count_laws.specs.Using.{Exchanges, pinned_if, unpinned_if}
+use Rattle.vt_laws_counts.specs.Using.{Exchanges, pinned_if, unpinned_if}
 use Rattle.vt_fs.specs.FilesystemsValue.{Shown, inodes_seen}
-use Rattle.vt_letting_go.specs.Counts.{mounts_showing}
-use Rattle.vt_letting_go.specs.Detaching.{detached_if}
-use Rattle.vt_letting_go.specs.Mounting.{inode_at}
-use Rattle.vt_letting_go.specs.OneByOne.{Inode}
-use Rattle.vt_letting_go.proofs.Lists.{Among, all_from_among, among-from_map, among-map, among_from_all, found_in}
+use Rattle.vt_laws_letting_go.specs.Counts.{mounts_showing}
+use Rattle.vt_laws_letting_go.specs.Detaching.{detached_if}
+use Rattle.vt_laws_letting_go.specs.Mounting.{inode_at}
+use Rattle.vt_laws_letting_go.specs.OneByOne.{Inode}
+use Rattle.vt_laws_letting_go.proofs.Lists.{Among, all_from_among, among-from_map, among-map, among_from_all, found_in}
 use Rattle.vt_location.specs.declared.locations.Location.{Location}
 use Rattle.vt_location.specs.Locations.{location_of, number_of}
 use Rattle.vt_location.specs.Numbers.{counted}
 use Rattle.vt_mount.specs.MountsValue.{MountEntry, changed, entry_numbered, mounts_in}
-use Rattle.vt_detach.specs.Held.{CountsItsUses}
+use Rattle.vt_world.specs.Held.{CountsItsUses}
 use Rattle.vt_detach.specs.Uses.{Kept, detached_entry, detached_use, inode_of, point_of, unpinned_at, without_attachment}
-use Rattle.vt_detach.specs.WorldValue.{WorldValue, world_of}
+use Rattle.vt_world.specs.WorldValue.{WorldValue, world_of}
 use Rattle.vt_detach.proofs.Keeping.{IsKeptBut, IsShownIn, append_three, detached_in, looked_at, points_lost}
 use Rattle.vt_detach.proofs.MountsGone.{mount_looked_at}
 use Rattle.vt_detach.proofs.Moving.{map_itself, swap_eq}

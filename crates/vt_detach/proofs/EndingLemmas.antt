@@ -10,16 +10,16 @@ use Rattle.vt_spec.specs.Lists.{holds_of}
 use Rattle.vt_spec.specs.Machine.Mounts.{Mount}
 use Rattle.vt_fs.specs.FilesystemsValue.{Filesystems}
 use Rattle.vt_group.specs.Grouping.{Grouping}
-use Rattle.vt_letting_go.proofs.Lists.{Among, among-from_filter, among-from_map, among-map, filter-map, none_passes, passes}
+use Rattle.vt_laws_letting_go.proofs.Lists.{Among, among-from_filter, among-from_map, among-map, filter-map, none_passes, passes}
 use Rattle.vt_location.specs.declared.locations.Location.{Location}
 use Rattle.vt_location.specs.declared.numbers.MountId.{MountId}
 use Rattle.vt_location.specs.Locations.{location_of}
 use Rattle.vt_location.specs.Numbers.{counted}
 use Rattle.vt_mount.specs.MountsValue.{MountEntry, are_ascending, changed, entry_numbered, mounts_in, without}
-use Rattle.vt_detach.specs.declared.namespaces.Namespace.{Namespace}
+use Rattle.vt_world.specs.declared.namespaces.Namespace.{Namespace}
 use Rattle.vt_detach.specs.NamespacesLeft.{AreDetached, Detached, EndsIf, IsAttached, MountsAreLeft, NamespaceIsLeft, entries_left, has_one_task, is_attached_in, left_if, namespace_entry, one_task_less, with_one_task_less}
 use Rattle.vt_detach.specs.Uses.{Kept, detached_entry, is_unused, kept, let_go_entry, let_go_mount, point_of, without_attachment}
-use Rattle.vt_detach.specs.WorldValue.{NamespaceEntry, entries_of}
+use Rattle.vt_world.specs.WorldValue.{NamespaceEntry, entries_of}
 use Rattle.vt_detach.proofs.NamespaceEntries.{Entries, entries_removed, entries_written, entry_found, is_id, same_namespace}
 
 pub one_more_detached : (namespace : ℕ) (gone : List Detached) (one : Detached) (old now : Kept)
@@ -117,7 +117,7 @@ none_listed entries namespace ids listed none =
     by entry m true e =
         let here = among-map (λ (x : Mount ℕ). x.number)
         (filter (λ mount. holds_of (nat_eq namespace) mount.namespace) (mounts_in entries)) entry.mount
-        (Rattle.vt_letting_go.proofs.Lists.among-filter (λ (x : Mount ℕ). holds_of (nat_eq namespace) x.namespace)
+        (Rattle.vt_laws_letting_go.proofs.Lists.among-filter (λ (x : Mount ℕ). holds_of (nat_eq namespace) x.namespace)
         (mounts_in entries) entry.mount
         (among-map (λ (one : MountEntry). one.mount) entries entry m) e) in
         absurd (subst (λ all. Among entry.mount.number all) empty here)

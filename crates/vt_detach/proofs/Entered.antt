@@ -15,26 +15,26 @@ use Rattle.vt_spec.specs.Machine.World.{Namespace, Task, World, mount_numbered, 
 use Rattle.vt_spec.specs.Machine.Invariants.{has_its_root, has_one_root, is_located_well, is_root_mount}
 use Rattle.vt_fs.specs.FilesystemsValue.{Filesystems}
 use Rattle.vt_group.specs.Grouping.{Grouping}
-use Rattle.vt_laws.proofs.numbers.Supports.{used_numbers_are_named}
-use Rattle.vt_letting_go.specs.Counts.{times}
-use Rattle.vt_letting_go.proofs.Lists.{Among, among-append_right, among-from_filter, among-from_map, among-map, among_from_all, among_numbers, is_among_numbers, passes}
-use Rattle.vt_letting_go.proofs.leaving.PlacesLeft.{found_itself}
+use Rattle.vt_laws_rules.proofs.numbers.Supports.{used_numbers_are_named}
+use Rattle.vt_laws_letting_go.specs.Counts.{times}
+use Rattle.vt_laws_letting_go.proofs.Lists.{Among, among-append_right, among-from_filter, among-from_map, among-map, among_from_all, among_numbers, is_among_numbers, passes}
+use Rattle.vt_laws_letting_go.proofs.leaving.PlacesLeft.{found_itself}
 use Rattle.vt_location.specs.declared.locations.Location.{Location}
 use Rattle.vt_location.specs.Locations.{location_of, number_of}
 use Rattle.vt_location.specs.Numbers.{counted}
 use Rattle.vt_mount.specs.MountsValue.{MountEntry}
-use Rattle.vt_run_laws.specs.Handed.{is_counted_before}
+use Rattle.vt_laws_runs.specs.Handed.{is_counted_before}
 use Rattle.vt_tasks.specs.Counts.{locations_in, one_if}
 use Rattle.vt_tasks.specs.declared.task.Left.{Left}
 use Rattle.vt_tasks.specs.TasksValue.{Tasks, called, changed_by, changed_called, left_by, left_of, replaced}
-use Rattle.vt_world_laws.proofs.worlds.Reached.{topmost_found}
-use Rattle.vt_world_laws.proofs.worlds.Roots.{directory_there}
+use Rattle.vt_laws_worlds.proofs.worlds.Reached.{topmost_found}
+use Rattle.vt_laws_worlds.proofs.worlds.Roots.{directory_there}
 use Rattle.vt_detach.specs.Events.{Permits}
 use Rattle.vt_detach.specs.Forking.{more_tasks, with_task_more}
-use Rattle.vt_detach.specs.Held.{CountsWhatIsInIt, IsHeld}
+use Rattle.vt_world.specs.Held.{CountsWhatIsInIt, IsHeld}
 use Rattle.vt_detach.specs.NamespacesLeft.{MountsAreLeft, namespace_entry, with_one_task_less}
 use Rattle.vt_detach.specs.Uses.{Kept, kept, with_location, with_use, without_location}
-use Rattle.vt_detach.specs.WorldValue.{NamespaceEntry, WorldValue, namespace_of, world_of}
+use Rattle.vt_world.specs.WorldValue.{NamespaceEntry, WorldValue, namespace_of, world_of}
 use Rattle.vt_detach.proofs.Departing.{departs}
 use Rattle.vt_detach.proofs.Exiting.{left_so, located}
 use Rattle.vt_detach.proofs.FileEvents.{permit_fits}

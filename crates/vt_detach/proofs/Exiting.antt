@@ -14,8 +14,8 @@ use Rattle.vt_spec.specs.Machine.World.{Descriptor, Task, World, all_locations, 
 use Rattle.vt_spec.specs.Machine.Invariants.{is_located_well}
 use Rattle.vt_fs.specs.FilesystemsValue.{Filesystems}
 use Rattle.vt_group.specs.Grouping.{Grouping}
-use Rattle.vt_letting_go.specs.Counts.{times}
-use Rattle.vt_letting_go.proofs.Lists.{Among, among-append_left, among-append_right, among-map, among_from_all, passes}
+use Rattle.vt_laws_letting_go.specs.Counts.{times}
+use Rattle.vt_laws_letting_go.proofs.Lists.{Among, among-append_left, among-append_right, among-map, among_from_all, passes}
 use Rattle.vt_location.specs.declared.locations.Location.{Location}
 use Rattle.vt_location.specs.Locations.{location_of, number_of}
 use Rattle.vt_location.specs.Numbers.{counted}
@@ -29,10 +29,10 @@ use Rattle.vt_tasks.specs.TasksValue.{AreNamedApart, Tasks, called, without_call
 use Rattle.vt_tasks.proofs.GivenOnce.{name-of-called, same_names}
 use Rattle.vt_tasks.proofs.LocationLemmas.{total-without, without-nobody}
 use Rattle.vt_detach.specs.Events.{Permits}
-use Rattle.vt_detach.specs.Held.{CountsWhatIsInIt, IsHeld, writes_of_task, writes_on}
+use Rattle.vt_world.specs.Held.{CountsWhatIsInIt, IsHeld, writes_of_task, writes_on}
 use Rattle.vt_detach.specs.NamespacesLeft.{MountsAreLeft, has_slot, namespace_entry, with_one_task_less, without_file}
 use Rattle.vt_detach.specs.Uses.{Kept, kept, without_location, without_use}
-use Rattle.vt_detach.specs.WorldValue.{NamespaceEntry, WorldValue, namespace_of, world_of}
+use Rattle.vt_world.specs.WorldValue.{NamespaceEntry, WorldValue, namespace_of, world_of}
 use Rattle.vt_detach.proofs.Closing.{place, used_by}
 use Rattle.vt_detach.proofs.Departing.{departs}
 use Rattle.vt_detach.proofs.LocationsSeen.{seen_where_located}
@@ -239,7 +239,7 @@ task_exits value name task files left mounts groups filesystems namespaces left_
     name ToExit meant_task
     (record {
       called = called_so;
-      given = subst (λ one. Rattle.vt_permit_laws.specs.Left.IsGiven
+      given = subst (λ one. Rattle.vt_laws_permits.specs.Left.IsGiven
           (Rattle.vt_detach.specs.Events.supply_of value ToExit) (world_of value) one ToExit)
           (same_Some permits.task meant_task (sym permits.called ∙ called_so)) permits.given;
       named = refl;

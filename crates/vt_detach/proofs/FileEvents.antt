@@ -8,21 +8,21 @@ use Rattle.vt_spec.specs.Machine.Permits.{Permit}
 use Rattle.vt_spec.specs.Machine.Permits.Permit.{ToChange}
 use Rattle.vt_spec.specs.Fits.{Fits}
 use Rattle.vt_spec.specs.Inodes.{changed, tree_of}
-use Rattle.vt_count_laws.specs.Changing.{LinksWhatIsThere}
+use Rattle.vt_laws_counts.specs.Changing.{LinksWhatIsThere}
 use Rattle.vt_fs.specs.FilesystemsValue.{ChangesInodes, Filesystems, inodes_at, inodes_seen}
 use Rattle.vt_location.specs.declared.locations.Location.{Location}
 use Rattle.vt_location.specs.Locations.{location_of, number_of}
 use Rattle.vt_location.specs.Numbers.{is_inode_of}
-use Rattle.vt_permit_laws.specs.Named.{change_named}
-use Rattle.vt_permit_laws.specs.Sees.{SeesToChange}
-use Rattle.vt_permit_laws.proofs.sees.SeesFit.{given_changes_fit}
-use Rattle.vt_permit_laws.proofs.sees.SeesTasks.{given_permits_are_seen_to}
-use Rattle.vt_run_laws.specs.Handed.{is_counted_before}
-use Rattle.vt_world_laws.specs.Worlds.Permits.{IsFitPermit}
-use Rattle.vt_world_laws.proofs.worlds.FitPermitsNamed.{permits_fit}
+use Rattle.vt_laws_permits.specs.Named.{change_named}
+use Rattle.vt_laws_permits.specs.Sees.{SeesToChange}
+use Rattle.vt_laws_permits.proofs.sees.SeesFit.{given_changes_fit}
+use Rattle.vt_laws_permits.proofs.sees.SeesTasks.{given_permits_are_seen_to}
+use Rattle.vt_laws_runs.specs.Handed.{is_counted_before}
+use Rattle.vt_laws_worlds.specs.Worlds.Permits.{IsFitPermit}
+use Rattle.vt_laws_worlds.proofs.worlds.FitPermitsNamed.{permits_fit}
 use Rattle.vt_detach.specs.Events.{Permits, supply_of}
-use Rattle.vt_detach.specs.Held.{IsHeld}
-use Rattle.vt_detach.specs.WorldValue.{WorldValue, world_of}
+use Rattle.vt_world.specs.Held.{IsHeld}
+use Rattle.vt_world.specs.WorldValue.{WorldValue, world_of}
 use Rattle.vt_detach.proofs.ChangedFiles.{IsFilesEvent, changed_by, files_are_changed, with_filesystems}
 use Rattle.vt_detach.proofs.ChangedNumbers.{MakesOther}
 use Rattle.vt_detach.proofs.FilesSeen.{IsLocated, files_are_plain, inodes_named, located, located_filesystem, located_inodes}

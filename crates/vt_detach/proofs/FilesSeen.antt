@@ -12,20 +12,20 @@ use Rattle.vt_spec.specs.Machine.Invariants.{is_located_well}
 use Rattle.vt_spec.specs.Inodes.{node_in}
 use Rattle.vt_spec.specs.TreeInvariant.{IsTree}
 use Rattle.vt_fs.specs.FilesystemsValue.{FilesystemEntry, Filesystems, entry_of, files_at, filesystem_seen, filesystems_seen, inodes_at, inodes_seen, no_entry}
-use Rattle.vt_laws.specs.Numbers.{location_named}
-use Rattle.vt_laws.proofs.numbers.Supports.{used_numbers_are_named}
-use Rattle.vt_letting_go.proofs.Lists.{Among, all_from_among, among_from_all, among-from_map, among-map, fails}
+use Rattle.vt_laws_rules.specs.Numbers.{location_named}
+use Rattle.vt_laws_rules.proofs.numbers.Supports.{used_numbers_are_named}
+use Rattle.vt_laws_letting_go.proofs.Lists.{Among, all_from_among, among_from_all, among-from_map, among-map, fails}
 use Rattle.vt_location.specs.declared.locations.Location.{Location}
 use Rattle.vt_location.specs.declared.locations.NodeRef.{NodeRef}
 use Rattle.vt_location.specs.Locations.{location_of, number_of}
 use Rattle.vt_location.specs.Numbers.{counted, inode_number, is_inode_of}
 use Rattle.vt_location.proofs.NumberLemmas.{counted_same, counted_test, inode_same, slot_of}
-use Rattle.vt_run_laws.specs.Handed.{is_counted_before}
-use Rattle.vt_detach.specs.Held.{HasOwnInodes, IsHeld}
-use Rattle.vt_detach.specs.WorldValue.{WorldValue, world_of}
+use Rattle.vt_laws_runs.specs.Handed.{is_counted_before}
+use Rattle.vt_world.specs.Held.{HasOwnInodes, IsHeld}
+use Rattle.vt_world.specs.WorldValue.{WorldValue, world_of}
 use Rattle.vt_detach.proofs.FilesystemsFound.{found as filesystem_found, found_if}
 use Rattle.vt_fs.proofs.Numbers.{found_by_number}
-use Rattle.vt_permit_laws.proofs.in_use.InUseServes.{leaves_two}
+use Rattle.vt_laws_permits.proofs.in_use.InUseServes.{leaves_two}
 use Rattle.vt_spec.proofs.Found.{is_among_left}
 
 -- No filesystem is an overlay

@@ -9,7 +9,7 @@ use Rattle.vt_location.specs.Numbers.{counted, inode_number, is_inode_of}
 use Rattle.vt_location.proofs.NumberLemmas.{counted_inode, slot_of}
 use Rattle.vt_fs.specs.FilesystemsValue.{FilesystemEntry, Filesystems, entry_at, entry_of, filesystem_seen, filesystems_seen, no_entry}
 use Rattle.vt_fs.proofs.Numbers.{inode_of_one}
-use Rattle.vt_detach.specs.Held.{HasOwnInodes}
+use Rattle.vt_world.specs.Held.{HasOwnInodes}
 
 -- the filesystem with a number, as the definitions find it
 abbrev pub found : Filesystems → ℕ → Filesystem ℕ

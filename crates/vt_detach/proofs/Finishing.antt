@@ -10,25 +10,25 @@ use Rattle.vt_spec.specs.Machine.Settled.{settled}
 use Rattle.vt_spec.specs.Machine.World.{Task, World, task_called}
 use Rattle.vt_spec.specs.Machine.Invariants.{IsWorld}
 use Rattle.vt_spec.specs.Inodes.{Inodes, pinned, unpinned}
-use Rattle.vt_count_laws.specs.Counted.{IsPlain}
-use Rattle.vt_count_laws.specs.Using.{exchanged, pinned_if, unpinned_if}
+use Rattle.vt_laws_counts.specs.Counted.{IsPlain}
+use Rattle.vt_laws_counts.specs.Using.{exchanged, pinned_if, unpinned_if}
 use Rattle.vt_fs.specs.FilesystemsValue.{FilesystemEntry, inodes_seen}
 use Rattle.vt_group.specs.Grouping.{Has}
-use Rattle.vt_laws.specs.Numbers.{KeepsTo}
-use Rattle.vt_letting_go.specs.Counts.{mounts_showing}
-use Rattle.vt_letting_go.specs.OneByOne.{Inode}
-use Rattle.vt_letting_go.proofs.Lists.{Among, all_from_among, among_from_all}
+use Rattle.vt_laws_rules.specs.Numbers.{KeepsTo}
+use Rattle.vt_laws_letting_go.specs.Counts.{mounts_showing}
+use Rattle.vt_laws_letting_go.specs.OneByOne.{Inode}
+use Rattle.vt_laws_letting_go.proofs.Lists.{Among, all_from_among, among_from_all}
 use Rattle.vt_location.specs.Numbers.{counted}
-use Rattle.vt_permit_laws.specs.Left.{IsGiven}
-use Rattle.vt_permit_laws.specs.Named.{permit_named}
-use Rattle.vt_permit_laws.proofs.named.PermitsKeepTo.{permits_keep_to_numbers}
-use Rattle.vt_permit_laws.proofs.left.PermitsLeave.{given_permits_leave_worlds}
-use Rattle.vt_permit_laws.proofs.same.SameInUse.{same_worlds_are_worlds}
-use Rattle.vt_permit_laws.proofs.same.SameNumbers.{same_worlds_keep_to_numbers}
-use Rattle.vt_run_laws.specs.Handed.{is_counted_before}
+use Rattle.vt_laws_permits.specs.Left.{IsGiven}
+use Rattle.vt_laws_permits.specs.Named.{permit_named}
+use Rattle.vt_laws_permits.proofs.named.PermitsKeepTo.{permits_keep_to_numbers}
+use Rattle.vt_laws_permits.proofs.left.PermitsLeave.{given_permits_leave_worlds}
+use Rattle.vt_laws_permits.proofs.same.SameInUse.{same_worlds_are_worlds}
+use Rattle.vt_laws_permits.proofs.same.SameNumbers.{same_worlds_keep_to_numbers}
+use Rattle.vt_laws_runs.specs.Handed.{is_counted_before}
 use Rattle.vt_detach.specs.Events.{supply_of}
-use Rattle.vt_detach.specs.Held.{CountsItsMounts, CountsItsUses, CountsWhatIsInIt, HasOwnInodes, IsHeld}
-use Rattle.vt_detach.specs.WorldValue.{WorldValue, world_of}
+use Rattle.vt_world.specs.Held.{CountsItsMounts, CountsItsUses, CountsWhatIsInIt, HasOwnInodes, IsHeld}
+use Rattle.vt_world.specs.WorldValue.{WorldValue, world_of}
 use Rattle.vt_detach.proofs.OwnInodesKept.{IsOwn, own_pinned, own_unpinned}
 use Rattle.vt_detach.proofs.Bridging.{IsSwept, swept_has, swept_is_counted, swept_is_same}
 use Rattle.vt_detach.proofs.Staying.{IsDone, becomes_so, world_is_plain}

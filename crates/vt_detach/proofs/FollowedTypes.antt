@@ -9,14 +9,14 @@ use Rattle.vt_spec.specs.Machine.World.{World}
 use Rattle.vt_group.specs.Grouping.{Grouping, Has, propagation_in}
 use Rattle.vt_group.specs.Laws.{shown, typed_by}
 use Rattle.vt_group.proofs.Showing.{shows_types}
-use Rattle.vt_letting_go.specs.Mounting.{inode_at}
-use Rattle.vt_letting_go.proofs.Lists.{Among, all_from_among, among-from_filter, among-from_map, among-map, among_from_all, or_second}
+use Rattle.vt_laws_letting_go.specs.Mounting.{inode_at}
+use Rattle.vt_laws_letting_go.proofs.Lists.{Among, all_from_among, among-from_filter, among-from_map, among-map, among_from_all, or_second}
 use Rattle.vt_mount.specs.MountsValue.{MountEntry, changed, entry_numbered, held, released}
 use Rattle.vt_detach.specs.Detached.{LeaveInTurn}
 use Rattle.vt_retype.specs.Retyping.{AreTyped, AreTypedBut, HaveNoSource, typed_entry}
 use Rattle.vt_detach.specs.Uses.{Kept, detached_entry, detached_use, is_unused, let_go_entry, let_go_mount, released_use, without_attachment, without_mount}
-use Rattle.vt_detach.specs.Held.{IsHeld}
-use Rattle.vt_detach.specs.WorldValue.{WorldValue, world_of}
+use Rattle.vt_world.specs.Held.{IsHeld}
+use Rattle.vt_world.specs.WorldValue.{WorldValue, world_of}
 use Rattle.vt_detach.proofs.MidwayDone.{leave_use}
 use Rattle.vt_detach.proofs.Moving.{Use, gain}
 

@@ -10,30 +10,30 @@ use Rattle.vt_spec.specs.Machine.Permits.{Permit}
 use Rattle.vt_spec.specs.Machine.Settled.{filesystem_lives, is_located, is_mounted, without_dead_filesystems, without_dead_mounts}
 use Rattle.vt_spec.specs.Machine.World.{Filesystem, Task, World, all_locations, is_overlay, mount_numbered}
 use Rattle.vt_spec.specs.Machine.Invariants.{is_located_well}
-use Rattle.vt_count_laws.specs.Counted.{IsPlain}
-use Rattle.vt_count_laws.specs.Using.{Exchanges, unpinned_if}
-use Rattle.vt_count_laws.proofs.going.Gone.{mount_takes_its_count}
-use Rattle.vt_count_laws.proofs.using.MountRoots as Roots
-use Rattle.vt_count_laws.proofs.using.Places.{exchanges_follow, others_use_nothing}
-use Rattle.vt_count_laws.proofs.using.Swept.{plain_of}
+use Rattle.vt_laws_counts.specs.Counted.{IsPlain}
+use Rattle.vt_laws_counts.specs.Using.{Exchanges, unpinned_if}
+use Rattle.vt_laws_counts.proofs.going.Gone.{mount_takes_its_count}
+use Rattle.vt_laws_counts.proofs.using.MountRoots as Roots
+use Rattle.vt_laws_counts.proofs.using.Places.{exchanges_follow, others_use_nothing}
+use Rattle.vt_laws_counts.proofs.using.Swept.{plain_of}
 use Rattle.vt_fs.specs.FilesystemsValue.{FilesystemEntry, Filesystems, Shown, filesystem_seen, shown, shown_entry}
-use Rattle.vt_letting_go.specs.Counts.{mount_uses, mounts_showing, times}
-use Rattle.vt_letting_go.specs.Keeping.{LocationsStand}
-use Rattle.vt_letting_go.specs.Leaving.{MountsStand}
-use Rattle.vt_letting_go.specs.Mounting.{inode_at}
-use Rattle.vt_letting_go.specs.OneByOne.{Inode, is_mount_used, without_mount}
-use Rattle.vt_letting_go.proofs.Lists.{Among, all_from_among, all_pass, among-append, among-append_left, among-append_right, among-from_filter, among-from_map, among-map, among_from_all, filter_all, filter_alike, passes, filter_less}
-use Rattle.vt_letting_go.proofs.sweeps.OfWorlds.{mounts_of_worlds_stand}
-use Rattle.vt_letting_go.proofs.leaving.PlacesLeft.{found_itself, no_layers}
-use Rattle.vt_letting_go.proofs.sweeps.UsesCounted.{located_while_counted, mounted_while_counted}
+use Rattle.vt_laws_letting_go.specs.Counts.{mount_uses, mounts_showing, times}
+use Rattle.vt_laws_letting_go.specs.Keeping.{LocationsStand}
+use Rattle.vt_laws_letting_go.specs.Leaving.{MountsStand}
+use Rattle.vt_laws_letting_go.specs.Mounting.{inode_at}
+use Rattle.vt_laws_letting_go.specs.OneByOne.{Inode, is_mount_used, without_mount}
+use Rattle.vt_laws_letting_go.proofs.Lists.{Among, all_from_among, all_pass, among-append, among-append_left, among-append_right, among-from_filter, among-from_map, among-map, among_from_all, filter_all, filter_alike, passes, filter_less}
+use Rattle.vt_laws_letting_go.proofs.sweeps.OfWorlds.{mounts_of_worlds_stand}
+use Rattle.vt_laws_letting_go.proofs.leaving.PlacesLeft.{found_itself, no_layers}
+use Rattle.vt_laws_letting_go.proofs.sweeps.UsesCounted.{located_while_counted, mounted_while_counted}
 use Rattle.vt_location.specs.Numbers.{counted}
 use Rattle.vt_mount.specs.MountsValue.{MountEntry, mounts_in, without}
 use Rattle.vt_tasks.specs.TasksValue.{Tasks}
-use Rattle.vt_world_laws.proofs.RaisedInUse.{worlds_are_in_use}
-use Rattle.vt_detach.specs.Held.{CountsItsMounts, CountsItsUses, CountsWhatIsInIt, IsHeld}
+use Rattle.vt_laws_worlds.proofs.RaisedInUse.{worlds_are_in_use}
+use Rattle.vt_world.specs.Held.{CountsItsMounts, CountsItsUses, CountsWhatIsInIt, IsHeld}
 use Rattle.vt_detach.specs.Uses as meant
 use Rattle.vt_detach.specs.Uses.{kept, mounts_shown, released_if}
-use Rattle.vt_detach.specs.WorldValue.{WorldValue, world_of}
+use Rattle.vt_world.specs.WorldValue.{WorldValue, world_of}
 use Rattle.vt_detach.proofs.Bridging.{IsSwept}
 use Rattle.vt_detach.proofs.Finishing.{CountsBeside, IsApplied, finished}
 use Rattle.vt_detach.proofs.Grouped.{left_has}
@@ -43,7 +43,7 @@ use Rattle.vt_detach.proofs.Staying.{IsDone, after, world_is_plain}
 use Rattle.vt_detach.proofs.LostUses.{found_unless, positive, shown_by_rule}
 use Rattle.vt_spec.proofs.Lists.{map_alike, map_twice}
 use Rattle.std.proofs.Math.Bool.{or-false, or-true}
-use Rattle.vt_letting_go.specs.TreesOverlays.{in_use_of}
+use Rattle.vt_laws_letting_go.specs.TreesOverlays.{in_use_of}
 
 -- Lists
 

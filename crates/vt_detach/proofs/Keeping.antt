@@ -6,27 +6,27 @@ use Rattle.vt_spec.specs.Lists.{is_among}
 use Rattle.vt_spec.specs.Machine.Mounts.{Location as Place, Mount, detached, mount_in, no_mount}
 use Rattle.vt_spec.specs.Machine.Settled.{filesystem_lives, is_mounted, without_dead_filesystems}
 use Rattle.vt_spec.specs.Machine.World.{Filesystem, World, mount_at}
-use Rattle.vt_count_laws.specs.Counted.{IsPlain}
-use Rattle.vt_count_laws.specs.Using.{AreThere, Exchanges, exchanged}
-use Rattle.vt_count_laws.proofs.using.Swept.{plain_of}
+use Rattle.vt_laws_counts.specs.Counted.{IsPlain}
+use Rattle.vt_laws_counts.specs.Using.{AreThere, Exchanges, exchanged}
+use Rattle.vt_laws_counts.proofs.using.Swept.{plain_of}
 use Rattle.vt_fs.specs.FilesystemsValue.{FilesystemEntry, Shown, inodes_seen}
-use Rattle.vt_letting_go.specs.Counts.{mounts_showing}
-use Rattle.vt_letting_go.specs.Detaching.{detached_if}
-use Rattle.vt_letting_go.specs.InUse.{FilesystemsInUse}
-use Rattle.vt_letting_go.specs.Keeping.{LocationsStand}
-use Rattle.vt_letting_go.specs.Leaving.{MountsStand}
-use Rattle.vt_letting_go.specs.Mounting.{inode_at}
-use Rattle.vt_letting_go.specs.OneByOne.{Inode, MountsInUseBut}
-use Rattle.vt_letting_go.specs.OneByOne as Looks
-use Rattle.vt_letting_go.proofs.Lists.{Among, filter-map}
-use Rattle.vt_letting_go.proofs.leaving.PlacesLeft.{found_in_filter, no_layers}
+use Rattle.vt_laws_letting_go.specs.Counts.{mounts_showing}
+use Rattle.vt_laws_letting_go.specs.Detaching.{detached_if}
+use Rattle.vt_laws_letting_go.specs.InUse.{FilesystemsInUse}
+use Rattle.vt_laws_letting_go.specs.Keeping.{LocationsStand}
+use Rattle.vt_laws_letting_go.specs.Leaving.{MountsStand}
+use Rattle.vt_laws_letting_go.specs.Mounting.{inode_at}
+use Rattle.vt_laws_letting_go.specs.OneByOne.{Inode, MountsInUseBut}
+use Rattle.vt_laws_letting_go.specs.OneByOne as Looks
+use Rattle.vt_laws_letting_go.proofs.Lists.{Among, filter-map}
+use Rattle.vt_laws_letting_go.proofs.leaving.PlacesLeft.{found_in_filter, no_layers}
 use Rattle.vt_location.specs.declared.locations.Location.{Location}
 use Rattle.vt_location.specs.Locations.{location_of}
 use Rattle.vt_location.specs.Numbers.{counted}
 use Rattle.vt_mount.specs.MountsValue.{mounts_in}
-use Rattle.vt_detach.specs.Held.{CountsItsUses}
+use Rattle.vt_world.specs.Held.{CountsItsUses}
 use Rattle.vt_detach.specs.Uses.{Kept}
-use Rattle.vt_detach.specs.WorldValue.{WorldValue, world_of}
+use Rattle.vt_world.specs.WorldValue.{WorldValue, world_of}
 use Rattle.vt_detach.proofs.Moving.{swap_eq}
 use Rattle.std.proofs.Math.Bool.{or-false}
 

@@ -12,11 +12,11 @@ use Rattle.vt_spec.specs.Machine.Receives.{regrouped}
 use Rattle.vt_spec.specs.Machine.World.{World, mount_at, mount_numbered, with_mounts}
 use Rattle.vt_spec.specs.Machine.Invariants.{HasLivingGroups, Lives, MountInvariants, is_nowhere_or_attached, is_private}
 use Rattle.vt_spec.proofs.Lists as Spec
-use Rattle.vt_letting_go.proofs.Lists.{Among, all_from_among, among-flat_map, among_from_all, among-from_filter, among-from_flat_map, among-from_map, among-map, among_numbers, is_among_numbers, passes, found_in}
-use Rattle.vt_letting_go.proofs.mounting.MountingTaken as Taken
-use Rattle.vt_letting_go.proofs.leaving.PlacesLeft.{found_is_there, found_itself}
-use Rattle.vt_mount_laws.proofs.mounts.Standing.{standing_is_computed}
-use Rattle.vt_mount_laws.proofs.ends.UnmountingTrees.{trees_closed}
+use Rattle.vt_laws_letting_go.proofs.Lists.{Among, all_from_among, among-flat_map, among_from_all, among-from_filter, among-from_flat_map, among-from_map, among-map, among_numbers, is_among_numbers, passes, found_in}
+use Rattle.vt_laws_letting_go.proofs.mounting.MountingTaken as Taken
+use Rattle.vt_laws_letting_go.proofs.leaving.PlacesLeft.{found_is_there, found_itself}
+use Rattle.vt_laws_mounts.proofs.mounts.Standing.{standing_is_computed}
+use Rattle.vt_laws_mounts.proofs.ends.UnmountingTrees.{trees_closed}
 use Rattle.vt_group.specs.Grouping.{peer_of, peers_of}
 use Rattle.vt_group.proofs.Together.{regrouped_living}
 use Rattle.vt_detach.proofs.DetachingBegins.{HasChildrenOf, detached_world}
@@ -25,12 +25,12 @@ use Rattle.vt_detach.proofs.Grouped.{members_alike, no_peer, no_source}
 use Rattle.vt_detach.proofs.MountsGone.{found_mapped}
 use Rattle.vt_detach.proofs.Moving.{map_itself}
 use Rattle.vt_detach.proofs.UnmountedAlone.{goes_apart}
-use Rattle.vt_mount_laws.proofs.ends.EndingCounts.{tree_placed}
+use Rattle.vt_laws_mounts.proofs.ends.EndingCounts.{tree_placed}
 use Rattle.vt_spec.proofs.Lists.{map_alike, map_twice}
-use Rattle.vt_mount_laws.specs.Mounts.Receivers.{AllGroupsLive}
-use Rattle.vt_permit_laws.specs.Taken.{is_ungrouped}
-use Rattle.vt_letting_go.specs.Unmounting.{numbers_of_trees}
-pub use Rattle.vt_letting_go.specs.Unmounting.{numbers_of_trees as trees_numbers}
+use Rattle.vt_laws_mounts.specs.Mounts.Receivers.{AllGroupsLive}
+use Rattle.vt_laws_permits.specs.Taken.{is_ungrouped}
+use Rattle.vt_laws_letting_go.specs.Unmounting.{numbers_of_trees}
+pub use Rattle.vt_laws_letting_go.specs.Unmounting.{numbers_of_trees as trees_numbers}
 
 -- Mounts ordered by their depth are the same mounts
 

@@ -9,16 +9,16 @@ use Rattle.vt_group.specs.Grouping.{Grouping, Has}
 use Rattle.vt_group.specs.Laws.{typed_by}
 use Rattle.vt_group.specs.Together.{TakesAway}
 use Rattle.vt_group.proofs.Others.{has_ordered}
-use Rattle.vt_letting_go.specs.OneByOne.{Inode}
-use Rattle.vt_letting_go.proofs.Lists.{Among, among_from_all, fails, map_same}
+use Rattle.vt_laws_letting_go.specs.OneByOne.{Inode}
+use Rattle.vt_laws_letting_go.proofs.Lists.{Among, among_from_all, fails, map_same}
 use Rattle.vt_location.specs.Numbers.{counted}
 use Rattle.vt_mount.specs.MountsValue.{MountEntry}
 use Rattle.vt_tasks.specs.TasksValue.{Tasks}
-use Rattle.vt_detach.specs.Held.{IsHeld}
+use Rattle.vt_world.specs.Held.{IsHeld}
 use Rattle.vt_detach.specs.NamespacesLeft.{EndsIf, MountsAreLeft, NamespaceIsLeft, has_one_task, is_attached_in, namespace_entry, numbers_inside}
 use Rattle.vt_retype.specs.Retyping.{AreTyped, typed_entry}
 use Rattle.vt_detach.specs.Uses.{Kept}
-use Rattle.vt_detach.specs.WorldValue.{NamespaceEntry, WorldValue}
+use Rattle.vt_world.specs.WorldValue.{NamespaceEntry, WorldValue}
 use Rattle.vt_detach.proofs.Midway.{Reached}
 use Rattle.vt_detach.proofs.MidwayDone.{detaches_all}
 use Rattle.vt_detach.proofs.NamespacesEnded.{CountsOneMore, ends, ends_by}

@@ -14,8 +14,8 @@ use Rattle.vt_spec.specs.Machine.Invariants.{has_its_root}
 use Rattle.vt_spec.specs.Tree.{is_directory_node}
 use Rattle.vt_spec.specs.TreeInvariant.{HasOwnParents, IsTree}
 use Rattle.vt_spec.proofs.Lists.{Among, all_from_among, among_from_all, among_from_list_all}
-use Rattle.vt_mount_laws.proofs.mounts.MountsFound.{found_or_none}
-use Rattle.vt_world_laws.proofs.worlds.Roots.{directory_there}
+use Rattle.vt_laws_mounts.proofs.mounts.MountsFound.{found_or_none}
+use Rattle.vt_laws_worlds.proofs.worlds.Roots.{directory_there}
 use Rattle.vt_location.specs.declared.locations.Location.{Location}
 use Rattle.vt_location.specs.declared.locations.NodeRef.{NodeRef}
 use Rattle.vt_location.specs.Locations.{location_of, number_of}
@@ -26,9 +26,9 @@ use Rattle.vt_fs.specs.Laws.{ParentsAreNamed}
 use Rattle.vt_fs.proofs.Numbers.{found_by_number, inode_of_one}
 use Rattle.vt_mount.specs.MountsValue.{mounts_in, stands_over}
 pub use Rattle.vt_spec.proofs.Truths.{nat_eq_turned as turned}
-use Rattle.vt_detach.specs.Held.{IsHeld}
+use Rattle.vt_world.specs.Held.{IsHeld}
 use Rattle.vt_detach.specs.Looking.{is_seen}
-use Rattle.vt_detach.specs.WorldValue.{WorldValue, world_of}
+use Rattle.vt_world.specs.WorldValue.{WorldValue, world_of}
 use Rattle.vt_detach.proofs.FilesystemsFound.{found, found_number, found_plain, holds_at, in_no_other, no_counted_inode, own_filesystem}
 use Rattle.vt_fs.proofs.Parents.{parents_named}
 use Rattle.vt_fs.proofs.TreesLookedAt.{nowhere_removed, nowhere_under, under_nowhere}

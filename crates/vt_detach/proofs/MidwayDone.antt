@@ -7,24 +7,24 @@ use Rattle.vt_spec.specs.Machine.Mounts.{Location, Mount, detached}
 use Rattle.vt_spec.specs.Machine.SameWorlds.{without_changes}
 use Rattle.vt_spec.specs.Machine.Settled.{filesystem_lives, is_located, is_mounted, mount_lives, without_dead_filesystems, without_dead_mounts}
 use Rattle.vt_spec.specs.Machine.World.{Filesystem, Task, World}
-use Rattle.vt_count_laws.specs.Counted.{IsPlain}
-use Rattle.vt_count_laws.specs.Using.{Exchanges}
-use Rattle.vt_count_laws.proofs.using.Swept.{plain_of}
+use Rattle.vt_laws_counts.specs.Counted.{IsPlain}
+use Rattle.vt_laws_counts.specs.Using.{Exchanges}
+use Rattle.vt_laws_counts.proofs.using.Swept.{plain_of}
 use Rattle.vt_fs.specs.FilesystemsValue.{FilesystemEntry, Shown, shown_entry}
-use Rattle.vt_letting_go.specs.Counts.{mount_uses, mounts_showing}
-use Rattle.vt_letting_go.specs.OneByOne.{Inode}
-use Rattle.vt_letting_go.specs.Mounting.{inode_at}
-use Rattle.vt_letting_go.proofs.Lists.{Among, all_from_among, among-from_map, among-map, filter_all, flat_map_none, map_same}
-use Rattle.vt_letting_go.proofs.leaving.PlacesLeft.{no_layers}
-use Rattle.vt_letting_go.proofs.sweeps.UsesCounted.{located_while_counted, mounted_while_counted}
+use Rattle.vt_laws_letting_go.specs.Counts.{mount_uses, mounts_showing}
+use Rattle.vt_laws_letting_go.specs.OneByOne.{Inode}
+use Rattle.vt_laws_letting_go.specs.Mounting.{inode_at}
+use Rattle.vt_laws_letting_go.proofs.Lists.{Among, all_from_among, among-from_map, among-map, filter_all, flat_map_none, map_same}
+use Rattle.vt_laws_letting_go.proofs.leaving.PlacesLeft.{no_layers}
+use Rattle.vt_laws_letting_go.proofs.sweeps.UsesCounted.{located_while_counted, mounted_while_counted}
 use Rattle.vt_location.specs.declared.locations.Location.{Location as Place}
 use Rattle.vt_location.specs.Numbers.{counted}
 use Rattle.vt_mount.specs.MountsValue.{MountEntry, mounts_in}
-use Rattle.vt_letting_go.specs.Attaching.{inodes_of_mount_point}
-use Rattle.vt_detach.specs.Held.{CountsItsUses, CountsWhatIsInIt, IsHeld, writes_of}
+use Rattle.vt_laws_letting_go.specs.Attaching.{inodes_of_mount_point}
+use Rattle.vt_world.specs.Held.{CountsItsUses, CountsWhatIsInIt, IsHeld, writes_of}
 use Rattle.vt_detach.specs.NamespacesLeft.{AreDetached, Detached}
 use Rattle.vt_detach.specs.Uses.{Kept, kept, without_attachment, without_use}
-use Rattle.vt_detach.specs.WorldValue.{WorldValue, world_of}
+use Rattle.vt_world.specs.WorldValue.{WorldValue, world_of}
 use Rattle.vt_detach.proofs.Bridging.{IsSwept}
 use Rattle.vt_detach.proofs.Finishing.{CountsBeside}
 use Rattle.vt_detach.proofs.Midway.{IsGoing, Midway, Reached, gone_if, left_alone, mount_taken, point_left, points_left, taken_alone, use_left}
@@ -33,7 +33,7 @@ use Rattle.vt_detach.proofs.Moving.{Use, inodes_of_uses}
 use Rattle.vt_detach.proofs.LostUses.{positive}
 use Rattle.vt_spec.proofs.Lists.{map_twice}
 use Rattle.std.proofs.Math.Bool.{or-false}
-use Rattle.vt_letting_go.specs.TreesOverlays.{in_use_of}
+use Rattle.vt_laws_letting_go.specs.TreesOverlays.{in_use_of}
 
 -- one use less of a location of a world, as code leaves it
 abbrev pub leave_use : World ℕ → Kept → Use → Kept
@@ -197,13 +197,13 @@ module _ (value : WorldValue) (start : World ℕ) (gained : List Inode) (goes : 
         let all : entry.uses ≡ mount_uses now entry.mount.number = omega (arith, uses) in
         let written : entry.writers ≡ writes_of entry.mount.number now.tasks = omega (arith, writers) in
         record {
-          uses = all ∙ ap (λ tasks. Rattle.vt_letting_go.specs.Counts.times
+          uses = all ∙ ap (λ tasks. Rattle.vt_laws_letting_go.specs.Counts.times
               (λ (location : Location ℕ). nat_eq entry.mount.number location.mount)
               (flat_map Rattle.vt_spec.specs.Machine.World.locations_of tasks)) tasks_are;
           writers = written ∙ ap (writes_of entry.mount.number) tasks_are;
         });
     mounts = λ entry m. let is = mid.shown (shown_entry entry) (shown_of entry m) in
-        is.mounts ∙ ap (Rattle.vt_letting_go.specs.Counts.times
+        is.mounts ∙ ap (Rattle.vt_laws_letting_go.specs.Counts.times
         (λ (x : Mount ℕ). nat_eq (counted entry.count) x.filesystem)) mounts_are;
     namespaces = namespaces;
   }

@@ -12,35 +12,35 @@ use Rattle.vt_spec.specs.Machine.Mounts.{Location, Mount, detached, mount_in}
 use Rattle.vt_spec.specs.Machine.Settled.{filesystem_lives, is_located, is_mounted, mount_lives, without_dead_mounts}
 use Rattle.vt_spec.specs.Machine.World.{Filesystem, World, all_locations, is_overlay, mount_at, mount_numbered}
 use Rattle.vt_spec.specs.Machine.Invariants.{is_nowhere_or_attached}
-use Rattle.vt_count_laws.specs.Counted.{IsPlain}
-use Rattle.vt_count_laws.specs.Using.{Exchanges, is_inode, pinned_if, unpinned_if}
-use Rattle.vt_count_laws.proofs.going.Gone.{mount_takes_its_count}
-use Rattle.vt_count_laws.proofs.using.MountRoots as Roots
-use Rattle.vt_count_laws.proofs.using.Places.{exchanges_follow, others_use_nothing}
-use Rattle.vt_count_laws.proofs.using.Swept.{plain_of}
+use Rattle.vt_laws_counts.specs.Counted.{IsPlain}
+use Rattle.vt_laws_counts.specs.Using.{Exchanges, is_inode, pinned_if, unpinned_if}
+use Rattle.vt_laws_counts.proofs.going.Gone.{mount_takes_its_count}
+use Rattle.vt_laws_counts.proofs.using.MountRoots as Roots
+use Rattle.vt_laws_counts.proofs.using.Places.{exchanges_follow, others_use_nothing}
+use Rattle.vt_laws_counts.proofs.using.Swept.{plain_of}
 use Rattle.vt_fs.specs.FilesystemsValue.{Shown, inodes_seen}
-use Rattle.vt_letting_go.specs.Counts.{mount_uses, mounts_showing, times}
-use Rattle.vt_letting_go.specs.Keeping.{LocationsStand}
-use Rattle.vt_letting_go.specs.Leaving.{MountsStand, stands_on_attached}
-use Rattle.vt_letting_go.specs.OneByOne.{Inode, is_mount_used, without_mount}
-use Rattle.vt_letting_go.proofs.Lists.{Among, all_from_among, all_pass, among-filter, among-from_filter, among-from_map, among-map, among_from_all, among_numbers, fails, filter-map, filter_all, filter_alike, is_among_numbers, none_passes, passes, filter_less}
-use Rattle.vt_letting_go.proofs.leaving.PlacesLeft.{found_itself, no_layers}
-use Rattle.vt_letting_go.proofs.sweeps.UsesCounted.{located_while_counted, mounted_while_counted}
+use Rattle.vt_laws_letting_go.specs.Counts.{mount_uses, mounts_showing, times}
+use Rattle.vt_laws_letting_go.specs.Keeping.{LocationsStand}
+use Rattle.vt_laws_letting_go.specs.Leaving.{MountsStand, stands_on_attached}
+use Rattle.vt_laws_letting_go.specs.OneByOne.{Inode, is_mount_used, without_mount}
+use Rattle.vt_laws_letting_go.proofs.Lists.{Among, all_from_among, all_pass, among-filter, among-from_filter, among-from_map, among-map, among_from_all, among_numbers, fails, filter-map, filter_all, filter_alike, is_among_numbers, none_passes, passes, filter_less}
+use Rattle.vt_laws_letting_go.proofs.leaving.PlacesLeft.{found_itself, no_layers}
+use Rattle.vt_laws_letting_go.proofs.sweeps.UsesCounted.{located_while_counted, mounted_while_counted}
 use Rattle.vt_location.specs.Numbers.{counted}
 use Rattle.vt_mount.specs.MountsValue.{MountEntry, entry_numbered, mounts_in, without}
-use Rattle.vt_letting_go.proofs.sweeps.UpperUses.{times_append}
-use Rattle.vt_mount_laws.specs.Mounts.Attaching.{OneNumberAMount}
-use Rattle.vt_letting_go.specs.Attaching.{inodes_of_mount_point}
-use Rattle.vt_detach.specs.Held.{IsHeld}
+use Rattle.vt_laws_letting_go.proofs.sweeps.UpperUses.{times_append}
+use Rattle.vt_laws_mounts.specs.Mounts.Attaching.{OneNumberAMount}
+use Rattle.vt_laws_letting_go.specs.Attaching.{inodes_of_mount_point}
+use Rattle.vt_world.specs.Held.{IsHeld}
 use Rattle.vt_detach.specs.Uses as meant
 use Rattle.vt_detach.specs.Uses.{Kept, is_unused, let_go_entry, mounts_shown, released_if}
-use Rattle.vt_detach.specs.WorldValue.{WorldValue, world_of}
+use Rattle.vt_world.specs.WorldValue.{WorldValue, world_of}
 use Rattle.vt_detach.proofs.LostUses.{entry_found_at, entry_itself, flat_map_less, folded_append, found_unless, lost_alike, one_number_less, shown_by_rule}
 use Rattle.vt_detach.proofs.Midway.{IsShown, Midway, NoneUnused, Reached, UnusedOnly, gone_if, gone_number, one_number_kept, point_left, points_left, unused_parts}
 use Rattle.vt_detach.proofs.Moving.{Use, inodes_of_uses, swap_eq}
 use Rattle.vt_spec.proofs.Lists.{map_alike, map_twice}
 use Rattle.std.proofs.Math.Bool.{or-false}
-use Rattle.vt_letting_go.specs.TreesOverlays.{in_use_of}
+use Rattle.vt_laws_letting_go.specs.TreesOverlays.{in_use_of}
 use Rattle.vt_detach.proofs.Keeping.{lives_plainly}
 
 -- What the sweep leaves when a dead mount and filesystems that no mount shows are gone already

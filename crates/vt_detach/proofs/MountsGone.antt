@@ -8,28 +8,28 @@ use Rattle.vt_spec.specs.Machine.Mounts.{Location as Place, Mount, detached, no_
 use Rattle.vt_spec.specs.Machine.Settled.{filesystem_lives, is_located, mount_lives, without_dead_filesystems}
 use Rattle.vt_spec.specs.Machine.World.{Filesystem, World, all_locations, is_overlay, mount_at, mount_numbered}
 use Rattle.vt_spec.specs.Machine.Invariants.{is_nowhere_or_attached}
-use Rattle.vt_count_laws.specs.Counted.{IsPlain}
-use Rattle.vt_count_laws.specs.Using.{Exchanges, is_inode, pinned_if, unpinned_if}
-use Rattle.vt_count_laws.proofs.going.Gone.{mount_goes_at_zero, mount_takes_its_count}
-use Rattle.vt_count_laws.proofs.using.MountRoots as Roots
-use Rattle.vt_count_laws.proofs.using.Places.{others_use_nothing}
+use Rattle.vt_laws_counts.specs.Counted.{IsPlain}
+use Rattle.vt_laws_counts.specs.Using.{Exchanges, is_inode, pinned_if, unpinned_if}
+use Rattle.vt_laws_counts.proofs.going.Gone.{mount_goes_at_zero, mount_takes_its_count}
+use Rattle.vt_laws_counts.proofs.using.MountRoots as Roots
+use Rattle.vt_laws_counts.proofs.using.Places.{others_use_nothing}
 use Rattle.vt_fs.specs.FilesystemsValue.{Shown, inodes_seen}
-use Rattle.vt_letting_go.specs.Counts.{mount_uses, mounts_showing}
-use Rattle.vt_letting_go.specs.Keeping.{LocationsStand}
-use Rattle.vt_letting_go.specs.Leaving.{MountsStand, stands_on_attached}
-use Rattle.vt_letting_go.specs.Mounting.{root_inode}
-use Rattle.vt_letting_go.specs.OneByOne.{Inode, is_mount_used, without_mount}
-use Rattle.vt_letting_go.specs.OneByOne as Looks
-use Rattle.vt_letting_go.proofs.Lists.{Among, all_from_among, all_pass, among-filter, among-from_filter, among-from_map, among-map, among_from_all, among_numbers, fails, filter-map, filter_all, filter_alike, is_among_numbers, or_second, passes, found_in}
-use Rattle.vt_letting_go.proofs.leaving.PlacesLeft.{found_in_filter}
-use Rattle.vt_letting_go.proofs.sweeps.UpperUses.{times_append}
-use Rattle.vt_letting_go.proofs.sweeps.UsesCounted.{located_while_counted, mounted_while_counted}
+use Rattle.vt_laws_letting_go.specs.Counts.{mount_uses, mounts_showing}
+use Rattle.vt_laws_letting_go.specs.Keeping.{LocationsStand}
+use Rattle.vt_laws_letting_go.specs.Leaving.{MountsStand, stands_on_attached}
+use Rattle.vt_laws_letting_go.specs.Mounting.{root_inode}
+use Rattle.vt_laws_letting_go.specs.OneByOne.{Inode, is_mount_used, without_mount}
+use Rattle.vt_laws_letting_go.specs.OneByOne as Looks
+use Rattle.vt_laws_letting_go.proofs.Lists.{Among, all_from_among, all_pass, among-filter, among-from_filter, among-from_map, among-map, among_from_all, among_numbers, fails, filter-map, filter_all, filter_alike, is_among_numbers, or_second, passes, found_in}
+use Rattle.vt_laws_letting_go.proofs.leaving.PlacesLeft.{found_in_filter}
+use Rattle.vt_laws_letting_go.proofs.sweeps.UpperUses.{times_append}
+use Rattle.vt_laws_letting_go.proofs.sweeps.UsesCounted.{located_while_counted, mounted_while_counted}
 use Rattle.vt_location.specs.Numbers.{counted}
 use Rattle.vt_mount.specs.MountsValue.{MountEntry, entry_numbered, mounts_in, without}
-use Rattle.vt_detach.specs.Held.{CountsItsUses}
+use Rattle.vt_world.specs.Held.{CountsItsUses}
 use Rattle.vt_detach.specs.Uses as meant
 use Rattle.vt_detach.specs.Uses.{Kept, mounts_shown, released_if}
-use Rattle.vt_detach.specs.WorldValue.{WorldValue, world_of}
+use Rattle.vt_world.specs.WorldValue.{WorldValue, world_of}
 use Rattle.vt_detach.proofs.Going.{map_filtered}
 use Rattle.vt_detach.proofs.Keeping.{IsKeptBut, IsShownIn, detached_in, lives_plainly, looked_at, points_lost, points_without}
 use Rattle.vt_detach.proofs.Moving.{swap_eq}

@@ -16,31 +16,31 @@ use Rattle.vt_spec.specs.Inodes as Trees
 use Rattle.vt_spec.specs.Inodes.{node_in}
 use Rattle.vt_spec.specs.Tree.{is_directory_node}
 use Rattle.vt_spec.proofs.Lists as spec
-use Rattle.vt_count_laws.specs.Using.{AreThere, Exchanges}
+use Rattle.vt_laws_counts.specs.Using.{AreThere, Exchanges}
 use Rattle.vt_fs.specs.FilesystemsValue.{FilesystemEntry, Filesystems, filesystem_seen, inodes_seen, shown}
-use Rattle.vt_letting_go.specs.Mounting.{inode_at}
-use Rattle.vt_letting_go.specs.OneByOne.{Inode}
-use Rattle.vt_letting_go.specs.Leaving.{stands_on_attached}
-use Rattle.vt_letting_go.proofs.Lists.{Among, among-map, is_among_numbers, passes}
-use Rattle.vt_letting_go.proofs.sweeps.OfWorlds.{mounts_of_worlds_stand}
-use Rattle.vt_letting_go.proofs.leaving.PlacesLeft.{found_is_there}
+use Rattle.vt_laws_letting_go.specs.Mounting.{inode_at}
+use Rattle.vt_laws_letting_go.specs.OneByOne.{Inode}
+use Rattle.vt_laws_letting_go.specs.Leaving.{stands_on_attached}
+use Rattle.vt_laws_letting_go.proofs.Lists.{Among, among-map, is_among_numbers, passes}
+use Rattle.vt_laws_letting_go.proofs.sweeps.OfWorlds.{mounts_of_worlds_stand}
+use Rattle.vt_laws_letting_go.proofs.leaving.PlacesLeft.{found_is_there}
 use Rattle.vt_location.specs.declared.locations.Location.{Location as At}
 use Rattle.vt_location.specs.Locations.{location_of, number_of}
 use Rattle.vt_location.specs.Numbers.{counted}
 use Rattle.vt_mount.specs.MountsValue.{changed, mounts_in}
-use Rattle.vt_mount_laws.proofs.mounts.MountsFound.{number_found}
-use Rattle.vt_mount_laws.proofs.mounts.MountsReplaced.{found_itself, numbers-with_mount, one_number_by_numbers}
-use Rattle.vt_mount_laws.proofs.moves.Moving.{tree_top}
-use Rattle.vt_mount_laws.proofs.moves.MovingRoots.{tree_placed}
-use Rattle.vt_mount_laws.proofs.mounts.Standing.{trees_have_each_once}
-use Rattle.vt_permit_laws.proofs.taken.TakenAttached.{at_destination, copy_by, group_by, twigs}
-use Rattle.vt_world_laws.specs.Worlds.Permits.{MayMoveTo}
-use Rattle.vt_world_laws.proofs.worlds.Roots.{directory_there}
+use Rattle.vt_laws_mounts.proofs.mounts.MountsFound.{number_found}
+use Rattle.vt_laws_mounts.proofs.mounts.MountsReplaced.{found_itself, numbers-with_mount, one_number_by_numbers}
+use Rattle.vt_laws_mounts.proofs.moves.Moving.{tree_top}
+use Rattle.vt_laws_mounts.proofs.moves.MovingRoots.{tree_placed}
+use Rattle.vt_laws_mounts.proofs.mounts.Standing.{trees_have_each_once}
+use Rattle.vt_laws_permits.proofs.taken.TakenAttached.{at_destination, copy_by, group_by, twigs}
+use Rattle.vt_laws_worlds.specs.Worlds.Permits.{MayMoveTo}
+use Rattle.vt_laws_worlds.proofs.worlds.Roots.{directory_there}
 use Rattle.vt_detach.specs.Events.{Permits}
-use Rattle.vt_detach.specs.Held.{IsHeld}
+use Rattle.vt_world.specs.Held.{IsHeld}
 use Rattle.vt_detach.specs.Uses.{inode_of, pinned_in, unpinned_at, unpinned_in}
-use Rattle.vt_detach.specs.WorldValue.{WorldValue, world_of}
-use Rattle.vt_letting_go.proofs.sweeps.OfWorlds.{found_filesystem}
+use Rattle.vt_world.specs.WorldValue.{WorldValue, world_of}
+use Rattle.vt_laws_letting_go.proofs.sweeps.OfWorlds.{found_filesystem}
 use Rattle.vt_detach.proofs.FileEvents.{permit_fits}
 use Rattle.vt_detach.proofs.LocationsSeen.{seen_where_located}
 use Rattle.vt_detach.proofs.LookLemmas.{turned}

@@ -6,8 +6,8 @@ use Rattle.std.proofs.lemmas.Map.Keys.{IsDistinct-head, IsDistinct-tail}
 use Rattle.std.proofs.lemmas.Option.{same_Some}
 use Rattle.vt_location.specs.declared.numbers.NamespaceId.{NamespaceId}
 pub use Rattle.vt_mount.specs.Indexes.{same_namespace}
-use Rattle.vt_detach.specs.declared.namespaces.Namespace.{Namespace}
-use Rattle.vt_detach.specs.WorldValue.{NamespaceEntry, entries_of, entry_of}
+use Rattle.vt_world.specs.declared.namespaces.Namespace.{Namespace}
+use Rattle.vt_world.specs.WorldValue.{NamespaceEntry, entries_of, entry_of}
 
 abbrev pub is_id : ℕ → NamespaceId → Bool
 is_id count id = nat_eq count id.count

@@ -4,13 +4,13 @@ use Rattle.std.proofs.lemmas.Option.{same_Some}
 use Rattle.vt_spec.specs.Lists.{folded}
 use Rattle.vt_spec.specs.Machine.Mounts.{Mount}
 use Rattle.vt_spec.specs.Machine.World.{World}
-use Rattle.vt_letting_go.specs.OneByOne.{Inode}
-use Rattle.vt_letting_go.proofs.Lists.{among-from_map, filter_less}
+use Rattle.vt_laws_letting_go.specs.OneByOne.{Inode}
+use Rattle.vt_laws_letting_go.proofs.Lists.{among-from_map, filter_less}
 use Rattle.vt_mount.specs.MountsValue.{MountEntry, entry_numbered, mounts_in, released}
-use Rattle.vt_mount_laws.specs.Mounts.Attaching.{OneNumberAMount}
-use Rattle.vt_detach.specs.Held.{IsHeld}
+use Rattle.vt_laws_mounts.specs.Mounts.Attaching.{OneNumberAMount}
+use Rattle.vt_world.specs.Held.{IsHeld}
 use Rattle.vt_detach.specs.Uses.{Kept, is_unused, let_go_entry, let_go_mount, without_mount}
-use Rattle.vt_detach.specs.WorldValue.{WorldValue, world_of}
+use Rattle.vt_world.specs.WorldValue.{WorldValue, world_of}
 use Rattle.vt_detach.proofs.Going.{map_filtered}
 use Rattle.vt_detach.proofs.LostUses.{entry_itself, mounts_unchanged}
 use Rattle.vt_detach.proofs.Midway.{Reached, one_number_kept, unused_parts}

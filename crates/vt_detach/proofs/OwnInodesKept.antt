@@ -8,7 +8,7 @@ use Rattle.vt_spec.specs.Inodes.{Inode, Inodes, changed, inode_with_node, node_i
 use Rattle.vt_spec.specs.Tree.{Node, entries_in, entry_named, node_with_bytes, node_with_entry}
 use Rattle.vt_location.specs.Numbers.{is_inode_of}
 use Rattle.vt_fs.specs.FilesystemsValue.{ChangesInodes, FilesystemEntry, Filesystems, Shown, shown, shown_entry, shown_with, with_changed, without}
-use Rattle.vt_detach.specs.Held.{HasOwnInodes}
+use Rattle.vt_world.specs.Held.{HasOwnInodes}
 
 abbrev pub IsOwn : ℕ → Inodes ℕ → Type 0
 IsOwn count inodes = (number : ℕ) → is_inode_of count number ≡ false → inodes.inode number ≡ None

@@ -10,21 +10,21 @@ use Rattle.vt_spec.specs.Machine.Run.{numbers_in_use, used_by_filesystem, used_b
 use Rattle.vt_spec.specs.Machine.World.{Filesystem, Task, World, all_locations, filesystem_numbered, mount_at, no_filesystem, task_called}
 use Rattle.vt_spec.specs.Machine.Invariants.{ListsNumbers, is_located_well, is_there}
 use Rattle.vt_fs.specs.FilesystemsValue.{Filesystems}
-use Rattle.vt_laws.specs.Numbers.{location_named}
-use Rattle.vt_laws.proofs.numbers.Supports.{used_numbers_are_named}
-use Rattle.vt_letting_go.specs.Counts.{times}
-use Rattle.vt_letting_go.proofs.Lists.{Among, among-append_left, among-append_right, among-flat_map, among-from_map, among_from_all, among_numbers, is_among_numbers, passes}
+use Rattle.vt_laws_rules.specs.Numbers.{location_named}
+use Rattle.vt_laws_rules.proofs.numbers.Supports.{used_numbers_are_named}
+use Rattle.vt_laws_letting_go.specs.Counts.{times}
+use Rattle.vt_laws_letting_go.proofs.Lists.{Among, among-append_left, among-append_right, among-flat_map, among-from_map, among_from_all, among_numbers, is_among_numbers, passes}
 use Rattle.vt_location.specs.declared.locations.Location.{Location}
 use Rattle.vt_location.specs.Locations.{location_of, number_of}
 use Rattle.vt_location.specs.Numbers.{counted}
 use Rattle.vt_mount.specs.MountsValue.{MountEntry}
-use Rattle.vt_run_laws.specs.Handed.{is_counted_before}
+use Rattle.vt_laws_runs.specs.Handed.{is_counted_before}
 use Rattle.vt_tasks.specs.Counts.{locations_in, one_if}
 use Rattle.vt_tasks.specs.TasksValue.{Tasks, called, changed_by, changed_called, replaced}
 use Rattle.vt_detach.specs.Events.{Permits}
-use Rattle.vt_detach.specs.Held.{IsHeld, writes_of, writes_of_task, writes_on}
+use Rattle.vt_world.specs.Held.{IsHeld, writes_of, writes_of_task, writes_on}
 use Rattle.vt_detach.specs.Uses.{Kept, kept, let_go_mount, released_use, with_location, with_use, without_location}
-use Rattle.vt_detach.specs.WorldValue.{WorldValue, world_of}
+use Rattle.vt_world.specs.WorldValue.{WorldValue, world_of}
 use Rattle.vt_detach.proofs.FileEvents.{permit_fits}
 use Rattle.vt_detach.proofs.LocationsSeen.{seen_where_located}
 use Rattle.vt_detach.proofs.Leaving.{left_done}

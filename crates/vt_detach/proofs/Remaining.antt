@@ -6,25 +6,25 @@ use Rattle.vt_spec.specs.Machine.Mounts.{Mount}
 use Rattle.vt_spec.specs.Machine.Permits.{Permit}
 use Rattle.vt_spec.specs.Machine.Settled.{filesystem_lives, without_dead_filesystems, without_dead_mounts}
 use Rattle.vt_spec.specs.Machine.World.{Filesystem, Task, World}
-use Rattle.vt_count_laws.specs.Using.{Exchanges}
+use Rattle.vt_laws_counts.specs.Using.{Exchanges}
 use Rattle.vt_fs.specs.FilesystemsValue.{FilesystemEntry, Filesystems, Shown, filesystem_seen, shown, shown_entry}
-use Rattle.vt_letting_go.specs.Counts.{times}
-use Rattle.vt_letting_go.specs.OneByOne.{Inode}
-use Rattle.vt_letting_go.proofs.Lists.{Among, all_from_among, among-from_map, among-map, among_from_all, filter_all, passes}
+use Rattle.vt_laws_letting_go.specs.Counts.{times}
+use Rattle.vt_laws_letting_go.specs.OneByOne.{Inode}
+use Rattle.vt_laws_letting_go.proofs.Lists.{Among, all_from_among, among-from_map, among-map, among_from_all, filter_all, passes}
 use Rattle.vt_location.specs.Numbers.{counted}
 use Rattle.vt_mount.specs.MountsValue.{MountEntry, mounts_in}
 use Rattle.vt_tasks.specs.TasksValue.{Tasks}
-use Rattle.vt_world_laws.proofs.RaisedInUse.{worlds_are_in_use}
-use Rattle.vt_detach.specs.Held.{CountsItsMounts, CountsItsUses, CountsWhatIsInIt, IsHeld}
+use Rattle.vt_laws_worlds.proofs.RaisedInUse.{worlds_are_in_use}
+use Rattle.vt_world.specs.Held.{CountsItsMounts, CountsItsUses, CountsWhatIsInIt, IsHeld}
 use Rattle.vt_detach.specs.Uses.{kept}
-use Rattle.vt_detach.specs.WorldValue.{WorldValue, world_of}
+use Rattle.vt_world.specs.WorldValue.{WorldValue, world_of}
 use Rattle.vt_detach.proofs.Bridging.{IsSwept}
 use Rattle.vt_detach.proofs.Finishing.{CountsBeside, IsApplied, finished}
 use Rattle.vt_detach.proofs.Grouped.{left_has}
 use Rattle.vt_detach.proofs.Moving.{Moves, Use, entry_counts, exchanged_shown, filesystems_moved, gained_there, held_counts, hold_if, inodes_of_uses, mounts_moved, moved_kept, release_if, released_counts, uses_moved}
 use Rattle.vt_detach.proofs.Staying.{IsDone, after, world_is_plain}
 use Rattle.vt_spec.proofs.Lists.{map_alike, map_twice}
-use Rattle.vt_letting_go.specs.TreesOverlays.{in_use_of}
+use Rattle.vt_laws_letting_go.specs.TreesOverlays.{in_use_of}
 
 -- the code's world with other mounts, filesystems and tasks
 abbrev pub remade : WorldValue → List MountEntry → Filesystems → Tasks → WorldValue

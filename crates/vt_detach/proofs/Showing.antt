@@ -5,18 +5,18 @@ use Rattle.std.proofs.Common.{◌≡◌, refl, sym, ap, subst, ◌∙◌, inl, i
 use Rattle.vt_spec.specs.Machine.SameWorlds.{SameFilesystem, SameFilesystems, SameWorlds, without_changes}
 use Rattle.vt_spec.specs.Machine.World.{Filesystem, Overlay, World, filesystem_numbered, is_overlay}
 use Rattle.vt_spec.specs.Machine.Invariants.{IsWorld, ListsNumbers}
-use Rattle.vt_count_laws.specs.Counted.{IsCounted, IsPlain}
-use Rattle.vt_count_laws.proofs.Alike.{same_worlds_count_alike}
-use Rattle.vt_count_laws.proofs.Listed.{same_numbers_are_permuted}
+use Rattle.vt_laws_counts.specs.Counted.{IsCounted, IsPlain}
+use Rattle.vt_laws_counts.proofs.Alike.{same_worlds_count_alike}
+use Rattle.vt_laws_counts.proofs.Listed.{same_numbers_are_permuted}
 use Rattle.vt_fs.specs.FilesystemsValue.{FilesystemEntry, Filesystems, filesystem_seen, filesystems_seen, inodes_seen}
 use Rattle.vt_group.specs.Grouping.{Has}
-use Rattle.vt_letting_go.proofs.Lists.{Among, among-map, among_from_all}
+use Rattle.vt_laws_letting_go.proofs.Lists.{Among, among-map, among_from_all}
 use Rattle.vt_location.specs.Numbers.{counted}
 use Rattle.vt_mount.specs.MountsValue.{mounts_in}
-use Rattle.vt_detach.specs.WorldValue.{WorldValue, world_of}
+use Rattle.vt_world.specs.WorldValue.{WorldValue, world_of}
 use Rattle.vt_detach.proofs.Grouped.{master_is, same_has}
 use Rattle.vt_fs.proofs.Numbers.{numbers_apart_each, numbers_listed}
-use Rattle.vt_letting_go.proofs.sweeps.OfWorlds.{found_filesystem}
+use Rattle.vt_laws_letting_go.proofs.sweeps.OfWorlds.{found_filesystem}
 
 -- Filesystems by their numbers
 

@@ -7,7 +7,7 @@ use Rattle.vt_spec.specs.Machine.Apply.{apply}
 use Rattle.vt_spec.specs.Machine.Mounts.{Location, root_of, same_location}
 use Rattle.vt_spec.specs.Machine.Permits.{Permit}
 use Rattle.vt_spec.specs.Machine.Permits.Permit.{ToSetCredentials, ToSetUmask}
-use Rattle.vt_spec.specs.Machine.Outcome.Tasks.{with_dropped}
+use Rattle.vt_spec.specs.Machine.Tasks.{with_dropped}
 use Rattle.vt_spec.specs.Rights.{Credentials}
 use Rattle.std.proofs.lemmas.Option.{same_Some}
 use Rattle.vt_spec.specs.Machine.SameWorlds.{SameWorlds}
@@ -15,27 +15,27 @@ use Rattle.vt_spec.specs.Machine.Settled.{layers_in, located_in, named_in, objec
 use Rattle.vt_spec.specs.Machine.World.{Filesystem, Task, all_locations, first_credentials, locations_of, mount_at, task_called, with_task}
 use Rattle.vt_spec.specs.Machine.Invariants.{IsWorld}
 use Rattle.vt_fs.specs.FilesystemsValue.{filesystem_seen}
-use Rattle.vt_laws.specs.Numbers.{KeepsTo}
-use Rattle.vt_letting_go.specs.Counts.{inode_uses, times}
-use Rattle.vt_letting_go.specs.Leaving.{IsSettledPlain, is_location_among, only_these_are_left}
-use Rattle.vt_letting_go.proofs.Lists.{Among, all_from_among, all_pass, among_from_all, any_passes, or_first}
+use Rattle.vt_laws_rules.specs.Numbers.{KeepsTo}
+use Rattle.vt_laws_letting_go.specs.Counts.{inode_uses, times}
+use Rattle.vt_laws_letting_go.specs.Leaving.{IsSettledPlain, is_location_among, only_these_are_left}
+use Rattle.vt_laws_letting_go.proofs.Lists.{Among, all_from_among, all_pass, among_from_all, any_passes, or_first}
 use Rattle.vt_location.specs.Numbers.{counted}
-use Rattle.vt_run_laws.proofs.answered.AlikeWorlds.{sameness_is_an_equivalence}
+use Rattle.vt_laws_runs.proofs.answered.AlikeWorlds.{sameness_is_an_equivalence}
 use Rattle.vt_tasks.specs.Counts.{one_if}
-use Rattle.vt_world_laws.proofs.RaisedInUse.{worlds_are_in_use}
-use Rattle.vt_letting_go.proofs.sweeps.OfWorlds.{mounts_of_worlds_stand, worlds_have_trees}
-use Rattle.vt_letting_go.proofs.leaving.PlacesLeft.{staying_keeps_all}
-use Rattle.vt_count_laws.proofs.using.Swept.{plain_of}
-use Rattle.vt_permit_laws.specs.Left.{IsGiven}
-use Rattle.vt_permit_laws.specs.Named.{permit_named}
-use Rattle.vt_permit_laws.proofs.named.PermitsKeepTo.{permits_keep_to_numbers}
-use Rattle.vt_permit_laws.proofs.left.PermitsLeave.{given_permits_leave_worlds}
-use Rattle.vt_run_laws.specs.Handed.{is_counted_before}
+use Rattle.vt_laws_worlds.proofs.RaisedInUse.{worlds_are_in_use}
+use Rattle.vt_laws_letting_go.proofs.sweeps.OfWorlds.{mounts_of_worlds_stand, worlds_have_trees}
+use Rattle.vt_laws_letting_go.proofs.leaving.PlacesLeft.{staying_keeps_all}
+use Rattle.vt_laws_counts.proofs.using.Swept.{plain_of}
+use Rattle.vt_laws_permits.specs.Left.{IsGiven}
+use Rattle.vt_laws_permits.specs.Named.{permit_named}
+use Rattle.vt_laws_permits.proofs.named.PermitsKeepTo.{permits_keep_to_numbers}
+use Rattle.vt_laws_permits.proofs.left.PermitsLeave.{given_permits_leave_worlds}
+use Rattle.vt_laws_runs.specs.Handed.{is_counted_before}
 use Rattle.vt_tasks.specs.TasksValue.{Tasks, changed_by, changed_called, replaced}
-use Rattle.vt_world_laws.specs.Worlds.Kept.{IsPlain}
+use Rattle.vt_laws_worlds.specs.Worlds.Kept.{IsPlain}
 use Rattle.vt_detach.specs.Events.{Becomes, Permits, credentials_called, left_by, supply_of}
-use Rattle.vt_detach.specs.Held.{CountsItsMounts, CountsItsUses, CountsWhatIsInIt, IsHeld, writes_of, writes_of_task, writes_on}
-use Rattle.vt_detach.specs.WorldValue.{WorldValue, world_of}
+use Rattle.vt_world.specs.Held.{CountsItsMounts, CountsItsUses, CountsWhatIsInIt, IsHeld, writes_of, writes_of_task, writes_on}
+use Rattle.vt_world.specs.WorldValue.{WorldValue, world_of}
 use Rattle.vt_detach.proofs.Splits.{locations_stay, replaced_split, times_replaced, writes_replaced}
 use Rattle.vt_detach.proofs.FilesSeen.{files_are_plain}
 use Rattle.vt_detach.proofs.Grouped.{same_has}

@@ -10,15 +10,15 @@ use Rattle.vt_spec.specs.Machine.World.{World, mount_at, mount_numbered}
 use Rattle.vt_spec.specs.Machine.Invariants.{Stands}
 use Rattle.vt_spec.specs.Machine.Invariants.Stands.{at_root, on_parent}
 use Rattle.vt_spec.proofs.Lists.{Among, among_from_list_all, filter_none, none_from_among}
-use Rattle.vt_letting_go.specs.Leaving.{stands_on_attached}
-use Rattle.vt_letting_go.proofs.sweeps.OfWorlds.{mounts_of_worlds_stand}
+use Rattle.vt_laws_letting_go.specs.Leaving.{stands_on_attached}
+use Rattle.vt_laws_letting_go.proofs.sweeps.OfWorlds.{mounts_of_worlds_stand}
 use Rattle.vt_mount.specs.MountsValue.{mounts_in}
-use Rattle.vt_mount_laws.proofs.mounts.MountsFound.{found_or_none, number_found}
-use Rattle.vt_mount_laws.proofs.mounts.MountsReplaced.{found_itself, tree_among}
-use Rattle.vt_mount_laws.proofs.mounts.Standing.{LiesIn, lies_in_tree, stand}
-use Rattle.vt_mount_laws.proofs.mounts.Standing.LiesIn.{itself, under}
-use Rattle.vt_detach.specs.Held.{IsHeld}
-use Rattle.vt_detach.specs.WorldValue.{WorldValue, world_of}
+use Rattle.vt_laws_mounts.proofs.mounts.MountsFound.{found_or_none, number_found}
+use Rattle.vt_laws_mounts.proofs.mounts.MountsReplaced.{found_itself, tree_among}
+use Rattle.vt_laws_mounts.proofs.mounts.Standing.{LiesIn, lies_in_tree, stand}
+use Rattle.vt_laws_mounts.proofs.mounts.Standing.LiesIn.{itself, under}
+use Rattle.vt_world.specs.Held.{IsHeld}
+use Rattle.vt_world.specs.WorldValue.{WorldValue, world_of}
 
 module _ (value : WorldValue) (held : IsHeld value) where
   abbrev world : World ℕ

@@ -6,23 +6,23 @@ use Rattle.vt_spec.specs.Machine.Mounts.Propagation.{Private}
 use Rattle.vt_spec.specs.Machine.Permits.{Permit}
 use Rattle.vt_spec.specs.Machine.Receives.{regrouped}
 use Rattle.vt_spec.specs.Machine.World.{Filesystem, Task, World}
-use Rattle.vt_count_laws.specs.Using.{Exchanges}
+use Rattle.vt_laws_counts.specs.Using.{Exchanges}
 use Rattle.vt_group.specs.Grouping.{Grouping, Has}
 use Rattle.vt_group.specs.Laws.{typed_by}
-use Rattle.vt_letting_go.specs.Counts.{times}
-use Rattle.vt_letting_go.specs.OneByOne.{Inode}
-use Rattle.vt_letting_go.proofs.Lists.{Among, all_from_among, among-from_map, among_from_all}
+use Rattle.vt_laws_letting_go.specs.Counts.{times}
+use Rattle.vt_laws_letting_go.specs.OneByOne.{Inode}
+use Rattle.vt_laws_letting_go.proofs.Lists.{Among, all_from_among, among-from_map, among_from_all}
 use Rattle.vt_location.specs.Numbers.{counted}
 use Rattle.vt_mount.specs.MountsValue.{MountEntry, mounts_in}
-use Rattle.vt_detach.specs.Held.{CountsItsUses, CountsWhatIsInIt, IsHeld}
+use Rattle.vt_world.specs.Held.{CountsItsUses, CountsWhatIsInIt, IsHeld}
 use Rattle.vt_retype.specs.Retyping.{typed_entry}
-use Rattle.vt_detach.specs.WorldValue.{WorldValue, world_of}
+use Rattle.vt_world.specs.WorldValue.{WorldValue, world_of}
 use Rattle.vt_detach.proofs.Bridging.{IsSwept}
 use Rattle.vt_detach.proofs.Finishing.{CountsBeside, IsApplied, finished_as}
 use Rattle.vt_detach.proofs.Staying.{IsDone}
 use Rattle.vt_detach.proofs.TypedWorlds.{exchanges_typed, living_typed, mounts_showing_typed, settled_typed, settled_typed_has, typed_world}
 use Rattle.vt_spec.proofs.Lists.{map_twice}
-use Rattle.vt_letting_go.specs.TreesOverlays.{in_use_of}
+use Rattle.vt_laws_letting_go.specs.TreesOverlays.{in_use_of}
 
 -- the code's world with these groups, and each mount with the type that they tell
 abbrev pub typed_value : Grouping → WorldValue → WorldValue

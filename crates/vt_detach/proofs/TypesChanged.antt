@@ -15,29 +15,29 @@ use Rattle.vt_spec.specs.Machine.Types.{named_mounts, retyped, retyped_mount, wi
 use Rattle.vt_spec.specs.Machine.World.{Filesystem, World, all_locations}
 use Rattle.vt_fs.specs.FilesystemsValue.{filesystem_seen}
 use Rattle.vt_group.specs.Grouping.{Grouping, Has, are_rising, master_in, peers_of}
-use Rattle.vt_laws.specs.Numbers.{KeepsTo}
-use Rattle.vt_letting_go.specs.Counts.{inode_uses, mounts_showing, times}
-use Rattle.vt_letting_go.specs.Detaching.{with_changed}
-use Rattle.vt_letting_go.specs.InUse.{GroupsInUse}
-use Rattle.vt_letting_go.specs.Keeping.{KeepsUses}
-use Rattle.vt_letting_go.proofs.Lists.{all_from_among, among-from_map, among_from_all}
-use Rattle.vt_letting_go.proofs.leaving.UsesKept.{types_keep_all}
+use Rattle.vt_laws_rules.specs.Numbers.{KeepsTo}
+use Rattle.vt_laws_letting_go.specs.Counts.{inode_uses, mounts_showing, times}
+use Rattle.vt_laws_letting_go.specs.Detaching.{with_changed}
+use Rattle.vt_laws_letting_go.specs.InUse.{GroupsInUse}
+use Rattle.vt_laws_letting_go.specs.Keeping.{KeepsUses}
+use Rattle.vt_laws_letting_go.proofs.Lists.{all_from_among, among-from_map, among_from_all}
+use Rattle.vt_laws_letting_go.proofs.leaving.UsesKept.{types_keep_all}
 use Rattle.vt_location.specs.Numbers.{counted}
 use Rattle.vt_mount.specs.MountsValue.{MountEntry, mounts_in}
 use Rattle.vt_retype.specs.Retyping.{retyped as retyped_entry}
-use Rattle.vt_permit_laws.proofs.left.PermitsLeave.{given_permits_leave_worlds}
-use Rattle.vt_run_laws.specs.Handed.{counts_from, is_counted_before}
-use Rattle.vt_world_laws.proofs.RaisedInUse.{worlds_are_in_use}
+use Rattle.vt_laws_permits.proofs.left.PermitsLeave.{given_permits_leave_worlds}
+use Rattle.vt_laws_runs.specs.Handed.{counts_from, is_counted_before}
+use Rattle.vt_laws_worlds.proofs.RaisedInUse.{worlds_are_in_use}
 use Rattle.vt_detach.specs.Events.{Permits, left_by, supply_of}
-use Rattle.vt_detach.specs.Held.{CountsItsMounts, CountsItsUses, CountsWhatIsInIt, IsHeld}
-use Rattle.vt_detach.specs.WorldValue.{WorldValue, world_of}
+use Rattle.vt_world.specs.Held.{CountsItsMounts, CountsItsUses, CountsWhatIsInIt, IsHeld}
+use Rattle.vt_world.specs.WorldValue.{WorldValue, world_of}
 use Rattle.vt_detach.proofs.MountsChanged.{times_map}
 use Rattle.vt_detach.proofs.Staying.{IsDone, becomes_so, world_is_plain}
-use Rattle.vt_letting_go.proofs.SweptBetween.{settled_without_groups}
-use Rattle.vt_run_laws.proofs.answered.AlikeWorlds.{sameness_is_an_equivalence}
+use Rattle.vt_laws_letting_go.proofs.SweptBetween.{settled_without_groups}
+use Rattle.vt_laws_runs.proofs.answered.AlikeWorlds.{sameness_is_an_equivalence}
 use Rattle.vt_spec.proofs.Lists.{map_twice}
 use Rattle.vt_spec.proofs.Worlds.{shown-mapped}
-use Rattle.vt_mount_laws.specs.Mounts.Attaching.{numbers_of}
+use Rattle.vt_laws_mounts.specs.Mounts.Attaching.{numbers_of}
 
 -- Worlds in which mounts have other types, and groups other masters
 

@@ -14,16 +14,16 @@ use Rattle.vt_spec.specs.Machine.Settled.{settled}
 use Rattle.vt_spec.specs.Machine.Types.{named_mounts, retyped}
 use Rattle.vt_spec.specs.Machine.World.{Namespace}
 use Rattle.vt_group.specs.Grouping.{Grouping, Has, LacksGroup}
-use Rattle.vt_laws.specs.Numbers.{KeepsTo}
+use Rattle.vt_laws_rules.specs.Numbers.{KeepsTo}
 use Rattle.vt_mount.specs.MountsValue.{mounts_in}
 use Rattle.vt_retype.specs.Retyping.{retyped as retyped_entry}
-use Rattle.vt_permit_laws.proofs.named.PermitsKeepTo.{permits_keep_to_numbers}
-use Rattle.vt_permit_laws.proofs.taken.TakenAttached.{index_bound}
-use Rattle.vt_permit_laws.proofs.taken.TakenNumbers.{counted_later}
-use Rattle.vt_run_laws.specs.Handed.{counts_from, is_counted_before}
+use Rattle.vt_laws_permits.proofs.named.PermitsKeepTo.{permits_keep_to_numbers}
+use Rattle.vt_laws_permits.proofs.taken.TakenAttached.{index_bound}
+use Rattle.vt_laws_permits.proofs.taken.TakenNumbers.{counted_later}
+use Rattle.vt_laws_runs.specs.Handed.{counts_from, is_counted_before}
 use Rattle.vt_detach.specs.Events.{Permits}
-use Rattle.vt_detach.specs.Held.{IsHeld}
-use Rattle.vt_detach.specs.WorldValue.{WorldValue, world_of}
+use Rattle.vt_world.specs.Held.{IsHeld}
+use Rattle.vt_world.specs.WorldValue.{WorldValue, world_of}
 use Rattle.vt_detach.proofs.FileEvents.{permit_fits}
 use Rattle.vt_detach.proofs.Staying.{IsDone}
 use Rattle.vt_detach.proofs.TypesChanged.{retyped_value, types_are_set, types_settled}

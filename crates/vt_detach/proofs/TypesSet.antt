@@ -9,21 +9,21 @@ use Rattle.vt_spec.specs.Machine.Permits.{Permit}
 use Rattle.vt_spec.specs.Machine.Permits.Permit.{ToSetFlags}
 use Rattle.vt_spec.specs.Machine.Settled.{settled}
 use Rattle.vt_spec.specs.Machine.World.{mount_numbered, with_mounts}
-use Rattle.vt_count_laws.specs.Using.{Exchanges, is_inode}
+use Rattle.vt_laws_counts.specs.Using.{Exchanges, is_inode}
 use Rattle.vt_fs.specs.FilesystemsValue.{Shown, shown}
 use Rattle.vt_group.specs.Grouping.{Has}
-use Rattle.vt_letting_go.specs.Counts.{times}
-use Rattle.vt_letting_go.specs.Keeping.{flags_if}
-use Rattle.vt_letting_go.specs.Mounting.{inode_at}
-use Rattle.vt_letting_go.proofs.Lists.{Among, is_among_numbers, among-map}
-use Rattle.vt_letting_go.proofs.leaving.PlacesLeft.{found_is_there, number_found}
-use Rattle.vt_letting_go.proofs.leaving.UsesKept.{flags_are_of_one}
+use Rattle.vt_laws_letting_go.specs.Counts.{times}
+use Rattle.vt_laws_letting_go.specs.Keeping.{flags_if}
+use Rattle.vt_laws_letting_go.specs.Mounting.{inode_at}
+use Rattle.vt_laws_letting_go.proofs.Lists.{Among, is_among_numbers, among-map}
+use Rattle.vt_laws_letting_go.proofs.leaving.PlacesLeft.{found_is_there, number_found}
+use Rattle.vt_laws_letting_go.proofs.leaving.UsesKept.{flags_are_of_one}
 use Rattle.vt_mount.specs.MountsValue.{changed, mounts_in}
-use Rattle.vt_permit_laws.specs.Named.{permit_named}
-use Rattle.vt_run_laws.specs.Handed.{is_counted_before}
+use Rattle.vt_laws_permits.specs.Named.{permit_named}
+use Rattle.vt_laws_runs.specs.Handed.{is_counted_before}
 use Rattle.vt_detach.specs.Events.{Permits}
-use Rattle.vt_detach.specs.Held.{IsHeld}
-use Rattle.vt_detach.specs.WorldValue.{WorldValue, world_of}
+use Rattle.vt_world.specs.Held.{IsHeld}
+use Rattle.vt_world.specs.WorldValue.{WorldValue, world_of}
 use Rattle.vt_detach.proofs.FileEvents.{permit_fits}
 use Rattle.vt_detach.proofs.FilesSeen.{mount_named}
 use Rattle.vt_detach.proofs.LookLemmas.{turned}

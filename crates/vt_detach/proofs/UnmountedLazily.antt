@@ -7,13 +7,13 @@ use Rattle.vt_spec.specs.Machine.Mounts.{Location as Place, Mount, is_shared, mo
 use Rattle.vt_spec.specs.Machine.Permits.Permit.{ToUnmountLazily}
 use Rattle.vt_spec.specs.Machine.World.{World, mount_at, mount_numbered}
 use Rattle.vt_fs.specs.FilesystemsValue.{Filesystems}
-use Rattle.vt_letting_go.specs.OneByOne.{Inode}
+use Rattle.vt_laws_letting_go.specs.OneByOne.{Inode}
 use Rattle.vt_mount.specs.MountsValue.{MountEntry, mounts_in}
 use Rattle.vt_detach.specs.Detached.{LeaveInTurn}
 use Rattle.vt_detach.specs.Events.{Permits}
-use Rattle.vt_detach.specs.Held.{IsHeld}
+use Rattle.vt_world.specs.Held.{IsHeld}
 use Rattle.vt_detach.specs.Uses.{Kept, kept, without_attachment}
-use Rattle.vt_detach.specs.WorldValue.{WorldValue, world_of}
+use Rattle.vt_world.specs.WorldValue.{WorldValue, world_of}
 use Rattle.vt_detach.proofs.Detached.{IsDetaching, detaching_on}
 use Rattle.vt_detach.proofs.DetachingBegins.{HasChildrenOf, detached_world, detaching_begins}
 use Rattle.vt_detach.proofs.DetachingEnds.{detached_done, held_is_kept, taken_regroups}
@@ -23,8 +23,8 @@ use Rattle.vt_detach.proofs.LazilyUnmounted.{lazily_is_detached, tree_has_childr
 use Rattle.vt_detach.proofs.Remaining.{remade}
 use Rattle.vt_detach.proofs.Staying.{IsDone}
 use Rattle.vt_detach.proofs.UnmountedAlone.{attached_is_named}
-use Rattle.vt_permit_laws.specs.Taken.{is_ungrouped}
-use Rattle.vt_letting_go.specs.TreesOverlays.{in_use_of}
+use Rattle.vt_laws_permits.specs.Taken.{is_ungrouped}
+use Rattle.vt_laws_letting_go.specs.TreesOverlays.{in_use_of}
 
 -- where each has left in its turn, none is pending
 pub all_detached : (old : WorldValue) (gained : List Inode) (last : World ℕ) (numbers : List ℕ) (k final : Kept)

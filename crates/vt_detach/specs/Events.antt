@@ -11,9 +11,9 @@ use Rattle.vt_spec.specs.Machine.World.{Task, World, first_credentials, mount_at
 use Rattle.vt_spec.specs.Rights.{Credentials}
 use Rattle.vt_fs.specs.FilesystemsValue.{entry_at, next_seen}
 use Rattle.vt_location.specs.Numbers.{inode_number}
-use Rattle.vt_permit_laws.specs.Left.{IsGiven, left_by as left}
-use Rattle.vt_run_laws.specs.Handed.{counts_from, handed_from}
-use Rattle.vt_detach.specs.WorldValue.{WorldValue, world_of}
+use Rattle.vt_laws_permits.specs.Left.{IsGiven, left_by as left}
+use Rattle.vt_laws_runs.specs.Handed.{counts_from, handed_from}
+use Rattle.vt_world.specs.WorldValue.{WorldValue, world_of}
 
 -- The number of the filesystem that a location is in
 abbrev pub filesystem_count : WorldValue → Location ℕ → ℕ

@@ -6,7 +6,7 @@ use Rattle.vt_location.specs.Locations.{number_of}
 use Rattle.vt_location.specs.Numbers.{counted}
 use Rattle.vt_mount.specs.MountsValue.{MountEntry, uses_of, writers_of}
 use Rattle.vt_spec.specs.Inodes.{uses_in}
-use Rattle.vt_detach.specs.WorldValue.{NamespaceEntry}
+use Rattle.vt_world.specs.WorldValue.{NamespaceEntry}
 
 -- the mount and the inode of a location may get so many uses more, none of them open for writing
 pub record HasRoom (more : ℕ) (at : Location) (mounts : List MountEntry) (filesystems : Filesystems) : Type 0 where

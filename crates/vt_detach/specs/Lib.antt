@@ -1,5 +1,3 @@
-pub mod WorldValue
-pub mod Held
 pub mod Events
 pub mod Looking
 pub mod Uses

@@ -13,7 +13,7 @@ use Rattle.vt_request.specs.Requests.{access_of}
 use Rattle.vt_tasks.specs.declared.descriptors.OpenFile.{OpenFile}
 use Rattle.vt_retype.specs.Retyping.{FollowTypes}
 use Rattle.vt_detach.specs.Uses.{Kept, without_attachment, without_location}
-use Rattle.vt_detach.specs.WorldValue.{NamespaceEntry}
+use Rattle.vt_world.specs.WorldValue.{NamespaceEntry}
 
 -- Entries
 

@@ -3,16 +3,16 @@ ghost use Rattle.std.specs.Prelude.{◌≡◌};
 ghost use Rattle.vt_location.specs.Numbers.{counted};
 ghost use Rattle.vt_detach.specs.NamespacesLeft.{MountsAreLeft, NamespaceIsLeft, namespace_entry, with_one_task_less};
 ghost use Rattle.vt_detach.specs.Uses.{kept};
-ghost use Rattle.vt_detach.specs.WorldValue.{entries_of};
+ghost use Rattle.vt_world.specs.WorldValue.{entries_of};
 
 use crate::detaching::detach;
-use crate::namespaces::Namespace;
 use indexmap::IndexMap;
 use vt_fs::Filesystems;
 use vt_group::Groups;
 use vt_location::NamespaceId;
 use vt_mount::Mounts;
 use vt_retype::leave;
+use vt_world::namespaces::Namespace;
 
 /// One task less of a namespace. With its last it goes, and its mounts are detached: they leave their groups at once,
 /// and the slaves of a group that ends get its master. It does not allocate.

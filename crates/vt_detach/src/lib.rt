@@ -3,5 +3,4 @@
 
 pub mod detaching;
 pub mod ending;
-pub mod namespaces;
 pub mod uses;

@@ -1,9 +1,10 @@
 //! Uses of locations: a root, a working directory or an open file is a use of its mount and of its inode.
-ghost use Rattle.std.specs.Prelude.{◌<◌, ◌≡◌, IfErr, OnErr, OnOk};
+ghost use Rattle.std.specs.Prelude.{◌<◌, ◌≡◌, IfErr, IsOk, OnErr, OnOk};
 ghost use Rattle.vt_fs.specs.FilesystemsValue.{shown};
 ghost use Rattle.vt_location.specs.Numbers.{counted};
 ghost use Rattle.vt_spec.specs.declared.errors.Rule.TheVariants.{S5};
 ghost use Rattle.vt_spec.specs.Errors.{denial};
+ghost use Rattle.vt_detach.specs.Forking.{HasRoom};
 ghost use Rattle.vt_detach.specs.Uses as meant;
 ghost use Rattle.vt_detach.specs.Uses.{kept, released_in, with_location, without_location};
 
@@ -24,6 +25,7 @@ pub fn hold(
     ensures ok { OnOk result
         (kept mounts.new filesystems.new ≡ with_location at writes (kept mounts.old filesystems.old)) }
     ensures slot { at.node.slot < 18446744073709551616 }
+    ensures room { HasRoom 1 at mounts.old filesystems.old → IsOk result }
     ensures memory { IfErr result (λ deny. deny ≡ denial S5) }
     ensures err_mounts { OnErr result (mounts.new ≡ mounts.old) }
     ensures err_filesystems { OnErr result (filesystems.new ≡ filesystems.old) }

@@ -6,8 +6,8 @@ use Rattle.vt_spec.specs.Machine.Renaming.{renamed_node}
 use Rattle.vt_spec.specs.Inodes.{Inodes, changed, is_directory_under, one_directory, pinned, renamed_inodes, tree_of, unpinned, uses_in}
 use Rattle.vt_spec.specs.Tree.{Node, parent_in}
 use Rattle.vt_spec.specs.TreeInvariant.{entry_at}
-use Rattle.vt_laws.specs.Renaming.{Renaming, renamed_change}
-use Rattle.vt_laws.proofs.numbers.Commuting.{Named, commutes_nat, node_itself, option_itself, inode_itself, change_itself}
+use Rattle.vt_laws_rules.specs.Renaming.{Renaming, renamed_change}
+use Rattle.vt_laws_rules.proofs.numbers.Commuting.{Named, commutes_nat, node_itself, option_itself, inode_itself, change_itself}
 use Rattle.vt_tree.specs.Paths.{path_in}
 use Rattle.vt_location.specs.Numbers.{exchanged}
 use Rattle.vt_location.proofs.NumberLemmas.{exchanged_back}

@@ -17,7 +17,7 @@ use Rattle.vt_fs.specs.FilesystemsValue.{ChangesInodes, FilesystemEntry, Filesys
 use Rattle.vt_location.proofs.NumberLemmas.{exchanged_back}
 use Rattle.vt_fs.proofs.Renamed.{by_numbers, changed_by_numbers, entry_by_numbers, node_by_numbers, own_by_numbers, path_by_numbers, pinned_by_numbers, plain_by_numbers, root_by_numbers, under_by_numbers, unpinned_by_numbers, uses_by_numbers}
 use Rattle.vt_spec.proofs.Truths.{or_false_left, or_false_right}
-use Rattle.vt_laws.specs.Renaming.{renamed_change}
+use Rattle.vt_laws_rules.specs.Renaming.{renamed_change}
 
 -- the filesystem of this count is there, with this tree, and no two have one count
 pub record Standing (fs : Filesystems) (f : ℕ) (tree : TreeValue) : Type 0 where

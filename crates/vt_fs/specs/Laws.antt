@@ -1,6 +1,6 @@
 -- Laws of the plain filesystems as the definitions see them.
-use Rattle.std.specs.Prelude.{false, find, length, nat_eq, not, unwrap_or, ℕ, ◌≡◌, ◌≢◌}
-use Rattle.vt_spec.specs.FileTree.{has_entry_to}
+use Rattle.std.specs.Prelude.{Bool, false, find, length, nat_eq, not, true, unwrap_or, ℕ, ◌||◌, ◌≡◌, ◌≢◌}
+use Rattle.vt_spec.specs.FileTree.{FileTree, has_entry_to, is_directory_under, is_removed}
 use Rattle.vt_spec.specs.Lists.{any_pair}
 use Rattle.vt_spec.specs.Machine.World.{no_filesystem}
 use Rattle.vt_spec.specs.Machine.Invariants.{ListsNumbers}
@@ -16,7 +16,18 @@ ParentsAreNamed tree =
     → has_entry_to nat_eq tree (parent_in directory (tree.node directory)) directory
     ≡ not (nat_eq directory (parent_in directory (tree.node directory)))
 
--- so it is in every tree of a world
+-- Each directory that is not removed lies under the root.
+abbrev pub LieUnderRoot : FileTree ℕ → Type 0
+LieUnderRoot files =
+    (directory : ℕ) → is_removed nat_eq files.tree directory ≡ false
+    → is_directory_under nat_eq files files.tree.root directory ≡ true
+
+-- `..` of a directory leads nowhere on a mount with this root: it is removed, or does not lie under the root
+abbrev pub is_lost_under : FileTree ℕ → ℕ → ℕ → Bool
+is_lost_under files root directory =
+    is_removed nat_eq files.tree directory || not (is_directory_under nat_eq files root directory)
+
+-- the parents are named so in every tree of a world
 abbrev pub TreesNameParents : Type 0
 TreesNameParents = (tree : Tree ℕ) → IsTree tree → HasOwnParents tree → ParentsAreNamed tree
 

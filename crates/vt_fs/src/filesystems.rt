@@ -14,7 +14,7 @@ ghost use Rattle.vt_spec.specs.Language.Changes.Change.{AddName, Make, Move, Rem
 ghost use Rattle.vt_spec.specs.Language.Limits.{largest_file};
 ghost use Rattle.vt_spec.specs.Laws.Trees.{IsNewIn};
 ghost use Rattle.vt_spec.specs.Lists.{any_pair};
-ghost use Rattle.vt_spec.specs.Machine.Outcome.Descriptors.{overwritten};
+ghost use Rattle.vt_spec.specs.Machine.Descriptors.{overwritten};
 ghost use Rattle.vt_spec.specs.Tree.{bytes_in, entries_in, is_directory_node, names_in};
 ghost use Rattle.vt_spec.specs.TreeInvariant.{IsDirectory, entry_at as number_at};
 ghost use Rattle.vt_tree.specs.Slots.{most_uses};
@@ -88,7 +88,7 @@ impl Model for Filesystems {
 
 impl Filesystems {
     ghost use Rattle.vt_fs.specs.FilesystemsValue.{FilesystemEntry, ChangesInodes, IsNew, entry_at, entry_of, files_at, inodes_at, inodes_seen, next_seen, node_seen, with_changed, without};
-    ghost use Rattle.vt_fs.specs.Laws.{ParentsAreNamed};
+    ghost use Rattle.vt_fs.specs.Laws.{LieUnderRoot, ParentsAreNamed, is_lost_under};
     ghost use Rattle.vt_fs.specs.Lends.{lends_tree};
 
     /// No filesystems. It does not allocate.
@@ -194,6 +194,28 @@ impl Filesystems {
         };
         let slot = slot_of(directory);
         slot != tree.root() && slot == tree.parent(slot)
+    }
+
+    /// Whether `..` of a directory leads nowhere on a mount with this root: the directory is removed, or does not lie
+    /// under the root.
+    ///
+    /// A directory that is not removed must lie under the root of its filesystem, as in every tree of a world: so only a
+    /// mount of a part of the filesystem goes up by parents. Directories must be named in their parents, as for
+    /// `is_under`.
+    pub fn is_lost(&self, root: NodeRef, directory: NodeRef) -> bool
+        requires named { ParentsAreNamed (files_at self.now root.filesystem.count).tree }
+        requires rooted { LieUnderRoot (files_at self.now root.filesystem.count) }
+        requires one_filesystem { directory.filesystem ≡ root.filesystem }
+        ensures { result
+            ≡ is_lost_under (files_at self.now root.filesystem.count) (number_of root) (number_of directory) }
+    {
+        if self.is_removed(directory) {
+            return true;
+        }
+        match self.root(root.filesystem) {
+            Some(top) if top == root => false,
+            _ => !self.is_under(root, directory),
+        }
     }
 
     /// The number that the next inode of a filesystem gets, which no inode has.

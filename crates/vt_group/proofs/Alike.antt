@@ -17,11 +17,11 @@ use Rattle.vt_group.specs.Grouping.{Grouping, Has, are_rising, peer_of, peers_of
 use Rattle.vt_group.specs.Laws.{shown}
 use Rattle.vt_group.proofs.Heirs.{master_inherited}
 use Rattle.vt_group.proofs.Receiving.{chain_alike}
-use Rattle.vt_mount_laws.proofs.GroupsUp.{all_on_way}
-use Rattle.vt_mount_laws.proofs.GroupsKept.{member_shared}
-use Rattle.vt_mount_laws.proofs.Groups.{mounts-regrouped, members-regrouped}
-use Rattle.vt_mount_laws.proofs.mounts.MountsKept.{numbers_regrouped}
-use Rattle.vt_mount_laws.specs.Mounts.Attaching.{numbers_of}
+use Rattle.vt_laws_mounts.proofs.GroupsUp.{all_on_way}
+use Rattle.vt_laws_mounts.proofs.GroupsKept.{member_shared}
+use Rattle.vt_laws_mounts.proofs.Groups.{mounts-regrouped, members-regrouped}
+use Rattle.vt_laws_mounts.proofs.mounts.MountsKept.{numbers_regrouped}
+use Rattle.vt_laws_mounts.specs.Mounts.Attaching.{numbers_of}
 
 -- what groups know of a mount
 abbrev pub key_of : Mount ℕ → ℕ × Propagation ℕ

@@ -19,12 +19,12 @@ use Rattle.vt_spec.specs.Machine.Invariants.Lives.{has_master, has_no_master}
 use Rattle.vt_spec.proofs.Lists.{Among, among-from_map, among-map, among_from_all, among_from_contains, any_among, any_from_among, is_among_numbers}
 use Rattle.vt_group.specs.Grouping.{Grouping, Has, HasGroup, HasMount, LacksGroup, are_rising, below, peers_of, propagation_in, retyped_if, with_propagation}
 use Rattle.vt_group.specs.Steps.{ended_if_lost, retyped}
-use Rattle.vt_mount_laws.proofs.GroupsUp.{live_members, master_has_members}
+use Rattle.vt_laws_mounts.proofs.GroupsUp.{live_members, master_has_members}
 use Rattle.vt_group.proofs.Peers.{lookup-among, lookup-peer, numbers-retyped, peers-left, peers-set, retyped_other, retyped_same}
 use Rattle.vt_group.proofs.Regrouping.{regrouped-has}
-use Rattle.vt_mount_laws.proofs.GroupsKept.{member_shared, shared_member}
-use Rattle.vt_mount_laws.specs.Mounts.Attaching.{numbers_of}
-use Rattle.vt_mount_laws.specs.Mounts.Receivers.{AllGroupsLive}
+use Rattle.vt_laws_mounts.proofs.GroupsKept.{member_shared, shared_member}
+use Rattle.vt_laws_mounts.specs.Mounts.Attaching.{numbers_of}
+use Rattle.vt_laws_mounts.specs.Mounts.Receivers.{AllGroupsLive}
 
 -- a type with a group of its own is shared in it
 pub group_shared : (kind : Propagation ℕ) (group : ℕ) → group_of kind ≡ Some group → kind ≡ Shared group

@@ -20,7 +20,7 @@ use Rattle.vt_location.proofs.NumberLemmas.{counted_less}
 
 -- the keys of a map rise
 
-less_nat : (a b : ℕ) → nat_cmp a b ≡ Less → nat_lt a b ≡ true
+pub less_nat : (a b : ℕ) → nat_cmp a b ≡ Less → nat_lt a b ≡ true
 less_nat a b e = by (nat_lt a b) (nat_eq a b) e
   where
     by : (less same : Bool) → cond less Less (cond same Equal Greater) ≡ Less → less ≡ true

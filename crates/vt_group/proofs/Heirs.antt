@@ -9,7 +9,7 @@ use Rattle.vt_spec.specs.Machine.World.{World}
 use Rattle.vt_spec.proofs.Lists.{Among, any_among, chain_ends, chain_goes_on, last_of_chain, none_among}
 use Rattle.vt_group.proofs.Receiving.{Ends, chain_same}
 use Rattle.vt_spec.proofs.Found.{find-chain_start}
-use Rattle.vt_mount_laws.proofs.GroupsKept.{member_shared}
+use Rattle.vt_laws_mounts.proofs.GroupsKept.{member_shared}
 
 module _ (p : ℕ → Bool) (master : ℕ → Option ℕ) where
   abbrev found_from : ℕ → Option ℕ → Option ℕ

@@ -12,12 +12,12 @@ use Rattle.vt_spec.proofs.Lists.{Among, among-from_map, among_from_all, any_amon
 use Rattle.vt_group.specs.Grouping.{retyped_if, HasGroup}
 use Rattle.vt_group.specs.Laws.{JoiningKeepsGroups, LeavingKeepsGroups, SlavesKeepGroups, StartingKeepsGroups}
 use Rattle.vt_group.proofs.Peers.{retyped_other, retyped_same}
-use Rattle.vt_mount_laws.proofs.GroupsKept.{member_shared}
-use Rattle.vt_mount_laws.specs.Mounts.Receivers.{AllGroupsLive}
-use Rattle.vt_mount_laws.proofs.GroupsLiving.{all_live}
-use Rattle.vt_mount_laws.proofs.GroupsKept.{lives_end, regrouped_live}
-use Rattle.vt_mount_laws.proofs.GroupsUp.{EndsUp}
-use Rattle.vt_mount_laws.proofs.GroupsUp.EndsUp.{at_top, goes_up}
+use Rattle.vt_laws_mounts.proofs.GroupsKept.{member_shared}
+use Rattle.vt_laws_mounts.specs.Mounts.Receivers.{AllGroupsLive}
+use Rattle.vt_laws_mounts.proofs.GroupsLiving.{all_live}
+use Rattle.vt_laws_mounts.proofs.GroupsKept.{lives_end, regrouped_live}
+use Rattle.vt_laws_mounts.proofs.GroupsUp.{EndsUp}
+use Rattle.vt_laws_mounts.proofs.GroupsUp.EndsUp.{at_top, goes_up}
 
 -- One mount changes its type
 module _ (world : World ℕ) (live : AllGroupsLive world) (number : ℕ) (kind : Propagation ℕ) (master : ℕ → Option ℕ)

@@ -7,7 +7,7 @@ use Rattle.vt_spec.specs.Machine.World.{World}
 use Rattle.vt_group.specs.Grouping.{Grouping, Has, are_rising, peers_of}
 use Rattle.vt_group.specs.Together.{is_ordered}
 use Rattle.vt_group.proofs.Regrouping.{keys}
-use Rattle.vt_mount_laws.specs.Mounts.Attaching.{numbers_of}
+use Rattle.vt_laws_mounts.specs.Mounts.Attaching.{numbers_of}
 
 low_peers : (number : ℕ) (mounts : List (Mount ℕ)) → list_all (nat_lt number) (numbers_of mounts) ≡ true
     → list_all (nat_lt number) (keys (peers_of mounts)) ≡ true

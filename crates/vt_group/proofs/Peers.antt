@@ -15,7 +15,7 @@ use Rattle.vt_spec.specs.Machine.Receives.{has_members}
 use Rattle.vt_spec.proofs.Lists.{Among, among_from_list_all, among_numbers, among-map, map_same}
 use Rattle.vt_group.specs.Grouping.{are_rising, peer_of, peers_of, retyped_if}
 use Rattle.vt_group.specs.Steps.{is_member}
-use Rattle.vt_mount_laws.specs.Mounts.Attaching.{numbers_of}
+use Rattle.vt_laws_mounts.specs.Mounts.Attaching.{numbers_of}
 
 -- a number below those of all mounts is that of none
 pub above_first : (number : ℕ) (mounts : List (Mount ℕ)) → list_all (nat_lt number) (numbers_of mounts) ≡ true

@@ -10,12 +10,12 @@ use Rattle.vt_spec.specs.Machine.World.{World}
 use Rattle.vt_spec.specs.Machine.Invariants.{HasLivingGroups, Lives}
 use Rattle.vt_spec.proofs.Lists.{Among, among-filter, among_from_all, among_from_list_all, any_among, any_from_among, chain_ends, chain_goes_on, last_of_chain, list_all_from_among, none_among}
 use Rattle.vt_group.specs.Grouping.{Grouping, Has, master_in, peer_of, peers_of}
-use Rattle.vt_group.specs.Receiving.{FindsBelow}
+use Rattle.vt_group.specs.Receiving.{FindsBelow, receivers_from}
 use Rattle.vt_group.specs.Steps.{is_member}
-use Rattle.vt_mount_laws.proofs.GroupsUp.{all_on_way, ends_within, way, way_apart, way_members}
+use Rattle.vt_laws_mounts.proofs.GroupsUp.{all_on_way, ends_within, way, way_apart, way_members}
 use Rattle.vt_group.proofs.Peers.{members-peers}
 use Rattle.vt_spec.proofs.Truths.{or_false_alone, same_truth}
-use Rattle.vt_mount_laws.specs.Mounts.Receivers.{AllGroupsLive}
+use Rattle.vt_laws_mounts.specs.Mounts.Receivers.{AllGroupsLive}
 
 module _ (master : ℕ → Option ℕ) where
   -- the end of a chain has no master
@@ -113,39 +113,34 @@ fewer_groups (group ∷ groups) peers distinct all =
 
 -- The mounts that receive, among those that are shared or slaves
 
--- the numbers of the mounts whose source passes a test
-abbrev pub picked : (ℕ → Bool) → List (ℕ × Propagation ℕ) → List ℕ
-picked test [] = []
-picked test (peer ∷ rest) = cond (holds_of test (source_of peer.1)) (peer.0 ∷ picked test rest) (picked test rest)
-
-picked-mounts : (test : ℕ → Bool) (wanted : Mount ℕ → Bool) (mounts : List (Mount ℕ))
+receivers_from-mounts : (test : ℕ → Bool) (wanted : Mount ℕ → Bool) (mounts : List (Mount ℕ))
     → ((mount : Mount ℕ) → Among mount mounts → wanted mount ≡ holds_of test (source_of mount.propagation))
-    → picked test (peers_of mounts) ≡ map (λ mount. mount.number) (filter wanted mounts)
-picked-mounts test wanted [] same = refl
-picked-mounts test wanted (mount ∷ rest) same =
-    by (source_of mount.propagation) refl (picked-mounts test wanted rest (λ x m. same x (inr m)))
+    → receivers_from test (peers_of mounts) ≡ map (λ mount. mount.number) (filter wanted mounts)
+receivers_from-mounts test wanted [] same = refl
+receivers_from-mounts test wanted (mount ∷ rest) same =
+    by (source_of mount.propagation) refl (receivers_from-mounts test wanted rest (λ x m. same x (inr m)))
     ∙ ap (λ b. map (λ x. x.number) (cond b (mount ∷ filter wanted rest) (filter wanted rest)))
     (sym (same mount (inl refl)))
   where
-    each : (b : Bool) → picked test (peers_of rest) ≡ map (λ x. x.number) (filter wanted rest)
-        → cond b (mount.number ∷ picked test (peers_of rest)) (picked test (peers_of rest))
+    each : (b : Bool) → receivers_from test (peers_of rest) ≡ map (λ x. x.number) (filter wanted rest)
+        → cond b (mount.number ∷ receivers_from test (peers_of rest)) (receivers_from test (peers_of rest))
         ≡ map (λ x. x.number) (cond b (mount ∷ filter wanted rest) (filter wanted rest))
     each true later = ap (λ l. mount.number ∷ l) later
     each false later = later
 
     by : (o : Option ℕ) → source_of mount.propagation ≡ o
-        → picked test (peers_of rest) ≡ map (λ x. x.number) (filter wanted rest)
-        → picked test (cons_option (option_map (λ s. (mount.number, mount.propagation)) (source_of mount.propagation))
+        → receivers_from test (peers_of rest) ≡ map (λ x. x.number) (filter wanted rest)
+        → receivers_from test (cons_option (option_map (λ s. (mount.number, mount.propagation)) (source_of mount.propagation))
         (peers_of rest))
         ≡ map (λ x. x.number) (cond (holds_of test (source_of mount.propagation)) (mount ∷ filter wanted rest)
         (filter wanted rest))
     by None e later =
-        ap (λ o. picked test (cons_option (option_map (λ s. (mount.number, mount.propagation)) o) (peers_of rest))) e
+        ap (λ o. receivers_from test (cons_option (option_map (λ s. (mount.number, mount.propagation)) o) (peers_of rest))) e
         ∙ later
         ∙ ap (λ o. map (λ x. x.number) (cond (holds_of test o) (mount ∷ filter wanted rest) (filter wanted rest)))
         (sym e)
     by (Some s) e later =
-        ap (λ o. picked test (cons_option (option_map (λ s. (mount.number, mount.propagation)) o) (peers_of rest))) e
+        ap (λ o. receivers_from test (cons_option (option_map (λ s. (mount.number, mount.propagation)) o) (peers_of rest))) e
         ∙ each (holds_of test (source_of mount.propagation)) later
 
 fewer_peers : (mounts : List (Mount ℕ)) → length (peers_of mounts) ≤ length mounts
@@ -250,10 +245,10 @@ module _ (groups : Grouping) (group : ℕ) (found : ℕ → Bool) (finds : Finds
         (ap (is_among nat_eq group) (sym (alike reaches.0 source life)) ∙ reaches.1))
 
     -- the mounts that are picked are the receivers of the definitions
-    pub receivers_found : picked found groups.peers ≡ map (λ mount. mount.number) (receivers nat_eq world group)
+    pub receivers_found : receivers_from found groups.peers ≡ map (λ mount. mount.number) (receivers nat_eq world group)
     receivers_found =
-        ap (picked found) has.peers
-        ∙ picked-mounts found (receives nat_eq world group) world.mounts
+        ap (receivers_from found) has.peers
+        ∙ receivers_from-mounts found (receives nat_eq world group) world.mounts
         (λ mount m. by mount m (source_of mount.propagation) refl)
       where
         by : (mount : Mount ℕ) → Among mount world.mounts → (o : Option ℕ) → source_of mount.propagation ≡ o

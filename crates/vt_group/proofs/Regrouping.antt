@@ -16,10 +16,10 @@ use Rattle.vt_group.specs.Grouping.{Grouping, Has, are_rising, master_in, peer_o
 use Rattle.vt_group.specs.Steps.{ended, ended_if_lost, handed, handed_entry, handed_peer, has_peers, is_member}
 use Rattle.vt_group.proofs.Peers.{members-peers}
 use Rattle.vt_spec.proofs.Found.{find-chain_start}
-use Rattle.vt_mount_laws.proofs.GroupsKept.{member_shared}
-use Rattle.vt_mount_laws.proofs.Groups.{inherited_kept, mounts-regrouped, members-regrouped, master-regrouped, no_heir}
-use Rattle.vt_mount_laws.proofs.mounts.MountsKept.{numbers_regrouped}
-use Rattle.vt_mount_laws.specs.Mounts.Attaching.{numbers_of}
+use Rattle.vt_laws_mounts.proofs.GroupsKept.{member_shared}
+use Rattle.vt_laws_mounts.proofs.Groups.{inherited_kept, mounts-regrouped, members-regrouped, master-regrouped, no_heir}
+use Rattle.vt_laws_mounts.proofs.mounts.MountsKept.{numbers_regrouped}
+use Rattle.vt_laws_mounts.specs.Mounts.Attaching.{numbers_of}
 
 -- Entries of groups and masters
 

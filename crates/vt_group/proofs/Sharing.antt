@@ -26,9 +26,9 @@ use Rattle.vt_group.proofs.Adding.{grown_has}
 use Rattle.vt_group.proofs.Peers.{above_first, numbers-retyped, peers-set}
 use Rattle.vt_group.proofs.Showing.{shows_types}
 use Rattle.vt_group.proofs.Together.{old_masters, regrouped_living}
-use Rattle.vt_mount_laws.proofs.GroupsKept.{member_shared, shared_member}
-use Rattle.vt_mount_laws.specs.Mounts.Attaching.{numbers_of}
-use Rattle.vt_mount_laws.specs.Mounts.Receivers.{AllGroupsLive}
+use Rattle.vt_laws_mounts.proofs.GroupsKept.{member_shared, shared_member}
+use Rattle.vt_laws_mounts.specs.Mounts.Attaching.{numbers_of}
+use Rattle.vt_laws_mounts.specs.Mounts.Receivers.{AllGroupsLive}
 
 -- mounts with one number are one
 one_number : (mounts : List (Mount ℕ)) → are_rising (numbers_of mounts) ≡ true → (a b : Mount ℕ) → Among a mounts

@@ -14,14 +14,14 @@ use Rattle.vt_spec.proofs.Lists.{Among, among-from_map, among_from_all, any_amon
 use Rattle.vt_group.specs.Grouping.{Grouping, Has, are_rising, peers_of, retyped_if, with_propagation}
 use Rattle.vt_group.proofs.Heirs.{heir_above, heir_itself, master_inherited}
 use Rattle.vt_group.proofs.Living.{group_lives}
-use Rattle.vt_mount_laws.proofs.GroupsKept.{lives_end, regrouped_live}
-use Rattle.vt_mount_laws.proofs.GroupsLiving.{all_live}
+use Rattle.vt_laws_mounts.proofs.GroupsKept.{lives_end, regrouped_live}
+use Rattle.vt_laws_mounts.proofs.GroupsLiving.{all_live}
 use Rattle.vt_group.proofs.Peers.{retyped_other, retyped_same}
 use Rattle.vt_group.proofs.Receiving.{Ends, living_ends}
-use Rattle.vt_mount_laws.proofs.GroupsKept.{member_shared}
-use Rattle.vt_mount_laws.proofs.Groups.{group-inherited, mounts-regrouped, members-regrouped}
-use Rattle.vt_mount_laws.specs.Mounts.Attaching.{numbers_of}
-use Rattle.vt_mount_laws.specs.Mounts.Receivers.{AllGroupsLive}
+use Rattle.vt_laws_mounts.proofs.GroupsKept.{member_shared}
+use Rattle.vt_laws_mounts.proofs.Groups.{group-inherited, mounts-regrouped, members-regrouped}
+use Rattle.vt_laws_mounts.specs.Mounts.Attaching.{numbers_of}
+use Rattle.vt_laws_mounts.specs.Mounts.Receivers.{AllGroupsLive}
 
 -- Mounts lose groups, each but what it had as its source.
 pub record OnlyLoses (world : World ℕ) (change : Mount ℕ → Mount ℕ) : Type 0 where

@@ -27,16 +27,16 @@ use Rattle.vt_group.specs.Steps.{retyped as retyped_groups}
 use Rattle.vt_group.specs.Together.{as_private, as_slave, changed_if, with_changed}
 use Rattle.vt_group.proofs.Alike.{has_alike, key_of, keys_of}
 use Rattle.vt_group.proofs.Changes.{group_shared, slave_regroups}
-use Rattle.vt_mount_laws.proofs.GroupsUp.{live_members}
+use Rattle.vt_laws_mounts.proofs.GroupsUp.{live_members}
 use Rattle.vt_group.proofs.Peers.{lookup-among, retyped_other, retyped_same}
 use Rattle.vt_group.proofs.Showing.{shows_types}
 use Rattle.vt_group.proofs.Stepping.{OnlyLoses, between_live, steps_together}
 use Rattle.vt_spec.proofs.Truths.{nat_eq-swapped}
 use Rattle.std.proofs.Math.Bool.{or-false}
-use Rattle.vt_mount_laws.proofs.GroupsKept.{shared_member}
-use Rattle.vt_mount_laws.proofs.Groups.{group-inherited, mounts-regrouped, members-regrouped}
-use Rattle.vt_mount_laws.specs.Mounts.Attaching.{numbers_of}
-use Rattle.vt_mount_laws.specs.Mounts.Receivers.{AllGroupsLive}
+use Rattle.vt_laws_mounts.proofs.GroupsKept.{shared_member}
+use Rattle.vt_laws_mounts.proofs.Groups.{group-inherited, mounts-regrouped, members-regrouped}
+use Rattle.vt_laws_mounts.specs.Mounts.Attaching.{numbers_of}
+use Rattle.vt_laws_mounts.specs.Mounts.Receivers.{AllGroupsLive}
 
 -- Where all groups live nothing is lost
 

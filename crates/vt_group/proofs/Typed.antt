@@ -11,7 +11,7 @@ use Rattle.vt_spec.proofs.Lists.{Among, among-map, among_from_all, map_alike}
 use Rattle.vt_group.specs.Grouping.{Grouping, Has, master_in, propagation_in}
 use Rattle.vt_group.specs.Laws.{RegroupedIsTyped, shown, typed_by}
 use Rattle.vt_group.proofs.Showing.{shows_types}
-use Rattle.vt_mount_laws.proofs.Groups.{mounts-regrouped}
+use Rattle.vt_laws_mounts.proofs.Groups.{mounts-regrouped}
 
 module _ (world : World ℕ) (groups : Grouping) (has : Has (regrouped nat_eq world) groups) where
   typed : (mount : Mount ℕ) → Among mount world.mounts → inheriting nat_eq world mount ≡ typed_by groups mount

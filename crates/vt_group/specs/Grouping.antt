@@ -9,8 +9,8 @@ use Rattle.vt_spec.specs.Machine.Receives.{has_members, regrouped}
 use Rattle.vt_spec.specs.Machine.Settled.{without_dead_groups}
 use Rattle.vt_spec.specs.Machine.Types.{with_master}
 use Rattle.vt_spec.specs.Machine.World.{World}
-use Rattle.vt_mount_laws.specs.Mounts.Attaching.{numbers_of}
-use Rattle.vt_mount_laws.specs.Mounts.Receivers.{AllGroupsLive}
+use Rattle.vt_laws_mounts.specs.Mounts.Attaching.{numbers_of}
+use Rattle.vt_laws_mounts.specs.Mounts.Receivers.{AllGroupsLive}
 
 -- The mounts that are in a group or slaves of one, in order of attachment, and the groups that have a master.
 pub record Grouping : Type 0 where

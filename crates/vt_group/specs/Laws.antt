@@ -7,7 +7,7 @@ use Rattle.vt_spec.specs.Machine.Receives.{regrouped}
 use Rattle.vt_spec.specs.Machine.Settled.{without_dead_groups}
 use Rattle.vt_spec.specs.Machine.World.{World, opening}
 use Rattle.vt_group.specs.Grouping.{Grouping, Has, HasGroup, LacksGroup, below, master_in, no_groups, propagation_in, with_propagation}
-use Rattle.vt_mount_laws.specs.Mounts.Receivers.{AllGroupsLive}
+use Rattle.vt_laws_mounts.specs.Mounts.Receivers.{AllGroupsLive}
 
 abbrev pub OpeningHasNoGroups : Type 0
 OpeningHasNoGroups = (fresh : Fresh ℕ) → Has (opening nat_eq fresh) no_groups

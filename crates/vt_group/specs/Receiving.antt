@@ -1,20 +1,26 @@
 -- The mounts that receive the events of a group.
-use Rattle.std.specs.Prelude.{Bool, List, None, Option, Some, if◌then◌else◌, map, nat_eq, option_map, true, ℕ, ◌++◌, ◌≡◌}
+use Rattle.std.specs.Prelude.{Bool, List, Some, [], if◌then◌else◌, map, nat_eq, true, ℕ, ◌++◌, ◌∷◌, ◌≡◌}
+use Rattle.std.specs.List.{list_any}
 use Rattle.vt_spec.specs.Lists.{chain, holds_of, is_among}
 use Rattle.vt_spec.specs.Machine.Mounts.{Propagation, source_of}
 use Rattle.vt_location.specs.declared.numbers.GroupId.{GroupId}
+use Rattle.vt_location.specs.declared.numbers.MountId.{MountId}
 use Rattle.vt_group.specs.Grouping.{Grouping, master_in, propagation_in}
 use Rattle.vt_group.specs.Steps.{group_number}
 
--- the type of a mount that receives from one of some groups
-abbrev pub kind_from : (ℕ → Bool) → Propagation ℕ → Option (Propagation ℕ)
-kind_from found kind = if holds_of found (source_of kind) then Some kind else None
+-- a mount receives from one of some groups
+abbrev pub receives_from : Grouping → (ℕ → Bool) → ℕ → Bool
+receives_from groups found mount = holds_of found (source_of (propagation_in groups mount))
 
-abbrev pub type_from : Grouping → (ℕ → Bool) → ℕ → Option (Propagation ℕ)
-type_from groups found mount = kind_from found (propagation_in groups mount)
+-- the mounts that do, in order of attachment
+abbrev pub receivers_from : (ℕ → Bool) → List (ℕ × Propagation ℕ) → List ℕ
+receivers_from found [] = []
+receivers_from found (peer ∷ rest) =
+    if holds_of found (source_of peer.1) then peer.0 ∷ receivers_from found rest else receivers_from found rest
 
-abbrev pub peer_from : (ℕ → Bool) → ℕ × Propagation ℕ → Option (ℕ × Propagation ℕ)
-peer_from found peer = option_map (λ kind. (peer.0, kind)) (kind_from found peer.1)
+-- a mount with this count is among these
+abbrev pub is_noted : List MountId → ℕ → Bool
+is_noted mounts count = list_any (λ mount. nat_eq count mount.count) mounts
 
 -- a group comes up the masters of another
 abbrev pub Reaches : Grouping → ℕ → ℕ → Type 0

@@ -20,8 +20,8 @@ use Rattle.vt_location.specs.Numbers.{counted}
 use Rattle.vt_group.specs.declared.groups.NewGroup.{NewGroup}
 use Rattle.vt_group.specs.Grouping.{Grouping, Has, HasGroup, LacksGroup, are_rising, peers_of, propagation_in}
 use Rattle.vt_group.specs.Steps.{group_number}
-use Rattle.vt_mount_laws.specs.Mounts.Attaching.{numbers_of}
-use Rattle.vt_mount_laws.specs.Mounts.Receivers.{AllGroupsLive}
+use Rattle.vt_laws_mounts.specs.Mounts.Attaching.{numbers_of}
+use Rattle.vt_laws_mounts.specs.Mounts.Receivers.{AllGroupsLive}
 
 -- What a change of the type of all these mounts follows: each living world that had the groups has those that are left.
 -- The numbers of new groups are of no group that is there.

@@ -19,7 +19,7 @@ pub(crate) fn types_of(
 ) -> Result<Vec<(MountId, Propagation)>, AllocError>
     ensures { IfOk result (λ types. map typed_pair types.items ≡ map typed mounts.now) }
 {
-    let mut types = Vec::new(alloc);
+    let mut types = Vec::with_capacity(alloc, mounts.len())?;
     for mount in mounts {
         types.push((mount.number, mount.propagation))?;
     }

@@ -5,28 +5,25 @@ ghost use Rattle.std.specs.Map.{remove_entry};
 ghost use Rattle.std.specs.Ordering.{nat_cmp};
 ghost use Rattle.vt_group.specs.ByNumber.{IsAscending, has_room, value_at};
 
+use indexmap::IndexMap;
 use std::alloc::{AllocError, Global};
-use std::collections::BTreeMap;
 use std::marker::Model;
 
-/// Values in the order of their numbers. Room can be reserved for a value, which then comes without an allocation.
+/// Values by their numbers: contracts see them in the order of the numbers. They are kept by hash, in no order. Room can
+/// be reserved for a value, which then comes without an allocation.
 #[derive(Debug, Drop)]
 pub(crate) struct ByNumber<V> {
     // A number without a value is room for one.
-    places: BTreeMap<u64, Option<V>>,
+    places: IndexMap<u64, Option<V>>,
 }
 
 impl<V> Model for ByNumber<V> {
-    ghost use Rattle.std.specs.BTreeMap.{IsOrdered};
     ghost use Rattle.std.specs.Map.{keys_of};
-    ghost use Rattle.std.specs.Ordering.{nat_cmp};
-    ghost use Rattle.vt_group.specs.ByNumber.{Numbered, entries_of};
+    ghost use Rattle.vt_group.specs.ByNumber.{Numbered, values_of};
 
     ghost Value = { Numbered V };
 
-    ghost view = { λ m. record { entries = entries_of m.places.entries; room = keys_of m.places.entries } };
-
-    ghost invariant = { λ m. IsOrdered nat_cmp m.places };
+    ghost view = { λ m. record { entries = values_of m.places.entries; room = keys_of m.places.entries } };
 }
 
 impl<V: Copy + Clone + Drop> ByNumber<V> {
@@ -36,7 +33,7 @@ impl<V: Copy + Clone + Drop> ByNumber<V> {
         ensures ordered { IsAscending result }
     {
         ByNumber {
-            places: BTreeMap::new(alloc),
+            places: IndexMap::new(alloc),
         }
     }
 
@@ -104,7 +101,7 @@ impl<V: Copy + Clone + Drop> ByNumber<V> {
         ensures { self.new.entries ≡ self.old.entries }
     {
         if !self.has(number) {
-            self.places.remove(&number);
+            self.places.swap_remove(&number);
         }
     }
 
@@ -116,6 +113,6 @@ impl<V: Copy + Clone + Drop> ByNumber<V> {
             ≡ (if is_at (nat_cmp number) other then None else value_at self.old other) }
         ensures ordered { IsAscending self.new }
     {
-        self.places.remove(&number).flatten()
+        self.places.swap_remove(&number).flatten()
     }
 }

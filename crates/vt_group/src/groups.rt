@@ -1,5 +1,5 @@
 //! Peer groups.
-ghost use Rattle.std.specs.Prelude.{◌≡◌, Bool, ◌⊎◌, ◌&&◌, filter_map, not, [], ⊤, ℕ, None, Some, false, true, if◌then◌else◌, length, nat_eq, map, IfOk, IfErr, IfSome, OnOk, OnErr, option_map};
+ghost use Rattle.std.specs.Prelude.{◌≡◌, Bool, ◌⊎◌, ◌&&◌, ◌||◌, not, [], ⊤, ℕ, None, Some, false, true, if◌then◌else◌, length, nat_eq, map, IfOk, IfErr, IfSome, OnOk, OnErr, option_map};
 ghost use Rattle.vt_spec.specs.Errors.{denial};
 ghost use Rattle.vt_spec.specs.Lists.{chain, holds_of, is_among};
 ghost use Rattle.vt_spec.specs.Machine.Mounts.Propagation.{Private, Shared as SharedIn, Slave as SlaveOf};
@@ -15,14 +15,14 @@ ghost use Rattle.vt_group.specs.Additions.{typed_pair};
 ghost use Rattle.vt_group.specs.Together.{GrowsTo, Shares, is_ordered, new_group, pair_of};
 ghost use Rattle.vt_group.specs.Together.{shared_group, shared_type, type_before, typed};
 ghost use Rattle.vt_group.specs.Leaving.{is_member_of, lone_group, lost_group, master_after_end, type_after_end, type_once_ended, type_once_left, type_once_retyped, type_once_slave};
-ghost use Rattle.std.specs.BTreeMap.{IsOrdered, get};
+ghost use Rattle.std.specs.List.Sorted.{IsStrictlySortedBy};
 ghost use Rattle.std.specs.Ordering.{nat_cmp};
 ghost use Rattle.vt_spec.specs.Lists.{or_else};
-ghost use Rattle.vt_group.specs.Receiving.{FindsBelow, IsLonger, is_in, peer_from, type_from};
+ghost use Rattle.vt_group.specs.Receiving.{FindsBelow, IsLonger, is_in, is_noted, receivers_from, receives_from};
 ghost use Rattle.vt_group.specs.Steps.{numbered_peer};
 ghost use Rattle.vt_group.specs.Steps.{ended, ended_if_lost, group_number, handed, handed_type, has_peers, retyped, type_or_private};
-ghost use Rattle.vt_mount_laws.specs.Mounts.Attaching.{numbers_of};
-ghost use Rattle.vt_mount_laws.specs.Mounts.Receivers.{AllGroupsLive};
+ghost use Rattle.vt_laws_mounts.specs.Mounts.Attaching.{numbers_of};
+ghost use Rattle.vt_laws_mounts.specs.Mounts.Receivers.{AllGroupsLive};
 
 use crate::additions::{release_all, reserve_all, set_all, types_of};
 use crate::by_number::ByNumber;
@@ -32,7 +32,6 @@ use crate::listed::Listed;
 use crate::propagation::{has_source, is_in, own_group};
 use indexmap::IndexSet;
 use std::alloc::{AllocError, Global};
-use std::collections::BTreeMap;
 use std::marker::Model;
 use vt_location::{GroupId, Mount, MountId, Propagation};
 use vt_spec::errors::{Deny, Rule};
@@ -162,76 +161,60 @@ impl Groups {
         let Ok(receivers) = self.receiving(alloc, group) else {
             return Err(Rule::S5.denial());
         };
-        let mut ids = Vec::new(alloc);
-        for count in receivers.keys() {
-            let Ok(_) = ids.push(MountId::new(*count)) else {
-                return Err(Rule::S5.denial());
-            };
-        }
-        Ok(ids)
+        Ok(receivers)
     }
 
-    // The types of the mounts that receive the events of a group: those of the group and of the groups below it, which
-    // are looked for level by level.
-    fn receiving(
-        &self,
-        alloc: Global,
-        group: GroupId,
-    ) -> Result<BTreeMap<u64, Propagation>, AllocError>
-        ensures { IfOk result (λ types. (found : ℕ → Bool)
+    // The mounts that receive the events of a group: those of the group and of the groups below it, which are looked for
+    // level by level.
+    fn receiving(&self, alloc: Global, group: GroupId) -> Result<Vec<MountId>, AllocError>
+        ensures { IfOk result (λ mounts. (found : ℕ → Bool)
             × FindsBelow self.now (counted group.count) found
-            × (map numbered_peer types.entries ≡ filter_map (peer_from found) self.now.peers)) }
+            × (map (λ mount. counted mount.count) mounts.items ≡ receivers_from found self.now.peers)) }
     {
         let _ = &self.mounts;
-        let mut types = BTreeMap::new(alloc);
+        let mut mounts = Vec::new(alloc);
         let mut found = IndexSet::new(alloc);
         found.insert(group)?;
         let mut next = 0;
         while next < found.len() {
             let here = found.as_slice()[next];
-            self.add_relatives(&mut types, here)?;
+            self.add_relatives(&mut mounts, here)?;
             self.add_lowers(&mut found, here)?;
             next += 1;
         }
-        Ok(types)
+        put_in_order(&mut mounts);
+        Ok(mounts)
     }
 
-    // Adds the types of the members and slaves of a group.
-    fn add_relatives(
-        &self,
-        types: &mut BTreeMap<u64, Propagation>,
-        group: GroupId,
-    ) -> Result<(), AllocError>
-        ensures ordered { OnOk result (IsOrdered nat_cmp types.old → IsOrdered nat_cmp types.new) }
-        ensures each { OnOk result ((mount : ℕ) → option_map propagation_of (get nat_cmp types.new mount)
-            ≡ or_else (type_from self.now (nat_eq (counted group.count)) (counted mount))
-            (option_map propagation_of (get nat_cmp types.old mount))) }
+    // Adds the members and slaves of a group.
+    fn add_relatives(&self, mounts: &mut Vec<MountId>, group: GroupId) -> Result<(), AllocError>
+        ensures { OnOk result ((mount : ℕ) → is_noted mounts.new.items mount
+            ≡ (receives_from self.now (nat_eq (counted group.count)) (counted mount)
+            || is_noted mounts.old.items mount)) }
     {
         for mount in self.relatives(group) {
-            self.add_relative(types, mount, group)?;
+            self.add_relative(mounts, mount, group)?;
         }
         Ok(())
     }
 
-    // Adds the type of a mount, if it is a member or a slave of a group.
+    // Adds a mount, if it is a member or a slave of a group.
     fn add_relative(
         &self,
-        types: &mut BTreeMap<u64, Propagation>,
+        mounts: &mut Vec<MountId>,
         mount: MountId,
         group: GroupId,
     ) -> Result<(), AllocError>
-        ensures ordered { OnOk result (IsOrdered nat_cmp types.old → IsOrdered nat_cmp types.new) }
-        ensures each { OnOk result ((other : ℕ) → option_map propagation_of (get nat_cmp types.new other)
-            ≡ (if nat_eq other mount.count then or_else
-            (type_from self.now (nat_eq (counted group.count)) (counted other))
-            (option_map propagation_of (get nat_cmp types.old other))
-            else option_map propagation_of (get nat_cmp types.old other))) }
+        ensures { OnOk result ((other : ℕ) → is_noted mounts.new.items other
+            ≡ (if nat_eq other mount.count
+            then receives_from self.now (nat_eq (counted group.count)) (counted other)
+            || is_noted mounts.old.items other else is_noted mounts.old.items other)) }
     {
         let Some(kind) = self.propagation_of(mount) else {
             return Ok(());
         };
         if has_source(kind, group) {
-            types.insert(mount.count, kind)?;
+            mounts.push(mount)?;
         }
         Ok(())
     }
@@ -433,7 +416,7 @@ impl Groups {
         ensures { IfOk result (λ types. map typed_pair types.items
             ≡ map (λ pair. type_before self.now (counted pair.0.count)) mounts.now) }
     {
-        let mut types = Vec::new(alloc);
+        let mut types = Vec::with_capacity(alloc, mounts.len())?;
         for pair in mounts {
             types.push((pair.0, self.type_before(pair.0)))?;
         }
@@ -615,4 +598,13 @@ impl Groups {
         self.above.remove(group.count);
         self.index.end(group, heir, &self.mounts, &self.above);
     }
+}
+
+// Puts mounts in order of attachment, each once. It does not allocate.
+fn put_in_order(mounts: &mut Vec<MountId>)
+    ensures ordered { IsStrictlySortedBy nat_cmp (map (λ mount. mount.count) mounts.new.items) }
+    ensures same { (mount : ℕ) → is_noted mounts.new.items mount ≡ is_noted mounts.old.items mount }
+{
+    mounts.sort_unstable_by_key(|mount| mount.count);
+    mounts.dedup();
 }

@@ -414,27 +414,75 @@ fn take_out<T: Eq + Hash + Copy + Clone + Drop>(
     ensures own { (at : GroupNumber) (other : T) → list_any (λ name. same_group name at) stays.now ≡ true
         → has T.eq at other sets.old ≡ true → has T.eq at other sets.new ≡ true }
 {
-    let name = name_over(sets, places.of(one), names, stays, one)?;
+    if let Some(name) = take_out_noted(sets, places, stays, one) {
+        return Some(name);
+    }
+    take_out_found(sets, places, names, stays, one)
+}
+
+// The same from under the name that is noted for it, if it is there.
+fn take_out_noted<T: Eq + Hash + Copy + Clone + Drop>(
+    sets: &mut Sets<T>,
+    places: &mut Places<T>,
+    stays: &LinkedList<GroupId>,
+    one: T,
+) -> Option<GroupId>
+    ensures others { (at : GroupNumber) (other : T) → T.eq one other ≡ false → has T.eq at other sets.old ≡ true
+        → has T.eq at other sets.new ≡ true }
+    ensures own { (at : GroupNumber) (other : T) → list_any (λ name. same_group name at) stays.now ≡ true
+        → has T.eq at other sets.old ≡ true → has T.eq at other sets.new ≡ true }
+{
+    let name = noted_name(places, stays, one)?;
+    if !sets.remove(name, one) {
+        return None;
+    }
+    places.leave(one, name, stays.front().copied());
+    Some(name)
+}
+
+// The name that is noted for one, unless it stays there.
+fn noted_name<T: Eq + Hash + Copy + Clone + Drop>(
+    places: &Places<T>,
+    stays: &LinkedList<GroupId>,
+    one: T,
+) -> Option<GroupId>
+    ensures { IfSome result (λ name. list_any (λ other. same_group other name) stays.now ≡ false) }
+{
+    let name = places.of(one)?;
+    if stays.contains(&name) {
+        return None;
+    }
+    Some(name)
+}
+
+// The same from under the first of these names under which it is.
+fn take_out_found<T: Eq + Hash + Copy + Clone + Drop>(
+    sets: &mut Sets<T>,
+    places: &mut Places<T>,
+    names: &LinkedList<GroupId>,
+    stays: &LinkedList<GroupId>,
+    one: T,
+) -> Option<GroupId>
+    ensures others { (at : GroupNumber) (other : T) → T.eq one other ≡ false → has T.eq at other sets.old ≡ true
+        → has T.eq at other sets.new ≡ true }
+    ensures own { (at : GroupNumber) (other : T) → list_any (λ name. same_group name at) stays.now ≡ true
+        → has T.eq at other sets.old ≡ true → has T.eq at other sets.new ≡ true }
+{
+    let name = name_over(sets, names, stays, one)?;
     sets.remove(name, one);
     places.leave(one, name, stays.front().copied());
     Some(name)
 }
 
-// The name that one is to be taken out from under: this one, if it is there, or else the first of these.
+// The name that one is to be taken out from under: the first of these under which it is.
 fn name_over<T: Eq + Hash + Copy + Clone + Drop>(
     sets: &Sets<T>,
-    place: Option<GroupId>,
     names: &LinkedList<GroupId>,
     stays: &LinkedList<GroupId>,
     one: T,
 ) -> Option<GroupId>
     ensures { IfSome result (λ name. list_any (λ other. same_group other name) stays.now ≡ false) }
 {
-    if let Some(name) = place {
-        if leaves(sets, name, stays, one) {
-            return Some(name);
-        }
-    }
     for name in names {
         if leaves(sets, *name, stays, one) {
             return Some(*name);

@@ -35,10 +35,7 @@ impl<T: Eq + Hash + Copy + Clone + Drop> Places<T> {
 
     /// One is put under a name. If it is under another name too, that name is kept: it is taken out there first.
     pub(crate) fn put(&mut self, one: T, name: GroupId) -> Result<(), AllocError> {
-        if self.names.contains_key(&one) {
-            return Ok(());
-        }
-        self.names.insert(one, name)?;
+        self.names.entry(one)?.or_insert(name);
         Ok(())
     }
 

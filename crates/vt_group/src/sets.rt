@@ -61,18 +61,19 @@ impl<T: Eq + Hash + Copy + Clone + Drop> Sets<T> {
         Ok(())
     }
 
-    /// Takes out one from under a group. It does not allocate.
-    pub(crate) fn remove(&mut self, group: GroupId, one: T)
+    /// Takes out one from under a group, and returns whether it was there. It does not allocate.
+    pub(crate) fn remove(&mut self, group: GroupId, one: T) -> bool
         ensures { (at : GroupNumber) (other : T) → (same_group group at && T.eq one other) ≡ false
             → has T.eq at other self.old ≡ true → has T.eq at other self.new ≡ true }
     {
         let Some(set) = self.sets.get_mut(&group) else {
-            return;
+            return false;
         };
-        set.swap_remove(&one);
+        let was_there = set.swap_remove(&one);
         if set.is_empty() {
             self.sets.swap_remove(&group);
         }
+        was_there
     }
 }
 

@@ -10,7 +10,7 @@ mod tasks;
 use crate::names::CallName;
 use crate::words::{Words, path_word};
 use std::alloc::{AllocError, Global};
-use vt_request::Call;
+use vt_request::{Call, LookCall, TaskCall};
 
 /// Why no call was read.
 #[derive(Clone, Copy)]
@@ -93,10 +93,13 @@ pub fn call(alloc: Global, name: CallName, words: Words<'_>) -> Result<Call, Rea
         CallName::Umask => tasks::umask(words).ok_or(ReadError::Grammar),
         CallName::Drop => tasks::drop(words).ok_or(ReadError::Grammar),
         CallName::Fork => tasks::fork(alloc, words),
-        CallName::Exit => words.end().map(|()| Call::Exit).ok_or(ReadError::Grammar),
+        CallName::Exit => words
+            .end()
+            .map(|()| Call::Task(TaskCall::Exit))
+            .ok_or(ReadError::Grammar),
         CallName::Unshare => words
             .end()
-            .map(|()| Call::Unshare)
+            .map(|()| Call::Task(TaskCall::Unshare))
             .ok_or(ReadError::Grammar),
         CallName::Setns => tasks::setns(alloc, words),
         CallName::Mount => mounting::mount(alloc, words),
@@ -105,7 +108,7 @@ pub fn call(alloc: Global, name: CallName, words: Words<'_>) -> Result<Call, Rea
         CallName::SetTypeRecursive => mounting::set_type(alloc, words, true),
         CallName::Mounts => words
             .end()
-            .map(|()| Call::ListMounts)
+            .map(|()| Call::Look(LookCall::ListMounts))
             .ok_or(ReadError::Grammar),
     }
 }

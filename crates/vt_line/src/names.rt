@@ -2,7 +2,7 @@
 ghost use Rattle.std.specs.Prelude.{◌≡◌, ◌++◌, None, false, IfSome};
 ghost use Rattle.vt_spec.specs.Language.Script.{file_call_names, mounting_call_names};
 
-use vt_request::Call;
+use vt_request::{Call, LookCall, MakeCall, MountCall, RemoveCall, TaskCall};
 
 /// A call that is given a path alone.
 #[derive(Clone, Copy)]
@@ -30,18 +30,18 @@ impl PathCall {
         ensures { call_of result ≡ path_call self path.items }
     {
         match self {
-            PathCall::Ls => Call::Ls { path },
-            PathCall::Stat => Call::Stat { path },
-            PathCall::Lstat => Call::Lstat { path },
-            PathCall::Readlink => Call::Readlink { path },
-            PathCall::Read => Call::Read { path },
-            PathCall::Exec => Call::Exec { path },
-            PathCall::Unlink => Call::Unlink { path },
-            PathCall::Rmdir => Call::Rmdir { path },
-            PathCall::Chdir => Call::Chdir { path },
-            PathCall::Chroot => Call::Chroot { path },
-            PathCall::Umount => Call::Umount { path },
-            PathCall::Lazy => Call::Lazy { path },
+            PathCall::Ls => Call::Look(LookCall::Ls { path }),
+            PathCall::Stat => Call::Look(LookCall::Stat { path }),
+            PathCall::Lstat => Call::Look(LookCall::Lstat { path }),
+            PathCall::Readlink => Call::Look(LookCall::Readlink { path }),
+            PathCall::Read => Call::Look(LookCall::Read { path }),
+            PathCall::Exec => Call::Look(LookCall::Exec { path }),
+            PathCall::Unlink => Call::Remove(RemoveCall::Unlink { path }),
+            PathCall::Rmdir => Call::Remove(RemoveCall::Rmdir { path }),
+            PathCall::Chdir => Call::Task(TaskCall::Chdir { path }),
+            PathCall::Chroot => Call::Task(TaskCall::Chroot { path }),
+            PathCall::Umount => Call::Mount(MountCall::Umount { path }),
+            PathCall::Lazy => Call::Mount(MountCall::Lazy { path }),
         }
     }
 }
@@ -66,27 +66,27 @@ impl PairCall {
         ensures { call_of result ≡ pair_call self first.items second.items }
     {
         match self {
-            PairCall::Symlink => Call::Symlink {
+            PairCall::Symlink => Call::Make(MakeCall::Symlink {
                 text: first,
                 path: second,
-            },
-            PairCall::Link => Call::Link {
+            }),
+            PairCall::Link => Call::Make(MakeCall::Link {
                 old: first,
                 new: second,
-            },
-            PairCall::Rename => Call::Rename {
+            }),
+            PairCall::Rename => Call::Remove(RemoveCall::Rename {
                 old: first,
                 new: second,
-            },
-            PairCall::Bind | PairCall::Rbind => Call::Bind {
+            }),
+            PairCall::Bind | PairCall::Rbind => Call::Mount(MountCall::Bind {
                 source: first,
                 path: second,
                 recursive: self == PairCall::Rbind,
-            },
-            PairCall::Move => Call::MoveMount {
+            }),
+            PairCall::Move => Call::Mount(MountCall::Move {
                 source: first,
                 path: second,
-            },
+            }),
         }
     }
 }

@@ -1,23 +1,18 @@
 -- What the definitions see of what a world shows to code.
-use Rattle.std.specs.Prelude.{Bool, List, None, Option, [], false, nat_eq, option_map, true, unwrap_or, ℕ, ◌≡◌}
+use Rattle.std.specs.Prelude.{Bool, List, None, Option, Some, [], false, nat_eq, option_map, true, unwrap_or, ℕ, ◌≡◌}
 use Rattle.std.specs.List.{list_any}
 use Rattle.vt_spec.specs.Language.Changes.{Change}
-use Rattle.vt_spec.specs.Machine.Looks.{Looks, topmost}
+use Rattle.vt_spec.specs.Machine.Looks.{Looks, is_directory_at, mount_at, topmost}
+use Rattle.vt_spec.specs.Machine.Walking.{entry_location, is_lost, parent_location}
 use Rattle.vt_spec.specs.Machine.Mounts as meant
 use Rattle.vt_spec.specs.Machine.Mounts.{no_mount}
-use Rattle.vt_spec.specs.Machine.Permits.{Permit}
-use Rattle.vt_spec.specs.Machine.Permits.Permit.{ToBind, ToMountPlain, ToMove}
 use Rattle.vt_spec.specs.Machine.Renaming.{renamed_node}
 use Rattle.vt_spec.specs.Tree.{Node}
 use Rattle.vt_location.specs.declared.mounts.Mount.{Mount}
 use Rattle.vt_location.specs.declared.numbers.FilesystemId.{FilesystemId}
 use Rattle.vt_location.specs.declared.numbers.MountId.{MountId}
-use Rattle.vt_cred.specs.MountFlags.{flags_of}
-use Rattle.vt_location.specs.Locations.{location_of}
 use Rattle.vt_location.specs.MountValue.{mount_of}
 use Rattle.vt_location.specs.Numbers.{counted, exchanged}
-use Rattle.vt_looks.specs.declared.look.Attachment.{Attachment}
-use Rattle.vt_looks.specs.declared.look.Attachment.TheVariants.{Bind, Move, Plain}
 use Rattle.vt_looks.specs.declared.look.Ground.{Ground}
 
 -- the mount of a number, or the value of a number that no mount has
@@ -38,11 +33,15 @@ pub record IsGround (looks : Looks ℕ) (mount : MountId) (ground : Ground) : Ty
 abbrev pub is_at_or_below : Looks ℕ → ℕ → ℕ → Bool
 is_at_or_below looks top mount = list_any (λ other. nat_eq other.number mount) (looks.mount_tree top)
 
--- the permit that attaches this
-abbrev pub permit_of : Attachment → Permit ℕ
-permit_of (Plain destination flags) = ToMountPlain (location_of destination) (flags_of flags)
-permit_of (Bind source destination recursive) = ToBind (location_of source) (location_of destination) recursive
-permit_of (Move mount destination) = ToMove (counted mount.count) (location_of destination)
+-- `..` of a directory leads somewhere: so it does of the parent, unless the directory is the root of its mount, and of
+-- each directory that an entry leads to
+pub record WaysStayFound (looks : Looks ℕ) : Type 0 where
+  pub upward : (here : meant.Location ℕ) → is_lost nat_eq looks here ≡ false
+      → nat_eq here.node (mount_at looks here).root ≡ false
+      → is_lost nat_eq looks (parent_location nat_eq looks here) ≡ false
+  pub downward : (here object : meant.Location ℕ) (name : List ℕ) → is_lost nat_eq looks here ≡ false
+      → entry_location nat_eq looks here name ≡ Some object → is_directory_at looks object ≡ true
+      → is_lost nat_eq looks object ≡ false
 
 -- no location is in an overlay: no mounter's rights are checked, no lower layer has a directory, and nothing is locked
 pub record HasNoOverlays (looks : Looks ℕ) : Type 0 where

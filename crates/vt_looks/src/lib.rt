@@ -5,5 +5,5 @@
 mod look;
 mod places;
 
-pub use look::{Attachment, Ground, Look, LookAtMounts};
+pub use look::{Ground, Look, LookAtMounts};
 pub use places::{LastWord, OldPlace, Place};

@@ -7,36 +7,17 @@ ghost use Rattle.std.specs.List.{list_any};
 ghost use Rattle.vt_spec.specs.Machine.Mounts.{is_unbindable};
 ghost use Rattle.vt_spec.specs.Machine.Permits.{Permit};
 ghost use Rattle.vt_spec.specs.Machine.Rules.Conditions.{is_mount_point_anywhere, is_mount_point_in};
+ghost use Rattle.vt_spec.specs.Machine.Walking.{is_lost};
 ghost use Rattle.vt_location.specs.Locations.{location_of, number_of};
 ghost use Rattle.vt_location.specs.Numbers.{counted};
-ghost use Rattle.vt_looks.specs.Looking.{HasNoOverlays, IsGround, is_at_or_below, mount_seen, node_seen, permit_of};
+ghost use Rattle.vt_permits.specs.GrantValue.{attachment_permit};
+ghost use Rattle.vt_looks.specs.Looking.{HasNoOverlays, IsGround, WaysStayFound, is_at_or_below, mount_seen, node_seen};
 
-use vt_cred::MountFlags;
 use vt_location::{FilesystemId, Location, Mount, MountId, NamespaceId, NodeRef};
 use vt_node::Node;
+use vt_permits::Attachment;
 use vt_request::TaskName;
 use vt_spec::errors::Deny;
-
-/// A call that attaches mounts, and where.
-#[derive(Clone, Copy, Debug, PartialEq, Eq)]
-pub enum Attachment {
-    /// The mount of a new, empty filesystem: mount(2) of a tmpfs.
-    Plain {
-        destination: Location,
-        flags: MountFlags,
-    },
-    /// A copy of the mount of a source, or of its tree: mount(2) with `MS_BIND`, and `MS_REC`.
-    Bind {
-        source: Location,
-        destination: Location,
-        recursive: bool,
-    },
-    /// A mount with its descendants: mount(2) with `MS_MOVE`.
-    Move {
-        mount: MountId,
-        destination: Location,
-    },
-}
 
 /// What a walk keeps of the mount that it stands on, so as to ask for it once and not at each word.
 #[derive(Clone, Copy, Debug)]
@@ -100,10 +81,14 @@ pub trait Look {
         ensures { result ≡ (looks self.now).is_under (mount_at (looks self.now) (location_of top)).filesystem
             (number_of top.node) (number_of directory) };
 
-    /// Whether a location is the root of its mount, or lies under it; where it does not, `..` answers ENOENT.
-    fn is_under_root(&self, at: Location) -> bool
-        ensures { result ≡ (looks self.now).is_under (mount_at (looks self.now) (location_of at)).filesystem
-            (mount_at (looks self.now) (location_of at)).root (number_of at.node) };
+    /// Whether `..` of a directory leads nowhere: it is removed, or does not lie under the root of its mount: ENOENT.
+    fn is_lost(&self, at: Location) -> bool
+        ensures { result ≡ is_lost nat_eq (looks self.now) (location_of at) };
+
+    /// A theorem about every such world, which does nothing: from a directory that is not lost, its parent is not lost,
+    /// and no directory that it has an entry of.
+    fn ways_stay_found(&self)
+        ensures { WaysStayFound (looks self.now) };
 
     /// A theorem about every such world, which does nothing: no location is in an overlay. So no mounter's rights are
     /// checked, no lower layer has a directory, and nothing is locked.
@@ -140,6 +125,6 @@ pub trait LookAtMounts: Look {
     ///
     /// S5 (ENOMEM): the allocation of a list of receivers failed.
     fn overfills(&self, attachment: Attachment) -> Result<bool, Deny>
-        ensures ok { IfOk result (λ too_many. too_many ≡ overfills self.now (permit_of attachment)) }
+        ensures ok { IfOk result (λ too_many. too_many ≡ overfills self.now (attachment_permit attachment)) }
         ensures memory { IfErr result (λ deny. deny ≡ denial S5) };
 }

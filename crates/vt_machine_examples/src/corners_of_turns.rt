@@ -1,7 +1,14 @@
 //! Worked examples: corners of turns.
-ghost use Rattle.std.specs.Prelude.{◌≡◌, [], codes, ◌++◌};
+ghost use Rattle.std.specs.Prelude.{◌≡◌, ◌∷◌, [], Err, Some, codes, nat_eq, ◌++◌};
+ghost use Rattle.vt_machine_examples.specs.Queues.{waiting};
+ghost use Rattle.vt_spec.specs.declared.errors.Rule.TheVariants.{S2};
+ghost use Rattle.vt_spec.specs.Errors.{denial};
+ghost use Rattle.vt_spec.specs.Language.Calls.Call.{Ls};
 ghost use Rattle.vt_spec.specs.Language.Script.Version.{One};
-ghost use Rattle.vt_spec.specs.Machine.Turns.{turns_text};
+ghost use Rattle.vt_spec.specs.Language.Script.Who.{Nobody};
+ghost use Rattle.vt_spec.specs.Machine.Run.{numbers_for};
+ghost use Rattle.vt_spec.specs.Machine.Turns.{turn, turns_text};
+ghost use Rattle.vt_spec.specs.Machine.Turns.Item.{Calls};
 
 /// Each word of a path, and of a link's text, takes a turn; a path without words takes none.
 pub fn words_of_paths_and_link_texts()
@@ -16,6 +23,12 @@ pub fn refusals_in_turns()
         ++ codes "! peers\n! peers\nno line\nt\\x2e9 foo\n") (codes "t\nt\nt.9\nt\n!\nt\nt\n!\nt\n!\nt\nt\nt\nt\nt.9\nt.9\nx\n\nt \n")
         ≡ codes "1 deny 2 ENOENT W6\n2 deny 22 EINVAL S1\n3 deny 3 ESRCH S2\n8 ok 0\n4 ok\n9 ok 0\n10 ok 0\n"
         ++ codes "5 deny 16 EBUSY P1\n6 ok\n7 deny 1 EPERM K1\n12 deny 22 EINVAL S1\n" }
+{}
+
+/// A call in the queue of nobody is a call of no task: it takes one turn, and is answered S2. No script puts one there.
+pub fn a_call_in_the_queue_of_nobody()
+    ensures { turn nat_eq (waiting (record { line = 1; item = Calls (Ls (codes "/")) } ∷ [])) Nobody (Some (numbers_for 1))
+        ≡ record { sched = waiting []; reply = Some (record { line = 1; answer = Err (denial S2) }) } }
 {}
 
 /// A call restarts where a mount of its namespace really has another type, and not where it keeps its own.

@@ -15,3 +15,4 @@ mod RisingLemmas
 mod ReservedLemmas
 mod NotedLemmas
 pub mod EnteringLemmas
+pub mod ListedLemmas

@@ -3,10 +3,11 @@ use Rattle.std.specs.Prelude.{Bool, List, [], option_map, unwrap_or, ℕ}
 use Rattle.std.specs.Map.{lookup}
 use Rattle.vt_location.specs.declared.numbers.MountId.{MountId}
 use Rattle.vt_mount.specs.declared.lists.MountsBy.{MountsBy}
+use Rattle.vt_mount.specs.Rising.{held}
 pub use Rattle.vt_mount.specs.Rising.{inserted, same_id}
 
 abbrev pub listed : {K : Type 0} → (K → K → Bool) → K → MountsBy K → List MountId
-listed eq key lists = unwrap_or (option_map (λ list. list.ids.items) (lookup (eq key) lists.lists.entries)) []
+listed eq key lists = unwrap_or (option_map (λ list. held list.one list.many) (lookup (eq key) lists.lists.entries)) []
 
 -- for how many more mounts under a key there is room
 abbrev pub reserved : {K : Type 0} → (K → K → Bool) → K → MountsBy K → ℕ

@@ -1,5 +1,5 @@
 -- Mounts in the order of their numbers.
-use Rattle.std.specs.Prelude.{Bool, List, [], if◌then◌else◌, length, nat_eq, nat_lt, not, slice_index_or, true, ℕ, ◌&&◌, ◌<◌, ◌∷◌, ◌≡◌}
+use Rattle.std.specs.Prelude.{Bool, List, None, Option, Some, Vec, [], if◌then◌else◌, length, nat_eq, nat_lt, not, option_to_list, slice_index_or, true, vec_capacity, vec_len, ℕ, ◌&&◌, ◌+◌, ◌<◌, ◌∷◌, ◌≡◌, ◌≤◌}
 use Rattle.std.specs.List.{list_all}
 use Rattle.vt_location.specs.declared.numbers.MountId.{MountId}
 
@@ -27,3 +27,21 @@ inserted id (other ∷ list) = if nat_lt id.count other.count then id ∷ other 
 -- a mount is at this place of a list
 abbrev pub IsAt : MountId → List MountId → ℕ → Type 0
 IsAt id list place = (place < length list) × ((d : MountId) → same_id (slice_index_or list place d) id ≡ true)
+
+-- the mounts that are held: a single one in its place, or a list
+unfoldable pub held : {A : Type 0} → Option MountId → Option (Vec MountId A) → List MountId
+held one None = option_to_list one
+held one (Some ids) = ids.items
+
+-- how many there are, and how many there is room for in all
+abbrev pub held_count : {A : Type 0} → Option MountId → Option (Vec MountId A) → ℕ
+held_count one None = length (option_to_list one)
+held_count one (Some ids) = vec_len ids
+
+abbrev pub room_in : {A : Type 0} → Option (Vec MountId A) → ℕ
+room_in None = 1
+room_in (Some ids) = vec_capacity ids
+
+-- there is room for so many more
+abbrev pub HasRoom : {A : Type 0} → Option MountId → Option (Vec MountId A) → ℕ → Type 0
+HasRoom one many reserved = held_count one many + reserved ≤ room_in many

@@ -1,92 +1,173 @@
 //! Mounts in the order of their numbers.
-ghost use Rattle.std.specs.Prelude.{◌≡◌, ◌==◌, ◌+◌, ◌<◌, ◌≤◌, [], IfErr, IfOk, IsTrue, OnOk, filter, not, vec_capacity, vec_len};
-ghost use Rattle.vt_mount.specs.Rising.{IsAt, inserted, rises, same_id};
+#![tactic(auto, unfolding(crate::specs::Rising::held))]
+
+ghost use Rattle.std.specs.Prelude.{None, Some, ◌≡◌, ◌==◌, ◌+◌, ◌<◌, ◌≤◌, [], IfErr, IfOk, IsTrue, OnOk, filter, length, not, option_to_list, true, vec_capacity, vec_len};
+ghost use Rattle.vt_mount.specs.Rising.{HasRoom, IsAt, held, inserted, rises, same_id};
 
 use std::alloc::{AllocError, Global};
 use vt_location::MountId;
 
-/// Mounts in the ascending order of their numbers, so that one is found by a binary search.
+/// Mounts in the ascending order of their numbers, so that one is found by a binary search. A single one needs no
+/// allocation.
 #[derive(Debug, Drop)]
 pub(crate) struct Ascending {
-    ids: Vec<MountId>,
+    one: Option<MountId>,
+    // All mounts, from when there were two or room for two.
+    many: Option<Vec<MountId>>,
     // For how many more mounts there is room.
     reserved: usize,
-    ghost rising: { IsTrue (rises ids.items) },
-    ghost room: { vec_len ids + reserved ≤ vec_capacity ids },
+    ghost rising: { IsTrue (rises (held one many)) },
+    ghost room: { HasRoom one many reserved },
 }
 
 impl Ascending {
-    /// No mounts. It does not allocate.
-    pub(crate) fn new(alloc: Global) -> Self
-        ensures items { result.ids.items ≡ [] }
+    /// No mounts.
+    pub(crate) fn new() -> Self
+        ensures items { held result.one result.many ≡ [] }
         ensures reserved { result.reserved ≡ 0 }
     {
         Ascending {
-            ids: Vec::new(alloc),
+            one: None,
+            many: None,
             reserved: 0,
         }
     }
 
     /// The mounts, in order.
     pub(crate) fn as_slice(&self) -> &[MountId]
-        ensures { result.now ≡ self.now.ids.items }
+        ensures { result.now ≡ held self.now.one self.now.many }
     {
-        self.ids.as_slice()
+        match &self.many {
+            Some(ids) => ids.as_slice(),
+            None => self.one.as_slice(),
+        }
     }
 
     /// Whether there are no mounts.
     pub(crate) fn is_empty(&self) -> bool
-        ensures { result ≡ (vec_len self.now.ids == 0) }
+        ensures { result ≡ (length (held self.now.one self.now.many) == 0) }
     {
-        self.ids.is_empty()
+        self.as_slice().is_empty()
     }
 
     /// Reserves room for one more mount, beside the room that is reserved already.
-    pub(crate) fn reserve_one(&mut self) -> Result<(), AllocError>
-        ensures same { self.new.ids.items ≡ self.old.ids.items }
+    pub(crate) fn reserve_one(&mut self, alloc: Global) -> Result<(), AllocError>
+        ensures same { held self.new.one self.new.many ≡ held self.old.one self.old.many }
         ensures ok { OnOk result (self.new.reserved ≡ self.old.reserved + 1) }
     {
-        self.ids.reserve(self.reserved + 1)?;
+        self.make_room(alloc)?;
         self.reserved += 1;
+        Ok(())
+    }
+
+    // Makes room for one more mount.
+    fn make_room(&mut self, alloc: Global) -> Result<(), AllocError>
+        ensures same { held self.new.one self.new.many ≡ held self.old.one self.old.many }
+        ensures reserved { self.new.reserved ≡ self.old.reserved }
+        ensures ok { OnOk result (HasRoom self.new.one self.new.many (self.old.reserved + 1)) }
+    {
+        let Some(ids) = &mut self.many else {
+            return self.spread(alloc);
+        };
+        ids.reserve(self.reserved + 1)
+    }
+
+    // Makes room for one more where no list was needed up to now.
+    fn spread(&mut self, alloc: Global) -> Result<(), AllocError>
+        requires { self.old.many ≡ None }
+        ensures same { held self.new.one self.new.many ≡ held self.old.one self.old.many }
+        ensures reserved { self.new.reserved ≡ self.old.reserved }
+        ensures ok { OnOk result (HasRoom self.new.one self.new.many (self.old.reserved + 1)) }
+    {
+        if self.reserved == 0 && self.one.is_none() {
+            return Ok(());
+        }
+        let ids = list_of(alloc, self.one, self.reserved + 1)?;
+        self.many = Some(ids);
         Ok(())
     }
 
     /// Inserts a mount, for which room is reserved. It does not allocate.
     pub(crate) fn insert(&mut self, mount: MountId)
         requires { 0 < self.old.reserved }
-        ensures items { self.new.ids.items ≡ inserted mount self.old.ids.items }
+        ensures items { held self.new.one self.new.many ≡ inserted mount (held self.old.one self.old.many) }
         ensures reserved { self.new.reserved + 1 ≡ self.old.reserved }
     {
-        let place = self.ids.partition_point(|other| other.count <= mount.count);
-        // It cannot fail: there is room.
-        let _ = self.ids.insert(place, mount);
         self.reserved -= 1;
+        let Some(ids) = &mut self.many else {
+            self.one = Some(mount);
+            return;
+        };
+        insert_into(ids, mount);
     }
 
     /// Gives up the room that is reserved.
     pub(crate) fn release(&mut self)
-        ensures { self.new.ids.items ≡ self.old.ids.items }
+        ensures { held self.new.one self.new.many ≡ held self.old.one self.old.many }
     {
         self.reserved = 0;
     }
 
     /// Removes a mount. It does not allocate.
     pub(crate) fn remove(&mut self, mount: MountId)
-        ensures items { self.new.ids.items ≡ filter (λ other. not (same_id other mount)) self.old.ids.items }
+        ensures items { held self.new.one self.new.many ≡ filter (λ other. not (same_id other mount)) (held self.old.one self.old.many) }
         ensures reserved { self.new.reserved ≡ self.old.reserved }
     {
-        while let Ok(place) = self.find(mount) {
-            self.ids.remove(place);
-        }
+        let Some(ids) = &mut self.many else {
+            if self.one == Some(mount) {
+                self.one = None;
+            }
+            return;
+        };
+        remove_from(ids, mount);
     }
+}
 
-    // Where a mount is, or where it would be.
-    fn find(&self, mount: MountId) -> Result<usize, usize>
-        ensures found { IfOk result (IsAt mount self.now.ids.items) }
-        ensures missing { IfErr result (λ _. filter (λ other. not (same_id other mount)) self.now.ids.items
-            ≡ self.now.ids.items) }
-    {
-        self.ids
-            .binary_search_by_key(&mount.count, |other| other.count)
+// A list of a mount, if any, with room for so many more.
+fn list_of(alloc: Global, one: Option<MountId>, more: usize) -> Result<Vec<MountId>, AllocError>
+    requires { more < 3 }
+    ensures items { IfOk result (λ ids. ids.items ≡ option_to_list one) }
+    ensures room { IfOk result (λ ids. vec_len ids + more ≤ vec_capacity ids) }
+{
+    let Some(mount) = one else {
+        return Vec::with_capacity(alloc, more);
+    };
+    let mut ids = Vec::with_capacity(alloc, more + 1)?;
+    ids.push(mount)?;
+    Ok(ids)
+}
+
+// Inserts a mount into a list in which there is room.
+fn insert_into(ids: &mut Vec<MountId>, mount: MountId)
+    requires rising { rises ids.old.items ≡ true }
+    requires room { vec_len ids.old < vec_capacity ids.old }
+    ensures items { ids.new.items ≡ inserted mount ids.old.items }
+    ensures len { vec_len ids.new ≡ vec_len ids.old + 1 }
+    ensures capacity { vec_capacity ids.old ≤ vec_capacity ids.new }
+{
+    let place = ids.partition_point(|other| other.count <= mount.count);
+    // It cannot fail: there is room.
+    let _ = ids.insert(place, mount);
+}
+
+// Removes a mount from a list.
+fn remove_from(ids: &mut Vec<MountId>, mount: MountId)
+    requires { rises ids.old.items ≡ true }
+    ensures items { ids.new.items ≡ filter (λ other. not (same_id other mount)) ids.old.items }
+    ensures rising { rises ids.new.items ≡ true }
+    ensures len { vec_len ids.new ≤ vec_len ids.old }
+    ensures capacity { vec_capacity ids.old ≤ vec_capacity ids.new }
+{
+    while let Ok(place) = find(ids, mount) {
+        ids.remove(place);
     }
+}
+
+// Where a mount is in a list, or where it would be.
+fn find(ids: &[MountId], mount: MountId) -> Result<usize, usize>
+    requires { rises ids.now ≡ true }
+    ensures found { IfOk result (IsAt mount ids.now) }
+    ensures missing { IfErr result (λ _. filter (λ other. not (same_id other mount)) ids.now ≡ ids.now) }
+{
+    ids.binary_search_by_key(&mount.count, |other| other.count)
 }

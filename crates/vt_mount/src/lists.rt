@@ -44,11 +44,12 @@ impl<K: Eq + Hash + Copy + Drop> MountsBy<K> {
         ensures ok { OnOk result ((q : K) → reserved K.eq q self.new
             ≡ (if K.eq q key then reserved K.eq q self.old + 1 else reserved K.eq q self.old)) }
     {
+        let alloc = *self.lists.allocator();
         if let Some(list) = self.lists.get_mut(&key) {
-            return list.reserve_one();
+            return list.reserve_one(alloc);
         }
-        let mut list = Ascending::new(*self.lists.allocator());
-        list.reserve_one()?;
+        let mut list = Ascending::new();
+        list.reserve_one(alloc)?;
         self.lists.insert(key, list)?;
         Ok(())
     }
@@ -82,10 +83,17 @@ impl<K: Eq + Hash + Copy + Drop> MountsBy<K> {
     pub(crate) fn release(&mut self, key: &K)
         ensures { (q : K) → listed K.eq q self.new ≡ listed K.eq q self.old }
     {
+        self.give_up(key);
+        self.drop_empty(key);
+    }
+
+    // Gives up the room that is reserved under a key. The list stays even if it is empty.
+    fn give_up(&mut self, key: &K)
+        ensures { (q : K) → listed K.eq q self.new ≡ listed K.eq q self.old }
+    {
         if let Some(list) = self.lists.get_mut(key) {
             list.release();
         }
-        self.drop_empty(key);
     }
 
     /// Drops the list under a key, if it is empty. It does not allocate.

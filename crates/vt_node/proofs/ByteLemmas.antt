@@ -4,7 +4,7 @@ use Rattle.std.proofs.lemmas.List.{append-nil, length-replicate, length-take-le,
 use Rattle.std.proofs.lemmas.Bool.{cases_lt}
 use Rattle.std.proofs.Math.Seq.{take-append-add, take-append_seam}
 use Rattle.std.proofs.Math.ListN.{drop_of_length-le}
-use Rattle.vt_spec.specs.Machine.Outcome.Descriptors.{overwritten, padded}
+use Rattle.vt_spec.specs.Machine.Descriptors.{overwritten, padded}
 
 length-padded : (n : ℕ) (old : List ℕ) → length (padded n old) ≡ max (length old) n
 length-padded n old = omega (

@@ -6,7 +6,7 @@ ghost use Rattle.vt_spec.specs.Rights.{is_directory};
 ghost use Rattle.vt_spec.specs.Language.Changes.{content_with_parent, without_entry};
 ghost use Rattle.vt_spec.specs.FileTree.{opaque_of};
 ghost use Rattle.vt_spec.specs.Lists.{is_empty_list};
-ghost use Rattle.vt_spec.specs.Machine.Outcome.Descriptors.{overwritten};
+ghost use Rattle.vt_spec.specs.Machine.Descriptors.{overwritten};
 ghost use Rattle.vt_spec.specs.Tree.{name_cmp, kind_of, entries_of, bytes_of, parent_of, entry_named, new_directory, with_entries, with_entry, with_bytes};
 ghost use Rattle.vt_spec.specs.Tree.Content.{Regular, Symlink, Whiteout};
 ghost use Rattle.vt_node.specs.Listed.{HasOneName};

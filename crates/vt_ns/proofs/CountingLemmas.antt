@@ -2,19 +2,19 @@
 use Rattle.std.proofs.Common.{◌≡◌, ◌≤◌, refl, sym, ap, subst, ◌∙◌, ℕ, ◌+◌, Bool, true, false, cond, nat_eq, List, [], ◌∷◌, find, Some, None, option_map, unwrap_or, arith}
 use Rattle.std.specs.List.{IsDistinct}
 use Rattle.std.specs.Map.{keys_of, lookup, set_value}
-use Rattle.vt_count_laws.specs.Using.{pinned_if}
+use Rattle.vt_laws_counts.specs.Using.{pinned_if}
 use Rattle.vt_fs.specs.FilesystemsValue.{Filesystems, inodes_at, inodes_seen, no_entry, shown, shown_entry}
-use Rattle.vt_letting_go.specs.OneByOne.{Inode}
+use Rattle.vt_laws_letting_go.specs.OneByOne.{Inode}
 use Rattle.vt_location.specs.declared.locations.Location.{Location}
 use Rattle.vt_location.specs.Locations.{number_of}
 use Rattle.vt_location.specs.Numbers.{counted}
 use Rattle.vt_mount.specs.MountsValue.{MountEntry, changed, entry_numbered, held, uses_of, writers_of}
 use Rattle.vt_spec.specs.Inodes as Trees
 use Rattle.vt_spec.specs.Inodes.{Inodes, uses_in}
-use Rattle.vt_detach.specs.declared.namespaces.Namespace.{Namespace}
+use Rattle.vt_world.specs.declared.namespaces.Namespace.{Namespace}
 use Rattle.vt_detach.specs.Forking.{HasRoom, more_tasks, with_task_more}
 use Rattle.vt_detach.specs.Uses.{kept, pinned_in, with_location}
-use Rattle.vt_detach.specs.WorldValue.{entries_of}
+use Rattle.vt_world.specs.WorldValue.{entries_of}
 use Rattle.vt_detach.proofs.NamespaceEntries.{Entries, entries_written, is_id, none_written, same_namespace}
 use Rattle.vt_attach.proofs.RoomLemmas.{pinned_if_more}
 

@@ -7,7 +7,7 @@ use Rattle.vt_spec.specs.Lists.{odds, rest_of}
 use Rattle.vt_spec.specs.Machine.Attach.{Copies, attached_by, bind_tree, copies_from, has_too_many, parts_of, receivers_of, takes_part}
 use Rattle.vt_spec.specs.Machine.Invariants.{NamespaceInvariants}
 use Rattle.vt_spec.specs.Machine.Mounts.{Location, Mount, mount_tree, no_mount}
-use Rattle.vt_spec.specs.Machine.Outcome.Mounting.{new_mount, plain_filesystem, with_new_filesystem}
+use Rattle.vt_spec.specs.Machine.NewMounts.{new_mount, plain_filesystem, with_new_filesystem}
 use Rattle.vt_spec.specs.Machine.Permits.Permit.{ToBind, ToMountPlain, ToMove}
 use Rattle.vt_spec.specs.Machine.World.{World, mount_at, mount_numbered}
 use Rattle.vt_spec.proofs.Lists.{Among, all_from_among, contains_from_among}
@@ -17,18 +17,18 @@ use Rattle.vt_location.specs.declared.numbers.NamespaceId.{NamespaceId}
 use Rattle.vt_location.specs.MountValue.{mount_of}
 use Rattle.vt_location.specs.Numbers.{counted}
 use Rattle.vt_mount.specs.MountsValue.{mounts_in}
-use Rattle.vt_mount_laws.proofs.mounts.MountsFound.{found_in}
-use Rattle.vt_mount_laws.proofs.mounts.Standing.{trees_have_each_once}
-use Rattle.vt_permit_laws.proofs.taken.PartsKept.{receivers_there, same_parts}
+use Rattle.vt_laws_mounts.proofs.mounts.MountsFound.{found_in}
+use Rattle.vt_laws_mounts.proofs.mounts.Standing.{trees_have_each_once}
+use Rattle.vt_laws_permits.proofs.taken.PartsKept.{receivers_there, same_parts}
 use Rattle.vt_propagate.specs.Filling.{GrowsBy, MovesFrom, mount_count}
 use Rattle.vt_propagate.proofs.Counting.{absent_counted, added_counted, moved_all}
-use Rattle.vt_letting_go.proofs.Lists.{among-from_filter}
-use Rattle.vt_run_laws.specs.Handed.{counts_from}
-use Rattle.vt_world_laws.proofs.worlds.FewMounts.{shrinks_few}
+use Rattle.vt_laws_letting_go.proofs.Lists.{among-from_filter}
+use Rattle.vt_laws_runs.specs.Handed.{counts_from}
+use Rattle.vt_laws_worlds.proofs.worlds.FewMounts.{shrinks_few}
 use Rattle.vt_detach.proofs.Leaving.{none_among}
-use Rattle.vt_detach.specs.Held.{IsHeld}
+use Rattle.vt_world.specs.Held.{IsHeld}
 use Rattle.vt_detach.specs.Looking.{overfills_of}
-use Rattle.vt_detach.specs.WorldValue.{WorldValue, world_of}
+use Rattle.vt_world.specs.WorldValue.{WorldValue, world_of}
 use Rattle.vt_detach.proofs.TreesInNamespaces.{alone_in_tree, in_tree}
 
 -- A place on a mount that is not there is in no namespace, and nothing is received there.

@@ -1,2 +1,3 @@
 -- What the proofs of src/looking.rt use.
 pub mod LooksKept
+pub mod LostKept

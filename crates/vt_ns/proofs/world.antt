@@ -2,6 +2,7 @@
 pub mod BoundEvents
 pub mod BoundTrees
 pub mod ChangedWithMounts
+pub mod Counted
 pub mod DirectoryRemoved
 pub mod FileAnswers
 pub mod FileMaking

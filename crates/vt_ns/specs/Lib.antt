@@ -1,7 +1,9 @@
 pub mod Trees
 pub mod LookingAlone
 pub mod Entering
+pub mod Opening
 pub mod Vacancy
 pub mod LyingUnder
 pub mod Retyped
 pub mod Unmounting
+pub mod Counting

@@ -2,7 +2,7 @@
 use Rattle.std.specs.Prelude.{Bool, nat_eq, ℕ}
 use Rattle.vt_spec.specs.FileTree.{is_directory_under}
 use Rattle.vt_spec.specs.Machine.World.{filesystem_numbered}
-use Rattle.vt_detach.specs.WorldValue.{WorldValue, world_of}
+use Rattle.vt_world.specs.WorldValue.{WorldValue, world_of}
 
 -- in a filesystem, a directory is this one or lies under it
 abbrev pub lies_under : WorldValue → ℕ → ℕ → ℕ → Bool

@@ -11,7 +11,7 @@ use Rattle.vt_location.specs.Numbers.{counted}
 use Rattle.vt_mount.specs.MountsValue.{MountEntry}
 use Rattle.vt_retype.specs.Retyping.{retyped as retyped_entry}
 use Rattle.vt_propagate.specs.Seen.{IsSeen}
-use Rattle.vt_mount_laws.specs.Mounts.Attaching.{numbers_of}
+use Rattle.vt_laws_mounts.specs.Mounts.Attaching.{numbers_of}
 
 -- these mounts get a type
 abbrev pub set_if : List ℕ → Propagation ℕ → ℕ → Propagation ℕ → Propagation ℕ

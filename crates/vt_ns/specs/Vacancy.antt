@@ -1,10 +1,10 @@
 -- That the numbers of new inodes are not in use.
 use Rattle.std.specs.Prelude.{false, ℕ, ◌%◌, ◌≡◌}
 use Rattle.vt_location.specs.Numbers.{inode_number}
-use Rattle.vt_permit_laws.specs.InUse.{is_in_use}
+use Rattle.vt_laws_permits.specs.InUse.{is_in_use}
 use Rattle.vt_spec.specs.Machine.Mounts.{Location}
 use Rattle.vt_detach.specs.Events.{next_inode}
-use Rattle.vt_detach.specs.WorldValue.{WorldValue, world_of}
+use Rattle.vt_world.specs.WorldValue.{WorldValue, world_of}
 
 -- an even number that is not in use
 pub record IsVacant (value : WorldValue) (number : ℕ) : Type 0 where

@@ -1,16 +1,15 @@
 //! Tasks enter namespaces: setns(2).
-ghost use Rattle.std.specs.Prelude.{◌≡◌, IfErr, OnErr, OnOk, nat_eq, option_map};
+ghost use Rattle.std.specs.Prelude.{◌≡◌, IfErr, IsOk, OnErr, OnOk, option_map};
 ghost use Rattle.vt_location.specs.Locations.{location_of};
 ghost use Rattle.vt_location.specs.Numbers.{counted};
 ghost use Rattle.vt_mount.specs.MountsValue.{mounts_in};
 ghost use Rattle.vt_spec.specs.Errors.{denial};
 ghost use Rattle.vt_spec.specs.declared.errors.Rule.TheVariants.{S5};
-ghost use Rattle.vt_spec.specs.Machine.Mounts.{root_of, topmost};
 ghost use Rattle.vt_spec.specs.Machine.Permits.Permit.{ToEnterNamespace};
-ghost use Rattle.vt_ns.specs.Entering.{root_mount_in};
+ghost use Rattle.vt_ns.specs.Entering.{HasRoomToEnter, namespace_root};
 ghost use Rattle.vt_detach.specs.Events.{Becomes, Permits};
 
-use crate::forking::{count_task, has_room_for_task, has_room_for_two, hold_once_more};
+use crate::forking::{count_task, has_room, has_room_for_task, hold_once_more};
 use crate::world::World;
 use vt_detach::ending::leave_namespace;
 use vt_detach::uses::leave;
@@ -27,19 +26,20 @@ impl World {
     pub fn enter_namespace(&mut self, name: &TaskName, namespace: NamespaceId) -> Result<(), Deny>
         requires { Permits self.old name.now (ToEnterNamespace (counted namespace.count)) }
         ensures ok { OnOk result (Becomes self.old name.now (ToEnterNamespace (counted namespace.count)) self.new) }
+        ensures room { HasRoomToEnter self.old namespace.count → IsOk result }
         ensures memory { IfErr result (λ deny. deny ≡ denial S5) }
         ensures err { OnErr result (self.new ≡ self.old) }
     {
         let root = namespace_root(&self.mounts, namespace).unwrap();
-        if !has_room_for_two(&self.mounts, &self.filesystems, root)
+        if !has_room(2, &self.mounts, &self.filesystems, root)
             || !has_room_for_task(&self.namespaces, namespace)
         {
             return Err(Rule::S5.denial());
         }
         let mounts = &mut self.mounts;
         let filesystems = &mut self.filesystems;
-        hold_once_more(mounts, filesystems, root);
-        hold_once_more(mounts, filesystems, root);
+        hold_once_more(mounts, filesystems, root, false);
+        hold_once_more(mounts, filesystems, root, false);
         count_task(&mut self.namespaces, namespace);
         if let Some(left) = self.tasks.enter(name, namespace, root) {
             leave(mounts, filesystems, left.root, false);
@@ -59,9 +59,7 @@ impl World {
 
 // The root of the topmost mount over the root of a namespace's root mount.
 fn namespace_root(mounts: &Mounts, namespace: NamespaceId) -> Option<Location>
-    ensures { option_map location_of result
-        ≡ option_map (λ mount. topmost nat_eq (mounts_in mounts.now) (root_of mount))
-        (root_mount_in (counted namespace.count) (mounts_in mounts.now)) }
+    ensures { option_map location_of result ≡ namespace_root (counted namespace.count) (mounts_in mounts.now) }
 {
     mounts.are_ascending();
     for id in mounts.attached_in(namespace) {

@@ -1,16 +1,20 @@
 //! Events that change files and names: chmod(2), write(2), pwrite(2), mkdir(2), link(2), unlink(2).
 ghost use Rattle.std.specs.Prelude.{◌≡◌, IfErr, OnErr, OnOk};
-ghost use Rattle.vt_fs.specs.FilesystemsValue.{node_seen};
+ghost use Rattle.vt_permits.specs.GrantValue.{make_permit, remove_permit, write_permit};
+ghost use Rattle.vt_permits.specs.declared.grant.MakeGrant.TheVariants.{Link, Node};
+ghost use Rattle.vt_permits.specs.declared.grant.RemoveGrant.TheVariants.{Unlink};
+ghost use Rattle.vt_permits.specs.declared.grant.WriteGrant.TheVariants.{Part};
 ghost use Rattle.vt_location.specs.Locations.{location_of, number_of};
 ghost use Rattle.vt_spec.specs.Errors.{denial};
 ghost use Rattle.vt_spec.specs.declared.errors.Rule.TheVariants.{S5};
-ghost use Rattle.vt_spec.specs.Language.Changes.Change.{AddName, Remove, SetAttr, SetBytes};
-ghost use Rattle.vt_spec.specs.Machine.Permits.Permit.{ToChange, ToMake, ToWritePart};
+ghost use Rattle.vt_spec.specs.Language.Changes.Change.{SetAttr, SetBytes};
+ghost use Rattle.vt_spec.specs.Machine.Permits.Permit.{ToChange};
 ghost use Rattle.vt_detach.specs.Events.{Becomes, Permits};
 
 use crate::world::World;
-use vt_location::{Location, NodeRef};
-use vt_node::{Attr, Node};
+use vt_location::Location;
+use vt_node::Attr;
+use vt_permits::{ToLink, ToMake, ToUnlink, ToWritePart};
 use vt_request::TaskName;
 use vt_spec::errors::Deny;
 
@@ -39,35 +43,25 @@ impl World {
     /// Makes a further hard link to an inode: link(2).
     ///
     /// S5 (ENOMEM): an allocation failed, or the inode has 2^64 - 1 uses.
-    pub fn link(
-        &mut self,
-        name: &TaskName,
-        directory: Location,
-        entry: Vec<u8>,
-        object: NodeRef,
-    ) -> Result<(), Deny>
-        requires { Permits self.old name.now
-            (ToChange (location_of directory) (AddName (number_of directory.node) entry.items (number_of object))) }
-        ensures ok { OnOk result (Becomes self.old name.now
-            (ToChange (location_of directory)
-            (AddName (number_of directory.node) entry.items (number_of object))) self.new) }
+    pub fn link(&mut self, name: &TaskName, new: ToLink) -> Result<(), Deny>
+        requires { Permits self.old name.now (make_permit (Link new)) }
+        ensures ok { OnOk result (Becomes self.old name.now (make_permit (Link new)) self.new) }
         ensures memory { IfErr result (λ deny. deny ≡ denial S5) }
         ensures err { OnErr result (self.new ≡ self.old) }
     {
-        self.filesystems.link(directory.node, entry, object)
+        self.filesystems
+            .link(new.directory.node, new.name, new.object)
     }
 
     /// Takes a name from an inode that is no directory: unlink(2). With its last use the inode goes. It takes no
     /// memory.
     #[inline(always)]
-    pub fn unlink(&mut self, name: &TaskName, directory: Location, entry: &[u8], object: NodeRef)
-        requires { Permits self.old name.now
-            (ToChange (location_of directory) (Remove (number_of directory.node) entry.now (number_of object))) }
-        ensures { Becomes self.old name.now
-            (ToChange (location_of directory)
-            (Remove (number_of directory.node) entry.now (number_of object))) self.new }
+    pub fn unlink(&mut self, name: &TaskName, gone: ToUnlink)
+        requires { Permits self.old name.now (remove_permit (Unlink gone)) }
+        ensures { Becomes self.old name.now (remove_permit (Unlink gone)) self.new }
     {
-        self.filesystems.unlink(directory.node, entry, object);
+        self.filesystems
+            .unlink(gone.directory.node, gone.name.as_slice(), gone.object);
     }
 
     /// Writes bytes into a file from an offset on, and zeros into a gap before them: pwrite(2). No bytes change
@@ -75,45 +69,32 @@ impl World {
     ///
     /// S5 (ENOMEM): an allocation failed.
     #[inline(always)]
-    pub fn write_part(
-        &mut self,
-        name: &TaskName,
-        file: Location,
-        offset: usize,
-        bytes: &[u8],
-    ) -> Result<(), Deny>
-        requires { Permits self.old name.now (ToWritePart (location_of file) offset bytes.now) }
-        ensures ok { OnOk result (Becomes self.old name.now
-            (ToWritePart (location_of file) offset bytes.now) self.new) }
+    pub fn write_part(&mut self, name: &TaskName, part: ToWritePart) -> Result<(), Deny>
+        requires { Permits self.old name.now (write_permit (Part part)) }
+        ensures ok { OnOk result (Becomes self.old name.now (write_permit (Part part)) self.new) }
         ensures memory { IfErr result (λ deny. deny ≡ denial S5) }
         ensures err { OnErr result (self.new ≡ self.old) }
     {
         let filesystems = &mut self.filesystems;
+        let bytes = part.bytes.as_slice();
         if bytes.is_empty() {
             return Ok(());
         }
-        filesystems.write_at(file.node, offset, bytes)
+        filesystems.write_at(part.file.node, part.offset, bytes)
     }
 
     /// Makes an inode under a name of a directory: mkdir(2), symlink(2), mknod(2).
     ///
     /// S5 (ENOMEM): an allocation failed.
     #[inline(always)]
-    pub fn make(
-        &mut self,
-        name: &TaskName,
-        directory: Location,
-        entry: Vec<u8>,
-        node: Node,
-    ) -> Result<(), Deny>
-        requires { Permits self.old name.now
-            (ToMake (location_of directory) entry.items (node_seen directory.node.filesystem.count node)) }
-        ensures ok { OnOk result (Becomes self.old name.now
-            (ToMake (location_of directory) entry.items (node_seen directory.node.filesystem.count node)) self.new) }
+    pub fn make(&mut self, name: &TaskName, new: ToMake) -> Result<(), Deny>
+        requires { Permits self.old name.now (make_permit (Node new)) }
+        ensures ok { OnOk result (Becomes self.old name.now (make_permit (Node new)) self.new) }
         ensures memory { IfErr result (λ deny. deny ≡ denial S5) }
         ensures err { OnErr result (self.new ≡ self.old) }
     {
-        self.filesystems.create(directory.node, entry, node)?;
+        self.filesystems
+            .create(new.directory.node, new.name, new.node)?;
         Ok(())
     }
 }

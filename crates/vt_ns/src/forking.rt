@@ -1,6 +1,6 @@
 //! A task that forks: fork(2).
-ghost use Rattle.std.specs.Prelude.{◌<◌, ◌≡◌, IfErr, IfOk, IfSome, OnErr, OnOk, Some, false, find, nat_eq, option_map, true, unwrap_or};
-ghost use Rattle.vt_spec.specs.Machine.Outcome.Tasks.{child_name};
+ghost use Rattle.std.specs.Prelude.{◌<◌, ◌↔◌, ◌≡◌, IfErr, IfOk, IfSome, OnErr, OnOk, Some, false, find, nat_eq, option_map, true, unwrap_or};
+ghost use Rattle.vt_spec.specs.Machine.Tasks.{child_name};
 ghost use Rattle.vt_spec.specs.Machine.Permits.Permit.{ToFork};
 ghost use Rattle.vt_spec.specs.Machine.World.{task_called};
 ghost use Rattle.vt_spec.specs.declared.errors.Rule.TheVariants.{S5};
@@ -8,17 +8,18 @@ ghost use Rattle.vt_spec.specs.Errors.{denial};
 ghost use Rattle.vt_detach.specs.Events.{Becomes, Permits};
 ghost use Rattle.vt_detach.specs.Forking.{HasRoom, with_task_more};
 ghost use Rattle.vt_detach.specs.Uses.{kept, with_location};
-ghost use Rattle.vt_detach.specs.WorldValue.{entries_of, world_of};
+ghost use Rattle.vt_world.specs.WorldValue.{entries_of, world_of};
 
 use crate::world::World;
 use indexmap::IndexMap;
 use vt_cred::Cred;
-use vt_detach::namespaces::Namespace;
+use vt_detach::uses::hold;
 use vt_fs::Filesystems;
 use vt_location::{Location, NamespaceId};
 use vt_mount::Mounts;
 use vt_request::TaskName;
 use vt_spec::errors::{Deny, Rule};
+use vt_world::namespaces::Namespace;
 
 impl World {
     /// Forks a task, and returns the name of its child: fork(2). The child has these credentials.
@@ -36,37 +37,42 @@ impl World {
             return Err(Rule::S2.denial());
         };
         let (namespace, root, directory) = (parent.namespace, parent.root, parent.directory);
-        if !has_room_for_two(&self.mounts, &self.filesystems, root)
-            || !has_room_for_two(&self.mounts, &self.filesystems, directory)
+        if !has_room(2, &self.mounts, &self.filesystems, root)
+            || !has_room(2, &self.mounts, &self.filesystems, directory)
             || !has_room_for_task(&self.namespaces, namespace)
         {
             return Err(Rule::S5.denial());
         }
         let child = self.tasks.fork(name, cred)?;
-        hold_once_more(&mut self.mounts, &mut self.filesystems, root);
-        hold_once_more(&mut self.mounts, &mut self.filesystems, directory);
+        hold_once_more(&mut self.mounts, &mut self.filesystems, root, false);
+        hold_once_more(&mut self.mounts, &mut self.filesystems, directory, false);
         count_task(&mut self.namespaces, namespace);
         Ok(child)
     }
 }
 
-// Whether two more uses of a location may be counted.
-pub(crate) fn has_room_for_two(mounts: &Mounts, filesystems: &Filesystems, at: Location) -> bool
-    ensures { result ≡ true → HasRoom 2 at mounts.now filesystems.now }
+// Whether so many more uses of a location may be counted.
+pub(crate) fn has_room(more: u64, mounts: &Mounts, filesystems: &Filesystems, at: Location) -> bool
+    ensures { (result ≡ true) ↔ HasRoom more at mounts.now filesystems.now }
 {
-    mounts.uses(at.mount) < u64::MAX - 1
+    mounts.uses(at.mount) <= u64::MAX - more
         && mounts.writers(at.mount) < u64::MAX
-        && filesystems.uses(at.node) < u64::MAX - 1
+        && filesystems.uses(at.node) <= u64::MAX - more
 }
 
 // One use more of a location, for which there is room. It does not allocate.
-pub(crate) fn hold_once_more(mounts: &mut Mounts, filesystems: &mut Filesystems, at: Location)
+pub(crate) fn hold_once_more(
+    mounts: &mut Mounts,
+    filesystems: &mut Filesystems,
+    at: Location,
+    writes: bool,
+)
     requires { HasRoom 1 at mounts.old filesystems.old }
-    ensures held { kept mounts.new filesystems.new ≡ with_location at false (kept mounts.old filesystems.old) }
+    ensures held { kept mounts.new filesystems.new ≡ with_location at writes (kept mounts.old filesystems.old) }
     ensures slot { at.node.slot < 18446744073709551616 }
 {
-    let _ = mounts.hold(at.mount, false);
-    let _ = filesystems.pin(at.node);
+    // It cannot fail: there is room.
+    let _ = hold(mounts, filesystems, at, writes);
 }
 
 // Whether one more task may be counted in a namespace.
@@ -74,7 +80,7 @@ pub(crate) fn has_room_for_task(
     namespaces: &IndexMap<NamespaceId, Namespace>,
     id: NamespaceId,
 ) -> bool
-    ensures { result ≡ true → IfSome (find (λ entry. nat_eq id.count entry.count) (entries_of namespaces.now.entries))
+    ensures { (result ≡ true) ↔ IfSome (find (λ entry. nat_eq id.count entry.count) (entries_of namespaces.now.entries))
         (λ entry. entry.tasks < u64.MAX) }
 {
     match namespaces.get(&id) {

@@ -4,7 +4,7 @@ ghost use Rattle.vt_spec.specs.Machine.World.{mount_numbered};
 ghost use Rattle.vt_location.specs.Locations.{location_of, number_of};
 ghost use Rattle.vt_location.specs.Numbers.{counted};
 ghost use Rattle.vt_detach.specs.Looking.{is_seen, looks_of_value};
-ghost use Rattle.vt_detach.specs.WorldValue.{world_of};
+ghost use Rattle.vt_world.specs.WorldValue.{world_of};
 
 use crate::world::World;
 use vt_location::{FilesystemId, Location, Mount, MountId, NamespaceId, NodeRef};
@@ -102,13 +102,17 @@ impl Look for World {
         }
     }
 
-    fn is_under_root(&self, at: Location) -> bool {
+    fn is_lost(&self, at: Location) -> bool {
         match self.mounts.get(at.mount) {
             Some(mount) if mount.root.filesystem == at.node.filesystem => {
-                self.filesystems.is_under(mount.root, at.node)
+                self.filesystems.is_lost(mount.root, at.node)
             }
-            _ => false,
+            _ => true,
         }
+    }
+
+    fn ways_stay_found(&self) {
+        self.is_held();
     }
 
     fn has_no_overlays(&self) {}

@@ -1,15 +1,19 @@
 //! The event that attaches copies of mounts: mount(2) with `MS_BIND`, also with `MS_REC`.
-ghost use Rattle.std.specs.Prelude.{◌≡◌, IfErr, OnErr, OnOk};
+ghost use Rattle.std.specs.Prelude.{◌≡◌, ◌+◌, IfErr, OnErr, OnOk, nat_eq};
 ghost use Rattle.vt_location.specs.Locations.{location_of};
 ghost use Rattle.vt_spec.specs.declared.errors.Rule.TheVariants.{S5};
 ghost use Rattle.vt_spec.specs.Errors.{denial};
-ghost use Rattle.vt_spec.specs.Machine.Permits.Permit.{ToBind};
+ghost use Rattle.vt_spec.specs.Machine.Attach.{bind_tree};
+ghost use Rattle.vt_permits.specs.GrantValue.{attachment_permit};
+ghost use Rattle.vt_permits.specs.declared.grant.Attachment.TheVariants.{Bind};
 ghost use Rattle.vt_detach.specs.Events.{Becomes, Permits};
+ghost use Rattle.vt_world.specs.WorldValue.{world_of};
+ghost use Rattle.vt_ns.specs.Counting.{counted_for};
 
 use crate::grafting::numbers_taken;
 use crate::world::World;
 use vt_attach::grafted::attach_graft;
-use vt_location::Location;
+use vt_permits::ToBind;
 use vt_propagate::{Counts, Graft, parts};
 use vt_request::TaskName;
 use vt_spec::errors::{Deny, Rule};
@@ -21,22 +25,19 @@ impl World {
     ///
     /// S5 (ENOMEM): an allocation failed, no number is left, or an inode or a filesystem would have more than 2^64 - 1
     /// uses.
-    pub fn bind(
-        &mut self,
-        name: &TaskName,
-        source: Location,
-        place: Location,
-        recursive: bool,
-    ) -> Result<(), Deny>
-        requires { Permits self.old name.now (ToBind (location_of source) (location_of place) recursive) }
-        ensures ok { OnOk result (Becomes self.old name.now
-            (ToBind (location_of source) (location_of place) recursive) self.new) }
+    pub fn bind(&mut self, name: &TaskName, bind: ToBind) -> Result<(), Deny>
+        requires { Permits self.old name.now (attachment_permit (Bind bind)) }
+        ensures ok { OnOk result (Becomes self.old name.now (attachment_permit (Bind bind)) self.new) }
+        ensures counts { OnOk result (self.new.next
+            ≡ self.old.next + counted_for self.old (location_of bind.destination)
+            (bind_tree nat_eq (world_of self.old) (location_of bind.source) bind.recursive)) }
         ensures memory { IfErr result (λ deny. deny ≡ denial S5) }
         ensures err { OnErr result (self.new ≡ self.old) }
     {
         self.mounts.are_ascending();
         self.mounts.are_counted();
-        let tree = self.mounts_bound(source, recursive)?;
+        let place = bind.destination;
+        let tree = self.mounts_bound(bind.source, bind.recursive)?;
         let parts = parts(self.alloc, &self.mounts, &self.groups, &*self, place)?;
         let Some(taken) = numbers_taken(parts.len(), tree.len(), u64::MAX - self.next) else {
             return Err(Rule::S5.denial());

@@ -11,11 +11,12 @@ ghost use Rattle.vt_spec.specs.Machine.Mounts as meant;
 ghost use Rattle.vt_spec.specs.Machine.Permits.Permit.{ToMove};
 ghost use Rattle.vt_spec.specs.Machine.World.{World as Meant, mount_numbered};
 ghost use Rattle.vt_detach.specs.Looking.{looks_of_value, overfills_of};
-ghost use Rattle.vt_detach.specs.WorldValue.{world_of};
+ghost use Rattle.vt_world.specs.WorldValue.{world_of};
 
 use crate::world::World;
 use vt_location::{Location, MountId};
-use vt_looks::{Attachment, LookAtMounts};
+use vt_looks::LookAtMounts;
+use vt_permits::Attachment;
 use vt_propagate::{Load, is_busy, overfills};
 use vt_spec::errors::Deny;
 
@@ -61,13 +62,9 @@ impl LookAtMounts for World {
         self.is_held();
         match attachment {
             Attachment::Plain { destination, .. } => self.has_too_many_with(destination, 1),
-            Attachment::Bind {
-                source,
-                destination,
-                recursive,
-            } => {
-                let tree = self.bind_tree(source, recursive)?;
-                self.has_too_many_with(destination, tree.len())
+            Attachment::Bind(bind) => {
+                let tree = self.bind_tree(bind.source, bind.recursive)?;
+                self.has_too_many_with(bind.destination, tree.len())
             }
             Attachment::Move { mount, destination } => self.has_too_many_moved(mount, destination),
         }

@@ -1,5 +1,5 @@
 //! The event of a mount that gets another mount point: mount(2) with `MS_MOVE`.
-ghost use Rattle.std.specs.Prelude.{◌<◌, ◌≡◌, IfErr, IfOk, IfSome, OnErr, OnOk, false, is_some, map, nat_eq, option_map, true};
+ghost use Rattle.std.specs.Prelude.{◌+◌, ◌<◌, ◌≤◌, ◌≡◌, IfErr, IfOk, IfSome, OnErr, OnOk, false, is_some, map, nat_eq, option_map, true};
 ghost use Rattle.vt_location.specs.Locations.{location_of};
 ghost use Rattle.vt_location.specs.MountValue.{mount_of};
 ghost use Rattle.vt_location.specs.Numbers.{counted};
@@ -10,7 +10,8 @@ ghost use Rattle.vt_spec.specs.Machine.Mounts.{is_shared, mount_in, mount_tree};
 ghost use Rattle.vt_spec.specs.Machine.Permits.Permit.{ToMove};
 ghost use Rattle.vt_spec.specs.Machine.World.{mount_numbered};
 ghost use Rattle.vt_detach.specs.Events.{Becomes, Permits};
-ghost use Rattle.vt_detach.specs.WorldValue.{world_of};
+ghost use Rattle.vt_world.specs.WorldValue.{world_of};
+ghost use Rattle.vt_ns.specs.Counting.{counted_for};
 
 use crate::grafting::numbers_taken;
 use crate::unmounting::{is_member, type_of};
@@ -37,6 +38,9 @@ impl World {
         requires { Permits self.old name.now (ToMove (counted mount.count) (location_of place)) }
         ensures ok { OnOk result (Becomes self.old name.now
             (ToMove (counted mount.count) (location_of place)) self.new) }
+        ensures counts { OnOk result (self.new.next ≤ self.old.next + counted_for self.old (location_of place)
+            (mount_tree nat_eq (mounts_in self.old.mounts) (mount_numbered nat_eq (world_of self.old)
+            (counted mount.count)))) }
         ensures memory { IfErr result (λ deny. deny ≡ denial S5) }
         ensures err { OnErr result (self.new ≡ self.old) }
     {
@@ -53,6 +57,7 @@ impl World {
             ≡ false }
         ensures ok { OnOk result (Becomes self.old name.now
             (ToMove (counted mount.count) (location_of place)) self.new) }
+        ensures counts { self.new.next ≡ self.old.next }
         ensures memory { IfErr result (λ deny. deny ≡ denial S5) }
         ensures err { OnErr result (self.new ≡ self.old) }
     {
@@ -81,6 +86,9 @@ impl World {
             (mount_in nat_eq (mounts_in self.old.mounts) (counted place.mount.count)).propagation ≡ true }
         ensures ok { OnOk result (Becomes self.old name.now
             (ToMove (counted mount.count) (location_of place)) self.new) }
+        ensures counts { OnOk result (self.new.next ≡ self.old.next + counted_for self.old (location_of place)
+            (mount_tree nat_eq (mounts_in self.old.mounts) (mount_numbered nat_eq (world_of self.old)
+            (counted mount.count)))) }
         ensures memory { IfErr result (λ deny. deny ≡ denial S5) }
         ensures err { OnErr result (self.new ≡ self.old) }
     {
@@ -122,9 +130,7 @@ impl World {
     {
         self.mounts.are_ascending();
         let origins = self.mounts.tree(mount)?;
-        let Some(top) = self.mounts.get(mount) else {
-            return Err(Rule::S5.denial());
-        };
+        let top = self.mounts.get(mount).unwrap();
         let source = Location {
             mount: top.number,
             node: top.root,

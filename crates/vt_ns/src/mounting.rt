@@ -1,6 +1,6 @@
 //! The event that mounts a new filesystem: mount(2).
 ghost use Rattle.std.specs.List.{list_all};
-ghost use Rattle.std.specs.Prelude.{◌≡◌, ◌++◌, ◌∷◌, [], nat_lt, true, IfErr, OnErr, OnOk};
+ghost use Rattle.std.specs.Prelude.{◌≡◌, ◌+◌, ◌*◌, ◌++◌, ◌∷◌, [], length, nat_eq, nat_lt, true, IfErr, OnErr, OnOk};
 ghost use Rattle.vt_fs.specs.FilesystemsValue.{FilesystemEntry, IsNew};
 ghost use Rattle.vt_cred.specs.MountFlags.{flags_of};
 ghost use Rattle.vt_location.specs.Locations.{location_of};
@@ -9,11 +9,13 @@ ghost use Rattle.vt_location.specs.Numbers.{counted, inode_number};
 ghost use Rattle.vt_propagate.specs.Copying.{HasRoomFor};
 ghost use Rattle.vt_spec.specs.declared.errors.Rule.TheVariants.{S5};
 ghost use Rattle.vt_spec.specs.Errors.{denial};
+ghost use Rattle.vt_spec.specs.Machine.Attach.{parts_of};
 ghost use Rattle.vt_spec.specs.Machine.Permits.Permit.{ToMountPlain};
-ghost use Rattle.vt_spec.specs.Machine.Outcome.Mounting.{new_mount};
+ghost use Rattle.vt_spec.specs.Machine.NewMounts.{new_mount};
 ghost use Rattle.vt_spec.specs.Machine.World as meant;
 ghost use Rattle.vt_detach.specs.Events.{Becomes, Permits};
 ghost use Rattle.vt_detach.specs.Uses.{kept};
+ghost use Rattle.vt_world.specs.WorldValue.{world_of};
 ghost use Rattle.vt_attach.specs.Grafted.{IsGrafted, MayGraft};
 
 use crate::grafting::numbers_taken;
@@ -47,6 +49,8 @@ impl World {
         requires { Permits self.old name.now (ToMountPlain (location_of place) (flags_of flags)) }
         ensures ok { OnOk result (Becomes self.old name.now
             (ToMountPlain (location_of place) (flags_of flags)) self.new) }
+        ensures counts { OnOk result (self.new.next
+            ≡ self.old.next + 4 * length (parts_of nat_eq (world_of self.old) (location_of place))) }
         ensures memory { IfErr result (λ deny. deny ≡ denial S5) }
         ensures err { OnErr result (self.new ≡ self.old) }
     {

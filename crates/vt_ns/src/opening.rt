@@ -6,20 +6,20 @@ ghost use Rattle.vt_spec.specs.Machine.World.{opening};
 ghost use Rattle.vt_fs.specs.FilesystemsValue.{shown};
 ghost use Rattle.vt_location.specs.MountValue.{mount_of};
 ghost use Rattle.vt_attach.specs.Opening.{first_shown, opening_numbers};
-ghost use Rattle.vt_detach.specs.WorldValue.{entries_of, world_of};
+ghost use Rattle.vt_world.specs.WorldValue.{entries_of, world_of};
 
 use crate::mounting::root_attr;
 use crate::world::World;
 use indexmap::IndexMap;
 use std::alloc::Global;
 use vt_cred::MountFlags;
-use vt_detach::namespaces::Namespace;
 use vt_fs::Filesystems;
 use vt_group::Groups;
 use vt_location::{FilesystemId, Location, Mount, MountId, NamespaceId, NodeRef, Propagation};
 use vt_mount::Mounts;
 use vt_spec::errors::{Deny, Rule};
 use vt_tasks::Tasks;
+use vt_world::namespaces::Namespace;
 
 impl World {
     /// The opening world: a namespace with a root mount of an empty filesystem, and the first task, which may do all.

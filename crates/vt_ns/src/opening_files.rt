@@ -1,71 +1,118 @@
 //! The event that makes a file and opens it: open(2) with O_CREAT.
-ghost use Rattle.std.specs.Prelude.{◌≡◌, IfErr, IfOk, OnErr, OnOk, Some, option_map};
-ghost use Rattle.vt_fs.specs.FilesystemsValue.{node_seen};
-ghost use Rattle.vt_location.specs.Locations.{location_of};
-ghost use Rattle.vt_request.specs.Requests.{access_of};
+ghost use Rattle.std.specs.Prelude.{◌<◌, ◌≡◌, IfErr, IfOk, None, OnErr, OnOk, Some, nat_eq, option_map, true};
+ghost use Rattle.vt_fs.specs.FilesystemsValue.{ChangesInodes, entry_at, files_at, next_seen, node_seen};
+ghost use Rattle.vt_location.specs.Locations.{number_of};
+ghost use Rattle.vt_location.specs.Numbers.{counted};
+ghost use Rattle.vt_mount.specs.MountsValue.{uses_of, writers_of};
+ghost use Rattle.vt_permits.specs.GrantValue.{descriptor_permit};
+ghost use Rattle.vt_permits.specs.declared.grant.DescriptorGrant.TheVariants.{OpenNew};
 ghost use Rattle.vt_spec.specs.declared.errors.Rule.TheVariants.{S5};
 ghost use Rattle.vt_spec.specs.Errors.{denial};
-ghost use Rattle.vt_spec.specs.Machine.Outcome.Descriptors.{free_number};
-ghost use Rattle.vt_spec.specs.Machine.Permits.Permit.{ToOpenNew};
+ghost use Rattle.vt_spec.specs.Inodes.{changed};
+ghost use Rattle.vt_spec.specs.Language.Changes.Change.{Make};
+ghost use Rattle.vt_spec.specs.Laws.Trees.{IsNewIn};
+ghost use Rattle.vt_spec.specs.Machine.Descriptors.{free_number};
 ghost use Rattle.vt_spec.specs.Machine.World.{task_called};
+ghost use Rattle.vt_spec.specs.TreeInvariant.{IsDirectory, entry_at as number_at};
+ghost use Rattle.vt_tasks.specs.TasksValue.{MayOpenMore, called, changed_called, with_open};
 ghost use Rattle.vt_detach.specs.Events.{Becomes, Permits};
-ghost use Rattle.vt_detach.specs.WorldValue.{world_of};
+ghost use Rattle.vt_world.specs.WorldValue.{world_of};
+ghost use Rattle.vt_ns.specs.Opening.{MakesNext};
 
 use crate::world::World;
-use vt_location::Location;
+use vt_fs::Filesystems;
+use vt_location::{Location, MountId, NodeRef};
+use vt_mount::Mounts;
 use vt_node::Node;
-use vt_request::{Access, TaskName};
-use vt_spec::errors::Deny;
-use vt_tasks::OpenFile;
+use vt_permits::ToOpenNew;
+use vt_request::TaskName;
+use vt_spec::errors::{Deny, Rule};
+use vt_tasks::{OpenFile, Tasks};
 
 impl World {
     /// Makes a file under a name of a directory and opens it, without rights on it, under the least number that is
     /// free, which is returned: open(2) with O_CREAT.
     ///
     /// S5 (ENOMEM): an allocation failed, or the mount has 2^64 - 1 uses.
-    pub fn open_new(
-        &mut self,
-        name: &TaskName,
-        directory: Location,
-        entry: Vec<u8>,
-        node: Node,
-        access: Access,
-    ) -> Result<u8, Deny>
-        requires { Permits self.old name.now
-            (ToOpenNew (location_of directory) entry.items (node_seen directory.node.filesystem.count node)
-            (access_of access)) }
+    pub fn open_new(&mut self, name: &TaskName, new: ToOpenNew) -> Result<u8, Deny>
+        requires { Permits self.old name.now (descriptor_permit (OpenNew new)) }
         ensures number { IfOk result (λ number.
             Some number ≡ option_map free_number (task_called (world_of self.old) name.now)) }
-        ensures ok { OnOk result (Becomes self.old name.now
-            (ToOpenNew (location_of directory) entry.items (node_seen directory.node.filesystem.count node)
-            (access_of access)) self.new) }
+        ensures ok { OnOk result (Becomes self.old name.now (descriptor_permit (OpenNew new)) self.new) }
         ensures memory { IfErr result (λ deny. deny ≡ denial S5) }
         ensures err { OnErr result (self.new ≡ self.old) }
     {
-        let file = self
-            .filesystems
-            .next_number(directory.node.filesystem)
-            .unwrap();
-        let location = Location {
-            mount: directory.mount,
-            node: file,
-        };
-        let writes = access.writes();
-        self.mounts.hold(location.mount, writes)?;
-        let opened = self.tasks.open(name, OpenFile { location, access });
-        let number = match opened {
-            Ok(number) => number,
-            Err(deny) => {
-                self.mounts.release(location.mount, writes);
-                return Err(deny);
-            }
-        };
-        if let Err(deny) = self.filesystems.create(directory.node, entry, node) {
-            self.tasks.close(name, number);
-            self.mounts.release(location.mount, writes);
-            return Err(deny);
+        let Location { mount, node } = new.directory;
+        let file = self.filesystems.next_number(node.filesystem).unwrap();
+        if !mount_has_room(&self.mounts, mount) {
+            return Err(Rule::S5.denial());
         }
-        self.filesystems.pin(file)?;
+        let access = new.access;
+        let opened = OpenFile {
+            location: Location { mount, node: file },
+            access,
+        };
+        let tasks = &mut self.tasks;
+        let filesystems = &mut self.filesystems;
+        let number = open_next(tasks, filesystems, name, opened, node, new.name, new.node)?;
+        // They cannot fail: the mount has room for a use more, and a new inode has one use.
+        let _ = self.mounts.hold(mount, access.writes());
+        let _ = self.filesystems.pin(file);
         Ok(number)
     }
+}
+
+// Whether one more use of a mount may be counted, also of one that writes.
+fn mount_has_room(mounts: &Mounts, id: MountId) -> bool
+    ensures { result ≡ true → (uses_of mounts.now (counted id.count) < u64.MAX)
+        × (writers_of mounts.now (counted id.count) < u64.MAX) }
+{
+    mounts.uses(id) < u64::MAX && mounts.writers(id) < u64::MAX
+}
+
+// Makes the next inode of a filesystem under a free name of a directory, and opens a file of a task: all or nothing. All
+// memory is taken before the first change.
+fn open_next(
+    tasks: &mut Tasks,
+    filesystems: &mut Filesystems,
+    task: &TaskName,
+    opened: OpenFile,
+    directory: NodeRef,
+    name: Vec<u8>,
+    node: Node,
+) -> Result<u8, Deny>
+    requires may { MayOpenMore (called task.now tasks.old) }
+    requires directory { IsDirectory (files_at filesystems.old directory.filesystem.count).tree (number_of directory) }
+    requires free { number_at (files_at filesystems.old directory.filesystem.count).tree
+        (number_of directory) name.items ≡ None }
+    requires node { IsNewIn directory.slot node }
+    ensures number { IfOk result (λ number. Some number ≡ option_map free_number (called task.now tasks.old)) }
+    ensures ok { OnOk result (tasks.new ≡ changed_called task.now (with_open opened) tasks.old) }
+    ensures made { OnOk result (MakesNext directory name.items node filesystems.old filesystems.new) }
+    ensures memory { IfErr result (λ deny. deny ≡ denial S5) }
+    ensures err_tasks { OnErr result (tasks.new ≡ tasks.old) }
+    ensures err_filesystems { OnErr result (filesystems.new ≡ filesystems.old) }
+{
+    tasks.open_after(task, opened, filesystems, |filesystems| {
+        create_next(filesystems, directory, name, node)
+    })
+}
+
+// Makes the next inode of a filesystem, under a free name of a directory.
+fn create_next(
+    filesystems: &mut Filesystems,
+    directory: NodeRef,
+    name: Vec<u8>,
+    node: Node,
+) -> Result<(), Deny>
+    requires directory { IsDirectory (files_at filesystems.old directory.filesystem.count).tree (number_of directory) }
+    requires free { number_at (files_at filesystems.old directory.filesystem.count).tree
+        (number_of directory) name.items ≡ None }
+    requires node { IsNewIn directory.slot node }
+    ensures ok { OnOk result (MakesNext directory name.items node filesystems.old filesystems.new) }
+    ensures memory { IfErr result (λ deny. deny ≡ denial S5) }
+    ensures err { OnErr result (filesystems.new ≡ filesystems.old) }
+{
+    filesystems.create(directory, name, node)?;
+    Ok(())
 }

@@ -7,7 +7,7 @@ ghost use Rattle.vt_propagate.specs.Seen.{is_mounted};
 ghost use Rattle.vt_spec.specs.declared.errors.Rule.TheVariants.{S5};
 ghost use Rattle.vt_spec.specs.Errors.{denial};
 ghost use Rattle.vt_spec.specs.Machine.Attach.{parts_of};
-ghost use Rattle.vt_detach.specs.WorldValue.{world_of};
+ghost use Rattle.vt_world.specs.WorldValue.{world_of};
 ghost use Rattle.vt_ns.specs.LyingUnder.{lies_under};
 
 use crate::world::World;

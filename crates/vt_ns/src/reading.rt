@@ -4,19 +4,22 @@ ghost use Rattle.vt_location.specs.Locations.{location_of};
 ghost use Rattle.vt_spec.specs.Errors.{denial};
 ghost use Rattle.vt_spec.specs.declared.errors.Rule.TheVariants.{S5};
 ghost use Rattle.vt_request.specs.Answers.{stat_line_of};
-ghost use Rattle.vt_spec.specs.Machine.Outcome.Looking.{stat_line};
-ghost use Rattle.vt_spec.specs.Machine.Permits.Permit.{ToList, ToRead, ToReadPart, ToStat};
+ghost use Rattle.vt_spec.specs.Machine.Apply.{stat_line};
+ghost use Rattle.vt_spec.specs.Machine.Permits.Permit.{ToList, ToRead, ToStat};
 ghost use Rattle.vt_spec.specs.Machine.World.{node_at, task_called};
 ghost use Rattle.vt_spec.specs.Tree.{bytes_in, names_in};
+ghost use Rattle.vt_permits.specs.GrantValue.{look_permit};
+ghost use Rattle.vt_permits.specs.declared.grant.LookGrant.TheVariants.{ReadPart};
 ghost use Rattle.vt_tasks.specs.TaskValue.{task_of};
 ghost use Rattle.vt_detach.specs.Events.{Permits};
 ghost use Rattle.vt_ns.specs.LookingAlone.{LookingChangesNothing};
-ghost use Rattle.vt_detach.specs.WorldValue.{world_of};
+ghost use Rattle.vt_world.specs.WorldValue.{world_of};
 
 use crate::world::World;
 use vt_location::Location;
 use vt_looks::Look;
 use vt_node::{Attr, Kind, Mode, Node, copied_bytes};
+use vt_permits::ToReadPart;
 use vt_request::{StatLine, TaskName};
 use vt_spec::errors::{Deny, Rule};
 use vt_tasks::Task;
@@ -83,19 +86,14 @@ impl World {
     ///
     /// S5 (ENOMEM): an allocation failed.
     #[inline(always)]
-    pub fn read_part(
-        &self,
-        name: &TaskName,
-        file: Location,
-        offset: usize,
-        size: usize,
-    ) -> Result<Vec<u8>, Deny>
-        requires { Permits self.now name.now (ToReadPart (location_of file) offset size) }
-        ensures ok { IfOk result (λ bytes. bytes.items
-            ≡ take size (drop offset (bytes_in (node_at nat_eq (world_of self.now) (location_of file))))) }
+    pub fn read_part(&self, name: &TaskName, part: ToReadPart) -> Result<Vec<u8>, Deny>
+        requires { Permits self.now name.now (look_permit (ReadPart part)) }
+        ensures ok { IfOk result (λ bytes. bytes.items ≡ take part.size
+            (drop part.offset (bytes_in (node_at nat_eq (world_of self.now) (location_of part.file))))) }
         ensures memory { IfErr result (λ deny. deny ≡ denial S5) }
     {
-        self.filesystems.read_part(file.node, offset, size)
+        self.filesystems
+            .read_part(part.file.node, part.offset, part.size)
     }
 }
 

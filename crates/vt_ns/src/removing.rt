@@ -1,19 +1,21 @@
 //! The event that removes a directory: rmdir(2).
 ghost use Rattle.std.specs.Prelude.{◌≡◌, IfErr, IfOk, OnErr, OnOk, filter, flat_map, map};
-ghost use Rattle.vt_location.specs.Locations.{location_of, number_of};
+ghost use Rattle.vt_location.specs.Locations.{number_of};
 ghost use Rattle.vt_location.specs.Numbers.{counted};
 ghost use Rattle.vt_mount.specs.MountsValue.{mounts_in, stands_over};
 ghost use Rattle.vt_spec.specs.Errors.{denial};
 ghost use Rattle.vt_spec.specs.declared.errors.Rule.TheVariants.{S5};
-ghost use Rattle.vt_spec.specs.Machine.Permits.Permit.{ToRemoveDirectory};
+ghost use Rattle.vt_permits.specs.GrantValue.{remove_permit};
+ghost use Rattle.vt_permits.specs.declared.grant.RemoveGrant.TheVariants.{Directory};
 ghost use Rattle.vt_detach.specs.Detached.{tree_numbers};
 ghost use Rattle.vt_detach.specs.Events.{Becomes, Permits};
 
 use crate::world::World;
 use std::alloc::Global;
 use vt_detach::detaching::detach_together;
-use vt_location::{Location, MountId, NodeRef};
+use vt_location::{MountId, NodeRef};
 use vt_mount::Mounts;
+use vt_permits::ToRemoveDirectory;
 use vt_request::TaskName;
 use vt_spec::errors::{Deny, Rule};
 
@@ -25,20 +27,17 @@ impl World {
     pub fn remove_directory(
         &mut self,
         name: &TaskName,
-        parent: Location,
-        entry: &[u8],
-        directory: Location,
+        removed: ToRemoveDirectory,
     ) -> Result<(), Deny>
-        requires { Permits self.old name.now
-            (ToRemoveDirectory (location_of parent) entry.now (location_of directory)) }
-        ensures ok { OnOk result
-            (Becomes self.old name.now (ToRemoveDirectory (location_of parent) entry.now
-            (location_of directory)) self.new) }
+        requires { Permits self.old name.now (remove_permit (Directory removed)) }
+        ensures ok { OnOk result (Becomes self.old name.now (remove_permit (Directory removed)) self.new) }
         ensures memory { IfErr result (λ deny. deny ≡ denial S5) }
         ensures err { OnErr result (self.new ≡ self.old) }
     {
-        let gone = trees_on(&self.mounts, directory.node, self.alloc)?;
-        self.filesystems.unlink(parent.node, entry, directory.node);
+        let directory = removed.directory.node;
+        let gone = trees_on(&self.mounts, directory, self.alloc)?;
+        self.filesystems
+            .unlink(removed.parent.node, removed.name.as_slice(), directory);
         if !gone.is_empty() {
             detach_together(
                 &mut self.mounts,

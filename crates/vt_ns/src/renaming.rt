@@ -1,11 +1,11 @@
 //! The event that renames: rename(2).
-ghost use Rattle.std.specs.Prelude.{◌<◌, ◌≡◌, IfErr, IfOk, IfSome, OnErr, OnOk, map, option_map};
-ghost use Rattle.vt_location.specs.Locations.{location_of};
+ghost use Rattle.std.specs.Prelude.{◌<◌, ◌≡◌, IfErr, IfOk, IfSome, OnErr, OnOk, map};
 ghost use Rattle.vt_location.specs.Numbers.{counted};
 ghost use Rattle.vt_mount.specs.MountsValue.{mounts_in};
 ghost use Rattle.vt_spec.specs.Errors.{denial};
 ghost use Rattle.vt_spec.specs.declared.errors.Rule.TheVariants.{S5};
-ghost use Rattle.vt_spec.specs.Machine.Permits.Permit.{ToRename};
+ghost use Rattle.vt_permits.specs.GrantValue.{remove_permit};
+ghost use Rattle.vt_permits.specs.declared.grant.RemoveGrant.TheVariants.{Rename};
 ghost use Rattle.vt_detach.specs.Detached.{trees_of_replaced};
 ghost use Rattle.vt_detach.specs.Events.{Becomes, Permits};
 
@@ -15,6 +15,7 @@ use std::alloc::Global;
 use vt_detach::detaching::detach_together;
 use vt_location::{Location, MountId};
 use vt_mount::Mounts;
+use vt_permits::ToRename;
 use vt_request::TaskName;
 use vt_spec::errors::Deny;
 
@@ -23,27 +24,23 @@ impl World {
     /// all their descendants.
     ///
     /// S5 (ENOMEM): an allocation failed.
-    pub fn rename(
-        &mut self,
-        name: &TaskName,
-        from: Location,
-        old: &[u8],
-        to: Location,
-        new: Vec<u8>,
-        object: Location,
-        replaced: Option<Location>,
-    ) -> Result<(), Deny>
-        requires { Permits self.old name.now (ToRename (location_of from) old.now (location_of to) new.items
-            (location_of object) (option_map location_of replaced)) }
-        ensures ok { OnOk result (Becomes self.old name.now
-            (ToRename (location_of from) old.now (location_of to) new.items
-            (location_of object) (option_map location_of replaced)) self.new) }
+    pub fn rename(&mut self, name: &TaskName, renamed: ToRename) -> Result<(), Deny>
+        requires { Permits self.old name.now (remove_permit (Rename renamed)) }
+        ensures ok { OnOk result (Becomes self.old name.now (remove_permit (Rename renamed)) self.new) }
         ensures memory { IfErr result (λ deny. deny ≡ denial S5) }
         ensures err { OnErr result (self.new ≡ self.old) }
     {
+        let ToRename {
+            from,
+            old,
+            to,
+            new,
+            object,
+            replaced,
+        } = renamed;
         let gone = trees_replaced(&self.mounts, replaced, self.alloc)?;
         self.filesystems
-            .rename(from.node, old, to.node, new, object.node)?;
+            .rename(from.node, old.as_slice(), to.node, new, object.node)?;
         if !gone.is_empty() {
             detach_together(
                 &mut self.mounts,

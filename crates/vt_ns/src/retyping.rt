@@ -1,5 +1,5 @@
 //! Events that change mounts where they are: mount(2) with `MS_REMOUNT`, or with a propagation type.
-ghost use Rattle.std.specs.Prelude.{◌+◌, ◌<◌, ◌^◌, ◌||◌, ◌≡◌, IfErr, IfOk, OnErr, OnOk, false, length, map, true};
+ghost use Rattle.std.specs.Prelude.{◌+◌, ◌<◌, ◌^◌, ◌||◌, ◌≡◌, IfErr, IfOk, OnErr, OnOk, false, length, map, nat_eq, true};
 ghost use Rattle.vt_cred.specs.MountFlags.{flags_of};
 ghost use Rattle.vt_group.specs.Together.{Shares, pair_of};
 ghost use Rattle.vt_location.specs.MountValue.{propagation_of};
@@ -8,10 +8,16 @@ ghost use Rattle.vt_retype.specs.Retyping.{retyped, shared_by};
 ghost use Rattle.vt_request.specs.Requests.{type_word_of};
 ghost use Rattle.vt_spec.specs.declared.errors.Rule.TheVariants.{S5};
 ghost use Rattle.vt_spec.specs.Errors.{denial};
-ghost use Rattle.vt_spec.specs.Machine.Permits.Permit.{ToSetFlags, ToSetType};
-ghost use Rattle.vt_permit_laws.specs.Steps.{makes_shared};
+ghost use Rattle.vt_spec.specs.Machine.Permits as meant;
+ghost use Rattle.vt_spec.specs.Machine.Permits.Permit.{ToSetFlags};
+ghost use Rattle.vt_permits.specs.GrantValue.{mount_permit};
+ghost use Rattle.vt_permits.specs.declared.grant.MountGrant.TheVariants.{SetType};
+ghost use Rattle.vt_spec.specs.Machine.Types.{named_mounts};
+ghost use Rattle.vt_laws_mounts.specs.Mounts.Attaching.{numbers_of};
+ghost use Rattle.vt_laws_permits.specs.Steps.{makes_shared};
 ghost use Rattle.vt_detach.specs.Events.{Becomes, Permits};
-ghost use Rattle.vt_ns.specs.Retyped.{IsRetyped, set_if, with_counts};
+ghost use Rattle.vt_world.specs.WorldValue.{world_of};
+ghost use Rattle.vt_ns.specs.Retyped.{IsRetyped, counted_after, set_if, with_counts};
 
 use crate::world::World;
 use std::alloc::{AllocError, Global};
@@ -19,6 +25,7 @@ use vt_cred::MountFlags;
 use vt_group::Groups;
 use vt_location::{GroupId, MountId, Propagation};
 use vt_mount::Mounts;
+use vt_permits::ToSetType;
 use vt_request::{TaskName, TypeWord};
 use vt_retype::{leave_all, make_slaves, share};
 use vt_spec::errors::{Deny, Rule};
@@ -38,31 +45,27 @@ impl World {
     ///
     /// S5 (ENOMEM): an allocation failed, or no number is left. Nothing has changed then. One mount alone that does not
     /// become shared does not allocate.
-    pub fn set_type(
-        &mut self,
-        name: &TaskName,
-        mount: MountId,
-        word: TypeWord,
-        recursive: bool,
-    ) -> Result<(), Deny>
-        requires { Permits self.old name.now (ToSetType (counted mount.count) (type_word_of word) recursive) }
-        ensures ok { OnOk result (Becomes self.old name.now
-            (ToSetType (counted mount.count) (type_word_of word) recursive) self.new) }
+    pub fn set_type(&mut self, name: &TaskName, change: ToSetType) -> Result<(), Deny>
+        requires { Permits self.old name.now (mount_permit (SetType change)) }
+        ensures ok { OnOk result (Becomes self.old name.now (mount_permit (SetType change)) self.new) }
+        ensures counts { OnOk result (self.new.next ≡ counted_after (type_word_of change.word) self.old.next
+            (numbers_of (named_mounts nat_eq (world_of self.old) (counted change.mount.count) change.recursive))) }
         ensures memory { IfErr result (λ deny. deny ≡ denial S5) }
         ensures err { OnErr result (self.new ≡ self.old) }
-        ensures one { OnErr result
-            ((recursive || makes_shared (ToSetType (counted mount.count) (type_word_of word) recursive)) ≡ true) }
+        ensures one { OnErr result ((change.recursive || makes_shared (mount_permit (SetType change))) ≡ true) }
     {
         let alloc = self.alloc;
         let next = self.next;
         let mounts = &mut self.mounts;
         let groups = &mut self.groups;
+        let word = change.word;
+        let recursive = change.recursive;
         if recursive {
-            let tree = mounts.tree(mount)?;
+            let tree = mounts.tree(change.mount)?;
             self.next = change_types(alloc, mounts, groups, &tree, word, next)?;
             return Ok(());
         }
-        self.next = change_types(alloc, mounts, groups, &[mount], word, next)?;
+        self.next = change_types(alloc, mounts, groups, &[change.mount], word, next)?;
         Ok(())
     }
 }
@@ -83,7 +86,7 @@ fn change_types(
     ensures memory { IfErr result (λ deny. deny ≡ denial S5) }
     ensures groups_err { OnErr result (groups.new ≡ groups.old) }
     ensures mounts_err { OnErr result (mounts.new ≡ mounts.old) }
-    ensures shared { OnErr result (makes_shared (ToSetType 0 (type_word_of word) false) ≡ true) }
+    ensures shared { OnErr result (makes_shared (meant.Permit.ToSetType 0 (type_word_of word) false) ≡ true) }
 {
     match word {
         TypeWord::Shared => return share_all(alloc, mounts, groups, ids, next),

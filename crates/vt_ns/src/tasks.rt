@@ -1,23 +1,25 @@
 //! Events of tasks: umask(2), capset(2), chdir(2), chroot(2), open(2), close(2).
-ghost use Rattle.std.specs.Prelude.{◌≡◌, IfErr, IfOk, OnErr, OnOk, Some, option_map};
+ghost use Rattle.std.specs.Prelude.{◌≡◌, IfErr, IfOk, IsOk, OnErr, OnOk, Some, option_map};
 ghost use Rattle.vt_request.specs.Requests.{access_of};
-ghost use Rattle.vt_spec.specs.Machine.Outcome.Descriptors.{free_number};
+ghost use Rattle.vt_spec.specs.Machine.Descriptors.{free_number};
 ghost use Rattle.vt_spec.specs.Machine.World.{task_called};
-ghost use Rattle.vt_detach.specs.WorldValue.{world_of};
+ghost use Rattle.vt_world.specs.WorldValue.{world_of};
 ghost use Rattle.vt_location.specs.Locations.{location_of};
 ghost use Rattle.vt_spec.specs.declared.errors.Rule.TheVariants.{S5};
 ghost use Rattle.vt_spec.specs.Errors.{denial};
 ghost use Rattle.vt_cred.specs.Caps.{capability_bits};
-ghost use Rattle.vt_spec.specs.Machine.Outcome.Tasks.{with_dropped};
+ghost use Rattle.vt_spec.specs.Machine.Tasks.{with_dropped};
 ghost use Rattle.vt_spec.specs.Machine.Permits.Permit.{ToClose, ToOpen, ToSetCredentials, ToSetDirectory, ToSetRoot, ToSetUmask};
 ghost use Rattle.vt_detach.specs.Events.{Becomes, Permits, credentials_called};
+ghost use Rattle.vt_detach.specs.Forking.{HasRoom};
 
+use crate::forking::{has_room, hold_once_more};
 use crate::world::World;
 use vt_cred::{Caps, Mode};
 use vt_detach::uses::{hold, leave};
 use vt_location::Location;
 use vt_request::{Access, TaskName};
-use vt_spec::errors::Deny;
+use vt_spec::errors::{Deny, Rule};
 use vt_tasks::OpenFile;
 
 impl World {
@@ -46,6 +48,7 @@ impl World {
     pub fn set_directory(&mut self, name: &TaskName, directory: Location) -> Result<(), Deny>
         requires { Permits self.old name.now (ToSetDirectory (location_of directory)) }
         ensures ok { OnOk result (Becomes self.old name.now (ToSetDirectory (location_of directory)) self.new) }
+        ensures room { HasRoom 1 directory self.old.mounts self.old.filesystems → IsOk result }
         ensures memory { IfErr result (λ deny. deny ≡ denial S5) }
         ensures err { OnErr result (self.new ≡ self.old) }
     {
@@ -62,6 +65,7 @@ impl World {
     pub fn set_root(&mut self, name: &TaskName, root: Location) -> Result<(), Deny>
         requires { Permits self.old name.now (ToSetRoot (location_of root)) }
         ensures ok { OnOk result (Becomes self.old name.now (ToSetRoot (location_of root)) self.new) }
+        ensures room { HasRoom 1 root self.old.mounts self.old.filesystems → IsOk result }
         ensures memory { IfErr result (λ deny. deny ≡ denial S5) }
         ensures err { OnErr result (self.new ≡ self.old) }
     {
@@ -99,20 +103,20 @@ impl World {
         ensures memory { IfErr result (λ deny. deny ≡ denial S5) }
         ensures err { OnErr result (self.new ≡ self.old) }
     {
+        if !has_room(1, &self.mounts, &self.filesystems, file) {
+            return Err(Rule::S5.denial());
+        }
         let opened = OpenFile {
             location: file,
             access,
         };
         let number = self.tasks.open(name, opened)?;
-        if let Err(deny) = hold(
+        hold_once_more(
             &mut self.mounts,
             &mut self.filesystems,
             file,
             access.writes(),
-        ) {
-            self.tasks.close(name, number);
-            return Err(deny);
-        }
+        );
         Ok(number)
     }
 }

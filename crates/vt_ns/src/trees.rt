@@ -12,7 +12,7 @@ ghost use Rattle.vt_spec.specs.Machine.Mounts as meant_mounts;
 ghost use Rattle.vt_spec.specs.Machine.World.{mount_numbered};
 ghost use Rattle.vt_spec.specs.Machine.Invariants.{is_located_well};
 ghost use Rattle.vt_ns.specs.Trees.{bindable_to_come};
-ghost use Rattle.vt_detach.specs.WorldValue.{world_of};
+ghost use Rattle.vt_world.specs.WorldValue.{world_of};
 
 use crate::world::World;
 use std::alloc::AllocError;

@@ -1,5 +1,5 @@
 //! Events in which mounts leave their namespaces: umount(2).
-ghost use Rattle.std.specs.Prelude.{◌≡◌, ◌&&◌, IfErr, OnErr, OnOk, map, nat_eq, not, true};
+ghost use Rattle.std.specs.Prelude.{◌≡◌, ◌&&◌, IfErr, IsOk, OnErr, OnOk, map, nat_eq, not, true};
 ghost use Rattle.std.specs.List.Sorted.{IsPermutation};
 ghost use Rattle.vt_location.specs.MountValue.{propagation_of};
 ghost use Rattle.vt_location.specs.Numbers.{counted};
@@ -12,7 +12,7 @@ ghost use Rattle.vt_spec.specs.declared.errors.Rule.TheVariants.{S5};
 ghost use Rattle.vt_spec.specs.Errors.{denial};
 ghost use Rattle.vt_spec.specs.Machine.Permits.Permit.{ToUnmount, ToUnmountLazily};
 ghost use Rattle.vt_detach.specs.Events.{Becomes, Permits};
-ghost use Rattle.vt_permit_laws.specs.Taken.{is_ungrouped};
+ghost use Rattle.vt_laws_permits.specs.Taken.{is_ungrouped};
 
 use crate::world::World;
 use vt_attach::planned::{Planned, attach_planned};
@@ -34,6 +34,7 @@ impl World {
     pub fn unmount(&mut self, name: &TaskName, mount: MountId) -> Result<(), Deny>
         requires { Permits self.old name.now (ToUnmount (counted mount.count)) }
         ensures ok { OnOk result (Becomes self.old name.now (ToUnmount (counted mount.count)) self.new) }
+        ensures alone { unmounts_alone (mounts_in self.old.mounts) (counted mount.count) ≡ true → IsOk result }
         ensures memory { IfErr result (λ deny. deny ≡ denial S5) }
         ensures err { OnErr result (self.new ≡ self.old) }
     {

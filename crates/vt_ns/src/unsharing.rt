@@ -1,5 +1,5 @@
 //! Tasks get namespaces of their own: unshare(2) with `CLONE_NEWNS`.
-ghost use Rattle.std.specs.Prelude.{◌≡◌, IfErr, OnErr, OnOk};
+ghost use Rattle.std.specs.Prelude.{◌≡◌, ◌+◌, ◌*◌, ◌≤◌, IfErr, OnErr, OnOk, length};
 ghost use Rattle.vt_spec.specs.declared.errors.Rule.TheVariants.{S5};
 ghost use Rattle.vt_spec.specs.Errors.{denial};
 ghost use Rattle.vt_spec.specs.Machine.Permits.Permit.{ToUnshare};
@@ -8,10 +8,10 @@ ghost use Rattle.vt_detach.specs.Events.{Becomes, Permits};
 use crate::world::World;
 use vt_attach::copying::{attach_copies, move_use, moved};
 use vt_detach::ending::leave_namespace;
-use vt_detach::namespaces::Namespace;
 use vt_location::NamespaceId;
 use vt_request::TaskName;
 use vt_spec::errors::{Deny, Rule};
+use vt_world::namespaces::Namespace;
 
 impl World {
     /// Moves a task to a new namespace, with copies of the mounts of the one that it leaves, which ends with its last
@@ -23,6 +23,7 @@ impl World {
     pub fn unshare(&mut self, name: &TaskName) -> Result<(), Deny>
         requires { Permits self.old name.now ToUnshare }
         ensures ok { OnOk result (Becomes self.old name.now ToUnshare self.new) }
+        ensures counts { OnOk result (self.new.next ≤ self.old.next + 2 * length self.old.mounts) }
         ensures memory { IfErr result (λ deny. deny ≡ denial S5) }
         ensures err { OnErr result (self.new ≡ self.old) }
     {

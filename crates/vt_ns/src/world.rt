@@ -3,12 +3,12 @@
 use indexmap::IndexMap;
 use std::alloc::Global;
 use std::marker::Model;
-use vt_detach::namespaces::Namespace;
 use vt_fs::Filesystems;
 use vt_group::Groups;
 use vt_location::NamespaceId;
 use vt_mount::Mounts;
 use vt_tasks::Tasks;
+use vt_world::namespaces::Namespace;
 
 /// Filesystems, mounts and their peer groups, namespaces and tasks.
 #[derive(Debug, Drop)]
@@ -24,8 +24,8 @@ pub struct World {
 }
 
 impl Model for World {
-    ghost use Rattle.vt_detach.specs.WorldValue.{WorldValue, entries_of};
-    ghost use Rattle.vt_detach.specs.Held.{IsHeld};
+    ghost use Rattle.vt_world.specs.WorldValue.{WorldValue, entries_of};
+    ghost use Rattle.vt_world.specs.Held.{IsHeld};
 
     ghost Value = { WorldValue };
 
@@ -49,7 +49,7 @@ impl Model for World {
 }
 
 impl World {
-    ghost use Rattle.vt_detach.specs.Held.{IsHeld};
+    ghost use Rattle.vt_world.specs.Held.{IsHeld};
 
     /// It has the invariants of a world, and what is counted is exact.
     pub fn is_held(&self)

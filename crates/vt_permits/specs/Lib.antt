@@ -1,3 +1,3 @@
-pub mod PermitValue
+pub mod GrantValue
 pub mod Memory
 pub mod Allocating

@@ -8,17 +8,17 @@ use Rattle.vt_spec.specs.Language.Calls.{Call}
 use Rattle.vt_spec.specs.Language.Calls.Call.{Bind, MountPlain, MoveMount, Umount}
 use Rattle.vt_spec.specs.Machine.Judge.{Judgement}
 use Rattle.vt_spec.specs.Machine.World.{Task}
-use Rattle.vt_permits.specs.declared.permit.Permit.{Permit}
-use Rattle.vt_permits.specs.PermitValue.{permit_of}
+use Rattle.vt_permits.specs.declared.grant.Grant.{Grant}
+use Rattle.vt_permits.specs.GrantValue.{permit_of}
 
 -- the very judgement: the permit, or the refusal by the first rule that fails
-abbrev pub JudgesAlike : Task ℕ → Judgement ℕ → Result Permit Deny → Type 0
-JudgesAlike task judged (Ok permit) = judged ≡ Ok (permit_of task permit)
+abbrev pub JudgesAlike : Task ℕ → Judgement ℕ → Result Grant Deny → Type 0
+JudgesAlike task judged (Ok grant) = judged ≡ Ok (permit_of task grant)
 JudgesAlike task judged (Err deny) = judged ≡ Err deny
 
 -- as that, or S5 in place of a permit
-abbrev pub Judges : Task ℕ → Judgement ℕ → Result Permit Deny → Type 0
-Judges task judged (Ok permit) = judged ≡ Ok (permit_of task permit)
+abbrev pub Judges : Task ℕ → Judgement ℕ → Result Grant Deny → Type 0
+Judges task judged (Ok grant) = judged ≡ Ok (permit_of task grant)
 Judges task (Ok permit) (Err deny) = deny ≡ denial S5
 Judges task (Err refusal) (Err deny) = deny ≡ refusal
 
@@ -32,8 +32,8 @@ IsAfterReceivers (MoveMount source path) refusal = (refusal ≡ denial M9) ⊎ (
 IsAfterReceivers call refusal = ⊥
 
 -- as the judgement of a call, or S5 in place of a permit or of these rules
-abbrev pub JudgesByReceivers : Call → Task ℕ → Judgement ℕ → Result Permit Deny → Type 0
-JudgesByReceivers call task judged (Ok permit) = judged ≡ Ok (permit_of task permit)
+abbrev pub JudgesByReceivers : Call → Task ℕ → Judgement ℕ → Result Grant Deny → Type 0
+JudgesByReceivers call task judged (Ok grant) = judged ≡ Ok (permit_of task grant)
 JudgesByReceivers call task (Ok permit) (Err deny) = deny ≡ denial S5
 JudgesByReceivers call task (Err refusal) (Err deny) = (deny ≡ refusal)
     ⊎ ((deny ≡ denial S5) × IsAfterReceivers call refusal)

@@ -1,6 +1,10 @@
-//! Permits: the change that a call may apply if no rule refuses it.
+//! Grants: the change that a call may apply if no rule refuses it.
 #![tactic(auto)]
 
-mod permit;
+mod grant;
 
-pub use permit::Permit;
+pub use grant::{
+    Attachment, DescriptorGrant, Grant, LookGrant, MakeGrant, MountGrant, RemoveGrant, TaskGrant,
+    ToBind, ToLink, ToMake, ToOpenNew, ToReadPart, ToRemoveDirectory, ToRename, ToSetType,
+    ToUnlink, ToWritePart, WriteGrant,
+};

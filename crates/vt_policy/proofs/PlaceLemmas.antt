@@ -6,7 +6,7 @@ use Rattle.vt_spec.specs.Errors.{Rules, and_then, unless}
 use Rattle.vt_spec.specs.Machine.Judge.{Judgement, hard_link_permit, made_permit, make_permit, rename_permit, renamed_permit, rmdir_permit, unlink_permit, unnumbered}
 use Rattle.vt_spec.specs.Machine.Looks.{Looks, is_directory_at}
 use Rattle.vt_spec.specs.Machine.Mounts as meant
-use Rattle.vt_spec.specs.Machine.Outcome.Making.{linking}
+use Rattle.vt_spec.specs.Machine.Rows.{linking}
 use Rattle.vt_spec.specs.Machine.Permits.{Permit}
 use Rattle.vt_spec.specs.Machine.Permits.Permit.{ToChange, ToRemoveDirectory}
 use Rattle.vt_spec.specs.Machine.Rules.Conditions.{is_kept, is_mount_point_in, is_read_only, may_not}

@@ -1,2 +1,3 @@
+pub mod Allocating
 pub mod Ends
-pub mod Kinds
+pub mod PermitValue

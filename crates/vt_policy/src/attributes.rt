@@ -8,14 +8,14 @@ use crate::paths::object_at;
 use vt_cred::{Mode, owns};
 use vt_looks::Look;
 use vt_node::Attr;
-use vt_permits::Permit;
+use vt_permits::Grant;
 use vt_rules::{attr_at, attr_permit, may_chown};
 use vt_spec::errors::Deny;
 use vt_tasks::Task;
 
 /// After the rules of the walk: F1 (EROFS), C2 (EPERM).
 #[tactic(auto, unfolding(vt_spec::specs::Machine::Judge::chmod_permit))]
-pub fn chmod<L: Look>(world: &L, who: &Task, path: &[u8], mode: Mode) -> Result<Permit, Deny>
+pub fn chmod<L: Look>(world: &L, who: &Task, path: &[u8], mode: Mode) -> Result<Grant, Deny>
     ensures { JudgesAlike (task_of who.now)
         (chmod_permit nat_eq (L.looks world.now) (task_of who.now) path.now mode) result }
 {
@@ -37,7 +37,7 @@ pub fn chown<L: Look>(
     path: &[u8],
     uid: Option<u32>,
     gid: Option<u32>,
-) -> Result<Permit, Deny>
+) -> Result<Grant, Deny>
     ensures { JudgesAlike (task_of who.now)
         (chown_permit nat_eq (L.looks world.now) (task_of who.now) path.now uid gid) result }
 {

@@ -11,7 +11,7 @@ use std::alloc::Global;
 use vt_cred::Mode;
 use vt_looks::Look;
 use vt_node::LARGEST_FILE;
-use vt_permits::Permit;
+use vt_permits::{DescriptorGrant, Grant, LookGrant, ToReadPart, ToWritePart, WriteGrant};
 use vt_request::{Access, Creation};
 use vt_rules::{create_file_permit, open_file_permit, readable_file, writable_file};
 use vt_spec::errors::{Deny, Rule};
@@ -25,7 +25,7 @@ fn open_or_create<L: Look>(
     path: &[u8],
     access: Access,
     mode: Mode,
-) -> Result<Permit, Deny>
+) -> Result<Grant, Deny>
     ensures { Judges (task_of who.now)
         (open_by_permit nat_eq (L.looks world.now) (task_of who.now) path.now (access_of access)
         (OrCreate mode)) result }
@@ -48,7 +48,7 @@ fn open_exclusive<L: Look>(
     path: &[u8],
     access: Access,
     mode: Mode,
-) -> Result<Permit, Deny>
+) -> Result<Grant, Deny>
     ensures { Judges (task_of who.now)
         (open_by_permit nat_eq (L.looks world.now) (task_of who.now) path.now (access_of access)
         (Exclusive mode)) result }
@@ -75,7 +75,7 @@ pub fn open<L: Look>(
     path: &[u8],
     access: Access,
     creation: Creation,
-) -> Result<Permit, Deny>
+) -> Result<Grant, Deny>
     ensures { Judges (task_of who.now)
         (open_permit nat_eq (L.looks world.now) (task_of who.now) path.now (access_of access)
         (creation_of creation)) result }
@@ -95,15 +95,15 @@ pub fn open<L: Look>(
 
 /// S4 (EBADF).
 #[tactic(auto, unfolding(vt_spec::specs::Machine::Judge::pread_permit))]
-pub fn pread(who: &Task, descriptor: u8, offset: u32, size: u32) -> Result<Permit, Deny>
+pub fn pread(who: &Task, descriptor: u8, offset: u32, size: u32) -> Result<Grant, Deny>
     ensures { JudgesAlike (task_of who.now) (pread_permit (task_of who.now) descriptor offset size) result }
 {
     let file = readable_file(who, descriptor)?;
-    Ok(Permit::ToReadPart {
+    Ok(Grant::Look(LookGrant::ReadPart(ToReadPart {
         file,
         offset: offset as usize,
         size: size as usize,
-    })
+    })))
 }
 
 /// S4 (EBADF), E6 (EFBIG).
@@ -114,7 +114,7 @@ pub fn pwrite<L: Look>(
     descriptor: u8,
     offset: u32,
     bytes: Vec<u8>,
-) -> Result<Permit, Deny>
+) -> Result<Grant, Deny>
     ensures { JudgesAlike (task_of who.now)
         (pwrite_permit (L.looks world.now) (task_of who.now) descriptor offset bytes.items) result }
 {
@@ -124,20 +124,20 @@ pub fn pwrite<L: Look>(
     if !bytes.is_empty() && (offset > LARGEST_FILE || bytes.len() > LARGEST_FILE - offset) {
         return Err(Rule::E6.denial());
     }
-    Ok(Permit::ToWritePart {
+    Ok(Grant::Write(WriteGrant::Part(ToWritePart {
         file,
         offset,
         bytes,
-    })
+    })))
 }
 
 /// S4 (EBADF).
 #[tactic(auto, unfolding(vt_spec::specs::Machine::Judge::close_permit))]
-pub fn close(who: &Task, descriptor: u8) -> Result<Permit, Deny>
+pub fn close(who: &Task, descriptor: u8) -> Result<Grant, Deny>
     ensures { JudgesAlike (task_of who.now) (close_permit (task_of who.now) descriptor) result }
 {
     match who.descriptors.get(descriptor) {
-        Some(_) => Ok(Permit::ToClose { descriptor }),
+        Some(_) => Ok(Grant::Descriptor(DescriptorGrant::Close { descriptor })),
         None => Err(Rule::S4.denial()),
     }
 }

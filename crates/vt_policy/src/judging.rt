@@ -1,11 +1,10 @@
-//! What a call is permitted, or the first rule that refuses it.
-ghost use Rattle.std.specs.Prelude.{◌≡◌, nat_eq, true};
+//! What a call is granted, or the first rule that refuses it.
+ghost use Rattle.std.specs.Prelude.{◌≡◌, nat_eq};
 ghost use Rattle.vt_spec.specs.Machine.Judge.{judge};
-ghost use Rattle.vt_permits.specs.Allocating.{TakesMemory};
 ghost use Rattle.vt_permits.specs.Memory.{JudgesAlike, JudgesByReceivers};
-ghost use Rattle.vt_request.specs.Requests.{call_of};
+ghost use Rattle.vt_request.specs.Requests.{call_of, descriptor_call_of, look_call_of, make_call_of, mount_call_of, remove_call_of, task_call_of, write_call_of};
 ghost use Rattle.vt_tasks.specs.TaskValue.{task_of};
-ghost use Rattle.vt_policy.specs.Kinds.{is_on_descriptor, is_on_file, is_on_mount, is_on_task};
+ghost use Rattle.vt_policy.specs.Allocating.{IsJudgedWithMemory};
 
 use crate::attributes::{chmod, chown};
 use crate::descriptors::{close, open, pread, pwrite};
@@ -16,171 +15,198 @@ use crate::removing::{rename, rmdir, unlink};
 use crate::tasks::{chdir, chroot, fork, permission_bits, setns, unshare};
 use std::alloc::Global;
 use vt_looks::LookAtMounts;
-use vt_permits::Permit;
-use vt_request::Call;
+use vt_permits::{Grant, LookGrant, TaskGrant};
+use vt_request::{
+    Call, DescriptorCall, LookCall, MakeCall, MountCall, RemoveCall, TaskCall, WriteCall,
+};
 use vt_rules::named;
 use vt_spec::errors::Deny;
 use vt_tasks::Task;
 
-/// What a call of a task is permitted, or the first rule that refuses it, in the policy's order. It changes nothing.
+/// What a call of a task is granted, or the first rule that refuses it, in the policy's order. It changes nothing.
 ///
-/// S5 (ENOMEM): an allocation failed, of a call that allocates. The other rules are those of the call.
-pub fn judge<L: LookAtMounts>(
+/// S5 (ENOMEM): an allocation failed, of a call whose judgement allocates. The other rules are those of the call.
+pub(crate) fn granted<L: LookAtMounts>(
     alloc: Global,
     world: &L,
     who: &Task,
     call: Call,
-) -> Result<Permit, Deny>
+) -> Result<Grant, Deny>
     ensures judged { JudgesByReceivers (call_of call) (task_of who.now)
         (judge nat_eq (L.looks world.now) (L.overfills world.now) (task_of who.now) (call_of call)) result }
-    ensures memory { ¬ TakesMemory (call_of call) → JudgesAlike (task_of who.now)
+    ensures memory { ¬ IsJudgedWithMemory (call_of call) → JudgesAlike (task_of who.now)
         (judge nat_eq (L.looks world.now) (L.overfills world.now) (task_of who.now) (call_of call)) result }
 {
     match call {
-        Call::OpenFile { .. } | Call::Pread { .. } | Call::Pwrite { .. } | Call::Close { .. } => {
-            judge_on_descriptor(alloc, world, who, call)
-        }
-        Call::Chdir { .. }
-        | Call::Chroot { .. }
-        | Call::Umask { .. }
-        | Call::Drop { .. }
-        | Call::Fork { .. }
-        | Call::Exit
-        | Call::Unshare
-        | Call::Setns { .. } => judge_on_task(world, who, call),
-        Call::MountPlain { .. }
-        | Call::Bind { .. }
-        | Call::MoveMount { .. }
-        | Call::Umount { .. }
-        | Call::Lazy { .. }
-        | Call::Remount { .. }
-        | Call::SetType { .. }
-        | Call::ListMounts => judge_on_mount(world, who, call),
-        _ => judge_on_file(alloc, world, who, call),
+        Call::Look(call) => judge_look(world, who, call),
+        Call::Make(call) => judge_make(alloc, world, who, call),
+        Call::Remove(call) => judge_remove(alloc, world, who, call),
+        Call::Write(call) => judge_write(alloc, world, who, call),
+        Call::Descriptor(call) => judge_descriptor(alloc, world, who, call),
+        Call::Task(call) => judge_task(world, who, call),
+        Call::Mount(call) => judge_mount(world, who, call),
     }
 }
 
-// A call on files by their paths.
+// A call that only looks.
 #[inline(always)]
-fn judge_on_file<L: LookAtMounts>(
-    alloc: Global,
-    world: &L,
-    who: &Task,
-    call: Call,
-) -> Result<Permit, Deny>
-    requires { is_on_file (call_of call) ≡ true }
-    ensures judged { JudgesByReceivers (call_of call) (task_of who.now)
-        (judge nat_eq (L.looks world.now) (L.overfills world.now) (task_of who.now) (call_of call)) result }
-    ensures memory { ¬ TakesMemory (call_of call) → JudgesAlike (task_of who.now)
-        (judge nat_eq (L.looks world.now) (L.overfills world.now) (task_of who.now) (call_of call)) result }
+fn judge_look<L: LookAtMounts>(world: &L, who: &Task, call: LookCall) -> Result<Grant, Deny>
+    ensures judged { JudgesByReceivers (look_call_of call) (task_of who.now)
+        (judge nat_eq (L.looks world.now) (L.overfills world.now) (task_of who.now) (look_call_of call)) result }
+    ensures memory { ¬ IsJudgedWithMemory (look_call_of call) → JudgesAlike (task_of who.now)
+        (judge nat_eq (L.looks world.now) (L.overfills world.now) (task_of who.now) (look_call_of call)) result }
 {
     match call {
-        Call::Ls { path } => list(world, who, &path),
-        Call::Stat { path } => stat(world, who, &path),
-        Call::Lstat { path } => lstat(world, who, &path),
-        Call::Readlink { path } => readlink(world, who, &path),
-        Call::Read { path } => read(world, who, &path),
-        Call::Write { path, bytes } => write(alloc, world, who, &path, bytes),
-        Call::Exec { path } => exec(world, who, &path),
-        Call::Mkdir { path, mode } => mkdir(alloc, world, who, &path, mode),
-        Call::Symlink { text, path } => symlink(alloc, world, who, text, &path),
-        Call::Link { old, new } => link(alloc, world, who, &old, &new),
-        Call::Unlink { path } => unlink(alloc, world, who, &path),
-        Call::Rmdir { path } => rmdir(alloc, world, who, &path),
-        Call::Rename { old, new } => rename(alloc, world, who, &old, &new),
-        Call::Chmod { path, mode } => chmod(world, who, &path, mode),
-        Call::Chown { path, uid, gid } => chown(world, who, &path, uid, gid),
-        _ => unreachable!(),
-    }
-}
-
-// A call on open files.
-#[inline(always)]
-fn judge_on_descriptor<L: LookAtMounts>(
-    alloc: Global,
-    world: &L,
-    who: &Task,
-    call: Call,
-) -> Result<Permit, Deny>
-    requires { is_on_descriptor (call_of call) ≡ true }
-    ensures judged { JudgesByReceivers (call_of call) (task_of who.now)
-        (judge nat_eq (L.looks world.now) (L.overfills world.now) (task_of who.now) (call_of call)) result }
-    ensures memory { ¬ TakesMemory (call_of call) → JudgesAlike (task_of who.now)
-        (judge nat_eq (L.looks world.now) (L.overfills world.now) (task_of who.now) (call_of call)) result }
-{
-    match call {
-        Call::OpenFile {
-            path,
-            access,
-            creation,
-        } => open(alloc, world, who, &path, access, creation),
-        Call::Pread {
+        LookCall::Ls { path } => list(world, who, &path),
+        LookCall::Stat { path } => stat(world, who, &path),
+        LookCall::Lstat { path } => lstat(world, who, &path),
+        LookCall::Readlink { path } => readlink(world, who, &path),
+        LookCall::Read { path } => read(world, who, &path),
+        LookCall::Exec { path } => exec(world, who, &path),
+        LookCall::Pread {
             descriptor,
             offset,
             size,
         } => pread(who, descriptor, offset, size),
-        Call::Pwrite {
+        LookCall::ListMounts => Ok(Grant::Look(LookGrant::ListMounts)),
+    }
+}
+
+// A call that makes a name.
+#[inline(always)]
+fn judge_make<L: LookAtMounts>(
+    alloc: Global,
+    world: &L,
+    who: &Task,
+    call: MakeCall,
+) -> Result<Grant, Deny>
+    ensures judged { JudgesByReceivers (make_call_of call) (task_of who.now)
+        (judge nat_eq (L.looks world.now) (L.overfills world.now) (task_of who.now) (make_call_of call)) result }
+    ensures memory { ¬ IsJudgedWithMemory (make_call_of call) → JudgesAlike (task_of who.now)
+        (judge nat_eq (L.looks world.now) (L.overfills world.now) (task_of who.now) (make_call_of call)) result }
+{
+    match call {
+        MakeCall::Mkdir { path, mode } => mkdir(alloc, world, who, &path, mode),
+        MakeCall::Symlink { text, path } => symlink(alloc, world, who, text, &path),
+        MakeCall::Link { old, new } => link(alloc, world, who, &old, &new),
+    }
+}
+
+// A call that takes a name away.
+#[inline(always)]
+fn judge_remove<L: LookAtMounts>(
+    alloc: Global,
+    world: &L,
+    who: &Task,
+    call: RemoveCall,
+) -> Result<Grant, Deny>
+    ensures judged { JudgesByReceivers (remove_call_of call) (task_of who.now)
+        (judge nat_eq (L.looks world.now) (L.overfills world.now) (task_of who.now) (remove_call_of call)) result }
+    ensures memory { ¬ IsJudgedWithMemory (remove_call_of call) → JudgesAlike (task_of who.now)
+        (judge nat_eq (L.looks world.now) (L.overfills world.now) (task_of who.now) (remove_call_of call)) result }
+{
+    match call {
+        RemoveCall::Unlink { path } => unlink(alloc, world, who, &path),
+        RemoveCall::Rmdir { path } => rmdir(alloc, world, who, &path),
+        RemoveCall::Rename { old, new } => rename(alloc, world, who, &old, &new),
+    }
+}
+
+// A call that sets the content, the owner or the mode of a file.
+#[inline(always)]
+fn judge_write<L: LookAtMounts>(
+    alloc: Global,
+    world: &L,
+    who: &Task,
+    call: WriteCall,
+) -> Result<Grant, Deny>
+    ensures judged { JudgesByReceivers (write_call_of call) (task_of who.now)
+        (judge nat_eq (L.looks world.now) (L.overfills world.now) (task_of who.now) (write_call_of call)) result }
+    ensures memory { ¬ IsJudgedWithMemory (write_call_of call) → JudgesAlike (task_of who.now)
+        (judge nat_eq (L.looks world.now) (L.overfills world.now) (task_of who.now) (write_call_of call)) result }
+{
+    match call {
+        WriteCall::Write { path, bytes } => write(alloc, world, who, &path, bytes),
+        WriteCall::Pwrite {
             descriptor,
             offset,
             bytes,
         } => pwrite(world, who, descriptor, offset, bytes),
-        Call::Close { descriptor } => close(who, descriptor),
-        _ => unreachable!(),
+        WriteCall::Chmod { path, mode } => chmod(world, who, &path, mode),
+        WriteCall::Chown { path, uid, gid } => chown(world, who, &path, uid, gid),
     }
 }
 
-// A call on tasks and their namespaces.
+// A call that opens or closes a file.
 #[inline(always)]
-fn judge_on_task<L: LookAtMounts>(world: &L, who: &Task, call: Call) -> Result<Permit, Deny>
-    requires { is_on_task (call_of call) ≡ true }
-    ensures judged { JudgesByReceivers (call_of call) (task_of who.now)
-        (judge nat_eq (L.looks world.now) (L.overfills world.now) (task_of who.now) (call_of call)) result }
-    ensures memory { ¬ TakesMemory (call_of call) → JudgesAlike (task_of who.now)
-        (judge nat_eq (L.looks world.now) (L.overfills world.now) (task_of who.now) (call_of call)) result }
+fn judge_descriptor<L: LookAtMounts>(
+    alloc: Global,
+    world: &L,
+    who: &Task,
+    call: DescriptorCall,
+) -> Result<Grant, Deny>
+    ensures judged { JudgesByReceivers (descriptor_call_of call) (task_of who.now)
+        (judge nat_eq (L.looks world.now) (L.overfills world.now) (task_of who.now) (descriptor_call_of call)) result }
+    ensures memory { ¬ IsJudgedWithMemory (descriptor_call_of call) → JudgesAlike (task_of who.now)
+        (judge nat_eq (L.looks world.now) (L.overfills world.now) (task_of who.now) (descriptor_call_of call)) result }
 {
     match call {
-        Call::Chdir { path } => chdir(world, who, &path),
-        Call::Chroot { path } => chroot(world, who, &path),
-        Call::Umask { mode } => Ok(Permit::ToSetUmask {
+        DescriptorCall::Open {
+            path,
+            access,
+            creation,
+        } => open(alloc, world, who, &path, access, creation),
+        DescriptorCall::Close { descriptor } => close(who, descriptor),
+    }
+}
+
+// A call that changes the caller, or makes a task.
+#[inline(always)]
+fn judge_task<L: LookAtMounts>(world: &L, who: &Task, call: TaskCall) -> Result<Grant, Deny>
+    ensures judged { JudgesByReceivers (task_call_of call) (task_of who.now)
+        (judge nat_eq (L.looks world.now) (L.overfills world.now) (task_of who.now) (task_call_of call)) result }
+    ensures memory { ¬ IsJudgedWithMemory (task_call_of call) → JudgesAlike (task_of who.now)
+        (judge nat_eq (L.looks world.now) (L.overfills world.now) (task_of who.now) (task_call_of call)) result }
+{
+    match call {
+        TaskCall::Chdir { path } => chdir(world, who, &path),
+        TaskCall::Chroot { path } => chroot(world, who, &path),
+        TaskCall::Umask { mode } => Ok(Grant::Task(TaskGrant::SetUmask {
             umask: permission_bits(mode),
-        }),
-        Call::Drop { caps } => Ok(Permit::ToDrop {
+        })),
+        TaskCall::Drop { caps } => Ok(Grant::Task(TaskGrant::DropCaps {
             caps: named(&who.cred, caps),
-        }),
-        Call::Fork { words } => fork(who, words),
-        Call::Exit => Ok(Permit::ToExit),
-        Call::Unshare => unshare(who),
-        Call::Setns { task } => setns(world, who, &task),
-        _ => unreachable!(),
+        })),
+        TaskCall::Fork { words } => fork(who, words),
+        TaskCall::Exit => Ok(Grant::Task(TaskGrant::Exit)),
+        TaskCall::Unshare => unshare(who),
+        TaskCall::Setns { task } => setns(world, who, &task),
     }
 }
 
-// A call on mounts.
+// A call that changes mounts.
 #[inline(always)]
-fn judge_on_mount<L: LookAtMounts>(world: &L, who: &Task, call: Call) -> Result<Permit, Deny>
-    requires { is_on_mount (call_of call) ≡ true }
-    ensures judged { JudgesByReceivers (call_of call) (task_of who.now)
-        (judge nat_eq (L.looks world.now) (L.overfills world.now) (task_of who.now) (call_of call)) result }
-    ensures memory { ¬ TakesMemory (call_of call) → JudgesAlike (task_of who.now)
-        (judge nat_eq (L.looks world.now) (L.overfills world.now) (task_of who.now) (call_of call)) result }
+fn judge_mount<L: LookAtMounts>(world: &L, who: &Task, call: MountCall) -> Result<Grant, Deny>
+    ensures judged { JudgesByReceivers (mount_call_of call) (task_of who.now)
+        (judge nat_eq (L.looks world.now) (L.overfills world.now) (task_of who.now) (mount_call_of call)) result }
+    ensures memory { ¬ IsJudgedWithMemory (mount_call_of call) → JudgesAlike (task_of who.now)
+        (judge nat_eq (L.looks world.now) (L.overfills world.now) (task_of who.now) (mount_call_of call)) result }
 {
     match call {
-        Call::MountPlain { path, flags } => mount_plain(world, who, &path, flags),
-        Call::Bind {
+        MountCall::Plain { path, flags } => mount_plain(world, who, &path, flags),
+        MountCall::Bind {
             source,
             path,
             recursive,
         } => bind(world, who, &source, &path, recursive),
-        Call::MoveMount { source, path } => move_mount(world, who, &source, &path),
-        Call::Umount { path } => umount(world, who, &path),
-        Call::Lazy { path } => lazy(world, who, &path),
-        Call::Remount { path, flags } => remount(world, who, &path, flags),
-        Call::SetType {
+        MountCall::Move { source, path } => move_mount(world, who, &source, &path),
+        MountCall::Umount { path } => umount(world, who, &path),
+        MountCall::Lazy { path } => lazy(world, who, &path),
+        MountCall::Remount { path, flags } => remount(world, who, &path, flags),
+        MountCall::SetType {
             path,
             word,
             recursive,
         } => set_type(world, who, &path, word, recursive),
-        Call::ListMounts => Ok(Permit::ToListMounts),
-        _ => unreachable!(),
     }
 }

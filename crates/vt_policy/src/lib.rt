@@ -9,14 +9,15 @@ mod looking;
 mod making;
 mod mounting;
 mod paths;
+mod permit;
 mod removing;
 mod tasks;
 
 pub use attributes::{chmod, chown};
 pub use descriptors::{close, open, pread, pwrite};
-pub use judging::judge;
 pub use looking::{exec, list, lstat, read, readlink, stat};
 pub use making::{link, mkdir, symlink, write};
 pub use mounting::{bind, lazy, mount_plain, move_mount, remount, set_type, umount};
+pub use permit::{Permit, judge};
 pub use removing::{rename, rmdir, unlink};
 pub use tasks::{chdir, chroot, fork, permission_bits, setns, unshare};

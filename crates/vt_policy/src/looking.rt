@@ -8,14 +8,14 @@ use crate::paths::{directory_at, object_at, symlink_at};
 use vt_cred::Rights;
 use vt_looks::Look;
 use vt_node::Kind;
-use vt_permits::Permit;
+use vt_permits::{Grant, LookGrant};
 use vt_rules::{is_directory, is_kind, is_noexec, may};
 use vt_spec::errors::{Deny, Rule};
 use vt_tasks::Task;
 
 /// After the rules of the walk: C1 (EACCES).
 #[tactic(auto, unfolding(vt_spec::specs::Machine::Judge::list_permit))]
-pub fn list<L: Look>(world: &L, who: &Task, path: &[u8]) -> Result<Permit, Deny>
+pub fn list<L: Look>(world: &L, who: &Task, path: &[u8]) -> Result<Grant, Deny>
     ensures { JudgesAlike (task_of who.now) (list_permit nat_eq (L.looks world.now) (task_of who.now) path.now) result }
 {
     world.has_no_overlays();
@@ -23,31 +23,31 @@ pub fn list<L: Look>(world: &L, who: &Task, path: &[u8]) -> Result<Permit, Deny>
     if !may(world, who, directory, Rights::READ) {
         return Err(Rule::C1.denial());
     }
-    Ok(Permit::ToList { directory })
+    Ok(Grant::Look(LookGrant::List { directory }))
 }
 
 /// The rules of the walk alone.
 #[tactic(auto, unfolding(vt_spec::specs::Machine::Judge::stat_permit))]
-pub fn stat<L: Look>(world: &L, who: &Task, path: &[u8]) -> Result<Permit, Deny>
+pub fn stat<L: Look>(world: &L, who: &Task, path: &[u8]) -> Result<Grant, Deny>
     ensures { JudgesAlike (task_of who.now) (stat_permit nat_eq (L.looks world.now) (task_of who.now) path.now) result }
 {
     let object = object_at(world, who, path)?;
-    Ok(Permit::ToStat { object })
+    Ok(Grant::Look(LookGrant::Stat { object }))
 }
 
 /// The rules of the walk alone.
 #[tactic(auto, unfolding(vt_spec::specs::Machine::Judge::lstat_permit))]
-pub fn lstat<L: Look>(world: &L, who: &Task, path: &[u8]) -> Result<Permit, Deny>
+pub fn lstat<L: Look>(world: &L, who: &Task, path: &[u8]) -> Result<Grant, Deny>
     ensures { JudgesAlike (task_of who.now)
         (lstat_permit nat_eq (L.looks world.now) (task_of who.now) path.now) result }
 {
     let object = symlink_at(world, who, path)?;
-    Ok(Permit::ToStat { object })
+    Ok(Grant::Look(LookGrant::Stat { object }))
 }
 
 /// After the rules of the walk: E5 (EINVAL).
 #[tactic(auto, unfolding(vt_spec::specs::Machine::Judge::readlink_permit))]
-pub fn readlink<L: Look>(world: &L, who: &Task, path: &[u8]) -> Result<Permit, Deny>
+pub fn readlink<L: Look>(world: &L, who: &Task, path: &[u8]) -> Result<Grant, Deny>
     ensures { JudgesAlike (task_of who.now)
         (readlink_permit nat_eq (L.looks world.now) (task_of who.now) path.now) result }
 {
@@ -55,12 +55,12 @@ pub fn readlink<L: Look>(world: &L, who: &Task, path: &[u8]) -> Result<Permit, D
     if !is_kind(world, symlink, Kind::Symlink) {
         return Err(Rule::E5.denial());
     }
-    Ok(Permit::ToRead { file: symlink })
+    Ok(Grant::Look(LookGrant::Read { file: symlink }))
 }
 
 /// After the rules of the walk: E2 (EISDIR), E9 (ENXIO), C1 (EACCES).
 #[tactic(auto, unfolding(vt_spec::specs::Machine::Judge::read_permit))]
-pub fn read<L: Look>(world: &L, who: &Task, path: &[u8]) -> Result<Permit, Deny>
+pub fn read<L: Look>(world: &L, who: &Task, path: &[u8]) -> Result<Grant, Deny>
     ensures { JudgesAlike (task_of who.now) (read_permit nat_eq (L.looks world.now) (task_of who.now) path.now) result }
 {
     world.has_no_overlays();
@@ -74,12 +74,12 @@ pub fn read<L: Look>(world: &L, who: &Task, path: &[u8]) -> Result<Permit, Deny>
     if !may(world, who, file, Rights::READ) {
         return Err(Rule::C1.denial());
     }
-    Ok(Permit::ToRead { file })
+    Ok(Grant::Look(LookGrant::Read { file }))
 }
 
 /// After the rules of the walk: E8 (EACCES), F3 (EACCES), C1 (EACCES).
 #[tactic(auto, unfolding(vt_spec::specs::Machine::Judge::exec_permit))]
-pub fn exec<L: Look>(world: &L, who: &Task, path: &[u8]) -> Result<Permit, Deny>
+pub fn exec<L: Look>(world: &L, who: &Task, path: &[u8]) -> Result<Grant, Deny>
     ensures { JudgesAlike (task_of who.now) (exec_permit nat_eq (L.looks world.now) (task_of who.now) path.now) result }
 {
     world.has_no_overlays();
@@ -93,5 +93,5 @@ pub fn exec<L: Look>(world: &L, who: &Task, path: &[u8]) -> Result<Permit, Deny>
     if !may(world, who, file, Rights::EXECUTE) {
         return Err(Rule::C1.denial());
     }
-    Ok(Permit::Allowed)
+    Ok(Grant::Look(LookGrant::Nothing))
 }

@@ -9,7 +9,7 @@ use std::alloc::Global;
 use vt_cred::{Mode, Rights};
 use vt_looks::Look;
 use vt_node::Node;
-use vt_permits::Permit;
+use vt_permits::{Grant, MakeGrant, ToLink, ToMake};
 use vt_rules::{
     empty_directory, is_directory, is_read_only, may, may_make, name_at, new_attr, new_file_permit,
     rewrite_permit, symlink_attr,
@@ -29,7 +29,7 @@ pub fn mkdir<L: Look>(
     who: &Task,
     path: &[u8],
     mode: Option<Mode>,
-) -> Result<Permit, Deny>
+) -> Result<Grant, Deny>
     ensures { Judges (task_of who.now)
         (mkdir_permit nat_eq (L.looks world.now) (task_of who.now) path.now mode) result }
 {
@@ -39,11 +39,11 @@ pub fn mkdir<L: Look>(
     }
     may_make(world, who, place.parent)?;
     let attr = new_attr(who, mode.unwrap_or(Mode::new(DIRECTORY_MODE).unwrap()));
-    Ok(Permit::ToMake {
+    Ok(Grant::Make(MakeGrant::Node(ToMake {
         directory: place.parent,
         name: name_at(alloc, place.last)?,
         node: empty_directory(alloc, attr, place.parent),
-    })
+    })))
 }
 
 /// Before the rules of the walk, of the symlink's text: W1 (ENOENT), W2 (ENAMETOOLONG). After them: E1 (EEXIST),
@@ -55,7 +55,7 @@ pub fn symlink<L: Look>(
     who: &Task,
     text: Vec<u8>,
     path: &[u8],
-) -> Result<Permit, Deny>
+) -> Result<Grant, Deny>
     ensures { Judges (task_of who.now)
         (symlink_permit nat_eq (L.looks world.now) (task_of who.now) text.items path.now) result }
 {
@@ -70,11 +70,11 @@ pub fn symlink<L: Look>(
         return Err(Rule::E1.denial());
     }
     may_make(world, who, place.parent)?;
-    Ok(Permit::ToMake {
+    Ok(Grant::Make(MakeGrant::Node(ToMake {
         directory: place.parent,
         name: name_at(alloc, place.last)?,
         node: Node::new_link(symlink_attr(who), text),
-    })
+    })))
 }
 
 /// After the rules of both walks: E1 (EEXIST), E7 (EPERM), F1 (EROFS), P2 (EXDEV), C1 (EACCES).
@@ -85,7 +85,7 @@ pub fn link<L: Look>(
     who: &Task,
     old: &[u8],
     new: &[u8],
-) -> Result<Permit, Deny>
+) -> Result<Grant, Deny>
     ensures { Judges (task_of who.now)
         (hard_link_permit nat_eq (L.looks world.now) (task_of who.now) old.now new.now) result }
 {
@@ -107,11 +107,11 @@ pub fn link<L: Look>(
     if !may(world, who, place.parent, Rights::WRITE) {
         return Err(Rule::C1.denial());
     }
-    Ok(Permit::ToLink {
+    Ok(Grant::Make(MakeGrant::Link(ToLink {
         directory: place.parent,
         name: name_at(alloc, place.last)?,
         object: object.node,
-    })
+    })))
 }
 
 /// After the rules of the walk: E2 (EISDIR), and then those of a file that is there or of one that is made.
@@ -122,7 +122,7 @@ pub fn write<L: Look>(
     who: &Task,
     path: &[u8],
     bytes: Vec<u8>,
-) -> Result<Permit, Deny>
+) -> Result<Grant, Deny>
     ensures { Judges (task_of who.now)
         (write_permit nat_eq (L.looks world.now) (task_of who.now) path.now bytes.items) result }
 {

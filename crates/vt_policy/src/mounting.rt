@@ -11,8 +11,8 @@ ghost use Rattle.vt_policy.specs.Ends.{IsRootAt, root_walk};
 use crate::paths::{destination_at, directory_at, source_at};
 use vt_cred::{Caps, MountFlags};
 use vt_location::Location;
-use vt_looks::{Attachment, Look, LookAtMounts};
-use vt_permits::Permit;
+use vt_looks::{Look, LookAtMounts};
+use vt_permits::{Attachment, Grant, MountGrant, ToBind, ToSetType};
 use vt_request::TypeWord;
 use vt_rules::{is_attached_somewhere, is_elsewhere, is_no_root, is_unbindable, lacks, may_move};
 use vt_spec::errors::{Deny, Rule};
@@ -44,7 +44,7 @@ pub fn mount_plain<L: LookAtMounts>(
     who: &Task,
     path: &[u8],
     flags: MountFlags,
-) -> Result<Permit, Deny>
+) -> Result<Grant, Deny>
     ensures { JudgesByReceivers (MountPlain path.now (flags_of flags)) (task_of who.now)
         (mount_plain_permit nat_eq (L.looks world.now) (L.overfills world.now) (task_of who.now) path.now
         (flags_of flags)) result }
@@ -56,10 +56,11 @@ pub fn mount_plain<L: LookAtMounts>(
     if is_elsewhere(world, who, destination) {
         return Err(Rule::M2.denial());
     }
-    if world.overfills(Attachment::Plain { destination, flags })? {
+    let attachment = Attachment::Plain { destination, flags };
+    if world.overfills(attachment)? {
         return Err(Rule::M9.denial());
     }
-    Ok(Permit::ToMountPlain { destination, flags })
+    Ok(Grant::Mount(MountGrant::Attach(attachment)))
 }
 
 /// K1 (EPERM), and after the rules of both walks M2 (EINVAL), M3 (EINVAL), M9 (ENOSPC).
@@ -70,7 +71,7 @@ pub fn bind<L: LookAtMounts>(
     source: &[u8],
     path: &[u8],
     recursive: bool,
-) -> Result<Permit, Deny>
+) -> Result<Grant, Deny>
     ensures { JudgesByReceivers (Bind source.now path.now recursive) (task_of who.now)
         (bind_permit nat_eq (L.looks world.now) (L.overfills world.now)
         (task_of who.now) source.now path.now recursive) result }
@@ -86,19 +87,15 @@ pub fn bind<L: LookAtMounts>(
     if is_unbindable(world, source.mount) {
         return Err(Rule::M3.denial());
     }
-    let attachment = Attachment::Bind {
+    let attachment = Attachment::Bind(ToBind {
         source,
         destination,
         recursive,
-    };
+    });
     if world.overfills(attachment)? {
         return Err(Rule::M9.denial());
     }
-    Ok(Permit::ToBind {
-        source,
-        destination,
-        recursive,
-    })
+    Ok(Grant::Mount(MountGrant::Attach(attachment)))
 }
 
 /// K1 (EPERM), and after the rules of both walks M2 (EINVAL), M4 (EINVAL), M5 (EINVAL), M6 (ELOOP), M7 (EINVAL), M9
@@ -109,7 +106,7 @@ pub fn move_mount<L: LookAtMounts>(
     who: &Task,
     source: &[u8],
     path: &[u8],
-) -> Result<Permit, Deny>
+) -> Result<Grant, Deny>
     ensures { JudgesByReceivers (MoveMount source.now path.now) (task_of who.now)
         (move_permit nat_eq (L.looks world.now) (L.overfills world.now) (task_of who.now) source.now path.now) result }
 {
@@ -120,18 +117,19 @@ pub fn move_mount<L: LookAtMounts>(
     let destination = destination_at(world, who, path)?;
     may_move(world, who, source, destination)?;
     let mount = source.mount;
-    if world.overfills(Attachment::Move { mount, destination })? {
+    let attachment = Attachment::Move { mount, destination };
+    if world.overfills(attachment)? {
         return Err(Rule::M9.denial());
     }
     if !is_attached_somewhere(world, mount) {
         return Err(Rule::M10.denial());
     }
-    Ok(Permit::ToMove { mount, destination })
+    Ok(Grant::Mount(MountGrant::Attach(attachment)))
 }
 
 /// K1 (EPERM), and after the rules of the walk M2 (EINVAL), M7 (EINVAL), M8 (EBUSY), M10 (EINVAL).
 #[tactic(auto, unfolding(vt_spec::specs::Machine::Judge::umount_permit))]
-pub fn umount<L: LookAtMounts>(world: &L, who: &Task, path: &[u8]) -> Result<Permit, Deny>
+pub fn umount<L: LookAtMounts>(world: &L, who: &Task, path: &[u8]) -> Result<Grant, Deny>
     ensures { JudgesByReceivers (Umount path.now) (task_of who.now)
         (umount_permit nat_eq (L.looks world.now) (task_of who.now) path.now) result }
 {
@@ -142,19 +140,19 @@ pub fn umount<L: LookAtMounts>(world: &L, who: &Task, path: &[u8]) -> Result<Per
     if !is_attached_somewhere(world, here.mount) {
         return Err(Rule::M10.denial());
     }
-    Ok(Permit::ToUnmount { mount: here.mount })
+    Ok(Grant::Mount(MountGrant::Unmount { mount: here.mount }))
 }
 
 /// K1 (EPERM), and after the rules of the walk M2 (EINVAL), M7 (EINVAL), M10 (EINVAL).
 #[tactic(auto, unfolding(vt_spec::specs::Machine::Judge::lazy_permit))]
-pub fn lazy<L: Look>(world: &L, who: &Task, path: &[u8]) -> Result<Permit, Deny>
+pub fn lazy<L: Look>(world: &L, who: &Task, path: &[u8]) -> Result<Grant, Deny>
     ensures { JudgesAlike (task_of who.now) (lazy_permit nat_eq (L.looks world.now) (task_of who.now) path.now) result }
 {
     let here = root_at(world, who, path)?;
     if !is_attached_somewhere(world, here.mount) {
         return Err(Rule::M10.denial());
     }
-    Ok(Permit::ToUnmountLazily { mount: here.mount })
+    Ok(Grant::Mount(MountGrant::UnmountLazily { mount: here.mount }))
 }
 
 /// K1 (EPERM), and after the rules of the walk M2 (EINVAL), M7 (EINVAL), M8 (EBUSY).
@@ -164,7 +162,7 @@ pub fn remount<L: LookAtMounts>(
     who: &Task,
     path: &[u8],
     flags: MountFlags,
-) -> Result<Permit, Deny>
+) -> Result<Grant, Deny>
     ensures { JudgesAlike (task_of who.now)
         (remount_permit nat_eq (L.looks world.now) (task_of who.now) path.now (flags_of flags)) result }
 {
@@ -172,10 +170,10 @@ pub fn remount<L: LookAtMounts>(
     if flags.is_read_only() && world.is_written_through(here.mount) {
         return Err(Rule::M8.denial());
     }
-    Ok(Permit::ToSetFlags {
+    Ok(Grant::Mount(MountGrant::SetFlags {
         mount: here.mount,
         flags,
-    })
+    }))
 }
 
 /// K1 (EPERM), and after the rules of the walk M2 (EINVAL), M7 (EINVAL).
@@ -186,14 +184,14 @@ pub fn set_type<L: Look>(
     path: &[u8],
     word: TypeWord,
     recursive: bool,
-) -> Result<Permit, Deny>
+) -> Result<Grant, Deny>
     ensures { JudgesAlike (task_of who.now)
         (type_permit nat_eq (L.looks world.now) (task_of who.now) path.now (type_word_of word) recursive) result }
 {
     let here = root_at(world, who, path)?;
-    Ok(Permit::ToSetType {
+    Ok(Grant::Mount(MountGrant::SetType(ToSetType {
         mount: here.mount,
         word,
         recursive,
-    })
+    })))
 }

@@ -7,7 +7,7 @@ ghost use Rattle.vt_tasks.specs.TaskValue.{task_of};
 use crate::paths::{old_leaf_place, old_place, rename_place};
 use std::alloc::Global;
 use vt_looks::{LastWord, Look};
-use vt_permits::Permit;
+use vt_permits::{Grant, LookGrant, RemoveGrant, ToRemoveDirectory, ToRename, ToUnlink};
 use vt_rules::{
     is_directory, is_name_of, is_nonempty, is_read_only, may_remove, may_rename, may_stay, name_at,
 };
@@ -16,7 +16,7 @@ use vt_tasks::Task;
 
 /// After the rules of the walk: E2 (EISDIR), F1 (EROFS), C1 (EACCES), C3 (EPERM).
 #[tactic(auto, unfolding(vt_spec::specs::Machine::Judge::unlink_permit))]
-pub fn unlink<L: Look>(alloc: Global, world: &L, who: &Task, path: &[u8]) -> Result<Permit, Deny>
+pub fn unlink<L: Look>(alloc: Global, world: &L, who: &Task, path: &[u8]) -> Result<Grant, Deny>
     ensures { Judges (task_of who.now) (unlink_permit nat_eq (L.looks world.now) (task_of who.now) path.now) result }
 {
     world.has_no_overlays();
@@ -28,17 +28,17 @@ pub fn unlink<L: Look>(alloc: Global, world: &L, who: &Task, path: &[u8]) -> Res
         return Err(Rule::F1.denial());
     }
     may_remove(world, who, place.parent, place.object)?;
-    Ok(Permit::ToUnlink {
+    Ok(Grant::Remove(RemoveGrant::Unlink(ToUnlink {
         directory: place.parent,
         name: name_at(alloc, place.last)?,
         object: place.object.node,
-    })
+    })))
 }
 
 /// After the rules of the walk the special last words, and then E3 (ENOTDIR), E4 (ENOTEMPTY), F1 (EROFS), P1 (EBUSY),
 /// C1 (EACCES), C3 (EPERM).
 #[tactic(auto, unfolding(vt_spec::specs::Machine::Judge::rmdir_permit))]
-pub fn rmdir<L: Look>(alloc: Global, world: &L, who: &Task, path: &[u8]) -> Result<Permit, Deny>
+pub fn rmdir<L: Look>(alloc: Global, world: &L, who: &Task, path: &[u8]) -> Result<Grant, Deny>
     ensures { Judges (task_of who.now) (rmdir_permit nat_eq (L.looks world.now) (task_of who.now) path.now) result }
 {
     world.has_no_overlays();
@@ -63,11 +63,11 @@ pub fn rmdir<L: Look>(alloc: Global, world: &L, who: &Task, path: &[u8]) -> Resu
         return Err(Rule::P1.denial());
     }
     may_remove(world, who, place.parent, directory)?;
-    Ok(Permit::ToRemoveDirectory {
+    Ok(Grant::Remove(RemoveGrant::Directory(ToRemoveDirectory {
         parent: place.parent,
         name: name_at(alloc, place.last)?,
         directory,
-    })
+    })))
 }
 
 /// After the rules of the first walk, P1 (EBUSY) of its special last word; the same of the second; then those of two
@@ -79,7 +79,7 @@ pub fn rename<L: Look>(
     who: &Task,
     old: &[u8],
     new: &[u8],
-) -> Result<Permit, Deny>
+) -> Result<Grant, Deny>
     ensures { Judges (task_of who.now)
         (rename_permit nat_eq (L.looks world.now) (task_of who.now) old.now new.now) result }
 {
@@ -93,15 +93,15 @@ pub fn rename<L: Look>(
     }
     if is_name_of(world, from.object, &to) {
         may_stay(world, &from, &to)?;
-        return Ok(Permit::Allowed);
+        return Ok(Grant::Look(LookGrant::Nothing));
     }
     may_rename(world, who, &from, &to)?;
-    Ok(Permit::ToRename {
+    Ok(Grant::Remove(RemoveGrant::Rename(ToRename {
         from: from.parent,
         old: name_at(alloc, from.last)?,
         to: to.parent,
         new: name_at(alloc, to.last)?,
         object: from.object,
         replaced: to.object,
-    })
+    })))
 }

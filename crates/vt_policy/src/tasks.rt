@@ -2,7 +2,7 @@
 //! setns(2).
 ghost use Rattle.std.specs.Prelude.{◌≡◌, nat_eq, option_map, None};
 ghost use Rattle.vt_spec.specs.Machine.Judge.{chdir_permit, chroot_permit, fork_permit, setns_permit, unshare_permit};
-ghost use Rattle.vt_spec.specs.Machine.Outcome.Tasks.{permission_bits};
+ghost use Rattle.vt_spec.specs.Machine.Tasks.{permission_bits};
 ghost use Rattle.vt_permits.specs.Memory.{Judges, JudgesAlike};
 ghost use Rattle.vt_request.specs.Requests.{fork_words_of};
 ghost use Rattle.vt_tasks.specs.TaskValue.{task_of};
@@ -10,7 +10,7 @@ ghost use Rattle.vt_tasks.specs.TaskValue.{task_of};
 use crate::paths::directory_at;
 use vt_cred::{Caps, Cred, Mode};
 use vt_looks::Look;
-use vt_permits::Permit;
+use vt_permits::{Grant, TaskGrant};
 use vt_request::{ForkWords, TaskName};
 use vt_rules::{is_barren, lacks, may_enter, may_fork, named};
 use vt_spec::errors::{Deny, Rule};
@@ -18,18 +18,18 @@ use vt_tasks::Task;
 
 /// After the rules of the walk: C1 (EACCES).
 #[tactic(auto, unfolding(vt_spec::specs::Machine::Judge::chdir_permit))]
-pub fn chdir<L: Look>(world: &L, who: &Task, path: &[u8]) -> Result<Permit, Deny>
+pub fn chdir<L: Look>(world: &L, who: &Task, path: &[u8]) -> Result<Grant, Deny>
     ensures { JudgesAlike (task_of who.now)
         (chdir_permit nat_eq (L.looks world.now) (task_of who.now) path.now) result }
 {
     let directory = directory_at(world, who, path)?;
     may_enter(world, who, directory)?;
-    Ok(Permit::ToSetDirectory { directory })
+    Ok(Grant::Task(TaskGrant::SetDirectory { directory }))
 }
 
 /// K1 (EPERM), and after the rules of the walk C1 (EACCES).
 #[tactic(auto, unfolding(vt_spec::specs::Machine::Judge::chroot_permit))]
-pub fn chroot<L: Look>(world: &L, who: &Task, path: &[u8]) -> Result<Permit, Deny>
+pub fn chroot<L: Look>(world: &L, who: &Task, path: &[u8]) -> Result<Grant, Deny>
     ensures { JudgesAlike (task_of who.now)
         (chroot_permit nat_eq (L.looks world.now) (task_of who.now) path.now) result }
 {
@@ -38,7 +38,7 @@ pub fn chroot<L: Look>(world: &L, who: &Task, path: &[u8]) -> Result<Permit, Den
     }
     let root = directory_at(world, who, path)?;
     may_enter(world, who, root)?;
-    Ok(Permit::ToSetRoot { root })
+    Ok(Grant::Task(TaskGrant::SetRoot { root }))
 }
 
 /// A mode's permission bits: umask(2).
@@ -50,7 +50,7 @@ pub fn permission_bits(mode: Mode) -> Mode
 
 /// S6 (ENOSPC), K1 (EPERM).
 #[tactic(auto, unfolding(vt_spec::specs::Machine::Judge::fork_permit))]
-pub fn fork(who: &Task, words: Option<ForkWords>) -> Result<Permit, Deny>
+pub fn fork(who: &Task, words: Option<ForkWords>) -> Result<Grant, Deny>
     ensures { Judges (task_of who.now) (fork_permit (task_of who.now) (option_map fork_words_of words)) result }
 {
     let Some(words) = words else {
@@ -58,14 +58,14 @@ pub fn fork(who: &Task, words: Option<ForkWords>) -> Result<Permit, Deny>
     };
     may_fork(who, &words)?;
     let caps = named(&who.cred, words.caps);
-    Ok(Permit::ToFork {
+    Ok(Grant::Task(TaskGrant::Fork {
         cred: Cred::new(words.uid, words.gid, words.groups, caps),
-    })
+    }))
 }
 
 // A child with the caller's credentials: S6 (ENOSPC).
 #[tactic(auto, unfolding(vt_spec::specs::Machine::Judge::fork_permit))]
-fn fork_alike(who: &Task) -> Result<Permit, Deny>
+fn fork_alike(who: &Task) -> Result<Grant, Deny>
     ensures { Judges (task_of who.now) (fork_permit (task_of who.now) None) result }
 {
     if is_barren(who) {
@@ -74,23 +74,23 @@ fn fork_alike(who: &Task) -> Result<Permit, Deny>
     let Ok(cred) = who.cred.clone() else {
         return Err(Rule::S5.denial());
     };
-    Ok(Permit::ToFork { cred })
+    Ok(Grant::Task(TaskGrant::Fork { cred }))
 }
 
 /// K1 (EPERM).
 #[tactic(auto, unfolding(vt_spec::specs::Machine::Judge::unshare_permit))]
-pub fn unshare(who: &Task) -> Result<Permit, Deny>
+pub fn unshare(who: &Task) -> Result<Grant, Deny>
     ensures { JudgesAlike (task_of who.now) (unshare_permit (task_of who.now)) result }
 {
     if lacks(who, Caps::CAP_SYS_ADMIN) {
         return Err(Rule::K1.denial());
     }
-    Ok(Permit::ToUnshare)
+    Ok(Grant::Task(TaskGrant::Unshare))
 }
 
 /// S2 (ESRCH) of the task that is named, K1 (EPERM).
 #[tactic(auto, unfolding(vt_spec::specs::Machine::Judge::setns_permit))]
-pub fn setns<L: Look>(world: &L, who: &Task, name: &TaskName) -> Result<Permit, Deny>
+pub fn setns<L: Look>(world: &L, who: &Task, name: &TaskName) -> Result<Grant, Deny>
     ensures { JudgesAlike (task_of who.now) (setns_permit (L.looks world.now) (task_of who.now) name.now) result }
 {
     let Some(namespace) = world.namespace_called(name) else {
@@ -99,5 +99,5 @@ pub fn setns<L: Look>(world: &L, who: &Task, name: &TaskName) -> Result<Permit, 
     if lacks(who, Caps::CAP_SYS_ADMIN) || lacks(who, Caps::CAP_SYS_CHROOT) {
         return Err(Rule::K1.denial());
     }
-    Ok(Permit::ToEnterNamespace { namespace })
+    Ok(Grant::Task(TaskGrant::EnterNamespace { namespace }))
 }

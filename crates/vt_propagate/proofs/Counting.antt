@@ -11,8 +11,8 @@ use Rattle.vt_spec.specs.Machine.Mounts.{Location, Mount, no_mount}
 use Rattle.vt_spec.specs.Machine.World.{Namespace, World, mount_at}
 use Rattle.vt_spec.specs.Machine.Invariants.{NamespaceInvariants, is_listed}
 use Rattle.vt_spec.proofs.Lists.{Among, among-from_filter, among-from_map, among_from_all, among_from_contains, among_from_list_all, among_numbers, any_among, any_from_among, none_among}
-use Rattle.vt_mount_laws.proofs.Counting.{count-inside, moved_fewer}
-pub use Rattle.vt_mount_laws.proofs.Counting.{absent_counted, added_counted, moved_all}
+use Rattle.vt_laws_mounts.proofs.Counting.{count-inside, moved_fewer}
+pub use Rattle.vt_laws_mounts.proofs.Counting.{absent_counted, added_counted, moved_all}
 use Rattle.vt_location.specs.declared.mounts.Mount.{Mount as Kept}
 use Rattle.vt_location.specs.declared.numbers.NamespaceId.{NamespaceId}
 use Rattle.vt_location.specs.MountValue.{mount_of}
@@ -22,11 +22,11 @@ use Rattle.vt_propagate.specs.Filling.{GrowsBy, MovesFrom, is_overfilled, leavin
 use Rattle.vt_propagate.specs.declared.filling.Load.{Load}
 use Rattle.vt_propagate.proofs.Found.{numbered}
 use Rattle.vt_spec.proofs.Truths.{same_truth}
-use Rattle.vt_letting_go.proofs.Lists.{found_in}
-use Rattle.vt_mount_laws.specs.Mounts.Attaching.{OneNumberAMount}
+use Rattle.vt_laws_letting_go.proofs.Lists.{found_in}
+use Rattle.vt_laws_mounts.specs.Mounts.Attaching.{OneNumberAMount}
 use Rattle.vt_mount.specs.Indexes.{same_namespace, is_in as is_part_in}
-use Rattle.vt_mount_laws.specs.Mounts.Ending.{count_in, is_in}
-use Rattle.vt_mount_laws.proofs.mounts.Receivers.{receivers_there}
+use Rattle.vt_laws_mounts.specs.Mounts.Ending.{count_in, is_in}
+use Rattle.vt_laws_mounts.proofs.mounts.Receivers.{receivers_there}
 
 -- parts as they are kept
 

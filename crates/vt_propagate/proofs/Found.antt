@@ -10,7 +10,7 @@ use Rattle.vt_location.specs.Numbers.{counted}
 use Rattle.vt_mount.specs.MountsValue.{are_ascending}
 pub use Rattle.vt_mount.proofs.PlaceLemmas.{counts}
 use Rattle.vt_propagate.specs.Seen.{mounts_numbered}
-use Rattle.vt_mount_laws.specs.Mounts.Attaching.{numbers_of}
+use Rattle.vt_laws_mounts.specs.Mounts.Attaching.{numbers_of}
 
 -- the first mount with a number
 abbrev pub numbered : List (Mount ℕ) → ℕ → Option (Mount ℕ)

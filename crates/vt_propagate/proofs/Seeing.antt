@@ -19,15 +19,15 @@ use Rattle.vt_group.proofs.Showing.{shows_types}
 use Rattle.vt_group.proofs.Together.{named_numbers}
 use Rattle.vt_group.proofs.Typed.{regrouped_is_typed}
 use Rattle.vt_mount.specs.MountsValue.{MountEntry, mounts_in}
-use Rattle.vt_mount_laws.proofs.GroupsKept.{taking_away_keeps_groups}
-use Rattle.vt_mount_laws.proofs.GroupsLiving.{all_live, tested_live}
-use Rattle.vt_mount_laws.proofs.GroupsRetyped as retyping
+use Rattle.vt_laws_mounts.proofs.GroupsKept.{taking_away_keeps_groups}
+use Rattle.vt_laws_mounts.proofs.GroupsLiving.{all_live, tested_live}
+use Rattle.vt_laws_mounts.proofs.GroupsRetyped as retyping
 use Rattle.vt_propagate.specs.Falling.{left_by, moved_by}
 use Rattle.vt_propagate.specs.Laws.{DetachingIsSeen, RetypingIsSeen, SharingIsSeen, SlavesAreSeen}
 use Rattle.vt_retype.specs.Retyping.{AreTypedBut, shared_by, typed_entry, with_kind}
 use Rattle.vt_propagate.specs.Seen.{IsSeen}
-use Rattle.vt_mount_laws.specs.Mounts.Attaching.{numbers_of}
-use Rattle.vt_mount_laws.specs.Mounts.Receivers.{AllGroupsLive}
+use Rattle.vt_laws_mounts.specs.Mounts.Attaching.{numbers_of}
+use Rattle.vt_laws_mounts.specs.Mounts.Receivers.{AllGroupsLive}
 
 kind_told : (kind told : Propagation ℕ) → told ≡ shown kind → (if is_unbindable kind then Unbindable else told) ≡ kind
 kind_told (Shared group) told is = is

@@ -18,16 +18,16 @@ use Rattle.vt_group.proofs.Heirs.{heir_above, heir_itself, master_inherited}
 use Rattle.vt_group.proofs.Living.{group_lives}
 use Rattle.vt_group.proofs.Receiving.{Ends, living_ends}
 use Rattle.vt_mount.proofs.PointLemmas.{end-here, end-more, end_of}
-use Rattle.vt_mount_laws.specs.Mounts.Invariants.{OneNumberEach}
-use Rattle.vt_mount_laws.specs.Mounts.Standing.{AllStand}
-use Rattle.vt_mount_laws.proofs.GroupsKept.{taking_away_keeps_groups}
-use Rattle.vt_mount_laws.proofs.GroupsLiving.{all_live, tested_live}
-use Rattle.vt_mount_laws.proofs.mounts.MountsFound.{number_found}
-use Rattle.vt_mount_laws.proofs.mounts.Standing.{rank, rank_bounded, rank_child}
-use Rattle.vt_mount_laws.proofs.ends.Unmounting.{all_but_mounts, middle, number_after, numbers_taken, root_stays, staying_is_placed, taken}
+use Rattle.vt_laws_mounts.specs.Mounts.Invariants.{OneNumberEach}
+use Rattle.vt_laws_mounts.specs.Mounts.Standing.{AllStand}
+use Rattle.vt_laws_mounts.proofs.GroupsKept.{taking_away_keeps_groups}
+use Rattle.vt_laws_mounts.proofs.GroupsLiving.{all_live, tested_live}
+use Rattle.vt_laws_mounts.proofs.mounts.MountsFound.{number_found}
+use Rattle.vt_laws_mounts.proofs.mounts.Standing.{rank, rank_bounded, rank_child}
+use Rattle.vt_laws_mounts.proofs.ends.Unmounting.{all_but_mounts, middle, number_after, numbers_taken, root_stays, staying_is_placed, taken}
 use Rattle.vt_propagate.specs.LazyUnmounts.{PartsGoAtOnce}
-use Rattle.vt_mount_laws.proofs.Groups.{group-inherited, mounts-regrouped, members-regrouped}
-use Rattle.vt_mount_laws.specs.Mounts.Receivers.{AllGroupsLive}
+use Rattle.vt_laws_mounts.proofs.Groups.{group-inherited, mounts-regrouped, members-regrouped}
+use Rattle.vt_laws_mounts.specs.Mounts.Receivers.{AllGroupsLive}
 
 -- a mount that goes, or falls
 abbrev gone_if : Bool → (Location ℕ → Location ℕ) → Mount ℕ → Mount ℕ

@@ -10,8 +10,8 @@ use Rattle.vt_location.specs.declared.numbers.MountId.{MountId}
 use Rattle.vt_mount.specs.MountsValue.{MountEntry, are_ascending, mounts_in}
 use Rattle.vt_propagate.specs.Seen.{IsSeen, ReachesAs, joins, mounts_numbered}
 use Rattle.vt_propagate.proofs.Found.{counts, numbered, numbered_again, passing}
-use Rattle.vt_mount_laws.specs.Mounts.Attaching.{numbers_of}
-use Rattle.vt_mount_laws.proofs.mounts.Receivers.{receivers_there}
+use Rattle.vt_laws_mounts.specs.Mounts.Attaching.{numbers_of}
+use Rattle.vt_laws_mounts.proofs.mounts.Receivers.{receivers_there}
 
 module _ (world : World ℕ) (kept : List MountEntry) (grouping : Grouping) (seen : IsSeen world kept grouping) where
   -- the mount at a place

@@ -13,7 +13,7 @@ use Rattle.vt_mount.specs.MountsValue.{MountEntry, mounts_in}
 use Rattle.vt_propagate.specs.Falling.{LeavesBy, left_by}
 use Rattle.vt_retype.specs.Retyping.{FollowsTypes, shared_by}
 use Rattle.vt_propagate.specs.Seen.{IsSeen}
-use Rattle.vt_mount_laws.specs.Mounts.Attaching.{numbers_of}
+use Rattle.vt_laws_mounts.specs.Mounts.Attaching.{numbers_of}
 
 -- Mounts are detached, and leave their groups.
 abbrev pub DetachingIsSeen : Type 0

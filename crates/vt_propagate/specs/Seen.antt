@@ -5,7 +5,7 @@ use Rattle.vt_spec.specs.Machine.Mounts.{Location, Mount}
 use Rattle.vt_spec.specs.Machine.World.{World, filesystem_numbered}
 use Rattle.vt_group.specs.Grouping.{Grouping, Has}
 use Rattle.vt_mount.specs.MountsValue.{MountEntry, mounts_in}
-use Rattle.vt_mount_laws.specs.Mounts.Receivers.{AllGroupsLive}
+use Rattle.vt_laws_mounts.specs.Mounts.Receivers.{AllGroupsLive}
 
 -- A world has these mounts and these groups, and each group of a mount lives.
 pub record IsSeen (world : World ℕ) (kept : List MountEntry) (grouping : Grouping) : Type 0 where

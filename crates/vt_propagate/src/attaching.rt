@@ -12,7 +12,7 @@ ghost use Rattle.vt_propagate.specs.Copying.{HasRoomFor, new_group};
 ghost use Rattle.vt_propagate.specs.Falling.{point_of};
 ghost use Rattle.vt_propagate.specs.Pushing.{KeepsLeaver, MovesOnce, OneChild};
 ghost use Rattle.vt_propagate.specs.Seen.{IsSeen};
-ghost use Rattle.vt_mount_laws.specs.Mounts.Attaching.{OneNumberAMount};
+ghost use Rattle.vt_laws_mounts.specs.Mounts.Attaching.{OneNumberAMount};
 
 use crate::copying::{Counts, Graft, copies, new_groups};
 use crate::indexes::Indexes;

@@ -16,7 +16,7 @@ ghost use Rattle.vt_propagate.specs.declared.copying.Counts.{Counts};
 ghost use Rattle.vt_propagate.specs.Falling.{point_of};
 ghost use Rattle.vt_propagate.specs.Planned.{planned_copies};
 ghost use Rattle.vt_propagate.specs.Pushing.{KeepsLeaver, MovesOnce, OneChild, PushesBy, leaver, pushed_at, pushes_from};
-ghost use Rattle.vt_mount_laws.specs.Mounts.Attaching.{OneNumberAMount};
+ghost use Rattle.vt_laws_mounts.specs.Mounts.Attaching.{OneNumberAMount};
 
 use crate::copying::Graft;
 use std::alloc::{AllocError, Global};

@@ -11,8 +11,8 @@ ghost use Rattle.vt_location.specs.MountValue.{mount_of, propagation_of};
 ghost use Rattle.vt_location.specs.Numbers.{counted};
 ghost use Rattle.vt_mount.specs.MountsValue.{mounts_in};
 ghost use Rattle.vt_propagate.specs.Seen.{IsSeen, ReachesAs, is_mounted, joins, mounts_numbered};
-ghost use Rattle.vt_mount_laws.specs.Mounts.Attaching.{numbers_of};
-ghost use Rattle.vt_mount_laws.specs.Mounts.Receivers.{AllGroupsLive};
+ghost use Rattle.vt_laws_mounts.specs.Mounts.Attaching.{numbers_of};
+ghost use Rattle.vt_laws_mounts.specs.Mounts.Receivers.{AllGroupsLive};
 
 use crate::reach::Reach;
 use std::alloc::{AllocError, Global};

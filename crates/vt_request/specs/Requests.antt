@@ -16,6 +16,20 @@ use Rattle.vt_request.specs.declared.request.TypeWord.{TypeWord}
 use Rattle.vt_request.specs.declared.request.TypeWord.TheVariants.{Private, Shared, Slave, Unbindable}
 use Rattle.vt_request.specs.declared.request.Call.{Call}
 use Rattle.vt_request.specs.declared.request.Call.TheVariants as call
+use Rattle.vt_request.specs.declared.request.LookCall.{LookCall}
+use Rattle.vt_request.specs.declared.request.LookCall.TheVariants as look
+use Rattle.vt_request.specs.declared.request.MakeCall.{MakeCall}
+use Rattle.vt_request.specs.declared.request.MakeCall.TheVariants as make
+use Rattle.vt_request.specs.declared.request.RemoveCall.{RemoveCall}
+use Rattle.vt_request.specs.declared.request.RemoveCall.TheVariants as remove
+use Rattle.vt_request.specs.declared.request.WriteCall.{WriteCall}
+use Rattle.vt_request.specs.declared.request.WriteCall.TheVariants as write
+use Rattle.vt_request.specs.declared.request.DescriptorCall.{DescriptorCall}
+use Rattle.vt_request.specs.declared.request.DescriptorCall.TheVariants as descriptor
+use Rattle.vt_request.specs.declared.request.TaskCall.{TaskCall}
+use Rattle.vt_request.specs.declared.request.TaskCall.TheVariants as task
+use Rattle.vt_request.specs.declared.request.MountCall.{MountCall}
+use Rattle.vt_request.specs.declared.request.MountCall.TheVariants as mount
 
 -- the capabilities that a word names
 abbrev pub capabilities_of : CapsWord → spec.CapabilityWord
@@ -50,43 +64,72 @@ type_word_of Slave = spec.TypeWord.ToSlave
 type_word_of Private = spec.TypeWord.ToPrivate
 type_word_of Unbindable = spec.TypeWord.ToUnbindable
 
+-- a call that only looks
+abbrev pub look_call_of : LookCall → spec.Call
+look_call_of (look.Ls path) = spec.Call.Ls path.items
+look_call_of (look.Stat path) = spec.Call.Stat path.items
+look_call_of (look.Lstat path) = spec.Call.Lstat path.items
+look_call_of (look.Readlink path) = spec.Call.Readlink path.items
+look_call_of (look.Read path) = spec.Call.Read path.items
+look_call_of (look.Exec path) = spec.Call.Exec path.items
+look_call_of (look.Pread descriptor offset size) = spec.Call.Pread descriptor offset size
+look_call_of look.ListMounts = spec.Call.ListMounts
+
+-- a call that makes a name
+abbrev pub make_call_of : MakeCall → spec.Call
+make_call_of (make.Mkdir path mode) = spec.Call.Mkdir path.items mode
+make_call_of (make.Symlink text path) = spec.Call.SymlinkAt text.items path.items
+make_call_of (make.Link old new) = spec.Call.LinkTo old.items new.items
+
+-- a call that takes a name away
+abbrev pub remove_call_of : RemoveCall → spec.Call
+remove_call_of (remove.Unlink path) = spec.Call.Unlink path.items
+remove_call_of (remove.Rmdir path) = spec.Call.Rmdir path.items
+remove_call_of (remove.Rename old new) = spec.Call.Rename old.items new.items
+
+-- a call that sets the content, the owner or the mode of a file
+abbrev pub write_call_of : WriteCall → spec.Call
+write_call_of (write.Write path bytes) = spec.Call.Write path.items bytes.items
+write_call_of (write.Pwrite descriptor offset bytes) = spec.Call.Pwrite descriptor offset bytes.items
+write_call_of (write.Chmod path mode) = spec.Call.Chmod path.items mode
+write_call_of (write.Chown path uid gid) = spec.Call.Chown path.items uid gid
+
+-- a call that opens or closes a file
+abbrev pub descriptor_call_of : DescriptorCall → spec.Call
+descriptor_call_of (descriptor.Open path access creation) =
+    spec.Call.OpenFile path.items (access_of access) (creation_of creation)
+descriptor_call_of (descriptor.Close number) = spec.Call.Close number
+
+-- a call that changes the caller, or makes a task
+abbrev pub task_call_of : TaskCall → spec.Call
+task_call_of (task.Chdir path) = spec.Call.Chdir path.items
+task_call_of (task.Chroot path) = spec.Call.Chroot path.items
+task_call_of (task.Umask mode) = spec.Call.Umask mode
+task_call_of (task.Drop caps) = spec.Call.Drop (capabilities_of caps)
+task_call_of (task.Fork words) = spec.Call.Fork (option_map fork_words_of words)
+task_call_of task.Exit = spec.Call.Exit
+task_call_of task.Unshare = spec.Call.Unshare
+task_call_of (task.Setns name) = spec.Call.Setns name
+
+-- a call that changes mounts
+abbrev pub mount_call_of : MountCall → spec.Call
+mount_call_of (mount.Plain path flags) = spec.Call.MountPlain path.items (flags_of flags)
+mount_call_of (mount.Bind source path recursive) = spec.Call.Bind source.items path.items recursive
+mount_call_of (mount.Move source path) = spec.Call.MoveMount source.items path.items
+mount_call_of (mount.Umount path) = spec.Call.Umount path.items
+mount_call_of (mount.Lazy path) = spec.Call.Lazy path.items
+mount_call_of (mount.Remount path flags) = spec.Call.Remount path.items (flags_of flags)
+mount_call_of (mount.SetType path word recursive) = spec.Call.SetType path.items (type_word_of word) recursive
+
 -- the call, in the policy's words
 abbrev pub call_of : Call → spec.Call
-call_of (call.Ls path) = spec.Call.Ls path.items
-call_of (call.Stat path) = spec.Call.Stat path.items
-call_of (call.Lstat path) = spec.Call.Lstat path.items
-call_of (call.Readlink path) = spec.Call.Readlink path.items
-call_of (call.Read path) = spec.Call.Read path.items
-call_of (call.Write path bytes) = spec.Call.Write path.items bytes.items
-call_of (call.Exec path) = spec.Call.Exec path.items
-call_of (call.Mkdir path mode) = spec.Call.Mkdir path.items mode
-call_of (call.Symlink text path) = spec.Call.SymlinkAt text.items path.items
-call_of (call.Link old new) = spec.Call.LinkTo old.items new.items
-call_of (call.Unlink path) = spec.Call.Unlink path.items
-call_of (call.Rmdir path) = spec.Call.Rmdir path.items
-call_of (call.Rename old new) = spec.Call.Rename old.items new.items
-call_of (call.Chmod path mode) = spec.Call.Chmod path.items mode
-call_of (call.Chown path uid gid) = spec.Call.Chown path.items uid gid
-call_of (call.OpenFile path access creation) = spec.Call.OpenFile path.items (access_of access) (creation_of creation)
-call_of (call.Pread descriptor offset size) = spec.Call.Pread descriptor offset size
-call_of (call.Pwrite descriptor offset bytes) = spec.Call.Pwrite descriptor offset bytes.items
-call_of (call.Close descriptor) = spec.Call.Close descriptor
-call_of (call.Chdir path) = spec.Call.Chdir path.items
-call_of (call.Chroot path) = spec.Call.Chroot path.items
-call_of (call.Umask mode) = spec.Call.Umask mode
-call_of (call.Drop caps) = spec.Call.Drop (capabilities_of caps)
-call_of (call.Fork words) = spec.Call.Fork (option_map fork_words_of words)
-call_of call.Exit = spec.Call.Exit
-call_of call.Unshare = spec.Call.Unshare
-call_of (call.Setns task) = spec.Call.Setns task
-call_of (call.MountPlain path flags) = spec.Call.MountPlain path.items (flags_of flags)
-call_of (call.Bind source path recursive) = spec.Call.Bind source.items path.items recursive
-call_of (call.MoveMount source path) = spec.Call.MoveMount source.items path.items
-call_of (call.Umount path) = spec.Call.Umount path.items
-call_of (call.Lazy path) = spec.Call.Lazy path.items
-call_of (call.Remount path flags) = spec.Call.Remount path.items (flags_of flags)
-call_of (call.SetType path word recursive) = spec.Call.SetType path.items (type_word_of word) recursive
-call_of call.ListMounts = spec.Call.ListMounts
+call_of (call.Look asked) = look_call_of asked
+call_of (call.Make asked) = make_call_of asked
+call_of (call.Remove asked) = remove_call_of asked
+call_of (call.Write asked) = write_call_of asked
+call_of (call.Descriptor asked) = descriptor_call_of asked
+call_of (call.Task asked) = task_call_of asked
+call_of (call.Mount asked) = mount_call_of asked
 
 -- a directive, in the policy's words
 abbrev pub directive_of : Directive → spec.Directive

@@ -2,9 +2,14 @@
 #![tactic(auto)]
 
 pub mod answer;
+pub mod kind;
 pub mod request;
 pub mod task;
 
 pub use answer::{Answer, MountLine, MountPlace, PeerLine, Spot, StatLine, TypeLine};
-pub use request::{Access, Call, CapsWord, Creation, Directive, ForkWords, TypeWord};
+pub use kind::CallKind;
+pub use request::{
+    Access, Call, CapsWord, Creation, DescriptorCall, Directive, ForkWords, LookCall, MakeCall,
+    MountCall, RemoveCall, TaskCall, TypeWord, WriteCall,
+};
 pub use task::TaskName;

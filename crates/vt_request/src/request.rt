@@ -76,6 +76,18 @@ pub struct ForkWords {
 /// A call of a task.
 #[derive(Debug, Drop)]
 pub enum Call {
+    Look(LookCall),
+    Make(MakeCall),
+    Remove(RemoveCall),
+    Write(WriteCall),
+    Descriptor(DescriptorCall),
+    Task(TaskCall),
+    Mount(MountCall),
+}
+
+/// A call that only looks.
+#[derive(Debug, Drop)]
+pub enum LookCall {
     /// The names in a directory: open(2) with `O_DIRECTORY`, then getdents(2).
     Ls {
         path: Vec<u8>,
@@ -96,43 +108,56 @@ pub enum Call {
     Read {
         path: Vec<u8>,
     },
+    /// execve(2), as far as it asks for rights.
+    Exec {
+        path: Vec<u8>,
+    },
+    /// pread(2)
+    Pread {
+        descriptor: u8,
+        offset: u32,
+        size: u32,
+    },
+    /// The mounts of the caller's namespace: mountinfo of proc(5).
+    ListMounts,
+}
+
+/// A call that makes a name.
+#[derive(Debug, Drop)]
+pub enum MakeCall {
+    /// mkdir(2)
+    Mkdir { path: Vec<u8>, mode: Option<Mode> },
+    /// symlink(2): a link with this text at this path.
+    Symlink { text: Vec<u8>, path: Vec<u8> },
+    /// link(2)
+    Link { old: Vec<u8>, new: Vec<u8> },
+}
+
+/// A call that takes a name away.
+#[derive(Debug, Drop)]
+pub enum RemoveCall {
+    /// unlink(2)
+    Unlink { path: Vec<u8> },
+    /// rmdir(2)
+    Rmdir { path: Vec<u8> },
+    /// rename(2)
+    Rename { old: Vec<u8>, new: Vec<u8> },
+}
+
+/// A call that sets the content, the owner or the mode of a file.
+#[derive(Debug, Drop)]
+pub enum WriteCall {
     /// Sets the whole content of a file, and makes a missing one: open(2) with `O_WRONLY`,
     /// `O_CREAT` and `O_TRUNC`, then write(2).
     Write {
         path: Vec<u8>,
         bytes: Vec<u8>,
     },
-    /// execve(2), as far as it asks for rights.
-    Exec {
-        path: Vec<u8>,
-    },
-    /// mkdir(2)
-    Mkdir {
-        path: Vec<u8>,
-        mode: Option<Mode>,
-    },
-    /// symlink(2): a link with this text at this path.
-    Symlink {
-        text: Vec<u8>,
-        path: Vec<u8>,
-    },
-    /// link(2)
-    Link {
-        old: Vec<u8>,
-        new: Vec<u8>,
-    },
-    /// unlink(2)
-    Unlink {
-        path: Vec<u8>,
-    },
-    /// rmdir(2)
-    Rmdir {
-        path: Vec<u8>,
-    },
-    /// rename(2)
-    Rename {
-        old: Vec<u8>,
-        new: Vec<u8>,
+    /// pwrite(2)
+    Pwrite {
+        descriptor: u8,
+        offset: u32,
+        bytes: Vec<u8>,
     },
     /// chmod(2)
     Chmod {
@@ -145,58 +170,49 @@ pub enum Call {
         uid: Option<u32>,
         gid: Option<u32>,
     },
+}
+
+/// A call that opens or closes a file.
+#[derive(Debug, Drop)]
+pub enum DescriptorCall {
     /// open(2)
-    OpenFile {
+    Open {
         path: Vec<u8>,
         access: Access,
         creation: Creation,
-    },
-    /// pread(2)
-    Pread {
-        descriptor: u8,
-        offset: u32,
-        size: u32,
-    },
-    /// pwrite(2)
-    Pwrite {
-        descriptor: u8,
-        offset: u32,
-        bytes: Vec<u8>,
     },
     /// close(2)
     Close {
         descriptor: u8,
     },
+}
+
+/// A call that changes the caller, or makes a task.
+#[derive(Debug, Drop)]
+pub enum TaskCall {
     /// chdir(2)
-    Chdir {
-        path: Vec<u8>,
-    },
+    Chdir { path: Vec<u8> },
     /// chroot(2)
-    Chroot {
-        path: Vec<u8>,
-    },
+    Chroot { path: Vec<u8> },
     /// umask(2)
-    Umask {
-        mode: Mode,
-    },
+    Umask { mode: Mode },
     /// Gives capabilities up: capset(2).
-    Drop {
-        caps: CapsWord,
-    },
+    Drop { caps: CapsWord },
     /// fork(2): with the caller's credentials, or with these.
-    Fork {
-        words: Option<ForkWords>,
-    },
+    Fork { words: Option<ForkWords> },
     /// _exit(2)
     Exit,
     /// unshare(2) with `CLONE_NEWNS`
     Unshare,
     /// setns(2): the namespace of this task.
-    Setns {
-        task: TaskName,
-    },
+    Setns { task: TaskName },
+}
+
+/// A call that changes mounts.
+#[derive(Debug, Drop)]
+pub enum MountCall {
     /// mount(2) of a new, empty tmpfs
-    MountPlain {
+    Plain {
         path: Vec<u8>,
         flags: MountFlags,
     },
@@ -207,7 +223,7 @@ pub enum Call {
         recursive: bool,
     },
     /// mount(2) with `MS_MOVE`
-    MoveMount {
+    Move {
         source: Vec<u8>,
         path: Vec<u8>,
     },
@@ -230,8 +246,6 @@ pub enum Call {
         word: TypeWord,
         recursive: bool,
     },
-    /// The mounts of the caller's namespace: mountinfo of proc(5).
-    ListMounts,
 }
 
 /// What a line asks of all namespaces together. It is no task's, and needs no right.

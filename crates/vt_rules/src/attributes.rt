@@ -1,7 +1,7 @@
 //! Who may set attributes: chmod(2), chown(2).
 ghost use Rattle.std.specs.Prelude.{◌≡◌, nat_eq};
 ghost use Rattle.vt_spec.specs.Machine.Judge.{attr_permit};
-ghost use Rattle.vt_spec.specs.Machine.Outcome.Attributes.{may_chown};
+ghost use Rattle.vt_spec.specs.Machine.Attributes.{may_chown};
 ghost use Rattle.vt_location.specs.Locations.{location_of};
 ghost use Rattle.vt_permits.specs.Memory.{JudgesAlike};
 ghost use Rattle.vt_tasks.specs.TaskValue.{task_of};
@@ -11,7 +11,7 @@ use vt_cred::{Caps, Cred};
 use vt_location::Location;
 use vt_looks::Look;
 use vt_node::Attr;
-use vt_permits::Permit;
+use vt_permits::{Grant, WriteGrant};
 use vt_spec::errors::{Deny, Rule};
 use vt_tasks::Task;
 
@@ -24,7 +24,7 @@ pub fn attr_permit<L: Look>(
     object: Location,
     allowed: bool,
     attr: Attr,
-) -> Result<Permit, Deny>
+) -> Result<Grant, Deny>
     ensures { JudgesAlike (task_of who.now)
         (attr_permit nat_eq (L.looks world.now) (location_of object) allowed attr) result }
 {
@@ -35,7 +35,7 @@ pub fn attr_permit<L: Look>(
     if !allowed {
         return Err(Rule::C2.denial());
     }
-    Ok(Permit::ToSetAttr { object, attr })
+    Ok(Grant::Write(WriteGrant::Attr { object, attr }))
 }
 
 /// Whether these credentials may change the owner and group of an object so: chown(2).

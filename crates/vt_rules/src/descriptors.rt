@@ -1,8 +1,7 @@
 //! What may be opened, and the files of descriptors: open(2), pread(2), pwrite(2).
 ghost use Rattle.std.specs.Prelude.{◌≡◌, nat_eq, ℕ};
 ghost use Rattle.vt_spec.specs.Machine.Judge.{create_file_permit, open_file_permit};
-ghost use Rattle.vt_spec.specs.Machine.Outcome.Descriptors.{access_rights};
-ghost use Rattle.vt_spec.specs.Machine.Rules.Descriptors.{descriptor_at};
+ghost use Rattle.vt_spec.specs.Machine.Rules.Descriptors.{access_rights, descriptor_at};
 ghost use Rattle.vt_spec.specs.Machine.Walking.{Place as PlaceMeant};
 ghost use Rattle.vt_cred.specs.Rights.{right_bits};
 ghost use Rattle.vt_location.specs.Locations.{location_of};
@@ -18,7 +17,7 @@ use vt_cred::{Flags, Mode, Rights};
 use vt_location::Location;
 use vt_looks::{Look, Place};
 use vt_node::{Kind, Node};
-use vt_permits::Permit;
+use vt_permits::{DescriptorGrant, Grant, ToOpenNew};
 use vt_request::Access;
 use vt_spec::errors::{Deny, Rule};
 use vt_tasks::Task;
@@ -42,7 +41,7 @@ pub fn open_file_permit<L: Look>(
     who: &Task,
     file: Location,
     access: Access,
-) -> Result<Permit, Deny>
+) -> Result<Grant, Deny>
     ensures { JudgesAlike (task_of who.now)
         (open_file_permit nat_eq (L.looks world.now) (task_of who.now) (location_of file) (access_of access))
         result }
@@ -60,7 +59,7 @@ pub fn open_file_permit<L: Look>(
     if !may(world, who, file, rights_of(access)) {
         return Err(Rule::C1.denial());
     }
-    Ok(Permit::ToOpen { file, access })
+    Ok(Grant::Descriptor(DescriptorGrant::Open { file, access }))
 }
 
 /// The permit to make a file at a place, and to open it: open(2) with `O_CREAT`.
@@ -73,18 +72,18 @@ pub fn create_file_permit<L: Look>(
     place: &Place,
     access: Access,
     mode: Mode,
-) -> Result<Permit, Deny>
+) -> Result<Grant, Deny>
     ensures { (meant : PlaceMeant ℕ) → IsPlaceOf place.now meant → Judges (task_of who.now)
         (create_file_permit nat_eq (L.looks world.now) (task_of who.now) meant (access_of access) mode)
         result }
 {
     may_make(world, who, place.parent)?;
-    Ok(Permit::ToOpenNew {
+    Ok(Grant::Descriptor(DescriptorGrant::OpenNew(ToOpenNew {
         directory: place.parent,
         name: name_at(alloc, place.last)?,
         node: Node::new_file(new_attr(who, mode), Vec::new(alloc)),
         access,
-    })
+    })))
 }
 
 /// The file of a descriptor that was opened for reading: pread(2).

@@ -7,7 +7,7 @@ ghost use Rattle.vt_spec.specs.Machine.Rules.Making.{make_rules};
 ghost use Rattle.vt_spec.specs.Machine.Walking.{Place as PlaceMeant};
 ghost use Rattle.vt_spec.specs.Tree.{new_directory};
 ghost use Rattle.vt_location.specs.Locations.{location_of, number_of};
-ghost use Rattle.vt_permits.specs.PermitValue.{node_in};
+ghost use Rattle.vt_permits.specs.GrantValue.{node_in};
 ghost use Rattle.vt_permits.specs.Memory.{Judges, JudgesAlike};
 ghost use Rattle.vt_tasks.specs.TaskValue.{task_of};
 ghost use Rattle.vt_rules.specs.Places.{IsPlaceOf};
@@ -18,7 +18,7 @@ use vt_cred::{Mode, Rights};
 use vt_location::Location;
 use vt_looks::{Look, Place};
 use vt_node::{Attr, Kind, LARGEST_FILE, Node};
-use vt_permits::Permit;
+use vt_permits::{Grant, MakeGrant, ToMake, WriteGrant};
 use vt_spec::errors::{Deny, Rule};
 use vt_tasks::Task;
 
@@ -58,7 +58,7 @@ pub fn rewrite_permit<L: Look>(
     who: &Task,
     file: Location,
     bytes: Vec<u8>,
-) -> Result<Permit, Deny>
+) -> Result<Grant, Deny>
     ensures { (place : PlaceMeant ℕ) → JudgesAlike (task_of who.now)
         (written_permit nat_eq (L.looks world.now) (task_of who.now) place bytes.items
         (Some (location_of file)))
@@ -80,7 +80,7 @@ pub fn rewrite_permit<L: Look>(
     if !may(world, who, file, Rights::WRITE) {
         return Err(Rule::C1.denial());
     }
-    Ok(Permit::ToWrite { file, bytes })
+    Ok(Grant::Write(WriteGrant::Content { file, bytes }))
 }
 
 /// The permit to make a file with this content at a place: open(2) with `O_CREAT`, then write(2).
@@ -92,7 +92,7 @@ pub fn new_file_permit<L: Look>(
     who: &Task,
     place: &Place,
     bytes: Vec<u8>,
-) -> Result<Permit, Deny>
+) -> Result<Grant, Deny>
     ensures { (meant : PlaceMeant ℕ) → IsPlaceOf place.now meant → Judges (task_of who.now)
         (written_permit nat_eq (L.looks world.now) (task_of who.now) meant bytes.items None)
         result }
@@ -102,9 +102,9 @@ pub fn new_file_permit<L: Look>(
     }
     may_make(world, who, place.parent)?;
     let attr = new_attr(who, Mode::new(FILE_MODE).unwrap());
-    Ok(Permit::ToMake {
+    Ok(Grant::Make(MakeGrant::Node(ToMake {
         directory: place.parent,
         name: name_at(alloc, place.last)?,
         node: Node::new_file(attr, bytes),
-    })
+    })))
 }

@@ -3,7 +3,7 @@
 ghost use Rattle.std.specs.Prelude.{◌≡◌, ◌||◌, length, nat_le, Ok, Some};
 ghost use Rattle.vt_spec.specs.Language.Limits.{deepest_name, most_forks};
 ghost use Rattle.vt_spec.specs.Errors.{unless};
-ghost use Rattle.vt_spec.specs.Machine.Outcome.Tasks.{capabilities_of, child_credentials};
+ghost use Rattle.vt_spec.specs.Machine.Tasks.{capabilities_of, child_credentials};
 ghost use Rattle.vt_spec.specs.Machine.Rules.Tasks.{enter_rules, fork_rules};
 ghost use Rattle.vt_cred.specs.Caps.{capability_bits};
 ghost use Rattle.vt_location.specs.Locations.{location_of};

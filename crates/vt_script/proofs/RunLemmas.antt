@@ -1,15 +1,16 @@
 -- Moments of a run, one after another.
-use Rattle.std.proofs.Common.{◌≡◌, ◌≢◌, ◌<◌, ◌-◌, ℕ, suc, ◌+◌, ◌==◌, arith, drop, get_or, length, length-append, length-take, take, Bool, true, false, List, [], ◌∷◌, ◌++◌, Some, None, refl, sym, ap, ◌∙◌, subst, append_assoc, nat_eq}
+use Rattle.std.proofs.Common.{◌≡◌, ◌≢◌, ◌<◌, ◌-◌, ℕ, suc, ◌+◌, ◌==◌, arith, drop, get_or, length, length-take, map, take, Bool, true, false, List, [], ◌∷◌, ◌++◌, Some, None, refl, sym, ap, ◌∙◌, subst, append_assoc, nat_eq}
 use Rattle.std.proofs.lemmas.Bool.Decides.{nat_tests}
 use Rattle.std.proofs.lemmas.List.{append-nil, drop_more, get_or-take, take-append-drop, take_rest}
 use Rattle.vt_spec.specs.Language.Script.{lines_of, propagation, with_line_byte}
 use Rattle.vt_spec.specs.Machine.Run.{handed, later, line_step, numbers_for, step_text, step_world, text_from}
 use Rattle.vt_spec.specs.Machine.SameWorlds.{SameWorlds}
 use Rattle.vt_spec.specs.Machine.World.{World}
-use Rattle.vt_laws.specs.Numbers.{Allotment}
-use Rattle.vt_run_laws.specs.Handed.{may_be_given}
-use Rattle.vt_run_laws.specs.Runs.{ServesInHand, TellsAlike}
+use Rattle.vt_laws_rules.specs.Numbers.{Allotment}
+use Rattle.vt_laws_runs.specs.Handed.{may_be_given}
+use Rattle.vt_laws_runs.specs.Runs.{ServesInHand, TellsAlike}
 use Rattle.vt_script.specs.Progress.{Moment, Runs, HasNoNewline, after_line, whole_lines, whole_with}
+use Rattle.vt_script.specs.Refused.{LineTakesMemory, MayBeRefused}
 use Rattle.vt_script.specs.Session.{step_of}
 
 -- a line ends at its newline
@@ -131,9 +132,34 @@ lines_of-whole (byte ∷ ended) more whole =
     ∙ with_line_byte-append (byte == 10) byte (lines_of ended) (lines_of more)
     (goes_on_whole (byte == 10) byte ended (ap (whole_with (byte == 10) byte) (sym rest) ∙ whole))
 
+-- each line of some lines and of others may be refused
+pub MayBeRefused-append : (lines more : List (List ℕ)) (refused others : List Bool) → MayBeRefused lines refused
+    → MayBeRefused more others → MayBeRefused (lines ++ more) (refused ++ others)
+MayBeRefused-append [] more [] others may also = also
+MayBeRefused-append [] more (one ∷ refused) others may also = absurd may
+MayBeRefused-append (line ∷ lines) more [] others may also = absurd may
+MayBeRefused-append (line ∷ lines) more (true ∷ refused) others may also =
+    (may.0, MayBeRefused-append lines more refused others may.1 also)
+MayBeRefused-append (line ∷ lines) more (false ∷ refused) others may also =
+    MayBeRefused-append lines more refused others may also
+
+-- no line has to be refused
+pub MayBeRefused-none : (lines : List (List ℕ)) → MayBeRefused lines (map (λ line. false) lines)
+MayBeRefused-none [] = tt
+MayBeRefused-none (line ∷ lines) = MayBeRefused-none lines
+
+-- a truth value for each line
+pub MayBeRefused-length : (lines : List (List ℕ)) (refused : List Bool) → MayBeRefused lines refused
+    → length refused ≡ length lines
+MayBeRefused-length [] [] may = refl
+MayBeRefused-length [] (one ∷ refused) may = absurd may
+MayBeRefused-length (line ∷ lines) [] may = absurd may
+MayBeRefused-length (line ∷ lines) (true ∷ refused) may = ap suc (MayBeRefused-length lines refused may.1)
+MayBeRefused-length (line ∷ lines) (false ∷ refused) may = ap suc (MayBeRefused-length lines refused may)
+
 -- nothing read, nothing written
 pub stays : (moment : Moment) → Runs moment [] [] moment
-stays moment = record { ended = []; split = append-nil moment.line; whole = refl; refused = []; counted = refl; goes_on = λ more later rest told. told }
+stays moment = record { ended = []; split = append-nil moment.line; whole = refl; refused = []; may_be = tt; goes_on = λ more later rest told. told }
 
 -- what is read one after another is written one after another
 pub runs_then : (a b c : Moment) (read more_read text more_text : List ℕ) → Runs a read text b
@@ -145,15 +171,8 @@ runs_then a b c read more_read text more_text first second = record {
       ∙ sym (append_assoc first.ended second.ended c.line);
   whole = whole_lines-append first.ended second.ended first.whole second.whole;
   refused = first.refused ++ second.refused;
-  counted =
-      omega (
-        arith,
-        first.counted,
-        second.counted,
-        length-append first.refused second.refused,
-        ap length (lines_of-whole first.ended second.ended first.whole),
-        length-append (lines_of first.ended) (lines_of second.ended),
-      );
+  may_be = rw (lines_of-whole first.ended second.ended first.whole)
+      (MayBeRefused-append (lines_of first.ended) (lines_of second.ended) first.refused second.refused first.may_be second.may_be);
   goes_on = λ more later rest told.
       rw (append_assoc first.ended second.ended more, append_assoc first.refused second.refused later, append_assoc text more_text rest)
       (first.goes_on (second.ended ++ more) (second.refused ++ later) (more_text ++ rest)
@@ -163,22 +182,22 @@ runs_then a b c read more_read text more_text first second = record {
 -- bytes that are read belong to the line
 pub runs_bytes : (moment : Moment) (bytes : List ℕ)
     → Runs moment bytes [] (record moment { line = moment.line ++ bytes })
-runs_bytes moment bytes = record { ended = []; split = refl; whole = refl; refused = []; counted = refl; goes_on = λ more later rest told. told }
+runs_bytes moment bytes = record { ended = []; split = refl; whole = refl; refused = []; may_be = tt; goes_on = λ more later rest told. told }
 
 line_then : (line more : List ℕ) → HasNoNewline line → lines_of ((line ++ 10 ∷ []) ++ more) ≡ line ∷ lines_of more
 line_then line more none = ap lines_of (append_assoc line (10 ∷ []) more) ∙ lines_of-newline line more none
 
 -- a newline answers the line, which was refused memory
-pub runs_refused : (moment : Moment) (world : World ℕ) → HasNoNewline moment.line →
+pub runs_refused : (moment : Moment) (world : World ℕ) → HasNoNewline moment.line → LineTakesMemory moment.line →
     let step = step_of moment.world moment.line None in
     SameWorlds (step_world moment.world step) world →
     Runs moment (10 ∷ []) (step_text (moment.answered + 1) step) (after_line moment world)
-runs_refused moment world none same = record {
+runs_refused moment world none takes same = record {
   ended = moment.line ++ 10 ∷ [];
   split = sym (append-nil (moment.line ++ 10 ∷ []));
   whole = whole_lines-newline moment.line;
   refused = true ∷ [];
-  counted = sym (ap length (lines_of-newline moment.line [] none));
+  may_be = subst (λ lines. MayBeRefused lines (true ∷ [])) (sym (lines_of-newline moment.line [] none)) (takes, tt);
   goes_on = λ more later rest told.
       subst (λ lines. TellsAlike propagation may_be_given moment.world (moment.answered + 1) lines (true ∷ later)
       (step_text (moment.answered + 1) (step_of moment.world moment.line None) ++ rest))
@@ -197,7 +216,7 @@ runs_spoken moment allotment world serves none same = record {
   split = sym (append-nil (moment.line ++ 10 ∷ []));
   whole = whole_lines-newline moment.line;
   refused = false ∷ [];
-  counted = sym (ap length (lines_of-newline moment.line [] none));
+  may_be = subst (λ lines. MayBeRefused lines (false ∷ [])) (sym (lines_of-newline moment.line [] none)) tt;
   goes_on = λ more later rest told.
       subst (λ lines. TellsAlike propagation may_be_given moment.world (moment.answered + 1) lines (false ∷ later)
       (step_text (moment.answered + 1) (step_of moment.world moment.line (Some allotment)) ++ rest))

@@ -8,11 +8,12 @@ use Rattle.vt_spec.specs.Language.Script.{lines_of, propagation}
 use Rattle.vt_spec.specs.Machine.Run.{step_text, step_world}
 use Rattle.vt_spec.specs.Machine.SameWorlds.{SameWorlds}
 use Rattle.vt_spec.specs.Machine.World.{World}
-use Rattle.vt_laws.specs.Numbers.{Allotment}
-use Rattle.vt_run_laws.specs.Handed.{may_be_given}
-use Rattle.vt_run_laws.specs.Runs.{TellsAlike}
-use Rattle.vt_run_laws.proofs.answered.AlikeWorlds.{sameness_is_an_equivalence}
+use Rattle.vt_laws_rules.specs.Numbers.{Allotment}
+use Rattle.vt_laws_runs.specs.Handed.{may_be_given}
+use Rattle.vt_laws_runs.specs.Runs.{TellsAlike}
+use Rattle.vt_laws_runs.proofs.answered.AlikeWorlds.{sameness_is_an_equivalence}
 use Rattle.vt_script.specs.Progress.{Moment, Runs, HasNoNewline, after_line}
+use Rattle.vt_script.specs.Refused.{MayBeRefused}
 use Rattle.vt_script.specs.Session.{State, moment, IsReading, IsHanded, Fed, Feeds, Broke, begun, lines_begun, IsLast, Closed, BrokeLast, Closes, Replied, BrokeReply, Replies, step_of}
 use Rattle.vt_script.proofs.RunLemmas.{stays, runs_then, runs_bytes, runs_refused, runs_spoken, lines_of-last, HasNoNewline-append}
 
@@ -95,11 +96,11 @@ module _ {W : Type 0} (sink : Ghosts W) where
 
   -- the run goes through the newline of a line that is answered
   runs_line : (state : State) (line : List ℕ) (handed : Option Allotment) (world : World ℕ) → HasNoNewline line
-      → IsHanded state.world handed →
+      → IsHanded state.world line handed →
       let step = step_of state.world line handed in
       SameWorlds (step_world state.world step) world →
       Runs (moment state line) (10 ∷ []) (step_text (state.answered + 1) step) (after_line (moment state line) world)
-  runs_line state line None world whole handed same = runs_refused (moment state line) world whole same
+  runs_line state line None world whole handed same = runs_refused (moment state line) world whole handed same
   runs_line state line (Some allotment) world whole handed same = runs_spoken
       (moment state line) allotment world handed whole same
 
@@ -138,13 +139,14 @@ module _ {W : Type 0} (sink : Ghosts W) where
 
 -- what may be told of a last line of which some byte was read
 told_last : (moment : Moment) (handed : Option Allotment) (byte : ℕ) (bytes : List ℕ) → moment.line ≡ byte ∷ bytes
-    → HasNoNewline moment.line → IsHanded moment.world handed →
+    → HasNoNewline moment.line → IsHanded moment.world moment.line handed →
     IsLast moment (step_text (moment.answered + 1) (step_of moment.world moment.line handed))
 told_last moment None byte bytes some whole handed =
     let left = step_world moment.world (step_of moment.world moment.line None) in
     record {
       refused = true ∷ [];
-      counted = sym (ap length (last_line moment.line byte bytes some whole));
+      may_be = subst (λ lines. MayBeRefused lines (true ∷ [])) (sym (last_line moment.line byte bytes some whole))
+          (handed, tt);
       tells = subst (λ lines. TellsAlike propagation may_be_given moment.world (moment.answered + 1) lines (true ∷ [])
           (step_text (moment.answered + 1) (step_of moment.world moment.line None)))
           (sym (last_line moment.line byte bytes some whole))
@@ -154,7 +156,7 @@ told_last moment (Some allotment) byte bytes some whole handed =
     let left = step_world moment.world (step_of moment.world moment.line (Some allotment)) in
     record {
       refused = false ∷ [];
-      counted = sym (ap length (last_line moment.line byte bytes some whole));
+      may_be = subst (λ lines. MayBeRefused lines (false ∷ [])) (sym (last_line moment.line byte bytes some whole)) tt;
       tells = subst (λ lines. TellsAlike propagation may_be_given moment.world (moment.answered + 1) lines (false ∷ [])
           (step_text (moment.answered + 1) (step_of moment.world moment.line (Some allotment))))
           (sym (last_line moment.line byte bytes some whole))
@@ -168,7 +170,7 @@ module _ {W : Type 0} (sink : Ghosts W) where
     text = [];
     told = record {
       refused = [];
-      counted = sym (ap (λ line. length (lines_of line)) none);
+      may_be = subst (λ l. MayBeRefused (lines_of l) []) (sym none) tt;
       tells = subst
           (λ l. TellsAlike propagation may_be_given state.world (state.answered + 1) (lines_of l) [] [])
           (sym none) refl;

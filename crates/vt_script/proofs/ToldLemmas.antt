@@ -1,21 +1,22 @@
 -- What a run has told, from its opening on.
-use Rattle.std.proofs.Common.{◌≡◌, ℕ, ◌+◌, ◌-◌, ◌≤◌, Bool, List, ◌++◌, length, length-append, map, false, take, drop, sym, ap, ◌∙◌, append_assoc, subst, Result, Ok, Err, arith}
+use Rattle.std.proofs.Common.{◌≡◌, ℕ, ◌+◌, ◌-◌, ◌≤◌, Bool, List, ◌++◌, length, map, false, take, drop, sym, ap, ◌∙◌, append_assoc, subst, Result, Ok, Err, arith}
 use Rattle.std.proofs.Math.Seq.{take-append-add}
-use Rattle.std.proofs.lemmas.List.{length-map, take-append-drop}
+use Rattle.std.proofs.lemmas.List.{take-append-drop}
 use Rattle.std.specs.Io.{StartsWith}
 use Rattle.vt_spec.specs.Language.Script.{lines_of, propagation}
 use Rattle.vt_spec.specs.Machine.Run.{first_world, script_text, text_from}
-use Rattle.vt_run_laws.specs.Handed.{may_be_given}
-use Rattle.vt_run_laws.specs.Runs.{TellsAlike}
-use Rattle.vt_run_laws.proofs.handed.Counts.{programs_have_one_text}
-use Rattle.vt_run_laws.proofs.runs.GrammarsPlain.{grammars_keep_overlays_out, propagation_mounts_no_overlay}
+use Rattle.vt_laws_runs.specs.Handed.{may_be_given}
+use Rattle.vt_laws_runs.specs.Runs.{TellsAlike}
+use Rattle.vt_laws_runs.proofs.handed.Counts.{programs_have_one_text}
+use Rattle.vt_laws_runs.proofs.runs.GrammarsPlain.{grammars_keep_overlays_out, propagation_mounts_no_overlay}
 use Rattle.std.specs.Prelude.{OnOk, IsErrOf}
 use Rattle.vt_io.specs.declared.output.Sink.{Ghosts}
 use Rattle.vt_io.specs.Sink.{WroteFront}
 use Rattle.vt_io.proofs.Printing.{Wrote-append, WroteFront-append}
 use Rattle.vt_script.specs.Session.{State, moment, Fed, Broke, Closed, BrokeLast, Closes, AnswersScript, BeginsToAnswer}
 use Rattle.vt_script.specs.Progress.{Moment, Runs, HasNoNewline, IsOpening, whole_lines}
-use Rattle.vt_script.proofs.RunLemmas.{whole_lines-rest, told_whole, text_from-front, text_from-padded, lines_of-whole}
+use Rattle.vt_script.specs.Refused.{MayBeRefused}
+use Rattle.vt_script.proofs.RunLemmas.{MayBeRefused-append, MayBeRefused-length, MayBeRefused-none, whole_lines-rest, told_whole, text_from-front, text_from-padded, lines_of-whole}
 
 -- what a sink took of a text, where it holds a beginning of all
 pub rest_after_held : (held text new : List ℕ) → length held ≤ length new → StartsWith (held ++ text) new
@@ -53,11 +54,11 @@ module _ {first : Moment} (opens : IsOpening first) where
 
   -- the text of the lines that ended is the policy's text of the whole lines
   pub whole_told : (read text : List ℕ) (new : Moment) (runs : Runs first read text new) → HasNoNewline new.line
-      → (refused : List Bool) × (length refused ≡ length (lines_of (whole_lines read)))
+      → (refused : List Bool) × MayBeRefused (lines_of (whole_lines read)) refused
       × (text ≡ script_text refused (whole_lines read))
   whole_told read text new runs none = (
     runs.refused,
-    runs.counted ∙ ap (λ ended. length (lines_of ended)) (sym (whole_read read text new runs none)),
+    subst (λ ended. MayBeRefused (lines_of ended) runs.refused) (sym (whole_read read text new runs none)) runs.may_be,
     one_text runs.ended runs.refused text (told_whole first read text new runs)
         ∙ ap (script_text runs.refused) (sym (whole_read read text new runs none)),
   )
@@ -66,29 +67,21 @@ module _ {first : Moment} (opens : IsOpening first) where
   pub all_told : (script text : List ℕ) (new : Moment) (runs : Runs first script text new) (refused : List Bool)
       (last : List ℕ) →
       TellsAlike propagation may_be_given new.world (new.answered + 1) (lines_of new.line) refused last
-      → length refused ≡ length (lines_of new.line) →
-      (all : List Bool) × (length all ≡ length (lines_of script)) × (text ++ last ≡ script_text all script)
-  all_told script text new runs refused last told counted =
+      → MayBeRefused (lines_of new.line) refused →
+      (all : List Bool) × MayBeRefused (lines_of script) all × (text ++ last ≡ script_text all script)
+  all_told script text new runs refused last told may_be =
       let lines = ap lines_of (parts script text new runs) ∙ lines_of-whole runs.ended new.line runs.whole in
       let all : TellsAlike propagation may_be_given first.world (first.answered + 1) (lines_of (runs.ended ++ new.line))
       (runs.refused ++ refused) (text ++ last) = runs.goes_on new.line refused last told in (
         runs.refused ++ refused,
-        omega (
-          arith,
-          runs.counted,
-          counted,
-          length-append runs.refused refused,
-          ap length lines,
-          length-append
-              (lines_of runs.ended) (lines_of new.line),
-        ),
+        rw lines (MayBeRefused-append (lines_of runs.ended) (lines_of new.line) runs.refused refused runs.may_be may_be),
         one_text (runs.ended ++ new.line) (runs.refused ++ refused) (text ++ last) all
             ∙ ap (script_text (runs.refused ++ refused)) (sym (parts script text new runs)),
       )
 
   -- the text of the lines that ended is a beginning of the policy's text, whatever follows what was read
   pub front_told : (read unread text : List ℕ) (new : Moment) (runs : Runs first read text new) →
-      (refused : List Bool) × (length refused ≡ length (lines_of (read ++ unread))) × (more : List ℕ)
+      (refused : List Bool) × MayBeRefused (lines_of (read ++ unread)) refused × (more : List ℕ)
       × (script_text refused (read ++ unread) ≡ text ++ more)
   unfolding script_text
   front_told read unread text new runs =
@@ -100,19 +93,11 @@ module _ {first : Moment} (opens : IsOpening first) where
       let pad : List Bool = map (λ line. false) others in
       let front = text_from-front first_world 1 (lines_of runs.ended) others (runs.refused ++ pad) in (
         runs.refused ++ pad,
-        omega (
-          arith,
-          runs.counted,
-          length-append runs.refused pad,
-          length-map others
-              (λ line. false),
-          ap length lines,
-          length-append (lines_of runs.ended) others,
-        ),
+        rw lines (MayBeRefused-append (lines_of runs.ended) others runs.refused pad runs.may_be (MayBeRefused-none others)),
         front.0,
         ap (λ xs. text_from propagation first_world 1 xs (runs.refused ++ pad)) lines ∙ front.1
             ∙ ap (λ xs. xs ++ front.0) (text_from-padded first_world 1
-            (lines_of runs.ended) runs.refused pad runs.counted)
+            (lines_of runs.ended) runs.refused pad (MayBeRefused-length (lines_of runs.ended) runs.refused runs.may_be))
             ∙ ap (λ xs. xs ++ front.0) (sym
             (one_text runs.ended runs.refused text (told_whole first read text new runs))),
       )
@@ -133,7 +118,7 @@ module _ {first : Moment} (opens : IsOpening first) where
         (wrote.front tells) in
         let told = front_told read unread text new runs in (
           told.0,
-          told.1 ∙ ap (λ script. length (lines_of script)) (sym split),
+          subst (λ script. MayBeRefused (lines_of script) told.0) (sym split) told.1,
           taken.0,
           taken.1 ++ told.2,
           taken.2,
@@ -157,7 +142,7 @@ module _ {first : Moment} (opens : IsOpening first) where
         let taken = rest_after_held (sink.written x) (fed.text ++ broke.text) (sink.written z) (wrote.no_shorter tells)
         (wrote.front tells) in
         let told = all_told read fed.text
-        (moment state fed.line) fed.runs broke.told.refused broke.text broke.told.tells broke.told.counted in
+        (moment state fed.line) fed.runs broke.told.refused broke.text broke.told.tells broke.told.may_be in
         (told.0, told.1, taken.0, taken.1, taken.2, sym told.2 ∙ taken.3)
 
     -- all was answered
@@ -165,7 +150,7 @@ module _ {first : Moment} (opens : IsOpening first) where
         → Closed sink (moment state fed.line) y z → sink.tells x → AnswersScript sink read x z
     closed_held read state x y z fed closed tells =
         let told = all_told read fed.text
-        (moment state fed.line) fed.runs closed.told.refused closed.text closed.told.tells closed.told.counted in (
+        (moment state fed.line) fed.runs closed.told.refused closed.text closed.told.tells closed.told.may_be in (
           told.0,
           told.1,
           (Wrote-append sink fed.wrote closed.wrote).appended tells

@@ -1,3 +1,4 @@
 pub mod Progress
+pub mod Refused
 pub mod Session
 pub mod SessionValue

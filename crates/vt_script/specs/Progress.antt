@@ -1,10 +1,11 @@
 -- How far a run has come: what was read and written between two moments of it.
-use Rattle.std.specs.Prelude.{◌≡◌, ℕ, ◌+◌, ◌==◌, nat_eq, Bool, true, false, List, [], ◌∷◌, ◌++◌, length}
+use Rattle.std.specs.Prelude.{◌≡◌, ℕ, ◌+◌, ◌==◌, nat_eq, Bool, true, false, List, [], ◌∷◌, ◌++◌}
 use Rattle.vt_spec.specs.Language.Script.{lines_of, propagation}
 use Rattle.vt_spec.specs.Lists.{Fresh}
 use Rattle.vt_spec.specs.Machine.World.{World, opening}
-use Rattle.vt_run_laws.specs.Handed.{may_be_given}
-use Rattle.vt_run_laws.specs.Runs.{OpensInHand, TellsAlike}
+use Rattle.vt_laws_runs.specs.Handed.{may_be_given}
+use Rattle.vt_laws_runs.specs.Runs.{OpensInHand, TellsAlike}
+use Rattle.vt_script.specs.Refused.{MayBeRefused}
 
 -- a text up to its last newline
 abbrev pub whole_with : Bool → ℕ → List ℕ → List ℕ
@@ -38,7 +39,7 @@ pub record Runs (old : Moment) (bytes text : List ℕ) (new : Moment) : Type 0 w
   pub split : old.line ++ bytes ≡ ended ++ new.line
   pub whole : whole_lines ended ≡ ended
   pub refused : List Bool
-  pub counted : length refused ≡ length (lines_of ended)
+  pub may_be : MayBeRefused (lines_of ended) refused
   pub goes_on : (more : List ℕ) (later : List Bool) (rest : List ℕ) →
       TellsAlike propagation may_be_given new.world (new.answered + 1) (lines_of more) later rest →
       TellsAlike propagation may_be_given old.world (old.answered + 1) (lines_of (ended ++ more)) (refused ++ later)

@@ -1,5 +1,5 @@
 -- What a session does between two bytes of a script, and what a run leaves in a sink.
-use Rattle.std.specs.Prelude.{◌≡◌, ℕ, ◌+◌, nat_eq, Bool, List, [], ◌∷◌, ◌++◌, length, Option, Some, None, Result, Ok, Err, option_map}
+use Rattle.std.specs.Prelude.{◌≡◌, ℕ, ◌+◌, nat_eq, Bool, List, [], ◌∷◌, ◌++◌, Option, Some, None, Result, Ok, Err, option_map}
 use Rattle.vt_io.specs.declared.output.Sink.{Ghosts}
 use Rattle.vt_io.specs.Sink.{Wrote, WroteFront}
 use Rattle.vt_io.specs.LineBuffer.{LineSoFar, Holds}
@@ -7,10 +7,11 @@ use Rattle.vt_spec.specs.Language.Script.{lines_of, propagation}
 use Rattle.vt_spec.specs.Machine.Run.{Step, line_step, script_text, step_text, step_world}
 use Rattle.vt_spec.specs.Machine.SameWorlds.{SameWorlds}
 use Rattle.vt_spec.specs.Machine.World.{World}
-use Rattle.vt_laws.specs.Numbers.{Allotment}
-use Rattle.vt_run_laws.specs.Handed.{may_be_given}
-use Rattle.vt_run_laws.specs.Runs.{ServesInHand, TellsAlike}
+use Rattle.vt_laws_rules.specs.Numbers.{Allotment}
+use Rattle.vt_laws_runs.specs.Handed.{may_be_given}
+use Rattle.vt_laws_runs.specs.Runs.{ServesInHand, TellsAlike}
 use Rattle.vt_script.specs.Progress.{Moment, Runs, HasNoNewline, whole_lines}
+use Rattle.vt_script.specs.Refused.{LineTakesMemory, MayBeRefused}
 
 -- a session: the world, how many lines are answered, and what is kept of the next line
 pub record State : Type 0 where
@@ -36,10 +37,10 @@ begun (byte ∷ bytes) = 1
 abbrev pub lines_begun : State → ℕ
 lines_begun state = state.answered + begun state.kept.bytes
 
--- numbers that serve the world, or none where memory was refused
-abbrev pub IsHanded : World ℕ → Option Allotment → Type 0
-IsHanded world None = Unit {0}
-IsHanded world (Some allotment) = ServesInHand may_be_given world allotment
+-- a line is handed numbers that serve the world, or none where memory was refused that it takes
+abbrev pub IsHanded : World ℕ → List ℕ → Option Allotment → Type 0
+IsHanded world line None = LineTakesMemory line
+IsHanded world line (Some allotment) = ServesInHand may_be_given world allotment
 
 -- the step of a line to which these numbers are handed
 abbrev pub step_of : World ℕ → List ℕ → Option Allotment → Step ℕ
@@ -48,7 +49,7 @@ step_of world line handed = line_step nat_eq propagation world line (option_map 
 -- what may be told of the last line
 pub record IsLast (old : Moment) (text : List ℕ) : Type 0 where
   pub refused : List Bool
-  pub counted : length refused ≡ length (lines_of old.line)
+  pub may_be : MayBeRefused (lines_of old.line) refused
   pub tells : TellsAlike propagation may_be_given old.world (old.answered + 1) (lines_of old.line) refused text
 
 module _ {W : Type 0} (sink : Ghosts W) where
@@ -94,24 +95,24 @@ module _ {W : Type 0} (sink : Ghosts W) where
   -- trees
   pub record Replied (old : World ℕ) (line : List ℕ) (number : ℕ) (new : World ℕ) (before after : W) : Type 0 where
     pub handed : Option Allotment
-    pub serves : IsHanded old handed
+    pub serves : IsHanded old line handed
     pub world : SameWorlds (step_world old (step_of old line handed)) new
     pub wrote : Wrote sink before after (step_text number (step_of old line handed))
 
   -- a write failed in the text of one line
   pub record BrokeReply (old : World ℕ) (line : List ℕ) (number : ℕ) (before after : W) : Type 0 where
     pub handed : Option Allotment
-    pub serves : IsHanded old handed
+    pub serves : IsHanded old line handed
     pub wrote : WroteFront sink before after (step_text number (step_of old line handed))
 
   abbrev pub Replies : {T E : Type 0} → World ℕ → List ℕ → ℕ → Result T E → World ℕ → W → W → Type 0
   Replies old line number (Ok t) new before after = Replied old line number new before after
   Replies old line number (Err fault) new before after = BrokeReply old line number before after
 
-  -- the sink was given the policy's answers to the script, of which each line was refused memory or not
+  -- the sink was given the policy's answers to the script, where allocations may have failed in lines that take memory
   abbrev pub AnswersScript : List ℕ → W → W → Type 0
   AnswersScript script before after =
-      (refused : List Bool) × (length refused ≡ length (lines_of script))
+      (refused : List Bool) × MayBeRefused (lines_of script) refused
       × (sink.written after ≡ sink.written before ++ script_text refused script)
 
   -- the sink was given the policy's answers to the complete lines of what was read of the script
@@ -122,5 +123,5 @@ module _ {W : Type 0} (sink : Ghosts W) where
   -- the sink was given a beginning of the policy's answers to the script
   abbrev pub BeginsToAnswer : List ℕ → W → W → Type 0
   BeginsToAnswer script before after =
-      (refused : List Bool) × (length refused ≡ length (lines_of script)) × (text : List ℕ) × (more : List ℕ)
+      (refused : List Bool) × MayBeRefused (lines_of script) refused × (text : List ℕ) × (more : List ℕ)
       × (sink.written after ≡ sink.written before ++ text) × (script_text refused script ≡ text ++ more)

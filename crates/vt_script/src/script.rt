@@ -59,10 +59,10 @@ fn answer_all<C: Calls + Drop, R: Source, W: Sink>(
 /// Answers a script in a new world: reads it from the source, and writes a line for each line that has an answer.
 ///
 /// For every script, what the sink is handed is the text of the policy's answers to the script's calls in their order,
-/// each denial with the error number and the rule that the policy names first; which lines were refused memory is all
-/// that is open.
+/// each denial with the error number and the rule that the policy names first. All that is open is in which lines an
+/// allocation failed; only a line that takes memory can be one of them (`MayBeRefused`).
 ///
-/// Each line is answered before the next is looked at. A line that was refused memory answers
+/// Each line is answered before the next is looked at. A line in which an allocation failed answers
 /// `deny 12 ENOMEM S5` and counts as no call. `Read` and `Write` come where that device failed, and
 /// `Memory` where the opening world or the line's buffer was refused, before anything was read.
 pub fn run<C: Calls + Drop, R: Source, W: Sink>(

@@ -3,7 +3,7 @@ use Rattle.std.proofs.Common.{Bool, List, [], arith, cond, false, le-leb, leb-tr
 use Rattle.std.proofs.lemmas.Bool.{and_from as both, and_parts}
 use Rattle.std.specs.List.{filter}
 use Rattle.vt_spec.specs.Machine.Invariants.{are_ascending_from}
-use Rattle.vt_spec.specs.Machine.Outcome.Descriptors.{free_from}
+use Rattle.vt_spec.specs.Machine.Descriptors.{free_from}
 use Rattle.vt_spec.specs.Machine.World.{Descriptor}
 
 -- descriptors above a number are above a lower one

@@ -9,4 +9,8 @@ pub mod Inodes
 pub mod Descriptors
 pub mod Worlds
 pub mod Found
+pub mod Given
 pub mod FreshNumbers
+pub mod Layers
+pub mod Walk
+pub mod Tables

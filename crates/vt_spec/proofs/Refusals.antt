@@ -1,7 +1,6 @@
 -- Rules that refuse or let through.
 use Rattle.std.proofs.Common.{Err, Ok, Result, [], false, refl, sym, true, true≢false, ◌∷◌, ◌≡◌}
-use Rattle.std.specs.Prelude.{⊤}
-use Rattle.vt_spec.specs.Errors.{Rules, unless}
+use Rattle.vt_spec.specs.Errors.{NoneFails, Rules, unless}
 use Rattle.vt_spec.specs.declared.errors.Deny.{Deny}
 
 -- rules that refuse, refuse whatever follows
@@ -23,20 +22,15 @@ pub unless-let_through : {B : Type 0} (rows : Rules) (other : Result B Deny)
     → Ok tt ≡ unless {A = Unit {0}} rows (Ok tt) → unless rows other ≡ other
 unless-let_through rows other e = unless-passed rows tt tt other (sym e)
 
--- no rule of a table fails
-abbrev pub AllPass : Rules → Type 0
-AllPass [] = ⊤
-AllPass (row ∷ rows) = (row.0 ≡ false) × AllPass rows
-
 -- where a table lets pass, it answers what it was given
-pub passed : {A : Type 0} (rows : Rules) (answer : Result A Deny) → AllPass rows → unless rows answer ≡ answer
+pub passed : {A : Type 0} (rows : Rules) (answer : Result A Deny) → NoneFails rows → unless rows answer ≡ answer
 passed [] answer pass = refl
 passed ((true, rule) ∷ rows) answer pass = absurd (true≢false pass.0)
 passed ((false, rule) ∷ rows) answer pass = passed rows answer pass.1
 
 -- and where it gave an answer, it let pass
 pub passing : {A : Type 0} (rows : Rules) (answer : Result A Deny) (a : A) → unless rows answer ≡ Ok a
-    → AllPass rows × (answer ≡ Ok a)
+    → NoneFails rows × (answer ≡ Ok a)
 passing [] answer a e = (tt, e)
 passing ((true, rule) ∷ rows) answer a e = cc
 passing ((false, rule) ∷ rows) answer a e = let rest = passing rows answer a e in ((refl, rest.0), rest.1)

@@ -1,38 +1,30 @@
 -- What worlds and their parts keep.
-use Rattle.std.proofs.Common.{Bool, List, None, Option, Some, [], ap, cond, eqb-true, is_some, false, inl, inr, map, nat_eq, option_map, refl, subst, sym, true, true≢false, ℕ, ⊎_elim, ◌||◌, ◌∙◌, ◌∷◌, ◌≡◌, ◌⊎◌}
+use Rattle.std.proofs.Common.{Bool, List, None, Option, Some, [], ap, cond, eqb-true, false, filter, inl, inr, is_some, map, nat_eq, option_map, refl, subst, suc, sym, true, true≢false, zero, ℕ, ⊎_elim, ◌++◌, ◌||◌, ◌∙◌, ◌∷◌, ◌≡◌, ◌⊎◌}
 use Rattle.std.proofs.lemmas.Bool.{and_parts}
 use Rattle.std.specs.Cmp.Lexicographic.{bytes_decides}
 use Rattle.std.specs.List.{find}
-use Rattle.std.specs.Prelude.{if◌then◌else◌, unwrap_or}
-use Rattle.vt_spec.proofs.Lists.{Among, among-append_right, among-from_map}
+use Rattle.std.specs.Prelude.{flat_map, if◌then◌else◌, unwrap_or}
+use Rattle.vt_spec.proofs.Lists.{Among, among-append_right, among-from_filter, among-from_flat_map, among-from_map}
 use Rattle.vt_spec.specs.FileTree.{FileTree}
 use Rattle.vt_spec.specs.Language.Calls.{TaskName, same_name}
 use Rattle.vt_spec.specs.Language.Changes.{Change, without_parent}
 use Rattle.vt_spec.specs.Lists.{Fresh, folded, holds_of, is_among}
 use Rattle.vt_spec.specs.Machine.CopyUp.{Stack, name_left_by, with_mark, without_contents}
-use Rattle.vt_spec.specs.Machine.Detach.{after_going, mount_point_left, taken_away}
+use Rattle.vt_spec.specs.Machine.Detach.{after_going, mount_point_left, taken_away, without_replaced}
 use Rattle.vt_spec.specs.Machine.Filesystems.{filesystem_changed, overlay_changed, with_change}
-use Rattle.vt_spec.specs.Machine.Invariants.{Stands}
+use Rattle.vt_spec.specs.Machine.Invariants.{SameObject, Stands}
 use Rattle.vt_spec.specs.Machine.Invariants.Stands.{at_root, on_parent}
-use Rattle.vt_spec.specs.Machine.Locked.{upper_and_work}
-use Rattle.vt_spec.specs.Machine.Mounts.{Location, Mount, detached, mount_in, no_mount, replaced_if_same, same_location, with_mount}
+use Rattle.vt_spec.specs.Machine.Locked.{of_overlay, overlay_or, upper_and_work}
+use Rattle.vt_spec.specs.Machine.Mounts.{Location, Mount, children, detached, mount_in, no_mount, replaced_if_same, same_location, stands_on, tree_from, with_mount}
 use Rattle.vt_spec.specs.Machine.Namespaces.{pivoted_mount}
-use Rattle.vt_spec.specs.Machine.Outcome.Removing.{without_replaced}
 use Rattle.vt_spec.specs.Machine.Outcomes.{Outcome}
 use Rattle.vt_spec.specs.Machine.Policy.{finished_by}
 use Rattle.vt_spec.specs.Machine.Receives.{heir, inheriting, regrouped, regrouped_by}
 use Rattle.vt_spec.specs.Machine.Settled.{only_used, only_used_by, used_in}
-use Rattle.vt_spec.specs.Machine.Walk.{LastWord, is_dot, is_dot_dot, is_no_word, is_special}
-use Rattle.vt_spec.specs.Machine.Walk.LastWord.{Dot, DotDot, Named, NoWord}
-use Rattle.vt_spec.specs.Machine.World.{Filesystem, Layer, Overlay, Real, Task, World, filesystem_at, layers_of, mount_at, mount_numbered, replaced_if_called, replaced_if_numbered, upper_object, with_mounts}
+use Rattle.vt_spec.specs.Machine.Walking.{LastWord, is_dot, is_dot_dot, is_no_word, is_special}
+use Rattle.vt_spec.specs.Machine.Walking.LastWord.{Dot, DotDot, Named, NoWord}
+use Rattle.vt_spec.specs.Machine.World.{Filesystem, Layer, Overlay, Real, Task, World, filesystem_at, is_overlay, layers_of, mount_at, mount_numbered, replaced_if_called, replaced_if_numbered, upper_object, with_mounts}
 use Rattle.vt_spec.specs.Machine.World.Real.{Lower, Upper}
-use Rattle.std.proofs.Common.{zero, suc, ◌++◌, filter}
-use Rattle.vt_spec.specs.Machine.Mounts.{children, stands_on, tree_from}
-use Rattle.vt_spec.proofs.Lists.{among-from_filter, among-from_flat_map}
-use Rattle.std.specs.Prelude.{flat_map}
-use Rattle.vt_spec.specs.Machine.Locked.{of_overlay, overlay_or}
-use Rattle.vt_spec.specs.Machine.World.{is_overlay}
-use Rattle.vt_spec.specs.Machine.Invariants.{SameObject}
 use Rattle.vt_spec.specs.Tree.{Node}
 
 -- names of tasks that are the same are one

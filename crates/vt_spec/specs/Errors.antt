@@ -1,6 +1,6 @@
 -- Error numbers and rules. Their numbers and names are those of errno(3) and errno-base.h; the rules are
 -- the profile's.
-use Rattle.std.specs.Prelude.{ℕ, Bool, true, false, List, [], ◌∷◌, Result, Ok, Err, codes}
+use Rattle.std.specs.Prelude.{ℕ, Bool, true, false, List, [], ◌∷◌, ◌≡◌, Result, Ok, Err, codes, ⊤}
 use Rattle.vt_spec.specs.declared.errors.Errno.{Errno}
 use Rattle.vt_spec.specs.declared.errors.Errno.TheVariants.{Eperm, Enoent, Esrch, Enxio, Ebadf, Enomem, Eacces, Ebusy, Eexist, Exdev, Enotdir, Eisdir, Einval, Emfile, Efbig, Enospc, Erofs, Enametoolong, Enotempty, Eloop}
 use Rattle.vt_spec.specs.declared.errors.Rule.{Rule}
@@ -170,6 +170,11 @@ denial rule = record { errno = errno_of rule; rule = rule }
 -- A table of rules in the policy's order: each row says whether its rule fails. The first that fails answers.
 abbrev pub Rules : Type 0
 Rules = List (Bool × Rule)
+
+-- no rule of a table fails
+abbrev pub NoneFails : Rules → Type 0
+NoneFails [] = ⊤
+NoneFails ((fails, rule) ∷ rows) = (fails ≡ false) × NoneFails rows
 
 -- the refusal by the first rule that fails, else the answer
 abbrev pub unless : {A : Type 0} → Rules → Result A Deny → Result A Deny

@@ -9,5 +9,4 @@ pub mod Language
 pub mod Inodes
 pub mod Fits
 pub mod Machine
-pub mod OneTree
 pub mod Laws

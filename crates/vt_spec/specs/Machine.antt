@@ -7,7 +7,6 @@ pub mod Rightful
 pub mod Looks
 pub mod Walking
 pub mod Views
-pub mod Walk
 pub mod Merging
 pub mod CopyUp
 pub mod Locked
@@ -20,7 +19,10 @@ pub mod Detach
 pub mod Namespaces
 pub mod Rules
 pub mod Rows
-pub mod Outcome
+pub mod Attributes
+pub mod Descriptors
+pub mod Tasks
+pub mod NewMounts
 pub mod Listing
 pub mod Permits
 pub mod Apply

@@ -6,7 +6,7 @@ use Rattle.std.specs.Cmp.Lexicographic.{pointwise}
 use Rattle.std.proofs.lemmas.Bool.{eqb-true, leb-true, le-leb, or_parts, and_from, or_from}
 use Rattle.vt_spec.proofs.Lists.{pair-filter, pair-map, all-filter}
 use Rattle.vt_spec.specs.Language.Calls.{TaskName, same_name}
-use Rattle.vt_spec.specs.Machine.Outcome.Tasks.{child_name, child_of}
+use Rattle.vt_spec.specs.Machine.Tasks.{child_name, child_of}
 use Rattle.vt_spec.specs.Machine.World.{Task, replaced_if_called}
 use Rattle.vt_spec.specs.Rights.{Credentials}
 use Rattle.vt_tasks.specs.TasksValue.{AreNamedApart, Tasks, are_given_once, called, forked_once, has_given, is_of_forks, names_of, replaced, with_child_behind, without_called}

@@ -5,3 +5,5 @@ pub mod OrderLemmas
 pub mod PivotCounts
 pub mod PivotLemmas
 pub mod TasksLemmas
+pub mod BirthOrder
+pub mod KeptTasks

@@ -6,8 +6,8 @@ use Rattle.std.proofs.lemmas.Bool.{eqb-true, leb-true, or_parts}
 use Rattle.std.proofs.lemmas.List.Concat.{flat_map-cons}
 use Rattle.vt_spec.specs.Language.Calls.{TaskName, opens_for_reading, opens_for_writing, same_name}
 use Rattle.vt_spec.specs.Machine.Mounts.{Location}
-use Rattle.vt_spec.specs.Machine.Outcome.Descriptors.{free_number, inserted, with_descriptor, without_descriptor}
-use Rattle.vt_spec.specs.Machine.Outcome.Tasks.{child_of}
+use Rattle.vt_spec.specs.Machine.Descriptors.{free_number, inserted, with_descriptor, without_descriptor}
+use Rattle.vt_spec.specs.Machine.Tasks.{child_of}
 use Rattle.vt_spec.specs.Machine.World.{Descriptor, Task, locations_of}
 use Rattle.vt_spec.specs.Machine.Invariants.{are_ascending_from}
 use Rattle.vt_tasks.proofs.GivenOnce.{name-of-called}

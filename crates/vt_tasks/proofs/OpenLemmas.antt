@@ -8,7 +8,7 @@ use Rattle.indexmap.proofs.MapLemmas.{absent_from_lookup, or_len-absent}
 use Rattle.std.proofs.lemmas.Bool.{eqb-true, eqb-false, leb-true, le-leb, and_from}
 use Rattle.std.specs.Map.{keys_of, lookup, remove_entry, values_of}
 use Rattle.vt_spec.specs.Language.Calls.{opens_for_writing}
-use Rattle.vt_spec.specs.Machine.Outcome.Descriptors.{free_from, inserted}
+use Rattle.vt_spec.specs.Machine.Descriptors.{free_from, inserted}
 use Rattle.vt_spec.specs.Machine.World.{Descriptor}
 use Rattle.vt_tasks.specs.declared.descriptors.OpenFile.{OpenFile}
 use Rattle.vt_location.specs.Locations.{location_of}
@@ -221,56 +221,6 @@ lookup-free free least (x ∷ es) e here =
         ap (λ b. cond b (Some x.1) (lookup (nat_eq free) es))
         (ne_eqb free x.0 (λ is. omega (arith, is, other refl, found)))
         ∙ lookup-above free (x.0 + 1) es (omega (arith, found, first_number least x es e)) (and_true_right _ _ e)
-
--- A file that is opened under the least free number and closed again leaves the others as they were
-
-abbrev pub others : ℕ → List (Descriptor ℕ) → List (Descriptor ℕ)
-others number ds = filter (λ d. not (nat_eq number d.number)) ds
-
-others-inserted : (held : OpenFile) (number : ℕ) (ds : List (Descriptor ℕ))
-    → others number (inserted (numbered number held) ds) ≡ others number ds
-others-inserted held number [] = ap (λ b. cond (not b) (numbered number held ∷ []) []) (eq-eqb number number refl)
-others-inserted held number (d ∷ ds) = by (nat_lt number d.number) (others-inserted held number ds)
-  where
-    by : (b : Bool) → others number (inserted (numbered number held) ds) ≡ others number ds
-        → others number (cond b (numbered number held ∷ d ∷ ds) (d ∷ inserted (numbered number held) ds))
-        ≡ others number (d ∷ ds)
-    by true rest = ap (λ b. cond (not b) (numbered number held ∷ others number (d ∷ ds)) (others number (d ∷ ds)))
-        (eq-eqb number number refl)
-    by false rest = ap (λ es. cond (not (nat_eq number d.number)) (d ∷ es) es) rest
-
-others-free : (free least : ℕ) (es : List (ℕ × OpenFile)) → are_ascending least es ≡ true
-    → free_from least (opened es) ≡ free → others free (opened es) ≡ opened es
-others-free free least [] e here = refl
-others-free free least (x ∷ es) e here =
-    by (nat_eq x.0 least) (eqb-true x.0 least) (eqb-false x.0 least) here (free-least (least + 1) es)
-    (λ same found. others-free free (x.0 + 1) es (and_true_right _ _ e)
-    (ap (λ n. free_from (n + 1) (opened es)) same ∙ found))
-  where
-    kept : free ≢ x.0 → others free (opened es) ≡ opened es → others free (opened (x ∷ es)) ≡ opened (x ∷ es)
-    kept apart rest =
-        ap (λ b. cond (not b) (descriptor_of x ∷ others free (opened es)) (others free (opened es)))
-        (ne_eqb free x.0 apart) ∙ ap (λ ds. descriptor_of x ∷ ds) rest
-
-    by : (b : Bool) → (b ≡ true → x.0 ≡ least) → (b ≡ false → x.0 ≢ least)
-        → cond b (free_from (least + 1) (opened es)) least ≡ free → least + 1 ≤ free_from (least + 1) (opened es)
-        → (x.0 ≡ least → free_from (least + 1) (opened es) ≡ free → others free (opened es) ≡ opened es)
-        → others free (opened (x ∷ es)) ≡ opened (x ∷ es)
-    by true same other found above rest = kept (λ is. omega (arith, is, same refl, found, above))
-        (rest (same refl) found)
-    by false same other found above rest =
-        kept (λ is. omega (arith, is, other refl, found))
-        (filter-above free (x.0 + 1) es (omega (arith, found, first_number least x es e)) (and_true_right _ _ e))
-
-pub closed-again : (held : OpenFile) (free : ℕ) (es : List (ℕ × OpenFile)) (old new : List (Descriptor ℕ))
-    → are_ascending 0 es ≡ true → opened es ≡ old
-    → free_from 0 (opened es) ≡ free → new ≡ inserted (numbered free held) old → others free new ≡ old
-closed-again held free es old new e is here so =
-    ap (others free) so
-    ∙ others-inserted held free old
-    ∙ ap (others free) (sym is)
-    ∙ others-free free 0 es e here
-    ∙ is
 
 -- the least free number, from the numbers alone
 abbrev pub free_in : ℕ → List ℕ → ℕ

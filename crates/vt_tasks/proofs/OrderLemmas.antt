@@ -2,7 +2,7 @@
 use Rattle.std.proofs.Common.{◌≡◌, ◌≢◌, ◌≤◌, ℕ, ◌+◌, Bool, true, false, cond, List, [], ◌∷◌, nat_eq, nat_lt, refl, sym, ap, ◌∙◌, true≢false, arith, lt-ltb, le-ltb}
 use Rattle.std.specs.Prelude.{nat_le}
 use Rattle.std.proofs.lemmas.Bool.{eqb-true, eqb-false, leb-true, le-leb, and_from}
-use Rattle.vt_spec.specs.Machine.Outcome.Descriptors.{free_from, inserted}
+use Rattle.vt_spec.specs.Machine.Descriptors.{free_from, inserted}
 use Rattle.vt_spec.specs.Machine.World.{Descriptor}
 use Rattle.vt_spec.specs.Machine.Invariants.{are_ascending_from}
 use Rattle.vt_spec.proofs.Descriptors.{free_above}

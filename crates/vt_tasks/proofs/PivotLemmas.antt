@@ -1,7 +1,7 @@
 -- Each task changes, one after another.
 use Rattle.std.proofs.Common.{◌≡◌, ◌&&◌, ℕ, ◌+◌, Bool, true, false, cond, List, [], ◌∷◌, length, map, nat_eq, Some, refl, sym, ap, subst, ◌∙◌, add-one}
-use Rattle.std.specs.Prelude.{slice_get, suc, zero}
-use Rattle.std.specs.List.{list_all}
+use Rattle.std.specs.Prelude.{nat_lt, slice_get, suc, zero}
+use Rattle.std.specs.List.{IsDistinct, list_all}
 use Rattle.std.specs.Map.{keys_of, values_of}
 use Rattle.indexmap.specs.IndexMap.{set_value_at}
 use Rattle.std.specs.declared.vec.Vec.{Vec}
@@ -12,12 +12,23 @@ use Rattle.vt_spec.specs.Machine.Namespaces.{pivoted_location, pivoted_task}
 use Rattle.vt_spec.specs.Machine.World.{Task}
 use Rattle.vt_tasks.specs.declared.task.Task.{Task as Held}
 use Rattle.vt_tasks.specs.TaskValue.{task_of}
-use Rattle.vt_tasks.specs.TasksValue.{AreFit, AreKeyed, AreNamedApart, Tasks, are_given_once, has_files_in_order, has_given, is_of_forks, names_of, tasks_of}
+use Rattle.vt_tasks.proofs.BirthOrder.{ordered-same}
+use Rattle.vt_tasks.specs.TasksValue.{AreFit, AreKept, AreKeyed, AreNamedApart, Tasks, are_given_once, births_of, has_files_in_order, has_given, in_order, is_of_forks, names_of, tasks_of}
 
 pub keys-set_value_at : {K X : Type 0} (es : List (K × X)) (i : ℕ) (w : X) → keys_of (set_value_at es i w) ≡ keys_of es
 keys-set_value_at [] i w = refl
 keys-set_value_at (e ∷ es) zero w = refl
 keys-set_value_at (e ∷ es) (suc i) w = ap (λ ks. e.0 ∷ ks) (keys-set_value_at es i w)
+
+-- births stay where a task is written back with its own
+pub births-set_value_at : {A : Type 0} (es : List (Vec ℕ A × Held)) (i : ℕ) (x w : Held)
+    → slice_get (values_of es) i ≡ Some x → w.birth ≡ x.birth → births_of (set_value_at es i w) ≡ births_of es
+births-set_value_at [] i x w found same = refl
+births-set_value_at (e ∷ es) zero x w found same =
+    let here : e.1 ≡ x = cc in
+    ap (λ n. n ∷ births_of es) (same ∙ ap (λ (held : Held). held.birth) (sym here))
+births-set_value_at (e ∷ es) (suc i) x w found same =
+    ap (λ ns. e.1.birth ∷ ns) (births-set_value_at es i x w found same)
 
 module _ (change : Task ℕ → Task ℕ) where
   -- the first of these many are changed
@@ -151,6 +162,23 @@ module _ (namespace : ℕ) (root new : Mount ℕ) where
       by true = refl
       by false = refl
 
-  pub fit-pivoted : {A : Type 0} (es after : List (Vec ℕ A × Held)) → AreFit es → keys_of after ≡ keys_of es
-      → tasks_of after ≡ map pivoting (tasks_of es) → AreFit after
-  fit-pivoted es after fit keys so = fit-changed pivoting same-name same-forks same-files es after fit keys so
+  pivoted-again : {A : Type 0} (es : List (Vec ℕ A × Held)) → map (λ e. pivoting (task_of e.1)) es ≡ map pivoting (tasks_of es)
+  pivoted-again [] = refl
+  pivoted-again (e ∷ es) = ap (λ l. pivoting (task_of e.1) ∷ l) (pivoted-again es)
+
+  module _ {A : Type 0} (es after : List (Vec ℕ A × Held)) (keys : keys_of after ≡ keys_of es)
+      (births : births_of after ≡ births_of es) (so : tasks_of after ≡ map pivoting (tasks_of es)) where
+    -- also in the order of births
+    pub pivoted-in_order : tasks_of (in_order after) ≡ map pivoting (tasks_of (in_order es))
+    pivoted-in_order =
+        ordered-same (Vec ℕ A) Held (λ held. held.birth) (λ e. task_of e.1) (λ e. pivoting (task_of e.1)) es after births
+        (so ∙ sym (pivoted-again es))
+        ∙ pivoted-again (in_order es)
+
+    pub kept-pivoted : (next : ℕ) → AreKept next es → AreKept next after
+    kept-pivoted next kept = record {
+      fit = fit-changed pivoting same-name same-forks same-files (in_order es) (in_order after) kept.fit
+          (ordered-same (Vec ℕ A) Held (λ held. held.birth) (λ e. e.0) (λ e. e.0) es after births keys) pivoted-in_order;
+      apart = subst (IsDistinct nat_eq) (sym births) kept.apart;
+      before = ap (list_all (λ birth. nat_lt birth next)) births ∙ kept.before;
+    }

@@ -8,16 +8,14 @@ use Rattle.std.proofs.lemmas.Cmp.{nat_list_eq_equiv}
 use Rattle.std.specs.List.{AllByRecursion, IsDistinct, list_all}
 use Rattle.std.proofs.lemmas.Map.Keys.{IsDistinct-head, IsDistinct-tail}
 use Rattle.std.specs.Map.{keys_of, lookup, remove_entry, set_value}
-use Rattle.indexmap.specs.IndexMap.{IndexMap, IsUnique, WritesThrough, get_by, insert_entry}
-use Rattle.indexmap.proofs.CallerLemmas.{insert_entry-new}
 use Rattle.vt_spec.specs.declared.errors.Deny.{Deny}
 use Rattle.vt_spec.specs.Language.Calls.{TaskName, same_name}
-use Rattle.vt_spec.specs.Machine.Outcome.Descriptors.{free_from, inserted}
-use Rattle.vt_spec.specs.Machine.Outcome.Tasks.{child_name, child_of}
+use Rattle.vt_spec.specs.Machine.Descriptors.{free_from, inserted}
+use Rattle.vt_spec.specs.Machine.Tasks.{child_name, child_of}
 use Rattle.vt_spec.specs.Machine.World.{Descriptor, Task, replaced_if_called}
 use Rattle.vt_spec.specs.Machine.Invariants.{are_ascending_from}
 use Rattle.vt_spec.specs.Rights.{Credentials}
-use Rattle.vt_tasks.proofs.GivenOnce.{all-behind, all-called, all-replaced, apart-forked, apart-replaced, apart-without, child-new, given-changed, given-forked, given-without, name-of-called, other-child}
+use Rattle.vt_tasks.proofs.GivenOnce.{all-behind, all-called, all-replaced, apart-forked, apart-replaced, apart-without, given-changed, given-forked, given-without, name-of-called, other-child}
 use Rattle.vt_tasks.proofs.OrderLemmas.{rising-inserted}
 use Rattle.vt_tasks.specs.declared.descriptors.OpenFile.{OpenFile}
 use Rattle.vt_tasks.specs.declared.task.Task.{Task as Held}
@@ -172,7 +170,7 @@ module _ {A : Type 0} where
       )
 
   -- a task that is written back as it was changes nothing
-  set_value-same : (test : Vec ℕ A → Bool) (w : Held) (es : List (Vec ℕ A × Held)) → lookup test es ≡ Some w
+  pub set_value-same : (test : Vec ℕ A → Bool) (w : Held) (es : List (Vec ℕ A × Held)) → lookup test es ≡ Some w
       → set_value test es w ≡ es
   set_value-same test w [] found = refl
   set_value-same test w (e ∷ es) found = by (test e.0) found (set_value-same test w es)
@@ -183,118 +181,69 @@ module _ {A : Type 0} where
       by true here rest = ap (λ held. (e.0, held) ∷ es) (cc)
       by false here rest = ap (λ l. e ∷ l) (rest here)
 
-module _ {A S : Type 0} (name : TaskName) (m n : IndexMap (Vec ℕ A) Held S) (fit : AreFit m.entries) where
-  pub called-found : (x : Held) → get_by (is_key name) m ≡ Some x → called name (tasks_of m.entries) ≡ Some (task_of x)
-  called-found x found = called-tasks name m.entries fit.0 ∙ ap (option_map task_of) found
+module _ {A : Type 0} (name : TaskName) (es fs : List (Vec ℕ A × Held)) (fit : AreFit es) where
+  pub called-found : (x : Held) → lookup (is_key name) es ≡ Some x → called name (tasks_of es) ≡ Some (task_of x)
+  called-found x found = called-tasks name es fit.0 ∙ ap (option_map task_of) found
 
-  pub called-absent : get_by (is_key name) m ≡ None → called name (tasks_of m.entries) ≡ None
-  called-absent absent = called-tasks name m.entries fit.0 ∙ ap (option_map task_of) absent
+  pub called-absent : lookup (is_key name) es ≡ None → called name (tasks_of es) ≡ None
+  called-absent absent = called-tasks name es fit.0 ∙ ap (option_map task_of) absent
 
-  pub called-got : (r : Option Held) → r ≡ get_by (is_key name) m
-      → option_map task_of r ≡ called name (tasks_of m.entries)
-  called-got r is = ap (option_map task_of) is ∙ sym (called-tasks name m.entries fit.0)
+  pub called-got : (r : Option Held) → r ≡ lookup (is_key name) es
+      → option_map task_of r ≡ called name (tasks_of es)
+  called-got r is = ap (option_map task_of) is ∙ sym (called-tasks name es fit.0)
 
-  pub name-found : (x : Held) → get_by (is_key name) m ≡ Some x → x.name ≡ name
-  name-found x found = name-of-called name (tasks_of m.entries) (task_of x) (called-found x found)
+  pub name-found : (x : Held) → lookup (is_key name) es ≡ Some x → x.name ≡ name
+  name-found x found = name-of-called name (tasks_of es) (task_of x) (called-found x found)
 
   -- what was written to the task of a name
-  pub written : (w : Held) → w.name ≡ name → IsUnique key_eq m → WritesThrough key_eq (is_key name) m w n
-      → tasks_of n.entries ≡ replaced (task_of w) (tasks_of m.entries)
-  written w same unique writes = ap tasks_of writes.0 ∙ tasks-set_value name w m.entries fit.0 unique same
+  pub written : (w : Held) → w.name ≡ name → IsDistinct key_eq (keys_of es) → fs ≡ set_value (is_key name) es w
+      → tasks_of fs ≡ replaced (task_of w) (tasks_of es)
+  written w same unique writes = ap tasks_of writes ∙ tasks-set_value name w es fit.0 unique same
 
-  pub written-change : (change : Task ℕ → Task ℕ) (x w : Held) → get_by (is_key name) m ≡ Some x → w.name ≡ x.name
-      → IsUnique key_eq m
-      → WritesThrough key_eq (is_key name) m w n → task_of w ≡ change (task_of x)
-      → tasks_of n.entries ≡ changed_called name change (tasks_of m.entries)
+  pub written-change : (change : Task ℕ → Task ℕ) (x w : Held) → lookup (is_key name) es ≡ Some x → w.name ≡ x.name
+      → IsDistinct key_eq (keys_of es)
+      → fs ≡ set_value (is_key name) es w → task_of w ≡ change (task_of x)
+      → tasks_of fs ≡ changed_called name change (tasks_of es)
   written-change change x w found same unique writes is =
       written w (same ∙ name-found x found) unique writes
-      ∙ ap (λ task. replaced task (tasks_of m.entries)) is
-      ∙ sym (ap (changed_by change (tasks_of m.entries)) (called-found x found))
+      ∙ ap (λ task. replaced task (tasks_of es)) is
+      ∙ sym (ap (changed_by change (tasks_of es)) (called-found x found))
 
-  in_order : (x : Held) → get_by (is_key name) m ≡ Some x → has_files_in_order (task_of x) ≡ true
-  in_order x found = all-called has_files_in_order name (task_of x) (tasks_of m.entries) fit.3 (called-found x found)
+  in_order : (x : Held) → lookup (is_key name) es ≡ Some x → has_files_in_order (task_of x) ≡ true
+  in_order x found = all-called has_files_in_order name (task_of x) (tasks_of es) fit.3 (called-found x found)
 
-  files-replaced : (old new : Task ℕ) → called name (tasks_of m.entries) ≡ Some old → has_files_in_order new ≡ true
-      → list_all has_files_in_order (replaced new (tasks_of m.entries)) ≡ true
+  files-replaced : (old new : Task ℕ) → called name (tasks_of es) ≡ Some old → has_files_in_order new ≡ true
+      → list_all has_files_in_order (replaced new (tasks_of es)) ≡ true
   files-replaced old new found files = all-replaced has_files_in_order has_files_in_order new
-      (tasks_of m.entries) fit.3 files (λ other apart e. e)
+      (tasks_of es) fit.3 files (λ other apart e. e)
 
-  pub written-fit : (x w : Held) → get_by (is_key name) m ≡ Some x → w.name ≡ x.name → IsUnique key_eq m
-      → WritesThrough key_eq (is_key name) m w n
+  pub written-fit : (x w : Held) → lookup (is_key name) es ≡ Some x → w.name ≡ x.name → IsDistinct key_eq (keys_of es)
+      → fs ≡ set_value (is_key name) es w
       → x.forks ≤ w.forks → (has_files_in_order (task_of x) ≡ true → has_files_in_order (task_of w) ≡ true)
-      → AreFit n.entries
+      → AreFit fs
   written-fit x w found same unique writes le files =
       let own = same ∙ name-found x found in
       let so = written w own unique writes in (
-        subst AreKeyed (sym writes.0) (keyed-set_value name w m.entries fit.0 own),
-        ap are_given_once so ∙ given-changed name (task_of x) (task_of w) (tasks_of m.entries) fit.1
+        subst AreKeyed (sym writes) (keyed-set_value name w es fit.0 own),
+        ap are_given_once so ∙ given-changed name (task_of x) (task_of w) (tasks_of es) fit.1
             (called-found x found) same le,
-        subst AreNamedApart (sym so) (apart-replaced (task_of w) (tasks_of m.entries) fit.2),
+        subst AreNamedApart (sym so) (apart-replaced (task_of w) (tasks_of es) fit.2),
         ap (list_all has_files_in_order) so
             ∙ files-replaced (task_of x) (task_of w) (called-found x found) (files (in_order x found)),
       )
 
-  pub written-same : (x w : Held) → w ≡ x → get_by (is_key name) m ≡ Some x → WritesThrough key_eq (is_key name) m w n
-      → n.entries ≡ m.entries
-  written-same x w same found writes = writes.0 ∙ ap (set_value (is_key name) m.entries) same
-      ∙ set_value-same (is_key name) x m.entries found
+  pub written-same : (x w : Held) → w ≡ x → lookup (is_key name) es ≡ Some x → fs ≡ set_value (is_key name) es w
+      → fs ≡ es
+  written-same x w same found writes = writes ∙ ap (set_value (is_key name) es) same
+      ∙ set_value-same (is_key name) x es found
 
-  pub changed-absent : (change : Task ℕ → Task ℕ) → get_by (is_key name) m ≡ None
-      → changed_called name change (tasks_of m.entries) ≡ tasks_of m.entries
-  changed-absent change absent = ap (changed_by change (tasks_of m.entries)) (called-absent absent)
+  pub changed-absent : (change : Task ℕ → Task ℕ) → lookup (is_key name) es ≡ None
+      → changed_called name change (tasks_of es) ≡ tasks_of es
+  changed-absent change absent = ap (changed_by change (tasks_of es)) (called-absent absent)
 
 -- A task that is changed and changed back
 
-put-twice : (name : TaskName) (first second : Task ℕ) (tasks : Tasks) → first.name ≡ name
-    → put name second (put name first tasks) ≡ put name second tasks
-put-twice name first second [] same = refl
-put-twice name first second (task ∷ tasks) same = λ i. by (same_name name task.name) refl i
-    ∷ put-twice name first second tasks same i
-  where
-    itself : same_name name task.name ≡ true → same_name name first.name ≡ true
-    itself is = ap (same_name name) (same ∙ same_task_name name task.name is) ∙ is
-
-    by : (b : Bool) → same_name name task.name ≡ b → put_if name second (cond b first task) ≡ cond b second task
-    by true is = ap (λ b. cond b second first) (itself is)
-    by false is = ap (λ b. cond b second task) is
-
-called-put : (name : TaskName) (old new : Task ℕ) (tasks : Tasks) → new.name ≡ name → called name tasks ≡ Some old
-    → called name (put name new tasks) ≡ Some new
-called-put name old new [] same found = absurd cc
-called-put name old new (task ∷ tasks) same found = by (same_name name task.name) refl found
-    (called-put name old new tasks same)
-  where
-    by : (b : Bool) → same_name name task.name ≡ b → cond b (Some task) (called name tasks) ≡ Some old
-        → (called name tasks ≡ Some old → called name (put name new tasks) ≡ Some new)
-        → called name (cond b new task ∷ put name new tasks) ≡ Some new
-    by true is here rest =
-        ap (λ b. cond b (Some new) (called name (put name new tasks)))
-        (ap (same_name name) (same ∙ same_task_name name task.name is) ∙ is)
-    by false is here rest = ap (λ b. cond b (Some task) (called name (put name new tasks))) is ∙ rest here
-
-module _ {A S : Type 0} (name : TaskName) (m n : IndexMap (Vec ℕ A) Held S) (fit : AreFit m.entries) where
-  pub written-back : (asked : TaskName) (back : Task ℕ → Task ℕ) (x w : Held) → name ≡ asked
-      → get_by (is_key name) m ≡ Some x → w.name ≡ x.name
-      → IsUnique key_eq m → WritesThrough key_eq (is_key name) m w n → back (task_of w) ≡ task_of x
-      → changed_called asked back (tasks_of n.entries) ≡ tasks_of m.entries
-  written-back asked back x w asks found same unique writes is =
-      let old = tasks_of m.entries in
-      let own = name-found name m m fit x found in
-      (λ i. changed_called (sym asks i) back (tasks_of n.entries))
-      ∙ ap (changed_called name back) (ap tasks_of writes.0 ∙ put-set_value name w m.entries fit.0 unique)
-      ∙ ap (changed_by back (put name (task_of w) old))
-      (called-put name (task_of x) (task_of w) old (same ∙ own) (called-found name m m fit x found))
-      ∙ ap (λ task. replaced task (put name (task_of w) old)) is
-      ∙ ap (λ own. put own (task_of x) (put name (task_of w) old)) own
-      ∙ put-twice name (task_of w) (task_of x) old (same ∙ own)
-      ∙ sym (put-set_value name x m.entries fit.0 unique)
-      ∙ ap tasks_of (set_value-same (is_key name) x m.entries found)
-
 -- What a call ended as
-
-pub if-ok : {T E : Type 0} (P Q : T → Type 0) (r : Result T E) → ((t : T) → P t → Q t) → IfOk r P → IfOk r Q
-if-ok P Q (Ok t) so e = so t e
-if-ok P Q (Err e) so _ = tt
 
 module _ {T E P Q : Type 0} where
   pub on-err : (r : Result T E) → (P → Q) → OnErr r P → OnErr r Q
@@ -368,7 +317,7 @@ module _ {A : Type 0} where
   keyed-behind e [] keyed last = (last, keyed)
   keyed-behind e (y ∷ es) keyed last = (keyed.0, keyed-behind e es keyed.1 last)
 
-  absent-called : (name : TaskName) (es : List (Vec ℕ A × Held)) → AreKeyed es → called name (tasks_of es) ≡ None
+  pub absent-called : (name : TaskName) (es : List (Vec ℕ A × Held)) → AreKeyed es → called name (tasks_of es) ≡ None
       → lookup (is_key name) es ≡ None
   absent-called name es keyed absent = by (lookup (is_key name) es) (sym (called-tasks name es keyed) ∙ absent)
     where
@@ -382,52 +331,44 @@ replaced-behind parent child [] other = ap (λ b. cond b parent child ∷ []) ot
 replaced-behind parent child (task ∷ tasks) other = ap (λ l. replaced_if_called parent task ∷ l)
     (replaced-behind parent child tasks other)
 
-module _ {A S : Type 0} (name : TaskName) (m middle n : IndexMap (Vec ℕ A) Held S) (key : Vec ℕ A) (parent child : Held)
+module _ {A : Type 0} (name : TaskName) (es middle fs : List (Vec ℕ A × Held)) (key : Vec ℕ A) (parent child : Held)
     (credentials : Credentials)
-    (fit : AreFit m.entries) (is : get_by (is_key name) m ≡ Some parent)
+    (fit : AreFit es) (is : lookup (is_key name) es ≡ Some parent)
     (key_is : key.items ≡ child.name) (child_is : task_of child ≡ child_of (task_of parent) credentials)
-    (inserts : middle.entries ≡ insert_entry key_eq m.entries key child) where
-  here : called name (tasks_of m.entries) ≡ Some (task_of parent)
-  here = called-found name m m fit parent is
+    (behind : middle ≡ es ++ (key, child) ∷ []) where
+  here : called name (tasks_of es) ≡ Some (task_of parent)
+  here = called-found name es es fit parent is
 
   named_so : key.items ≡ child_name (task_of parent)
   named_so = key_is ∙ ap (λ (task : Task ℕ). task.name) child_is
 
-  behind : middle.entries ≡ m.entries ++ (key, child) ∷ []
-  behind =
-      inserts
-      ∙ insert_entry-new key_eq m key child
-      (absent-called key.items m.entries fit.0
-      (ap (λ name. called name (tasks_of m.entries)) named_so
-      ∙ child-new name (task_of parent) (tasks_of m.entries) fit.1 here))
+  keyed-middle : AreKeyed middle
+  keyed-middle = subst AreKeyed (sym behind) (keyed-behind (key, child) es fit.0 key_is)
 
-  keyed-middle : AreKeyed middle.entries
-  keyed-middle = subst AreKeyed (sym behind) (keyed-behind (key, child) m.entries fit.0 key_is)
+  still-found : lookup (is_key name) middle ≡ Some parent
+  still-found = ap (lookup (is_key name)) behind ∙ lookup-behind (is_key name) parent (key, child) es is
 
-  still-found : get_by (is_key name) middle ≡ Some parent
-  still-found = ap (lookup (is_key name)) behind ∙ lookup-behind (is_key name) parent (key, child) m.entries is
-
-  pub never-absent : get_by (is_key name) middle ≡ None → ⊥
+  pub never-absent : lookup (is_key name) middle ≡ None → ⊥
   never-absent absent =
       let none : Some parent ≡ None = sym still-found ∙ absent in
       cc
 
   own : parent.name ≡ name
-  own = name-found name m m fit parent is
+  own = name-found name es es fit parent is
 
-  by-parent : (w : Held) → task_of w ≡ forked_once (task_of parent) → IsUnique key_eq middle
-      → WritesThrough key_eq (is_key name) middle w n
-      → tasks_of n.entries ≡ with_child_behind (task_of parent) (child_of (task_of parent) credentials)
-      (tasks_of m.entries)
+  by-parent : (w : Held) → task_of w ≡ forked_once (task_of parent) → IsDistinct key_eq (keys_of middle)
+      → fs ≡ set_value (is_key name) middle w
+      → tasks_of fs ≡ with_child_behind (task_of parent) (child_of (task_of parent) credentials)
+      (tasks_of es)
   by-parent w once unique writes =
-      ap tasks_of writes.0
-      ∙ tasks-set_value name w middle.entries keyed-middle unique (ap (λ (task : Task ℕ). task.name) once ∙ own)
-      ∙ (λ i. replaced (once i) ((ap tasks_of behind ∙ tasks-behind (key, child) m.entries) i))
-      ∙ (λ i. replaced (forked_once (task_of parent)) (tasks_of m.entries ++ child_is i ∷ []))
-      ∙ replaced-behind (forked_once (task_of parent)) (child_of (task_of parent) credentials) (tasks_of m.entries)
+      ap tasks_of writes
+      ∙ tasks-set_value name w middle keyed-middle unique (ap (λ (task : Task ℕ). task.name) once ∙ own)
+      ∙ (λ i. replaced (once i) ((ap tasks_of behind ∙ tasks-behind (key, child) es) i))
+      ∙ (λ i. replaced (forked_once (task_of parent)) (tasks_of es ++ child_is i ∷ []))
+      ∙ replaced-behind (forked_once (task_of parent)) (child_of (task_of parent) credentials) (tasks_of es)
       (other-child parent.name (parent.forks + 1))
 
-  once-forked : (found w : Held) → get_by (is_key name) middle ≡ Some found
+  once-forked : (found w : Held) → lookup (is_key name) middle ≡ Some found
       → w ≡ record found { forks = parent.forks + 1 } → task_of w ≡ forked_once (task_of parent)
   once-forked found w there forks =
       let same : found ≡ parent = some_equal found parent (sym there ∙ still-found) in
@@ -436,28 +377,28 @@ module _ {A S : Type 0} (name : TaskName) (m middle n : IndexMap (Vec ℕ A) Hel
       some_equal : (x y : Held) → Some x ≡ Some y → x ≡ y
       some_equal x y e = cc
 
-  pub forked-so : (found w : Held) → get_by (is_key name) middle ≡ Some found
-      → w ≡ record found { forks = parent.forks + 1 } → IsUnique key_eq middle
-      → WritesThrough key_eq (is_key name) middle w n
-      → tasks_of n.entries ≡ forked name credentials (tasks_of m.entries)
+  pub forked-so : (found w : Held) → lookup (is_key name) middle ≡ Some found
+      → w ≡ record found { forks = parent.forks + 1 } → IsDistinct key_eq (keys_of middle)
+      → fs ≡ set_value (is_key name) middle w
+      → tasks_of fs ≡ forked name credentials (tasks_of es)
   forked-so found w there forks unique writes =
       by-parent w (once-forked found w there forks) unique writes
-      ∙ sym (ap (forked_by credentials (tasks_of m.entries)) here)
+      ∙ sym (ap (forked_by credentials (tasks_of es)) here)
 
-  pub fit-forked : (found w : Held) → get_by (is_key name) middle ≡ Some found
-      → w ≡ record found { forks = parent.forks + 1 } → IsUnique key_eq middle
-      → WritesThrough key_eq (is_key name) middle w n → AreFit n.entries
+  pub fit-forked : (found w : Held) → lookup (is_key name) middle ≡ Some found
+      → w ≡ record found { forks = parent.forks + 1 } → IsDistinct key_eq (keys_of middle)
+      → fs ≡ set_value (is_key name) middle w → AreFit fs
   fit-forked found w there forks unique writes =
       let once = once-forked found w there forks in
       let so = by-parent w once unique writes in (
-        subst AreKeyed (sym writes.0) (keyed-set_value name w middle.entries keyed-middle
+        subst AreKeyed (sym writes) (keyed-set_value name w middle keyed-middle
             (ap (λ (task : Task ℕ). task.name) once ∙ own)),
-        ap are_given_once so ∙ given-forked name (task_of parent) (tasks_of m.entries) fit.1 here credentials,
+        ap are_given_once so ∙ given-forked name (task_of parent) (tasks_of es) fit.1 here credentials,
         subst AreNamedApart (sym so) (apart-forked name (task_of parent)
-            (tasks_of m.entries) fit.1 here credentials fit.2),
+            (tasks_of es) fit.1 here credentials fit.2),
         ap (list_all has_files_in_order) so
-            ∙ all-behind has_files_in_order (replaced (forked_once (task_of parent)) (tasks_of m.entries))
+            ∙ all-behind has_files_in_order (replaced (forked_once (task_of parent)) (tasks_of es))
             (child_of (task_of parent) credentials)
-            (files-replaced name m m fit (task_of parent) (forked_once (task_of parent)) here
-            (in_order name m m fit parent is)) refl,
+            (files-replaced name es es fit (task_of parent) (forked_once (task_of parent)) here
+            (in_order name es es fit parent is)) refl,
       )

@@ -3,8 +3,8 @@ use Rattle.std.specs.Prelude.{Bool, List, Some, [], flat_map, if◌then◌else�
 use Rattle.vt_spec.specs.Language.Calls.{Access, TaskName}
 use Rattle.vt_spec.specs.Machine.Mounts.{Location, Mount, root_of, same_location}
 use Rattle.vt_spec.specs.Machine.Namespaces.{entered_at, has_tasks, pivoted_task}
-use Rattle.vt_spec.specs.Machine.Outcome.Descriptors.{with_descriptor, without_descriptor}
-use Rattle.vt_spec.specs.Machine.Outcome.Tasks.{child_of}
+use Rattle.vt_spec.specs.Machine.Descriptors.{with_descriptor, without_descriptor}
+use Rattle.vt_spec.specs.Machine.Tasks.{child_of}
 use Rattle.vt_spec.specs.Machine.Rules.Descriptors.{descriptor_numbered}
 use Rattle.vt_spec.specs.Machine.World.{Descriptor, Namespace, Task, World, locations_of}
 use Rattle.vt_spec.specs.Machine.Invariants.{are_ascending_from}

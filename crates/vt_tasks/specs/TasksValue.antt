@@ -1,17 +1,18 @@
 -- What contracts see of tasks: a list, as the worlds of the definitions have it.
-use Rattle.std.specs.Prelude.{Bool, IsSomeAnd, List, None, Option, Some, [], false, filter, find, if◌then◌else◌, length, map, nat_eq, nat_le, not, true, ℕ, ◌<◌, ◌+◌, ◌++◌, ◌==◌, ◌∷◌, ◌≡◌}
-use Rattle.std.specs.List.{AllByRecursion, list_all}
+use Rattle.std.specs.Prelude.{Bool, IsSomeAnd, List, None, Option, Some, [], false, filter, find, if◌then◌else◌, length, map, nat_eq, nat_le, nat_lt, not, true, ℕ, ◌<◌, ◌+◌, ◌++◌, ◌==◌, ◌∷◌, ◌≡◌}
+use Rattle.std.specs.List.{AllByRecursion, IsDistinct, list_all}
 use Rattle.std.specs.declared.vec.Vec.{Vec}
 use Rattle.vt_spec.specs.Language.Calls.{TaskName, same_name}
 use Rattle.vt_spec.specs.Language.Limits.{deepest_name, most_descriptors, most_forks}
 use Rattle.vt_spec.specs.Lists.{any_pair}
 use Rattle.vt_spec.specs.Machine.Mounts.{Location}
 use Rattle.vt_spec.specs.Machine.Namespaces.{entered_at}
-use Rattle.vt_spec.specs.Machine.Outcome.Descriptors.{with_descriptor}
-use Rattle.vt_spec.specs.Machine.Outcome.Tasks.{child_of}
+use Rattle.vt_spec.specs.Machine.Descriptors.{with_descriptor}
+use Rattle.vt_spec.specs.Machine.Tasks.{child_of}
 use Rattle.vt_spec.specs.Machine.World.{Task, first_task, replaced_if_called}
 use Rattle.vt_spec.specs.Machine.Invariants.{are_ascending_from}
 use Rattle.vt_spec.specs.Rights.{Credentials}
+use Rattle.vt_location.specs.InOrder.{in_order_by}
 use Rattle.vt_location.specs.Locations.{location_of}
 use Rattle.vt_location.specs.Numbers.{counted}
 use Rattle.vt_request.specs.Requests.{access_of}
@@ -112,6 +113,17 @@ module _ {A : Type 0} where
   abbrev pub tasks_of : List (Vec ℕ A × Held) → Tasks
   tasks_of entries = map (λ entry. task_of entry.1) entries
 
+  -- each under the number of its birth
+  abbrev pub by_birth : List (Vec ℕ A × Held) → List (ℕ × (Vec ℕ A × Held))
+  by_birth entries = map (λ entry. (entry.1.birth, entry)) entries
+
+  -- in the order in which the tasks were forked, whatever the order of the map
+  abbrev pub in_order : List (Vec ℕ A × Held) → List (Vec ℕ A × Held)
+  in_order entries = map (λ one. one.1) (in_order_by (λ birth. birth) (by_birth entries))
+
+  abbrev pub births_of : List (Vec ℕ A × Held) → List ℕ
+  births_of entries = map (λ entry. entry.1.birth) entries
+
   abbrev pub AreKeyed : List (Vec ℕ A × Held) → Type 0
   AreKeyed entries = AllByRecursion (λ entry. entry.0.items ≡ entry.1.name) entries
 
@@ -119,3 +131,9 @@ module _ {A : Type 0} where
   AreFit entries =
       AreKeyed entries × (are_given_once (tasks_of entries) ≡ true) × AreNamedApart (tasks_of entries)
       × (list_all has_files_in_order (tasks_of entries) ≡ true)
+
+  -- whatever the order of the map, no two tasks have one birth, and all were born before the next one
+  pub record AreKept (next : ℕ) (entries : List (Vec ℕ A × Held)) : Type 0 where
+    pub fit : AreFit (in_order entries)
+    pub apart : IsDistinct nat_eq (births_of entries)
+    pub before : list_all (λ birth. nat_lt birth next) (births_of entries) ≡ true

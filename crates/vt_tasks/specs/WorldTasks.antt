@@ -4,7 +4,7 @@ use Rattle.vt_spec.specs.Language.Calls.{TaskName}
 use Rattle.vt_spec.specs.Lists.{Fresh}
 use Rattle.vt_spec.specs.Machine.Mounts.{Location, Mount}
 use Rattle.vt_spec.specs.Machine.Namespaces.{pivoted, pivoted_task}
-use Rattle.vt_spec.specs.Machine.Outcome.Tasks.{with_child}
+use Rattle.vt_spec.specs.Machine.Tasks.{with_child}
 use Rattle.vt_spec.specs.Machine.World.{Task, World, all_locations, first_location, opening, task_called, with_task, without_task}
 use Rattle.vt_tasks.specs.Counts.{locations_in}
 use Rattle.vt_tasks.specs.TasksValue.{Tasks, called, changed_called, first_task_at, replaced, with_child_behind, without_called}

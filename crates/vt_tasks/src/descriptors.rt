@@ -1,7 +1,8 @@
 //! The open files of a task, by their numbers.
-ghost use Rattle.std.specs.Prelude.{◌≡◌, ◌<◌, ◌≤◌, ◌==◌, [], length, map, find, filter, not, option_map, Some, IfOk, IfErr, OnErr};
+ghost use Rattle.std.specs.Prelude.{◌≡◌, ◌<◌, ◌≤◌, ◌==◌, ◌⊎◌, [], length, map, find, filter, not, option_map, Some, Ok, Err, IfOk, IfErr, OnOk, OnErr};
+ghost use Rattle.std.specs.Fn.{FnOnceReturnsAtMut, FnOnceTakesAtMut};
 ghost use Rattle.vt_spec.specs.Language.Calls.{opens_for_writing};
-ghost use Rattle.vt_spec.specs.Machine.Outcome.Descriptors.{free_from, inserted};
+ghost use Rattle.vt_spec.specs.Machine.Descriptors.{free_from, inserted};
 ghost use Rattle.vt_spec.specs.declared.errors.Rule.TheVariants.{S5};
 ghost use Rattle.vt_spec.specs.Errors.{denial};
 ghost use Rattle.vt_location.specs.Locations.{location_of};
@@ -89,9 +90,6 @@ impl Descriptors {
         requires few { length self.old < MAX_DESCRIPTORS }
         ensures number { IfOk result (λ number. number ≡ free_from 0 self.old) }
         ensures ok { IfOk result (λ number. self.new ≡ inserted (numbered number opened) self.old) }
-        // closed again, the others are as they were
-        ensures undone { IfOk result (λ number. filter (λ descriptor. not (number == descriptor.number)) self.new
-            ≡ self.old) }
         ensures memory { IfErr result (λ deny. deny ≡ denial S5) }
         ensures err { OnErr result (self.new ≡ self.old) }
     {
@@ -100,6 +98,38 @@ impl Descriptors {
         let Ok(_) = self.by_number.insert_before(free, number, opened) else {
             return Err(Rule::S5.denial());
         };
+        Ok(number)
+    }
+
+    /// Opens a file under the least free number, and returns that number. Before that, and after all memory is
+    /// reserved, it takes one more step, which may fail and change something else.
+    ///
+    /// S5 (ENOMEM): an allocation failed; that step has not been taken then.
+    pub fn insert_after<S, F: FnOnce(&mut S) -> Result<(), Deny>>(
+        &mut self,
+        opened: OpenFile,
+        other: &mut S,
+        step: F,
+    ) -> Result<u8, Deny>
+        requires few { length self.old < MAX_DESCRIPTORS }
+        requires callable { FnOnceTakesAtMut F.FnOnce step other.old }
+        ensures number { IfOk result (λ number. number ≡ free_from 0 self.old) }
+        ensures ok { IfOk result (λ number. self.new ≡ inserted (numbered number opened) self.old) }
+        ensures step_ok { OnOk result (FnOnceReturnsAtMut F.FnOnce step other.old (Ok tt) other.new) }
+        ensures step_err { IfErr result (λ deny. ((deny ≡ denial S5) × (other.new ≡ other.old))
+            ⊎ FnOnceReturnsAtMut F.FnOnce step other.old (Err deny) other.new) }
+        ensures err { OnErr result (self.new ≡ self.old) }
+    {
+        if self.by_number.reserve(1).is_err() {
+            return Err(Rule::S5.denial());
+        }
+        if let Err(deny) = step(other) {
+            return Err(deny);
+        }
+        let free = self.free_number();
+        let number = free as u8;
+        // It cannot fail: room is reserved.
+        let _ = self.by_number.insert_before(free, number, opened);
         Ok(number)
     }
 

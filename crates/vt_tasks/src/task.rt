@@ -1,7 +1,7 @@
 //! A task: credentials(7), umask(2), fork(2).
 ghost use Rattle.std.specs.Prelude.{◌≡◌, ◌<◌, nat_eq, IfOk};
 ghost use Rattle.vt_spec.specs.Machine.Namespaces.{pivoted_location, pivoted_task};
-ghost use Rattle.vt_spec.specs.Machine.Outcome.Tasks.{child_of};
+ghost use Rattle.vt_spec.specs.Machine.Tasks.{child_of};
 ghost use Rattle.vt_location.specs.Locations.{location_of};
 ghost use Rattle.vt_location.specs.MountValue.{mount_of};
 ghost use Rattle.vt_location.specs.Numbers.{counted};
@@ -38,6 +38,8 @@ pub struct Task {
     pub descriptors: Descriptors,
     /// How often it has forked.
     pub forks: u8,
+    /// How many tasks were forked before it.
+    pub birth: u64,
 }
 
 /// What a task leaves when it goes to another namespace.
@@ -51,7 +53,8 @@ pub struct Left {
 impl Task {
     /// The first task: user and group 0, all capabilities, umask 022, no open files. It does not allocate.
     pub fn first(alloc: Global, namespace: NamespaceId, root: Location) -> Self
-        ensures { task_of result ≡ first_task_at (counted namespace.count) (location_of root) }
+        ensures task { task_of result ≡ first_task_at (counted namespace.count) (location_of root) }
+        ensures birth { result.birth ≡ 0 }
     {
         Task {
             name: TaskName::new(alloc),
@@ -62,16 +65,18 @@ impl Task {
             directory: root,
             descriptors: Descriptors::new(alloc),
             forks: 0,
+            birth: 0,
         }
     }
 
-    /// Its next child, with these credentials: fork(2).
+    /// Its next child, with these credentials, after so many other forks: fork(2).
     ///
     /// The child has the parent's umask, namespace, root and working directory, and no open files. It fails if an
     /// allocation fails.
-    pub fn child(&self, alloc: Global, cred: Cred) -> Result<Task, AllocError>
+    pub fn child(&self, alloc: Global, cred: Cred, birth: u64) -> Result<Task, AllocError>
         requires few { self.now.forks < MAX_FORKS }
-        ensures { IfOk result (λ child. task_of child ≡ child_of (task_of self.now) cred) }
+        ensures child { IfOk result (λ child. task_of child ≡ child_of (task_of self.now) cred) }
+        ensures birth { IfOk result (λ child. child.birth ≡ birth) }
     {
         Ok(Task {
             name: self.name.child(self.forks + 1)?,
@@ -82,14 +87,16 @@ impl Task {
             directory: self.directory,
             descriptors: Descriptors::new(alloc),
             forks: 0,
+            birth,
         })
     }
 
     /// If it is in this namespace, moves its root and its working directory from the root of the first mount to that of
     /// the second: pivot_root(2). It does not allocate.
     pub fn pivot(&mut self, namespace: NamespaceId, root: &Mount, new: &Mount)
-        ensures { task_of self.new
+        ensures task { task_of self.new
             ≡ pivoted_task nat_eq (counted namespace.count) (mount_of root.now) (mount_of new.now) (task_of self.old) }
+        ensures birth { self.new.birth ≡ self.old.birth }
     {
         if self.namespace == namespace {
             self.root = pivoted(self.root, root, new);

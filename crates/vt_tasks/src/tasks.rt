@@ -1,10 +1,11 @@
 //! All tasks, by their names.
-ghost use Rattle.std.specs.Prelude.{◌≡◌, [], ◌∷◌, map, nat_eq, true, Some, IfOk, IfErr, OnOk, OnErr, option_map, option_copied};
+ghost use Rattle.std.specs.Prelude.{◌≡◌, ◌⊎◌, [], ◌∷◌, Err, Ok, map, nat_eq, true, Some, IfOk, IfErr, OnOk, OnErr, option_map, option_copied};
+ghost use Rattle.std.specs.Fn.{FnOnceReturnsAtMut, FnOnceTakesAtMut};
 ghost use Rattle.std.specs.List.{list_all};
 ghost use Rattle.std.specs.Option.{option_and_then};
 ghost use Rattle.vt_spec.specs.Machine.Namespaces.{entered_at, pivoted_task};
-ghost use Rattle.vt_spec.specs.Machine.Outcome.Descriptors.{free_number, without_descriptor};
-ghost use Rattle.vt_spec.specs.Machine.Outcome.Tasks.{child_name, with_dropped};
+ghost use Rattle.vt_spec.specs.Machine.Descriptors.{free_number, without_descriptor};
+ghost use Rattle.vt_spec.specs.Machine.Tasks.{child_name, with_dropped};
 ghost use Rattle.vt_spec.specs.Machine.Rules.Descriptors.{descriptor_numbered};
 ghost use Rattle.vt_spec.specs.declared.errors.Rule.TheVariants.{S5};
 ghost use Rattle.vt_spec.specs.Errors.{denial};
@@ -29,20 +30,25 @@ use vt_spec::errors::{Deny, Rule};
 
 /// The tasks, in the order in which they were forked.
 ///
+/// They are kept by hash, in no order, so that a fork and an exit cost the same however many there are; the numbers of
+/// their births keep the order.
+///
 /// No name is given twice: the next child of a task has a name that no task has.
 #[derive(Debug, Drop)]
 pub struct Tasks {
     by_name: IndexMap<Vec<u8>, Task>,
+    // How many tasks were forked: the next one's birth.
+    births: u64,
 }
 
 impl Model for Tasks {
-    ghost use Rattle.vt_tasks.specs.TasksValue.{AreFit, Tasks, tasks_of};
+    ghost use Rattle.vt_tasks.specs.TasksValue.{AreKept, Tasks, in_order, tasks_of};
 
     ghost Value = { Tasks };
 
-    ghost view = { λ t. tasks_of t.by_name.entries };
+    ghost view = { λ t. tasks_of (in_order t.by_name.entries) };
 
-    ghost invariant = { λ t. AreFit t.by_name.entries };
+    ghost invariant = { λ t. AreKept t.births t.by_name.entries };
 }
 
 impl Tasks {
@@ -57,7 +63,7 @@ impl Tasks {
         let Ok(_) = by_name.insert(Vec::new(alloc), Task::first(alloc, namespace, root)) else {
             return Err(Rule::S5.denial());
         };
-        Ok(Tasks { by_name })
+        Ok(Tasks { by_name, births: 1 })
     }
 
     /// A theorem, which does nothing: each task has its open files in the order of their numbers.
@@ -179,14 +185,35 @@ impl Tasks {
         requires { MayOpenMore (called name.now self.old) }
         ensures number { IfOk result (λ number. Some number ≡ option_map free_number (called name.now self.old)) }
         ensures ok { OnOk result (self.new ≡ changed_called name.now (with_open opened) self.old) }
-        // closed again, the tasks are as they were
-        ensures undone { IfOk result (λ number.
-            changed_called name.now (λ task. without_descriptor task number) self.new ≡ self.old) }
         ensures memory { IfErr result (λ deny. deny ≡ denial S5) }
         ensures err { OnErr result (self.new ≡ self.old) }
     {
         let task = self.by_name.get_mut(name.numbers()).unwrap();
         task.descriptors.insert(opened)
+    }
+
+    /// Opens a file of a task under the least free number, and returns that number: open(2) with O_CREAT. Before that,
+    /// and after all memory is reserved, it takes one more step, which may fail and change something else.
+    ///
+    /// S5 (ENOMEM): an allocation failed; that step has not been taken then.
+    pub fn open_after<S, F: FnOnce(&mut S) -> Result<(), Deny>>(
+        &mut self,
+        name: &TaskName,
+        opened: OpenFile,
+        other: &mut S,
+        step: F,
+    ) -> Result<u8, Deny>
+        requires may { MayOpenMore (called name.now self.old) }
+        requires callable { FnOnceTakesAtMut F.FnOnce step other.old }
+        ensures number { IfOk result (λ number. Some number ≡ option_map free_number (called name.now self.old)) }
+        ensures ok { OnOk result (self.new ≡ changed_called name.now (with_open opened) self.old) }
+        ensures step_ok { OnOk result (FnOnceReturnsAtMut F.FnOnce step other.old (Ok tt) other.new) }
+        ensures step_err { IfErr result (λ deny. ((deny ≡ denial S5) × (other.new ≡ other.old))
+            ⊎ FnOnceReturnsAtMut F.FnOnce step other.old (Err deny) other.new) }
+        ensures err { OnErr result (self.new ≡ self.old) }
+    {
+        let task = self.by_name.get_mut(name.numbers()).unwrap();
+        task.descriptors.insert_after(opened, other, step)
     }
 
     /// Closes a file of a task, and returns it: close(2). It does not allocate.
@@ -204,7 +231,7 @@ impl Tasks {
     /// The child has these credentials, the parent's umask, namespace, root and working directory, and no open files.
     /// It comes after all other tasks.
     ///
-    /// S5 (ENOMEM): an allocation failed.
+    /// S5 (ENOMEM): an allocation failed, or 2^64 - 1 tasks were forked.
     pub fn fork(&mut self, name: &TaskName, cred: Cred) -> Result<TaskName, Deny>
         requires { MayFork (called name.now self.old) }
         ensures name { IfOk result (λ child. Some child ≡ option_map child_name (called name.now self.old)) }
@@ -216,7 +243,10 @@ impl Tasks {
         let numbers = name.numbers();
         let parent = self.by_name.get(numbers).unwrap();
         let forks = parent.forks + 1;
-        let Ok(child) = parent.child(alloc, cred) else {
+        if self.births == u64::MAX {
+            return Err(Rule::S5.denial());
+        }
+        let Ok(child) = parent.child(alloc, cred, self.births) else {
             return Err(Rule::S5.denial());
         };
         let Ok(child_name) = child.name.clone() else {
@@ -228,6 +258,7 @@ impl Tasks {
         let Ok(_) = self.by_name.insert(key, child) else {
             return Err(Rule::S5.denial());
         };
+        self.births += 1;
         if let Some(parent) = self.by_name.get_mut(numbers) {
             parent.forks = forks;
         }
@@ -239,6 +270,6 @@ impl Tasks {
         ensures value { option_map task_of result ≡ called name.now self.old }
         ensures rest { self.new ≡ without_called name.now self.old }
     {
-        self.by_name.shift_remove(name.numbers())
+        self.by_name.swap_remove(name.numbers())
     }
 }

@@ -5,7 +5,7 @@ use Rattle.std.proofs.lemmas.Bool.Decides.{eqb_tells}
 use Rattle.std.proofs.lemmas.List.{get_or-set_same, get_or-set_other, get_or_past}
 use Rattle.std.specs.Prelude.{slice_index_or, slice_set}
 use Rattle.vt_spec.specs.declared.attributes.Attr.{Attr}
-use Rattle.vt_spec.specs.Machine.Outcome.Descriptors.{overwritten}
+use Rattle.vt_spec.specs.Machine.Descriptors.{overwritten}
 use Rattle.vt_spec.specs.Inodes.{Inode, Inodes, count_after, inode_with_node, node_in, one_directory, parent_above, pinned, unpinned, used_once_less, used_once_more, uses_in, with_changed, with_new}
 use Rattle.vt_spec.specs.Tree.{Node, bytes_in, bytes_of, new_directory, node_with_bytes, node_with_entry, parent_in, with_bytes}
 use Rattle.vt_spec.specs.Lists.{chain, is_among}

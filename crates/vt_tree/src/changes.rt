@@ -6,7 +6,7 @@ ghost use Rattle.vt_spec.specs.declared.errors.Rule.TheVariants.{S5};
 ghost use Rattle.vt_spec.specs.declared.attributes.Kind.TheVariants.{File};
 ghost use Rattle.vt_spec.specs.FileTree.{is_kind_in};
 ghost use Rattle.vt_spec.specs.Language.Changes.{node_with_attr, node_with_parent, node_without_entry};
-ghost use Rattle.vt_spec.specs.Machine.Outcome.Descriptors.{overwritten};
+ghost use Rattle.vt_spec.specs.Machine.Descriptors.{overwritten};
 ghost use Rattle.vt_spec.specs.Inodes.{with_changed, unpinned, without_replaced};
 ghost use Rattle.vt_spec.specs.Tree.{name_cmp, bytes_in, entries_in, entry_named, node_with_bytes, node_with_entry};
 ghost use Rattle.vt_tree.specs.Slots.{inodes_in, node_at};

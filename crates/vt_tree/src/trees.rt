@@ -9,7 +9,7 @@ ghost use Rattle.vt_spec.specs.Inodes.{changed, is_directory_under, one_director
 ghost use Rattle.vt_spec.specs.Laws.Trees.{IsNewIn};
 ghost use Rattle.vt_spec.specs.Language.Changes.Change.{AddName, Make, Move, Remove, SetAttr, SetBytes};
 ghost use Rattle.vt_spec.specs.Language.Limits.{largest_file};
-ghost use Rattle.vt_spec.specs.Machine.Outcome.Descriptors.{overwritten};
+ghost use Rattle.vt_spec.specs.Machine.Descriptors.{overwritten};
 ghost use Rattle.vt_spec.specs.Tree.{is_directory_node, parent_in, entries_in, names_in, bytes_in};
 ghost use Rattle.vt_spec.specs.TreeInvariant.{IsDirectory, entry_at};
 ghost use Rattle.vt_tree.specs.TreeValue.{inodes_of, tree_of, next_number};

@@ -8,3 +8,4 @@ mod Trails
 mod WalksOfPaths
 mod FilesWalked
 pub mod WalkEnds
+pub mod FoundWays

@@ -1,10 +1,10 @@
 -- What the definitions see of the code's walks.
-use Rattle.std.specs.Prelude.{Err, Ok, Option, Result, [], false, nat_eq, option_map, true, ℕ, ◌≡◌}
+use Rattle.std.specs.Prelude.{Bool, Err, Ok, Option, Result, [], false, nat_eq, option_map, true, ℕ, ◌≡◌}
 use Rattle.vt_spec.specs.declared.errors.Deny.{Deny}
 use Rattle.vt_spec.specs.Errors.{and_then}
 use Rattle.vt_spec.specs.Machine.Looks.{Looks, is_directory_at, topmost}
 use Rattle.vt_spec.specs.Machine.Mounts.{Location as LocationMeant}
-use Rattle.vt_spec.specs.Machine.Walking.{Here as HereMeant, Place as PlaceMeant, is_special, object_named}
+use Rattle.vt_spec.specs.Machine.Walking.{Here as HereMeant, Place as PlaceMeant, is_lost, is_special, object_named}
 use Rattle.vt_spec.specs.Machine.World.{Task}
 use Rattle.vt_spec.specs.Tree.{Node}
 use Rattle.vt_location.specs.declared.locations.Location.{Location}
@@ -14,6 +14,7 @@ use Rattle.vt_looks.specs.declared.places.Place.{Place}
 use Rattle.vt_looks.specs.Looking.{node_seen}
 use Rattle.vt_looks.specs.Places.{as_place, last_of}
 use Rattle.vt_walk.specs.declared.here.Here.{Here}
+use Rattle.vt_walk.specs.declared.upward.Step.{Step}
 use Rattle.vt_walk.specs.PlainWalks.{standing}
 
 -- Code keeps no record of the filesystems that a walk meets.
@@ -49,6 +50,15 @@ location_result (Err deny) = Err deny
 abbrev pub named_result : Result (Option Location) Deny → Result (Option (LocationMeant ℕ)) Deny
 named_result (Ok object) = Ok (option_map location_of object)
 named_result (Err deny) = Err deny
+
+abbrev pub step_result : Result Step Deny → Result (LocationMeant ℕ) Deny
+step_result (Ok step) = Ok (location_of step.location)
+step_result (Err deny) = Err deny
+
+-- where a directory is known to be found, `..` of it leads somewhere
+abbrev pub IsFound : Looks ℕ → Location → Bool → Type 0
+IsFound looks at is_found =
+    is_found ≡ true → is_directory_at looks (location_of at) ≡ true → is_lost nat_eq looks (location_of at) ≡ false
 
 -- Callers see the location at the end of a walk to an object,
 abbrev pub location_end : Result (HereMeant ℕ) Deny → Result (LocationMeant ℕ) Deny

@@ -1,9 +1,9 @@
 //! Words walked one after the other, and symlinks followed.
-ghost use Rattle.std.specs.Prelude.{◌≡◌, ℕ, nat_eq, option_copied, option_map, reverse, Ok, Some, OnOk, IfOk};
+ghost use Rattle.std.specs.Prelude.{◌≡◌, ℕ, nat_eq, false, true, option_copied, option_map, reverse, Ok, Some, OnOk, IfOk};
 ghost use Rattle.vt_spec.specs.Errors.{and_then, unless};
 ghost use Rattle.vt_spec.specs.FileTree.{symlink_text};
 ghost use Rattle.vt_spec.specs.Machine.Looks.{is_directory_at, mount_at};
-ghost use Rattle.vt_spec.specs.Machine.Walking.{follow_rules, object_named, search_rules, slash_rules, stepped};
+ghost use Rattle.vt_spec.specs.Machine.Walking.{follow_rules, is_lost, object_named, search_rules, slash_rules, stepped};
 ghost use Rattle.vt_spec.specs.PathText.{words};
 ghost use Rattle.vt_spec.specs.Tree.{entries_in, entry_named};
 ghost use Rattle.vt_location.specs.Locations.{location_of};
@@ -13,10 +13,10 @@ ghost use Rattle.vt_tasks.specs.TaskValue.{task_of};
 ghost use Rattle.vt_walk.specs.PendingTexts.{link_passed, walked_on_from};
 ghost use Rattle.vt_walk.specs.PlainWalks.{Follow, followed, last_walked, symlink_start, word_led, words_walked};
 ghost use Rattle.vt_looks.specs.Places.{last_of};
-ghost use Rattle.vt_walk.specs.WalkValue.{IsNodeAt, here_of, here_result, location_result, named_result};
+ghost use Rattle.vt_walk.specs.WalkValue.{IsFound, IsNodeAt, here_of, here_result, named_result, step_result};
 
 use crate::here::{Here, MOST_TEXTS, start_of};
-use crate::upward::step_up;
+use crate::upward::{Step, entered, step_up};
 use arrayvec::ArrayVec;
 use vt_cred::{Rights, allows};
 use vt_location::{Location, NodeRef};
@@ -39,6 +39,7 @@ pub(crate) fn searched<'a, L: Look>(
     ensures value { and_then {B = Unit {0}} result (λ directory. Ok tt)
         ≡ unless (search_rules nat_eq (L.looks world.now) (task_of who.now) (location_of here)) (Ok tt) }
     ensures directory { IfOk result (λ directory. IsNodeAt (L.looks world.now) here (Some directory.now)) }
+    ensures is { OnOk result (is_directory_at (L.looks world.now) (location_of here) ≡ true) }
 {
     world.has_no_overlays();
     let Some(directory) = node else {
@@ -78,22 +79,32 @@ fn entry_location(here: Location, directory: &Node, name: &[u8]) -> Option<Locat
 fn stepped<L: Look>(
     world: &L,
     who: &Task,
-    here: Location,
+    from: Step,
     ground: Ground,
     directory: &Node,
     word: LastWord,
-) -> Result<Location, Deny>
-    requires ground { IsGround (L.looks world.now) here.mount ground }
-    requires directory { IsNodeAt (L.looks world.now) here (Some directory.now) }
-    ensures { location_result result
-        ≡ stepped nat_eq (L.looks world.now) (task_of who.now) (location_of here) (last_of word.entry) }
+) -> Result<Step, Deny>
+    requires ground { IsGround (L.looks world.now) from.location.mount ground }
+    requires directory { IsNodeAt (L.looks world.now) from.location (Some directory.now) }
+    requires found { from.is_found ≡ true → is_lost nat_eq (L.looks world.now) (location_of from.location) ≡ false }
+    ensures value { step_result result
+        ≡ stepped nat_eq (L.looks world.now) (task_of who.now) (location_of from.location) (last_of word.entry) }
+    ensures found { IfOk result (λ step. IsFound (L.looks world.now) step.location step.is_found) }
 {
     match word {
-        LastWord::NoWord | LastWord::Dot => Ok(here),
-        LastWord::DotDot => step_up(world, who, here),
-        LastWord::Named(name) => match entry_location(here, directory, name) {
-            Some(entry) if ground.is_bare => Ok(entry),
-            Some(entry) => Ok(world.topmost(entry)),
+        LastWord::NoWord | LastWord::Dot => Ok(from),
+        LastWord::DotDot => step_up(world, who, from.location, from.is_found),
+        LastWord::Named(name) => match entry_location(from.location, directory, name) {
+            Some(entry) => {
+                world.ways_stay_found();
+                if ground.is_bare {
+                    return Ok(Step {
+                        location: entry,
+                        is_found: from.is_found,
+                    });
+                }
+                Ok(entered(world, entry, from.is_found))
+            }
             None => Err(Rule::W6.denial()),
         },
     }
@@ -113,7 +124,7 @@ pub(crate) fn object_named<L: Look>(
 {
     match last {
         LastWord::NoWord | LastWord::Dot => Ok(Some(here)),
-        LastWord::DotDot => Ok(Some(step_up(world, who, here)?)),
+        LastWord::DotDot => Ok(Some(step_up(world, who, here, false)?.location)),
         LastWord::Named(name) => Ok(entry_location(here, directory, name)),
     }
 }
@@ -123,18 +134,20 @@ pub(crate) fn object_named<L: Look>(
 fn word_led<L: Look>(
     world: &L,
     who: &Task,
-    here: Location,
+    from: Step,
     ground: Ground,
     node: Option<&Node>,
     word: LastWord,
-) -> Result<Location, Deny>
-    requires ground { IsGround (L.looks world.now) here.mount ground }
-    requires node { IsNodeAt (L.looks world.now) here (option_copied node) }
-    ensures { location_result result
-        ≡ word_led (L.looks world.now) (task_of who.now) (location_of here) (last_of word.entry) }
+) -> Result<Step, Deny>
+    requires ground { IsGround (L.looks world.now) from.location.mount ground }
+    requires node { IsNodeAt (L.looks world.now) from.location (option_copied node) }
+    requires found { IsFound (L.looks world.now) from.location from.is_found }
+    ensures value { step_result result
+        ≡ word_led (L.looks world.now) (task_of who.now) (location_of from.location) (last_of word.entry) }
+    ensures found { IfOk result (λ step. IsFound (L.looks world.now) step.location step.is_found) }
 {
-    let directory = searched(world, who, here, node)?;
-    stepped(world, who, here, ground, directory, word)
+    let directory = searched(world, who, from.location, node)?;
+    stepped(world, who, from, ground, directory, word)
 }
 
 // The last word of a path walked; a final symlink is not followed.
@@ -152,8 +165,12 @@ pub(crate) fn last_walked<L: Look>(
         _ => {
             let ground = world.ground(here.location.mount);
             let node = world.node_on(ground, here.location);
-            let next = word_led(world, who, here.location, ground, node, last)?;
-            Ok(here.moved(next))
+            let from = Step {
+                location: here.location,
+                is_found: false,
+            };
+            let next = word_led(world, who, from, ground, node, last)?;
+            Ok(here.moved(next.location))
         }
     }
 }
@@ -240,14 +257,20 @@ fn words_walked_to_link<'a, L: Look>(
     let mut here = start;
     let mut ground = world.ground(start.location.mount);
     let mut node = world.node_on(ground, start.location);
+    let mut is_found = false;
     while let Some(word) = words.next() {
         let directory = here.location;
-        let next = word_led(world, who, directory, ground, node, LastWord::of(word))?;
-        here = here.moved(next);
-        if next.mount != directory.mount {
-            ground = world.ground(next.mount);
+        let from = Step {
+            location: directory,
+            is_found,
+        };
+        let next = word_led(world, who, from, ground, node, LastWord::of(word))?;
+        here = here.moved(next.location);
+        is_found = next.is_found;
+        if next.location.mount != directory.mount {
+            ground = world.ground(next.location.mount);
         }
-        node = world.node_on(ground, next);
+        node = world.node_on(ground, next.location);
         if let Some(text) = symlink_text(node) {
             let link = LinkMet {
                 directory,

@@ -1,19 +1,28 @@
 //! Where `..` leads: path_resolution(7), and mount_namespaces(7) for the roots of mounts.
-ghost use Rattle.std.specs.Prelude.{◌≡◌, nat_eq, option_map};
+ghost use Rattle.std.specs.Prelude.{◌≡◌, nat_eq, option_map, false, true, IfOk};
 ghost use Rattle.vt_spec.specs.Lists.{last_or};
 ghost use Rattle.vt_spec.specs.Machine.Mounts.{same_location};
+ghost use Rattle.vt_spec.specs.Machine.Looks.{topmost};
 ghost use Rattle.vt_spec.specs.Machine.Walking.{hop, hops, is_lost, is_top, parent_location, stepped};
 ghost use Rattle.vt_spec.specs.Machine.Walking.LastWord.{DotDot};
 ghost use Rattle.vt_location.specs.Locations.{location_of, number_of};
 ghost use Rattle.vt_tasks.specs.TaskValue.{task_of};
-ghost use Rattle.vt_walk.specs.WalkValue.{location_result};
+ghost use Rattle.vt_walk.specs.WalkValue.{IsFound, step_result};
 
 use vt_location::{Location, NodeRef};
 use vt_looks::Look;
 use vt_spec::errors::{Deny, Rule};
 use vt_tasks::Task;
 
+// Where a word led, and whether that is known to be found if it is a directory: then `..` of it is not lost.
+#[derive(Clone, Copy, Debug)]
+pub(crate) struct Step {
+    pub(crate) location: Location,
+    pub(crate) is_found: bool,
+}
+
 // Whether two locations are the same.
+#[inline(always)]
 fn is_same_location(a: Location, b: Location) -> bool
     ensures { result ≡ same_location nat_eq (location_of a) (location_of b) }
 {
@@ -70,13 +79,6 @@ fn is_top<L: Look>(world: &L, who: &Task, here: Location) -> bool
     }
 }
 
-// Whether `..` of a directory leads nowhere: the directory is removed, or no longer under the root of its mount.
-fn is_lost<L: Look>(world: &L, here: Location) -> bool
-    ensures { result ≡ is_lost nat_eq (L.looks world.now) (location_of here) }
-{
-    world.is_removed(here) || !world.is_under_root(here)
-}
-
 // The parent of a directory, on the same mount.
 fn parent_location<L: Look>(world: &L, here: Location) -> Location
     ensures { location_of result ≡ parent_location nat_eq (L.looks world.now) (location_of here) }
@@ -91,16 +93,56 @@ fn parent_location<L: Look>(world: &L, here: Location) -> Location
     }
 }
 
+// Whether `..` of a directory leads nowhere. It is not asked where a step began that is known to be found.
+fn is_lost<L: Look>(world: &L, here: Location, start: Location, is_found: bool) -> bool
+    requires { is_found ≡ true → is_lost nat_eq (L.looks world.now) (location_of start) ≡ false }
+    ensures { result ≡ is_lost nat_eq (L.looks world.now) (location_of here) }
+{
+    if is_found && is_same_location(here, start) {
+        return false;
+    }
+    world.is_lost(here)
+}
+
+// Through the mounts over a place. A directory stays found if there are none.
+#[inline(always)]
+pub(crate) fn entered<L: Look>(world: &L, place: Location, is_found: bool) -> Step
+    requires { IsFound (L.looks world.now) place is_found }
+    ensures location { location_of result.location ≡ topmost (L.looks world.now) (location_of place) }
+    ensures found { IsFound (L.looks world.now) result.location result.is_found }
+{
+    let location = world.topmost(place);
+    let same = is_same_location(location, place);
+    Step {
+        location,
+        is_found: is_found && same,
+    }
+}
+
 // Where `..` leads from a location: to the topmost mount over the parent. W8: the directory is lost.
-pub(crate) fn step_up<L: Look>(world: &L, who: &Task, start: Location) -> Result<Location, Deny>
-    ensures { location_result result ≡ stepped nat_eq (L.looks world.now) (task_of who.now) (location_of start) DotDot }
+//
+// The parent of a directory that is not lost is not lost either, so that a walk asks once on each mount that it comes to.
+pub(crate) fn step_up<L: Look>(
+    world: &L,
+    who: &Task,
+    start: Location,
+    is_found: bool,
+) -> Result<Step, Deny>
+    requires { is_found ≡ true → is_lost nat_eq (L.looks world.now) (location_of start) ≡ false }
+    ensures value { step_result result
+        ≡ stepped nat_eq (L.looks world.now) (task_of who.now) (location_of start) DotDot }
+    ensures found { IfOk result (λ step. IsFound (L.looks world.now) step.location step.is_found) }
 {
     let here = hopped(world, who, start);
     if is_top(world, who, here) {
-        return Ok(here);
+        return Ok(Step {
+            location: here,
+            is_found: false,
+        });
     }
-    if is_lost(world, here) {
+    if is_lost(world, here, start, is_found) {
         return Err(Rule::W8.denial());
     }
-    Ok(world.topmost(parent_location(world, here)))
+    world.ways_stay_found();
+    Ok(entered(world, parent_location(world, here), true))
 }

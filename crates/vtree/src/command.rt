@@ -4,11 +4,13 @@ ghost use Rattle.vtree.specs.Status.{IsOfWords};
 
 use crate::fault::Fault;
 use clap::error::ErrorKind;
-use clap::{Arg, Command, Error};
+use clap::{Arg, ArgAction, ArgMatches, Command, Error};
 use std::alloc::{AllocError, Global};
 use std::rt::Env;
 use std::{env, io};
+use vt_check::check;
 use vt_script::RunFault;
+use vt_test::test;
 
 /// The version of the program and of what a script may say.
 pub const VERSION: &str = "0.4.0";
@@ -20,9 +22,33 @@ const RUN_ABOUT: &str = "Answers each line of a script";
 
 const FILE_HELP: &str = "The script, one call of a task a line; - is standard input";
 
+const CHECK_ABOUT: &str = "Tells what is wrong with the lines of scripts, and runs nothing";
+
+const TEST_ABOUT: &str = "Runs scripts that hold the answers that they want, and compares";
+
+const RULES_ABOUT: &str = "Tells of the rules that refuse calls";
+
+const WORD_HELP: &str = "A rule, the name of an error, or a call; all rules where it is left out";
+
+const MARKDOWN_HELP: &str = "All rules as a page of the documentation";
+
+const FILES_HELP: &str = "The scripts; - is standard input";
+
+const FORMAT_HELP: &str = "The form of what is written; json is one object a line";
+
+const WARNINGS_HELP: &str = "Warnings are errors";
+
+const WRITE_HELP: &str = "Puts the given answers into the files";
+
+const NO_INPUT: &str = "`--write` takes files, and not the standard input";
+
+const CHECK_FORMS: [&str; 2] = ["text", "json"];
+
+const TEST_FORMS: [&str; 3] = ["text", "json", "junit"];
+
 const STATUSES: &str = "Exit status:
-  0  all was read and answered, denials included
-  1  a file cannot be opened, a read or a write failed, or there was no memory at the start
+  0  all is well; of run: all was read and answered, denials included
+  1  something was found, a file cannot be read or written, or there was no memory at the start
   2  the words are refused, or ask for help or the version";
 
 const NOT_UTF_8: &str =
@@ -49,32 +75,103 @@ pub(crate) fn out_of_memory<E: Drop>(_error: E) -> Fault
     Fault::Run(RunFault::Memory)
 }
 
-// The command line: `vtree run FILE`.
-fn command_line<'a>(alloc: Global) -> Result<Command<'a>, AllocError> {
+// An option that is one of several words.
+fn format_option<'a>(alloc: Global, forms: &'a [&'a str]) -> Arg<'a> {
+    Arg::new(alloc, "format")
+        .long("format")
+        .value_name("FORM")
+        .value_parser(forms)
+        .default_value("text")
+        .help(FORMAT_HELP)
+}
+
+// The files of a command, of which there may be several.
+fn files<'a>(alloc: Global) -> Arg<'a> {
+    Arg::new(alloc, "FILE")
+        .required(true)
+        .num_args(1..)
+        .help(FILES_HELP)
+}
+
+// `vtree run FILE`
+fn run_line<'a>(alloc: Global) -> Result<Command<'a>, AllocError> {
     let file = Arg::new(alloc, "FILE").required(true).help(FILE_HELP);
-    let run = Command::new(alloc, "run").about(RUN_ABOUT).arg(file)?;
+    Command::new(alloc, "run").about(RUN_ABOUT).arg(file)
+}
+
+// `vtree check [-W] [--format FORM] FILE..`
+fn check_line<'a>(alloc: Global) -> Result<Command<'a>, AllocError> {
+    let strict = Arg::new(alloc, "warnings")
+        .short('W')
+        .action(ArgAction::SetTrue)
+        .help(WARNINGS_HELP);
+    Command::new(alloc, "check")
+        .about(CHECK_ABOUT)
+        .arg(strict)?
+        .arg(format_option(alloc, CHECK_FORMS.as_slice()))?
+        .arg(files(alloc))
+}
+
+// `vtree test [--write] [--format FORM] FILE..`
+fn test_line<'a>(alloc: Global) -> Result<Command<'a>, AllocError> {
+    let write = Arg::new(alloc, "write")
+        .long("write")
+        .action(ArgAction::SetTrue)
+        .help(WRITE_HELP);
+    Command::new(alloc, "test")
+        .about(TEST_ABOUT)
+        .arg(write)?
+        .arg(format_option(alloc, TEST_FORMS.as_slice()))?
+        .arg(files(alloc))
+}
+
+// `vtree rules [--markdown] [WORD]`
+fn rules_line<'a>(alloc: Global) -> Result<Command<'a>, AllocError> {
+    let page = Arg::new(alloc, "markdown")
+        .long("markdown")
+        .action(ArgAction::SetTrue)
+        .help(MARKDOWN_HELP);
+    Command::new(alloc, "rules")
+        .about(RULES_ABOUT)
+        .arg(page)?
+        .arg(Arg::new(alloc, "WORD").help(WORD_HELP))
+}
+
+// The command line.
+fn command_line<'a>(alloc: Global) -> Result<Command<'a>, AllocError> {
     Command::new(alloc, "vtree")
         .version(VERSION)
         .about(ABOUT)
         .after_help(STATUSES)
         .subcommand_required(true)
         .arg_required_else_help(true)
-        .subcommand(run)
+        .subcommand(run_line(alloc)?)?
+        .subcommand(check_line(alloc)?)?
+        .subcommand(test_line(alloc)?)?
+        .subcommand(rules_line(alloc)?)
 }
 
-// The first paragraph of the error as one line: all that is missing is named in it.
+// The first paragraph of the error as one line, where all that is missing is named, and what is like the words.
 fn in_one_line(alloc: Global, text: &str) -> Result<String, AllocError> {
     let mut line = String::new(alloc);
+    let mut ended = false;
     for part in text.lines() {
-        if part.is_empty() {
-            break;
+        let part = part.trim();
+        ended |= part.is_empty();
+        let tip = part.strip_prefix("tip: ");
+        if tip.is_some() || !ended {
+            push_part(&mut line, part, tip)?;
         }
-        if !line.is_empty() {
-            line.push(' ')?;
-        }
-        line.push_str(part.trim())?;
     }
     Ok(line)
+}
+
+// Appends a part of the error, or what it proposes.
+fn push_part(line: &mut String, part: &str, tip: Option<&str>) -> Result<(), AllocError> {
+    if !line.is_empty() {
+        line.push_str(if tip.is_some() { "; " } else { " " })?;
+    }
+    line.push_str(tip.unwrap_or(part))
 }
 
 // What the words are refused for, in one line, or the help that they ask for.
@@ -94,22 +191,116 @@ fn refused(alloc: Global, error: &Error) -> Result<Fault, AllocError>
     })
 }
 
-/// The name of the script's file, as the words give it.
+/// What the words ask for.
+#[derive(Drop)]
+pub(crate) enum Asked<'a> {
+    Run(&'a str),
+    Check {
+        files: Vec<&'a str>,
+        options: check::Options,
+    },
+    Test {
+        files: Vec<&'a str>,
+        format: test::Format,
+        /// Whether the given answers are put into the files.
+        writes: bool,
+    },
+    Rules {
+        word: Option<&'a str>,
+        /// Whether all rules are written as a page.
+        page: bool,
+    },
+}
+
+// The files that a command is given.
+fn files_of<'a>(alloc: Global, given: &ArgMatches<'a>) -> Result<Vec<&'a str>, AllocError> {
+    let mut files = Vec::new(alloc);
+    for file in given.get_strs("FILE").unwrap_or_default() {
+        files.push(*file)?;
+    }
+    Ok(files)
+}
+
+// `vtree check`
+fn check_asked<'a>(alloc: Global, given: &ArgMatches<'a>) -> Result<Asked<'a>, AllocError> {
+    let format = match given.get_str("format") {
+        Some("json") => check::Format::Json,
+        _ => check::Format::Text,
+    };
+    Ok(Asked::Check {
+        files: files_of(alloc, given)?,
+        options: check::Options {
+            format,
+            strict: given.get_flag("warnings"),
+        },
+    })
+}
+
+// `vtree test`
+fn test_asked<'a>(alloc: Global, given: &ArgMatches<'a>) -> Result<Asked<'a>, AllocError> {
+    let format = match given.get_str("format") {
+        Some("json") => test::Format::Json,
+        Some("junit") => test::Format::Junit,
+        _ => test::Format::Text,
+    };
+    Ok(Asked::Test {
+        files: files_of(alloc, given)?,
+        format,
+        writes: given.get_flag("write"),
+    })
+}
+
+// Refuses to put answers into the standard input.
+fn without_input<'a>(alloc: Global, asked: Asked<'a>) -> Result<Asked<'a>, Fault>
+    ensures { IfErr result IsOfWords }
+{
+    let is_input = match &asked {
+        Asked::Test {
+            files,
+            writes: true,
+            ..
+        } => files.iter().any(|file| *file == "-"),
+        _ => false,
+    };
+    if is_input {
+        let text = String::from_str(alloc, NO_INPUT).map_err(out_of_memory)?;
+        return Err(Fault::Words(text));
+    }
+    Ok(asked)
+}
+
+// What the words of a command ask for.
+fn asked_of<'a>(alloc: Global, matches: &ArgMatches<'a>) -> Result<Asked<'a>, Fault>
+    ensures { IfErr result IsOfWords }
+{
+    match matches.subcommand() {
+        Some(("run", given)) => match given.get_str("FILE") {
+            Some(file) => Ok(Asked::Run(file)),
+            None => Err(Fault::Words(String::new(alloc))),
+        },
+        Some(("check", given)) => check_asked(alloc, given).map_err(out_of_memory),
+        Some(("test", given)) => {
+            let asked = test_asked(alloc, given).map_err(out_of_memory)?;
+            without_input(alloc, asked)
+        }
+        Some(("rules", given)) => Ok(Asked::Rules {
+            word: given.get_str("WORD"),
+            page: given.get_flag("markdown"),
+        }),
+        _ => Err(Fault::Words(String::new(alloc))),
+    }
+}
+
+/// What the words ask for.
 ///
 /// `Words`: they are not those of a command. `Help`: they ask for help or the version. `Run` with
 /// `Memory`: an allocation failed.
-pub(crate) fn script_named<'a>(alloc: Global, words: &'a [String]) -> Result<&'a str, Fault>
+pub(crate) fn asked_by<'a>(alloc: Global, words: &'a [String]) -> Result<Asked<'a>, Fault>
     ensures { IfErr result IsOfWords }
 {
     let command = command_line(alloc).map_err(out_of_memory)?;
-    let matches = match command.try_get_matches_from(words) {
-        Ok(matches) => matches,
-        Err(error) => return Err(refused(alloc, &error).unwrap_or_else(out_of_memory)),
-    };
-    match matches.subcommand() {
-        Some(("run", given)) => given
-            .get_str("FILE")
-            .ok_or(Fault::Words(String::new(alloc))),
-        _ => Err(Fault::Words(String::new(alloc))),
+    match command.try_get_matches_from(words) {
+        Ok(matches) => asked_of(alloc, &matches),
+        Err(error) => Err(refused(alloc, &error).unwrap_or_else(out_of_memory)),
     }
 }

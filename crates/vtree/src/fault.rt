@@ -24,6 +24,9 @@ pub enum Fault {
     /// The answers cannot be written.
     #[error("cannot write the answers: {cause}; what came out is a beginning of them; check where the output goes")]
     Write { cause: io::Error },
+    /// Something was found, as was said already.
+    #[error("something was found")]
+    Found,
     /// The run stopped, and there is no error of the system to tell why.
     #[error("{0}")]
     Run(RunFault),
@@ -37,6 +40,7 @@ pub fn status(outcome: &Result<(), Fault>) -> u8
     match outcome {
         Ok(()) => 0,
         Err(Fault::Words(_) | Fault::Help(_)) => 2,
-        Err(Fault::Open { .. } | Fault::Read { .. } | Fault::Write { .. } | Fault::Run(_)) => 1,
+        Err(Fault::Open { .. } | Fault::Read { .. } | Fault::Write { .. }) => 1,
+        Err(Fault::Found | Fault::Run(_)) => 1,
     }
 }

@@ -1,12 +1,13 @@
 //! The command is carried out: the script is opened, read and answered.
-ghost use Rattle.std.specs.Prelude.{◌≡◌, Some, None, IfErr, IfOk, OnOk, true, false};
+ghost use Rattle.std.specs.Prelude.{◌≡◌, ◌<◌, ◌⊎◌, Some, None, IfErr, IsErr, IsErrOf, OnOk, true, false};
 ghost use Rattle.std.specs.Io.{ReadsAtMost};
 ghost use Rattle.std.specs.Io.KnownBytes.{ReadConsumes};
-ghost use Rattle.vtree.specs.Answered.{AnswersKnown};
+ghost use Rattle.vtree.specs.Answered.{AnswersKnown, IsFresh};
 ghost use Rattle.vtree.specs.Status.{comes_before_output};
 
-use crate::command::{out_of_memory, script_named};
+use crate::command::{Asked, asked_by, out_of_memory};
 use crate::fault::Fault;
+use crate::{rules, tools};
 use std::alloc::Global;
 use std::fs::File;
 use std::io::{self, BufWriter, Read, Write};
@@ -47,93 +48,118 @@ impl<D: Read> Read for Watched<D> {
     }
 }
 
-/// Why a run stopped, with what the system said of it, if it did.
-#[derive(Debug, Drop)]
-pub struct Stopped {
-    pub fault: RunFault,
-    pub cause: Option<io::Error>,
-}
-
-/// Answers the script that the reader gives, and hands all answers on to the writer.
+/// Answers the script that a source gives, and flushes the sink, also before a fault.
 ///
-/// Where the run stopped, what was answered before was handed on too, as far as the writer took it.
+/// `Read` and `Write`: that device failed. `Memory`: an allocation failed before anything was read or written.
 pub fn answer<R: Read + Drop, W: Write + Drop>(
     alloc: Global,
-    script: R,
-    output: W,
-) -> Result<W, Stopped>
-    ensures { IfOk result (λ w. AnswersKnown (R.remaining script) (W.contents output) (W.contents w)) }
+    source: &mut ReadSource<R>,
+    sink: &mut WriteSink<W>,
+) -> Result<(), RunFault>
+    requires source { IsFresh source.old }
+    requires sink { sink.old.failures ≡ 0 }
+    ensures ok { OnOk result (AnswersKnown (R.remaining source.old.reader)
+        (W.contents sink.old.writer) (W.contents sink.new.writer)) }
+
+    // Each failure of a device is a fault, and no fault of a device comes without one.
+    ensures read { IsErrOf result RunFault.Read → source.new.failures ≡ 1 }
+    ensures no_read { IsErrOf result RunFault.Read ⊎ (source.new.failures ≡ 0) }
+    ensures write { IsErrOf result RunFault.Write → 0 < sink.new.failures }
+    ensures no_write { IsErr result ⊎ (sink.new.failures ≡ 0) }
 {
-    let Ok(buffered) = BufWriter::new(alloc, output) else {
-        return Err(Stopped {
-            fault: RunFault::Memory,
-            cause: None,
-        });
-    };
-    let mut sink = WriteSink::new(buffered);
-    let mut reader = Watched::new(script);
-    let mut source = ReadSource::new(&mut reader);
-    let outcome = run::<Kernel, _, _>(alloc, &mut source, &mut sink);
-    let handed_on = sink.into_inner().into_inner();
-    let cause = match (&outcome, &handed_on) {
-        (Err(RunFault::Read), _) => reader.error,
-        (_, Err(error)) => Some(*error.error()),
-        _ => None,
-    };
-    match (outcome, handed_on) {
-        (Ok(()), Ok(writer)) => Ok(writer),
-        (Err(fault), _) => Err(Stopped { fault, cause }),
-        (Ok(()), Err(_)) => Err(Stopped {
-            fault: RunFault::Write,
-            cause,
-        }),
+    let outcome = run::<Kernel, _, _>(alloc, source, sink);
+    let flushed = sink.flush();
+    outcome?;
+    match flushed {
+        Ok(()) => Ok(()),
+        Err(_) => Err(RunFault::Write),
     }
 }
 
-// The same, with the fault that the program tells.
+// Answers the script that a reader gives, with the fault that the program tells.
 fn answer_named<R: Read + Drop, W: Write + Drop>(
     alloc: Global,
     name: &str,
     script: R,
     output: W,
-) -> Result<(), Fault>
+) -> Result<W, Fault>
     ensures { IfErr result (λ fault. comes_before_output fault ≡ false) }
 {
-    let stopped = match answer(alloc, script, output) {
-        Ok(_) => return Ok(()),
-        Err(stopped) => stopped,
-    };
-    Err(match (stopped.fault, stopped.cause) {
-        (RunFault::Read, Some(cause)) => Fault::Read {
-            name: String::from_str(alloc, name).map_err(out_of_memory)?,
-            cause,
-        },
-        (RunFault::Write, Some(cause)) => Fault::Write { cause },
-        (fault, _) => Fault::Run(fault),
-    })
+    let mut sink = WriteSink::new(BufWriter::new(alloc, output).map_err(out_of_memory)?);
+    let mut reader = Watched::new(script);
+    let mut source = ReadSource::new(&mut reader);
+    let outcome = answer(alloc, &mut source, &mut sink);
+    let handed_on = sink.into_inner().into_inner();
+    match (outcome, handed_on) {
+        (Ok(()), Ok(writer)) => Ok(writer),
+        (Ok(()) | Err(RunFault::Write), Err(error)) => Err(Fault::Write {
+            cause: *error.error(),
+        }),
+        (Err(RunFault::Read), _) => Err(read_fault(alloc, name, reader.error)),
+        (Err(fault), _) => Err(Fault::Run(fault)),
+    }
 }
 
-/// Does what the words say: `run FILE` answers the script in that file, or on the standard input where FILE is `-`.
+// A read failed, and this the system said of it.
+fn read_fault(alloc: Global, name: &str, cause: Option<io::Error>) -> Fault
+    ensures { comes_before_output result ≡ false }
+{
+    let Some(cause) = cause else {
+        return Fault::Run(RunFault::Read);
+    };
+    match String::from_str(alloc, name) {
+        Ok(name) => Fault::Read { name, cause },
+        Err(error) => out_of_memory(error),
+    }
+}
+
+// Answers the script in the file of this name, or on the standard input where it is `-`.
+fn run_named<R: Files + Input + AllocGlobal, W: Write>(
+    rt: &R,
+    name: &str,
+    output: &mut W,
+) -> Result<(), Fault>
+    ensures { IfErr result (λ fault. comes_before_output fault ≡ true → output.new ≡ output.old) }
+{
+    let alloc = rt.alloc();
+    if name == "-" {
+        return answer_named(alloc, "standard input", rt.reader(), output).map(|_| ());
+    }
+    match File::open(rt, name) {
+        Ok(file) => answer_named(alloc, name, file, output).map(|_| ()),
+        Err(cause) => Err(Fault::Open {
+            name: String::from_str(alloc, name).map_err(out_of_memory)?,
+            cause,
+        }),
+    }
+}
+
+/// Does what the words say: `run FILE` answers the script in that file, or on the standard input where FILE is `-`;
+/// `check FILE..` and `test FILE..` tell what they find in each file, and `rules` tells of rules.
 ///
-/// The words are read first, and then the file is opened. What was answered is handed on to the output, also
+/// The words are read first, and then files are opened. What was answered is handed on to the output, also
 /// before a fault. What a file holds no clause can say: that FILE is what is read, tests show.
-pub fn obey<R: Files + Input + AllocGlobal, W: Write>(
+pub fn obey<R: Files + Input + Eprint + AllocGlobal, W: Write>(
     rt: &R,
     words: &[String],
     output: &mut W,
 ) -> Result<(), Fault>
     ensures { IfErr result (λ fault. comes_before_output fault ≡ true → output.new ≡ output.old) }
 {
-    let alloc = rt.alloc();
-    let name = script_named(alloc, words)?;
-    if name == "-" {
-        return answer_named(alloc, "standard input", rt.reader(), output);
-    }
-    match File::open(rt, name) {
-        Ok(file) => answer_named(alloc, name, file, output),
-        Err(cause) => Err(Fault::Open {
-            name: String::from_str(alloc, name).map_err(out_of_memory)?,
-            cause,
-        }),
+    match asked_by(rt.alloc(), words)? {
+        Asked::Run(name) => run_named(rt, name, output),
+        Asked::Check { files, options } => tools::check(rt, files.as_slice(), options, output),
+        Asked::Test {
+            files,
+            format,
+            writes,
+        } => {
+            if writes {
+                tools::write(rt, files.as_slice(), output)
+            } else {
+                tools::test(rt, files.as_slice(), format, output)
+            }
+        }
+        Asked::Rules { word, page } => rules::tell(rt.alloc(), word, page, output),
     }
 }

@@ -18,7 +18,17 @@ fn owned(alloc: Global, words: &[&str]) -> Result<Vec<String>, AllocError> {
 }
 
 // Words that are faults, the status of each, and its text.
-const FAULTS: [(&[&str], u8, &str); 6] = [
+const FAULTS: [(&[&str], u8, &str); 8] = [
+    (
+        &["vtree", "chek", "a"],
+        2,
+        "unrecognized subcommand 'chek'; a similar subcommand exists: 'check'; `vtree --help` says what it takes",
+    ),
+    (
+        &["vtree", "test", "--write", "a", "-"],
+        2,
+        "`--write` takes files, and not the standard input; `vtree --help` says what it takes",
+    ),
     (
         &["vtree", "run"],
         2,
@@ -136,5 +146,54 @@ fn a_word_that_is_not_utf_8_is_told_so(rt: HostRuntime) -> Result<(), Fail> {
             "a word is not UTF-8; a script with such a name is given as `vtree run - < FILE`"
         )
     );
+    Ok(())
+}
+
+// The exit status of these words, and what they write.
+fn ended(rt: &HostRuntime, words: &[&str]) -> Result<(u8, Vec<u8>), Fail> {
+    let mut output = Vec::new(rt.alloc());
+    let words = owned(rt.alloc(), words)?;
+    let outcome = obey(rt, words.as_slice(), &mut output);
+    Ok((status(&outcome), output))
+}
+
+#[test]
+fn check_tells_what_is_wrong_with_a_file(rt: HostRuntime) -> Result<(), Fail> {
+    let folder = env::temp_dir(&rt)?;
+    let file = format!(in rt.alloc(); "{}/vtree-test-of-check.vt", folder.as_str())?;
+    fs::write(&rt, file.as_str(), "t mkdri /d\n")?;
+    let (code, output) = ended(&rt, &["vtree", "check", file.as_str()])?;
+    fs::remove_file(&rt, file.as_str())?;
+    assert_eq!(rt; code, 1);
+    assert!(rt;
+        output
+            .as_slice()
+            .starts_with(b"error[S1]: no call `mkdri`\n")
+    );
+    Ok(())
+}
+
+#[test]
+fn test_compares_the_answers_of_a_file(rt: HostRuntime) -> Result<(), Fail> {
+    let folder = env::temp_dir(&rt)?;
+    let file = format!(in rt.alloc(); "{}/vtree-test-of-test.vt", folder.as_str())?;
+    fs::write(&rt, file.as_str(), "# one\nt ls / => ok a\n")?;
+    let (code, output) = ended(&rt, &["vtree", "test", file.as_str()])?;
+    fs::remove_file(&rt, file.as_str())?;
+    assert_eq!(rt; code, 1);
+    assert!(rt; output.as_slice().ends_with(b"0 passed, 1 failed\n"));
+    Ok(())
+}
+
+#[test]
+fn test_writes_the_given_answers_into_a_file(rt: HostRuntime) -> Result<(), Fail> {
+    let folder = env::temp_dir(&rt)?;
+    let file = format!(in rt.alloc(); "{}/vtree-test-of-write.vt", folder.as_str())?;
+    fs::write(&rt, file.as_str(), "# one\nt ls / => ok a\n")?;
+    let (code, _output) = ended(&rt, &["vtree", "test", "--write", file.as_str()])?;
+    let written = fs::read_to_string(&rt, file.as_str())?;
+    fs::remove_file(&rt, file.as_str())?;
+    assert_eq!(rt; code, 0);
+    assert!(rt; written.as_bytes() == b"# one\nt ls / => ok\n".as_slice());
     Ok(())
 }

@@ -9,12 +9,11 @@ use Rattle.std.specs.Option.{option_eq}
 use Rattle.std.specs.Prelude.{if◌then◌else◌}
 use Rattle.indexmap.specs.IndexSet.{insert_key}
 use Rattle.vt_spec.proofs.Lists.{chain_goes_on}
-use Rattle.vt_spec.specs.Lists.{holds_of, is_among, or_else}
-use Rattle.vt_spec.specs.Machine.Mounts.{Propagation, source_of}
+use Rattle.vt_spec.specs.Lists.{holds_of, is_among}
 use Rattle.vt_location.specs.declared.numbers.GroupId.{GroupId}
 use Rattle.vt_location.specs.Numbers.{counted}
 use Rattle.vt_group.specs.Grouping.{Grouping, master_in}
-use Rattle.vt_group.specs.Receiving.{IsLonger, Reaches, is_in, kind_from}
+use Rattle.vt_group.specs.Receiving.{IsLonger, Reaches, is_in}
 use Rattle.vt_group.specs.Sets.{same_group}
 use Rattle.vt_group.specs.Steps.{group_number}
 use Rattle.vt_group.proofs.Listing.{counted_same}
@@ -178,68 +177,19 @@ pub taken_more : (keys new : List GroupId) (i : ℕ) (default : GroupId) → i <
 taken_more keys new i default less longer =
     ap (take (i + 1)) longer.1 ∙ take-append-le (i + 1) keys longer.0 (omega (arith, less)) ∙ take_more keys i default less
 
--- the types of mounts that receive from one more group
+-- the mounts that receive from one more group
 
--- a type is that of what was found, or of what is found more
-pub kind_more : (found more all : ℕ → Bool) → ((group : ℕ) → all group ≡ (found group || more group))
-    → (kind : Propagation ℕ) → or_else (kind_from more kind) (kind_from found kind) ≡ kind_from all kind
-kind_more found more all either kind = by (source_of kind)
+-- a source is one of those found, or of those found more
+pub source_more : (found more all : ℕ → Bool) → ((group : ℕ) → all group ≡ (found group || more group))
+    → (source : Option ℕ) → (holds_of more source || holds_of found source) ≡ holds_of all source
+source_more found more all either None = refl
+source_more found more all either (Some group) = turned (more group) (found group) ∙ sym (either group)
   where
-    step : (a b : Bool) → or_else (if b then Some kind else None) (if a then Some kind else None)
-        ≡ (if a || b then Some kind else None)
-    step true true = refl
-    step true false = refl
-    step false true = refl
-    step false false = refl
-
-    by : (source : Option ℕ)
-        → or_else (if holds_of more source then Some kind else None) (if holds_of found source then Some kind else None)
-        ≡ (if holds_of all source then Some kind else None)
-    by None = refl
-    by (Some group) =
-        step (found group) (more group) ∙ ap (λ b. if b then Some kind else None) (sym (either group))
-
--- what is gathered one by one
-
--- what is gathered up to here and of the rest is what is gathered of all
-pub gathered : {A : Type 0} (one old now new : Option A) (here rest : Bool) → new ≡ (if here then or_else one now else now)
-    → (now ≡ or_else one old) ⊎ ((now ≡ old) × ((here || rest) ≡ true))
-    → (new ≡ or_else one old) ⊎ ((new ≡ old) × (rest ≡ true))
-gathered {A} one old now new here rest step sofar = by here step sofar
-  where
-    again : (a b : Option A) → or_else a (or_else a b) ≡ or_else a b
-    again None b = refl
-    again (Some x) b = refl
-
-    by : (here : Bool) → new ≡ (if here then or_else one now else now)
-        → (now ≡ or_else one old) ⊎ ((now ≡ old) × ((here || rest) ≡ true))
-        → (new ≡ or_else one old) ⊎ ((new ≡ old) × (rest ≡ true))
-    by true step (inl done) = inl (step ∙ ap (or_else one) done ∙ again one old)
-    by true step (inr left) = inl (step ∙ ap (or_else one) left.0)
-    by false step (inl done) = inl (step ∙ done)
-    by false step (inr left) = inr (step ∙ left.0, left.1)
-
--- where no rest is left, all is gathered
-pub none_left : {A : Type 0} (one old now : Option A) (rest : Bool) → rest ≡ false
-    → (now ≡ or_else one old) ⊎ ((now ≡ old) × (rest ≡ true)) → now ≡ or_else one old
-none_left one old now rest empty (inl done) = done
-none_left one old now rest empty (inr left) = absurd (true≢false (sym left.1 ∙ empty))
-
--- a mount that is not among those looked at does not receive from the group
-pub not_gathered : (group : ℕ) (kind : Propagation ℕ) (among : Bool) → (source_of kind ≡ Some group → among ≡ true)
-    → (old : Option (Propagation ℕ)) → (old ≡ or_else (kind_from (nat_eq group) kind) old) ⊎ ((old ≡ old) × (among ≡ true))
-not_gathered group kind among so old = by (source_of kind) refl
-  where
-    held : (b : Bool) (source : ℕ) → nat_eq group source ≡ b → source_of kind ≡ Some source
-        → (old ≡ or_else (if b then Some kind else None) old) ⊎ ((old ≡ old) × (among ≡ true))
-    held true source same is = inr (refl, so (is ∙ ap Some (sym (eqb-true group source same))))
-    held false source apart is = inl refl
-
-    by : (source : Option ℕ) → source_of kind ≡ source
-        → (old ≡ or_else (if holds_of (nat_eq group) source then Some kind else None) old)
-        ⊎ ((old ≡ old) × (among ≡ true))
-    by None is = inl refl
-    by (Some source) is = held (nat_eq group source) source refl is
+    turned : (a b : Bool) → (a || b) ≡ (b || a)
+    turned true true = refl
+    turned true false = refl
+    turned false true = refl
+    turned false false = refl
 
 -- what is known after one more step of the walk
 
@@ -274,12 +224,12 @@ module _ (groups : Grouping) (group : ℕ) (keys new : List GroupId) (next : ℕ
       (or_cases (is_in (take next keys) upper) (nat_eq upper (group_number here))
       (sym (in_push (take next keys) here upper) ∙ ap (λ list. is_in list upper) (sym taken) ∙ inside))
 
-  -- the type is that of the groups up to this one
-  pub each_more : (kind : Propagation ℕ)
-      → or_else (kind_from (nat_eq (group_number here)) kind) (kind_from (is_in (take next keys)) kind)
-      ≡ kind_from (is_in (take (next + 1) new)) kind
+  -- a mount receives from the groups up to this one
+  pub each_more : (source : Option ℕ)
+      → (holds_of (nat_eq (group_number here)) source || holds_of (is_in (take next keys)) source)
+      ≡ holds_of (is_in (take (next + 1) new)) source
   each_more =
-      kind_more (is_in (take next keys)) (nat_eq (group_number here)) (is_in (take (next + 1) new))
+      source_more (is_in (take next keys)) (nat_eq (group_number here)) (is_in (take (next + 1) new))
       (λ one. ap (λ list. is_in list one) taken ∙ in_push (take next keys) here one
       ∙ ap (λ b. is_in (take next keys) one || b)
       (sym (nat_eq-swapped one (group_number here) (nat_eq one (group_number here)) refl)))

@@ -10,7 +10,7 @@ use crate::names::CallName;
 use crate::number::{descriptor_word, mode_word, offset_word};
 use crate::words::{Words, access_word, kept_or_identity, path_word};
 use std::alloc::Global;
-use vt_request::{Access, Call, Creation};
+use vt_request::{Access, Call, Creation, DescriptorCall, LookCall, MakeCall, WriteCall};
 use vt_spec::attributes::Mode;
 
 /// The words of `write PATH BYTES`.
@@ -110,11 +110,11 @@ pub fn pread(mut words: Words<'_>) -> Option<Call>
     let offset = offset_word(words.next()?)?;
     let size = offset_word(words.next()?)?;
     words.end()?;
-    Some(Call::Pread {
+    Some(Call::Look(LookCall::Pread {
         descriptor,
         offset,
         size,
-    })
+    }))
 }
 
 /// `close DESCRIPTOR`.
@@ -123,7 +123,7 @@ pub fn close(mut words: Words<'_>) -> Option<Call>
 {
     let descriptor = descriptor_word(words.next()?)?;
     words.end()?;
-    Some(Call::Close { descriptor })
+    Some(Call::Descriptor(DescriptorCall::Close { descriptor }))
 }
 
 /// `write PATH BYTES`.
@@ -135,7 +135,7 @@ pub fn write(alloc: Global, words: Words<'_>) -> Result<Call, ReadError>
     };
     let path = path.to_vec(alloc)?;
     let bytes = bytes.to_vec(alloc)?;
-    Ok(Call::Write { path, bytes })
+    Ok(Call::Write(WriteCall::Write { path, bytes }))
 }
 
 /// `mkdir PATH [MODE]`.
@@ -146,7 +146,7 @@ pub fn mkdir(alloc: Global, words: Words<'_>) -> Result<Call, ReadError>
         return Err(ReadError::Grammar);
     };
     let path = path.to_vec(alloc)?;
-    Ok(Call::Mkdir { path, mode })
+    Ok(Call::Make(MakeCall::Mkdir { path, mode }))
 }
 
 /// `chmod PATH MODE`.
@@ -157,7 +157,7 @@ pub fn chmod(alloc: Global, words: Words<'_>) -> Result<Call, ReadError>
         return Err(ReadError::Grammar);
     };
     let path = path.to_vec(alloc)?;
-    Ok(Call::Chmod { path, mode })
+    Ok(Call::Write(WriteCall::Chmod { path, mode }))
 }
 
 /// `chown PATH UID GID`.
@@ -168,7 +168,7 @@ pub fn chown(alloc: Global, words: Words<'_>) -> Result<Call, ReadError>
         return Err(ReadError::Grammar);
     };
     let path = path.to_vec(alloc)?;
-    Ok(Call::Chown { path, uid, gid })
+    Ok(Call::Write(WriteCall::Chown { path, uid, gid }))
 }
 
 /// `open PATH ACCESS [create MODE | excl MODE]`.
@@ -179,11 +179,11 @@ pub fn open(alloc: Global, words: Words<'_>) -> Result<Call, ReadError>
         return Err(ReadError::Grammar);
     };
     let path = path.to_vec(alloc)?;
-    Ok(Call::OpenFile {
+    Ok(Call::Descriptor(DescriptorCall::Open {
         path,
         access,
         creation,
-    })
+    }))
 }
 
 /// `pwrite DESCRIPTOR OFFSET BYTES`.
@@ -194,9 +194,9 @@ pub fn pwrite(alloc: Global, words: Words<'_>) -> Result<Call, ReadError>
         return Err(ReadError::Grammar);
     };
     let bytes = bytes.to_vec(alloc)?;
-    Ok(Call::Pwrite {
+    Ok(Call::Write(WriteCall::Pwrite {
         descriptor,
         offset,
         bytes,
-    })
+    }))
 }

@@ -10,7 +10,7 @@ use crate::names::CallName;
 use crate::words::{Words, flags_word, path_word, type_word};
 use std::alloc::Global;
 use vt_cred::MountFlags;
-use vt_request::{Call, TypeWord};
+use vt_request::{Call, MountCall, TypeWord};
 
 /// The words of `mount plain PATH [FLAGS]`. The product has no overlays.
 fn mount_words(mut words: Words<'_>) -> Option<(&[u8], MountFlags)>
@@ -59,7 +59,7 @@ pub fn mount(alloc: Global, words: Words<'_>) -> Result<Call, ReadError>
         return Err(ReadError::Grammar);
     };
     let path = path.to_vec(alloc)?;
-    Ok(Call::MountPlain { path, flags })
+    Ok(Call::Mount(MountCall::Plain { path, flags }))
 }
 
 /// `remount PATH FLAGS`.
@@ -70,7 +70,7 @@ pub fn remount(alloc: Global, words: Words<'_>) -> Result<Call, ReadError>
         return Err(ReadError::Grammar);
     };
     let path = path.to_vec(alloc)?;
-    Ok(Call::Remount { path, flags })
+    Ok(Call::Mount(MountCall::Remount { path, flags }))
 }
 
 /// `type PATH TYPE`, and `rtype PATH TYPE`, which is recursive.
@@ -82,9 +82,9 @@ pub fn set_type(alloc: Global, words: Words<'_>, recursive: bool) -> Result<Call
         return Err(ReadError::Grammar);
     };
     let path = path.to_vec(alloc)?;
-    Ok(Call::SetType {
+    Ok(Call::Mount(MountCall::SetType {
         path,
         word,
         recursive,
-    })
+    }))
 }

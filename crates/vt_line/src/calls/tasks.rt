@@ -11,7 +11,7 @@ use crate::names::CallName;
 use crate::number::{identity_word, mode_word};
 use crate::words::{Groups, Words, capabilities_word, groups_word, is_task, task_name};
 use std::alloc::Global;
-use vt_request::{Call, CapsWord, ForkWords};
+use vt_request::{Call, CapsWord, ForkWords, TaskCall};
 
 /// The credentials that a child is given, before they are kept.
 #[derive(Drop)]
@@ -59,7 +59,7 @@ pub fn umask(mut words: Words<'_>) -> Option<Call>
 {
     let mode = mode_word(words.next()?)?;
     words.end()?;
-    Some(Call::Umask { mode })
+    Some(Call::Task(TaskCall::Umask { mode }))
 }
 
 /// `drop CAPS`.
@@ -68,7 +68,7 @@ pub fn drop(mut words: Words<'_>) -> Option<Call>
 {
     let caps = capabilities_word(words.next()?)?;
     words.end()?;
-    Some(Call::Drop { caps })
+    Some(Call::Task(TaskCall::Drop { caps }))
 }
 
 /// `fork [UID GID GROUPS CAPS]`.
@@ -79,7 +79,7 @@ pub fn fork(alloc: Global, words: Words<'_>) -> Result<Call, ReadError>
         return Err(ReadError::Grammar);
     };
     let Some(child) = child else {
-        return Ok(Call::Fork { words: None });
+        return Ok(Call::Task(TaskCall::Fork { words: None }));
     };
     let groups = child.groups.as_slice().to_vec(alloc)?;
     let words = Some(ForkWords {
@@ -88,7 +88,7 @@ pub fn fork(alloc: Global, words: Words<'_>) -> Result<Call, ReadError>
         groups,
         caps: child.caps,
     });
-    Ok(Call::Fork { words })
+    Ok(Call::Task(TaskCall::Fork { words }))
 }
 
 /// `setns TASK`. Only a name of many numbers can fail.
@@ -99,5 +99,5 @@ pub fn setns(alloc: Global, words: Words<'_>) -> Result<Call, ReadError>
         return Err(ReadError::Grammar);
     };
     let task = task_name(alloc, task)?;
-    Ok(Call::Setns { task })
+    Ok(Call::Task(TaskCall::Setns { task }))
 }

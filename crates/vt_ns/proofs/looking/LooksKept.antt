@@ -1,5 +1,5 @@
 -- What code finds in what is kept of a world is what the definitions see of its value.
-use Rattle.std.proofs.Common.{◌≡◌, refl, sym, ap, subst, ◌∙◌, ℕ, ◌<◌, nat_eq, Bool, true, false, cond, ◌&&◌, List, [], ◌∷◌, zero, suc, length, Option, Some, None, filter, flat_map, map, option_map, unwrap_or}
+use Rattle.std.proofs.Common.{◌≡◌, refl, sym, ap, subst, ◌∙◌, ℕ, ◌<◌, nat_eq, Bool, true, false, cond, not, ◌&&◌, ◌||◌, List, [], ◌∷◌, zero, suc, length, Option, Some, None, filter, flat_map, map, option_map, unwrap_or}
 use Rattle.std.specs.Prelude.{find, option_to_list}
 use Rattle.std.specs.List.{list_any}
 use Rattle.vt_spec.specs.FileTree.{is_directory_under, is_removed}
@@ -10,6 +10,7 @@ use Rattle.vt_spec.specs.Machine.Locked.{lies_or_counts_under, of_overlay, overl
 use Rattle.vt_spec.specs.Machine.Mounts as meant
 use Rattle.vt_spec.specs.Lists.{chain, holds_of, last_or}
 use Rattle.vt_spec.specs.Machine.Looks.{topmost}
+use Rattle.vt_spec.specs.Machine.Walking.{is_lost}
 use Rattle.vt_spec.specs.Machine.Mounts.{child_at, no_mount, root_of, same_location, stands_on}
 use Rattle.vt_spec.specs.Machine.World.{Filesystem, filesystem_at, filesystem_numbered, is_overlay, is_removed_at, layers_of, mount_at, mount_numbered, node_at, open_layer}
 use Rattle.vt_location.specs.declared.locations.Location.{Location}
@@ -23,11 +24,13 @@ use Rattle.vt_looks.specs.declared.look.Ground.{Ground}
 use Rattle.vt_looks.specs.Looking.{HasNoOverlays, IsGround}
 use Rattle.vt_fs.proofs.Entries.{or_first, or_second}
 use Rattle.vt_fs.specs.FilesystemsValue.{Filesystems, files_at, filesystems_seen}
+use Rattle.vt_fs.specs.Laws.{is_lost_under}
 use Rattle.vt_fs.proofs.Numbers.{found_by_number}
 use Rattle.vt_mount.specs.MountsValue.{mounts_in, stands_over}
-use Rattle.vt_detach.specs.Held.{IsHeld}
+use Rattle.vt_world.specs.Held.{IsHeld}
+use Rattle.std.proofs.Math.Bool.{or-true}
 use Rattle.vt_detach.specs.Looking.{is_seen, looks_of_value}
-use Rattle.vt_detach.specs.WorldValue.{WorldValue, world_of}
+use Rattle.vt_world.specs.WorldValue.{WorldValue, world_of}
 use Rattle.vt_detach.proofs.FilesystemsFound.{found_plain}
 use Rattle.vt_detach.proofs.LookLemmas.{any_point, missing_root, seen_filesystem, under_another, unseen_node, unseen_removed, unseen_root}
 
@@ -131,43 +134,48 @@ module _ (kept value : WorldValue) (is : kept ≡ value) (held : IsHeld kept) (a
       ∙ ap (λ b. b && list_any (λ mount. stands_over (number_of at.node) mount && test mount)
       (mounts_in kept.mounts)) unseen)
 
-  -- under the root of the mount, as it is found
+  -- lost on the mount, as it is found
   module _ (got : Option Mount)
       (is_found : option_map mount_of got
       ≡ find (λ (mount : meant.Mount ℕ). nat_eq (counted at.mount.count) mount.number) (mounts_in kept.mounts)) where
-    abbrev UnderRoot : Bool → WorldValue → Type 0
-    UnderRoot answer v =
-        answer ≡ is_directory_under nat_eq (filesystem_at nat_eq (world_of v) (location_of at)).files
-        (mount_at nat_eq (world_of v) (location_of at)).root (number_of at.node)
+    abbrev IsLost : Bool → WorldValue → Type 0
+    IsLost answer v = answer ≡ is_lost nat_eq (looks_of_value v) (location_of at)
 
-    -- a location lies under the root of its mount just where the tree has it so
-    pub under_root : (mount : Mount) → got ≡ Some mount
-        → UnderRoot (is_directory_under nat_eq (files_at kept.filesystems mount.root.filesystem.count)
-        (number_of mount.root) (number_of at.node)) value
-    under_root mount some =
-        subst (UnderRoot (is_directory_under nat_eq (files_at kept.filesystems mount.root.filesystem.count)
-        (number_of mount.root) (number_of at.node))) is
-        (sym (ap (λ (m : meant.Mount ℕ). is_directory_under nat_eq
+    -- a location is lost on its mount just where its tree has it so
+    pub lost_is : (mount : Mount) → got ≡ Some mount
+        → IsLost (is_lost_under (files_at kept.filesystems mount.root.filesystem.count) (number_of mount.root)
+        (number_of at.node)) value
+    lost_is mount some =
+        subst (IsLost (is_lost_under (files_at kept.filesystems mount.root.filesystem.count) (number_of mount.root)
+        (number_of at.node))) is
+        (sym (ap (λ (m : meant.Mount ℕ). is_lost_under
         (filesystem_numbered nat_eq (world_of kept) m.filesystem).files m.root (number_of at.node))
         (mount_found kept (counted at.mount.count) got is_found mount some)
-        ∙ ap (λ (filesystem : Filesystem ℕ). is_directory_under nat_eq filesystem.files (number_of mount.root)
+        ∙ ap (λ (filesystem : Filesystem ℕ). is_lost_under filesystem.files (number_of mount.root)
         (number_of at.node))
         (found_by_number kept.filesystems mount.root.filesystem.count)))
 
-    -- not where that root is in another filesystem
-    pub under_root_apart : (mount : Mount) → got ≡ Some mount
-        → nat_eq mount.root.filesystem.count at.node.filesystem.count ≡ false → UnderRoot false value
-    under_root_apart mount some other =
-        subst (UnderRoot false) is
-        (sym (unseen_root kept held at small
+    not_under : (v : WorldValue)
+        → is_directory_under nat_eq (filesystem_at nat_eq (world_of v) (location_of at)).files
+        (mount_at nat_eq (world_of v) (location_of at)).root (number_of at.node) ≡ false
+        → IsLost true v
+    not_under v apart =
+        sym (ap (λ b. is_removed_at nat_eq (world_of v) (location_of at) || not b) apart ∙ or-true _)
+
+    -- it is lost where the root is in another filesystem
+    pub lost_apart : (mount : Mount) → got ≡ Some mount
+        → nat_eq mount.root.filesystem.count at.node.filesystem.count ≡ false → IsLost true value
+    lost_apart mount some other =
+        subst (IsLost true) is
+        (not_under kept (unseen_root kept held at small
         (ap (λ (m : meant.Mount ℕ). nat_eq m.filesystem (counted at.node.filesystem.count))
         (mount_found kept (counted at.mount.count) got is_found mount some)
         ∙ counted_test mount.root.filesystem.count at.node.filesystem.count ∙ other)))
 
-    -- nor where the mount is not there
-    pub under_root_missing : got ≡ None → UnderRoot false value
-    under_root_missing none =
-        subst (UnderRoot false) is (sym
+    -- and where the mount is not there
+    pub lost_missing : got ≡ None → IsLost true value
+    lost_missing none =
+        subst (IsLost true) is (not_under kept
         (missing_root kept held at small (mount_missing kept (counted at.mount.count) got is_found none)))
 
 -- no mount is over a location on a mount that none stands on

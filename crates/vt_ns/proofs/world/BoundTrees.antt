@@ -9,7 +9,7 @@ use Rattle.vt_spec.proofs.Lists.{Among, among-from_filter}
 use Rattle.vt_location.specs.declared.numbers.MountId.{MountId}
 use Rattle.vt_location.specs.Numbers.{counted}
 use Rattle.vt_mount.proofs.PlaceLemmas.{counts, numbers}
-use Rattle.vt_mount_laws.proofs.mounts.MountsReplaced.{found_itself}
+use Rattle.vt_laws_mounts.proofs.mounts.MountsReplaced.{found_itself}
 use Rattle.vt_ns.specs.declared.trees.Branch.{Branch}
 use Rattle.vt_ns.specs.Trees.{bindable_numbers, bindable_to_come}
 use Rattle.vt_mount.proofs.TreeLemmas.{flat-numbers}

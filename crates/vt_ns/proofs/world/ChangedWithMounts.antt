@@ -18,41 +18,41 @@ use Rattle.vt_spec.specs.Machine.Settled.{layers_in, located_in, named_in, objec
 use Rattle.vt_spec.specs.Machine.World.{Filesystem, World, all_locations, filesystem_at, filesystem_numbered, mount_at, replaced_if_numbered, with_filesystem}
 use Rattle.vt_spec.specs.Machine.Invariants.{IsWorld, ListsNumbers, TreeInvariants, is_within_limits}
 use Rattle.vt_spec.specs.TreeInvariant.{IsTree}
-use Rattle.vt_count_laws.specs.Changing.{filesystem_of}
-use Rattle.vt_count_laws.specs.Counted.{IsPlain}
+use Rattle.vt_laws_counts.specs.Changing.{filesystem_of}
+use Rattle.vt_laws_counts.specs.Counted.{IsPlain}
 use Rattle.vt_fs.specs.FilesystemsValue.{Filesystems, filesystem_seen, inodes_seen, no_entry}
 use Rattle.vt_group.specs.Grouping.{Grouping, Has}
 use Rattle.vt_group.specs.Together.{TakesAway}
-use Rattle.vt_permit_laws.specs.Named.{permit_named}
-use Rattle.vt_permit_laws.proofs.named.PermitsKeepTo.{same_keeps_to_numbers_too}
-use Rattle.vt_permit_laws.proofs.left.PermitsLeave.{given_permits_are_under_way, given_permits_leave_worlds}
-use Rattle.vt_permit_laws.proofs.same.SameInUse.{same_worlds_are_worlds}
-use Rattle.vt_letting_go.proofs.Lists.{Among, all_from_among, among-append_right, among-filter, among-filter_map, among-map, among_from_all, is_among_left, is_among_numbers, is_among_right, map_same, or_second}
-use Rattle.vt_letting_go.proofs.leaving.NamesKept.{changes_keep_names}
-use Rattle.vt_letting_go.proofs.sweeps.OfWorlds.{worlds_have_trees}
-use Rattle.vt_letting_go.proofs.leaving.TreesChanged.{unnamed_go}
-use Rattle.vt_letting_go.specs.FileChanges.{MayChange, names_lost}
-use Rattle.vt_letting_go.specs.InUse.{IsListedTree, is_inode_used}
-use Rattle.vt_letting_go.specs.OneByOne.{let_go_inode, let_go_inode_of, without_inode}
-use Rattle.vt_letting_go.specs.TreeChanges.{ChangesTree}
+use Rattle.vt_laws_permits.specs.Named.{permit_named}
+use Rattle.vt_laws_permits.proofs.named.PermitsKeepTo.{same_keeps_to_numbers_too}
+use Rattle.vt_laws_permits.proofs.left.PermitsLeave.{given_permits_are_under_way, given_permits_leave_worlds}
+use Rattle.vt_laws_permits.proofs.same.SameInUse.{same_worlds_are_worlds}
+use Rattle.vt_laws_letting_go.proofs.Lists.{Among, all_from_among, among-append_right, among-filter, among-filter_map, among-map, among_from_all, is_among_left, is_among_numbers, is_among_right, map_same, or_second}
+use Rattle.vt_laws_letting_go.proofs.leaving.NamesKept.{changes_keep_names}
+use Rattle.vt_laws_letting_go.proofs.sweeps.OfWorlds.{worlds_have_trees}
+use Rattle.vt_laws_letting_go.proofs.leaving.TreesChanged.{unnamed_go}
+use Rattle.vt_laws_letting_go.specs.FileChanges.{MayChange, names_lost}
+use Rattle.vt_laws_letting_go.specs.InUse.{IsListedTree, is_inode_used}
+use Rattle.vt_laws_letting_go.specs.OneByOne.{let_go_inode, let_go_inode_of, without_inode}
+use Rattle.vt_laws_letting_go.specs.TreeChanges.{ChangesTree}
 use Rattle.vt_mount.specs.MountsValue.{MountEntry}
-use Rattle.vt_run_laws.specs.Handed.{is_counted_before}
-use Rattle.vt_run_laws.proofs.answered.AlikeMounts.{regrouped_alike}
-use Rattle.vt_run_laws.proofs.answered.AlikeSettled.{settled_alike}
-use Rattle.vt_run_laws.proofs.answered.AlikeWorlds.{alike_from_same, same_from_alike, sameness_is_an_equivalence}
-use Rattle.vt_world_laws.specs.Worlds.Kept.{IsWorldButForUse}
-use Rattle.vt_world_laws.specs.Worlds.Permits.{IsFitPermit, NamesWhatIsThere}
-use Rattle.vt_world_laws.proofs.kept.MountsKept.{mounts_kept}
-use Rattle.vt_world_laws.proofs.kept.NamespacesKept.{namespaces_kept}
-use Rattle.vt_world_laws.proofs.worlds.PermitsNamed.{permits_keep_counting_forks, permits_keep_names}
-use Rattle.vt_world_laws.proofs.worlds.PermitsPlaced.{permits_keep_directories, permits_keep_locations, permits_keep_open_files}
-use Rattle.vt_world_laws.proofs.worlds.PermitsShow.{permits_keep_mounts_showing}
-use Rattle.vt_world_laws.proofs.settling.SettledTasks.{settling_leaves_a_world}
+use Rattle.vt_laws_runs.specs.Handed.{is_counted_before}
+use Rattle.vt_laws_runs.proofs.answered.AlikeMounts.{regrouped_alike}
+use Rattle.vt_laws_runs.proofs.answered.AlikeSettled.{settled_alike}
+use Rattle.vt_laws_runs.proofs.answered.AlikeWorlds.{alike_from_same, same_from_alike, sameness_is_an_equivalence}
+use Rattle.vt_laws_worlds.specs.Worlds.Kept.{IsWorldButForUse}
+use Rattle.vt_laws_worlds.specs.Worlds.Permits.{IsFitPermit, NamesWhatIsThere}
+use Rattle.vt_laws_worlds.proofs.kept.MountsKept.{mounts_kept}
+use Rattle.vt_laws_worlds.proofs.kept.NamespacesKept.{namespaces_kept}
+use Rattle.vt_laws_worlds.proofs.worlds.PermitsNamed.{permits_keep_counting_forks, permits_keep_names}
+use Rattle.vt_laws_worlds.proofs.worlds.PermitsPlaced.{permits_keep_directories, permits_keep_locations, permits_keep_open_files}
+use Rattle.vt_laws_worlds.proofs.worlds.PermitsShow.{permits_keep_mounts_showing}
+use Rattle.vt_laws_worlds.proofs.settling.SettledTasks.{settling_leaves_a_world}
 use Rattle.vt_detach.specs.Events.{Permits, supply_of}
 use Rattle.vt_detach.specs.Detached.{LeaveInTurn, LeaveTogether}
-use Rattle.vt_detach.specs.Held.{CountsItsMounts, CountsWhatIsInIt, HasOwnInodes, IsHeld}
+use Rattle.vt_world.specs.Held.{CountsItsMounts, CountsWhatIsInIt, HasOwnInodes, IsHeld}
 use Rattle.vt_detach.specs.Uses.{kept}
-use Rattle.vt_detach.specs.WorldValue.{WorldValue, world_of}
+use Rattle.vt_world.specs.WorldValue.{WorldValue, world_of}
 use Rattle.vt_detach.proofs.ChangedFiles.{ChangesFiles, change_is_held, change_is_swept, with_filesystems}
 use Rattle.vt_detach.proofs.Bridging.{swept_has, swept_is_counted, swept_is_same}
 use Rattle.vt_detach.proofs.DetachingBegins.{HasChildrenOf, detached_world, detaching_begins}
@@ -71,7 +71,7 @@ use Rattle.vt_detach.proofs.TypedEvents.{counts_typed, swept_typed, typed_value}
 use Rattle.vt_detach.proofs.TypedWorlds.{settled_typed, settled_typed_has, typed_world}
 use Rattle.vt_detach.proofs.UnmountedLazily.{all_detached}
 use Rattle.vt_spec.proofs.Worlds.{shown-mapped}
-use Rattle.vt_letting_go.specs.TreesOverlays.{in_use_of}
+use Rattle.vt_laws_letting_go.specs.TreesOverlays.{in_use_of}
 
 module _ (value : WorldValue) (held : IsHeld value) (location : Location ℕ) (change : Change ℕ)
     (filesystems : Filesystems)

@@ -15,19 +15,19 @@ use Rattle.vt_spec.specs.Rights.{is_directory}
 use Rattle.vt_spec.specs.Tree.{Content, Entries, Node, kind_of}
 use Rattle.vt_spec.specs.Tree.Content.{Directory, Regular, Symlink, Whiteout}
 use Rattle.vt_fs.specs.FilesystemsValue.{ChangesInodes, Filesystems, entry_at, inodes_at, inodes_seen, next_seen, node_seen}
-use Rattle.vt_laws.specs.Numbers.{content_named}
+use Rattle.vt_laws_rules.specs.Numbers.{content_named}
 use Rattle.vt_location.specs.declared.locations.Location.{Location}
 use Rattle.vt_location.specs.declared.locations.NodeRef.{NodeRef}
 use Rattle.vt_location.specs.Locations.{location_of, number_of}
 use Rattle.vt_location.specs.Numbers.{counted, exchanged, inode_number, is_inode_of}
 use Rattle.vt_location.proofs.NumberLemmas.{exchanged_same, exchanged_slot, is_inode}
-use Rattle.vt_permit_laws.specs.Sees.{MayBeMade}
-use Rattle.vt_permit_laws.proofs.sees.SeesFit.{given_changes_fit}
-use Rattle.vt_permit_laws.proofs.sees.SeesTasks.{given_permits_are_seen_to}
-use Rattle.vt_run_laws.specs.Handed.{is_counted_before}
+use Rattle.vt_laws_permits.specs.Sees.{MayBeMade}
+use Rattle.vt_laws_permits.proofs.sees.SeesFit.{given_changes_fit}
+use Rattle.vt_laws_permits.proofs.sees.SeesTasks.{given_permits_are_seen_to}
+use Rattle.vt_laws_runs.specs.Handed.{is_counted_before}
 use Rattle.vt_detach.specs.Events.{Permits, next_inode, supply_of}
-use Rattle.vt_detach.specs.Held.{IsHeld}
-use Rattle.vt_detach.specs.WorldValue.{WorldValue, world_of}
+use Rattle.vt_world.specs.Held.{IsHeld}
+use Rattle.vt_world.specs.WorldValue.{WorldValue, world_of}
 use Rattle.vt_detach.proofs.ChangedFiles.{IsFilesEvent, files_are_changed, with_filesystems}
 use Rattle.vt_detach.proofs.FileEvents.{IsSmall, permit_fits}
 use Rattle.vt_detach.proofs.FilesSeen.{IsLocated, files_are_plain, inodes_named, located, located_filesystem, located_inodes}

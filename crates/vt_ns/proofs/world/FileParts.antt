@@ -7,7 +7,7 @@ use Rattle.vt_spec.specs.Language.Changes.{Change}
 use Rattle.vt_spec.specs.Language.Changes.Change.{SetBytes}
 use Rattle.vt_spec.specs.Language.Limits.{largest_file}
 use Rattle.vt_spec.specs.Machine.Mounts as meant
-use Rattle.vt_spec.specs.Machine.Outcome.Descriptors.{overwritten}
+use Rattle.vt_spec.specs.Machine.Descriptors.{overwritten}
 use Rattle.vt_spec.specs.Machine.Permits.{Permit}
 use Rattle.vt_spec.specs.Machine.Permits.Permit.{ToWritePart}
 use Rattle.vt_spec.specs.Machine.SameWorlds.{SameWorlds}
@@ -17,18 +17,18 @@ use Rattle.vt_spec.specs.Fits.{Fits}
 use Rattle.vt_spec.specs.Inodes.{Inodes, changed, tree_of}
 use Rattle.vt_spec.specs.Tree.{bytes_in, is_directory_node}
 use Rattle.vt_fs.specs.FilesystemsValue.{ChangesInodes, Filesystems, files_at, inodes_at, inodes_seen}
-use Rattle.vt_letting_go.proofs.Lists.{Among, among-flat_map, among-map}
+use Rattle.vt_laws_letting_go.proofs.Lists.{Among, among-flat_map, among-map}
 use Rattle.vt_spec.proofs.Lists.{among_from_list_all}
 use Rattle.vt_location.specs.declared.locations.Location.{Location}
 use Rattle.vt_location.specs.Locations.{location_of, number_of}
-use Rattle.vt_permit_laws.specs.Sees.{HasOpen, SeesTo}
-use Rattle.vt_permit_laws.proofs.sees.SeesFit.{given_changes_fit}
-use Rattle.vt_permit_laws.proofs.sees.SeesTasks.{given_permits_are_seen_to}
-use Rattle.vt_run_laws.proofs.answered.AlikeWorlds.{sameness_is_an_equivalence}
-use Rattle.vt_world_laws.proofs.worlds.ReachedWalks.{found_among}
+use Rattle.vt_laws_permits.specs.Sees.{HasOpen, SeesTo}
+use Rattle.vt_laws_permits.proofs.sees.SeesFit.{given_changes_fit}
+use Rattle.vt_laws_permits.proofs.sees.SeesTasks.{given_permits_are_seen_to}
+use Rattle.vt_laws_runs.proofs.answered.AlikeWorlds.{sameness_is_an_equivalence}
+use Rattle.vt_laws_worlds.proofs.worlds.ReachedWalks.{found_among}
 use Rattle.vt_detach.specs.Events.{Becomes, Permits, supply_of}
-use Rattle.vt_detach.specs.Held.{IsHeld}
-use Rattle.vt_detach.specs.WorldValue.{WorldValue, world_of}
+use Rattle.vt_world.specs.Held.{IsHeld}
+use Rattle.vt_world.specs.WorldValue.{WorldValue, world_of}
 use Rattle.vt_detach.proofs.ChangedFiles.{files_are_changed, with_filesystems}
 use Rattle.vt_ns.proofs.world.FileAnswers.{IsAnswered, answered}
 use Rattle.vt_detach.proofs.FileEvents.{IsSmall}

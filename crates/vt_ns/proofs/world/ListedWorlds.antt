@@ -3,14 +3,14 @@ use Rattle.std.proofs.Common.{◌≡◌, refl, sym, ap, true≢false, ℕ, List,
 use Rattle.std.specs.Map.{keys_of}
 use Rattle.vt_spec.specs.Machine.World.{Filesystem, Namespace}
 use Rattle.vt_spec.specs.TreeInvariant.{IsTree}
-use Rattle.vt_letting_go.proofs.Lists.{all_from_among, among_from_all}
+use Rattle.vt_laws_letting_go.proofs.Lists.{all_from_among, among_from_all}
 use Rattle.vt_location.specs.declared.numbers.NamespaceId.{NamespaceId}
 use Rattle.vt_location.specs.Numbers.{counted}
 use Rattle.vt_tree.specs.Paths.{NamesDirectoriesOnce}
 use Rattle.vt_fs.specs.FilesystemsValue.{filesystems_seen}
-use Rattle.vt_detach.specs.declared.namespaces.Namespace.{Namespace as Kept}
-use Rattle.vt_detach.specs.Held.{IsHeld}
-use Rattle.vt_detach.specs.WorldValue.{WorldValue, entries_of, namespace_of}
+use Rattle.vt_world.specs.declared.namespaces.Namespace.{Namespace as Kept}
+use Rattle.vt_world.specs.Held.{IsHeld}
+use Rattle.vt_world.specs.WorldValue.{WorldValue, entries_of, namespace_of}
 use Rattle.vt_detach.proofs.FilesystemsFound.{holds_at}
 use Rattle.vt_listing.specs.Shown.{NameDirectoriesOnce}
 

@@ -9,16 +9,16 @@ use Rattle.vt_spec.specs.Machine.Mounts as meant
 use Rattle.vt_spec.specs.Machine.Mounts.{Mount, mount_in, mount_tree, tree_from}
 use Rattle.vt_spec.specs.Machine.World.{World, mount_at}
 use Rattle.vt_spec.specs.Machine.Invariants.{is_located_well}
-use Rattle.vt_letting_go.proofs.Lists.{Among, among-from_filter, filter_alike}
-use Rattle.vt_letting_go.proofs.leaving.PlacesLeft.{found_itself}
+use Rattle.vt_laws_letting_go.proofs.Lists.{Among, among-from_filter, filter_alike}
+use Rattle.vt_laws_letting_go.proofs.leaving.PlacesLeft.{found_itself}
 use Rattle.vt_location.specs.declared.locations.Location.{Location}
 use Rattle.vt_location.specs.declared.numbers.MountId.{MountId}
 use Rattle.vt_location.specs.Locations.{location_of, number_of}
 use Rattle.vt_location.specs.Numbers.{counted}
 use Rattle.vt_mount.specs.MountsValue.{mounts_in, stands_over}
 use Rattle.vt_detach.specs.Detached.{tree_numbers}
-use Rattle.vt_detach.specs.Held.{IsHeld}
-use Rattle.vt_detach.specs.WorldValue.{WorldValue, world_of}
+use Rattle.vt_world.specs.Held.{IsHeld}
+use Rattle.vt_world.specs.WorldValue.{WorldValue, world_of}
 use Rattle.vt_detach.proofs.FileEvents.{IsSmall}
 use Rattle.vt_detach.proofs.LazilyUnmounted.{to_spec, trees_numbers}
 use Rattle.vt_detach.proofs.LocationsSeen.{seen_where_located}

@@ -1,8 +1,8 @@
 -- What the event that moves mounts finds: its place, and the tree that moves.
 use Rattle.std.proofs.Common.{◌≡◌, refl, sym, ap, ◌∙◌, ℕ, nat_eq, eqb-true, Bool, true, false, cond, List, find, Some, is_some, unwrap_or}
-use Rattle.vt_letting_go.proofs.mounting.AttachedSwept.{of_tree}
-use Rattle.vt_letting_go.proofs.Lists.{Among, map_same}
-use Rattle.vt_letting_go.proofs.leaving.PlacesLeft.{found_is_there}
+use Rattle.vt_laws_letting_go.proofs.mounting.AttachedSwept.{of_tree}
+use Rattle.vt_laws_letting_go.proofs.Lists.{Among, map_same}
+use Rattle.vt_laws_letting_go.proofs.leaving.PlacesLeft.{found_is_there}
 use Rattle.vt_location.specs.declared.locations.Location.{Location}
 use Rattle.vt_location.specs.declared.mounts.Mount.{Mount as Code}
 use Rattle.vt_location.specs.declared.numbers.MountId.{MountId}
@@ -21,8 +21,8 @@ use Rattle.vt_mount.proofs.AttachedLemmas.{ascending_found, picked}
 use Rattle.vt_attach.proofs.MovesAscend.{ascending_once}
 use Rattle.vt_attach.proofs.TypedMounts.{same_numbered}
 use Rattle.vt_detach.specs.Events.{Permits}
-use Rattle.vt_detach.specs.Held.{IsHeld}
-use Rattle.vt_detach.specs.WorldValue.{WorldValue, world_of}
+use Rattle.vt_world.specs.Held.{IsHeld}
+use Rattle.vt_world.specs.WorldValue.{WorldValue, world_of}
 use Rattle.vt_detach.proofs.FileEvents.{permit_fits}
 
 module _ (value : WorldValue) (whole : IsHeld value) (name : TaskName) (number : ℕ) (place : Location)

@@ -11,7 +11,7 @@ use Rattle.vt_spec.specs.Laws.Trees.{IsNewIn}
 use Rattle.vt_spec.specs.Lists.{Fresh, odds}
 use Rattle.vt_spec.specs.Machine.Apply.{apply}
 use Rattle.vt_spec.specs.Machine.Filesystems.{with_change}
-use Rattle.vt_spec.specs.Machine.Outcome.Descriptors.{free_number, with_descriptor}
+use Rattle.vt_spec.specs.Machine.Descriptors.{free_number, with_descriptor}
 use Rattle.vt_spec.specs.Machine.Permits.{Permit}
 use Rattle.vt_spec.specs.Machine.Permits.Permit.{ToMake, ToOpenNew}
 use Rattle.vt_spec.specs.Machine.SameWorlds.{SameWorlds}
@@ -21,12 +21,12 @@ use Rattle.vt_spec.specs.Machine.Invariants.{IsWorld, is_located_well, is_within
 use Rattle.vt_spec.specs.Fits.{Fits}
 use Rattle.vt_spec.specs.Inodes.{Inodes, changed, tree_of, uses_in, with_changed}
 use Rattle.vt_spec.specs.Tree.{Node, node_with_entry}
-use Rattle.vt_count_laws.specs.Counted.{IsPlain}
-use Rattle.vt_count_laws.proofs.changing.Changes.{only_files_change}
-use Rattle.vt_count_laws.proofs.changing.KeptAll.{names_keep_all}
+use Rattle.vt_laws_counts.specs.Counted.{IsPlain}
+use Rattle.vt_laws_counts.proofs.changing.Changes.{only_files_change}
+use Rattle.vt_laws_counts.proofs.changing.KeptAll.{names_keep_all}
 use Rattle.vt_fs.specs.FilesystemsValue.{ChangesInodes, Filesystems, entry_at, entry_of, inodes_at, inodes_seen, next_seen, no_entry, node_seen}
-use Rattle.vt_letting_go.proofs.Lists.{Among, among-append_right, among-flat_map, among-map}
-use Rattle.vt_letting_go.specs.Mounting.{inode_at}
+use Rattle.vt_laws_letting_go.proofs.Lists.{Among, among-append_right, among-flat_map, among-map}
+use Rattle.vt_laws_letting_go.specs.Mounting.{inode_at}
 use Rattle.vt_spec.proofs.Lists.{among_from_list_all}
 use Rattle.vt_location.specs.declared.locations.Location.{Location}
 use Rattle.vt_location.specs.declared.locations.NodeRef.{NodeRef}
@@ -34,30 +34,30 @@ use Rattle.vt_location.specs.Locations.{location_of, number_of}
 use Rattle.vt_location.specs.Numbers.{counted, is_inode_of}
 use Rattle.vt_location.proofs.NumberLemmas.{is_inode}
 use Rattle.vt_mount.specs.MountsValue.{MountEntry}
-use Rattle.vt_permit_laws.specs.Named.{permit_named}
-use Rattle.vt_permit_laws.specs.Sees.{HasRoom, MayBeMade}
-use Rattle.vt_permit_laws.proofs.named.PermitsKeepTo.{same_keeps_to_numbers_too}
-use Rattle.vt_permit_laws.proofs.left.PermitsLeave.{given_permits_are_under_way, given_permits_leave_worlds}
-use Rattle.vt_permit_laws.proofs.same.SameInUse.{same_worlds_are_worlds}
-use Rattle.vt_permit_laws.proofs.same.SameInvariants.{same_worlds_are_under_way}
-use Rattle.vt_permit_laws.proofs.sees.SeesFit.{given_changes_fit}
-use Rattle.vt_permit_laws.proofs.sees.SeesTasks.{given_permits_are_seen_to}
-use Rattle.vt_run_laws.specs.Handed.{is_counted_before}
-use Rattle.vt_run_laws.proofs.answered.AlikeSettled.{settled_alike}
-use Rattle.vt_run_laws.proofs.answered.AlikeWorlds.{alike_from_same, same_from_alike, same_worlds_are_plain_alike, sameness_is_an_equivalence}
+use Rattle.vt_laws_permits.specs.Named.{permit_named}
+use Rattle.vt_laws_permits.specs.Sees.{HasRoom, MayBeMade}
+use Rattle.vt_laws_permits.proofs.named.PermitsKeepTo.{same_keeps_to_numbers_too}
+use Rattle.vt_laws_permits.proofs.left.PermitsLeave.{given_permits_are_under_way, given_permits_leave_worlds}
+use Rattle.vt_laws_permits.proofs.same.SameInUse.{same_worlds_are_worlds}
+use Rattle.vt_laws_permits.proofs.same.SameInvariants.{same_worlds_are_under_way}
+use Rattle.vt_laws_permits.proofs.sees.SeesFit.{given_changes_fit}
+use Rattle.vt_laws_permits.proofs.sees.SeesTasks.{given_permits_are_seen_to}
+use Rattle.vt_laws_runs.specs.Handed.{is_counted_before}
+use Rattle.vt_laws_runs.proofs.answered.AlikeSettled.{settled_alike}
+use Rattle.vt_laws_runs.proofs.answered.AlikeWorlds.{alike_from_same, same_from_alike, same_worlds_are_plain_alike, sameness_is_an_equivalence}
 use Rattle.vt_tasks.specs.TasksValue.{MayOpenMore, Tasks, called, changed_by, changed_called, replaced}
-use Rattle.vt_world_laws.specs.Worlds.Kept.{IsWorldButForUse}
-use Rattle.vt_world_laws.specs.Worlds.Permits.{IsFitPermit}
-use Rattle.vt_world_laws.proofs.kept.MountsKept.{mounts_kept}
-use Rattle.vt_world_laws.proofs.kept.NamespacesKept.{namespaces_kept}
-use Rattle.vt_world_laws.proofs.worlds.PermitsNamed.{permits_keep_counting_forks, permits_keep_names}
-use Rattle.vt_world_laws.proofs.worlds.PermitsPlaced.{permits_keep_directories, permits_keep_locations, permits_keep_open_files}
-use Rattle.vt_world_laws.proofs.worlds.PermitsShow.{permits_keep_mounts_showing}
-use Rattle.vt_world_laws.proofs.settling.SettledTasks.{settling_leaves_a_world}
+use Rattle.vt_laws_worlds.specs.Worlds.Kept.{IsWorldButForUse}
+use Rattle.vt_laws_worlds.specs.Worlds.Permits.{IsFitPermit}
+use Rattle.vt_laws_worlds.proofs.kept.MountsKept.{mounts_kept}
+use Rattle.vt_laws_worlds.proofs.kept.NamespacesKept.{namespaces_kept}
+use Rattle.vt_laws_worlds.proofs.worlds.PermitsNamed.{permits_keep_counting_forks, permits_keep_names}
+use Rattle.vt_laws_worlds.proofs.worlds.PermitsPlaced.{permits_keep_directories, permits_keep_locations, permits_keep_open_files}
+use Rattle.vt_laws_worlds.proofs.worlds.PermitsShow.{permits_keep_mounts_showing}
+use Rattle.vt_laws_worlds.proofs.settling.SettledTasks.{settling_leaves_a_world}
 use Rattle.vt_detach.specs.Events.{Permits, next_inode, supply_of}
-use Rattle.vt_detach.specs.Held.{IsHeld}
+use Rattle.vt_world.specs.Held.{IsHeld}
 use Rattle.vt_detach.specs.Uses.{kept, with_location, with_use}
-use Rattle.vt_detach.specs.WorldValue.{WorldValue, world_of}
+use Rattle.vt_world.specs.WorldValue.{WorldValue, world_of}
 use Rattle.vt_detach.proofs.Bridging.{IsSwept, swept_is_same}
 use Rattle.vt_detach.proofs.Grouped.{left_has}
 use Rattle.vt_group.specs.Grouping.{Has}

@@ -14,32 +14,32 @@ use Rattle.vt_spec.specs.Machine.World.{Filesystem, World, all_locations, filesy
 use Rattle.vt_spec.specs.Machine.Invariants.{is_located_well, is_nowhere_or_attached, is_private, is_there}
 use Rattle.vt_spec.specs.Inodes as Trees
 use Rattle.vt_spec.specs.Inodes.{node_in}
-use Rattle.vt_count_laws.specs.Using.{AreThere, Exchanges, exchanged}
-use Rattle.vt_count_laws.proofs.using.MountRoots as Roots
+use Rattle.vt_laws_counts.specs.Using.{AreThere, Exchanges, exchanged}
+use Rattle.vt_laws_counts.proofs.using.MountRoots as Roots
 use Rattle.vt_fs.specs.FilesystemsValue.{FilesystemEntry, Filesystems, Shown, filesystem_seen, inodes_seen, shown, shown_entry}
-use Rattle.vt_letting_go.specs.Counts.{mounts_showing}
-use Rattle.vt_letting_go.specs.Keeping.{LocationsStand}
-use Rattle.vt_letting_go.specs.InUse.{FilesystemsInUse}
-use Rattle.vt_letting_go.specs.Leaving.{MountsStand, stands_on_attached}
-use Rattle.vt_letting_go.specs.Mounting.{inode_at}
-use Rattle.vt_letting_go.specs.OneByOne.{Inode, MountsInUseBut}
-use Rattle.vt_letting_go.proofs.Lists.{Among, all_from_among, all_pass, among-append, among-from_map, among-map, among_from_all, any-map, passes}
+use Rattle.vt_laws_letting_go.specs.Counts.{mounts_showing}
+use Rattle.vt_laws_letting_go.specs.Keeping.{LocationsStand}
+use Rattle.vt_laws_letting_go.specs.InUse.{FilesystemsInUse}
+use Rattle.vt_laws_letting_go.specs.Leaving.{MountsStand, stands_on_attached}
+use Rattle.vt_laws_letting_go.specs.Mounting.{inode_at}
+use Rattle.vt_laws_letting_go.specs.OneByOne.{Inode, MountsInUseBut}
+use Rattle.vt_laws_letting_go.proofs.Lists.{Among, all_from_among, all_pass, among-append, among-from_map, among-map, among_from_all, any-map, passes}
 use Rattle.vt_location.specs.declared.locations.Location.{Location as At}
 use Rattle.vt_location.specs.Locations.{location_of, number_of}
 use Rattle.vt_location.specs.Numbers.{counted}
 use Rattle.vt_mount.specs.MountsValue.{MountEntry, entry_numbered, mounts_in}
 use Rattle.vt_propagate.specs.Falling.{moved_by}
-use Rattle.vt_world_laws.proofs.RaisedInUse.{worlds_are_in_use}
+use Rattle.vt_laws_worlds.proofs.RaisedInUse.{worlds_are_in_use}
 use Rattle.vt_attach.specs.Planned.{Point, is_small, left_at, points_left, points_taken, taken_at, with_planned, with_points}
 use Rattle.vt_attach.specs.PlannedUses.{point_seen}
 use Rattle.vt_attach.proofs.MovedPoints.{points_are_moved}
 use Rattle.vt_attach.proofs.PlacedUses.{points_are_uses}
 use Rattle.vt_attach.proofs.PlannedCounts.{exchanged_on, inodes_of_points, planned_shown}
 use Rattle.vt_attach.proofs.PointsCounted.{points_count}
-use Rattle.vt_detach.specs.Held.{CountsItsMounts, CountsItsUses, IsHeld}
+use Rattle.vt_world.specs.Held.{CountsItsMounts, CountsItsUses, IsHeld}
 use Rattle.vt_detach.specs.Uses.{Kept, kept}
-use Rattle.vt_detach.specs.WorldValue.{WorldValue, world_of}
-use Rattle.vt_letting_go.proofs.sweeps.OfWorlds.{found_filesystem}
+use Rattle.vt_world.specs.WorldValue.{WorldValue, world_of}
+use Rattle.vt_laws_letting_go.proofs.sweeps.OfWorlds.{found_filesystem}
 use Rattle.vt_detach.proofs.DetachingBegins.{pair_mapped}
 use Rattle.vt_detach.proofs.DetachingEnds.{point_located}
 use Rattle.vt_detach.proofs.Grouped.{stays_private}

@@ -7,14 +7,14 @@ use Rattle.vt_spec.specs.Machine.Settled.{without_dead_mounts}
 use Rattle.vt_spec.specs.Machine.World as meant
 use Rattle.vt_spec.specs.Machine.World.{Task, World}
 use Rattle.vt_fs.specs.FilesystemsValue.{Filesystems, Shown}
-use Rattle.vt_letting_go.specs.Counts.{times}
-use Rattle.vt_letting_go.proofs.Lists.{Among, all_from_among, among_from_all}
+use Rattle.vt_laws_letting_go.specs.Counts.{times}
+use Rattle.vt_laws_letting_go.proofs.Lists.{Among, all_from_among, among_from_all}
 use Rattle.vt_location.specs.Numbers.{counted}
 use Rattle.vt_mount.specs.MountsValue.{MountEntry}
 use Rattle.vt_tasks.specs.TasksValue.{Tasks}
-use Rattle.vt_detach.specs.Held.{CountsItsMounts, CountsItsUses, CountsWhatIsInIt, IsHeld}
+use Rattle.vt_world.specs.Held.{CountsItsMounts, CountsItsUses, CountsWhatIsInIt, IsHeld}
 use Rattle.vt_detach.specs.Uses.{kept}
-use Rattle.vt_detach.specs.WorldValue.{NamespaceEntry, WorldValue, namespace_of, world_of}
+use Rattle.vt_world.specs.WorldValue.{NamespaceEntry, WorldValue, namespace_of, world_of}
 use Rattle.vt_detach.proofs.Bridging.{IsSwept}
 use Rattle.vt_detach.proofs.Finishing.{CountsBeside, IsApplied, finished}
 use Rattle.vt_detach.proofs.Grouped.{left_has}

@@ -7,11 +7,10 @@ use Rattle.vt_spec.specs.Language.Changes.{Change}
 use Rattle.vt_spec.specs.Language.Changes.Change.{Move}
 use Rattle.vt_spec.specs.Lists.{Fresh}
 use Rattle.vt_spec.specs.Machine.Apply.{apply}
-use Rattle.vt_spec.specs.Machine.Detach.{mounts_on}
+use Rattle.vt_spec.specs.Machine.Detach.{mounts_on, without_replaced}
 use Rattle.vt_spec.specs.Machine.Filesystems.{with_change}
 use Rattle.vt_spec.specs.Machine.Mounts as meant
 use Rattle.vt_spec.specs.Machine.Mounts.{Mount}
-use Rattle.vt_spec.specs.Machine.Outcome.Removing.{without_replaced}
 use Rattle.vt_spec.specs.Machine.Permits.{Permit}
 use Rattle.vt_spec.specs.Machine.Permits.Permit.{ToChange, ToRename}
 use Rattle.vt_spec.specs.Machine.Receives.{regrouped}
@@ -21,20 +20,20 @@ use Rattle.vt_fs.specs.FilesystemsValue.{ChangesInodes, Filesystems, inodes_seen
 use Rattle.vt_spec.specs.Inodes.{changed}
 use Rattle.vt_group.specs.Grouping.{Grouping}
 use Rattle.vt_group.proofs.Together.{regrouped_living}
-use Rattle.vt_letting_go.specs.FileChanges.{names_lost}
-use Rattle.vt_letting_go.proofs.Lists.{Among}
+use Rattle.vt_laws_letting_go.specs.FileChanges.{names_lost}
+use Rattle.vt_laws_letting_go.proofs.Lists.{Among}
 use Rattle.vt_location.specs.declared.locations.Location.{Location}
 use Rattle.vt_location.specs.Locations.{location_of, number_of}
 use Rattle.vt_mount.specs.MountsValue.{MountEntry, mounts_in}
-use Rattle.vt_permit_laws.specs.Named.{permit_named}
-use Rattle.vt_permit_laws.specs.Sees.{MayBeRenamed}
-use Rattle.vt_run_laws.specs.Handed.{is_counted_before}
-use Rattle.vt_world_laws.specs.Worlds.Permits.{IsReached, NamesWhatIsThere}
+use Rattle.vt_laws_permits.specs.Named.{permit_named}
+use Rattle.vt_laws_permits.specs.Sees.{MayBeRenamed}
+use Rattle.vt_laws_runs.specs.Handed.{is_counted_before}
+use Rattle.vt_laws_worlds.specs.Worlds.Permits.{IsReached, NamesWhatIsThere}
 use Rattle.vt_detach.specs.Detached.{LeaveTogether, trees_of_replaced}
 use Rattle.vt_detach.specs.Events.{Permits}
-use Rattle.vt_detach.specs.Held.{IsHeld}
+use Rattle.vt_world.specs.Held.{IsHeld}
 use Rattle.vt_detach.specs.Uses.{kept}
-use Rattle.vt_detach.specs.WorldValue.{WorldValue, world_of}
+use Rattle.vt_world.specs.WorldValue.{WorldValue, world_of}
 use Rattle.vt_detach.proofs.ChangedFiles.{ChangesFiles}
 use Rattle.vt_ns.proofs.world.ChangedWithMounts.{changed_then_detached, nothing_goes}
 use Rattle.vt_detach.proofs.DetachingBegins.{HasChildrenOf, detached_world}

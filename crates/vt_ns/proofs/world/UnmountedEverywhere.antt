@@ -19,7 +19,7 @@ use Rattle.vt_group.specs.Grouping.{Grouping, Has, HasGroup, are_rising, peers_o
 use Rattle.vt_group.specs.Together.{GrowsTo}
 use Rattle.vt_group.proofs.Showing.{has_one_grouping}
 use Rattle.vt_group.proofs.Typed.{regrouped_is_typed}
-use Rattle.vt_letting_go.proofs.Lists.{all_from_among, among-map, among_from_all}
+use Rattle.vt_laws_letting_go.proofs.Lists.{all_from_among, among-map, among_from_all}
 use Rattle.vt_location.specs.Locations.{location_of}
 use Rattle.vt_location.specs.Numbers.{counted}
 use Rattle.vt_mount.specs.MountsValue.{MountEntry}
@@ -30,12 +30,12 @@ use Rattle.vt_attach.specs.Planned.{Point, placed_entry, with_points}
 use Rattle.vt_attach.specs.PlannedUses.{point_seen}
 use Rattle.vt_detach.specs.Detached.{LeaveTogether}
 use Rattle.vt_detach.specs.Events.{Permits}
-use Rattle.vt_detach.specs.Held.{IsHeld}
+use Rattle.vt_world.specs.Held.{IsHeld}
 use Rattle.vt_retype.specs.Retyping.{AreTyped}
 use Rattle.vt_detach.specs.Uses.{Kept, kept}
 use Rattle.vt_detach.proofs.FollowedTypes.{changed_typed, own_types}
 use Rattle.vt_group.proofs.Others.{has_ordered}
-use Rattle.vt_detach.specs.WorldValue.{WorldValue, world_of}
+use Rattle.vt_world.specs.WorldValue.{WorldValue, world_of}
 use Rattle.vt_detach.proofs.FileEvents.{permit_fits}
 use Rattle.vt_detach.proofs.Finishing.{IsApplied}
 use Rattle.vt_detach.proofs.Leaving.{found_it}
@@ -45,7 +45,7 @@ use Rattle.vt_detach.proofs.Staying.{IsDone}
 use Rattle.vt_detach.proofs.UnmountedAlone.{attached_is_named}
 use Rattle.vt_ns.specs.Unmounting.{GoTogether}
 use Rattle.vt_ns.proofs.world.UnmountedWorlds.{moved_then_detached}
-use Rattle.vt_mount_laws.specs.Mounts.Attaching.{numbers_of}
+use Rattle.vt_laws_mounts.specs.Mounts.Attaching.{numbers_of}
 
 -- groups that end leave mounts where they are
 pub regrouped_places : (world : World ℕ) (number : ℕ)

@@ -18,25 +18,25 @@ use Rattle.vt_spec.specs.Tree.{is_directory_node}
 use Rattle.vt_fs.specs.FilesystemsValue.{Filesystems}
 use Rattle.vt_group.specs.Grouping.{Grouping, Has}
 use Rattle.vt_group.specs.Laws.{typed_by}
-use Rattle.vt_letting_go.specs.Leaving.{stands_on_attached}
-use Rattle.vt_letting_go.proofs.Lists.{Among, all_from_among, among-from_map, among-map, among_from_all, is_among_numbers, passes}
-use Rattle.vt_letting_go.proofs.sweeps.OfWorlds.{mounts_of_worlds_stand}
-use Rattle.vt_letting_go.proofs.leaving.PlacesLeft.{found_is_there, found_itself, number_found}
+use Rattle.vt_laws_letting_go.specs.Leaving.{stands_on_attached}
+use Rattle.vt_laws_letting_go.proofs.Lists.{Among, all_from_among, among-from_map, among-map, among_from_all, is_among_numbers, passes}
+use Rattle.vt_laws_letting_go.proofs.sweeps.OfWorlds.{mounts_of_worlds_stand}
+use Rattle.vt_laws_letting_go.proofs.leaving.PlacesLeft.{found_is_there, found_itself, number_found}
 use Rattle.vt_location.specs.declared.locations.Location.{Location as At}
 use Rattle.vt_location.specs.Locations.{location_of}
 use Rattle.vt_location.specs.Numbers.{counted}
 use Rattle.vt_mount.specs.MountsValue.{MountEntry}
-use Rattle.vt_permit_laws.proofs.left.PermitsLeave.{given_permits_are_under_way}
+use Rattle.vt_laws_permits.proofs.left.PermitsLeave.{given_permits_are_under_way}
 use Rattle.vt_propagate.specs.Falling.{left_by, moved_by}
-use Rattle.vt_world_laws.specs.Worlds.Kept.{IsWorldButForUse}
-use Rattle.vt_world_laws.proofs.worlds.Roots.{directory_there}
+use Rattle.vt_laws_worlds.specs.Worlds.Kept.{IsWorldButForUse}
+use Rattle.vt_laws_worlds.proofs.worlds.Roots.{directory_there}
 use Rattle.vt_attach.specs.Planned.{Point, is_small, points_left, points_taken, with_planned}
 use Rattle.vt_attach.specs.PlannedUses.{point_seen}
 use Rattle.vt_detach.specs.Detached.{LeaveInTurn}
 use Rattle.vt_detach.specs.Events.{supply_of}
-use Rattle.vt_detach.specs.Held.{CountsWhatIsInIt, IsHeld}
+use Rattle.vt_world.specs.Held.{CountsWhatIsInIt, IsHeld}
 use Rattle.vt_detach.specs.Uses.{kept}
-use Rattle.vt_detach.specs.WorldValue.{WorldValue, world_of}
+use Rattle.vt_world.specs.WorldValue.{WorldValue, world_of}
 use Rattle.vt_detach.proofs.DetachingBegins.{HasChildrenOf, detached_world, detaching_begins}
 use Rattle.vt_detach.proofs.DetachingEnds.{detached_counted, detached_swept}
 use Rattle.vt_detach.proofs.Finishing.{IsApplied, finished_as}
@@ -49,15 +49,15 @@ use Rattle.vt_detach.proofs.Remaining.{remade}
 use Rattle.vt_detach.proofs.Staying.{IsDone, world_is_plain}
 use Rattle.vt_detach.proofs.TypedEvents.{counts_typed, swept_typed, typed_value}
 use Rattle.vt_detach.proofs.TypedWorlds.{typed_world}
-use Rattle.vt_letting_go.proofs.SweptBetween.{settled_without_groups}
+use Rattle.vt_laws_letting_go.proofs.SweptBetween.{settled_without_groups}
 use Rattle.vt_detach.proofs.UnmountedLazily.{all_detached}
-use Rattle.vt_mount_laws.proofs.mounts.MountsFound.{placed_among}
+use Rattle.vt_laws_mounts.proofs.mounts.MountsFound.{placed_among}
 use Rattle.vt_ns.proofs.world.PointsMoved.{MayMove, gained, looked_up, lost, moved_is_kept, moved_world}
 use Rattle.vt_spec.proofs.Lists.{map_alike, map_twice}
 use Rattle.vt_spec.proofs.Truths.{or_false_left}
 use Rattle.vt_spec.proofs.Worlds.{shown-mapped}
-use Rattle.vt_permit_laws.specs.Taken.{is_ungrouped}
-use Rattle.vt_letting_go.specs.TreesOverlays.{in_use_of}
+use Rattle.vt_laws_permits.specs.Taken.{is_ungrouped}
+use Rattle.vt_laws_letting_go.specs.TreesOverlays.{in_use_of}
 
 -- a mount with a mount point is in a namespace
 placed_is_attached : (mount : Mount ℕ) → is_nowhere_or_attached mount ≡ true → is_some mount.mount_point ≡ true

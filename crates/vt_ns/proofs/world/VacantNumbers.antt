@@ -11,15 +11,15 @@ use Rattle.vt_spec.specs.Machine.Mounts as meant
 use Rattle.vt_spec.specs.Machine.World.{Namespace, mount_at}
 use Rattle.vt_spec.specs.Inodes.{node_in}
 use Rattle.vt_fs.specs.FilesystemsValue.{FilesystemEntry, Filesystems, entry_at, entry_of, filesystems_seen, inodes_at, inodes_seen, next_seen, no_entry, numbers_seen}
-use Rattle.vt_letting_go.proofs.Lists.{Among, among_from_all}
+use Rattle.vt_laws_letting_go.proofs.Lists.{Among, among_from_all}
 use Rattle.vt_location.specs.Numbers.{counted, inode_number, is_inode_of}
 use Rattle.vt_mount.specs.MountsValue.{MountEntry, mounts_in}
 use Rattle.vt_mount.specs.Sources.{has_counted_source}
-use Rattle.vt_permit_laws.specs.InUse.{is_in_use}
+use Rattle.vt_laws_permits.specs.InUse.{is_in_use}
 use Rattle.vt_detach.specs.Events.{filesystem_count, next_inode}
-use Rattle.vt_detach.specs.Held.{HasOwnInodes, IsHeld}
+use Rattle.vt_world.specs.Held.{HasOwnInodes, IsHeld}
 use Rattle.vt_ns.specs.Vacancy.{IsVacant}
-use Rattle.vt_detach.specs.WorldValue.{NamespaceEntry, WorldValue, namespace_of, world_of}
+use Rattle.vt_world.specs.WorldValue.{NamespaceEntry, WorldValue, namespace_of, world_of}
 use Rattle.vt_detach.proofs.FilesSeen.{one_entry}
 use Rattle.vt_fs.proofs.Numbers.{inode_of_one, numbers_listed}
 use Rattle.vt_attach.proofs.NewFilesystems.{next_is_free}

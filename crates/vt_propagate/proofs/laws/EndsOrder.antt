@@ -8,17 +8,17 @@ use Rattle.vt_spec.specs.Machine.Mounts.{Location, Mount, stands_on}
 use Rattle.vt_spec.specs.Machine.Namespaces.{is_in_ended}
 use Rattle.vt_spec.specs.Machine.World.{World, mount_numbered}
 use Rattle.vt_spec.proofs.Lists.{Among, among-from_filter, among-from_map, among-map, among_cases, among_numbers, head_among, is_among_numbers, none_from_among}
-use Rattle.vt_letting_go.specs.Mounting.{ended_mounts}
-use Rattle.vt_mount_laws.specs.Mounts.Attaching.{numbers_of}
-use Rattle.vt_mount_laws.proofs.ends.Ending.{none_stands}
-use Rattle.vt_mount_laws.proofs.ends.EndingOrder.{AreDeepestFirst, all_in_order, all_inserted_among, among_all_inserted}
-use Rattle.vt_mount_laws.proofs.ends.Unmounting.{detached_by_number, root_stays, taken}
-use Rattle.vt_mount_laws.proofs.ends.UnmountingNamespaces.{ended_closed}
-use Rattle.vt_mount_laws.proofs.ends.UnmountingPlaces.{Falls, stood}
-use Rattle.vt_mount_laws.proofs.ends.UnmountingPlaces.Falls.{direct, down}
-use Rattle.vt_mount_laws.proofs.mounts.MountsFound.{number_found, placed_among}
-use Rattle.vt_mount_laws.proofs.mounts.MountsReplaced.{found_itself}
-use Rattle.vt_mount_laws.proofs.mounts.Standing.{depth_by_rank, rank, rank_child, standing_is_computed}
+use Rattle.vt_laws_letting_go.specs.Mounting.{ended_mounts}
+use Rattle.vt_laws_mounts.specs.Mounts.Attaching.{numbers_of}
+use Rattle.vt_laws_mounts.proofs.ends.Ending.{none_stands}
+use Rattle.vt_laws_mounts.proofs.ends.EndingOrder.{AreDeepestFirst, all_in_order, all_inserted_among, among_all_inserted}
+use Rattle.vt_laws_mounts.proofs.ends.Unmounting.{detached_by_number, root_stays, taken}
+use Rattle.vt_laws_mounts.proofs.ends.UnmountingNamespaces.{ended_closed}
+use Rattle.vt_laws_mounts.proofs.ends.UnmountingPlaces.{Falls, stood}
+use Rattle.vt_laws_mounts.proofs.ends.UnmountingPlaces.Falls.{direct, down}
+use Rattle.vt_laws_mounts.proofs.mounts.MountsFound.{number_found, placed_among}
+use Rattle.vt_laws_mounts.proofs.mounts.MountsReplaced.{found_itself}
+use Rattle.vt_laws_mounts.proofs.mounts.Standing.{depth_by_rank, rank, rank_child, standing_is_computed}
 use Rattle.vt_propagate.specs.EndsInTurn.{AreEnded, EndedGoInTurn, GoInTurn, NamespacesEndDeepestFirst, ended_in_turn, without_one}
 use Rattle.vt_propagate.proofs.laws.EndsInTurn.{alone_keeps_mounts, namespaces_end_in_turn}
 

@@ -14,14 +14,14 @@ use Rattle.vt_spec.proofs.Lists.{Among, among-append, among-from_filter, among-f
 use Rattle.vt_spec.proofs.Worlds.{tree_among}
 use Rattle.vt_location.specs.declared.numbers.MountId.{MountId}
 use Rattle.vt_location.specs.Numbers.{counted}
-use Rattle.vt_mount_laws.proofs.ends.EndingOrder.{AreDeepestFirst, among_inserted, in_order, is_itself, taken_in_turn}
-use Rattle.vt_mount_laws.proofs.mounts.MountsFound.{number_found}
-use Rattle.vt_mount_laws.proofs.mounts.MountsReplaced.{found_itself}
-use Rattle.vt_mount_laws.proofs.mounts.Standing.{depth_by_rank, rank, rank_child}
+use Rattle.vt_laws_mounts.proofs.ends.EndingOrder.{AreDeepestFirst, among_inserted, in_order, is_itself, taken_in_turn}
+use Rattle.vt_laws_mounts.proofs.mounts.MountsFound.{number_found}
+use Rattle.vt_laws_mounts.proofs.mounts.MountsReplaced.{found_itself}
+use Rattle.vt_laws_mounts.proofs.mounts.Standing.{depth_by_rank, rank, rank_child}
 use Rattle.vt_propagate.specs.LazyEvents.{children_of, levels_from}
 use Rattle.vt_propagate.specs.LazyUnmounts.{lazy_events}
 use Rattle.vt_propagate.proofs.Found.{counts}
-use Rattle.vt_mount_laws.specs.Mounts.Attaching.{numbers_of}
+use Rattle.vt_laws_mounts.specs.Mounts.Attaching.{numbers_of}
 
 reverse-first : (x : ℕ) (xs : List ℕ) → reverse (x ∷ xs) ≡ reverse xs ++ (x ∷ [])
 reverse-first x xs = reverse-append (x ∷ []) xs

@@ -13,14 +13,14 @@ use Rattle.vt_spec.specs.Machine.World.{World, mount_numbered}
 use Rattle.vt_spec.proofs.Lists.{among-filter, among-from_map, any_among, any_from_among, none_among}
 use Rattle.vt_location.specs.declared.numbers.MountId.{MountId}
 use Rattle.vt_location.specs.Numbers.{counted}
-use Rattle.vt_mount_laws.proofs.ends.EndingLazy.{IsUnderWay, begun, childless, next}
-use Rattle.vt_mount_laws.proofs.ends.EndingOrder.{taken_in_turn}
-use Rattle.vt_mount_laws.proofs.mounts.MountsFound.{number_found, placed_among}
-use Rattle.vt_mount_laws.proofs.mounts.MountsPlaces.{stands_there}
-use Rattle.vt_mount_laws.proofs.mounts.MountsReplaced.{found_itself}
-use Rattle.vt_mount_laws.proofs.ends.Unmounting.{middle, taken}
-use Rattle.vt_mount_laws.proofs.ends.UnmountingPlaces.{Falls, goes_or_may, stood}
-use Rattle.vt_mount_laws.proofs.ends.UnmountingPlaces.Falls.{direct, down}
+use Rattle.vt_laws_mounts.proofs.ends.EndingLazy.{IsUnderWay, begun, childless, next}
+use Rattle.vt_laws_mounts.proofs.ends.EndingOrder.{taken_in_turn}
+use Rattle.vt_laws_mounts.proofs.mounts.MountsFound.{number_found, placed_among}
+use Rattle.vt_laws_mounts.proofs.mounts.MountsPlaces.{stands_there}
+use Rattle.vt_laws_mounts.proofs.mounts.MountsReplaced.{found_itself}
+use Rattle.vt_laws_mounts.proofs.ends.Unmounting.{middle, taken}
+use Rattle.vt_laws_mounts.proofs.ends.UnmountingPlaces.{Falls, goes_or_may, stood}
+use Rattle.vt_laws_mounts.proofs.ends.UnmountingPlaces.Falls.{direct, down}
 use Rattle.vt_propagate.specs.LazyUnmounts.{going_if_there, gone_by, gone_lazily, lazy_events}
 use Rattle.vt_propagate.specs.Through.{going_then, going_then_if_there}
 use Rattle.vt_propagate.proofs.Found.{counts}
@@ -30,8 +30,8 @@ use Rattle.vt_propagate.proofs.lazily.Over.{Over, over_further, over_more}
 use Rattle.vt_propagate.proofs.lazily.Over.Over.{here}
 use Rattle.vt_propagate.proofs.lazily.ReceiversLeft.{receivers_left}
 use Rattle.vt_propagate.proofs.TakenTwice.{taken_twice}
-use Rattle.vt_mount_laws.proofs.Groups.{members-regrouped}
-use Rattle.vt_mount_laws.specs.Mounts.Attaching.{numbers_of}
+use Rattle.vt_laws_mounts.proofs.Groups.{members-regrouped}
+use Rattle.vt_laws_mounts.specs.Mounts.Attaching.{numbers_of}
 
 -- Lists
 

@@ -13,18 +13,18 @@ use Rattle.vt_spec.specs.Machine.World.{World, mount_at, mount_numbered}
 use Rattle.vt_spec.proofs.Lists.{Among, among-filter, among-from_filter, among-map, among_from_list_all, any_from_among, list_all_from_among, none_among, pair-filter}
 use Rattle.vt_spec.proofs.Truths.{same_truth}
 use Rattle.vt_spec.proofs.Worlds.{found_or_none}
-use Rattle.vt_mount_laws.specs.Mounts.Unmounting.{KeepsAllButMountPointAndType}
-use Rattle.vt_mount_laws.specs.Mounts.Unmounting.FallsTo.{rests}
-use Rattle.vt_mount_laws.proofs.mounts.MountsFound.{found_in, number_found, placed_among}
-use Rattle.vt_mount_laws.proofs.mounts.MountsPlaces.{found_at_its_place, one_place_of_two, stands_at_its_place, stands_there}
-use Rattle.vt_mount_laws.proofs.mounts.MountsReplaced.{found_itself}
-use Rattle.vt_mount_laws.proofs.mounts.Standing.{standing_is_computed}
-use Rattle.vt_mount_laws.proofs.ends.Unmounting.{detached_by_number, kept_by_number, middle, place_fallen, staying_is_placed, taken}
+use Rattle.vt_laws_mounts.specs.Mounts.Unmounting.{KeepsAllButMountPointAndType}
+use Rattle.vt_laws_mounts.specs.Mounts.Unmounting.FallsTo.{rests}
+use Rattle.vt_laws_mounts.proofs.mounts.MountsFound.{found_in, number_found, placed_among}
+use Rattle.vt_laws_mounts.proofs.mounts.MountsPlaces.{found_at_its_place, one_place_of_two, stands_at_its_place, stands_there}
+use Rattle.vt_laws_mounts.proofs.mounts.MountsReplaced.{found_itself}
+use Rattle.vt_laws_mounts.proofs.mounts.Standing.{standing_is_computed}
+use Rattle.vt_laws_mounts.proofs.ends.Unmounting.{detached_by_number, kept_by_number, middle, place_fallen, staying_is_placed, taken}
 use Rattle.vt_propagate.specs.Going.{group_at}
 use Rattle.vt_propagate.specs.Through.{free_at_then, free_on_then, going_by, going_then, group_at_then, is_free_by_number, is_free_then, rests_on_root, standing_over}
 use Rattle.vt_propagate.proofs.lazily.Over.{Over, found_over_place, over_falls, over_first, over_found}
-use Rattle.vt_mount_laws.proofs.Groups.{group-inherited}
-use Rattle.vt_mount_laws.specs.Mounts.Attaching.{numbers_of}
+use Rattle.vt_laws_mounts.proofs.Groups.{group-inherited}
+use Rattle.vt_laws_mounts.specs.Mounts.Attaching.{numbers_of}
 
 -- A world that is left where these mounts are gone. What stands at a place then stood over it; who receives from a
 -- group that keeps a member did before.

@@ -7,12 +7,12 @@ use Rattle.vt_spec.specs.Machine.Detach.{is_going}
 use Rattle.vt_spec.specs.Machine.Invariants.{MountInvariants}
 use Rattle.vt_spec.specs.Machine.Mounts.{Location, Mount, child_at, root_of, stands_at}
 use Rattle.vt_spec.specs.Machine.World.{World, mount_numbered}
-use Rattle.vt_mount_laws.specs.Mounts.Unmounting.{FallsTo}
-use Rattle.vt_mount_laws.specs.Mounts.Unmounting.FallsTo.{falls}
-use Rattle.vt_mount_laws.proofs.mounts.MountsFound.{found_in, number_found, placed_among}
-use Rattle.vt_mount_laws.proofs.mounts.MountsPlaces.{found_at_its_place, stands_there}
-use Rattle.vt_mount_laws.proofs.mounts.MountsReplaced.{found_itself}
-use Rattle.vt_mount_laws.proofs.mounts.Standing.{rank, rank_bounded, rank_child}
+use Rattle.vt_laws_mounts.specs.Mounts.Unmounting.{FallsTo}
+use Rattle.vt_laws_mounts.specs.Mounts.Unmounting.FallsTo.{falls}
+use Rattle.vt_laws_mounts.proofs.mounts.MountsFound.{found_in, number_found, placed_among}
+use Rattle.vt_laws_mounts.proofs.mounts.MountsPlaces.{found_at_its_place, stands_there}
+use Rattle.vt_laws_mounts.proofs.mounts.MountsReplaced.{found_itself}
+use Rattle.vt_laws_mounts.proofs.mounts.Standing.{rank, rank_bounded, rank_child}
 use Rattle.vt_propagate.specs.Through.{over_from, standing_over}
 
 -- a mount stands at a place, or on the root of one that is gone and stood over it

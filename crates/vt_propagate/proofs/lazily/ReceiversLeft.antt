@@ -14,12 +14,12 @@ use Rattle.vt_spec.proofs.Lists.{Among, among-map, among_from_all, any_from_amon
 use Rattle.vt_group.proofs.Heirs.{heir_above, heir_itself, master_inherited}
 use Rattle.vt_group.proofs.Living.{group_lives}
 use Rattle.vt_group.proofs.Receiving.{Ends, chain_same, living_ends}
-use Rattle.vt_mount_laws.proofs.GroupsKept.{taking_away_keeps_groups}
-use Rattle.vt_mount_laws.proofs.GroupsLiving.{all_live, tested_live}
-use Rattle.vt_mount_laws.proofs.ends.Unmounting.{middle}
-use Rattle.vt_mount_laws.proofs.Groups.{mounts-regrouped, members-regrouped}
-use Rattle.vt_mount_laws.specs.Mounts.Attaching.{numbers_of}
-use Rattle.vt_mount_laws.specs.Mounts.Receivers.{AllGroupsLive}
+use Rattle.vt_laws_mounts.proofs.GroupsKept.{taking_away_keeps_groups}
+use Rattle.vt_laws_mounts.proofs.GroupsLiving.{all_live, tested_live}
+use Rattle.vt_laws_mounts.proofs.ends.Unmounting.{middle}
+use Rattle.vt_laws_mounts.proofs.Groups.{mounts-regrouped, members-regrouped}
+use Rattle.vt_laws_mounts.specs.Mounts.Attaching.{numbers_of}
+use Rattle.vt_laws_mounts.specs.Mounts.Receivers.{AllGroupsLive}
 
 -- a group is among those up from another if it is that one, or among those up from its master
 module _ (master : ℕ → Option ℕ) (group : ℕ) where

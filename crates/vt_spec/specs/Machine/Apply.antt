@@ -1,27 +1,36 @@
 -- What is done with a permit: the answer, and the world that the call leaves before the policy's last step, which lets
 -- go of what nothing uses and raises change numbers.
-use Rattle.std.specs.Prelude.{Bool, List, [], drop, false, not, take, true, ℕ}
-use Rattle.vt_spec.specs.Machine.Attach.{attach, has_too_many}
+use Rattle.std.specs.Prelude.{Bool, List, Option, [], drop, false, length, not, take, true, ℕ}
+use Rattle.vt_spec.specs.Machine.Attach.{bound_at, has_too_many, moved_to}
 use Rattle.vt_spec.specs.Language.Changes.Change.{Make, Move, Remove}
-use Rattle.vt_spec.specs.Machine.Detach.{lazily_unmounted, unmounted, without_mounts_on}
+use Rattle.vt_spec.specs.Machine.Detach.{lazily_unmounted, unmounted, without_mounts_on, without_replaced}
 use Rattle.vt_spec.specs.Machine.Filesystems.{changed_at, with_change}
 use Rattle.vt_spec.specs.Machine.Listing.{mount_lines}
 use Rattle.vt_spec.specs.Lists.{Fresh, evens, odds}
-use Rattle.vt_spec.specs.Machine.Mounts.{Location, mount_tree, with_mount}
+use Rattle.vt_spec.specs.Machine.Mounts.{Location}
 use Rattle.vt_spec.specs.Machine.Namespaces.{namespace_entered, namespaces_ended, pivoted, unshared}
-use Rattle.vt_spec.specs.Machine.Outcome.Descriptors.{is_copied_up, opened, pwritten, with_copy, without_descriptor}
-use Rattle.vt_spec.specs.Machine.Outcome.Looking.{stat_line}
-use Rattle.vt_spec.specs.Machine.Outcome.Mounting.{bound_at, mounted, overlay_filesystem, plain_filesystem}
-use Rattle.vt_spec.specs.Machine.Outcome.Removing.{without_replaced}
-use Rattle.vt_spec.specs.Machine.Outcome.Tasks.{child_name, child_of, with_child}
+use Rattle.vt_spec.specs.Machine.Descriptors.{is_copied_up, opened, pwritten, with_copy, without_descriptor}
+use Rattle.vt_spec.specs.Machine.NewMounts.{mounted, overlay_filesystem, plain_filesystem}
+use Rattle.vt_spec.specs.Machine.Tasks.{child_name, child_of, with_child}
 use Rattle.vt_spec.specs.Machine.Outcomes.{Outcome, granted}
+use Rattle.vt_spec.specs.FileTree.{attr_in, is_opaque_in, kind_in}
+use Rattle.vt_spec.specs.Language.Answers.{StatLine}
 use Rattle.vt_spec.specs.Language.Answers.Answer.{Bytes, Child, Done, MountList, Names, Told}
 use Rattle.vt_spec.specs.Machine.Permits.{Permit}
 use Rattle.vt_spec.specs.Machine.Permits.Permit.{Allowed, ToBind, ToChange, ToClose, ToEnterNamespace, ToExit, ToFork, ToList, ToListMounts, ToMake, ToMountOverlay, ToMountPlain, ToMove, ToOpen, ToOpenNew, ToPivot, ToRead, ToReadPart, ToRemoveDirectory, ToRename, ToSetCredentials, ToSetDirectory, ToSetFlags, ToSetRoot, ToSetType, ToSetUmask, ToStat, ToUnmount, ToUnmountLazily, ToUnshare, ToWritePart}
 use Rattle.vt_spec.specs.Machine.Types.{with_type}
-use Rattle.vt_spec.specs.Machine.World.{Task, World, mount_at, mount_numbered, node_at, with_mounts, with_task, without_task}
+use Rattle.vt_spec.specs.Machine.World.{Task, World, mount_at, mount_numbered, node_at, with_flags, with_task, without_task}
 use Rattle.vt_spec.specs.PathText.{is_empty}
 use Rattle.vt_spec.specs.Tree.{Node, bytes_in, names_in}
+
+-- what stat(2) returns
+abbrev pub stat_line : {N : Type 0} → Option (Node N) → StatLine
+stat_line node = record {
+  kind = kind_in node;
+  attr = attr_in node;
+  size = length (bytes_in node);
+  opaque = is_opaque_in node;
+}
 
 module _ {N : Type 0} (eq : N → N → Bool) where
   -- the world with a new inode under a name of a directory
@@ -77,13 +86,10 @@ module _ {N : Type 0} (eq : N → N → Bool) where
       granted Done (mounted eq (odds fresh) world destination (overlay_filesystem eq (evens fresh) world overlay) flags)
   apply fresh world task (ToBind source destination recursive) =
       granted Done (bound_at eq fresh world source destination recursive)
-  apply fresh world task (ToMove mount destination) =
-      granted Done (attach eq world fresh destination true (mount_tree eq world.mounts (mount_numbered eq world mount)))
+  apply fresh world task (ToMove mount destination) = granted Done (moved_to eq fresh world mount destination)
   apply fresh world task (ToUnmount mount) = granted Done (unmounted eq world mount)
   apply fresh world task (ToUnmountLazily mount) = granted Done (lazily_unmounted eq world mount)
-  apply fresh world task (ToSetFlags mount flags) =
-      granted Done (with_mounts world
-      (with_mount eq world.mounts (record (mount_numbered eq world mount) { flags = flags })))
+  apply fresh world task (ToSetFlags mount flags) = granted Done (with_flags eq world mount flags)
   apply fresh world task (ToSetType mount word recursive) =
       granted Done (with_type eq fresh world mount word recursive)
   apply fresh world task (ToPivot new put) =

@@ -6,11 +6,11 @@ use Rattle.std.specs.List.{list_any}
 use Rattle.vt_spec.specs.Language.Limits.{most_mounts}
 use Rattle.vt_spec.specs.FileTree.{is_directory_under}
 use Rattle.vt_spec.specs.Lists.{Fresh, evens, first_of_list, folded, holds_of, odds, index_from, rest_of, then_some, when}
-use Rattle.vt_spec.specs.Machine.Mounts.{Location, Mount, Propagation, children, group_of, index_of, is_shared, is_unbindable, root_of, stands_at, topmost, with_mount}
+use Rattle.vt_spec.specs.Machine.Mounts.{Location, Mount, Propagation, children, group_of, index_of, is_shared, is_unbindable, mount_tree, root_of, stands_at, topmost, with_mount}
 use Rattle.vt_spec.specs.Machine.Mounts.Propagation.{Private, Shared, Slave, Unbindable}
 use Rattle.vt_spec.specs.Machine.Receives.{groups_up, has_members, is_member_of, receivers, slave_of_heir}
 use Rattle.vt_spec.specs.Machine.Types.{master_after, with_master}
-use Rattle.vt_spec.specs.Machine.World.{World, files_at, filesystem_numbered, mount_at, mounts_of}
+use Rattle.vt_spec.specs.Machine.World.{World, files_at, filesystem_numbered, mount_at, mount_numbered, mounts_of}
 
 -- one mount of the tree that is attached: the mount that is copied or moves, and its propagation type at the
 -- destination
@@ -112,54 +112,25 @@ module _ {N : Type 0} (eq : N → N → Bool) where
   abbrev pub is_destination : Graft N → N → Bool
   is_destination graft part = eq part graft.destination.mount
 
-  -- the type of a mount of the tree at a part: at the destination, or at a receiver
-  abbrev pub type_at_part : World N → Copies N → Graft N → List (Mount N) → Mount N → Twig N → Propagation N
-  type_at_part world new graft parts part twig =
-      if is_destination graft part.number then twig.propagation
-      else copy_type world new parts (mount_at eq world graft.destination) twig part.propagation
-
-  -- the new group that a copy at a part forms, if any, with its master
-  abbrev pub group_made : World N → Copies N → Graft N → List (Mount N) → Mount N → Twig N → Option (N × Option N)
-  group_made world new graft parts part twig =
-      if is_destination graft part.number then twig_master twig
-      else then_some (group_of part.propagation) (λ group.
-      when (not (is_member_of eq group (mount_at eq world graft.destination))) (
-        image new (mount_at eq world graft.destination) twig group,
-        nearest_image world new parts (mount_at eq world graft.destination) twig (world.master group),
-      ))
-
-  -- the number of a copy; mounts that move keep theirs at the destination
-  abbrev pub copy_number : Copies N → Graft N → N → N → N
-  copy_number new graft part origin = if graft.moves && is_destination graft part then origin else new.copy part origin
-
   -- the mount is the first of the tree
   abbrev pub is_top : Graft N → N → Bool
   is_top graft origin = holds_of (λ twig. eq origin twig.origin.number) (first_of_list graft.twigs)
 
-  -- a mount point on a mount of the tree, on the copy of that mount at a part
-  abbrev pub mount_point_on_copy : Copies N → Graft N → N → Location N → Location N
-  mount_point_on_copy new graft part point = record { mount = copy_number new graft part point.mount; node = point.node }
+  module _ (new : Copies N) (graft : Graft N) where
+    -- the number of a copy; mounts that move keep theirs at the destination
+    abbrev pub copy_number : N → N → N
+    copy_number part origin = if graft.moves && is_destination graft part then origin else new.copy part origin
 
-  -- the mount point of a copy at a part: the first mount of the tree takes the destination's directory, each other one
-  -- stands on the copy of its parent
-  abbrev pub copy_mount_point : Copies N → Graft N → N → Mount N → Location N
-  copy_mount_point new graft part origin =
-      if is_top graft origin.number then record { mount = part; node = graft.destination.node }
-      else unwrap_or (option_map (mount_point_on_copy new graft part) origin.mount_point) graft.destination
+    -- a mount point on a mount of the tree, on the copy of that mount at a part
+    abbrev pub mount_point_on_copy : N → Location N → Location N
+    mount_point_on_copy part point = record { mount = copy_number part point.mount; node = point.node }
 
-  -- the copy of a mount at a part, or at the destination the mount itself that moves: the number, namespace, mount
-  -- point and type that it has there, with the filesystem, root and flags of the mount
-  abbrev pub copy_at : World N → Copies N → Graft N → List (Mount N) → Mount N → Twig N → Mount N
-  copy_at world new graft parts part twig = record twig.origin {
-    number = copy_number new graft part.number twig.origin.number;
-    namespace = part.namespace;
-    mount_point = Some (copy_mount_point new graft part.number twig.origin);
-    propagation = type_at_part world new graft parts part twig;
-  }
-
-  -- the copies of all mounts of the tree at one part
-  abbrev pub copies_at : World N → Copies N → Graft N → List (Mount N) → Mount N → List (Mount N)
-  copies_at world new graft parts part = map (copy_at world new graft parts part) graft.twigs
+    -- the mount point of a copy at a part: the first mount of the tree takes the destination's directory, each other
+    -- one stands on the copy of its parent
+    abbrev pub copy_mount_point : N → Mount N → Location N
+    copy_mount_point part origin =
+        if is_top graft origin.number then record { mount = part; node = graft.destination.node }
+        else unwrap_or (option_map (mount_point_on_copy part) origin.mount_point) graft.destination
 
   -- A mount that stood at this location of a receiver moves onto the topmost mount over the root of the copied tree
   -- (profile).
@@ -174,16 +145,6 @@ module _ {N : Type 0} (eq : N → N → Bool) where
   receiver_stood_on graft parts mount =
       find (λ part. stands_at eq (record { mount = part.number; node = graft.destination.node }) mount) (rest_of parts)
 
-  -- the mount after the attachment, moved if there is such a receiver
-  abbrev pub pushed_onto : World N → Copies N → Graft N → List (Mount N) → Mount N → Option (Mount N) → Mount N
-  pushed_onto world new graft parts mount None = mount
-  pushed_onto world new graft parts mount (Some part) =
-      record mount { mount_point = Some (top_of_copies (copies_at world new graft parts part) graft.destination) }
-
-  -- a mount after the attachment: it has another mount point where a copy took its own at a receiver
-  abbrev pub pushed_up : World N → Copies N → Graft N → List (Mount N) → Mount N → Mount N
-  pushed_up world new graft parts mount = pushed_onto world new graft parts mount (receiver_stood_on graft parts mount)
-
   -- the mounts with those that move in their new state; they keep their order of attachment, and copies of a bind or
   -- new mount come last
   abbrev pub with_moved_mounts : (moves : Bool) → List (Mount N) → List (Mount N) → List (Mount N)
@@ -194,21 +155,61 @@ module _ {N : Type 0} (eq : N → N → Bool) where
   abbrev pub masters_with : (N → Option N) → N × Option N → N → Option N
   masters_with master group = with_master eq master group.0 group.1
 
-  -- all new groups that copies form, each with its master
-  abbrev pub all_groups_made : World N → Copies N → Graft N → List (Mount N) → List (N × Option N)
-  all_groups_made world new graft parts =
-      flat_map (λ part. filter_map (group_made world new graft parts part) graft.twigs) parts
+  -- a tree that is attached at these parts of a world, with these new numbers
+  module _ (world : World N) (new : Copies N) (graft : Graft N) (parts : List (Mount N)) where
+    -- the type of a mount of the tree at a part: at the destination, or at a receiver
+    abbrev pub type_at_part : Mount N → Twig N → Propagation N
+    type_at_part part twig =
+        if is_destination graft part.number then twig.propagation
+        else copy_type world new parts (mount_at eq world graft.destination) twig part.propagation
 
-  -- the world with the tree attached, at the destination first, then at the receivers in order of attachment
-  abbrev pub attached_at : World N → Copies N → Graft N → List (Mount N) → World N
-  attached_at world new graft parts = record world {
-    mounts = map (pushed_up world new graft parts)
-        (with_moved_mounts graft.moves world.mounts
-        (copies_at world new graft parts (mount_at eq world graft.destination)))
-        ++ added_mounts graft.moves (copies_at world new graft parts (mount_at eq world graft.destination))
-        ++ flat_map (copies_at world new graft parts) (rest_of parts);
-    master = folded masters_with world.master (all_groups_made world new graft parts);
-  }
+    -- the new group that a copy at a part forms, if any, with its master
+    abbrev pub group_made : Mount N → Twig N → Option (N × Option N)
+    group_made part twig =
+        if is_destination graft part.number then twig_master twig
+        else then_some (group_of part.propagation) (λ group.
+        when (not (is_member_of eq group (mount_at eq world graft.destination))) (
+          image new (mount_at eq world graft.destination) twig group,
+          nearest_image world new parts (mount_at eq world graft.destination) twig (world.master group),
+        ))
+
+    -- the copy of a mount at a part, or at the destination the mount itself that moves: the number, namespace, mount
+    -- point and type that it has there, with the filesystem, root and flags of the mount
+    abbrev pub copy_at : Mount N → Twig N → Mount N
+    copy_at part twig = record twig.origin {
+      number = copy_number new graft part.number twig.origin.number;
+      namespace = part.namespace;
+      mount_point = Some (copy_mount_point new graft part.number twig.origin);
+      propagation = type_at_part part twig;
+    }
+
+    -- the copies of all mounts of the tree at one part
+    abbrev pub copies_at : Mount N → List (Mount N)
+    copies_at part = map (copy_at part) graft.twigs
+
+    -- the mount after the attachment, moved if there is a receiver at which it stood on the destination's directory
+    abbrev pub pushed_onto : Mount N → Option (Mount N) → Mount N
+    pushed_onto mount None = mount
+    pushed_onto mount (Some part) =
+        record mount { mount_point = Some (top_of_copies (copies_at part) graft.destination) }
+
+    -- a mount after the attachment: it has another mount point where a copy took its own at a receiver
+    abbrev pub pushed_up : Mount N → Mount N
+    pushed_up mount = pushed_onto mount (receiver_stood_on graft parts mount)
+
+    -- all new groups that copies form, each with its master
+    abbrev pub all_groups_made : List (N × Option N)
+    all_groups_made = flat_map (λ part. filter_map (group_made part) graft.twigs) parts
+
+    -- the world with the tree attached, at the destination first, then at the receivers in order of attachment
+    abbrev pub attached_at : World N
+    attached_at = record world {
+      mounts = map pushed_up
+          (with_moved_mounts graft.moves world.mounts (copies_at (mount_at eq world graft.destination)))
+          ++ added_mounts graft.moves (copies_at (mount_at eq world graft.destination))
+          ++ flat_map copies_at (rest_of parts);
+      master = folded masters_with world.master all_groups_made;
+    }
 
   -- the world with the tree attached at its destination and at the receivers that take part: sharedsubtree, "Bind
   -- semantics" and "Move semantics"
@@ -274,6 +275,19 @@ module _ {N : Type 0} (eq : N → N → Bool) where
       bound world source
       ∷ flat_map (bindable_tree (length world.mounts) world.mounts)
       (filter (stands_under world source) (bindable_children world.mounts source.mount))
+
+  -- the world with the mounts of a source attached as copies at a destination: mount(2) with MS_BIND
+  abbrev pub bound_at : Fresh N → World N → Location N → Location N → (recursive : Bool) → World N
+  bound_at fresh world source destination recursive =
+      attach world fresh destination false (bind_tree world source recursive)
+
+  -- a mount that moves, with its descendants
+  abbrev pub moved_tree : World N → N → List (Mount N)
+  moved_tree world mount = mount_tree eq world.mounts (mount_numbered eq world mount)
+
+  -- the world with that tree moved to a destination: mount(2) with MS_MOVE
+  abbrev pub moved_to : Fresh N → World N → N → Location N → World N
+  moved_to fresh world mount destination = attach world fresh destination true (moved_tree world mount)
 
   -- some namespace has more mounts than the limit: ENOSPC of mount(2)
   abbrev pub has_too_many : World N → Bool

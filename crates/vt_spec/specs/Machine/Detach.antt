@@ -159,3 +159,8 @@ module _ {N : Type 0} (eq : N → N → Bool) where
   -- "restrictions"
   abbrev pub without_mounts_on : World N → Location N → World N
   without_mounts_on world location = trees_taken_away world (mounts_on world location)
+
+  -- the world without the mounts on an object that a rename replaces: mount_namespaces(7), "restrictions"
+  abbrev pub without_replaced : World N → Option (Location N) → World N
+  without_replaced world None = world
+  without_replaced world (Some new) = without_mounts_on world new

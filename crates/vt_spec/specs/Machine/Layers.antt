@@ -2,7 +2,7 @@
 use Rattle.std.specs.Prelude.{Bool, List, Option, map, ℕ}
 use Rattle.vt_spec.specs.Machine.Views
 pub use Rattle.vt_spec.specs.Machine.Views.{Shown, View, hides}
-use Rattle.vt_spec.specs.Tree.{Entries, Node, Tree}
+use Rattle.vt_spec.specs.Tree.{Node, Tree}
 use Rattle.vt_spec.specs.TreeInvariant.{led}
 
 -- a layer, as it is looked into: a directory of a plain tree
@@ -25,24 +25,11 @@ module _ {N : Type 0} where
 
   -- Each word from here on is that of views (`Views.antt`), of layers.
 
-  -- the layer cuts lower ones at a path
-  abbrev pub cuts : OpenLayer N → List (List ℕ) → Bool
-  cuts layer path = Views.cuts (view_of layer) path
-
-  abbrev pub shown_over : OpenLayer N → ℕ → Option N → Bool → Option (Shown N) → Option (Shown N)
-  shown_over layer depth object cut lower = Views.shown_over (view_of layer) depth object cut lower
-
-  abbrev pub shown_from : ℕ → List (OpenLayer N) → List (List ℕ) → Option (Shown N)
-  shown_from depth layers path = Views.shown_from depth (map view_of layers) path
-
   abbrev pub shown : List (OpenLayer N) → List (List ℕ) → Option (Shown N)
   shown layers path = Views.shown (map view_of layers) path
 
   abbrev pub shown_in_lowers : OpenLayer N → List (OpenLayer N) → List (List ℕ) → Option (Shown N)
   shown_in_lowers upper lowers path = Views.shown_in_lowers (view_of upper) (map view_of lowers) path
-
-  abbrev pub names_at : List (OpenLayer N) → List (List ℕ) → Entries (Unit {0})
-  names_at layers path = Views.names_at (map view_of layers) path
 
   abbrev pub names_shown : List (OpenLayer N) → List (List ℕ) → List (List ℕ)
   names_shown layers path = Views.names_shown (map view_of layers) path

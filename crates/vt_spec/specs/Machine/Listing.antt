@@ -6,12 +6,10 @@ use Rattle.vt_spec.specs.Lists.{counted_from, each_once, holds_of, index_from}
 use Rattle.vt_spec.specs.Machine.Mounts.{Location, Mount, Propagation, is_shared, source_of}
 use Rattle.vt_spec.specs.Machine.Mounts.Propagation.{Private, Shared, Slave, Unbindable}
 use Rattle.vt_spec.specs.Language.Answers.{MountLine, PeerLine, Spot, TypeLine}
-use Rattle.vt_spec.specs.Machine.Outcomes.{Outcome, granted}
-use Rattle.vt_spec.specs.Language.Answers.Answer.{MountList}
 use Rattle.vt_spec.specs.Language.Answers.Spot.{Gone, Reached}
 use Rattle.vt_spec.specs.Language.Answers.TypeLine.{PrivateLine, SharedLine, SlaveLine, UnbindableLine}
 use Rattle.vt_spec.specs.Machine.Receives.{is_member_of}
-use Rattle.vt_spec.specs.Machine.World.{Namespace, Task, World, files_at, filesystem_numbered, is_overlay, mount_at, mounts_of}
+use Rattle.vt_spec.specs.Machine.World.{Namespace, World, files_at, filesystem_numbered, is_overlay, mount_at, mounts_of}
 
 -- the path from one directory of a filesystem to another, or that there is none any more
 abbrev pub spot_of : Option (List (List ℕ)) → Spot
@@ -110,7 +108,3 @@ module _ {N : Type 0} (eq : N → N → Bool) where
   peer_lines world =
       map (peer_line world (groups_seen world (map (λ mount. mount.2) (all_attached world))))
       (groups_seen world (map (λ mount. mount.2) (all_attached world)))
-
-  -- the list of the mounts of the caller's namespace: mountinfo of proc(5)
-  unfoldable pub mounts_outcome : World N → Task N → Outcome N
-  mounts_outcome world task = granted (MountList (mount_lines world task.namespace)) world

@@ -1,24 +1,17 @@
--- The policy: what each call does, in which world, for which task (profile: each call by its man page, as in
--- `Outcome/`).
+-- The policy: what each call does, in which world, for which task. The caller is found (S2), the call is judged
+-- (`Judge.antt`), its permit is applied (`Apply.antt`), and in the last step what nothing uses is removed and change
+-- numbers are raised.
 use Rattle.std.specs.Prelude.{Bool, Err, List, Ok, Option, [], false, if◌then◌else◌, is_ok, map, not, ok_or, true, ◌&&◌, ◌||◌}
 use Rattle.vt_spec.specs.declared.errors.Rule.TheVariants.{S2}
-use Rattle.vt_spec.specs.Machine.Apply.{filesystems_changed}
+use Rattle.vt_spec.specs.Machine.Apply.{apply, filesystems_changed}
 use Rattle.vt_spec.specs.Language.Calls.{Call, MountFlags, TaskName, same_name}
-use Rattle.vt_spec.specs.Language.Calls.Call.{Bind, Chdir, Chmod, Chown, Chroot, Close, Drop, Exec, Exit, Fork, Lazy, LinkTo, ListMounts, Ls, Lstat, MakeWhiteout, Mkdir, MountOverlay, MountPlain, MoveMount, Opaque, OpenFile, PivotRoot, Pread, Pwrite, Read, Readlink, Remount, Rename, Rmdir, SetType, Setns, Stat, SymlinkAt, Umask, Umount, Unlink, Unshare, Write}
+use Rattle.vt_spec.specs.Language.Calls.Call.{Exec, ListMounts, Ls, Lstat, Pread, Read, Readlink, Stat}
 use Rattle.vt_spec.specs.Errors.{denial}
 use Rattle.vt_spec.specs.Machine.Filesystems.{filesystems_raised, raised}
 use Rattle.vt_spec.specs.Machine.Judge.{Judgement, judge_in}
-use Rattle.vt_spec.specs.Machine.Listing.{mounts_outcome}
 use Rattle.vt_spec.specs.Lists.{Fresh, same_list, same_option, then_some}
 use Rattle.vt_spec.specs.Machine.Mounts.{Mount, Propagation, same_location, source_of}
 use Rattle.vt_spec.specs.Machine.Mounts.Propagation.{Private, Shared, Slave, Unbindable}
-use Rattle.vt_spec.specs.Machine.Outcome.Attributes.{chmod_outcome, chown_outcome, opaque_outcome}
-use Rattle.vt_spec.specs.Machine.Outcome.Descriptors.{close_outcome, open_outcome, pread_outcome, pwrite_outcome}
-use Rattle.vt_spec.specs.Machine.Outcome.Looking.{exec_outcome, list_outcome, lstat_outcome, read_outcome, readlink_outcome, stat_outcome}
-use Rattle.vt_spec.specs.Machine.Outcome.Making.{hard_link_outcome, mkdir_outcome, symlink_outcome, whiteout_outcome, write_outcome}
-use Rattle.vt_spec.specs.Machine.Outcome.Mounting.{bind_outcome, lazy_outcome, mount_overlay_outcome, mount_plain_outcome, move_outcome, pivot_outcome, remount_outcome, type_outcome, umount_outcome}
-use Rattle.vt_spec.specs.Machine.Outcome.Removing.{rename_outcome, rmdir_outcome, unlink_outcome}
-use Rattle.vt_spec.specs.Machine.Outcome.Tasks.{chdir_outcome, chroot_outcome, drop_outcome, exit_outcome, fork_outcome, setns_outcome, umask_outcome, unshare_outcome}
 use Rattle.vt_spec.specs.Machine.Outcomes.{Outcome, after}
 use Rattle.vt_spec.specs.Machine.Settled.{settled}
 use Rattle.vt_spec.specs.Machine.World.{Namespace, Task, World, mounts_of, task_called}
@@ -55,49 +48,10 @@ module _ {N : Type 0} where
   raised_task name task = if same_name name task.name then record task { change = raised task.change } else task
 
 module _ {N : Type 0} (eq : N → N → Bool) where
-  -- the outcome of a call, to which new numbers are handed in for what it may make
+  -- the outcome of a call before the last step, to which new numbers are handed in for what it may make: it is judged,
+  -- and what it is permitted is applied. A refused call leaves the world
   abbrev pub call_outcome : Fresh N → World N → Task N → Call → Outcome N
-  call_outcome fresh world task (Ls path) = list_outcome eq world task path
-  call_outcome fresh world task (Stat path) = stat_outcome eq world task path
-  call_outcome fresh world task (Lstat path) = lstat_outcome eq world task path
-  call_outcome fresh world task (Readlink path) = readlink_outcome eq world task path
-  call_outcome fresh world task (Read path) = read_outcome eq world task path
-  call_outcome fresh world task (Write path bytes) = write_outcome eq fresh world task path bytes
-  call_outcome fresh world task (Exec path) = exec_outcome eq world task path
-  call_outcome fresh world task (Mkdir path mode) = mkdir_outcome eq fresh world task path mode
-  call_outcome fresh world task (SymlinkAt text path) = symlink_outcome eq fresh world task text path
-  call_outcome fresh world task (MakeWhiteout path) = whiteout_outcome eq fresh world task path
-  call_outcome fresh world task (LinkTo old new) = hard_link_outcome eq fresh world task old new
-  call_outcome fresh world task (Unlink path) = unlink_outcome eq fresh world task path
-  call_outcome fresh world task (Rmdir path) = rmdir_outcome eq fresh world task path
-  call_outcome fresh world task (Rename old new) = rename_outcome eq fresh world task old new
-  call_outcome fresh world task (Chmod path mode) = chmod_outcome eq fresh world task path mode
-  call_outcome fresh world task (Chown path uid gid) = chown_outcome eq fresh world task path uid gid
-  call_outcome fresh world task (Opaque path mark) = opaque_outcome eq fresh world task path mark
-  call_outcome fresh world task (OpenFile path access creation) = open_outcome eq fresh world task path access creation
-  call_outcome fresh world task (Pread descriptor offset size) = pread_outcome eq world task descriptor offset size
-  call_outcome fresh world task (Pwrite descriptor offset bytes) =
-      pwrite_outcome eq fresh world task descriptor offset bytes
-  call_outcome fresh world task (Close descriptor) = close_outcome world task descriptor
-  call_outcome fresh world task (Chdir path) = chdir_outcome eq world task path
-  call_outcome fresh world task (Chroot path) = chroot_outcome eq world task path
-  call_outcome fresh world task (Umask mode) = umask_outcome world task mode
-  call_outcome fresh world task (Drop which) = drop_outcome world task which
-  call_outcome fresh world task (Fork words) = fork_outcome world task words
-  call_outcome fresh world task Exit = exit_outcome eq world task
-  call_outcome fresh world task Unshare = unshare_outcome eq fresh world task
-  call_outcome fresh world task (Setns name) = setns_outcome eq world task name
-  call_outcome fresh world task (MountPlain path flags) = mount_plain_outcome eq fresh world task path flags
-  call_outcome fresh world task (MountOverlay path options flags) =
-      mount_overlay_outcome eq fresh world task path options flags
-  call_outcome fresh world task (Bind source path recursive) = bind_outcome eq fresh world task source path recursive
-  call_outcome fresh world task (MoveMount source path) = move_outcome eq fresh world task source path
-  call_outcome fresh world task (Umount path) = umount_outcome eq world task path
-  call_outcome fresh world task (Lazy path) = lazy_outcome eq world task path
-  call_outcome fresh world task (Remount path flags) = remount_outcome eq world task path flags
-  call_outcome fresh world task (SetType path word recursive) = type_outcome eq fresh world task path word recursive
-  call_outcome fresh world task (PivotRoot new put) = pivot_outcome eq world task new put
-  call_outcome fresh world task ListMounts = mounts_outcome eq world task
+  call_outcome fresh world task call = after world (judge_in eq fresh world task call) (apply eq fresh world task)
 
   -- Change numbers (profile). A call that succeeds and does not only look raises the world's and the caller's, that of
   -- each filesystem that its permit changes, and that of each namespace in which a mount came, went, moved, or has

@@ -4,16 +4,8 @@ use Rattle.std.specs.Fmt.{digits}
 use Rattle.vt_spec.specs.declared.errors.Rule.TheVariants.{S1, S5}
 use Rattle.vt_spec.specs.Errors.{denial}
 use Rattle.vt_spec.specs.Machine.Judge.{bind_permit, chdir_permit, chmod_permit, chown_permit, chroot_permit, close_permit, exec_permit, fork_permit, lazy_permit, hard_link_permit, list_permit, lstat_permit, mkdir_permit, mount_overlay_permit, mount_plain_permit, move_permit, opaque_permit, open_permit, pivot_permit, pread_permit, pwrite_permit, read_permit, readlink_permit, remount_permit, rename_permit, rmdir_permit, setns_permit, stat_permit, symlink_permit, type_permit, umount_permit, unlink_permit, unshare_permit, whiteout_permit, write_permit}
-use Rattle.vt_spec.specs.Machine.Listing.{mounts_outcome}
 use Rattle.vt_spec.specs.Lists.{Fresh, is_among}
 use Rattle.vt_spec.specs.Machine.Mounts.{Mount, source_of}
-use Rattle.vt_spec.specs.Machine.Outcome.Attributes.{chmod_outcome, chown_outcome, opaque_outcome}
-use Rattle.vt_spec.specs.Machine.Outcome.Descriptors.{close_outcome, open_outcome, pread_outcome, pwrite_outcome}
-use Rattle.vt_spec.specs.Machine.Outcome.Looking.{exec_outcome, list_outcome, lstat_outcome, read_outcome, readlink_outcome, stat_outcome}
-use Rattle.vt_spec.specs.Machine.Outcome.Making.{hard_link_outcome, mkdir_outcome, symlink_outcome, whiteout_outcome, write_outcome}
-use Rattle.vt_spec.specs.Machine.Outcome.Mounting.{bind_outcome, lazy_outcome, mount_overlay_outcome, mount_plain_outcome, move_outcome, pivot_outcome, remount_outcome, type_outcome, umount_outcome}
-use Rattle.vt_spec.specs.Machine.Outcome.Removing.{rename_outcome, rmdir_outcome, unlink_outcome}
-use Rattle.vt_spec.specs.Machine.Outcome.Tasks.{chdir_outcome, chroot_outcome, drop_outcome, exit_outcome, fork_outcome, setns_outcome, umask_outcome, unshare_outcome}
 use Rattle.vt_spec.specs.Machine.Outcomes.{Outcome, denied}
 use Rattle.vt_spec.specs.Machine.Policy.{policy}
 use Rattle.vt_spec.specs.Language.Printed.{reply_line}
@@ -145,15 +137,10 @@ machine_text version refused script = text_of (whole version) refused script
 
 -- what a proof by computation opens
 unfoldable pub everything : Unit {0}
-unfolding digits script_text machine_text request_of sealed list_outcome stat_outcome lstat_outcome readlink_outcome
-    read_outcome exec_outcome mkdir_outcome symlink_outcome whiteout_outcome hard_link_outcome write_outcome
-    unlink_outcome rmdir_outcome rename_outcome chmod_outcome chown_outcome opaque_outcome open_outcome
-    pread_outcome pwrite_outcome close_outcome fork_outcome umask_outcome drop_outcome chdir_outcome chroot_outcome
-    exit_outcome unshare_outcome setns_outcome mount_plain_outcome mount_overlay_outcome bind_outcome move_outcome
-    umount_outcome lazy_outcome remount_outcome type_outcome pivot_outcome mounts_outcome list_permit stat_permit
-    lstat_permit readlink_permit read_permit exec_permit mkdir_permit symlink_permit whiteout_permit
-    hard_link_permit write_permit unlink_permit rmdir_permit rename_permit chmod_permit chown_permit opaque_permit
-    open_permit pread_permit pwrite_permit close_permit fork_permit chdir_permit chroot_permit unshare_permit
-    setns_permit mount_plain_permit mount_overlay_permit bind_permit move_permit umount_permit lazy_permit
-    remount_permit type_permit pivot_permit
+unfolding digits script_text machine_text request_of sealed list_permit stat_permit lstat_permit readlink_permit
+    read_permit exec_permit mkdir_permit symlink_permit whiteout_permit hard_link_permit write_permit
+    unlink_permit rmdir_permit rename_permit chmod_permit chown_permit opaque_permit open_permit pread_permit
+    pwrite_permit close_permit fork_permit chdir_permit chroot_permit unshare_permit setns_permit
+    mount_plain_permit mount_overlay_permit bind_permit move_permit umount_permit lazy_permit remount_permit
+    type_permit pivot_permit
 everything = tt

@@ -3,28 +3,29 @@
 use Rattle.std.specs.Prelude.{Bool, Err, List, None, Ok, Option, Result, Some, [], false, filter, filter_map, find, if◌then◌else◌, length, map, nat_eq, nat_le, nat_lt, not, option_map, option_to_list, reverse, slice_get, true, unwrap_or, ℕ, ◌&&◌, ◌++◌, ◌+◌, ◌==◌, ◌||◌, ◌∷◌}
 use Rattle.std.specs.List.{list_any}
 use Rattle.vt_spec.specs.declared.errors.Deny.{Deny}
-use Rattle.vt_spec.specs.declared.errors.Rule.TheVariants.{K1, S1, S5}
+use Rattle.vt_spec.specs.declared.errors.Rule.TheVariants.{K1, S1, S2, S5}
 use Rattle.vt_spec.specs.Language.Calls.{Call, Creation, Directive, OverlayWords, TaskName, same_name}
 use Rattle.vt_spec.specs.Language.Calls.Call.{Bind, Chdir, Chmod, Chown, Chroot, Exec, Lazy, LinkTo, Ls, Lstat, MakeWhiteout, Mkdir, MountOverlay, MountPlain, MoveMount, Opaque, OpenFile, PivotRoot, Read, Readlink, Remount, Rename, Rmdir, SetType, Stat, SymlinkAt, Umount, Unlink, Write}
 use Rattle.vt_spec.specs.Language.Calls.Creation.{Exclusive, NoCreation, OrCreate}
 use Rattle.vt_spec.specs.Errors.{Rules, denial, unless}
 use Rattle.vt_spec.specs.Lists.{Fresh, counted_from, first_of_list, folded, is_empty_list, rest_of}
-use Rattle.vt_spec.specs.Machine.Outcome.Descriptors.{descriptor_rules}
-use Rattle.vt_spec.specs.Machine.Outcome.Mounting.{admin_rules, destination_walk, source_walk, work_walked}
-use Rattle.vt_spec.specs.Machine.Outcome.Removing.{rename_new_walk}
+use Rattle.vt_spec.specs.Machine.Rules.Descriptors.{descriptor_rules}
+use Rattle.vt_spec.specs.Machine.Rules.Mounting.{admin_rules, destination_walk, source_walk, work_walked}
+use Rattle.vt_spec.specs.Machine.Rules.Removing.{rename_new_walk}
 use Rattle.vt_spec.specs.Language.Answers.{Answer}
 use Rattle.vt_spec.specs.Machine.Outcomes.{Outcome, denied}
 use Rattle.vt_spec.specs.Machine.Policy.{policy}
 use Rattle.vt_spec.specs.Language.Printed.{reply_line}
 use Rattle.vt_spec.specs.Rights.{cap_sys_chroot}
 use Rattle.vt_spec.specs.Machine.Rows.{lacks}
+use Rattle.vt_spec.specs.Machine.Looks.{Looks, looks_of}
 use Rattle.vt_spec.specs.Machine.Run.{everything, first_world, handed, later}
 use Rattle.vt_spec.specs.Language.Script.{Grammar, Request, Version, Who, each_of, is_silent, lines_of, raw_tokens, request_of, token_text, who_of, whole}
 use Rattle.vt_spec.specs.Language.Limits.{largest_change, longest_line, most_restarts}
 use Rattle.vt_spec.specs.Language.Script.Request.{Asking, Calling}
 use Rattle.vt_spec.specs.Language.Script.Who.{Nobody, Someone}
 use Rattle.vt_spec.specs.Machine.Sealed.{directed}
-use Rattle.vt_spec.specs.Machine.Walk.{Here, Place, Stop, directory_walk, file_walk, is_directory_there, symlink_walk, new_leaf_walk, new_walk, object_walk, old_leaf_walk, old_walk}
+use Rattle.vt_spec.specs.Machine.Walking.{Here, Place, Stop, directory_walk, file_walk, is_directory_there, symlink_walk, new_leaf_walk, new_walk, object_walk, old_leaf_walk, old_walk}
 use Rattle.vt_spec.specs.Machine.World.{Task, World, task_called}
 
 -- what stands in a queue: a call, a directive, or a line that is refused
@@ -167,63 +168,63 @@ module _ {N : Type 0} (eq : N → N → Bool) where
   -- The paths of a call, in the order in which it walks them
 
   -- the old object of a rename is a directory, or its walk failed
-  abbrev pub rename_from_directory : World N → Result (Place N) (Stop N) → Bool
-  rename_from_directory world (Ok place) = is_directory_there eq world place
-  rename_from_directory world (Err stop) = true
+  abbrev pub rename_from_directory : Looks N → Result (Place N) (Stop N) → Bool
+  rename_from_directory looks (Ok place) = is_directory_there eq looks place
+  rename_from_directory looks (Err stop) = true
 
   -- the route of the path of open(2)
-  abbrev pub open_route : World N → Task N → List ℕ → Creation → Route N
-  open_route world task path NoCreation = here_route (object_walk eq world task path)
-  open_route world task path (OrCreate mode) = place_route (file_walk eq world task path)
-  open_route world task path (Exclusive mode) = place_route (new_walk eq world task path)
+  abbrev pub open_route : Looks N → Task N → List ℕ → Creation → Route N
+  open_route looks task path NoCreation = here_route (object_walk eq looks task path)
+  open_route looks task path (OrCreate mode) = place_route (file_walk eq looks task path)
+  open_route looks task path (Exclusive mode) = place_route (new_walk eq looks task path)
 
   -- the routes of an overlay's layers, in the order in which they are walked
-  abbrev pub layer_routes : World N → Task N → Option OverlayWords → List (Route N)
-  layer_routes world task None = []
-  layer_routes world task (Some words) =
-      map (λ path. here_route (source_walk eq world task path))
+  abbrev pub layer_routes : Looks N → Task N → Option OverlayWords → List (Route N)
+  layer_routes looks task None = []
+  layer_routes looks task (Some words) =
+      map (λ path. here_route (source_walk eq looks task path))
       (words.lowers ++ option_to_list words.upper ++ option_to_list (work_walked words))
 
   -- the routes of the paths of a call
-  abbrev pub routes : World N → Task N → Call → List (Route N)
-  routes world task (Ls path) = here_route (directory_walk eq world task path) ∷ []
-  routes world task (Stat path) = here_route (object_walk eq world task path) ∷ []
-  routes world task (Lstat path) = here_route (symlink_walk eq world task path) ∷ []
-  routes world task (Readlink path) = here_route (symlink_walk eq world task path) ∷ []
-  routes world task (Read path) = here_route (object_walk eq world task path) ∷ []
-  routes world task (Write path bytes) = place_route (file_walk eq world task path) ∷ []
-  routes world task (Exec path) = here_route (object_walk eq world task path) ∷ []
-  routes world task (Mkdir path mode) = place_route (new_walk eq world task path) ∷ []
-  routes world task (SymlinkAt text path) = place_route (new_leaf_walk eq world task path) ∷ []
-  routes world task (MakeWhiteout path) = place_route (new_leaf_walk eq world task path) ∷ []
-  routes world task (LinkTo old new) =
-      here_route (symlink_walk eq world task old) ∷ place_route (new_leaf_walk eq world task new) ∷ []
-  routes world task (Unlink path) = place_route (old_leaf_walk eq world task path) ∷ []
-  routes world task (Rmdir path) = place_route (old_walk eq world task path) ∷ []
-  routes world task (Rename old new) =
-      place_route (old_leaf_walk eq world task old)
-      ∷ place_route (rename_new_walk eq world task new (rename_from_directory world (old_leaf_walk eq world task old)))
+  abbrev pub routes : Looks N → Task N → Call → List (Route N)
+  routes looks task (Ls path) = here_route (directory_walk eq looks task path) ∷ []
+  routes looks task (Stat path) = here_route (object_walk eq looks task path) ∷ []
+  routes looks task (Lstat path) = here_route (symlink_walk eq looks task path) ∷ []
+  routes looks task (Readlink path) = here_route (symlink_walk eq looks task path) ∷ []
+  routes looks task (Read path) = here_route (object_walk eq looks task path) ∷ []
+  routes looks task (Write path bytes) = place_route (file_walk eq looks task path) ∷ []
+  routes looks task (Exec path) = here_route (object_walk eq looks task path) ∷ []
+  routes looks task (Mkdir path mode) = place_route (new_walk eq looks task path) ∷ []
+  routes looks task (SymlinkAt text path) = place_route (new_leaf_walk eq looks task path) ∷ []
+  routes looks task (MakeWhiteout path) = place_route (new_leaf_walk eq looks task path) ∷ []
+  routes looks task (LinkTo old new) =
+      here_route (symlink_walk eq looks task old) ∷ place_route (new_leaf_walk eq looks task new) ∷ []
+  routes looks task (Unlink path) = place_route (old_leaf_walk eq looks task path) ∷ []
+  routes looks task (Rmdir path) = place_route (old_walk eq looks task path) ∷ []
+  routes looks task (Rename old new) =
+      place_route (old_leaf_walk eq looks task old)
+      ∷ place_route (rename_new_walk eq looks task new (rename_from_directory looks (old_leaf_walk eq looks task old)))
       ∷ []
-  routes world task (Chmod path mode) = here_route (object_walk eq world task path) ∷ []
-  routes world task (Chown path uid gid) = here_route (object_walk eq world task path) ∷ []
-  routes world task (Opaque path mark) = here_route (directory_walk eq world task path) ∷ []
-  routes world task (OpenFile path access creation) = open_route world task path creation ∷ []
-  routes world task (Chdir path) = here_route (directory_walk eq world task path) ∷ []
-  routes world task (Chroot path) = here_route (directory_walk eq world task path) ∷ []
-  routes world task (MountPlain path given) = here_route (destination_walk eq world task path) ∷ []
-  routes world task (MountOverlay path options given) =
-      here_route (destination_walk eq world task path) ∷ layer_routes world task options
-  routes world task (Bind source path recursive) =
-      here_route (source_walk eq world task source) ∷ here_route (destination_walk eq world task path) ∷ []
-  routes world task (MoveMount source path) =
-      here_route (source_walk eq world task source) ∷ here_route (destination_walk eq world task path) ∷ []
-  routes world task (Umount path) = here_route (directory_walk eq world task path) ∷ []
-  routes world task (Lazy path) = here_route (directory_walk eq world task path) ∷ []
-  routes world task (Remount path given) = here_route (directory_walk eq world task path) ∷ []
-  routes world task (SetType path word recursive) = here_route (directory_walk eq world task path) ∷ []
-  routes world task (PivotRoot new put) =
-      here_route (source_walk eq world task new) ∷ here_route (destination_walk eq world task put) ∷ []
-  routes world task call = []
+  routes looks task (Chmod path mode) = here_route (object_walk eq looks task path) ∷ []
+  routes looks task (Chown path uid gid) = here_route (object_walk eq looks task path) ∷ []
+  routes looks task (Opaque path mark) = here_route (directory_walk eq looks task path) ∷ []
+  routes looks task (OpenFile path access creation) = open_route looks task path creation ∷ []
+  routes looks task (Chdir path) = here_route (directory_walk eq looks task path) ∷ []
+  routes looks task (Chroot path) = here_route (directory_walk eq looks task path) ∷ []
+  routes looks task (MountPlain path given) = here_route (destination_walk eq looks task path) ∷ []
+  routes looks task (MountOverlay path options given) =
+      here_route (destination_walk eq looks task path) ∷ layer_routes looks task options
+  routes looks task (Bind source path recursive) =
+      here_route (source_walk eq looks task source) ∷ here_route (destination_walk eq looks task path) ∷ []
+  routes looks task (MoveMount source path) =
+      here_route (source_walk eq looks task source) ∷ here_route (destination_walk eq looks task path) ∷ []
+  routes looks task (Umount path) = here_route (directory_walk eq looks task path) ∷ []
+  routes looks task (Lazy path) = here_route (directory_walk eq looks task path) ∷ []
+  routes looks task (Remount path given) = here_route (directory_walk eq looks task path) ∷ []
+  routes looks task (SetType path word recursive) = here_route (directory_walk eq looks task path) ∷ []
+  routes looks task (PivotRoot new put) =
+      here_route (source_walk eq looks task new) ∷ here_route (destination_walk eq looks task put) ∷ []
+  routes looks task call = []
 
   -- Change numbers that are held
 
@@ -290,8 +291,8 @@ module _ {N : Type 0} (eq : N → N → Bool) where
   -- the next word of a call, in the world as it is now
   abbrev pub further : Sched N → Task N → ℕ → Call → Fresh N → Progress N → Turned N
   further sched task line call fresh progress =
-      next_word sched line call fresh progress (routes sched.world task call)
-      (slice_get (words_of (routes sched.world task call)) progress.walked)
+      next_word sched line call fresh progress (routes (looks_of eq sched.world) task call)
+      (slice_get (words_of (routes (looks_of eq sched.world) task call)) progress.walked)
 
   -- the first word is walked, unless an S or K rule refuses the call: then the turn is the last
   abbrev pub first_turn_by : Result Call Deny → Sched N → Task N → ℕ → Call → Fresh N → ℕ → Turned N
@@ -338,10 +339,11 @@ module _ {N : Type 0} (eq : N → N → Bool) where
   directive_turn sched who line directive (Some fresh) =
       replied sched who line sched.under_way (directed eq sched.world directive)
 
-  -- the turn of a queue's first item
+  -- the turn of a queue's first item; a call in the queue of nobody is S2
   abbrev pub item_turn : Sched N → Who → ℕ → Item → Option (Fresh N) → Turned N
   item_turn sched (Someone name) line (Calls call) fresh = call_turn sched name line call fresh
-  item_turn sched Nobody line (Calls call) fresh = record { sched = sched; reply = None }
+  item_turn sched Nobody line (Calls call) fresh =
+      replied sched Nobody line sched.under_way (denied sched.world (denial S2))
   item_turn sched who line (Asks directive) fresh = directive_turn sched who line directive fresh
   item_turn sched who line (Refused deny) fresh = replied sched who line sched.under_way (denied sched.world deny)
 

@@ -5,8 +5,8 @@ use Rattle.vt_spec.specs.declared.attributes.Attr.{Attr}
 use Rattle.vt_spec.specs.FileTree.{FileTree, is_removed}
 use Rattle.vt_spec.specs.Machine.Layers.{OpenLayer}
 use Rattle.vt_spec.specs.Lists.{Fresh, holds_of}
-use Rattle.vt_spec.specs.Machine.Mounts.{Location, Mount, mount_in}
-use Rattle.vt_spec.specs.Language.Calls.{TaskName, plain_flags, same_name}
+use Rattle.vt_spec.specs.Machine.Mounts.{Location, Mount, mount_in, with_mount}
+use Rattle.vt_spec.specs.Language.Calls.{MountFlags, TaskName, plain_flags, same_name}
 use Rattle.vt_spec.specs.Machine.Mounts.Propagation.{Private}
 use Rattle.vt_spec.specs.Rights.{Credentials, all_capabilities}
 use Rattle.vt_spec.specs.Tree.{Node, is_directory_node, tree_of_root}
@@ -132,6 +132,11 @@ module _ {N : Type 0} (eq : N → N → Bool) where
   -- the mount of this number
   abbrev pub mount_numbered : World N → N → Mount N
   mount_numbered world number = mount_in eq world.mounts number
+
+  -- the world with other flags of a mount: mount(2) with MS_REMOUNT and MS_BIND
+  abbrev pub with_flags : World N → N → MountFlags → World N
+  with_flags world mount flags =
+      with_mounts world (with_mount eq world.mounts (record (mount_numbered world mount) { flags = flags }))
 
   -- the filesystem of this number
   abbrev pub filesystem_numbered : World N → N → Filesystem N

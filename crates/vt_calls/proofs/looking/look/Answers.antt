@@ -1,97 +1,92 @@
 use Rattle.std.proofs.Common.{ap, Ok, refl, sym}
 use Rattle.std.proofs.lemmas.Result.{err_from_is_err_and}
-use Rattle.vt_location.specs.Locations.{location_of}
 use Rattle.vt_spec.specs.Language.Answers.Answer.{Bytes, MountList, Names, Told}
-use Rattle.vt_spec.specs.Machine.Permits.Permit.{Allowed, ToList, ToListMounts, ToRead, ToReadPart, ToStat}
+use Rattle.vt_permits.specs.GrantValue.{look_permit}
+use Rattle.vt_permits.specs.declared.grant.Grant.TheVariants.{Look}
+use Rattle.vt_permits.specs.declared.grant.LookGrant.TheVariants as granted
 use Rattle.vt_calls.proofs.Endings.{looked, permitted, short}
 use Rattle.vt_calls.proofs.looking.look.Goals as goal
 
 pub list-requires : goal.list-requires
-list-requires c = permitted c.args.world.now c.args.name.now c.args.permit _ _ c.in-ToList.is
-    (λ task called. refl) tt c.requires.given
+list-requires c =
+    permitted c.args.world.now c.args.name.now (Look c.args.grant) (look_permit (granted.List c.in-List.directory))
+    (λ task called. ap look_permit c.in-List.is) tt c.requires
 
 pub stat-requires : goal.stat-requires
-stat-requires c = permitted c.args.world.now c.args.name.now c.args.permit _ _ c.in-ToStat.is
-    (λ task called. refl) tt c.requires.given
+stat-requires c =
+    permitted c.args.world.now c.args.name.now (Look c.args.grant) (look_permit (granted.Stat c.in-Stat.object))
+    (λ task called. ap look_permit c.in-Stat.is) tt c.requires
 
 pub read-requires : goal.read-requires
-read-requires c = permitted c.args.world.now c.args.name.now c.args.permit _ _ c.in-ToRead.is
-    (λ task called. refl) tt c.requires.given
+read-requires c =
+    permitted c.args.world.now c.args.name.now (Look c.args.grant) (look_permit (granted.Read c.in-Read.file))
+    (λ task called. ap look_permit c.in-Read.is) tt c.requires
 
 pub read_part-requires : goal.read_part-requires
 read_part-requires c =
-    permitted c.args.world.now c.args.name.now c.args.permit _ _ c.in-ToReadPart.is
-    (λ task called. refl) tt c.requires.given
+    permitted c.args.world.now c.args.name.now (Look c.args.grant) (look_permit (granted.ReadPart c.in-ReadPart.part))
+    (λ task called. ap look_permit c.in-ReadPart.is) tt c.requires
 
 pub mounts-requires : goal.mounts-requires
-mounts-requires c = permitted c.args.world.now c.args.name.now c.args.permit _ _ c.in-ToListMounts.is
-    (λ task called. refl) tt
-    c.requires.given
+mounts-requires c =
+    permitted c.args.world.now c.args.name.now (Look c.args.grant) (look_permit granted.ListMounts)
+    (λ task called. ap look_permit c.in-ListMounts.is) tt c.requires
 
-pub returns-in_err-list-in-ToList : goal.returns-in_err-list-in-ToList
-returns-in_err-list-in-ToList c =
+pub returns-in_err-list-in-List : goal.returns-in_err-list-in-List
+returns-in_err-list-in-List c =
     let p = err_from_is_err_and c.from_residual.result c.from_residual.ensures.1 in
-    rw (p.1, p.2) (short c.args.world.now c.args.name.now c.args.permit _
-    (ToList (location_of c.in-ToList.directory)) c.in-ToList.is
-    (λ task called. refl) _ _ c.in_err-list-in-ToList.ensures.memory refl refl)
+    rw (p.1, p.2) (short c.args.world.now c.args.name.now (Look c.args.grant) (look_permit (granted.List c.in-List.directory))
+    (λ task called. ap look_permit c.in-List.is) _ _ c.in_err-list-in-List.ensures.memory refl refl)
 
-pub returns-in_err-read-in-ToRead : goal.returns-in_err-read-in-ToRead
-returns-in_err-read-in-ToRead c =
-    let p = err_from_is_err_and c.from_residual-in_err-read-in-ToRead.result c.from_residual-in_err-read-in-ToRead.ensures.1 in
-    rw (p.1, p.2) (short c.args.world.now c.args.name.now c.args.permit _
-    (ToRead (location_of c.in-ToRead.file)) c.in-ToRead.is
-    (λ task called. refl) _ _ c.in_err-read-in-ToRead.ensures.memory refl refl)
+pub returns-in_err-read-in-Read : goal.returns-in_err-read-in-Read
+returns-in_err-read-in-Read c =
+    let p = err_from_is_err_and c.from_residual-in_err-read-in-Read.result c.from_residual-in_err-read-in-Read.ensures.1 in
+    rw (p.1, p.2) (short c.args.world.now c.args.name.now (Look c.args.grant) (look_permit (granted.Read c.in-Read.file))
+    (λ task called. ap look_permit c.in-Read.is) _ _ c.in_err-read-in-Read.ensures.memory refl refl)
 
-pub returns-in_err-read_part-in-ToReadPart : goal.returns-in_err-read_part-in-ToReadPart
-returns-in_err-read_part-in-ToReadPart c =
-    let p = err_from_is_err_and c.from_residual-in_err-read_part-in-ToReadPart.result
-    c.from_residual-in_err-read_part-in-ToReadPart.ensures.1 in
-    rw (p.1, p.2) (short c.args.world.now c.args.name.now c.args.permit _
-    (ToReadPart (location_of c.in-ToReadPart.file) c.in-ToReadPart.offset c.in-ToReadPart.size) c.in-ToReadPart.is
-    (λ task called. refl)
-    _ _ c.in_err-read_part-in-ToReadPart.ensures.memory refl refl)
+pub returns-in_err-read_part-in-ReadPart : goal.returns-in_err-read_part-in-ReadPart
+returns-in_err-read_part-in-ReadPart c =
+    let p = err_from_is_err_and c.from_residual-in_err-read_part-in-ReadPart.result c.from_residual-in_err-read_part-in-ReadPart.ensures.1 in
+    rw (p.1, p.2) (short c.args.world.now c.args.name.now (Look c.args.grant) (look_permit (granted.ReadPart c.in-ReadPart.part))
+    (λ task called. ap look_permit c.in-ReadPart.is) _ _ c.in_err-read_part-in-ReadPart.ensures.memory refl refl)
 
-pub returns-in_err-mounts-in-ToListMounts : goal.returns-in_err-mounts-in-ToListMounts
-returns-in_err-mounts-in-ToListMounts c =
-    let p = err_from_is_err_and c.from_residual-in_err-mounts-in-ToListMounts.result
-    c.from_residual-in_err-mounts-in-ToListMounts.ensures.1 in
-    rw (p.1, p.2) (short c.args.world.now c.args.name.now c.args.permit _ (ToListMounts) c.in-ToListMounts.is
-    (λ task called. refl) _ _
-    c.in_err-mounts-in-ToListMounts.ensures.memory refl refl)
+pub returns-in_err-mounts-in-ListMounts : goal.returns-in_err-mounts-in-ListMounts
+returns-in_err-mounts-in-ListMounts c =
+    let p = err_from_is_err_and c.from_residual-in_err-mounts-in-ListMounts.result c.from_residual-in_err-mounts-in-ListMounts.ensures.1 in
+    rw (p.1, p.2) (short c.args.world.now c.args.name.now (Look c.args.grant) (look_permit granted.ListMounts)
+    (λ task called. ap look_permit c.in-ListMounts.is) _ _ c.in_err-mounts-in-ListMounts.ensures.memory refl refl)
 
-pub returns-in-Allowed : goal.returns-in-Allowed
-returns-in-Allowed c =
-    looked c.args.world.now c.args.name.now c.args.permit _ (Allowed) c.in-Allowed.is (λ task called. refl) _ tt
-    (λ task called. refl)
-    (λ task. refl)
+pub returns-in-Nothing : goal.returns-in-Nothing
+returns-in-Nothing c =
+    looked c.args.world.now c.args.name.now (Look c.args.grant) (look_permit granted.Nothing)
+    (λ task called. ap look_permit c.in-Nothing.is) _ tt (λ task called. refl) (λ task. refl)
 
-pub returns-in_ok-list-in-ToList : goal.returns-in_ok-list-in-ToList
-returns-in_ok-list-in-ToList c =
-    looked c.args.world.now c.args.name.now c.args.permit _ (ToList (location_of c.in-ToList.directory)) c.in-ToList.is
-    (λ task called. refl) _ tt (λ task called. ap (λ told. Ok (Names told)) (sym c.in_ok-list-in-ToList.ensures.ok))
-    (λ task. refl)
+pub returns-in_ok-list-in-List : goal.returns-in_ok-list-in-List
+returns-in_ok-list-in-List c =
+    looked c.args.world.now c.args.name.now (Look c.args.grant) (look_permit (granted.List c.in-List.directory))
+    (λ task called. ap look_permit c.in-List.is) _ tt
+    (λ task called. ap (λ told. Ok (Names told)) (sym c.in_ok-list-in-List.ensures.ok)) (λ task. refl)
 
-pub returns-in_ok-read-in-ToRead : goal.returns-in_ok-read-in-ToRead
-returns-in_ok-read-in-ToRead c =
-    looked c.args.world.now c.args.name.now c.args.permit _ (ToRead (location_of c.in-ToRead.file)) c.in-ToRead.is
-    (λ task called. refl)
-    _ tt (λ task called. ap (λ told. Ok (Bytes told)) (sym c.in_ok-read-in-ToRead.ensures.ok)) (λ task. refl)
+pub returns-in-Stat : goal.returns-in-Stat
+returns-in-Stat c =
+    looked c.args.world.now c.args.name.now (Look c.args.grant) (look_permit (granted.Stat c.in-Stat.object))
+    (λ task called. ap look_permit c.in-Stat.is) _ tt (λ task called. ap (λ told. Ok (Told told)) (sym c.stat.ensures)) (λ task. refl)
 
-pub returns-in_ok-read_part-in-ToReadPart : goal.returns-in_ok-read_part-in-ToReadPart
-returns-in_ok-read_part-in-ToReadPart c =
-    looked c.args.world.now c.args.name.now c.args.permit _
-    (ToReadPart (location_of c.in-ToReadPart.file) c.in-ToReadPart.offset
-    c.in-ToReadPart.size) c.in-ToReadPart.is (λ task called. refl) _ tt
-    (λ task called. ap (λ told. Ok (Bytes told)) (sym c.in_ok-read_part-in-ToReadPart.ensures.ok)) (λ task. refl)
+pub returns-in_ok-read-in-Read : goal.returns-in_ok-read-in-Read
+returns-in_ok-read-in-Read c =
+    looked c.args.world.now c.args.name.now (Look c.args.grant) (look_permit (granted.Read c.in-Read.file))
+    (λ task called. ap look_permit c.in-Read.is) _ tt
+    (λ task called. ap (λ told. Ok (Bytes told)) (sym c.in_ok-read-in-Read.ensures.ok)) (λ task. refl)
 
-pub returns-in-ToStat : goal.returns-in-ToStat
-returns-in-ToStat c =
-    looked c.args.world.now c.args.name.now c.args.permit _ (ToStat (location_of c.in-ToStat.object)) c.in-ToStat.is
-    (λ task called. refl) _ tt (λ task called. ap (λ told. Ok (Told told)) (sym c.stat.ensures)) (λ task. refl)
+pub returns-in_ok-read_part-in-ReadPart : goal.returns-in_ok-read_part-in-ReadPart
+returns-in_ok-read_part-in-ReadPart c =
+    looked c.args.world.now c.args.name.now (Look c.args.grant) (look_permit (granted.ReadPart c.in-ReadPart.part))
+    (λ task called. ap look_permit c.in-ReadPart.is) _ tt
+    (λ task called. ap (λ told. Ok (Bytes told)) (sym c.in_ok-read_part-in-ReadPart.ensures.ok)) (λ task. refl)
 
-pub returns-in_ok-mounts-in-ToListMounts : goal.returns-in_ok-mounts-in-ToListMounts
-returns-in_ok-mounts-in-ToListMounts c =
-    looked c.args.world.now c.args.name.now c.args.permit _ (ToListMounts) c.in-ToListMounts.is
-    (λ task called. refl) _ tt
-    (λ task called. ap (λ told. Ok (MountList told)) (sym (c.in_ok-mounts-in-ToListMounts.ensures.ok task called)))
+pub returns-in_ok-mounts-in-ListMounts : goal.returns-in_ok-mounts-in-ListMounts
+returns-in_ok-mounts-in-ListMounts c =
+    looked c.args.world.now c.args.name.now (Look c.args.grant) (look_permit granted.ListMounts)
+    (λ task called. ap look_permit c.in-ListMounts.is) _ tt
+    (λ task called. ap (λ told. Ok (MountList told)) (sym (c.in_ok-mounts-in-ListMounts.ensures.ok task called)))
     (λ task. refl)

@@ -13,7 +13,7 @@ use Rattle.vt_detach.specs.NamespacesLeft.{AreDetached, Detached, is_attached_in
 use Rattle.vt_detach.specs.Uses.{kept}
 use Rattle.vt_detach.proofs.TypesAside.{gone_numbers}
 use Rattle.vt_detach.proofs.ending.end_namespace.Given as goal
-use Rattle.vt_mount_laws.specs.Mounts.Receivers.{AllGroupsLive}
+use Rattle.vt_laws_mounts.specs.Mounts.Receivers.{AllGroupsLive}
 
 -- those that are gone were detached one after the other, and have left their groups; the mounts that their detaching
 -- alone leaves differ in types only

@@ -1,20 +1,27 @@
-use Rattle.std.proofs.Common.{None, Some, ap, subst, sym, ◌∙◌, ◌<◌, IfSome}
+use Rattle.std.proofs.Common.{None, Some, ap, arith, refl, subst, sym, ◌∙◌, ◌<◌, IfSome}
 use Rattle.std.specs.Prelude.{option_copied}
 use Rattle.std.proofs.lemmas.Bool.{ltb-true}
-use Rattle.vt_detach.specs.WorldValue.{NamespaceEntry}
+use Rattle.std.proofs.lemmas.Bool.Decides.{nat_tests}
+use Rattle.vt_world.specs.WorldValue.{NamespaceEntry}
 use Rattle.vt_detach.proofs.NamespaceEntries.{entry_found}
 use Rattle.vt_ns.proofs.forking.has_room_for_task.Goals as goal
 
 pub returns-in-Some : goal.returns-in-Some
-returns-in-Some c = λ less.
-    subst (λ o. IfSome o (λ (entry : NamespaceEntry). entry.tasks < 18446744073709551615))
-    (sym (entry_found c.args.id.count c.args.namespaces.now.entries (Some c.in-Some.namespace.now)
-    (sym c.get.ensures.value ∙ ap option_copied c.in-Some.is)))
-    (ltb-true c.in-Some.namespace.now.tasks 18446744073709551615 less)
+returns-in-Some c =
+    let found = entry_found c.args.id.count c.args.namespaces.now.entries (Some c.in-Some.namespace.now)
+    (sym c.get.ensures.value ∙ ap option_copied c.in-Some.is) in (
+      λ less. subst (λ o. IfSome o (λ (entry : NamespaceEntry). entry.tasks < 18446744073709551615)) (sym found)
+          (ltb-true c.in-Some.namespace.now.tasks 18446744073709551615 less),
+      λ few. let less : c.in-Some.namespace.now.tasks < 18446744073709551615 =
+          subst (λ o. IfSome o (λ (entry : NamespaceEntry). entry.tasks < 18446744073709551615)) found few in
+          grind (arith, nat_tests),
+    )
 
 pub returns-in-None : goal.returns-in-None
-returns-in-None c = λ all.
-    subst (λ o. IfSome o (λ (entry : NamespaceEntry). entry.tasks < 18446744073709551615))
-    (sym (entry_found c.args.id.count c.args.namespaces.now.entries None
-    (sym c.get.ensures.value ∙ ap option_copied c.in-None.is)))
-    tt
+returns-in-None c = (
+  λ all. subst (λ o. IfSome o (λ (entry : NamespaceEntry). entry.tasks < 18446744073709551615))
+      (sym (entry_found c.args.id.count c.args.namespaces.now.entries None
+      (sym c.get.ensures.value ∙ ap option_copied c.in-None.is)))
+      tt,
+  λ few. refl,
+)

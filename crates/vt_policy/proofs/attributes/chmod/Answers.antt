@@ -1,6 +1,6 @@
 use Rattle.std.proofs.Common.{ap, nat_eq, sym, ◌∙◌}
 use Rattle.vt_spec.specs.Machine.Judge.{attr_permit, chmod_permit}
-use Rattle.vt_spec.specs.Machine.Outcome.Attributes.{attr_with_mode}
+use Rattle.vt_spec.specs.Machine.Attributes.{attr_with_mode}
 use Rattle.vt_spec.specs.Machine.Rules.Attributes.{attr_at}
 use Rattle.vt_spec.specs.Machine.Walking.{object_walk, walk_end}
 use Rattle.vt_spec.specs.Rights.{owns}

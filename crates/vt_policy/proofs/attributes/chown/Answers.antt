@@ -1,7 +1,7 @@
 use Rattle.std.proofs.Common.{◌≡◌, ap, nat_eq, sym, ◌∙◌}
 use Rattle.vt_spec.specs.declared.attributes.Attr.{Attr}
 use Rattle.vt_spec.specs.Machine.Judge.{attr_permit, chown_permit}
-use Rattle.vt_spec.specs.Machine.Outcome.Attributes.{attr_with_owner, may_chown}
+use Rattle.vt_spec.specs.Machine.Attributes.{attr_with_owner, may_chown}
 use Rattle.vt_spec.specs.Machine.Rules.Attributes.{attr_at}
 use Rattle.vt_spec.specs.Machine.Walking.{object_walk, walk_end}
 use Rattle.vt_location.specs.Locations.{location_of}

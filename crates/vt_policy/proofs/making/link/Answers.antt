@@ -2,7 +2,7 @@ use Rattle.std.proofs.Common.{Ok, ap, arith, false, is_some, nat_eq, not, rules,
 use Rattle.std.proofs.lemmas.Result.{err_from_is_err_and}
 use Rattle.vt_spec.specs.Language.Changes.Change.{AddName}
 use Rattle.vt_spec.specs.Machine.Judge.{hard_link_permit}
-use Rattle.vt_spec.specs.Machine.Outcome.Making.{linking}
+use Rattle.vt_spec.specs.Machine.Rows.{linking}
 use Rattle.vt_spec.specs.Machine.Permits.Permit.{ToChange}
 use Rattle.vt_spec.specs.Machine.Walking.{is_special, name_of}
 use Rattle.vt_location.proofs.NumberLemmas.{counted_test}

@@ -4,14 +4,12 @@ use Rattle.vt_spec.specs.Machine.Judge.{make_permit, mkdir_permit, unnumbered}
 use Rattle.vt_spec.specs.Machine.Permits.Permit.{ToMake}
 use Rattle.vt_spec.specs.Machine.Rules.Making.{make_rules}
 use Rattle.vt_spec.specs.Machine.Walking.{Place, is_special, name_of, new_walk, walk_end}
-use Rattle.vt_spec.specs.Tree.{Node}
+use Rattle.vt_spec.specs.Tree.{Node, new_directory}
 use Rattle.vt_tasks.specs.TaskValue.{task_of}
 use Rattle.vt_rules.proofs.Judged.{refused, without_memory}
 use Rattle.vt_policy.proofs.PlaceLemmas.{is_some_mapped, made_asked}
 use Rattle.vt_rules.proofs.Refusals.{unless-stopped}
-use Rattle.vt_spec.specs.Machine.Outcome.Making.{directory_mode}
-use Rattle.vt_spec.specs.Machine.Rows.{new_attr}
-use Rattle.vt_spec.specs.Tree.{new_directory}
+use Rattle.vt_spec.specs.Machine.Rows.{directory_mode, new_attr}
 use Rattle.vt_policy.proofs.making.mkdir.Goals as goal
 use Rattle.vt_spec.proofs.Refusals.{unless-let_through}
 

@@ -6,14 +6,13 @@ use Rattle.vt_spec.specs.Machine.Rules.Making.{make_rules}
 use Rattle.vt_spec.specs.Machine.Walking.{Place, is_special, name_of, new_leaf_walk, walk_end}
 use Rattle.vt_spec.specs.PathText.{is_empty}
 use Rattle.vt_spec.specs.Tree.{Node}
-use Rattle.vt_permits.specs.PermitValue.{node_in}
+use Rattle.vt_permits.specs.GrantValue.{node_in}
 use Rattle.vt_tasks.specs.TaskValue.{task_of}
 use Rattle.vt_rules.proofs.Judged.{refused, without_memory}
 use Rattle.vt_policy.proofs.PlaceLemmas.{is_some_mapped, made_asked}
 use Rattle.vt_rules.proofs.Refusals.{unless-stopped}
 use Rattle.vt_spec.specs.declared.errors.Rule.TheVariants.{W1, W2}
-use Rattle.vt_spec.specs.Machine.Outcome.Making.{symlink_mode}
-use Rattle.vt_spec.specs.Machine.Rows.{exact_attr}
+use Rattle.vt_spec.specs.Machine.Rows.{exact_attr, symlink_mode}
 use Rattle.vt_spec.specs.Tree.Content.{Symlink}
 use Rattle.vt_rules.proofs.Rows.{skipped}
 use Rattle.vt_policy.proofs.making.symlink.Goals as goal

@@ -1,7 +1,7 @@
 use Rattle.std.proofs.Common.{Ok, Some}
 use Rattle.std.proofs.lemmas.Result.{err_from_is_err_and}
 use Rattle.vt_spec.specs.Machine.Judge.{fork_permit}
-use Rattle.vt_spec.specs.Machine.Outcome.Tasks.{child_credentials}
+use Rattle.vt_spec.specs.Machine.Tasks.{child_credentials}
 use Rattle.vt_spec.specs.Machine.Permits.Permit.{ToFork}
 use Rattle.vt_spec.specs.Machine.Rules.Tasks.{fork_rules}
 use Rattle.vt_request.specs.Requests.{fork_words_of}

@@ -7,7 +7,7 @@ use Rattle.vt_propagate.specs.Seen.{IsSeen}
 use Rattle.vt_propagate.proofs.Found.{counts}
 use Rattle.vt_propagate.proofs.lazily.LazySteps.{IsTaken}
 use Rattle.vt_propagate.proofs.lazily.all_gone.Given as goal
-use Rattle.vt_mount_laws.specs.Mounts.Attaching.{numbers_of}
+use Rattle.vt_laws_mounts.specs.Mounts.Attaching.{numbers_of}
 
 -- the set is of the list, and the events that are left follow from what is gone
 abbrev pub invariant-loop-id : goal.invariant-loop-id

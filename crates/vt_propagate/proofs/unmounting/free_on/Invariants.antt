@@ -4,7 +4,7 @@ use Rattle.vt_mount.specs.MountsValue.{mounts_in}
 use Rattle.vt_propagate.specs.Going.{free_on}
 use Rattle.vt_propagate.proofs.Found.{counts}
 use Rattle.vt_propagate.proofs.unmounting.free_on.Given as goal
-use Rattle.vt_mount_laws.specs.Mounts.Attaching.{numbers_of}
+use Rattle.vt_laws_mounts.specs.Mounts.Attaching.{numbers_of}
 
 abbrev pub invariant-loop-receiver : goal.invariant-loop-receiver
 invariant-loop-receiver l =

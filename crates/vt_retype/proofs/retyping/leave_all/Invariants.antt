@@ -9,7 +9,7 @@ use Rattle.vt_retype.specs.Leaving.{OnlyTypesChange}
 use Rattle.vt_retype.specs.Retyping.{AreTypedBut, HaveNoSource}
 use Rattle.vt_retype.proofs.Left.{StillTyped}
 use Rattle.vt_retype.proofs.retyping.leave_all.Given as goal
-use Rattle.vt_mount_laws.specs.Mounts.Receivers.{AllGroupsLive}
+use Rattle.vt_laws_mounts.specs.Mounts.Receivers.{AllGroupsLive}
 
 -- those before have left
 abbrev pub invariant-loop-id : goal.invariant-loop-id

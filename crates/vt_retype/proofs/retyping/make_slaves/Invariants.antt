@@ -7,7 +7,7 @@ use Rattle.vt_group.specs.Together.{as_slave, with_changed}
 use Rattle.vt_retype.specs.Retyping.{AreTypedBut}
 use Rattle.vt_retype.proofs.Left.{ReTyped}
 use Rattle.vt_retype.proofs.retyping.make_slaves.Given as goal
-use Rattle.vt_mount_laws.specs.Mounts.Receivers.{AllGroupsLive}
+use Rattle.vt_laws_mounts.specs.Mounts.Receivers.{AllGroupsLive}
 
 -- those before are slaves, if they were members
 abbrev pub invariant-loop-id : goal.invariant-loop-id

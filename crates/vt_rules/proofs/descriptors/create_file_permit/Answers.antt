@@ -1,7 +1,7 @@
 use Rattle.std.proofs.Common.{rules, Ok, [], nat_eq, ◌∙◌}
 use Rattle.std.proofs.lemmas.Result.{err_from_is_err_and}
 use Rattle.vt_spec.specs.Machine.Judge.{create_file_permit, open_new_permit, unnumbered}
-use Rattle.vt_spec.specs.Machine.Outcome.Making.{new_file}
+use Rattle.vt_spec.specs.Machine.Rows.{new_file}
 use Rattle.vt_spec.specs.Machine.Rules.Making.{make_rules}
 use Rattle.vt_request.specs.Requests.{access_of}
 use Rattle.vt_tasks.specs.TaskValue.{task_of}

@@ -2,7 +2,7 @@ use Rattle.std.proofs.Common.{ap, arith, ◌∙◌}
 use Rattle.vt_spec.specs.Tree.{new_directory}
 use Rattle.vt_location.proofs.NumberLemmas.{exchanged_slot}
 use Rattle.vt_location.specs.Numbers.{exchanged}
-use Rattle.vt_permits.specs.PermitValue.{node_in}
+use Rattle.vt_permits.specs.GrantValue.{node_in}
 use Rattle.vt_rules.proofs.making.empty_directory.Goals as goal
 
 pub returns : goal.returns

@@ -2,7 +2,7 @@ use Rattle.std.proofs.Common.{rules, Ok, None, arith, le-ltb, length, nat_eq, â—
 use Rattle.std.proofs.lemmas.Result.{err_from_is_err_and}
 use Rattle.vt_spec.specs.declared.errors.Rule.TheVariants.{E6}
 use Rattle.vt_spec.specs.Machine.Judge.{make_permit, unnumbered, written_permit}
-use Rattle.vt_spec.specs.Machine.Outcome.Making.{file_mode, new_file}
+use Rattle.vt_spec.specs.Machine.Rows.{file_mode, new_file}
 use Rattle.vt_spec.specs.Machine.Rules.Making.{make_rules}
 use Rattle.vt_tasks.specs.TaskValue.{task_of}
 use Rattle.vt_rules.proofs.Judged.{refused, without_memory}

@@ -1,8 +1,9 @@
-use Rattle.std.proofs.Common.{◌≡◌, ◌⊎◌, ◌<◌, length, None, ap, sym, subst, ◌∙◌, Ok, Err}
+use Rattle.std.proofs.Common.{◌≡◌, ◌⊎◌, ◌<◌, length, None, ap, sym, subst, ◌∙◌, IsSomeAnd, Ok, Err}
 use Rattle.vt_spec.specs.Language.Printed.{reply_line}
 use Rattle.vt_spec.specs.Language.Script.{propagation, request_of}
 use Rattle.vt_io.specs.Sink.{Prints}
 use Rattle.vt_spec.specs.Language.Limits.{longest_line}
+use Rattle.vt_line.specs.Calls.{TakesMemory}
 use Rattle.vt_line.specs.Lines.{IsSilent, IsSpoken, IsReadingOf}
 use Rattle.vt_script.proofs.ReplyLemmas.{kept_whole, replied_silent, replies_call, replies_direct, replies_too_long, replies_unread}
 use Rattle.vt_script.proofs.GrammarLemmas.{line_had}
@@ -11,7 +12,7 @@ use Rattle.vt_script.proofs.session.answer.Goals as goal
 pub returns-then-is_overlong-clause-replies : goal.returns-then-is_overlong-clause-replies
 returns-then-is_overlong-clause-replies g c = λ text held.
     replies_too_long g.W.Sink c.write_reply.result
-    (g.C.Calls.world c.args.world.now) text c.args.line.now c.args.number _ _ held
+    (g.C.Calls.world c.args.world.now) text c.args.line.now c.args.number _ _ c.has_numbers.ensures held
     (sym c.is_overlong.ensures ∙ c.if-is_overlong.true)
     (subst (λ deny. Prints g.W.Sink
     (reply_line c.args.number (Err deny)) c.write_reply.result c.args.sink.now c.write_reply.new.sink)
@@ -21,7 +22,7 @@ pub returns-in-Ok-Silent-clause-replies : goal.returns-in-Ok-Silent-clause-repli
 returns-in-Ok-Silent-clause-replies g c = λ text held.
     let whole : c.bytes.result.now ≡ text = c.bytes.ensures
     ∙ kept_whole text c.args.line.now held (sym c.is_overlong.ensures ∙ c.if-is_overlong.false) in
-    replied_silent g.W.Sink _ text c.args.number _
+    replied_silent g.W.Sink _ text c.args.number _ c.has_numbers.ensures
     (subst IsSilent whole (c.in-Ok-Silent.ensures.silent.0 (ap Ok c.in-Ok-Silent.field-0-is)))
 
 pub returns-in-Ok-Call-clause-replies : goal.returns-in-Ok-Call-clause-replies
@@ -31,7 +32,7 @@ returns-in-Ok-Call-clause-replies g c = λ text held.
     let reading = subst (λ l. IsReadingOf l c.in-Ok-Call.field-0) whole c.in-Ok-Call.ensures.reading in
     let asks = subst (IsReadingOf text) c.in-Ok-Call.field-0-is reading in
     replies_call g.W.Sink g.C.Calls.world c.write_reply-in-Ok-Call.result c.args.world.now c.call-answer.new.self text c.args.number _ _ c.call-answer.result _ _
-    asks.0 asks.1 c.call-answer.ensures c.write_reply-in-Ok-Call.ensures.printed
+    asks.0 asks.1 c.call-answer.ensures.ends c.write_reply-in-Ok-Call.ensures.printed
 
 pub returns-in-Ok-Ask-clause-replies : goal.returns-in-Ok-Ask-clause-replies
 returns-in-Ok-Ask-clause-replies g c = λ text held.
@@ -55,5 +56,6 @@ returns-in-Err-clause-replies g c = λ text held.
     replies_unread g.W.Sink c.write_reply-in-Err.result (g.C.Calls.world c.args.world.now) text c.args.number c.in-Err.deny _ _ c.has_numbers.ensures c.in-Err.ensures.refused
     (λ is. subst (λ l. (longest_line < length l) ⊎ (IsSpoken l × (request_of propagation l ≡ None))) whole
     (c.in-Err.ensures.no_request.0 (ap Err is)))
-    (λ is. subst IsSpoken whole (c.in-Err.ensures.no_memory (ap Err is)).0)
+    (λ is. subst (λ l. IsSpoken l × IsSomeAnd (request_of propagation l) TakesMemory) whole
+    (c.in-Err.ensures.no_memory (ap Err is)))
     c.write_reply-in-Err.ensures.printed

@@ -18,7 +18,7 @@ returns-in_err-next-clause-value g c follow =
     rw (p.1, p.2) (word-refused looks task follow (here_of c.args.start)
     (here_of c.loop-word.here) c.args.words c.loop-word.words (c.loop-word.invariant.0 follow)
     c.in-Some.word.now c.next.new.self c.in-Some.ensures.steps _
-    (led-refused looks task (here_of c.loop-word.here) (last_of c.of.result) _ c.in_err-next.ensures
+    (led-refused looks task (here_of c.loop-word.here) (last_of c.of.result) _ c.in_err-next.ensures.value
     ∙ ap (word_walked looks task (here_of c.loop-word.here)) c.of.ensures))
 
 pub returns-in-Some-symlink_text-clause-value : goal.returns-in-Some-symlink_text-clause-value
@@ -31,11 +31,11 @@ returns-in-Some-symlink_text-clause-value g c follow =
     (c.loop-word.invariant.0 follow)
     c.in-Some.word.now c.next.new.self c.in-Some.ensures.steps next
     (led-walked looks task here (last_of c.of.result)
-    (location_of c.in_ok-next.next) next c.in_ok-next.ensures c.moved-here.ensures.value
+    (location_of c.in_ok-next.next.location) next c.in_ok-next.ensures.value c.moved-here.ensures.value
     ∙ ap (word_walked looks task here) c.of.ensures)
     c.in-Some-symlink_text.text.now
     (c.in-Some-symlink_text.ensures
-    ∙ text-there looks c.in_ok-next.next (option_copied c.node_on-node-in-Some.result) c.node_on-node-in-Some.ensures c.moved-here.result.location c.moved-here.ensures.location)
+    ∙ text-there looks c.in_ok-next.next.location (option_copied c.node_on-node-in-Some.result) c.node_on-node-in-Some.ensures c.moved-here.result.location c.moved-here.ensures.location)
 
 pub returns-in-Some-symlink_text-clause-left : goal.returns-in-Some-symlink_text-clause-left
 returns-in-Some-symlink_text-clause-left g c = ap (λ here. here.left) c.moved-here.ensures.value
@@ -51,20 +51,21 @@ loop-word-preserved g c =
           (c.loop-word.invariant.0 follow)
           c.in-Some.word.now c.next.new.self c.in-Some.ensures.steps next
           (led-walked looks task here (last_of c.of.result)
-          (location_of c.in_ok-next.next) next c.in_ok-next.ensures c.moved-here.ensures.value
+          (location_of c.in_ok-next.next.location) next c.in_ok-next.ensures.value c.moved-here.ensures.value
           ∙ ap (word_walked looks task here) c.of.ensures)
           (c.in_default-symlink_text.ensures
-          ∙ text-there looks c.in_ok-next.next (option_copied c.node_on-node-in-Some.result) c.node_on-node-in-Some.ensures c.moved-here.result.location c.moved-here.ensures.location)),
+          ∙ text-there looks c.in_ok-next.next.location (option_copied c.node_on-node-in-Some.result) c.node_on-node-in-Some.ensures c.moved-here.result.location c.moved-here.ensures.location)),
       ap (λ here. here.left) c.moved-here.ensures.value ∙ c.loop-word.invariant.1,
       rw c.moved-here.ensures.location (elim c.if-ne.branch [
         | then-ne w ↦ rw w.ground-is w.ground-ground-then-ne.ensures
         | else-ne w ↦ rw (
           w.ground-is,
-          same-mount c.in_ok-next.next.mount c.loop-word.here.location.mount
+          same-mount c.in_ok-next.next.location.mount c.loop-word.here.location.mount
               (sym c.ne.ensures ∙ w.if-ne.false),
         ) c.loop-word.invariant.2
       ]),
       rw c.moved-here.ensures.location c.node_on-node-in-Some.ensures,
+      rw c.moved-here.ensures.location c.in_ok-next.ensures.found,
     )
 
 pub returns-clause-value : goal.returns-clause-value

@@ -2,7 +2,7 @@ use Rattle.std.proofs.Common.{◌≡◌, option_copied}
 use Rattle.vt_looks.specs.Looking.{IsGround}
 use Rattle.vt_tasks.specs.TaskValue.{task_of}
 use Rattle.vt_walk.specs.PlainWalks.{Follow}
-use Rattle.vt_walk.specs.WalkValue.{IsNodeAt, here_of}
+use Rattle.vt_walk.specs.WalkValue.{IsFound, IsNodeAt, here_of}
 use Rattle.vt_walk.proofs.LeftToRight.{walked_on}
 use Rattle.vt_walk.proofs.steps.words_walked_to_link.Given as goal
 
@@ -13,3 +13,4 @@ invariant-loop-word g l =
     × (l.here.left ≡ l.fn.start.left)
     × IsGround (g.L.Look.looks l.world) l.here.location.mount l.ground
     × IsNodeAt (g.L.Look.looks l.world) l.here.location (option_copied l.node)
+    × IsFound (g.L.Look.looks l.world) l.here.location l.is_found

@@ -4,7 +4,7 @@ use Rattle.std.specs.Option.{option_copied_mut}
 use Rattle.vt_spec.specs.Language.Changes.Change.{SetBytes}
 use Rattle.vt_spec.specs.declared.attributes.Kind.TheVariants.{File}
 use Rattle.vt_spec.specs.FileTree.{is_kind_in}
-use Rattle.vt_spec.specs.Machine.Outcome.Descriptors.{overwritten}
+use Rattle.vt_spec.specs.Machine.Descriptors.{overwritten}
 use Rattle.vt_spec.specs.Tree.{bytes_in}
 use Rattle.vt_tree.specs.TreeValue.{tree_of}
 use Rattle.vt_fs.proofs.Standing.{changes, directory_there, kept, nothing_changes, plain_there, standing_of}

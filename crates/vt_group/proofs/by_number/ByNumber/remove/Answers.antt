@@ -1,29 +1,29 @@
-use Rattle.std.proofs.Common.{None, ap, cond, sym, ◌∙◌}
+use Rattle.std.proofs.Common.{None, ap, cond, refl, sym, ◌∙◌}
 use Rattle.std.specs.BTreeMap.{is_at}
 use Rattle.std.specs.Map.{remove_entry}
 use Rattle.std.specs.Option.{option_flatten}
 use Rattle.std.specs.Ordering.{nat_cmp}
-use Rattle.vt_group.specs.ByNumber.{entries_of, value_at}
+use Rattle.vt_group.specs.ByNumber.{value_at}
 use Rattle.vt_group.proofs.Reserving.{value_found, values_ascend, values_removed, values_updated}
 use Rattle.vt_group.proofs.by_number.ByNumber.remove.Goals as goal
 
 pub returns-clause-value : goal.returns-clause-value
 returns-clause-value g c =
-    c.flatten.ensures ∙ ap option_flatten c.remove.ensures.value
-    ∙ sym (value_found c.args.number c.self.inside.places.entries c.self.invariant)
+    c.flatten.ensures ∙ ap option_flatten c.swap_remove.ensures.value
+    ∙ sym (value_found c.args.number c.self.inside.places.entries)
     ∙ ap (λ map. value_at map c.args.number) c.self.view_is
 
 pub returns-clause-entries : goal.returns-clause-entries
 returns-clause-entries g c =
-    ap entries_of c.remove.ensures.entries
-    ∙ values_removed c.args.number c.self.inside.places.entries c.self.invariant
+    values_removed c.args.number c.self.inside.places.entries c.swap_remove.new.self.entries None
+    c.swap_remove.ensures.updates.0 refl
     ∙ ap (λ map. remove_entry (is_at (nat_cmp c.args.number)) map.entries) c.self.view_is
 
 pub returns-clause-updates : goal.returns-clause-updates
 returns-clause-updates g c other =
-    values_updated c.args.number c.self.inside.places.entries c.remove.new.self.entries c.self.invariant
-    c.remove.ensures.ordered None c.remove.ensures.updates.0 other
+    values_updated c.args.number c.self.inside.places.entries c.swap_remove.new.self.entries None
+    c.swap_remove.ensures.updates.0 other
     ∙ ap (λ map. cond (is_at (nat_cmp c.args.number) other) None (value_at map other)) c.self.view_is
 
 pub returns-clause-ordered : goal.returns-clause-ordered
-returns-clause-ordered g c = values_ascend c.remove.new.self.entries c.remove.ensures.ordered
+returns-clause-ordered g c = values_ascend c.swap_remove.new.self.entries

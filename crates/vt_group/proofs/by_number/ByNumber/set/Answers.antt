@@ -1,61 +1,57 @@
-use Rattle.std.proofs.Common.{Some, ap, cond, is_some, sym, true≢false, ◌∙◌}
+use Rattle.std.proofs.Common.{Some, ap, cond, is_some, refl, sym, true≢false, ◌∙◌}
 use Rattle.std.specs.BTreeMap.{insert_entry, is_at}
 use Rattle.std.specs.Option.{option_copied_mut}
 use Rattle.std.specs.Ordering.{nat_cmp}
-use Rattle.vt_group.specs.ByNumber.{entries_of, has_room, value_at}
+use Rattle.vt_group.specs.ByNumber.{has_room, value_at}
 use Rattle.vt_group.proofs.Reserving.{room_found, room_stays, values_ascend, values_set, values_updated}
 use Rattle.vt_group.proofs.by_number.ByNumber.set.Goals as goal
 
 pub returns-clause-entries : goal.returns-clause-entries
 returns-clause-entries g c =
-    let found = sym (room_found c.args.number c.self.inside.places.entries c.self.invariant)
+    let found = sym (room_found c.args.number c.self.inside.places.entries)
     ∙ ap (λ map. has_room map c.args.number) c.self.view_is ∙ c.requires in
-    ap entries_of (c.get_mut.follows.holds (Some c.args.value)).0
-    ∙ values_set c.args.number c.args.value c.self.inside.places.entries c.self.invariant found
+    values_set c.args.number c.self.inside.places.entries (c.get_mut.follows.lender (Some c.args.value)).entries
+    (Some (Some c.args.value)) ((c.get_mut.follows.holds (Some c.args.value)).3 found).0 c.args.value refl
     ∙ ap (λ map. insert_entry nat_cmp map.entries c.args.number c.args.value) c.self.view_is
 
 pub returns-clause-updates : goal.returns-clause-updates
 returns-clause-updates g c other =
-    let found = sym (room_found c.args.number c.self.inside.places.entries c.self.invariant)
+    let found = sym (room_found c.args.number c.self.inside.places.entries)
     ∙ ap (λ map. has_room map c.args.number) c.self.view_is ∙ c.requires in
-    let holds = c.get_mut.follows.holds (Some c.args.value) in
     values_updated c.args.number c.self.inside.places.entries (c.get_mut.follows.lender (Some c.args.value)).entries
-    c.self.invariant holds.4 (Some (Some c.args.value)) (holds.3 found).0 other
+    (Some (Some c.args.value)) ((c.get_mut.follows.holds (Some c.args.value)).3 found).0 other
     ∙ ap (λ map. cond (is_at (nat_cmp c.args.number) other) (Some c.args.value) (value_at map other)) c.self.view_is
 
 pub returns-clause-kept : goal.returns-clause-kept
 returns-clause-kept g c other room =
-    let holds = c.get_mut.follows.holds (Some c.args.value) in
-    room_stays c.self.inside.places.entries (c.get_mut.follows.lender (Some c.args.value)).entries c.self.invariant
-    holds.4 holds.1 other (ap (λ map. has_room map other) c.self.view_is ∙ room)
+    let found = sym (room_found c.args.number c.self.inside.places.entries)
+    ∙ ap (λ map. has_room map c.args.number) c.self.view_is ∙ c.requires in
+    room_stays c.args.number c.self.inside.places.entries (c.get_mut.follows.lender (Some c.args.value)).entries
+    (Some (Some c.args.value)) ((c.get_mut.follows.holds (Some c.args.value)).3 found).0 refl other
+    (ap (λ map. has_room map other) c.self.view_is ∙ room)
 
 pub returns-clause-ordered : goal.returns-clause-ordered
-returns-clause-ordered g c =
-    values_ascend (c.get_mut.follows.lender (Some c.args.value)).entries
-    (c.get_mut.follows.holds (Some c.args.value)).4
+returns-clause-ordered g c = values_ascend (c.get_mut.follows.lender (Some c.args.value)).entries
 
 -- there is room
 
 pub returns-in_default-clause-entries : goal.returns-in_default-clause-entries
 returns-in_default-clause-entries g c =
-    let found = sym (room_found c.args.number c.self.inside.places.entries c.self.invariant)
+    let found = sym (room_found c.args.number c.self.inside.places.entries)
     ∙ ap (λ map. has_room map c.args.number) c.self.view_is ∙ c.requires in
     absurd (true≢false (sym found ∙ ap is_some (sym c.get_mut.ensures.value ∙ ap option_copied_mut c.in_default.is)))
 
 pub returns-in_default-clause-updates : goal.returns-in_default-clause-updates
 returns-in_default-clause-updates g c other =
-    let found = sym (room_found c.args.number c.self.inside.places.entries c.self.invariant)
+    let found = sym (room_found c.args.number c.self.inside.places.entries)
     ∙ ap (λ map. has_room map c.args.number) c.self.view_is ∙ c.requires in
     absurd (true≢false (sym found ∙ ap is_some (sym c.get_mut.ensures.value ∙ ap option_copied_mut c.in_default.is)))
 
 pub returns-in_default-clause-ordered : goal.returns-in_default-clause-ordered
-returns-in_default-clause-ordered g c =
-    let found = sym (room_found c.args.number c.self.inside.places.entries c.self.invariant)
-    ∙ ap (λ map. has_room map c.args.number) c.self.view_is ∙ c.requires in
-    absurd (true≢false (sym found ∙ ap is_some (sym c.get_mut.ensures.value ∙ ap option_copied_mut c.in_default.is)))
+returns-in_default-clause-ordered g c = values_ascend c.get_mut.follows.lender-at-none.entries
 
 pub returns-in_default-clause-kept : goal.returns-in_default-clause-kept
 returns-in_default-clause-kept g c other room =
-    let found = sym (room_found c.args.number c.self.inside.places.entries c.self.invariant)
+    let found = sym (room_found c.args.number c.self.inside.places.entries)
     ∙ ap (λ map. has_room map c.args.number) c.self.view_is ∙ c.requires in
     absurd (true≢false (sym found ∙ ap is_some (sym c.get_mut.ensures.value ∙ ap option_copied_mut c.in_default.is)))

@@ -1,18 +1,13 @@
-use Rattle.std.proofs.Common.{◌≡◌, ◌<◌, ◌∷◌, ◌++◌, [], Bool, take, length-append, ap, arith, get_or, length, nat_eq, sym, true, ◌∙◌, ℕ}
+use Rattle.std.proofs.Common.{◌≡◌, ◌<◌, ◌∷◌, ◌++◌, ◌||◌, [], Bool, take, length-append, ap, arith, get_or, length, nat_eq, sym, true, ◌∙◌, ℕ}
 use Rattle.std.proofs.lemmas.List.{take_all}
-use Rattle.std.specs.Map.{lookup}
-use Rattle.std.specs.Prelude.{filter_map}
-use Rattle.vt_spec.specs.Lists.{or_else, then_some}
+use Rattle.vt_spec.specs.Machine.Mounts.{source_of}
 use Rattle.vt_location.specs.declared.numbers.GroupId.{GroupId}
-use Rattle.vt_location.specs.MountValue.{propagation_of}
 use Rattle.vt_location.specs.Numbers.{counted}
 use Rattle.vt_group.specs.Grouping.{propagation_in}
-use Rattle.vt_group.specs.Receiving.{is_in, kind_from, peer_from, type_from}
+use Rattle.vt_group.specs.Receiving.{is_in, receivers_from, receives_from}
 use Rattle.vt_group.specs.Steps.{group_number}
-use Rattle.vt_group.proofs.CountLemmas.{lookup-numbered}
-use Rattle.vt_group.proofs.groups.Ending.{entries_ended}
 use Rattle.vt_group.proofs.groups.Found.{each_more, few_found, in_at, in_longer, known_more, lower_more, reaches_more, taken_more}
-use Rattle.vt_group.proofs.groups.Relatives.{received}
+use Rattle.vt_group.proofs.groups.Relatives.{receivers_noted}
 use Rattle.vt_group.proofs.groups.Groups.receiving.Goals as goal
 
 pub loop-next-smaller : goal.loop-next-smaller
@@ -46,11 +41,11 @@ loop-next-preserved c =
       reaches = reaches_more groups group keys new next here there taken longer below known.reaches;
       lower = lower_more groups group keys new next here there taken longer below c.in_ok-add_lowers.ensures.all
           known.lower;
-      ordered = c.in_ok-add_relatives.ensures.ordered known.ordered;
       each = λ mount.
-          c.in_ok-add_relatives.ensures.each mount
-          ∙ ap (or_else (type_from groups (nat_eq (group_number here)) (counted mount))) (known.each mount)
-          ∙ each_more groups group keys new next here there taken longer below (propagation_in groups (counted mount));
+          c.in_ok-add_relatives.ensures mount
+          ∙ ap (λ b. receives_from groups (nat_eq (group_number here)) (counted mount) || b) (known.each mount)
+          ∙ each_more groups group keys new next here there taken longer below
+          (source_of (propagation_in groups (counted mount)));
     }
 
 pub returns : goal.returns
@@ -66,14 +61,11 @@ returns c =
         lower = λ one upper is inside. known.lower one upper is (ap (λ list. is_in list upper) all ∙ inside);
         reaches = known.reaches;
       },
-      entries_ended propagation_of (λ mount. kind_from found) c.self.inside.mounts.entries c.loop-next.types.entries
-          c.self.invariant.ordered known.ordered
+      receivers_noted found c.self.inside.mounts.entries c.put_in_order.new.mounts.items
+          c.self.invariant.ordered c.put_in_order.ensures.ordered
           (λ count.
-          let seen = sym (lookup-numbered propagation_of count c.self.inside.mounts.entries)
-          ∙ ap (λ groups. lookup (nat_eq (counted count)) groups.peers) c.self.view_is in
-          known.each count
-          ∙ ap (λ list. type_from groups (is_in list) (counted count)) all
-          ∙ sym (received found (lookup (nat_eq (counted count)) groups.peers))
-          ∙ ap (λ kind. then_some kind (kind_from found)) (sym seen))
-          ∙ ap (λ groups. filter_map (peer_from found) groups.peers) c.self.view_is,
+          c.put_in_order.ensures.same count ∙ known.each count
+          ∙ ap (λ list. receives_from groups (is_in list) (counted count)) all
+          ∙ ap (λ groups. receives_from groups found (counted count)) (sym c.self.view_is))
+          ∙ ap (λ groups. receivers_from found groups.peers) c.self.view_is,
     )

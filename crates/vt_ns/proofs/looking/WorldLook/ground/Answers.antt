@@ -6,7 +6,7 @@ use Rattle.vt_location.specs.Numbers.{counted}
 use Rattle.vt_mount.specs.MountsValue.{mounts_in}
 use Rattle.vt_ns.proofs.looking.LooksKept.{bare_top}
 use Rattle.vt_ns.proofs.looking.WorldLook.ground.Goals as goal
-use Rattle.vt_detach.specs.WorldValue.{WorldValue}
+use Rattle.vt_world.specs.WorldValue.{WorldValue}
 
 pub returns : goal.returns
 returns c =

@@ -2,7 +2,7 @@ use Rattle.std.proofs.Common.{ap, nat_eq, ◌∙◌}
 use Rattle.std.proofs.lemmas.Result.{IfOk-weaker}
 use Rattle.vt_spec.specs.Machine.Detach.{is_busy}
 use Rattle.vt_location.specs.Numbers.{counted}
-use Rattle.vt_detach.specs.WorldValue.{WorldValue, world_of}
+use Rattle.vt_world.specs.WorldValue.{WorldValue, world_of}
 use Rattle.vt_ns.specs.contracts.world.World.{the_view}
 use Rattle.vt_ns.proofs.WorldSeen.{uses_seen}
 use Rattle.vt_ns.proofs.mount_looks.WorldLookAtMounts.is_busy.Goals as goal

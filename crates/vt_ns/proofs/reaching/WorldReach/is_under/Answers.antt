@@ -1,6 +1,6 @@
 use Rattle.std.proofs.Common.{◌∙◌, ap, arith, subst, sym}
 use Rattle.vt_detach.proofs.LookLemmas.{parents_named_at}
-use Rattle.vt_detach.specs.Held.{IsHeld}
+use Rattle.vt_world.specs.Held.{IsHeld}
 use Rattle.vt_location.specs.Locations.{number_of}
 use Rattle.vt_location.specs.Numbers.{counted}
 use Rattle.vt_ns.specs.LyingUnder.{lies_under}

@@ -5,78 +5,81 @@ use Rattle.vt_propagate.specs.declared.copying.Counts.{Counts}
 use Rattle.vt_propagate.specs.declared.copying.Graft.{Graft}
 use Rattle.vt_spec.specs.Machine.Attach.{bind_tree, parts_of}
 use Rattle.vt_spec.specs.Machine.Invariants.{is_located_well}
-use Rattle.vt_spec.specs.Machine.Permits.Permit.{ToBind}
+use Rattle.vt_permits.specs.GrantValue.{attachment_permit}
+use Rattle.vt_permits.specs.declared.grant.Attachment.TheVariants.{Bind}
 use Rattle.vt_ns.specs.contracts.world.World.{the_view}
 use Rattle.vt_detach.specs.Events.{Becomes, Permits}
-use Rattle.vt_detach.specs.WorldValue.{WorldValue, world_of}
+use Rattle.vt_world.specs.WorldValue.{WorldValue, world_of}
 use Rattle.vt_attach.proofs.Binding.{bind_is_done, may_bind, source_there}
 use Rattle.vt_attach.proofs.GraftedDone.{grafted_value}
+use Rattle.vt_ns.specs.Counting.{counted_for}
+use Rattle.vt_ns.proofs.world.Counted.{counted_so}
 use Rattle.vt_ns.proofs.world.BoundEvents.{bind_place_there, parts_found, place_mounted}
 use Rattle.vt_ns.proofs.world.World.bind.Goals as goal
 
 pub mounts_bound-requires : goal.mounts_bound-requires
 mounts_bound-requires c =
     let permits : Permits (the_view c.self.inside) c.args.name.now
-    (ToBind (location_of c.args.source) (location_of c.args.place) c.args.recursive) =
+    (attachment_permit (Bind c.args.bind)) =
     subst (λ value. Permits value c.args.name.now
-    (ToBind (location_of c.args.source) (location_of c.args.place) c.args.recursive))
+    (attachment_permit (Bind c.args.bind)))
     (sym c.self.view_is) c.requires in
-    subst (λ (v : WorldValue). is_located_well nat_eq (world_of v) (location_of c.args.source) ≡ true) c.self.view_is
-    (source_there (the_view c.self.inside) c.self.invariant c.args.name.now c.args.source c.args.place c.args.recursive permits)
+    subst (λ (v : WorldValue). is_located_well nat_eq (world_of v) (location_of c.args.bind.source) ≡ true) c.self.view_is
+    (source_there (the_view c.self.inside) c.self.invariant c.args.name.now c.args.bind.source c.args.bind.destination c.args.bind.recursive permits)
 
 pub parts-requires : goal.parts-requires
 parts-requires c =
     let permits : Permits (the_view c.self.inside) c.args.name.now
-    (ToBind (location_of c.args.source) (location_of c.args.place) c.args.recursive) =
+    (attachment_permit (Bind c.args.bind)) =
     subst (λ value. Permits value c.args.name.now
-    (ToBind (location_of c.args.source) (location_of c.args.place) c.args.recursive))
+    (attachment_permit (Bind c.args.bind)))
     (sym c.self.view_is) c.requires in
-    place_mounted (the_view c.self.inside) c.args.place
-    (bind_place_there (the_view c.self.inside) c.self.invariant c.args.name.now c.args.source c.args.place c.args.recursive permits)
+    place_mounted (the_view c.self.inside) c.args.bind.destination
+    (bind_place_there (the_view c.self.inside) c.self.invariant c.args.name.now c.args.bind.source c.args.bind.destination c.args.bind.recursive permits)
 
 pub attach_graft-requires-clause-may : goal.attach_graft-requires-clause-may
 attach_graft-requires-clause-may c =
     let permits : Permits (the_view c.self.inside) c.args.name.now
-    (ToBind (location_of c.args.source) (location_of c.args.place) c.args.recursive) =
+    (attachment_permit (Bind c.args.bind)) =
     subst (λ value. Permits value c.args.name.now
-    (ToBind (location_of c.args.source) (location_of c.args.place) c.args.recursive))
+    (attachment_permit (Bind c.args.bind)))
     (sym c.self.view_is) c.requires in
     let value = the_view c.self.inside in
-    let graft : Graft = record { parts = c.deref.result; tree = c.deref-2.result; place = c.args.place; moves = false } in
+    let graft : Graft = record { parts = c.deref.result; tree = c.deref-2.result; place = c.args.bind.destination; moves = false } in
     let counts : Counts = record { first = c.self.inside.next; step = 1 } in
     let tree_is : map mount_of c.deref-2.result.now
-    ≡ bind_tree nat_eq (world_of value) (location_of c.args.source) c.args.recursive =
+    ≡ bind_tree nat_eq (world_of value) (location_of c.args.bind.source) c.args.bind.recursive =
     ap (map mount_of) c.deref-2.ensures.value ∙ c.in_ok-tree.ensures.ok
-    ∙ ap (λ (v : WorldValue). bind_tree nat_eq (world_of v) (location_of c.args.source) c.args.recursive)
+    ∙ ap (λ (v : WorldValue). bind_tree nat_eq (world_of v) (location_of c.args.bind.source) c.args.bind.recursive)
     (sym c.self.view_is) in
-    let parts_are : map mount_of c.deref.result.now ≡ parts_of nat_eq (world_of value) (location_of c.args.place) =
-    parts_found value c.args.self.now c.self.view_is c.self.invariant c.args.place c.in_ok-parts.parts.items c.deref.result.now c.deref.ensures.value c.in_ok-parts.ensures.ok in
-    may_bind value c.self.invariant c.args.name.now c.args.source c.args.recursive graft counts permits tree_is refl parts_are refl refl
+    let parts_are : map mount_of c.deref.result.now ≡ parts_of nat_eq (world_of value) (location_of c.args.bind.destination) =
+    parts_found value c.args.self.now c.self.view_is c.self.invariant c.args.bind.destination c.in_ok-parts.parts.items c.deref.result.now c.deref.ensures.value c.in_ok-parts.ensures.ok in
+    may_bind value c.self.invariant c.args.name.now c.args.bind.source c.args.bind.recursive graft counts permits tree_is refl parts_are refl refl
     c.are_ascending.ensures c.are_counted.ensures
 
 pub invariant_of-self-2 : goal.invariant_of-self-2
 invariant_of-self-2 c =
     let permits : Permits (the_view c.self.inside) c.args.name.now
-    (ToBind (location_of c.args.source) (location_of c.args.place) c.args.recursive) =
+    (attachment_permit (Bind c.args.bind)) =
     subst (λ value. Permits value c.args.name.now
-    (ToBind (location_of c.args.source) (location_of c.args.place) c.args.recursive))
+    (attachment_permit (Bind c.args.bind)))
     (sym c.self.view_is) c.requires in
     let value = the_view c.self.inside in
-    let graft : Graft = record { parts = c.deref.result; tree = c.deref-2.result; place = c.args.place; moves = false } in
+    let graft : Graft = record { parts = c.deref.result; tree = c.deref-2.result; place = c.args.bind.destination; moves = false } in
     let counts : Counts = record { first = c.self.inside.next; step = 1 } in
     let tree_is : map mount_of c.deref-2.result.now
-    ≡ bind_tree nat_eq (world_of value) (location_of c.args.source) c.args.recursive =
+    ≡ bind_tree nat_eq (world_of value) (location_of c.args.bind.source) c.args.bind.recursive =
     ap (map mount_of) c.deref-2.ensures.value ∙ c.in_ok-tree.ensures.ok
-    ∙ ap (λ (v : WorldValue). bind_tree nat_eq (world_of v) (location_of c.args.source) c.args.recursive)
+    ∙ ap (λ (v : WorldValue). bind_tree nat_eq (world_of v) (location_of c.args.bind.source) c.args.bind.recursive)
     (sym c.self.view_is) in
-    let parts_are : map mount_of c.deref.result.now ≡ parts_of nat_eq (world_of value) (location_of c.args.place) =
-    parts_found value c.args.self.now c.self.view_is c.self.invariant c.args.place c.in_ok-parts.parts.items c.deref.result.now c.deref.ensures.value c.in_ok-parts.ensures.ok in
+    let parts_are : map mount_of c.deref.result.now ≡ parts_of nat_eq (world_of value) (location_of c.args.bind.destination) =
+    parts_found value c.args.self.now c.self.view_is c.self.invariant c.args.bind.destination c.in_ok-parts.parts.items c.deref.result.now c.deref.ensures.value c.in_ok-parts.ensures.ok in
     let one : c.len.result ≡ length c.deref.result.now = let many = c.len.ensures in let alike = c.deref.ensures.len in omega (arith, many, alike) in
     let two : c.len-2.result ≡ length c.deref-2.result.now = let many = c.len-2.ensures in let alike = c.deref-2.ensures.len in omega (arith, many, alike) in
     let grows : c.self.inside.next + c.in-Some.taken
     ≡ value.next + 2 * (length c.deref.result.now * length c.deref-2.result.now) =
     ap (λ n. c.self.inside.next + n) (c.in-Some.ensures.count ∙ (λ i. 2 * (one i * two i))) in
-    (bind_is_done value c.self.invariant c.args.name.now c.args.source c.args.recursive graft counts permits tree_is refl parts_are refl refl
+    (bind_is_done value c.self.invariant c.args.name.now c.args.bind.source c.args.bind.recursive graft counts permits tree_is refl parts_are refl refl
     c.attach_graft.new.mounts c.attach_graft.new.groups c.attach_graft.new.filesystems
     (c.self.inside.next + c.in-Some.taken) c.in_ok-attach_graft.ensures.ok
     c.are_ascending.ensures c.are_counted.ensures grows).held
@@ -84,30 +87,51 @@ invariant_of-self-2 c =
 pub returns-clause-ok : goal.returns-clause-ok
 returns-clause-ok c =
     let permits : Permits (the_view c.self.inside) c.args.name.now
-    (ToBind (location_of c.args.source) (location_of c.args.place) c.args.recursive) =
+    (attachment_permit (Bind c.args.bind)) =
     subst (λ value. Permits value c.args.name.now
-    (ToBind (location_of c.args.source) (location_of c.args.place) c.args.recursive))
+    (attachment_permit (Bind c.args.bind)))
     (sym c.self.view_is) c.requires in
     let value = the_view c.self.inside in
-    let graft : Graft = record { parts = c.deref.result; tree = c.deref-2.result; place = c.args.place; moves = false } in
+    let graft : Graft = record { parts = c.deref.result; tree = c.deref-2.result; place = c.args.bind.destination; moves = false } in
     let counts : Counts = record { first = c.self.inside.next; step = 1 } in
     let tree_is : map mount_of c.deref-2.result.now
-    ≡ bind_tree nat_eq (world_of value) (location_of c.args.source) c.args.recursive =
+    ≡ bind_tree nat_eq (world_of value) (location_of c.args.bind.source) c.args.bind.recursive =
     ap (map mount_of) c.deref-2.ensures.value ∙ c.in_ok-tree.ensures.ok
-    ∙ ap (λ (v : WorldValue). bind_tree nat_eq (world_of v) (location_of c.args.source) c.args.recursive)
+    ∙ ap (λ (v : WorldValue). bind_tree nat_eq (world_of v) (location_of c.args.bind.source) c.args.bind.recursive)
     (sym c.self.view_is) in
-    let parts_are : map mount_of c.deref.result.now ≡ parts_of nat_eq (world_of value) (location_of c.args.place) =
-    parts_found value c.args.self.now c.self.view_is c.self.invariant c.args.place c.in_ok-parts.parts.items c.deref.result.now c.deref.ensures.value c.in_ok-parts.ensures.ok in
+    let parts_are : map mount_of c.deref.result.now ≡ parts_of nat_eq (world_of value) (location_of c.args.bind.destination) =
+    parts_found value c.args.self.now c.self.view_is c.self.invariant c.args.bind.destination c.in_ok-parts.parts.items c.deref.result.now c.deref.ensures.value c.in_ok-parts.ensures.ok in
     let one : c.len.result ≡ length c.deref.result.now = let many = c.len.ensures in let alike = c.deref.ensures.len in omega (arith, many, alike) in
     let two : c.len-2.result ≡ length c.deref-2.result.now = let many = c.len-2.ensures in let alike = c.deref-2.ensures.len in omega (arith, many, alike) in
     let grows : c.self.inside.next + c.in-Some.taken
     ≡ value.next + 2 * (length c.deref.result.now * length c.deref-2.result.now) =
     ap (λ n. c.self.inside.next + n) (c.in-Some.ensures.count ∙ (λ i. 2 * (one i * two i))) in
     subst (λ (v : WorldValue). Becomes v c.args.name.now
-    (ToBind (location_of c.args.source) (location_of c.args.place) c.args.recursive)
+    (attachment_permit (Bind c.args.bind))
     (grafted_value (the_view c.self.inside) c.attach_graft.new.mounts c.attach_graft.new.groups c.attach_graft.new.filesystems (c.self.inside.next + c.in-Some.taken)))
     c.self.view_is
-    (bind_is_done value c.self.invariant c.args.name.now c.args.source c.args.recursive graft counts permits tree_is refl parts_are refl refl
+    (bind_is_done value c.self.invariant c.args.name.now c.args.bind.source c.args.bind.recursive graft counts permits tree_is refl parts_are refl refl
     c.attach_graft.new.mounts c.attach_graft.new.groups c.attach_graft.new.filesystems
     (c.self.inside.next + c.in-Some.taken) c.in_ok-attach_graft.ensures.ok
     c.are_ascending.ensures c.are_counted.ensures grows).becomes
+
+pub returns-clause-counts : goal.returns-clause-counts
+returns-clause-counts c =
+    let value = the_view c.self.inside in
+    let tree_is : map mount_of c.deref-2.result.now
+    ≡ bind_tree nat_eq (world_of value) (location_of c.args.bind.source) c.args.bind.recursive =
+    ap (map mount_of) c.deref-2.ensures.value ∙ c.in_ok-tree.ensures.ok
+    ∙ ap (λ (v : WorldValue). bind_tree nat_eq (world_of v) (location_of c.args.bind.source) c.args.bind.recursive)
+    (sym c.self.view_is) in
+    let parts_are : map mount_of c.deref.result.now ≡ parts_of nat_eq (world_of value) (location_of c.args.bind.destination) =
+    parts_found value c.args.self.now c.self.view_is c.self.invariant c.args.bind.destination c.in_ok-parts.parts.items c.deref.result.now c.deref.ensures.value c.in_ok-parts.ensures.ok in
+    let one : c.len.result ≡ length c.deref.result.now = let many = c.len.ensures in let alike = c.deref.ensures.len in omega (arith, many, alike) in
+    let two : c.len-2.result ≡ length c.deref-2.result.now = let many = c.len-2.ensures in let alike = c.deref-2.ensures.len in omega (arith, many, alike) in
+    let grows : c.self.inside.next + c.in-Some.taken
+    ≡ value.next + 2 * (length c.deref.result.now * length c.deref-2.result.now) =
+    ap (λ n. c.self.inside.next + n) (c.in-Some.ensures.count ∙ (λ i. 2 * (one i * two i))) in
+    subst (λ (v : WorldValue). c.self.inside.next + c.in-Some.taken ≡ v.next + counted_for v (location_of c.args.bind.destination)
+    (bind_tree nat_eq (world_of v) (location_of c.args.bind.source) c.args.bind.recursive)) c.self.view_is
+    (counted_so value (location_of c.args.bind.destination) c.deref.result.now c.deref-2.result.now
+    (bind_tree nat_eq (world_of value) (location_of c.args.bind.source) c.args.bind.recursive)
+    (c.self.inside.next + c.in-Some.taken) parts_are tree_is grows)

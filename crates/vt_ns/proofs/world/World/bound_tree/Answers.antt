@@ -4,10 +4,10 @@ use Rattle.std.proofs.lemmas.List.{append-nil, nil_from_length}
 use Rattle.vt_location.specs.Locations.{location_of}
 use Rattle.vt_mount.proofs.PlaceLemmas.{counts, numbers}
 use Rattle.vt_mount.specs.MountsValue.{mounts_in}
-use Rattle.vt_mount_laws.proofs.mounts.MountsFound.{number_found}
+use Rattle.vt_laws_mounts.proofs.mounts.MountsFound.{number_found}
 use Rattle.vt_spec.specs.Machine.Attach.{bind_tree, bindable_children, bindable_tree, stands_under}
 use Rattle.vt_ns.specs.Trees.{bindable_to_come}
-use Rattle.vt_detach.specs.WorldValue.{world_of}
+use Rattle.vt_world.specs.WorldValue.{world_of}
 use Rattle.vt_ns.proofs.world.World.bound_tree.Goals as goal
 
 pub returns-then-not-recursive : goal.returns-then-not-recursive

@@ -4,7 +4,7 @@ use Rattle.vt_mount.proofs.PlaceLemmas.{counts}
 use Rattle.vt_mount.specs.MountsValue.{mounts_in}
 use Rattle.vt_spec.specs.Machine.Attach.{bind_tree}
 use Rattle.vt_ns.specs.Trees.{bindable_to_come}
-use Rattle.vt_detach.specs.WorldValue.{world_of}
+use Rattle.vt_world.specs.WorldValue.{world_of}
 use Rattle.vt_ns.proofs.world.World.bound_tree.Given as goal
 
 -- what is told, and then what is still to come, is the tree

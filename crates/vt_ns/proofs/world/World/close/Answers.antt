@@ -1,5 +1,5 @@
 use Rattle.std.proofs.Common.{sym, subst, ap, ◌∙◌, option_map}
-use Rattle.vt_letting_go.proofs.Lists.{passes}
+use Rattle.vt_laws_letting_go.proofs.Lists.{passes}
 use Rattle.vt_spec.specs.Machine.Permits.Permit.{ToClose}
 use Rattle.vt_tasks.specs.Open.{numbered}
 use Rattle.vt_tasks.specs.TasksValue.{has_files_in_order}

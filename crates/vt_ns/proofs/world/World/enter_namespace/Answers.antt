@@ -1,4 +1,4 @@
-use Rattle.std.proofs.Common.{ap, false, option_map, rules, subst, sym, ◌∙◌}
+use Rattle.std.proofs.Common.{ap, false, option_map, rules, subst, sym, true, ◌≡◌, ◌∙◌}
 use Rattle.vt_location.specs.Locations.{location_of}
 use Rattle.vt_location.specs.Numbers.{counted}
 use Rattle.vt_spec.specs.Machine.Permits.Permit.{ToEnterNamespace}
@@ -7,10 +7,12 @@ use Rattle.vt_ns.specs.contracts.world.World.{the_view}
 use Rattle.vt_detach.specs.Events.{Becomes, Permits}
 use Rattle.vt_detach.specs.NamespacesLeft.{MountsAreLeft, namespace_entry, with_one_task_less}
 use Rattle.vt_detach.specs.Uses.{kept, with_location, without_location}
-use Rattle.vt_detach.specs.WorldValue.{WorldValue, entries_of}
+use Rattle.vt_world.specs.WorldValue.{WorldValue, entries_of}
 use Rattle.vt_ns.proofs.CountingLemmas.{room_left}
 use Rattle.vt_detach.proofs.Entered.{namespace_has_a_root, task_enters}
+use Rattle.vt_ns.specs.Entering.{HasRoomToEnter}
 use Rattle.vt_ns.proofs.world.World.enter_namespace.Goals as goal
+use Rattle.vt_ns.proofs.world.World.enter_namespace.Goals.{then-not-has_room-via-then-not-has_room, then-not-has_room-via-else-not-has_room+then-not-has_room_for_task}
 
 pub unwrap-root-requires : goal.unwrap-root-requires
 unwrap-root-requires c =
@@ -22,7 +24,7 @@ unwrap-root-requires c =
 pub hold_once_more-requires-2 : goal.hold_once_more-requires-2
 hold_once_more-requires-2 c =
     room_left c.unwrap-root.result c.unwrap-root.result c.self.inside.mounts c.hold_once_more.new.mounts c.self.inside.filesystems c.hold_once_more.new.filesystems
-    (c.has_room_for_two.ensures (let room = c.if-not-has_room_for_two.false in search rules))
+    (c.has_room.ensures.0 (let room = c.if-not-has_room.false in search rules))
     c.hold_once_more.ensures.held
 
 pub invariant_of-self : goal.invariant_of-self
@@ -80,3 +82,16 @@ returns-in-Some-clause-ok c =
     (kept c.leave-in-Some.new.mounts c.leave-in-Some.new.filesystems) c.self.inside.groups
     (kept c.leave_namespace.new.mounts c.leave_namespace.new.filesystems) c.leave_namespace.new.groups)
     c.count_task.ensures c.leave_namespace.ensures.mounts)).becomes
+
+pub returns-then-not-has_room-clause-room : goal.returns-then-not-has_room-clause-room
+returns-then-not-has_room-clause-room c = λ room.
+    let here : HasRoomToEnter (the_view c.self.inside) c.args.namespace.count =
+    subst (λ value. HasRoomToEnter value c.args.namespace.count) (sym c.self.view_is) room in
+    let yes : c.has_room.result ≡ true = c.has_room.ensures.1 (here.root c.unwrap-root.result
+    (sym (ap (option_map location_of) c.unwrap-root.ensures) ∙ c.namespace_root.ensures)) in
+    elim c.then-not-has_room.branch [
+      | then-not-has_room-via-then-not-has_room w ↦ (let no = w.if-not-has_room.true in search rules)
+      | then-not-has_room-via-else-not-has_room+then-not-has_room_for_task w ↦
+          (let for_task = w.has_room_for_task.ensures.1 here.tasks in let no = w.if-not-has_room_for_task.true in
+          search rules)
+    ]

@@ -5,7 +5,7 @@ use Rattle.vt_ns.specs.contracts.world.World.{the_view}
 use Rattle.vt_detach.specs.Events.{Becomes, Permits}
 use Rattle.vt_detach.specs.NamespacesLeft.{without_file}
 use Rattle.vt_detach.specs.Uses.{kept, without_location}
-use Rattle.vt_detach.specs.WorldValue.{WorldValue, entries_of}
+use Rattle.vt_world.specs.WorldValue.{WorldValue, entries_of}
 use Rattle.vt_detach.proofs.Exiting.{task_exits}
 use Rattle.vt_ns.proofs.world.World.exit.Goals as goal
 

@@ -4,7 +4,7 @@ use Rattle.vt_tasks.specs.TaskValue.{task_of}
 use Rattle.vt_ns.specs.contracts.world.World.{the_view}
 use Rattle.vt_detach.specs.Events.{Becomes, Permits}
 use Rattle.vt_detach.specs.Uses.{with_location}
-use Rattle.vt_detach.specs.WorldValue.{entries_of}
+use Rattle.vt_world.specs.WorldValue.{entries_of}
 use Rattle.vt_ns.proofs.CountingLemmas.{room_left}
 use Rattle.vt_ns.proofs.world.ForkedTasks.{may_fork, task_is_forked}
 use Rattle.vt_ns.proofs.world.RemainingTasks.{remade_in}
@@ -19,8 +19,8 @@ pub hold_once_more-requires-2 : goal.hold_once_more-requires-2
 hold_once_more-requires-2 c =
     room_left c.in-Some.parent.now.root c.in-Some.parent.now.directory c.self.inside.mounts c.hold_once_more.new.mounts
     c.self.inside.filesystems c.hold_once_more.new.filesystems
-    (c.has_room_for_two-else-not-has_room_for_two.ensures
-    (let room = c.if-not-has_room_for_two-2.false in search rules))
+    (c.has_room-else-not-has_room.ensures.0
+    (let room = c.if-not-has_room-2.false in search rules))
     c.hold_once_more.ensures.held
 
 pub invariant_of-self-2 : goal.invariant_of-self-2

@@ -7,7 +7,7 @@ use Rattle.vt_mount.specs.MountsValue.{mounts_in}
 use Rattle.vt_propagate.specs.Filling.{GrowsBy}
 use Rattle.vt_spec.specs.Machine.Attach.{attached_by}
 use Rattle.vt_spec.specs.Machine.Mounts.{Mount, mount_in, mount_tree}
-use Rattle.vt_detach.specs.WorldValue.{WorldValue, world_of}
+use Rattle.vt_world.specs.WorldValue.{WorldValue, world_of}
 use Rattle.vt_ns.proofs.Overfilling.{absent_grows, moves_from, new, none_found, nowhere_moved, rest_kept, tree, tree_sized}
 use Rattle.vt_ns.proofs.world.World.has_too_many_moved.Goals as goal
 

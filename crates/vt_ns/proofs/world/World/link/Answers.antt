@@ -1,7 +1,8 @@
 use Rattle.std.proofs.Common.{sym, subst, arith, OnOk}
-use Rattle.vt_location.specs.Locations.{location_of, number_of}
+use Rattle.vt_location.specs.Locations.{number_of}
 use Rattle.vt_spec.specs.Language.Changes.Change.{AddName}
-use Rattle.vt_spec.specs.Machine.Permits.Permit.{ToChange}
+use Rattle.vt_permits.specs.GrantValue.{make_permit}
+use Rattle.vt_permits.specs.declared.grant.MakeGrant.TheVariants.{Link}
 use Rattle.vt_ns.specs.contracts.world.World.{the_view}
 use Rattle.vt_detach.specs.Events.{Becomes, Permits}
 use Rattle.vt_detach.proofs.ChangedFiles.{with_filesystems}
@@ -11,45 +12,40 @@ use Rattle.vt_ns.proofs.world.World.link.Goals as goal
 
 pub link-requires-clause-one_filesystem : goal.link-requires-clause-one_filesystem
 link-requires-clause-one_filesystem c =
-    linked_in (the_view c.self.inside) c.self.invariant c.args.name.now c.args.directory c.args.entry.items c.args.object (omega arith) (omega arith)
+    linked_in (the_view c.self.inside) c.self.invariant c.args.name.now c.args.new.directory c.args.new.name.items c.args.new.object (omega arith) (omega arith)
     (subst (λ value. Permits value c.args.name.now
-    (ToChange (location_of c.args.directory)
-    (AddName (number_of c.args.directory.node) c.args.entry.items (number_of c.args.object))))
+    (make_permit (Link c.args.new)))
     (sym c.self.view_is) c.requires)
 
 pub link-requires-clause-directory : goal.link-requires-clause-directory
 link-requires-clause-directory c =
-    (change_fits (the_view c.self.inside) c.self.invariant c.args.name.now c.args.directory (omega arith)
-    (AddName (number_of c.args.directory.node) c.args.entry.items (number_of c.args.object))
+    (change_fits (the_view c.self.inside) c.self.invariant c.args.name.now c.args.new.directory (omega arith)
+    (AddName (number_of c.args.new.directory.node) c.args.new.name.items (number_of c.args.new.object))
     (subst (λ value. Permits value c.args.name.now
-    (ToChange (location_of c.args.directory)
-    (AddName (number_of c.args.directory.node) c.args.entry.items (number_of c.args.object))))
+    (make_permit (Link c.args.new)))
     (sym c.self.view_is) c.requires)).0
 
 pub link-requires-clause-free : goal.link-requires-clause-free
 link-requires-clause-free c =
-    (change_fits (the_view c.self.inside) c.self.invariant c.args.name.now c.args.directory (omega arith)
-    (AddName (number_of c.args.directory.node) c.args.entry.items (number_of c.args.object))
+    (change_fits (the_view c.self.inside) c.self.invariant c.args.name.now c.args.new.directory (omega arith)
+    (AddName (number_of c.args.new.directory.node) c.args.new.name.items (number_of c.args.new.object))
     (subst (λ value. Permits value c.args.name.now
-    (ToChange (location_of c.args.directory)
-    (AddName (number_of c.args.directory.node) c.args.entry.items (number_of c.args.object))))
+    (make_permit (Link c.args.new)))
     (sym c.self.view_is) c.requires)).1
 
 pub link-requires-clause-object : goal.link-requires-clause-object
 link-requires-clause-object c =
-    (change_fits (the_view c.self.inside) c.self.invariant c.args.name.now c.args.directory (omega arith)
-    (AddName (number_of c.args.directory.node) c.args.entry.items (number_of c.args.object))
+    (change_fits (the_view c.self.inside) c.self.invariant c.args.name.now c.args.new.directory (omega arith)
+    (AddName (number_of c.args.new.directory.node) c.args.new.name.items (number_of c.args.new.object))
     (subst (λ value. Permits value c.args.name.now
-    (ToChange (location_of c.args.directory)
-    (AddName (number_of c.args.directory.node) c.args.entry.items (number_of c.args.object))))
+    (make_permit (Link c.args.new)))
     (sym c.self.view_is) c.requires)).2
 
 pub invariant_of-self : goal.invariant_of-self
 invariant_of-self c =
-    (link_is_answered (the_view c.self.inside) c.self.invariant c.args.name.now c.args.directory c.args.entry.items c.args.object (omega arith) (omega arith)
+    (link_is_answered (the_view c.self.inside) c.self.invariant c.args.name.now c.args.new.directory c.args.new.name.items c.args.new.object (omega arith) (omega arith)
     (subst (λ value. Permits value c.args.name.now
-    (ToChange (location_of c.args.directory)
-    (AddName (number_of c.args.directory.node) c.args.entry.items (number_of c.args.object))))
+    (make_permit (Link c.args.new)))
     (sym c.self.view_is) c.requires)
     c.link.new.self c.link.result c.link.ensures.ok c.link.ensures.err).held
 
@@ -57,12 +53,10 @@ pub returns-clause-ok : goal.returns-clause-ok
 returns-clause-ok c =
     subst (λ value. OnOk c.link.result
     (Becomes value c.args.name.now
-    (ToChange (location_of c.args.directory)
-    (AddName (number_of c.args.directory.node) c.args.entry.items (number_of c.args.object)))
+    (make_permit (Link c.args.new))
     (with_filesystems (the_view c.self.inside) c.link.new.self))) c.self.view_is
-    (link_is_answered (the_view c.self.inside) c.self.invariant c.args.name.now c.args.directory c.args.entry.items c.args.object (omega arith) (omega arith)
+    (link_is_answered (the_view c.self.inside) c.self.invariant c.args.name.now c.args.new.directory c.args.new.name.items c.args.new.object (omega arith) (omega arith)
     (subst (λ value. Permits value c.args.name.now
-    (ToChange (location_of c.args.directory)
-    (AddName (number_of c.args.directory.node) c.args.entry.items (number_of c.args.object))))
+    (make_permit (Link c.args.new)))
     (sym c.self.view_is) c.requires)
     c.link.new.self c.link.result c.link.ensures.ok c.link.ensures.err).ok

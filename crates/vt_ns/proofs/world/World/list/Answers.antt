@@ -5,7 +5,7 @@ use Rattle.vt_spec.specs.Machine.World.{node_at}
 use Rattle.vt_spec.specs.Tree.{names_in}
 use Rattle.vt_ns.specs.contracts.world.World.{the_view}
 use Rattle.vt_detach.specs.Events.{Permits}
-use Rattle.vt_detach.specs.WorldValue.{world_of}
+use Rattle.vt_world.specs.WorldValue.{world_of}
 use Rattle.vt_ns.proofs.world.FilesRead.{listed_node}
 use Rattle.vt_ns.proofs.world.World.list.Goals as goal
 

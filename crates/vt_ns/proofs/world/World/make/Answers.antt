@@ -1,7 +1,6 @@
 use Rattle.std.proofs.Common.{sym, subst, arith}
-use Rattle.vt_fs.specs.FilesystemsValue.{node_seen}
-use Rattle.vt_location.specs.Locations.{location_of}
-use Rattle.vt_spec.specs.Machine.Permits.Permit.{ToMake}
+use Rattle.vt_permits.specs.GrantValue.{make_permit}
+use Rattle.vt_permits.specs.declared.grant.MakeGrant.TheVariants.{Node}
 use Rattle.vt_ns.specs.contracts.world.World.{the_view}
 use Rattle.vt_detach.specs.Events.{Becomes, Permits}
 use Rattle.vt_detach.proofs.ChangedFiles.{with_filesystems}
@@ -10,36 +9,32 @@ use Rattle.vt_ns.proofs.world.World.make.Goals as goal
 
 pub create-requires-clause-directory : goal.create-requires-clause-directory
 create-requires-clause-directory c =
-    (make_fits (the_view c.self.inside) c.self.invariant c.args.name.now c.args.directory c.args.entry.items c.args.node
+    (make_fits (the_view c.self.inside) c.self.invariant c.args.name.now c.args.new.directory c.args.new.name.items c.args.new.node
     (omega arith)
     (subst (λ value. Permits value c.args.name.now
-    (ToMake (location_of c.args.directory) c.args.entry.items
-    (node_seen c.args.directory.node.filesystem.count c.args.node)))
+    (make_permit (Node c.args.new)))
     (sym c.self.view_is) c.requires)).0
 
 pub create-requires-clause-free : goal.create-requires-clause-free
 create-requires-clause-free c =
-    (make_fits (the_view c.self.inside) c.self.invariant c.args.name.now c.args.directory c.args.entry.items c.args.node
+    (make_fits (the_view c.self.inside) c.self.invariant c.args.name.now c.args.new.directory c.args.new.name.items c.args.new.node
     (omega arith)
     (subst (λ value. Permits value c.args.name.now
-    (ToMake (location_of c.args.directory) c.args.entry.items
-    (node_seen c.args.directory.node.filesystem.count c.args.node)))
+    (make_permit (Node c.args.new)))
     (sym c.self.view_is) c.requires)).1
 
 pub create-requires-clause-node : goal.create-requires-clause-node
 create-requires-clause-node c =
-    new_in_directory (the_view c.self.inside) c.self.invariant c.args.name.now c.args.directory c.args.entry.items c.args.node (omega arith)
+    new_in_directory (the_view c.self.inside) c.self.invariant c.args.name.now c.args.new.directory c.args.new.name.items c.args.new.node (omega arith)
     (subst (λ value. Permits value c.args.name.now
-    (ToMake (location_of c.args.directory) c.args.entry.items
-    (node_seen c.args.directory.node.filesystem.count c.args.node)))
+    (make_permit (Node c.args.new)))
     (sym c.self.view_is) c.requires)
 
 pub invariant_of-self-2 : goal.invariant_of-self-2
 invariant_of-self-2 c =
-    (make_is_done (the_view c.self.inside) c.self.invariant c.args.name.now c.args.directory c.args.entry.items c.args.node (omega arith)
+    (make_is_done (the_view c.self.inside) c.self.invariant c.args.name.now c.args.new.directory c.args.new.name.items c.args.new.node (omega arith)
     (subst (λ value. Permits value c.args.name.now
-    (ToMake (location_of c.args.directory) c.args.entry.items
-    (node_seen c.args.directory.node.filesystem.count c.args.node)))
+    (make_permit (Node c.args.new)))
     (sym c.self.view_is) c.requires)
     c.create.new.self c.in_ok-create.field-0
     (omega arith) c.in_ok-create.ensures.filesystem c.in_ok-create.ensures.number c.in_ok-create.ensures.ok).held
@@ -47,13 +42,11 @@ invariant_of-self-2 c =
 pub returns-clause-ok : goal.returns-clause-ok
 returns-clause-ok c =
     subst (λ value. Becomes value c.args.name.now
-    (ToMake (location_of c.args.directory) c.args.entry.items
-    (node_seen c.args.directory.node.filesystem.count c.args.node))
+    (make_permit (Node c.args.new))
     (with_filesystems (the_view c.self.inside) c.create.new.self)) c.self.view_is
-    (make_is_done (the_view c.self.inside) c.self.invariant c.args.name.now c.args.directory c.args.entry.items c.args.node (omega arith)
+    (make_is_done (the_view c.self.inside) c.self.invariant c.args.name.now c.args.new.directory c.args.new.name.items c.args.new.node (omega arith)
     (subst (λ value. Permits value c.args.name.now
-    (ToMake (location_of c.args.directory) c.args.entry.items
-    (node_seen c.args.directory.node.filesystem.count c.args.node)))
+    (make_permit (Node c.args.new)))
     (sym c.self.view_is) c.requires)
     c.create.new.self c.in_ok-create.field-0
     (omega arith) c.in_ok-create.ensures.filesystem c.in_ok-create.ensures.number c.in_ok-create.ensures.ok).becomes

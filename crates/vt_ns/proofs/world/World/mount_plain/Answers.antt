@@ -7,15 +7,16 @@ use Rattle.vt_propagate.specs.declared.copying.Counts.{Counts}
 use Rattle.vt_propagate.specs.declared.copying.Graft.{Graft}
 use Rattle.vt_spec.specs.Machine.Attach.{parts_of}
 use Rattle.vt_spec.specs.Machine.Mounts as meant
-use Rattle.vt_spec.specs.Machine.Outcome.Mounting.{new_mount}
+use Rattle.vt_spec.specs.Machine.NewMounts.{new_mount}
 use Rattle.vt_spec.specs.Machine.Permits.Permit.{ToMountPlain}
 use Rattle.vt_ns.specs.contracts.world.World.{the_view}
 use Rattle.vt_detach.specs.Events.{Becomes, Permits}
-use Rattle.vt_detach.specs.WorldValue.{WorldValue, world_of}
+use Rattle.vt_world.specs.WorldValue.{WorldValue, world_of}
 use Rattle.vt_attach.proofs.GraftedDone.{grafted_value}
 use Rattle.vt_attach.proofs.NewBase.{destination_there}
 use Rattle.vt_attach.proofs.NewFilesystems.{next_is_above}
 use Rattle.vt_attach.proofs.NewMounts.{may_mount, new_mount_is_done}
+use Rattle.vt_ns.proofs.world.Counted.{as_many_mounts}
 use Rattle.vt_ns.proofs.world.BoundEvents.{parts_found, place_mounted}
 use Rattle.vt_ns.proofs.world.World.mount_plain.Goals as goal
 
@@ -129,3 +130,17 @@ returns-clause-ok c =
     c.are_ascending.ensures c.are_counted.ensures made.0 made.1
     c.mount_new.new.mounts c.mount_new.new.groups c.mount_new.new.filesystems
     (c.self.inside.next + c.in-Some.taken) made.2 grows).becomes
+
+pub returns-clause-counts : goal.returns-clause-counts
+returns-clause-counts c =
+    let value = the_view c.self.inside in
+    let parts_are : map mount_of c.deref.result.now ≡ parts_of nat_eq (world_of value) (location_of c.args.place) =
+    parts_found value c.args.self.now c.self.view_is c.self.invariant c.args.place c.in_ok-parts.parts.items c.deref.result.now c.deref.ensures.value c.in_ok-parts.ensures.ok in
+    let one : c.len.result ≡ length c.deref.result.now = let many = c.len.ensures in let alike = c.deref.ensures.len in omega (arith, many, alike) in
+    let grows : c.self.inside.next + c.in-Some.taken ≡ value.next + 2 * (length c.deref.result.now * 2) =
+    ap (λ n. c.self.inside.next + n) (c.in-Some.ensures.count ∙ (λ i. 2 * (one i * 2))) in
+    let parts = as_many_mounts c.deref.result.now (parts_of nat_eq (world_of value) (location_of c.args.place))
+    parts_are in
+    subst (λ (v : WorldValue). c.self.inside.next + c.in-Some.taken
+    ≡ v.next + 4 * length (parts_of nat_eq (world_of v) (location_of c.args.place))) c.self.view_is
+    (omega (arith, grows, parts))

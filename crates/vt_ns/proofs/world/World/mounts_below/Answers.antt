@@ -1,15 +1,30 @@
-use Rattle.std.proofs.Common.{ap, is_some, map, nat_eq, true, sym, ◌≡◌, ◌∙◌}
+use Rattle.std.proofs.Common.{None, Option, Some, ap, find, is_some, map, nat_eq, refl, sym, true, unwrap_or, ℕ, ◌≡◌, ◌∙◌}
 use Rattle.std.specs.Prelude.{option_map}
 use Rattle.vt_location.specs.MountValue.{mount_of}
 use Rattle.vt_location.specs.Numbers.{counted}
 use Rattle.vt_mount.specs.MountsValue.{mounts_in}
-use Rattle.vt_spec.specs.Machine.Mounts.{mount_tree}
+use Rattle.vt_spec.specs.Machine.Mounts.{Mount, mount_tree, no_mount}
 use Rattle.vt_spec.specs.Machine.World.{mount_numbered}
 use Rattle.vt_ns.specs.contracts.world.World.{the_view}
 use Rattle.vt_mount.specs.Attached.{AreOf}
-use Rattle.vt_detach.specs.WorldValue.{WorldValue, world_of}
+use Rattle.vt_world.specs.WorldValue.{WorldValue, world_of}
+use Rattle.vt_detach.proofs.Shown.{is_some_mapped}
 use Rattle.vt_ns.proofs.world.MovedEvents.{tree_below}
 use Rattle.vt_ns.proofs.world.World.mounts_below.Goals as goal
+
+-- a mount that is in a namespace is there
+found_there : (number : ℕ) (found : Option (Mount ℕ))
+    → is_some (unwrap_or found (no_mount number)).namespace ≡ true → is_some found ≡ true
+found_there number None e = cc
+found_there number (Some mount) e = refl
+
+pub unwrap-top-requires : goal.unwrap-top-requires
+unwrap-top-requires c =
+    let number = counted c.args.mount.count in
+    sym (is_some_mapped mount_of c.get.result) ∙ ap is_some c.get.ensures
+    ∙ found_there number (find (λ mount. nat_eq number mount.number) (mounts_in c.self.inside.mounts))
+    (ap (λ (v : WorldValue). is_some (mount_numbered nat_eq (world_of v) number).namespace)
+    c.self.view_is ∙ c.requires)
 
 pub returns-clause-ok : goal.returns-clause-ok
 returns-clause-ok c =
@@ -21,7 +36,7 @@ returns-clause-ok c =
     (mount_tree nat_eq (mounts_in value.mounts) (mount_numbered nat_eq (world_of value) (counted c.args.mount.count))) =
     ap (map (λ id. counted id.count)) c.deref.ensures.value ∙ c.in_ok-origins.ensures.ok in
     c.in-Ok.ensures
-    ∙ tree_below value (counted c.args.mount.count) there c.are_ascending.ensures c.in-Some.top
-    (sym (ap (option_map mount_of) c.in-Some.is) ∙ c.get.ensures) c.deref.result.now are
+    ∙ tree_below value (counted c.args.mount.count) there c.are_ascending.ensures c.unwrap-top.result
+    (sym (ap (option_map mount_of) c.unwrap-top.ensures) ∙ c.get.ensures) c.deref.result.now are
     ∙ ap (λ (v : WorldValue). mount_tree nat_eq (mounts_in v.mounts)
     (mount_numbered nat_eq (world_of v) (counted c.args.mount.count))) c.self.view_is

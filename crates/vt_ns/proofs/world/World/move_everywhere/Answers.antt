@@ -11,9 +11,11 @@ use Rattle.vt_spec.specs.Machine.World.{mount_at, mount_numbered}
 use Rattle.vt_spec.specs.Machine.Permits.Permit.{ToMove}
 use Rattle.vt_ns.specs.contracts.world.World.{the_view}
 use Rattle.vt_detach.specs.Events.{Becomes, Permits}
-use Rattle.vt_detach.specs.WorldValue.{WorldValue, world_of}
+use Rattle.vt_world.specs.WorldValue.{WorldValue, world_of}
 use Rattle.vt_attach.proofs.GraftedDone.{grafted_value}
 use Rattle.vt_attach.proofs.MovedDone.{may_move, move_is_done}
+use Rattle.vt_ns.specs.Counting.{counted_for}
+use Rattle.vt_ns.proofs.world.Counted.{counted_so}
 use Rattle.vt_ns.proofs.world.BoundEvents.{parts_found, place_mounted}
 use Rattle.vt_ns.proofs.world.MovedEvents.{move_place_there, moved_there}
 use Rattle.vt_ns.proofs.world.World.move_everywhere.Goals as goal
@@ -144,3 +146,31 @@ returns-clause-ok c =
     parts_are refl refl shared c.move_tree.new.mounts c.move_tree.new.groups c.move_tree.new.filesystems
     (c.self.inside.next + c.in-Some.taken) c.in_ok-move_tree.ensures.ok c.are_ascending.ensures c.are_counted.ensures
     grows).becomes
+
+pub returns-clause-counts : goal.returns-clause-counts
+returns-clause-counts c =
+    let value = the_view c.self.inside in
+    let tree_is : map mount_of c.deref-2.result.now
+    ≡ mount_tree nat_eq (mounts_in value.mounts)
+    (mount_numbered nat_eq (world_of value) (counted c.args.mount.count)) =
+    ap (map mount_of) c.deref-2.ensures.value ∙ c.in_ok-tree.ensures.ok
+    ∙ ap (λ (v : WorldValue). mount_tree nat_eq (mounts_in v.mounts)
+    (mount_numbered nat_eq (world_of v) (counted c.args.mount.count)))
+    (sym c.self.view_is) in
+    let parts_are : map mount_of c.deref.result.now ≡ parts_of nat_eq (world_of value) (location_of c.args.place) =
+    parts_found value c.args.self.now c.self.view_is c.self.invariant c.args.place c.in_ok-parts.parts.items c.deref.result.now c.deref.ensures.value c.in_ok-parts.ensures.ok in
+    let one : c.len.result
+    ≡ length c.deref.result.now = let many = c.len.ensures in let alike = c.deref.ensures.len in omega
+    (arith, many, alike) in
+    let two : c.len-2.result
+    ≡ length c.deref-2.result.now = let many = c.len-2.ensures in let alike = c.deref-2.ensures.len in omega
+    (arith, many, alike) in
+    let grows : c.self.inside.next + c.in-Some.taken
+    ≡ value.next + 2 * (length c.deref.result.now * length c.deref-2.result.now) =
+    ap (λ n. c.self.inside.next + n) (c.in-Some.ensures.count ∙ (λ i. 2 * (one i * two i))) in
+    subst (λ (v : WorldValue). c.self.inside.next + c.in-Some.taken ≡ v.next + counted_for v (location_of c.args.place)
+    (mount_tree nat_eq (mounts_in v.mounts)
+    (mount_numbered nat_eq (world_of v) (counted c.args.mount.count)))) c.self.view_is
+    (counted_so value (location_of c.args.place) c.deref.result.now c.deref-2.result.now
+    (mount_tree nat_eq (mounts_in value.mounts) (mount_numbered nat_eq (world_of value) (counted c.args.mount.count)))
+    (c.self.inside.next + c.in-Some.taken) parts_are tree_is grows)

@@ -1,7 +1,7 @@
 use Rattle.std.proofs.Common.{ap, ◌∙◌}
 use Rattle.vt_location.specs.declared.numbers.FilesystemId.{FilesystemId}
 use Rattle.vt_attach.specs.Opening.{first_shown}
-use Rattle.vt_detach.specs.WorldValue.{entries_of}
+use Rattle.vt_world.specs.WorldValue.{entries_of}
 use Rattle.vt_attach.proofs.OpeningLemmas.{mounts_made, namespaces_made, opening_held, opening_seen, tasks_made}
 use Rattle.vt_ns.proofs.world.World.new.Goals as goal
 

@@ -5,7 +5,7 @@ use Rattle.vt_location.specs.Locations.{location_of}
 use Rattle.vt_location.specs.Numbers.{counted, inode_number}
 use Rattle.vt_ns.specs.contracts.world.World.{the_view}
 use Rattle.vt_ns.specs.Vacancy.{NextInodeIsVacant}
-use Rattle.vt_detach.specs.WorldValue.{world_of}
+use Rattle.vt_world.specs.WorldValue.{world_of}
 use Rattle.vt_ns.proofs.world.VacantNumbers.{next_is_vacant, none_is_vacant}
 use Rattle.vt_ns.proofs.world.World.next_inode_is_vacant.Goals as goal
 

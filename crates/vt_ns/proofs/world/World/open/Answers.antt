@@ -16,30 +16,30 @@ open-requires c =
     (subst (λ value. Permits value c.args.name.now (ToOpen (location_of c.args.file) (access_of c.args.access)))
     (sym c.self.view_is) c.requires)
 
-pub invariant_of-self-in_default : goal.invariant_of-self-in_default
-invariant_of-self-in_default c =
+pub invariant_of-self-2 : goal.invariant_of-self-2
+invariant_of-self-2 c =
     (file_is_opened (the_view c.self.inside) c.args.name.now
-    (record { location = c.args.file; access = c.args.access }) c.hold.new.mounts c.hold.new.filesystems c.open.new.self
+    (record { location = c.args.file; access = c.args.access }) c.hold_once_more.new.mounts c.hold_once_more.new.filesystems c.open.new.self
     c.self.invariant
     (subst (λ value. Permits value c.args.name.now (ToOpen (location_of c.args.file) (access_of c.args.access)))
     (sym c.self.view_is) c.requires)
     (nothing_copied (the_view c.self.inside) (location_of c.args.file) (access_of c.args.access))
-    c.hold.ensures.slot
+    c.hold_once_more.ensures.slot
     c.in_ok-number.ensures.ok
-    (c.in_default.ensures.ok ∙ ap (λ writes.
+    (c.hold_once_more.ensures.held ∙ ap (λ writes.
     with_location c.args.file writes (kept c.self.inside.mounts c.self.inside.filesystems)) c.writes.ensures)).held
 
 pub returns-clause-ok : goal.returns-clause-ok
 returns-clause-ok c =
     subst (λ value. Becomes value c.args.name.now (ToOpen (location_of c.args.file) (access_of c.args.access))
-    (remade (the_view c.self.inside) c.hold.new.mounts c.hold.new.filesystems c.open.new.self)) c.self.view_is
+    (remade (the_view c.self.inside) c.hold_once_more.new.mounts c.hold_once_more.new.filesystems c.open.new.self)) c.self.view_is
     (file_is_opened (the_view c.self.inside) c.args.name.now
-    (record { location = c.args.file; access = c.args.access }) c.hold.new.mounts c.hold.new.filesystems c.open.new.self
+    (record { location = c.args.file; access = c.args.access }) c.hold_once_more.new.mounts c.hold_once_more.new.filesystems c.open.new.self
     c.self.invariant
     (subst (λ value. Permits value c.args.name.now (ToOpen (location_of c.args.file) (access_of c.args.access)))
     (sym c.self.view_is) c.requires)
     (nothing_copied (the_view c.self.inside) (location_of c.args.file) (access_of c.args.access))
-    c.hold.ensures.slot
+    c.hold_once_more.ensures.slot
     c.in_ok-number.ensures.ok
-    (c.in_default.ensures.ok ∙ ap (λ writes.
+    (c.hold_once_more.ensures.held ∙ ap (λ writes.
     with_location c.args.file writes (kept c.self.inside.mounts c.self.inside.filesystems)) c.writes.ensures)).becomes

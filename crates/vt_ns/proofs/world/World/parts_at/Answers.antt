@@ -1,7 +1,7 @@
 use Rattle.std.proofs.Common.{refl, subst}
 use Rattle.std.proofs.lemmas.Result.{IfOk-weaker}
 use Rattle.vt_propagate.specs.Seen.{IsSeen}
-use Rattle.vt_detach.specs.WorldValue.{world_of}
+use Rattle.vt_world.specs.WorldValue.{world_of}
 use Rattle.vt_ns.specs.contracts.world.World.{the_view}
 use Rattle.vt_ns.proofs.world.World.parts_at.Goals as goal
 use Rattle.vt_attach.proofs.Binding.{is_seen}

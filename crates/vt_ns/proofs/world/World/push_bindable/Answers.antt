@@ -6,9 +6,9 @@ use Rattle.vt_location.specs.Numbers.{counted}
 use Rattle.vt_mount.proofs.PlaceLemmas.{numbers}
 use Rattle.vt_mount.specs.MountsValue.{mounts_in}
 use Rattle.vt_spec.specs.Machine.Mounts.{children}
-use Rattle.vt_detach.specs.Held.{IsHeld}
+use Rattle.vt_world.specs.Held.{IsHeld}
 use Rattle.vt_ns.specs.Trees.{bindable_to_come}
-use Rattle.vt_detach.specs.WorldValue.{WorldValue}
+use Rattle.vt_world.specs.WorldValue.{WorldValue}
 use Rattle.vt_ns.proofs.world.BoundTrees.{bindable, bindable_kids, branch_of, next-deep, next-flat}
 use Rattle.vt_ns.proofs.world.World.push_bindable.Goals as goal
 use Rattle.vt_spec.proofs.Options.{OnOk_then}

@@ -11,9 +11,9 @@ use Rattle.vt_mount.proofs.PlaceLemmas.{numbers}
 use Rattle.vt_mount.specs.MountsValue.{MountEntry, mounts_in}
 use Rattle.vt_spec.specs.Machine.Attach.{bindable_children, stands_under}
 use Rattle.vt_spec.specs.Machine.Mounts.{children, mount_in}
-use Rattle.vt_detach.specs.Held.{IsHeld}
+use Rattle.vt_world.specs.Held.{IsHeld}
 use Rattle.vt_ns.specs.Trees.{bindable_to_come}
-use Rattle.vt_detach.specs.WorldValue.{WorldValue, world_of}
+use Rattle.vt_world.specs.WorldValue.{WorldValue, world_of}
 use Rattle.vt_ns.proofs.world.BoundTrees.{bindable, bound_kids, branch_of, chosen-come}
 use Rattle.vt_ns.proofs.world.World.push_bound.Goals as goal
 use Rattle.vt_spec.proofs.Options.{OnOk_then}

@@ -1,7 +1,7 @@
 use Rattle.std.proofs.Common.{rules, ◌≡◌, ◌≢◌, ◌∙◌, sym, subst, arith, map, length}
-use Rattle.vt_location.specs.Locations.{location_of}
 use Rattle.vt_location.specs.Numbers.{counted}
-use Rattle.vt_spec.specs.Machine.Permits.Permit.{ToRemoveDirectory}
+use Rattle.vt_permits.specs.GrantValue.{remove_permit}
+use Rattle.vt_permits.specs.declared.grant.RemoveGrant.TheVariants.{Directory}
 use Rattle.vt_ns.specs.contracts.world.World.{the_view}
 use Rattle.vt_detach.specs.Detached.{LeaveTogether}
 use Rattle.vt_detach.specs.Events.{Becomes, Permits}
@@ -16,42 +16,42 @@ use Rattle.vt_ns.proofs.world.World.remove_directory.Goals.{then-not-is_empty, e
 
 pub unlink-requires-clause-one_filesystem : goal.unlink-requires-clause-one_filesystem
 unlink-requires-clause-one_filesystem c =
-    removed_in (the_view c.self.inside) c.self.invariant c.args.name.now c.args.parent c.args.entry.now c.args.directory
+    removed_in (the_view c.self.inside) c.self.invariant c.args.name.now c.args.removed.parent c.args.removed.name.items c.args.removed.directory
     (omega arith) (omega arith)
     (subst (λ value. Permits value c.args.name.now
-    (ToRemoveDirectory (location_of c.args.parent) c.args.entry.now (location_of c.args.directory)))
+    (remove_permit (Directory c.args.removed)))
     (sym c.self.view_is) c.requires)
 
 pub unlink-requires-clause-named : goal.unlink-requires-clause-named
 unlink-requires-clause-named c =
-    (removal_fits (the_view c.self.inside) c.self.invariant c.args.name.now c.args.parent c.args.entry.now c.args.directory (omega arith) (omega arith)
+    rw c.as_slice.ensures.value ((removal_fits (the_view c.self.inside) c.self.invariant c.args.name.now c.args.removed.parent c.args.removed.name.items c.args.removed.directory (omega arith) (omega arith)
     (subst (λ value. Permits value c.args.name.now
-    (ToRemoveDirectory (location_of c.args.parent) c.args.entry.now (location_of c.args.directory)))
-    (sym c.self.view_is) c.requires)).0
+    (remove_permit (Directory c.args.removed)))
+    (sym c.self.view_is) c.requires)).0)
 
 pub unlink-requires-clause-empty : goal.unlink-requires-clause-empty
 unlink-requires-clause-empty c =
-    (removal_fits (the_view c.self.inside) c.self.invariant c.args.name.now c.args.parent c.args.entry.now c.args.directory (omega arith) (omega arith)
+    (removal_fits (the_view c.self.inside) c.self.invariant c.args.name.now c.args.removed.parent c.args.removed.name.items c.args.removed.directory (omega arith) (omega arith)
     (subst (λ value. Permits value c.args.name.now
-    (ToRemoveDirectory (location_of c.args.parent) c.args.entry.now (location_of c.args.directory)))
+    (remove_permit (Directory c.args.removed)))
     (sym c.self.view_is) c.requires)).1
 
 pub invariant_of-self : goal.invariant_of-self
 invariant_of-self c =
     let some : length c.in_ok-gone.gone.items ≢ 0 = search rules in
-    (directory_is_removed (the_view c.self.inside) c.self.invariant c.args.name.now c.args.parent c.args.entry.now c.args.directory (omega arith) (omega arith)
+    (directory_is_removed (the_view c.self.inside) c.self.invariant c.args.name.now c.args.removed.parent c.args.removed.name.items c.args.removed.directory (omega arith) (omega arith)
     (subst (λ value. Permits value c.args.name.now
-    (ToRemoveDirectory (location_of c.args.parent) c.args.entry.now (location_of c.args.directory)))
+    (remove_permit (Directory c.args.removed)))
     (sym c.self.view_is) c.requires)
     c.unlink.new.self c.detach_together.new.filesystems c.detach_together.new.mounts c.detach_together.new.groups
-    (λ none. some_counted c.in_ok-gone.gone.items some ((collected_are (the_view c.self.inside) c.self.invariant c.args.name.now c.args.parent c.args.entry.now c.args.directory (omega arith) (omega arith)
+    (λ none. some_counted c.in_ok-gone.gone.items some ((collected_are (the_view c.self.inside) c.self.invariant c.args.name.now c.args.removed.parent c.args.removed.name.items c.args.removed.directory (omega arith) (omega arith)
     (subst (λ value. Permits value c.args.name.now
-    (ToRemoveDirectory (location_of c.args.parent) c.args.entry.now (location_of c.args.directory)))
+    (remove_permit (Directory c.args.removed)))
     (sym c.self.view_is) c.requires)
-    (map (λ id. counted id.count) c.in_ok-gone.gone.items) c.in_ok-gone.ensures.ok) ∙ none)) c.unlink.ensures
-    (subst (λ ids. LeaveTogether ids (kept c.self.inside.mounts c.unlink.new.self) c.self.inside.groups (kept c.detach_together.new.mounts c.detach_together.new.filesystems) c.detach_together.new.groups) (collected_are (the_view c.self.inside) c.self.invariant c.args.name.now c.args.parent c.args.entry.now c.args.directory (omega arith) (omega arith)
+    (map (λ id. counted id.count) c.in_ok-gone.gone.items) c.in_ok-gone.ensures.ok) ∙ none)) (rw c.as_slice.ensures.value at c.unlink.ensures)
+    (subst (λ ids. LeaveTogether ids (kept c.self.inside.mounts c.unlink.new.self) c.self.inside.groups (kept c.detach_together.new.mounts c.detach_together.new.filesystems) c.detach_together.new.groups) (collected_are (the_view c.self.inside) c.self.invariant c.args.name.now c.args.removed.parent c.args.removed.name.items c.args.removed.directory (omega arith) (omega arith)
     (subst (λ value. Permits value c.args.name.now
-    (ToRemoveDirectory (location_of c.args.parent) c.args.entry.now (location_of c.args.directory)))
+    (remove_permit (Directory c.args.removed)))
     (sym c.self.view_is) c.requires)
     (map (λ id. counted id.count) c.in_ok-gone.gone.items) c.in_ok-gone.ensures.ok)
     (subst (λ ids. LeaveTogether (map (λ id. counted id.count) ids) (kept c.self.inside.mounts c.unlink.new.self) c.self.inside.groups (kept c.detach_together.new.mounts c.detach_together.new.filesystems) c.detach_together.new.groups) c.deref.ensures.value c.detach_together.ensures))).held
@@ -59,60 +59,60 @@ invariant_of-self c =
 pub invariant_of-self-else-not-is_empty : goal.invariant_of-self-else-not-is_empty
 invariant_of-self-else-not-is_empty c =
     let none : length c.in_ok-gone.gone.items ≡ 0 = search rules in
-    (alone_is_removed (the_view c.self.inside) c.self.invariant c.args.name.now c.args.parent c.args.entry.now c.args.directory (omega arith) (omega arith)
+    (alone_is_removed (the_view c.self.inside) c.self.invariant c.args.name.now c.args.removed.parent c.args.removed.name.items c.args.removed.directory (omega arith) (omega arith)
     (subst (λ value. Permits value c.args.name.now
-    (ToRemoveDirectory (location_of c.args.parent) c.args.entry.now (location_of c.args.directory)))
+    (remove_permit (Directory c.args.removed)))
     (sym c.self.view_is) c.requires)
-    (sym (collected_are (the_view c.self.inside) c.self.invariant c.args.name.now c.args.parent c.args.entry.now c.args.directory (omega arith) (omega arith)
+    (sym (collected_are (the_view c.self.inside) c.self.invariant c.args.name.now c.args.removed.parent c.args.removed.name.items c.args.removed.directory (omega arith) (omega arith)
     (subst (λ value. Permits value c.args.name.now
-    (ToRemoveDirectory (location_of c.args.parent) c.args.entry.now (location_of c.args.directory)))
+    (remove_permit (Directory c.args.removed)))
     (sym c.self.view_is) c.requires)
     (map (λ id. counted id.count) c.in_ok-gone.gone.items) c.in_ok-gone.ensures.ok)
-    ∙ none_counted c.in_ok-gone.gone.items none) c.unlink.new.self c.unlink.ensures).held
+    ∙ none_counted c.in_ok-gone.gone.items none) c.unlink.new.self (rw c.as_slice.ensures.value at c.unlink.ensures)).held
 
 pub returns-clause-ok : goal.returns-clause-ok
 returns-clause-ok c = elim c.if-not-is_empty.branch [
   | then-not-is_empty w ↦
       let some : length c.in_ok-gone.gone.items ≢ 0 = search rules in
       subst (λ new. Becomes c.args.self.now c.args.name.now
-      (ToRemoveDirectory (location_of c.args.parent) c.args.entry.now (location_of c.args.directory)) new)
+      (remove_permit (Directory c.args.removed)) new)
       (sym w.self-is)
       (subst (λ value. Becomes value c.args.name.now
-      (ToRemoveDirectory (location_of c.args.parent) c.args.entry.now (location_of c.args.directory))
+      (remove_permit (Directory c.args.removed))
       (record (remade (the_view c.self.inside) w.detach_together.new.mounts w.detach_together.new.filesystems
       (the_view c.self.inside).tasks) { groups = w.detach_together.new.groups })) c.self.view_is
-      (directory_is_removed (the_view c.self.inside) c.self.invariant c.args.name.now c.args.parent c.args.entry.now c.args.directory (omega arith) (omega arith)
+      (directory_is_removed (the_view c.self.inside) c.self.invariant c.args.name.now c.args.removed.parent c.args.removed.name.items c.args.removed.directory (omega arith) (omega arith)
       (subst (λ value. Permits value c.args.name.now
-      (ToRemoveDirectory (location_of c.args.parent) c.args.entry.now (location_of c.args.directory)))
+      (remove_permit (Directory c.args.removed)))
       (sym c.self.view_is) c.requires)
       c.unlink.new.self w.detach_together.new.filesystems w.detach_together.new.mounts w.detach_together.new.groups
-      (λ none. some_counted c.in_ok-gone.gone.items some ((collected_are (the_view c.self.inside) c.self.invariant c.args.name.now c.args.parent c.args.entry.now c.args.directory (omega arith) (omega arith)
+      (λ none. some_counted c.in_ok-gone.gone.items some ((collected_are (the_view c.self.inside) c.self.invariant c.args.name.now c.args.removed.parent c.args.removed.name.items c.args.removed.directory (omega arith) (omega arith)
       (subst (λ value. Permits value c.args.name.now
-      (ToRemoveDirectory (location_of c.args.parent) c.args.entry.now (location_of c.args.directory)))
+      (remove_permit (Directory c.args.removed)))
       (sym c.self.view_is) c.requires)
-      (map (λ id. counted id.count) c.in_ok-gone.gone.items) c.in_ok-gone.ensures.ok) ∙ none)) c.unlink.ensures
-      (subst (λ ids. LeaveTogether ids (kept c.self.inside.mounts c.unlink.new.self) c.self.inside.groups (kept w.detach_together.new.mounts w.detach_together.new.filesystems) w.detach_together.new.groups) (collected_are (the_view c.self.inside) c.self.invariant c.args.name.now c.args.parent c.args.entry.now c.args.directory (omega arith) (omega arith)
+      (map (λ id. counted id.count) c.in_ok-gone.gone.items) c.in_ok-gone.ensures.ok) ∙ none)) (rw c.as_slice.ensures.value at c.unlink.ensures)
+      (subst (λ ids. LeaveTogether ids (kept c.self.inside.mounts c.unlink.new.self) c.self.inside.groups (kept w.detach_together.new.mounts w.detach_together.new.filesystems) w.detach_together.new.groups) (collected_are (the_view c.self.inside) c.self.invariant c.args.name.now c.args.removed.parent c.args.removed.name.items c.args.removed.directory (omega arith) (omega arith)
       (subst (λ value. Permits value c.args.name.now
-      (ToRemoveDirectory (location_of c.args.parent) c.args.entry.now (location_of c.args.directory)))
+      (remove_permit (Directory c.args.removed)))
       (sym c.self.view_is) c.requires)
       (map (λ id. counted id.count) c.in_ok-gone.gone.items) c.in_ok-gone.ensures.ok)
       (subst (λ ids. LeaveTogether (map (λ id. counted id.count) ids) (kept c.self.inside.mounts c.unlink.new.self) c.self.inside.groups (kept w.detach_together.new.mounts w.detach_together.new.filesystems) w.detach_together.new.groups) w.deref.ensures.value w.detach_together.ensures))).becomes)
   | else-not-is_empty w ↦
       let none : length c.in_ok-gone.gone.items ≡ 0 = search rules in
       subst (λ new. Becomes c.args.self.now c.args.name.now
-      (ToRemoveDirectory (location_of c.args.parent) c.args.entry.now (location_of c.args.directory)) new)
+      (remove_permit (Directory c.args.removed)) new)
       (sym w.self-is)
       (subst (λ value. Becomes value c.args.name.now
-      (ToRemoveDirectory (location_of c.args.parent) c.args.entry.now (location_of c.args.directory))
+      (remove_permit (Directory c.args.removed))
       (with_filesystems (the_view c.self.inside) c.unlink.new.self)) c.self.view_is
-      (alone_is_removed (the_view c.self.inside) c.self.invariant c.args.name.now c.args.parent c.args.entry.now c.args.directory (omega arith) (omega arith)
+      (alone_is_removed (the_view c.self.inside) c.self.invariant c.args.name.now c.args.removed.parent c.args.removed.name.items c.args.removed.directory (omega arith) (omega arith)
       (subst (λ value. Permits value c.args.name.now
-      (ToRemoveDirectory (location_of c.args.parent) c.args.entry.now (location_of c.args.directory)))
+      (remove_permit (Directory c.args.removed)))
       (sym c.self.view_is) c.requires)
-      (sym (collected_are (the_view c.self.inside) c.self.invariant c.args.name.now c.args.parent c.args.entry.now c.args.directory (omega arith) (omega arith)
+      (sym (collected_are (the_view c.self.inside) c.self.invariant c.args.name.now c.args.removed.parent c.args.removed.name.items c.args.removed.directory (omega arith) (omega arith)
       (subst (λ value. Permits value c.args.name.now
-      (ToRemoveDirectory (location_of c.args.parent) c.args.entry.now (location_of c.args.directory)))
+      (remove_permit (Directory c.args.removed)))
       (sym c.self.view_is) c.requires)
       (map (λ id. counted id.count) c.in_ok-gone.gone.items) c.in_ok-gone.ensures.ok)
-      ∙ none_counted c.in_ok-gone.gone.items none) c.unlink.new.self c.unlink.ensures).becomes)
+      ∙ none_counted c.in_ok-gone.gone.items none) c.unlink.new.self (rw c.as_slice.ensures.value at c.unlink.ensures)).becomes)
 ]

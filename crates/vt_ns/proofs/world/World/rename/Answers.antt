@@ -1,7 +1,7 @@
-use Rattle.std.proofs.Common.{rules, ◌≡◌, ◌≢◌, ◌∙◌, sym, subst, arith, map, length, option_map}
-use Rattle.vt_location.specs.Locations.{location_of}
+use Rattle.std.proofs.Common.{rules, ◌≡◌, ◌≢◌, ◌∙◌, sym, subst, arith, map, length}
 use Rattle.vt_location.specs.Numbers.{counted}
-use Rattle.vt_spec.specs.Machine.Permits.Permit.{ToRename}
+use Rattle.vt_permits.specs.GrantValue.{remove_permit}
+use Rattle.vt_permits.specs.declared.grant.RemoveGrant.TheVariants.{Rename}
 use Rattle.vt_ns.specs.contracts.world.World.{the_view}
 use Rattle.vt_detach.specs.Detached.{LeaveTogether}
 use Rattle.vt_detach.specs.Events.{Becomes, Permits}
@@ -16,133 +16,111 @@ use Rattle.vt_ns.proofs.world.World.rename.Goals.{then-not-is_empty, else-not-is
 
 pub rename-requires-clause-one_filesystem : goal.rename-requires-clause-one_filesystem
 rename-requires-clause-one_filesystem c =
-    renamed_to (the_view c.self.inside) c.self.invariant c.args.name.now c.args.from c.args.old.now c.args.to c.args.new.items c.args.object c.args.replaced (omega arith) (omega arith) (omega arith)
+    renamed_to (the_view c.self.inside) c.self.invariant c.args.name.now c.args.renamed.from c.args.renamed.old.items c.args.renamed.to c.args.renamed.new.items c.args.renamed.object c.args.renamed.replaced (omega arith) (omega arith) (omega arith)
     (subst (λ value. Permits value c.args.name.now
-    (ToRename (location_of c.args.from) c.args.old.now (location_of c.args.to) c.args.new.items
-    (location_of c.args.object) (option_map location_of c.args.replaced))) (sym c.self.view_is) c.requires)
+    (remove_permit (Rename c.args.renamed))) (sym c.self.view_is) c.requires)
 
 pub rename-requires-clause-of_object : goal.rename-requires-clause-of_object
 rename-requires-clause-of_object c =
-    renamed_object (the_view c.self.inside) c.self.invariant c.args.name.now c.args.from c.args.old.now c.args.to c.args.new.items c.args.object c.args.replaced (omega arith) (omega arith) (omega arith)
+    renamed_object (the_view c.self.inside) c.self.invariant c.args.name.now c.args.renamed.from c.args.renamed.old.items c.args.renamed.to c.args.renamed.new.items c.args.renamed.object c.args.renamed.replaced (omega arith) (omega arith) (omega arith)
     (subst (λ value. Permits value c.args.name.now
-    (ToRename (location_of c.args.from) c.args.old.now (location_of c.args.to) c.args.new.items
-    (location_of c.args.object) (option_map location_of c.args.replaced))) (sym c.self.view_is) c.requires)
+    (remove_permit (Rename c.args.renamed))) (sym c.self.view_is) c.requires)
 
 pub rename-requires-clause-named : goal.rename-requires-clause-named
 rename-requires-clause-named c =
-    (rename_fits (the_view c.self.inside) c.self.invariant c.args.name.now c.args.from c.args.old.now c.args.to c.args.new.items c.args.object c.args.replaced (omega arith) (omega arith) (omega arith)
+    rw c.as_slice.ensures.value ((rename_fits (the_view c.self.inside) c.self.invariant c.args.name.now c.args.renamed.from c.args.renamed.old.items c.args.renamed.to c.args.renamed.new.items c.args.renamed.object c.args.renamed.replaced (omega arith) (omega arith) (omega arith)
     (subst (λ value. Permits value c.args.name.now
-    (ToRename (location_of c.args.from) c.args.old.now (location_of c.args.to) c.args.new.items
-    (location_of c.args.object) (option_map location_of c.args.replaced))) (sym c.self.view_is) c.requires)).0
+    (remove_permit (Rename c.args.renamed))) (sym c.self.view_is) c.requires)).0)
 
 pub rename-requires-clause-directory : goal.rename-requires-clause-directory
 rename-requires-clause-directory c =
-    (rename_fits (the_view c.self.inside) c.self.invariant c.args.name.now c.args.from c.args.old.now c.args.to c.args.new.items c.args.object c.args.replaced (omega arith) (omega arith) (omega arith)
+    (rename_fits (the_view c.self.inside) c.self.invariant c.args.name.now c.args.renamed.from c.args.renamed.old.items c.args.renamed.to c.args.renamed.new.items c.args.renamed.object c.args.renamed.replaced (omega arith) (omega arith) (omega arith)
     (subst (λ value. Permits value c.args.name.now
-    (ToRename (location_of c.args.from) c.args.old.now (location_of c.args.to) c.args.new.items
-    (location_of c.args.object) (option_map location_of c.args.replaced))) (sym c.self.view_is) c.requires)).1
+    (remove_permit (Rename c.args.renamed))) (sym c.self.view_is) c.requires)).1
 
 pub rename-requires-clause-replaced : goal.rename-requires-clause-replaced
 rename-requires-clause-replaced c =
-    (rename_fits (the_view c.self.inside) c.self.invariant c.args.name.now c.args.from c.args.old.now c.args.to c.args.new.items c.args.object c.args.replaced (omega arith) (omega arith) (omega arith)
+    (rename_fits (the_view c.self.inside) c.self.invariant c.args.name.now c.args.renamed.from c.args.renamed.old.items c.args.renamed.to c.args.renamed.new.items c.args.renamed.object c.args.renamed.replaced (omega arith) (omega arith) (omega arith)
     (subst (λ value. Permits value c.args.name.now
-    (ToRename (location_of c.args.from) c.args.old.now (location_of c.args.to) c.args.new.items
-    (location_of c.args.object) (option_map location_of c.args.replaced))) (sym c.self.view_is) c.requires)).2
+    (remove_permit (Rename c.args.renamed))) (sym c.self.view_is) c.requires)).2
 
 pub rename-requires-clause-outside : goal.rename-requires-clause-outside
 rename-requires-clause-outside c =
-    (rename_fits (the_view c.self.inside) c.self.invariant c.args.name.now c.args.from c.args.old.now c.args.to c.args.new.items c.args.object c.args.replaced (omega arith) (omega arith) (omega arith)
+    (rename_fits (the_view c.self.inside) c.self.invariant c.args.name.now c.args.renamed.from c.args.renamed.old.items c.args.renamed.to c.args.renamed.new.items c.args.renamed.object c.args.renamed.replaced (omega arith) (omega arith) (omega arith)
     (subst (λ value. Permits value c.args.name.now
-    (ToRename (location_of c.args.from) c.args.old.now (location_of c.args.to) c.args.new.items
-    (location_of c.args.object) (option_map location_of c.args.replaced))) (sym c.self.view_is) c.requires)).3
+    (remove_permit (Rename c.args.renamed))) (sym c.self.view_is) c.requires)).3
 
 pub invariant_of-self-then-not-is_empty : goal.invariant_of-self-then-not-is_empty
 invariant_of-self-then-not-is_empty c =
     let some : length c.in_ok-gone.gone.items ≢ 0 = search rules in
-    (rename_is_done (the_view c.self.inside) c.self.invariant c.args.name.now c.args.from c.args.old.now c.args.to c.args.new.items c.args.object c.args.replaced (omega arith) (omega arith) (omega arith) c.trees_replaced.ensures.slot
+    (rename_is_done (the_view c.self.inside) c.self.invariant c.args.name.now c.args.renamed.from c.args.renamed.old.items c.args.renamed.to c.args.renamed.new.items c.args.renamed.object c.args.renamed.replaced (omega arith) (omega arith) (omega arith) c.trees_replaced.ensures.slot
     (subst (λ value. Permits value c.args.name.now
-    (ToRename (location_of c.args.from) c.args.old.now (location_of c.args.to) c.args.new.items
-    (location_of c.args.object) (option_map location_of c.args.replaced))) (sym c.self.view_is) c.requires)
+    (remove_permit (Rename c.args.renamed))) (sym c.self.view_is) c.requires)
     c.rename.new.self c.detach_together.new.filesystems c.detach_together.new.mounts c.detach_together.new.groups
-    (λ none. some_counted c.in_ok-gone.gone.items some ((replaced_collected (the_view c.self.inside) c.self.invariant c.args.name.now c.args.from c.args.old.now c.args.to c.args.new.items c.args.object c.args.replaced (omega arith) (omega arith) (omega arith) c.trees_replaced.ensures.slot
+    (λ none. some_counted c.in_ok-gone.gone.items some ((replaced_collected (the_view c.self.inside) c.self.invariant c.args.name.now c.args.renamed.from c.args.renamed.old.items c.args.renamed.to c.args.renamed.new.items c.args.renamed.object c.args.renamed.replaced (omega arith) (omega arith) (omega arith) c.trees_replaced.ensures.slot
     (subst (λ value. Permits value c.args.name.now
-    (ToRename (location_of c.args.from) c.args.old.now (location_of c.args.to) c.args.new.items
-    (location_of c.args.object) (option_map location_of c.args.replaced))) (sym c.self.view_is) c.requires)
-    (map (λ id. counted id.count) c.in_ok-gone.gone.items) c.in_ok-gone.ensures.ok) ∙ none)) c.in_ok-rename.ensures.ok
-    (subst (λ ids. LeaveTogether ids (kept c.self.inside.mounts c.rename.new.self) c.self.inside.groups (kept c.detach_together.new.mounts c.detach_together.new.filesystems) c.detach_together.new.groups) (replaced_collected (the_view c.self.inside) c.self.invariant c.args.name.now c.args.from c.args.old.now c.args.to c.args.new.items c.args.object c.args.replaced (omega arith) (omega arith) (omega arith) c.trees_replaced.ensures.slot
+    (remove_permit (Rename c.args.renamed))) (sym c.self.view_is) c.requires)
+    (map (λ id. counted id.count) c.in_ok-gone.gone.items) c.in_ok-gone.ensures.ok) ∙ none)) (rw c.as_slice.ensures.value at c.in_ok-rename.ensures.ok)
+    (subst (λ ids. LeaveTogether ids (kept c.self.inside.mounts c.rename.new.self) c.self.inside.groups (kept c.detach_together.new.mounts c.detach_together.new.filesystems) c.detach_together.new.groups) (replaced_collected (the_view c.self.inside) c.self.invariant c.args.name.now c.args.renamed.from c.args.renamed.old.items c.args.renamed.to c.args.renamed.new.items c.args.renamed.object c.args.renamed.replaced (omega arith) (omega arith) (omega arith) c.trees_replaced.ensures.slot
     (subst (λ value. Permits value c.args.name.now
-    (ToRename (location_of c.args.from) c.args.old.now (location_of c.args.to) c.args.new.items
-    (location_of c.args.object) (option_map location_of c.args.replaced))) (sym c.self.view_is) c.requires)
+    (remove_permit (Rename c.args.renamed))) (sym c.self.view_is) c.requires)
     (map (λ id. counted id.count) c.in_ok-gone.gone.items) c.in_ok-gone.ensures.ok)
     (subst (λ ids. LeaveTogether (map (λ id. counted id.count) ids) (kept c.self.inside.mounts c.rename.new.self) c.self.inside.groups (kept c.detach_together.new.mounts c.detach_together.new.filesystems) c.detach_together.new.groups) c.deref.ensures.value c.detach_together.ensures))).held
 
 pub invariant_of-self-else-not-is_empty : goal.invariant_of-self-else-not-is_empty
 invariant_of-self-else-not-is_empty c =
     let none : length c.in_ok-gone.gone.items ≡ 0 = search rules in
-    (rename_alone_is_done (the_view c.self.inside) c.self.invariant c.args.name.now c.args.from c.args.old.now c.args.to c.args.new.items c.args.object c.args.replaced (omega arith) (omega arith) (omega arith)
+    (rename_alone_is_done (the_view c.self.inside) c.self.invariant c.args.name.now c.args.renamed.from c.args.renamed.old.items c.args.renamed.to c.args.renamed.new.items c.args.renamed.object c.args.renamed.replaced (omega arith) (omega arith) (omega arith)
     (subst (λ value. Permits value c.args.name.now
-    (ToRename (location_of c.args.from) c.args.old.now (location_of c.args.to) c.args.new.items
-    (location_of c.args.object) (option_map location_of c.args.replaced))) (sym c.self.view_is) c.requires)
-    (nothing_on_replaced (the_view c.self.inside) c.self.invariant c.args.name.now c.args.from c.args.old.now c.args.to c.args.new.items c.args.object c.args.replaced (omega arith) (omega arith) (omega arith) c.trees_replaced.ensures.slot
+    (remove_permit (Rename c.args.renamed))) (sym c.self.view_is) c.requires)
+    (nothing_on_replaced (the_view c.self.inside) c.self.invariant c.args.name.now c.args.renamed.from c.args.renamed.old.items c.args.renamed.to c.args.renamed.new.items c.args.renamed.object c.args.renamed.replaced (omega arith) (omega arith) (omega arith) c.trees_replaced.ensures.slot
     (subst (λ value. Permits value c.args.name.now
-    (ToRename (location_of c.args.from) c.args.old.now (location_of c.args.to) c.args.new.items
-    (location_of c.args.object) (option_map location_of c.args.replaced))) (sym c.self.view_is) c.requires)
-    (sym (replaced_collected (the_view c.self.inside) c.self.invariant c.args.name.now c.args.from c.args.old.now c.args.to c.args.new.items c.args.object c.args.replaced (omega arith) (omega arith) (omega arith) c.trees_replaced.ensures.slot
+    (remove_permit (Rename c.args.renamed))) (sym c.self.view_is) c.requires)
+    (sym (replaced_collected (the_view c.self.inside) c.self.invariant c.args.name.now c.args.renamed.from c.args.renamed.old.items c.args.renamed.to c.args.renamed.new.items c.args.renamed.object c.args.renamed.replaced (omega arith) (omega arith) (omega arith) c.trees_replaced.ensures.slot
     (subst (λ value. Permits value c.args.name.now
-    (ToRename (location_of c.args.from) c.args.old.now (location_of c.args.to) c.args.new.items
-    (location_of c.args.object) (option_map location_of c.args.replaced))) (sym c.self.view_is) c.requires)
+    (remove_permit (Rename c.args.renamed))) (sym c.self.view_is) c.requires)
     (map (λ id. counted id.count) c.in_ok-gone.gone.items) c.in_ok-gone.ensures.ok)
-    ∙ none_counted c.in_ok-gone.gone.items none)) c.rename.new.self c.in_ok-rename.ensures.ok).held
+    ∙ none_counted c.in_ok-gone.gone.items none)) c.rename.new.self (rw c.as_slice.ensures.value at c.in_ok-rename.ensures.ok)).held
 
 pub returns-clause-ok : goal.returns-clause-ok
 returns-clause-ok c = elim c.if-not-is_empty.branch [
   | then-not-is_empty w ↦
       let some : length c.in_ok-gone.gone.items ≢ 0 = search rules in
       subst (λ new. Becomes c.args.self.now c.args.name.now
-      (ToRename (location_of c.args.from) c.args.old.now (location_of c.args.to) c.args.new.items
-      (location_of c.args.object) (option_map location_of c.args.replaced)) new) (sym w.self-is)
+      (remove_permit (Rename c.args.renamed)) new) (sym w.self-is)
       (subst (λ value. Becomes value c.args.name.now
-      (ToRename (location_of c.args.from) c.args.old.now (location_of c.args.to) c.args.new.items
-      (location_of c.args.object) (option_map location_of c.args.replaced))
+      (remove_permit (Rename c.args.renamed))
       (record (remade (the_view c.self.inside) w.detach_together.new.mounts w.detach_together.new.filesystems
       (the_view c.self.inside).tasks) { groups = w.detach_together.new.groups })) c.self.view_is
-      (rename_is_done (the_view c.self.inside) c.self.invariant c.args.name.now c.args.from c.args.old.now c.args.to c.args.new.items c.args.object c.args.replaced (omega arith) (omega arith) (omega arith) c.trees_replaced.ensures.slot
+      (rename_is_done (the_view c.self.inside) c.self.invariant c.args.name.now c.args.renamed.from c.args.renamed.old.items c.args.renamed.to c.args.renamed.new.items c.args.renamed.object c.args.renamed.replaced (omega arith) (omega arith) (omega arith) c.trees_replaced.ensures.slot
       (subst (λ value. Permits value c.args.name.now
-      (ToRename (location_of c.args.from) c.args.old.now (location_of c.args.to) c.args.new.items
-      (location_of c.args.object) (option_map location_of c.args.replaced))) (sym c.self.view_is) c.requires)
+      (remove_permit (Rename c.args.renamed))) (sym c.self.view_is) c.requires)
       c.rename.new.self w.detach_together.new.filesystems w.detach_together.new.mounts w.detach_together.new.groups
-      (λ none. some_counted c.in_ok-gone.gone.items some ((replaced_collected (the_view c.self.inside) c.self.invariant c.args.name.now c.args.from c.args.old.now c.args.to c.args.new.items c.args.object c.args.replaced (omega arith) (omega arith) (omega arith) c.trees_replaced.ensures.slot
+      (λ none. some_counted c.in_ok-gone.gone.items some ((replaced_collected (the_view c.self.inside) c.self.invariant c.args.name.now c.args.renamed.from c.args.renamed.old.items c.args.renamed.to c.args.renamed.new.items c.args.renamed.object c.args.renamed.replaced (omega arith) (omega arith) (omega arith) c.trees_replaced.ensures.slot
       (subst (λ value. Permits value c.args.name.now
-      (ToRename (location_of c.args.from) c.args.old.now (location_of c.args.to) c.args.new.items
-      (location_of c.args.object) (option_map location_of c.args.replaced))) (sym c.self.view_is) c.requires)
-      (map (λ id. counted id.count) c.in_ok-gone.gone.items) c.in_ok-gone.ensures.ok) ∙ none)) c.in_ok-rename.ensures.ok
-      (subst (λ ids. LeaveTogether ids (kept c.self.inside.mounts c.rename.new.self) c.self.inside.groups (kept w.detach_together.new.mounts w.detach_together.new.filesystems) w.detach_together.new.groups) (replaced_collected (the_view c.self.inside) c.self.invariant c.args.name.now c.args.from c.args.old.now c.args.to c.args.new.items c.args.object c.args.replaced (omega arith) (omega arith) (omega arith) c.trees_replaced.ensures.slot
+      (remove_permit (Rename c.args.renamed))) (sym c.self.view_is) c.requires)
+      (map (λ id. counted id.count) c.in_ok-gone.gone.items) c.in_ok-gone.ensures.ok) ∙ none)) (rw c.as_slice.ensures.value at c.in_ok-rename.ensures.ok)
+      (subst (λ ids. LeaveTogether ids (kept c.self.inside.mounts c.rename.new.self) c.self.inside.groups (kept w.detach_together.new.mounts w.detach_together.new.filesystems) w.detach_together.new.groups) (replaced_collected (the_view c.self.inside) c.self.invariant c.args.name.now c.args.renamed.from c.args.renamed.old.items c.args.renamed.to c.args.renamed.new.items c.args.renamed.object c.args.renamed.replaced (omega arith) (omega arith) (omega arith) c.trees_replaced.ensures.slot
       (subst (λ value. Permits value c.args.name.now
-      (ToRename (location_of c.args.from) c.args.old.now (location_of c.args.to) c.args.new.items
-      (location_of c.args.object) (option_map location_of c.args.replaced))) (sym c.self.view_is) c.requires)
+      (remove_permit (Rename c.args.renamed))) (sym c.self.view_is) c.requires)
       (map (λ id. counted id.count) c.in_ok-gone.gone.items) c.in_ok-gone.ensures.ok)
       (subst (λ ids. LeaveTogether (map (λ id. counted id.count) ids) (kept c.self.inside.mounts c.rename.new.self) c.self.inside.groups (kept w.detach_together.new.mounts w.detach_together.new.filesystems) w.detach_together.new.groups) w.deref.ensures.value w.detach_together.ensures))).becomes)
   | else-not-is_empty w ↦
       let none : length c.in_ok-gone.gone.items ≡ 0 = search rules in
       subst (λ new. Becomes c.args.self.now c.args.name.now
-      (ToRename (location_of c.args.from) c.args.old.now (location_of c.args.to) c.args.new.items
-      (location_of c.args.object) (option_map location_of c.args.replaced)) new) (sym w.self-is)
+      (remove_permit (Rename c.args.renamed)) new) (sym w.self-is)
       (subst (λ value. Becomes value c.args.name.now
-      (ToRename (location_of c.args.from) c.args.old.now (location_of c.args.to) c.args.new.items
-      (location_of c.args.object) (option_map location_of c.args.replaced))
+      (remove_permit (Rename c.args.renamed))
       (with_filesystems (the_view c.self.inside) c.rename.new.self)) c.self.view_is
-      (rename_alone_is_done (the_view c.self.inside) c.self.invariant c.args.name.now c.args.from c.args.old.now c.args.to c.args.new.items c.args.object c.args.replaced (omega arith) (omega arith) (omega arith)
+      (rename_alone_is_done (the_view c.self.inside) c.self.invariant c.args.name.now c.args.renamed.from c.args.renamed.old.items c.args.renamed.to c.args.renamed.new.items c.args.renamed.object c.args.renamed.replaced (omega arith) (omega arith) (omega arith)
       (subst (λ value. Permits value c.args.name.now
-      (ToRename (location_of c.args.from) c.args.old.now (location_of c.args.to) c.args.new.items
-      (location_of c.args.object) (option_map location_of c.args.replaced))) (sym c.self.view_is) c.requires)
-      (nothing_on_replaced (the_view c.self.inside) c.self.invariant c.args.name.now c.args.from c.args.old.now c.args.to c.args.new.items c.args.object c.args.replaced (omega arith) (omega arith) (omega arith) c.trees_replaced.ensures.slot
+      (remove_permit (Rename c.args.renamed))) (sym c.self.view_is) c.requires)
+      (nothing_on_replaced (the_view c.self.inside) c.self.invariant c.args.name.now c.args.renamed.from c.args.renamed.old.items c.args.renamed.to c.args.renamed.new.items c.args.renamed.object c.args.renamed.replaced (omega arith) (omega arith) (omega arith) c.trees_replaced.ensures.slot
       (subst (λ value. Permits value c.args.name.now
-      (ToRename (location_of c.args.from) c.args.old.now (location_of c.args.to) c.args.new.items
-      (location_of c.args.object) (option_map location_of c.args.replaced))) (sym c.self.view_is) c.requires)
-      (sym (replaced_collected (the_view c.self.inside) c.self.invariant c.args.name.now c.args.from c.args.old.now c.args.to c.args.new.items c.args.object c.args.replaced (omega arith) (omega arith) (omega arith) c.trees_replaced.ensures.slot
+      (remove_permit (Rename c.args.renamed))) (sym c.self.view_is) c.requires)
+      (sym (replaced_collected (the_view c.self.inside) c.self.invariant c.args.name.now c.args.renamed.from c.args.renamed.old.items c.args.renamed.to c.args.renamed.new.items c.args.renamed.object c.args.renamed.replaced (omega arith) (omega arith) (omega arith) c.trees_replaced.ensures.slot
       (subst (λ value. Permits value c.args.name.now
-      (ToRename (location_of c.args.from) c.args.old.now (location_of c.args.to) c.args.new.items
-      (location_of c.args.object) (option_map location_of c.args.replaced))) (sym c.self.view_is) c.requires)
+      (remove_permit (Rename c.args.renamed))) (sym c.self.view_is) c.requires)
       (map (λ id. counted id.count) c.in_ok-gone.gone.items) c.in_ok-gone.ensures.ok)
-      ∙ none_counted c.in_ok-gone.gone.items none)) c.rename.new.self c.in_ok-rename.ensures.ok).becomes)
+      ∙ none_counted c.in_ok-gone.gone.items none)) c.rename.new.self (rw c.as_slice.ensures.value at c.in_ok-rename.ensures.ok)).becomes)
 ]

@@ -1,5 +1,5 @@
 use Rattle.std.proofs.Common.{ap}
-use Rattle.vt_detach.specs.WorldValue.{WorldValue}
+use Rattle.vt_world.specs.WorldValue.{WorldValue}
 use Rattle.vt_fs.specs.FilesystemsValue.{filesystems_seen}
 use Rattle.vt_group.specs.Grouping.{master_in}
 use Rattle.vt_mount.specs.MountsValue.{mounts_in}

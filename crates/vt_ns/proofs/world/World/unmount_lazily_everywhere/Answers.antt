@@ -7,7 +7,7 @@ use Rattle.vt_spec.specs.Machine.Permits.Permit.{ToUnmountLazily}
 use Rattle.vt_spec.specs.Machine.World.{World}
 use Rattle.vt_ns.specs.contracts.world.World.{the_view}
 use Rattle.vt_detach.specs.Events.{Becomes, Permits}
-use Rattle.vt_detach.specs.WorldValue.{WorldValue, entries_of, world_of}
+use Rattle.vt_world.specs.WorldValue.{WorldValue, entries_of, world_of}
 use Rattle.vt_detach.proofs.Staying.{IsDone}
 use Rattle.vt_detach.specs.Uses.{kept}
 use Rattle.vt_attach.specs.Planned.{Point}

@@ -7,7 +7,7 @@ use Rattle.vt_ns.specs.contracts.world.World.{the_view}
 use Rattle.vt_ns.specs.Unmounting.{are_ungrouped, stands_on_shared}
 use Rattle.vt_detach.specs.Detached.{tree_numbers}
 use Rattle.vt_detach.specs.Events.{Becomes, Permits}
-use Rattle.vt_detach.specs.WorldValue.{WorldValue}
+use Rattle.vt_world.specs.WorldValue.{WorldValue}
 use Rattle.vt_detach.proofs.Remaining.{remade}
 use Rattle.vt_detach.proofs.UnmountedLazily.{lazy_unmount_is_done}
 use Rattle.vt_ns.proofs.world.World.unmount_tree_alone.Goals as goal

@@ -1,4 +1,9 @@
-use Rattle.std.proofs.Common.{ap, length, option_copied, option_map, subst, sym, ◌*◌, ◌+◌, ◌∙◌, ◌≡◌, ◌++◌, ◌∷◌, []}
+use Rattle.std.proofs.Common.{Bool, ap, arith, length, nat_eq, not, option_copied, option_map, refl, subst, sym, ℕ, ◌*◌, ◌+◌, ◌≤◌, ◌∙◌, ◌≡◌, ◌++◌, ◌∷◌, []}
+use Rattle.std.proofs.lemmas.List.{length-map}
+use Rattle.std.proofs.lemmas.List.Filters.{length-filter_both}
+use Rattle.vt_spec.specs.Lists.{holds_of}
+use Rattle.vt_spec.specs.Machine.Mounts.{Mount}
+use Rattle.vt_mount.specs.MountsValue.{MountEntry, mounts_in}
 use Rattle.vt_location.specs.declared.numbers.NamespaceId.{NamespaceId}
 use Rattle.vt_location.specs.Locations.{location_of}
 use Rattle.vt_location.specs.Numbers.{counted}
@@ -10,7 +15,7 @@ use Rattle.vt_ns.specs.contracts.world.World.{the_view}
 use Rattle.vt_mount.specs.Attached.{attached_in}
 use Rattle.vt_attach.specs.Copying.{with_use_moved}
 use Rattle.vt_detach.specs.Events.{Becomes, Permits}
-use Rattle.vt_detach.specs.WorldValue.{WorldValue, entries_of}
+use Rattle.vt_world.specs.WorldValue.{WorldValue, entries_of}
 use Rattle.vt_mount.proofs.AttachedLemmas.{as_many}
 use Rattle.vt_detach.proofs.Staying.{IsDone}
 use Rattle.vt_attach.proofs.TasksUnshared.{task_is_unshared}
@@ -117,3 +122,14 @@ invariant_of-self-2 c = (done c).held
 
 pub returns-clause-ok : goal.returns-clause-ok
 returns-clause-ok c = subst (λ value. Becomes value c.args.name.now ToUnshare (after c)) c.self.view_is (done c).becomes
+
+-- each copy counts two, and there are no more copies than mounts
+pub returns-clause-counts : goal.returns-clause-counts
+returns-clause-counts c =
+    let namespace = counted c.unwrap-task.result.now.namespace.count in
+    let own : Mount ℕ → Bool = λ mount. holds_of (nat_eq namespace) mount.namespace in
+    let many = as_many c.attached_in.result.now (attached_in namespace c.self.inside.mounts) c.attached_in.ensures in
+    let parted = length-filter_both own (λ mount. not (own mount)) (λ mount. refl) (mounts_in c.self.inside.mounts) in
+    let all = length-map c.self.inside.mounts (λ (entry : MountEntry). entry.mount) in
+    subst (λ (value : WorldValue). c.self.inside.next + 2 * length c.attached_in.result.now
+    ≤ value.next + 2 * length value.mounts) c.self.view_is (omega (arith, many, parted, all))

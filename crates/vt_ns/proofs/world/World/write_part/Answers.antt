@@ -1,6 +1,7 @@
 use Rattle.std.proofs.Common.{sym, subst, arith, OnOk}
 use Rattle.vt_location.specs.Locations.{location_of}
-use Rattle.vt_spec.specs.Machine.Permits.Permit.{ToWritePart}
+use Rattle.vt_permits.specs.GrantValue.{write_permit}
+use Rattle.vt_permits.specs.declared.grant.WriteGrant.TheVariants.{Part}
 use Rattle.vt_ns.specs.contracts.world.World.{the_view}
 use Rattle.vt_detach.specs.Events.{Becomes, Permits}
 use Rattle.vt_detach.proofs.ChangedFiles.{with_filesystems}
@@ -9,44 +10,44 @@ use Rattle.vt_ns.proofs.world.World.write_part.Goals as goal
 
 pub returns-then-is_empty-clause-ok : goal.returns-then-is_empty-clause-ok
 returns-then-is_empty-clause-ok c =
-    subst (λ value. Becomes value c.args.name.now (ToWritePart (location_of c.args.file) c.args.offset c.args.bytes.now)
+    subst (λ value. Becomes value c.args.name.now (write_permit (Part c.args.part))
     (the_view c.self.inside)) c.self.view_is
     (nothing_is_written (the_view c.self.inside) c.self.invariant c.args.name.now
-    (location_of c.args.file) c.args.offset c.args.bytes.now
-    (no_bytes c.args.bytes.now c.is_empty.result c.is_empty.ensures c.if-is_empty.true))
+    (location_of c.args.part.file) c.args.part.offset c.args.part.bytes.items
+    (no_bytes c.args.part.bytes.items c.is_empty.result (rw c.as_slice-bytes.ensures.value at c.is_empty.ensures) c.if-is_empty.true))
 
 pub write_at-requires-clause-file : goal.write_at-requires-clause-file
 write_at-requires-clause-file c =
-    (write_part_fits (the_view c.self.inside) c.self.invariant c.args.name.now c.args.file c.args.offset c.args.bytes.now (omega arith)
+    (write_part_fits (the_view c.self.inside) c.self.invariant c.args.name.now c.args.part.file c.args.part.offset c.args.part.bytes.items (omega arith)
     (subst (λ value. Permits value c.args.name.now
-    (ToWritePart (location_of c.args.file) c.args.offset c.args.bytes.now)) (sym c.self.view_is) c.requires)
-    (some_bytes c.args.bytes.now c.is_empty.result c.is_empty.ensures c.if-is_empty.false)).0
+    (write_permit (Part c.args.part))) (sym c.self.view_is) c.requires)
+    (some_bytes c.args.part.bytes.items c.is_empty.result (rw c.as_slice-bytes.ensures.value at c.is_empty.ensures) c.if-is_empty.false)).0
 
 pub write_at-requires-clause-size : goal.write_at-requires-clause-size
 write_at-requires-clause-size c =
-    (write_part_fits (the_view c.self.inside) c.self.invariant c.args.name.now c.args.file c.args.offset c.args.bytes.now (omega arith)
+    rw c.as_slice-bytes.ensures.value ((write_part_fits (the_view c.self.inside) c.self.invariant c.args.name.now c.args.part.file c.args.part.offset c.args.part.bytes.items (omega arith)
     (subst (λ value. Permits value c.args.name.now
-    (ToWritePart (location_of c.args.file) c.args.offset c.args.bytes.now)) (sym c.self.view_is) c.requires)
-    (some_bytes c.args.bytes.now c.is_empty.result c.is_empty.ensures c.if-is_empty.false)).1
+    (write_permit (Part c.args.part))) (sym c.self.view_is) c.requires)
+    (some_bytes c.args.part.bytes.items c.is_empty.result (rw c.as_slice-bytes.ensures.value at c.is_empty.ensures) c.if-is_empty.false)).1)
 
 pub invariant_of-self : goal.invariant_of-self
 invariant_of-self c = c.self.invariant
 
 pub invariant_of-self-2 : goal.invariant_of-self-2
 invariant_of-self-2 c =
-    (write_part_is_answered (the_view c.self.inside) c.self.invariant c.args.name.now c.args.file c.args.offset c.args.bytes.now (omega arith)
+    (write_part_is_answered (the_view c.self.inside) c.self.invariant c.args.name.now c.args.part.file c.args.part.offset c.args.part.bytes.items (omega arith)
     (subst (λ value. Permits value c.args.name.now
-    (ToWritePart (location_of c.args.file) c.args.offset c.args.bytes.now)) (sym c.self.view_is) c.requires)
-    (some_bytes c.args.bytes.now c.is_empty.result c.is_empty.ensures c.if-is_empty.false)
-    c.write_at.new.self c.write_at.result c.write_at.ensures.ok c.write_at.ensures.err).held
+    (write_permit (Part c.args.part))) (sym c.self.view_is) c.requires)
+    (some_bytes c.args.part.bytes.items c.is_empty.result (rw c.as_slice-bytes.ensures.value at c.is_empty.ensures) c.if-is_empty.false)
+    c.write_at.new.self c.write_at.result (rw c.as_slice-bytes.ensures.value at c.write_at.ensures.ok) c.write_at.ensures.err).held
 
 pub returns-clause-ok : goal.returns-clause-ok
 returns-clause-ok c =
     subst (λ value. OnOk c.write_at.result
-    (Becomes value c.args.name.now (ToWritePart (location_of c.args.file) c.args.offset c.args.bytes.now)
+    (Becomes value c.args.name.now (write_permit (Part c.args.part))
     (with_filesystems (the_view c.self.inside) c.write_at.new.self))) c.self.view_is
-    (write_part_is_answered (the_view c.self.inside) c.self.invariant c.args.name.now c.args.file c.args.offset c.args.bytes.now (omega arith)
+    (write_part_is_answered (the_view c.self.inside) c.self.invariant c.args.name.now c.args.part.file c.args.part.offset c.args.part.bytes.items (omega arith)
     (subst (λ value. Permits value c.args.name.now
-    (ToWritePart (location_of c.args.file) c.args.offset c.args.bytes.now)) (sym c.self.view_is) c.requires)
-    (some_bytes c.args.bytes.now c.is_empty.result c.is_empty.ensures c.if-is_empty.false)
-    c.write_at.new.self c.write_at.result c.write_at.ensures.ok c.write_at.ensures.err).ok
+    (write_permit (Part c.args.part))) (sym c.self.view_is) c.requires)
+    (some_bytes c.args.part.bytes.items c.is_empty.result (rw c.as_slice-bytes.ensures.value at c.is_empty.ensures) c.if-is_empty.false)
+    c.write_at.new.self c.write_at.result (rw c.as_slice-bytes.ensures.value at c.write_at.ensures.ok) c.write_at.ensures.err).ok

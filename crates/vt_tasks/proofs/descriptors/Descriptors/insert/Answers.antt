@@ -1,7 +1,7 @@
 use Rattle.std.proofs.Common.{◌≡◌, ◌≤◌, ap, sym, ◌∙◌, length, arith}
-use Rattle.vt_spec.specs.Machine.Outcome.Descriptors.{free_from, inserted}
+use Rattle.vt_spec.specs.Machine.Descriptors.{free_from, inserted}
 use Rattle.vt_tasks.specs.Open.{are_ascending, numbered}
-use Rattle.vt_tasks.proofs.OpenLemmas.{ascending-inserted, closed-again, entries-inserted, length-opened, lookup-free, opened, opened-inserted}
+use Rattle.vt_tasks.proofs.OpenLemmas.{ascending-inserted, entries-inserted, length-opened, lookup-free, opened, opened-inserted}
 use Rattle.vt_tasks.proofs.descriptors.Descriptors.insert.Goals as goal
 
 pub invariant_of-self-2 : goal.invariant_of-self-2
@@ -26,16 +26,3 @@ returns-clause-ok c =
     (lookup-free free 0 es c.self.invariant is) within c.in-Ok.ensures.index c.in-Ok.ensures.entries)
     ∙ opened-inserted c.args.opened free 0 free es c.self.invariant is (omega arith)
     ∙ ap (inserted (numbered free c.args.opened)) c.self.view_is
-
-pub returns-clause-undone : goal.returns-clause-undone
-returns-clause-undone c =
-    let es = c.self.inside.by_number.entries in
-    let free = c.free_number-free.result in
-    let is : free_from 0 (opened es) ≡ free = ap (free_from 0) c.self.view_is ∙ sym c.free_number-free.ensures.value in
-    let within : free ≤ length es = omega
-    (arith, c.free_number-free.ensures.limit, ap length c.self.view_is, length-opened es) in
-    closed-again c.args.opened free es _ _ c.self.invariant c.self.view_is is
-    (ap opened (entries-inserted c.self.inside.by_number free _ c.args.opened _
-    (lookup-free free 0 es c.self.invariant is) within c.in-Ok.ensures.index c.in-Ok.ensures.entries)
-    ∙ opened-inserted c.args.opened free 0 free es c.self.invariant is (omega arith)
-    ∙ ap (inserted (numbered free c.args.opened)) c.self.view_is)

@@ -1,12 +1,12 @@
 use Rattle.std.proofs.Common.{nat_eq, not, arith, ap, sym, refl, ◌∙◌, option_map}
 use Rattle.std.specs.Option.{option_and_then, option_copied_mut}
-use Rattle.vt_spec.specs.Machine.Outcome.Descriptors.{without_descriptor}
+use Rattle.vt_spec.specs.Machine.Descriptors.{without_descriptor}
 use Rattle.vt_spec.specs.Machine.Rules.Descriptors.{descriptor_numbered}
 use Rattle.vt_spec.specs.Machine.Invariants.{are_ascending_from}
 use Rattle.vt_tasks.specs.Open.{numbered}
 use Rattle.vt_tasks.specs.TaskValue.{task_of}
-use Rattle.vt_tasks.specs.TasksValue.{called, changed_called, tasks_of}
-use Rattle.vt_tasks.proofs.TasksLemmas.{called-absent, called-found, changed-absent, written-change, written-fit}
+use Rattle.vt_tasks.specs.TasksValue.{called, changed_called, in_order, tasks_of}
+use Rattle.vt_tasks.proofs.KeptTasks.{called-absent, called-found, changed-absent, written-change, written-fit}
 use Rattle.vt_tasks.proofs.tasks.Tasks.close.Goals as goal
 use Rattle.vt_spec.proofs.Descriptors.{ascending-filter}
 
@@ -22,7 +22,7 @@ returns-in_err-task-clause-value c =
 pub returns-in_err-task-clause-rest : goal.returns-in_err-task-clause-rest
 returns-in_err-task-clause-rest c =
     let map = c.self.inside.by_name in
-    ap (λ map. tasks_of map.entries) c.get_mut.follows.holds-at-none
+    ap (λ map. tasks_of (in_order map.entries)) c.get_mut.follows.holds-at-none
     ∙ sym (changed-absent c.numbers.result.now map map c.self.invariant (λ task. without_descriptor task c.args.number)
     (sym c.get_mut.ensures.value ∙ ap option_copied_mut c.in_err-task.was))
     ∙ (λ i. changed_called (c.numbers.ensures.value i) (λ task. without_descriptor task c.args.number)
@@ -31,7 +31,7 @@ returns-in_err-task-clause-rest c =
 pub invariant_of-self-2 : goal.invariant_of-self-2
 invariant_of-self-2 c =
     written-fit c.numbers.result.now c.self.inside.by_name _ c.self.invariant c.in_ok-task.task.now _
-    (sym c.get_mut.ensures.value ∙ ap option_copied_mut c.in_ok-task.was) refl c.get_mut.ensures.unique
+    (sym c.get_mut.ensures.value ∙ ap option_copied_mut c.in_ok-task.was) refl refl c.get_mut.ensures.unique
     (c.get_mut.follows.holds _) (omega arith)
     (λ e. ap (are_ascending_from 0) c.remove.ensures.rest
     ∙ ascending-filter (λ d. not (nat_eq c.args.number d.number)) 0 c.in_ok-task.task.now.descriptors e)
@@ -49,7 +49,7 @@ pub returns-clause-rest : goal.returns-clause-rest
 returns-clause-rest c =
     written-change c.numbers.result.now c.self.inside.by_name _ c.self.invariant
     (λ task. without_descriptor task c.args.number) c.in_ok-task.task.now _
-    (sym c.get_mut.ensures.value ∙ ap option_copied_mut c.in_ok-task.was) refl c.get_mut.ensures.unique
+    (sym c.get_mut.ensures.value ∙ ap option_copied_mut c.in_ok-task.was) refl refl c.get_mut.ensures.unique
     (c.get_mut.follows.holds _)
     (λ i. record (task_of c.in_ok-task.task.now) { descriptors = c.remove.ensures.rest i })
     ∙ (λ i. changed_called (c.numbers.ensures.value i) (λ task. without_descriptor task c.args.number)

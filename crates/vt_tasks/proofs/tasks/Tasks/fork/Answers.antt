@@ -7,21 +7,23 @@ use Rattle.std.specs.declared.hash.BuildHasherDefault.{BuildHasherDefault}
 use Rattle.std.specs.declared.hash.FoldHasher.{FoldHasher}
 use Rattle.indexmap.specs.IndexMap.{IndexMap, get_by}
 use Rattle.vt_spec.specs.Language.Calls.{TaskName}
-use Rattle.vt_spec.specs.Machine.Outcome.Tasks.{child_name}
+use Rattle.vt_spec.specs.Machine.Tasks.{child_name}
 use Rattle.vt_spec.specs.Machine.World.{Task}
 use Rattle.vt_tasks.specs.declared.task.Task.{Task as Held}
 use Rattle.vt_tasks.specs.TaskValue.{task_of}
-use Rattle.vt_tasks.specs.TasksValue.{AreFit, Tasks, called, forked, tasks_of}
-use Rattle.vt_tasks.proofs.TasksLemmas.{called-absent, called-found, fit-forked, forked-so, granted-so, granted-there, is_key, never-absent, there-shared}
+use Rattle.vt_tasks.specs.TasksValue.{AreKept, Tasks, called, forked, in_order, tasks_of}
+use Rattle.vt_tasks.proofs.KeptTasks.{called-absent, called-found, forked-so, kept-forked, never-absent}
+use Rattle.vt_tasks.proofs.TasksLemmas.{granted-so, granted-there, is_key, there-shared}
 use Rattle.vt_tasks.proofs.tasks.Tasks.fork.Goals as goal
 use Rattle.vt_tasks.proofs.tasks.Tasks.fork.Goals.{in-Some, in_default-get_mut}
 
 -- the parent, under its name
-abbrev the_parent : (q name : TaskName) (tasks : Tasks)
-    (m : IndexMap (Vec ℕ Global) Held (BuildHasherDefault FoldHasher)) (parent : Held) → AreFit m.entries → q ≡ name
-    → tasks_of m.entries ≡ tasks → get_by (is_key q) m ≡ Some parent → called name tasks ≡ Some (task_of parent)
-the_parent q name tasks m parent fit same view found = (λ i. called (sym same i) (sym view i))
-    ∙ called-found q m m fit parent found
+abbrev the_parent : (next : ℕ) (q name : TaskName) (tasks : Tasks)
+    (m : IndexMap (Vec ℕ Global) Held (BuildHasherDefault FoldHasher)) (parent : Held) → AreKept next m.entries
+    → q ≡ name → tasks_of (in_order m.entries) ≡ tasks → get_by (is_key q) m ≡ Some parent
+    → called name tasks ≡ Some (task_of parent)
+the_parent next q name tasks m parent kept same view found = (λ i. called (sym same i) (sym view i))
+    ∙ called-found q m m kept parent found
 
 pub unwrap-parent-requires : goal.unwrap-parent-requires
 unwrap-parent-requires c =
@@ -34,7 +36,7 @@ unwrap-parent-requires c =
 pub overflow_add-forks : goal.overflow_add-forks
 overflow_add-forks c =
     let parent = c.unwrap-parent.result.now in
-    let found = the_parent _ _ _ c.self.inside.by_name parent c.self.invariant c.numbers-numbers.ensures.value c.self.view_is
+    let found = the_parent _ _ _ _ c.self.inside.by_name parent c.self.invariant c.numbers-numbers.ensures.value c.self.view_is
     (sym c.get.ensures.value ∙ ap option_copied c.unwrap-parent.ensures) in
     let few = (granted-so _ _ (task_of parent) c.requires found).0 in
     search rules
@@ -42,7 +44,7 @@ overflow_add-forks c =
 pub child-requires : goal.child-requires
 child-requires c =
     let parent = c.unwrap-parent.result.now in
-    let found = the_parent _ _ _ c.self.inside.by_name parent c.self.invariant c.numbers-numbers.ensures.value c.self.view_is
+    let found = the_parent _ _ _ _ c.self.inside.by_name parent c.self.invariant c.numbers-numbers.ensures.value c.self.view_is
     (sym c.get.ensures.value ∙ ap option_copied c.unwrap-parent.ensures) in
     record { few = (granted-so _ _ (task_of parent) c.requires found).0 }
 
@@ -57,22 +59,24 @@ invariant_of-self-2 c =
     let inserts = c.in-Ok-insert.ensures.entries in
     elim c.match-get_mut.branch [
       | in-Some w ↦
-          subst AreFit (sym (ap (λ inside. inside.by_name.entries) w.self-inside-is))
-          (fit-forked name map c.insert.new.self _ c.in-Ok-from_slice.key parent c.in-Ok.child c.args.cred c.self.invariant is key_is c.in-Ok.ensures inserts
-          w.in-Some.parent.now _
-          (sym c.get_mut.ensures.value ∙ ap option_copied_mut w.in-Some.is) refl c.get_mut.ensures.unique
-          (c.get_mut.follows.holds _))
+          subst (λ inside. AreKept inside.births inside.by_name.entries) (sym w.self-inside-is)
+          (kept-forked c.self.inside.births name map c.insert.new.self _ c.in-Ok-from_slice.key parent c.in-Ok.child
+          c.args.cred c.self.invariant is key_is c.in-Ok.ensures.child c.in-Ok.ensures.birth inserts
+          c.get_mut.ensures.unique w.in-Some.parent.now _
+          (sym c.get_mut.ensures.value ∙ ap option_copied_mut w.in-Some.is) refl (c.get_mut.follows.holds _))
       | in_default-get_mut w ↦
-          absurd (never-absent name map c.insert.new.self c.insert.new.self c.in-Ok-from_slice.key parent c.in-Ok.child c.args.cred c.self.invariant is key_is
-          c.in-Ok.ensures inserts (sym c.get_mut.ensures.value ∙ ap option_copied_mut w.in_default-get_mut.is))
+          absurd (never-absent c.self.inside.births name map c.insert.new.self c.insert.new.self
+          c.in-Ok-from_slice.key parent c.in-Ok.child c.args.cred c.self.invariant is key_is c.in-Ok.ensures.child
+          c.in-Ok.ensures.birth inserts c.get_mut.ensures.unique
+          (sym c.get_mut.ensures.value ∙ ap option_copied_mut w.in_default-get_mut.is))
     ]
 
 pub returns-clause-name : goal.returns-clause-name
 returns-clause-name c =
     let parent = c.unwrap-parent.result.now in
-    let found = the_parent _ _ _ c.self.inside.by_name parent c.self.invariant c.numbers-numbers.ensures.value c.self.view_is
+    let found = the_parent _ _ _ _ c.self.inside.by_name parent c.self.invariant c.numbers-numbers.ensures.value c.self.view_is
     (sym c.get.ensures.value ∙ ap option_copied c.unwrap-parent.ensures) in
-    ap Some (c.in-Ok-clone.ensures.cases ∙ ap (λ (task : Task ℕ). task.name) c.in-Ok.ensures)
+    ap Some (c.in-Ok-clone.ensures.cases ∙ ap (λ (task : Task ℕ). task.name) c.in-Ok.ensures.child)
     ∙ sym (ap (option_map child_name) found)
 
 pub returns-clause-ok : goal.returns-clause-ok
@@ -86,13 +90,15 @@ returns-clause-ok c =
     let inserts = c.in-Ok-insert.ensures.entries in
     elim c.match-get_mut.branch [
       | in-Some w ↦
-          ap (λ inside. tasks_of inside.by_name.entries) w.self-inside-is
-          ∙ forked-so name map c.insert.new.self _ c.in-Ok-from_slice.key parent c.in-Ok.child c.args.cred c.self.invariant is key_is c.in-Ok.ensures inserts
-          w.in-Some.parent.now _
-          (sym c.get_mut.ensures.value ∙ ap option_copied_mut w.in-Some.is) refl c.get_mut.ensures.unique
-          (c.get_mut.follows.holds _)
+          ap (λ inside. tasks_of (in_order inside.by_name.entries)) w.self-inside-is
+          ∙ forked-so c.self.inside.births name map c.insert.new.self _ c.in-Ok-from_slice.key parent c.in-Ok.child
+          c.args.cred c.self.invariant is key_is c.in-Ok.ensures.child c.in-Ok.ensures.birth inserts
+          c.get_mut.ensures.unique w.in-Some.parent.now _
+          (sym c.get_mut.ensures.value ∙ ap option_copied_mut w.in-Some.is) refl (c.get_mut.follows.holds _)
           ∙ (λ i. forked (c.numbers-numbers.ensures.value i) c.args.cred (c.self.view_is i))
       | in_default-get_mut w ↦
-          absurd (never-absent name map c.insert.new.self c.insert.new.self c.in-Ok-from_slice.key parent c.in-Ok.child c.args.cred c.self.invariant is key_is
-          c.in-Ok.ensures inserts (sym c.get_mut.ensures.value ∙ ap option_copied_mut w.in_default-get_mut.is))
+          absurd (never-absent c.self.inside.births name map c.insert.new.self c.insert.new.self
+          c.in-Ok-from_slice.key parent c.in-Ok.child c.args.cred c.self.invariant is key_is c.in-Ok.ensures.child
+          c.in-Ok.ensures.birth inserts c.get_mut.ensures.unique
+          (sym c.get_mut.ensures.value ∙ ap option_copied_mut w.in_default-get_mut.is))
     ]

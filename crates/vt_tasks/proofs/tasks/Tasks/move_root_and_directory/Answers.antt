@@ -2,8 +2,8 @@ use Rattle.std.proofs.Common.{arith, ap, sym, refl, ◌∙◌, option_map}
 use Rattle.std.specs.Option.{option_copied_mut}
 use Rattle.vt_location.specs.Locations.{location_of}
 use Rattle.vt_location.specs.Numbers.{counted}
-use Rattle.vt_tasks.specs.TasksValue.{called, changed_called, tasks_of, left_by, left_of}
-use Rattle.vt_tasks.proofs.TasksLemmas.{called-absent, called-found, changed-absent, written-change, written-fit}
+use Rattle.vt_tasks.specs.TasksValue.{called, changed_called, in_order, left_by, left_of, tasks_of}
+use Rattle.vt_tasks.proofs.KeptTasks.{called-absent, called-found, changed-absent, written-change, written-fit}
 use Rattle.vt_tasks.proofs.tasks.Tasks.move_root_and_directory.Goals as goal
 
 pub returns-in_err-task-clause-left : goal.returns-in_err-task-clause-left
@@ -17,7 +17,7 @@ returns-in_err-task-clause-left c =
 pub returns-in_err-task-clause-rest : goal.returns-in_err-task-clause-rest
 returns-in_err-task-clause-rest c =
     let map = c.self.inside.by_name in
-    ap (λ map. tasks_of map.entries) c.get_mut.follows.holds-at-none
+    ap (λ map. tasks_of (in_order map.entries)) c.get_mut.follows.holds-at-none
     ∙ sym (changed-absent c.numbers.result.now map map c.self.invariant (λ task. record task { namespace = counted c.args.namespace.count; root = location_of c.args.root; directory = location_of c.args.directory })
     (sym c.get_mut.ensures.value ∙ ap option_copied_mut c.in_err-task.was))
     ∙ (λ i. changed_called (c.numbers.ensures.value i) (λ task. record task { namespace = counted c.args.namespace.count; root = location_of c.args.root; directory = location_of c.args.directory }) (c.self.view_is i))
@@ -25,7 +25,7 @@ returns-in_err-task-clause-rest c =
 pub invariant_of-self-2 : goal.invariant_of-self-2
 invariant_of-self-2 c =
     written-fit c.numbers.result.now c.self.inside.by_name _ c.self.invariant c.in_ok-task.task.now _
-    (sym c.get_mut.ensures.value ∙ ap option_copied_mut c.in_ok-task.was) refl c.get_mut.ensures.unique
+    (sym c.get_mut.ensures.value ∙ ap option_copied_mut c.in_ok-task.was) refl refl c.get_mut.ensures.unique
     (c.get_mut.follows.holds _) (omega arith) (λ e. e)
 
 pub returns-clause-left : goal.returns-clause-left
@@ -38,6 +38,6 @@ returns-clause-left c =
 pub returns-clause-rest : goal.returns-clause-rest
 returns-clause-rest c =
     written-change c.numbers.result.now c.self.inside.by_name _ c.self.invariant (λ task. record task { namespace = counted c.args.namespace.count; root = location_of c.args.root; directory = location_of c.args.directory }) c.in_ok-task.task.now _
-    (sym c.get_mut.ensures.value ∙ ap option_copied_mut c.in_ok-task.was) refl c.get_mut.ensures.unique
+    (sym c.get_mut.ensures.value ∙ ap option_copied_mut c.in_ok-task.was) refl refl c.get_mut.ensures.unique
     (c.get_mut.follows.holds _) refl
     ∙ (λ i. changed_called (c.numbers.ensures.value i) (λ task. record task { namespace = counted c.args.namespace.count; root = location_of c.args.root; directory = location_of c.args.directory }) (c.self.view_is i))

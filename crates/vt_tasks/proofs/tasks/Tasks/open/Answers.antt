@@ -1,9 +1,10 @@
 use Rattle.std.proofs.Common.{ap, arith, sym, refl, ◌∙◌, option_map}
 use Rattle.std.specs.Option.{option_copied_mut}
-use Rattle.vt_spec.specs.Machine.Outcome.Descriptors.{free_number, without_descriptor}
+use Rattle.vt_spec.specs.Machine.Descriptors.{free_number}
 use Rattle.vt_tasks.specs.TaskValue.{task_of}
 use Rattle.vt_tasks.specs.TasksValue.{called, changed_called, tasks_of, with_open}
-use Rattle.vt_tasks.proofs.TasksLemmas.{called-absent, called-found, granted-so, granted-there, if-ok, ok-equal, on-err, opened-in_order, opened-under, there-mut, written-back, written-change, written-fit, written-same}
+use Rattle.vt_tasks.proofs.KeptTasks.{called-absent, called-found, written-change, written-fit, written-same}
+use Rattle.vt_tasks.proofs.TasksLemmas.{granted-so, granted-there, ok-equal, on-err, opened-in_order, opened-under, there-mut}
 use Rattle.vt_tasks.proofs.tasks.Tasks.open.Goals as goal
 use Rattle.vt_spec.proofs.Options.{OnOk_then}
 
@@ -28,7 +29,7 @@ insert-requires c =
 pub invariant_of-self : goal.invariant_of-self
 invariant_of-self c =
     written-fit c.numbers.result.now c.self.inside.by_name _ c.self.invariant c.unwrap-task.result.now _
-    (sym c.get_mut.ensures.value ∙ ap option_copied_mut c.unwrap-task.ensures) refl c.get_mut.ensures.unique
+    (sym c.get_mut.ensures.value ∙ ap option_copied_mut c.unwrap-task.ensures) refl refl c.get_mut.ensures.unique
     (c.get_mut.follows.holds _) (omega arith)
     (opened-in_order c.insert.result c.args.opened _ _ c.insert.ensures.number c.insert.ensures.ok c.insert.ensures.err)
 
@@ -47,7 +48,7 @@ returns-clause-ok c =
     (λ is.
     written-change c.numbers.result.now c.self.inside.by_name _ c.self.invariant
     (with_open c.args.opened) c.unwrap-task.result.now _
-    (sym c.get_mut.ensures.value ∙ ap option_copied_mut c.unwrap-task.ensures) refl c.get_mut.ensures.unique
+    (sym c.get_mut.ensures.value ∙ ap option_copied_mut c.unwrap-task.ensures) refl refl c.get_mut.ensures.unique
     (c.get_mut.follows.holds _)
     (λ i. record (task_of c.unwrap-task.result.now) { descriptors = is i })
     ∙ (λ i. changed_called (c.numbers.ensures.value i) (with_open c.args.opened) (c.self.view_is i)))
@@ -62,16 +63,3 @@ returns-clause-err c =
     (sym c.get_mut.ensures.value ∙ ap option_copied_mut c.unwrap-task.ensures) (c.get_mut.follows.holds _))
     ∙ c.self.view_is)
     c.insert.ensures.err
-
-pub returns-clause-undone : goal.returns-clause-undone
-returns-clause-undone c =
-    if-ok _ _ c.insert.result
-    (λ number undone.
-    written-back c.numbers.result.now c.self.inside.by_name _ c.self.invariant _
-    (λ task. without_descriptor task number) c.unwrap-task.result.now _
-    c.numbers.ensures.value (sym c.get_mut.ensures.value
-    ∙ ap option_copied_mut c.unwrap-task.ensures) refl c.get_mut.ensures.unique
-    (c.get_mut.follows.holds _)
-    (λ i. record (task_of c.unwrap-task.result.now) { descriptors = undone i })
-    ∙ c.self.view_is)
-    c.insert.ensures.undone

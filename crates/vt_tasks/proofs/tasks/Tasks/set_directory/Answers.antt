@@ -2,8 +2,8 @@ use Rattle.std.proofs.Common.{arith, ap, sym, refl, ◌∙◌, option_map, Some}
 use Rattle.std.specs.Option.{option_copied_mut}
 use Rattle.vt_location.specs.Locations.{location_of}
 use Rattle.vt_tasks.specs.TaskValue.{task_of}
-use Rattle.vt_tasks.specs.TasksValue.{called, changed_called, tasks_of}
-use Rattle.vt_tasks.proofs.TasksLemmas.{called-absent, called-found, changed-absent, written-change, written-fit}
+use Rattle.vt_tasks.specs.TasksValue.{called, changed_called, in_order, tasks_of}
+use Rattle.vt_tasks.proofs.KeptTasks.{called-absent, called-found, changed-absent, written-change, written-fit}
 use Rattle.vt_tasks.proofs.tasks.Tasks.set_directory.Goals as goal
 
 pub returns-in_err-task-clause-left : goal.returns-in_err-task-clause-left
@@ -18,7 +18,7 @@ returns-in_err-task-clause-left c =
 pub returns-in_err-task-clause-rest : goal.returns-in_err-task-clause-rest
 returns-in_err-task-clause-rest c =
     let map = c.self.inside.by_name in
-    ap (λ map. tasks_of map.entries) c.get_mut.follows.holds-at-none
+    ap (λ map. tasks_of (in_order map.entries)) c.get_mut.follows.holds-at-none
     ∙ sym (changed-absent c.numbers.result.now map map c.self.invariant
     (λ task. record task { directory = location_of c.args.directory })
     (sym c.get_mut.ensures.value ∙ ap option_copied_mut c.in_err-task.was))
@@ -28,7 +28,7 @@ returns-in_err-task-clause-rest c =
 pub invariant_of-self-2 : goal.invariant_of-self-2
 invariant_of-self-2 c =
     written-fit c.numbers.result.now c.self.inside.by_name _ c.self.invariant c.in_ok-task.task.now _
-    (sym c.get_mut.ensures.value ∙ ap option_copied_mut c.in_ok-task.was) refl c.get_mut.ensures.unique
+    (sym c.get_mut.ensures.value ∙ ap option_copied_mut c.in_ok-task.was) refl refl c.get_mut.ensures.unique
     (c.get_mut.follows.holds _) (omega arith) (λ e. e)
 
 pub returns-clause-left : goal.returns-clause-left
@@ -44,7 +44,7 @@ pub returns-clause-rest : goal.returns-clause-rest
 returns-clause-rest c =
     written-change c.numbers.result.now c.self.inside.by_name _ c.self.invariant
     (λ task. record task { directory = location_of c.args.directory }) c.in_ok-task.task.now _
-    (sym c.get_mut.ensures.value ∙ ap option_copied_mut c.in_ok-task.was) refl c.get_mut.ensures.unique
+    (sym c.get_mut.ensures.value ∙ ap option_copied_mut c.in_ok-task.was) refl refl c.get_mut.ensures.unique
     (c.get_mut.follows.holds _)
     (λ i. record (task_of c.in_ok-task.task.now) { directory = location_of (c.replace.ensures.after i) })
     ∙ (λ i. changed_called (c.numbers.ensures.value i)

@@ -1,6 +1,6 @@
 use Rattle.std.proofs.Common.{nat_eq, ap, ◌∙◌}
 use Rattle.std.proofs.lemmas.Result.{on_ok_weaker}
-use Rattle.vt_spec.specs.Machine.Outcome.Descriptors.{overwritten}
+use Rattle.vt_spec.specs.Machine.Descriptors.{overwritten}
 use Rattle.vt_spec.specs.Inodes.{with_changed}
 use Rattle.vt_spec.specs.Tree.{bytes_in, node_with_bytes}
 use Rattle.vt_tree.specs.TreeValue.{inodes_of, tree_of}

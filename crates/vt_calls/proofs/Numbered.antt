@@ -1,0 +1,100 @@
+-- A kernel's world is that of its events but for its change number, so a call ends alike in both.
+use Rattle.std.proofs.Common.{◌≡◌, refl, sym, ap, subst, ◌∙◌, ℕ, nat_eq, true, List, Result, Ok, Err, ◌⊎◌, inl, inr}
+use Rattle.std.specs.Prelude.{OnErr}
+use Rattle.vt_spec.specs.declared.errors.Deny.{Deny}
+use Rattle.vt_spec.specs.Language.Calls.{Call, TaskName}
+use Rattle.vt_spec.specs.Language.Script.{propagation}
+use Rattle.vt_spec.specs.Lists.{Fresh}
+use Rattle.vt_spec.specs.Language.Answers.{PeerLine}
+use Rattle.vt_spec.specs.Language.Answers.Answer.{PeerList}
+use Rattle.vt_spec.specs.Machine.Listing.{peer_lines}
+use Rattle.vt_spec.specs.Machine.Outcomes.{Outcome}
+use Rattle.vt_spec.specs.Machine.Policy.{policy}
+use Rattle.vt_spec.specs.Machine.SameWorlds.{SameWorlds}
+use Rattle.vt_spec.specs.Machine.Sealed.{directed}
+use Rattle.vt_laws_rules.specs.Numbers.{Allotment}
+use Rattle.vt_laws_permits.proofs.same.SameNumbers.{same_worlds_keep_to_numbers}
+use Rattle.vt_request.specs.Requests.{directive_of}
+use Rattle.vt_request.specs.declared.answer.Answer.{Answer}
+use Rattle.vt_request.specs.declared.request.Directive.{Directive}
+use Rattle.vt_request.specs.declared.request.Directive.TheVariants.{Peers}
+use Rattle.vt_laws_runs.proofs.answered.AlikeAnswered.{same_worlds_are_answered_alike, same_worlds_are_directed_alike}
+use Rattle.vt_laws_runs.proofs.answered.AlikeWorlds.{sameness_is_an_equivalence}
+use Rattle.vt_laws_runs.proofs.runs.GrammarsPlain.{propagation_mounts_no_overlay}
+use Rattle.vt_laws_runs.specs.Answered.{AreAlike}
+use Rattle.vt_laws_runs.specs.Handed.{may_be_given}
+use Rattle.vt_laws_runs.specs.Runs.{ServesInHand}
+use Rattle.vt_detach.proofs.Staying.{world_is_plain}
+use Rattle.vt_world.specs.WorldValue.{WorldValue, world_of}
+use Rattle.vt_answers.specs.Ends as any
+use Rattle.vt_answers.specs.Ends.{MayBeRefusedMemory}
+use Rattle.vt_calls.proofs.Finishing.{same_but_for_changes}
+use Rattle.vt_calls.specs.KernelValue.{KernelValue, kernel_world}
+use Rattle.vt_calls.specs.Meets.{Ends, Meets}
+
+-- the same world
+numbered : (kernel : KernelValue) → SameWorlds (world_of kernel.world) (kernel_world kernel)
+numbered kernel = same_but_for_changes (world_of kernel.world) (kernel_world kernel) refl
+
+-- the same numbers serve it
+pub serves_numbered : (kernel : KernelValue) (allotment : Allotment)
+    → ServesInHand may_be_given (world_of kernel.world) allotment
+    → ServesInHand may_be_given (kernel_world kernel) allotment
+serves_numbered kernel allotment it = record {
+  serves = record {
+    from_hand = it.serves.from_hand;
+    keeps = same_worlds_keep_to_numbers _ (world_of kernel.world) (kernel_world kernel) (numbered kernel)
+        (world_is_plain kernel.world) it.serves.keeps;
+  };
+  stays = it.stays;
+}
+
+-- a call ends so
+module _ (old : KernelValue) (name : TaskName) (call : Call) (has : propagation.has call ≡ true) where
+  alike : (fresh : Fresh ℕ)
+      → AreAlike (policy nat_eq fresh (world_of old.world) name call) (policy nat_eq fresh (kernel_world old) name call)
+  alike fresh =
+      same_worlds_are_answered_alike (world_of old.world) (kernel_world old) (numbered old) (world_is_plain old.world)
+      fresh name call (propagation_mounts_no_overlay call has)
+
+  -- with the kernel that it leaves
+  module _ (new : KernelValue) where
+    meets : (one other : Outcome ℕ) → AreAlike one other → (result : Result Answer Deny)
+        → Meets call one result old.world new.world → OnErr result (new.world ≡ old.world → new ≡ old)
+        → any.Meets kernel_world call other result old new
+    meets one other same (Ok answer) it kept = (
+      sym same.answer ∙ it.0,
+      sameness_is_an_equivalence.onward other.world one.world (kernel_world new)
+          (sameness_is_an_equivalence.back one.world other.world same.worlds)
+          (sameness_is_an_equivalence.onward one.world (world_of new.world) (kernel_world new) it.1 (numbered new)),
+    )
+    meets one other same (Err deny) (inl denied, stays) kept = (inl (sym same.answer ∙ denied), kept stays)
+    meets one other same (Err deny) (inr (short, may), stays) kept =
+        (inr (short, subst (MayBeRefusedMemory call) same.answer may), kept stays)
+
+    pub ends_numbered : (result : Result Answer Deny) → Ends old.world name call result new.world
+        → OnErr result (new.world ≡ old.world → new ≡ old) → any.Ends kernel_world old name call result new
+    ends_numbered result it kept = record {
+      allotment = it.allotment;
+      serves = serves_numbered old it.allotment it.serves;
+      outcome = meets _ _ (alike it.allotment.new) result it.outcome kept;
+      memory = λ none. it.memory none ∙ (alike it.allotment.new).answer;
+    }
+
+-- the same of a kernel as a function sees it
+pub ends_seen : (seen old new : KernelValue) → seen ≡ old → (name : TaskName) (call : Call)
+    → propagation.has call ≡ true → (result : Result Answer Deny) → Ends seen.world name call result new.world
+    → OnErr result (new.world ≡ seen.world → new ≡ seen) → any.Ends kernel_world old name call result new
+ends_seen seen old new is name call has result it kept =
+    subst (λ kernel. any.Ends kernel_world kernel name call result new) is
+    (ends_numbered seen name call has new result it kept)
+
+-- and a directive is answered so
+pub directed_numbered : (seen kernel : KernelValue) → seen ≡ kernel → (directive : Directive) (lines : List PeerLine)
+    → lines ≡ peer_lines nat_eq (world_of seen.world)
+    → (directed nat_eq (kernel_world kernel) (directive_of directive)).answer ≡ Ok (PeerList lines)
+directed_numbered seen kernel is Peers lines told =
+    subst (λ other. (directed nat_eq (kernel_world other) (directive_of Peers)).answer ≡ Ok (PeerList lines)) is
+    (sym (same_worlds_are_directed_alike (world_of seen.world) (kernel_world seen) (numbered seen)
+    (world_is_plain seen.world) (directive_of Peers)).answer
+    ∙ ap (λ some. Ok (PeerList some)) (sym told))

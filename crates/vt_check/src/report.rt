@@ -1,0 +1,257 @@
+//! What is found in a whole script.
+ghost use Rattle.std.specs.Prelude.{◌≡◌, IfOk};
+ghost use Rattle.vt_lines.specs.Refused.{is_refused, refused_in};
+
+use crate::bytes::byte_fault;
+use crate::diagnose::diagnosis;
+use crate::finding::{Diagnosis, Help};
+use crate::history::{History, Warning, unfollowed};
+use crate::words::{Word, words_of};
+use std::alloc::{AllocError, Global};
+use strsim::osa_distance;
+use vt_line::line::Line;
+use vt_lines::lines::first_line;
+use vt_lines::reading::reading;
+use vt_request::{Call, TaskName};
+
+/// The most findings of a file that are shown.
+pub const MOST_SHOWN: usize = 50;
+
+/// How grave a finding is.
+#[derive(Clone, Copy, PartialEq, Eq)]
+pub enum Level {
+    /// A run refuses the line by S1.
+    Error,
+    Warning,
+}
+
+/// Something found in a line.
+#[derive(Drop)]
+pub struct Finding {
+    /// The number of the line, from 1.
+    pub line: u64,
+    /// The line itself.
+    pub text: Vec<u8>,
+    pub level: Level,
+    pub diagnosis: Diagnosis,
+}
+
+/// What is found in a script.
+#[derive(Drop)]
+pub struct Report {
+    /// The first of them, in the order of their lines.
+    pub findings: Vec<Finding>,
+    /// How many lines a run refuses by S1.
+    pub errors: u64,
+    pub warnings: u64,
+    /// Lines in which bytes are at fault that were told before, by [`crate::bytes::ByteKind::told_once`].
+    pub further: [u64; 4],
+}
+
+// What is found so far.
+#[derive(Drop)]
+struct Scan {
+    history: History,
+    findings: Vec<Finding>,
+    warnings: u64,
+    // How many lines have each of the faults that are told once a file.
+    told: [u64; 4],
+}
+
+impl Scan {
+    fn new(alloc: Global) -> Result<Self, AllocError> {
+        Ok(Scan {
+            history: History::new(alloc)?,
+            findings: Vec::new(alloc),
+            warnings: 0,
+            told: [0; 4],
+        })
+    }
+
+    // Whether the fault of a refused line was told before in this file.
+    fn is_told(&mut self, line: &[u8]) -> bool {
+        let Some(place) = byte_fault(line).and_then(|fault| fault.kind.told_once()) else {
+            return false;
+        };
+        let Some(count) = self.told.get_mut(place) else {
+            return false;
+        };
+        *count = count.saturating_add(1);
+        *count > 1
+    }
+
+    // Keeps a finding, if not too many are kept.
+    fn find(
+        &mut self,
+        alloc: Global,
+        number: u64,
+        line: &[u8],
+        level: Level,
+        diagnosis: Diagnosis,
+    ) -> Result<(), AllocError> {
+        if self.findings.len() < MOST_SHOWN {
+            self.findings.push(Finding {
+                line: number,
+                text: line.to_vec(alloc)?,
+                level,
+                diagnosis,
+            })?;
+        }
+        Ok(())
+    }
+
+    // Keeps what is wrong with a refused line.
+    fn refuse(&mut self, alloc: Global, number: u64, line: &[u8]) -> Result<(), AllocError> {
+        if let Some(name) = forking_task(alloc, line)? {
+            self.history.refused_fork(number, &name);
+        }
+        if self.is_told(line) || self.findings.len() >= MOST_SHOWN {
+            return Ok(());
+        }
+        let found = diagnosis(alloc, line)?;
+        self.find(alloc, number, line, Level::Error, found)
+    }
+
+    // Keeps a warning about a line.
+    fn warn(
+        &mut self,
+        alloc: Global,
+        number: u64,
+        line: &[u8],
+        warning: Warning,
+    ) -> Result<(), AllocError> {
+        self.warnings = self.warnings.saturating_add(1);
+        let found = warned(alloc, line, warning)?;
+        self.find(alloc, number, line, Level::Warning, found)
+    }
+
+    // Goes on by a line, and says whether a run refuses it.
+    fn take(&mut self, alloc: Global, number: u64, line: &[u8]) -> Result<bool, AllocError>
+        ensures { IfOk result (λ refused. refused ≡ is_refused line.now) }
+    {
+        match reading(alloc, line)? {
+            None => {
+                self.refuse(alloc, number, line)?;
+                Ok(true)
+            }
+            Some(Line::Call(name, call)) => {
+                self.called(alloc, number, line, &name, &call)?;
+                Ok(false)
+            }
+            Some(_) => Ok(false),
+        }
+    }
+
+    // Goes on by a task's call.
+    fn called(
+        &mut self,
+        alloc: Global,
+        number: u64,
+        line: &[u8],
+        name: &TaskName,
+        call: &Call,
+    ) -> Result<(), AllocError> {
+        match self.history.call(alloc, number, name, call)? {
+            Some(warning) => self.warn(alloc, number, line, warning),
+            None => Ok(()),
+        }
+    }
+
+    // Warns of each change of the root that no change of the working directory follows.
+    fn warn_of_chroots(&mut self, alloc: Global, text: &[u8]) -> Result<(), AllocError> {
+        for number in self.history.unfollowed_chroots(alloc)? {
+            let line = line_of(text, number);
+            let warning = unfollowed(alloc)?;
+            self.warn(alloc, number, line, warning)?;
+        }
+        Ok(())
+    }
+}
+
+// The line of this number.
+fn line_of(text: &[u8], number: u64) -> &[u8] {
+    let place = usize::try_from(number.saturating_sub(1)).unwrap_or(usize::MAX);
+    text.split(|byte| *byte == b'\n')
+        .nth(place)
+        .unwrap_or_default()
+}
+
+// The task of a refused line that was to fork a child.
+fn forking_task(alloc: Global, line: &[u8]) -> Result<Option<TaskName>, AllocError> {
+    let Ok(text) = str::from_utf8(line) else {
+        return Ok(None);
+    };
+    let mut words = text.split(' ').filter(|word| !word.is_empty());
+    let (Some(who), Some(name)) = (words.next(), words.next()) else {
+        return Ok(None);
+    };
+    if !matches!(name.len(), 3..=5) || osa_distance(alloc, name, "fork")? > 1 {
+        return Ok(None);
+    }
+    let exit = format!(in alloc; "{who} exit")?;
+    Ok(match reading(alloc, exit.as_bytes())? {
+        Some(Line::Call(task, _call)) => Some(task),
+        _ => None,
+    })
+}
+
+// A warning with its place in the line.
+fn warned(alloc: Global, line: &[u8], warning: Warning) -> Result<Diagnosis, AllocError> {
+    let words = words_of(alloc, str::from_utf8(line).unwrap_or_default())?;
+    let start = Word {
+        column: 0,
+        text: " ",
+    };
+    let word = words.get(warning.word).copied().unwrap_or(start);
+    Ok(Diagnosis {
+        span: word.span(),
+        message: warning.message,
+        help: Help::words(alloc, warning.help),
+        note: "",
+    })
+}
+
+// How many lines have a fault that was told at the first of them.
+fn further(told: [u64; 4]) -> [u64; 4] {
+    let [crlf, mark, tab, high] = told;
+    [
+        crlf.saturating_sub(1),
+        mark.saturating_sub(1),
+        tab.saturating_sub(1),
+        high.saturating_sub(1),
+    ]
+}
+
+// The report of a scan that has come to the end of a text.
+fn ended(mut scan: Scan, alloc: Global, text: &[u8], errors: u64) -> Result<Report, AllocError>
+    ensures { IfOk result (λ report. report.errors ≡ errors) }
+{
+    scan.warn_of_chroots(alloc, text)?;
+    let mut findings = scan.findings;
+    findings.sort_by_key(|finding| finding.line)?;
+    Ok(Report {
+        findings,
+        errors,
+        warnings: scan.warnings,
+        further: further(scan.told),
+    })
+}
+
+/// What is found in a script. As many lines are errors as a run refuses by S1.
+#[tactic(auto, using(vt_lines::proofs::LineLemmas::refused_lines))]
+pub fn report_of(alloc: Global, text: &[u8]) -> Result<Report, AllocError>
+    ensures { IfOk result (λ report. report.errors ≡ refused_in text.now) }
+{
+    let mut scan = Scan::new(alloc)?;
+    let mut rest = text;
+    let mut number: u64 = 0;
+    let mut errors: u64 = 0;
+    while let Some((line, after)) = first_line(rest) {
+        number = number.saturating_add(1);
+        if scan.take(alloc, number, line)? {
+            errors += 1;
+        }
+        rest = after;
+    }
+    ended(scan, alloc, text, errors)
+}

@@ -1,0 +1,28 @@
+//! Modes and owners, as chmod(1), chgrp(1) and chown(1) have them.
+use super::Row;
+
+static ROWS: [Row; 10] = [
+    ("chmod * *", "chmod $2 $1", ""),
+    (
+        "chmod -R ...",
+        "",
+        "a call changes one object; there is no `-R`",
+    ),
+    (
+        "chown -R ...",
+        "",
+        "a call changes one object; there is no `-R`",
+    ),
+    ("chgrp * *", "chown $2 - $1", ""),
+    ("chown * root root", "chown $1 0 0", ""),
+    ("chown * root", "chown $1 0 -", ""),
+    ("chown root *", "chown $2 0 -", ""),
+    ("chown root:root *", "chown $2 0 0", ""),
+    ("chown * root:root", "chown $1 0 0", ""),
+    ("chown * *", "chown $1 $2 -", "`-` leaves what is there"),
+];
+
+/// The rows, in the order in which they are tried.
+pub fn rows() -> &'static [Row] {
+    &ROWS
+}

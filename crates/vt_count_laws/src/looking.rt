@@ -1,8 +1,0 @@
-//! Looks at counted inodes.
-ghost use Rattle.vt_count_laws.specs.Looking.{CountedTreeIsTheTree, DirectoriesLieAlike};
-
-/// What is seen of counted inodes is what the tree has.
-pub fn counted_inodes_show_the_tree()
-    ensures tree { CountedTreeIsTheTree }
-    ensures under { DirectoriesLieAlike }
-{}

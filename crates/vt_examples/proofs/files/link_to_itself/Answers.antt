@@ -1,7 +1,0 @@
-use Rattle.std.specs.Prelude.{refl}
-use Rattle.vt_spec.specs.OneTree.Run.{everything}
-use Rattle.vt_examples.proofs.files.link_to_itself.Goals as goal
-
-pub returns : goal.returns
-unfolding everything
-returns c = refl

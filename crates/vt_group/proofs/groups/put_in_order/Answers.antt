@@ -1,0 +1,69 @@
+use Rattle.std.proofs.Common.{◌≡◌, ℕ, Bool, true, false, cond, List, [], ◌∷◌, ◌||◌, map, nat_cmp, nat_eq, refl, rules, sym, ap, subst, ◌∙◌}
+use Rattle.std.proofs.lemmas.Bool.{eqb-true}
+use Rattle.std.proofs.lemmas.List.Filters.{dedup_is}
+use Rattle.std.proofs.lemmas.List.Kept.{IsStrictlySortedBy-dedup}
+use Rattle.std.proofs.lemmas.List.Sorted.{answers_always, list_any-IsPermutation}
+use Rattle.std.specs.List.{AllByRecursion, dedup, dedup_from}
+use Rattle.std.specs.List.Sorted.{IsStrictlySortedBy}
+use Rattle.std.specs.declared.cmp.Ordering.TheVariants.{Less}
+use Rattle.vt_location.specs.InOrder.{cmp_by}
+use Rattle.vt_location.specs.declared.numbers.MountId.{MountId}
+use Rattle.vt_location.proofs.OrderLemmas.{cmp_total, tied}
+use Rattle.vt_group.specs.Receiving.{is_noted}
+use Rattle.vt_group.specs.Sets.{same_id}
+use Rattle.vt_group.proofs.groups.put_in_order.Goals as goal
+
+abbrev count_of : MountId → ℕ
+count_of id = id.count
+
+-- the counts of mounts in order ascend
+counts_ascend : (ids : List MountId) → IsStrictlySortedBy (cmp_by count_of) ids
+    → IsStrictlySortedBy nat_cmp (map count_of ids)
+unfolding IsStrictlySortedBy
+counts_ascend [] sorted = tt
+counts_ascend (id ∷ ids) sorted = (above ids sorted.0, counts_ascend ids sorted.1)
+  where
+    above : (others : List MountId) → AllByRecursion (λ other. cmp_by count_of id other ≡ Less) others
+        → AllByRecursion (λ other. nat_cmp id.count other ≡ Less) (map count_of others)
+    above [] all = tt
+    above (other ∷ others) all = (all.0, above others all.1)
+
+-- what is dropped is there once more
+noted_from : (count : ℕ) (id : MountId) (ids : List MountId)
+    → is_noted (dedup_from same_id id ids) count ≡ (nat_eq count id.count || is_noted ids count)
+noted_from count id [] = refl
+noted_from count id (other ∷ ids) =
+    by (same_id other id) refl (noted_from count id ids) (noted_from count other ids)
+  where
+    again : (b rest : Bool) → (b || rest) ≡ (b || (b || rest))
+    again true rest = refl
+    again false rest = refl
+
+    by : (b : Bool) → same_id other id ≡ b
+        → is_noted (dedup_from same_id id ids) count ≡ (nat_eq count id.count || is_noted ids count)
+        → is_noted (dedup_from same_id other ids) count ≡ (nat_eq count other.count || is_noted ids count)
+        → is_noted (cond b (dedup_from same_id id ids) (id ∷ dedup_from same_id other ids)) count
+        ≡ (nat_eq count id.count || (nat_eq count other.count || is_noted ids count))
+    by true same rest later =
+        rest ∙ again (nat_eq count id.count) (is_noted ids count)
+        ∙ ap (λ n. nat_eq count id.count || (nat_eq count n || is_noted ids count)) (sym (eqb-true other.count id.count same))
+    by false apart rest later = ap (λ b. nat_eq count id.count || b) later
+
+noted_once : (count : ℕ) (ids : List MountId) → is_noted (dedup same_id ids) count ≡ is_noted ids count
+noted_once count [] = refl
+noted_once count (id ∷ ids) = noted_from count id ids
+
+pub returns-clause-ordered : goal.returns-clause-ordered
+returns-clause-ordered c =
+    let by_count = c.sort_unstable_by_key.ensures.sorted count_of (answers_always _ _ _ (λ f a r g called. search rules)) in
+    subst (λ ids. IsStrictlySortedBy nat_cmp (map count_of ids)) (sym (dedup_is same_id _ _ c.dedup.ensures.filtered))
+    (counts_ascend (dedup same_id c.sort_unstable_by_key.new.self.items)
+    (IsStrictlySortedBy-dedup (cmp_total count_of) (λ x y. sym (tied count_of x y))
+    c.sort_unstable_by_key.new.self.items by_count))
+
+pub returns-clause-same : goal.returns-clause-same
+returns-clause-same c count =
+    ap (λ ids. is_noted ids count) (dedup_is same_id _ _ c.dedup.ensures.filtered)
+    ∙ noted_once count c.sort_unstable_by_key.new.self.items
+    ∙ sym (list_any-IsPermutation (λ mount. nat_eq count mount.count) c.args.mounts.now.items
+    c.sort_unstable_by_key.new.self.items c.sort_unstable_by_key.ensures.permutation)

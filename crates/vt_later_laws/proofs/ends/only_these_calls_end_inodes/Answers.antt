@@ -1,5 +1,0 @@
-use Rattle.vt_later_laws.proofs.ends.WithoutOverlays.{only_these_end_inodes}
-use Rattle.vt_later_laws.proofs.ends.only_these_calls_end_inodes.Goals as goal
-
-pub returns : goal.returns
-returns c = only_these_end_inodes

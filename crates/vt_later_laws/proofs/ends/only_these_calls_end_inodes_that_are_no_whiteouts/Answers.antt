@@ -1,5 +1,0 @@
-use Rattle.vt_later_laws.proofs.ends.EndedBy.{only_these_end_other_inodes}
-use Rattle.vt_later_laws.proofs.ends.only_these_calls_end_inodes_that_are_no_whiteouts.Goals as goal
-
-pub returns : goal.returns
-returns c = only_these_end_other_inodes

@@ -1,2 +1,0 @@
--- What the proofs of src/given.rt use.
-pub mod GivenPermits

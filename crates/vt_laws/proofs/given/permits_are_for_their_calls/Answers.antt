@@ -1,5 +1,0 @@
-use Rattle.vt_laws.proofs.given.GivenPermits.{permits_are_for_their_calls}
-use Rattle.vt_laws.proofs.given.permits_are_for_their_calls.Goals as goal
-
-pub returns : goal.returns
-returns c = permits_are_for_their_calls

@@ -1,5 +1,0 @@
-use Rattle.vt_laws.proofs.judged.NumbersRaised.{last_step_raises_numbers_alone}
-use Rattle.vt_laws.proofs.judged.the_last_step_raises_change_numbers_alone.Goals as goal
-
-pub returns : goal.returns
-returns c = last_step_raises_numbers_alone

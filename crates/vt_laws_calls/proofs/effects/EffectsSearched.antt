@@ -1,0 +1,118 @@
+-- The directory of a name that a walk ends at may be searched.
+use Rattle.std.proofs.Common.{◌≡◌, true≢false, ℕ, suc, zero, ◌+◌, nat_eq, Bool, true, false, not, ◌&&◌, ◌||◌, List, [], ◌∷◌, Option, Some, None, is_some, Result, reverse}
+use Rattle.vt_spec.specs.declared.errors.Rule.TheVariants.{W3, W6}
+use Rattle.vt_spec.specs.Machine.Mounts.{Location}
+use Rattle.vt_spec.specs.Machine.Looks.{looks_of}
+use Rattle.vt_spec.specs.Machine.Rightful.{node_allows}
+use Rattle.vt_spec.specs.Machine.Rules.Removing.{rename_new_walk}
+use Rattle.vt_spec.specs.Machine.Walking.{Here, LastWord, Place, Stop, final_word, is_special, symlink_of, path_text, then_walk, walk_start, walk_unless}
+use Rattle.vt_spec.proofs.Walk.{file_or_symlink, file_walk, file_walked, followed, follow_rules, prefix_walked, is_directory_there, symlink_start, symlink_there, new_leaf_walk, new_name_rules, new_walk, object_named, old_leaf_walk, old_walk, place_walk, placed, search_rules, steps_at}
+use Rattle.vt_spec.specs.Machine.Walking.LastWord.{Dot, DotDot, Named, NoWord}
+use Rattle.vt_spec.specs.Language.Limits.{most_symlinks}
+use Rattle.vt_spec.specs.Machine.World.{Task, World, node_at}
+use Rattle.vt_spec.specs.PathText.{ends_in_slash, words}
+use Rattle.vt_spec.specs.Rights.{execute_right}
+use Rattle.vt_laws_trees.proofs.trees.TreesWalked.{Ends, ends_next, ends_step, ends_then, ends_unless, not_true}
+
+module _ (world : World ℕ) (task : Task ℕ) where
+  abbrev pub MaySearch : Location ℕ → Type 0
+  MaySearch here = node_allows task.credentials execute_right (node_at nat_eq world here) ≡ true
+
+  abbrev pub IsSearched : Place ℕ → Type 0
+  IsSearched place = is_special place.last ≡ false → MaySearch place.parent
+
+  searched_placed : (here : Here ℕ) (word : LastWord) (slash : Bool)
+      → Ends IsSearched (placed nat_eq world task here word slash)
+  searched_placed here NoWord slash = λ named. absurd (true≢false named)
+  searched_placed here Dot slash =
+      ends_step IsSearched (steps_at nat_eq world task here Dot) (search_rules nat_eq world task here.location)
+      (object_named nat_eq world task here.location Dot) _ (λ passed object e named. absurd (true≢false named))
+  searched_placed here DotDot slash =
+      ends_step IsSearched (steps_at nat_eq world task here DotDot) (search_rules nat_eq world task here.location)
+      (object_named nat_eq world task here.location DotDot) _ (λ passed object e named. absurd (true≢false named))
+  searched_placed here (Named name) slash =
+      ends_step IsSearched (steps_at nat_eq world task here (Named name)) (search_rules nat_eq world task here.location)
+      (object_named nat_eq world task here.location (Named name)) _ (λ passed object e named. not_true _ passed.1.0)
+
+  searched_place_walk : (path : List ℕ) → Ends IsSearched (place_walk nat_eq world task path)
+  searched_place_walk path =
+      ends_next IsSearched (path_text path) _ (λ text.
+      ends_next IsSearched (prefix_walked nat_eq world task (followed nat_eq world task) (walk_start task text)
+      (reverse (words text)))
+      (λ here. placed nat_eq world task here (final_word (reverse (words text))) (ends_in_slash text))
+      (λ here. searched_placed here (final_word (reverse (words text))) (ends_in_slash text)))
+
+  pub searched_new_walk : (path : List ℕ) → Ends IsSearched (new_walk nat_eq world task path)
+  searched_new_walk path =
+      ends_then IsSearched IsSearched (place_walk nat_eq world task path) _ (searched_place_walk path)
+      (λ place is. ends_unless IsSearched place.steps (new_name_rules nat_eq world place) place (λ passed. is))
+
+  pub searched_new_leaf_walk : (path : List ℕ) → Ends IsSearched (new_leaf_walk nat_eq world task path)
+  searched_new_leaf_walk path =
+      ends_then IsSearched IsSearched (new_walk nat_eq world task path) _ (searched_new_walk path)
+      (λ place is. ends_unless IsSearched place.steps ((place.slash && not (is_some place.object), W6) ∷ []) place
+      (λ passed. is))
+
+  pub searched_rename_walk : (path : List ℕ) (directory : Bool)
+      → Ends IsSearched (rename_new_walk nat_eq (looks_of nat_eq world) task path directory)
+  searched_rename_walk path directory =
+      ends_then IsSearched IsSearched (new_walk nat_eq world task path) _ (searched_new_walk path)
+      (λ place is. ends_unless IsSearched place.steps ((place.slash && not directory, W3) ∷ []) place (λ passed. is))
+
+  pub searched_old_walk : (path : List ℕ) → Ends IsSearched (old_walk nat_eq world task path)
+  searched_old_walk path =
+      ends_then IsSearched IsSearched (place_walk nat_eq world task path) _ (searched_place_walk path)
+      (λ place is. ends_unless IsSearched place.steps ((not (is_some place.object), W6) ∷ []) place (λ passed. is))
+
+  pub searched_old_leaf_walk : (path : List ℕ) → Ends IsSearched (old_leaf_walk nat_eq world task path)
+  searched_old_leaf_walk path =
+      ends_then IsSearched IsSearched (old_walk nat_eq world task path) _ (searched_old_walk path)
+      (λ place is. ends_unless IsSearched place.steps
+      ((place.slash && not (is_directory_there nat_eq world place), W3) ∷ []) place
+      (λ passed. is))
+
+  -- files
+  searched_file_or_link : (place : Place ℕ) (text : Option (List ℕ)) (follow : List ℕ → Result (Place ℕ) (Stop ℕ))
+      → IsSearched place
+      → ((inner : List ℕ) → Ends IsSearched (follow inner))
+      → Ends IsSearched (file_or_symlink nat_eq world place text follow)
+  searched_file_or_link place None follow is rest = is
+  searched_file_or_link place (Some text) follow is rest = rest text
+
+  abbrev linked_file : ℕ → List ℕ → Bool → Here ℕ → Place ℕ → List ℕ → Result (Place ℕ) (Stop ℕ)
+  linked_file depth text slash here place inner =
+      then_walk (walk_unless place.steps (follow_rules nat_eq world (symlink_of here place) inner)
+      (symlink_start nat_eq world task here.location (symlink_of here place) inner))
+      (λ next. file_walked nat_eq depth world task next inner (slash || ends_in_slash text))
+
+  abbrev file_from : ℕ → List ℕ → Bool → Here ℕ → Result (Place ℕ) (Stop ℕ)
+  file_from depth text slash here =
+      then_walk (placed nat_eq world task here (final_word (reverse (words text))) (slash || ends_in_slash text))
+      (λ place. file_or_symlink nat_eq world place (symlink_there nat_eq world place)
+      (linked_file depth text slash here place))
+
+  searched_file_walked : (depth : ℕ) (start : Here ℕ) (text : List ℕ) (slash : Bool)
+      → Ends IsSearched (file_walked nat_eq depth world task start text slash)
+  searched_file_walked zero start text slash = tt
+  searched_file_walked (suc depth) start text slash =
+      ends_next IsSearched (prefix_walked nat_eq world task (followed nat_eq world task) start (reverse (words text)))
+      (λ here. file_from depth text slash here) (λ here.
+      ends_then IsSearched IsSearched
+      (placed nat_eq world task here (final_word (reverse (words text))) (slash || ends_in_slash text))
+      (λ place. file_or_symlink nat_eq world place (symlink_there nat_eq world place)
+      (linked_file depth text slash here place))
+      (searched_placed here (final_word (reverse (words text))) (slash || ends_in_slash text)) (λ place is.
+      searched_file_or_link place (symlink_there nat_eq world place) (linked_file depth text slash here place) is
+      (λ inner.
+      ends_next IsSearched (walk_unless place.steps (follow_rules nat_eq world (symlink_of here place) inner)
+      (symlink_start nat_eq world task here.location (symlink_of here place) inner))
+      (λ next. file_walked nat_eq depth world task next inner (slash || ends_in_slash text))
+      (λ next. searched_file_walked depth next inner (slash || ends_in_slash text)))))
+
+  pub searched_file_walk : (path : List ℕ) → Ends IsSearched (file_walk nat_eq world task path)
+  searched_file_walk path =
+      ends_next IsSearched (path_text path) _ (λ text.
+      ends_then IsSearched IsSearched
+      (file_walked nat_eq (most_symlinks + 1) world task (walk_start task text) text false) _
+      (searched_file_walked (most_symlinks + 1) (walk_start task text) text false) (λ place is.
+      ends_unless IsSearched place.steps (new_name_rules nat_eq world place) place (λ passed. is)))

@@ -1,0 +1,120 @@
+-- What a granted call of the machine leaves.
+use Rattle.std.proofs.Common.{◌≡◌, refl, sym, ap, ◌∙◌, ℕ, nat_eq, Bool, true, false, cond, not, List, [], ◌∷◌, ◌||◌, Option, Some, None, Result, Ok, Err, find, is_ok, map, ok_or}
+use Rattle.std.specs.Prelude.{option_map}
+use Rattle.vt_spec.specs.declared.errors.Deny.{Deny}
+use Rattle.vt_spec.specs.declared.errors.Rule.TheVariants.{S2}
+use Rattle.vt_spec.specs.Errors.{denial}
+use Rattle.vt_spec.specs.Machine.Apply.{apply, filesystems_changed, overfills}
+use Rattle.vt_spec.specs.Language.Calls.{Call, TaskName, same_name}
+use Rattle.vt_spec.specs.Machine.Filesystems.{raised}
+use Rattle.vt_spec.specs.Machine.Judge.{Judgement, judge_in}
+use Rattle.vt_spec.specs.Lists.{Fresh}
+use Rattle.vt_spec.specs.Language.Answers.{Answer}
+use Rattle.vt_spec.specs.Machine.Outcomes.{Outcome, after}
+use Rattle.vt_spec.specs.Machine.Permits.{Permit}
+use Rattle.vt_spec.specs.Machine.Policy.{filesystems_changed_by, finished, finished_by, numbers_raised, only_looks, policy, raised_task}
+use Rattle.vt_spec.specs.Machine.Settled.{settled}
+use Rattle.vt_spec.specs.Machine.World.{Task, World, task_called}
+use Rattle.vt_laws_rules.proofs.judged.CallsJudged.{policy_judges_then_applies}
+use Rattle.vt_spec.proofs.Worlds.{answer-finished_by}
+use Rattle.vt_laws_rules.proofs.given.Inversion.{calls_are_granted}
+use Rattle.vt_laws_rules.specs.Granted.{IsGranted}
+use Rattle.vt_spec.specs.Machine.Looks.{looks_of}
+
+-- what a call that was granted, and does not only look, was permitted, and what it left
+pub record IsPermitted (world : World ℕ) (fresh : Fresh ℕ) (name : TaskName) (call : Call)
+    (answer : Answer) : Type 0 where
+  pub task : Task ℕ
+  pub called : task_called world name ≡ Some task
+  pub permit : Permit ℕ
+  pub judged : judge_in nat_eq fresh world task call ≡ Ok permit
+  pub granted : IsGranted nat_eq (looks_of nat_eq world) (overfills nat_eq fresh world task) task call permit
+  pub answered : (apply nat_eq fresh world task permit).answer ≡ Ok answer
+  pub left : (policy nat_eq fresh world name call).world
+      ≡ numbers_raised nat_eq world name (filesystems_changed nat_eq world permit)
+      (settled nat_eq (apply nat_eq fresh world task permit).world)
+
+module _ (world : World ℕ) (fresh : Fresh ℕ) (name : TaskName) (call : Call) (answer : Answer)
+    (changes : only_looks call ≡ false) where
+  abbrev spent : Task ℕ → Judgement ℕ → Outcome ℕ
+  spent task judgement = after world judgement (apply nat_eq fresh world task)
+
+  abbrev done_by : Task ℕ → Judgement ℕ → Outcome ℕ
+  done_by task judgement =
+      finished nat_eq world name call (filesystems_changed_by nat_eq world judgement) (spent task judgement)
+
+  abbrev judged_as : Option (Task ℕ) → Outcome ℕ
+  judged_as o =
+      after world (ok_or o (denial S2)) (λ task. done_by task (judge_in nat_eq fresh world task call))
+
+  same_answer : (task : Task ℕ) (judgement : Judgement ℕ) → (done_by task judgement).answer ≡ Ok answer
+      → (spent task judgement).answer ≡ Ok answer
+  same_answer task judgement e =
+      sym (answer-finished_by (only_looks call || not (is_ok (spent task judgement).answer)) world name
+      (filesystems_changed_by nat_eq world judgement) (spent task judgement)) ∙ e
+
+  of_judgement : (task : Task ℕ) → task_called world name ≡ Some task
+      → (judgement : Judgement ℕ) → judge_in nat_eq fresh world task call ≡ judgement
+      → (done_by task judgement).answer ≡ Ok answer → IsPermitted world fresh name call answer
+  of_judgement task e (Err deny) f g = refused (same_answer task (Err deny) g)
+    where
+      refused : Path (Result Answer Deny) (Err deny) (Ok answer) → IsPermitted world fresh name call answer
+      refused h = cc
+  of_judgement task e (Ok permit) f g = record {
+    task = task;
+    called = e;
+    permit = permit;
+    judged = f;
+    granted = calls_are_granted nat_eq (looks_of nat_eq world) (overfills nat_eq fresh world task) task call permit f;
+    answered = same_answer task (Ok permit) g;
+    left =
+        ap (λ (o : Outcome ℕ). o.world)
+        (policy_judges_then_applies fresh world name call ∙ ap judged_as e ∙ ap (done_by task) f
+        ∙ ap (λ b. finished_by nat_eq b world name (filesystems_changed nat_eq world permit)
+        (apply nat_eq fresh world task permit))
+        (ap (λ b. b || not (is_ok (apply nat_eq fresh world task permit).answer)) changes
+        ∙ ap (λ a. not (is_ok a)) (same_answer task (Ok permit) g)));
+  }
+
+  of_task : (o : Option (Task ℕ)) → task_called world name ≡ o → (judged_as o).answer ≡ Ok answer
+      → IsPermitted world fresh name call answer
+  of_task None e g = cc
+  of_task (Some task) e g = of_judgement task e (judge_in nat_eq fresh world task call) refl g
+
+  pub permitted : (policy nat_eq fresh world name call).answer ≡ Ok answer → IsPermitted world fresh name call answer
+  permitted granted =
+      of_task (task_called world name) refl
+      (sym (ap (λ (o : Outcome ℕ). o.answer) (policy_judges_then_applies fresh world name call)) ∙ granted)
+
+-- a task is there by its name, its change number raised or not
+pub called_raised : (name reader : TaskName) (task : Task ℕ) (tasks : List (Task ℕ))
+    → find (λ (t : Task ℕ). same_name reader t.name) tasks ≡ Some task
+    → find (λ (t : Task ℕ). same_name reader t.name) (map (raised_task name) tasks) ≡ Some (raised_task name task)
+called_raised name reader task tasks e = found_raised tasks ∙ ap (option_map (raised_task name)) e
+  where
+    same : (t : Task ℕ) → same_name reader (raised_task name t).name ≡ same_name reader t.name
+    same t = by (same_name name t.name)
+      where
+        by : (b : Bool) → same_name reader (cond b (record t { change = raised t.change }) t).name
+            ≡ same_name reader t.name
+        by true = refl
+        by false = refl
+
+    found_raised : (list : List (Task ℕ))
+        → find (λ (t : Task ℕ). same_name reader t.name) (map (raised_task name) list)
+        ≡ option_map (raised_task name) (find (λ (t : Task ℕ). same_name reader t.name) list)
+    found_raised [] = refl
+    found_raised (t ∷ list) =
+        ap (λ b. cond b (Some (raised_task name t))
+        (find (λ (t : Task ℕ). same_name reader t.name) (map (raised_task name) list))) (same t)
+        ∙ by (same_name reader t.name) (found_raised list)
+      where
+        by : (b : Bool)
+            → find (λ (t : Task ℕ). same_name reader t.name) (map (raised_task name) list)
+            ≡ option_map (raised_task name) (find (λ (t : Task ℕ). same_name reader t.name) list)
+            → cond b (Some (raised_task name t))
+            (find (λ (t : Task ℕ). same_name reader t.name) (map (raised_task name) list))
+            ≡ option_map (raised_task name)
+            (cond b (Some t) (find (λ (t : Task ℕ). same_name reader t.name) list))
+        by true later = refl
+        by false later = later

@@ -1,0 +1,182 @@
+-- What calls that look answer where their walks end.
+use Rattle.std.proofs.Common.{◌≡◌, refl, ap, ◌∙◌, ℕ, nat_eq, Bool, true, false, cond, not, ◌||◌, ◌&&◌, List, [], ◌∷◌, Option, Some, None, Ok, Err, ok_or}
+use Rattle.vt_spec.specs.declared.attributes.Attr.{Attr}
+use Rattle.vt_spec.specs.declared.attributes.Kind.TheVariants.{File, Symlink as SymlinkKind, White}
+use Rattle.vt_spec.specs.declared.errors.Rule.TheVariants.{B1, C1, E2, E5, E9, S2}
+use Rattle.vt_spec.specs.Errors.{denial, and_then, unless}
+use Rattle.vt_spec.specs.FileTree.{is_kind_in}
+use Rattle.vt_spec.specs.Language.Answers.Answer.{Bytes, Names, Told}
+use Rattle.vt_spec.specs.Language.Calls.{Call, TaskName}
+use Rattle.vt_spec.specs.Language.Calls.Call.{Ls, Lstat, Read, Readlink, Stat}
+use Rattle.vt_spec.specs.Lists.{Fresh}
+use Rattle.vt_spec.specs.Machine.Judge.{judge_in, Judgement, list_permit, lstat_permit, read_permit, readlink_permit, stat_permit}
+use Rattle.vt_spec.proofs.Tables.{list_rules, read_rules, readlink_rules}
+use Rattle.vt_spec.specs.Machine.Apply.{stat_line, apply}
+use Rattle.vt_spec.specs.Machine.Outcomes.{Outcome, after}
+use Rattle.vt_spec.specs.Machine.Policy.{call_outcome, filesystems_changed_by, finished, policy}
+use Rattle.vt_spec.specs.Machine.Rightful.{mounter_allows, node_allows}
+use Rattle.vt_spec.specs.Machine.Walking.{Here, Stop, walk_end}
+use Rattle.vt_spec.proofs.Walk.{directory_walk, object_walk, symlink_walk}
+use Rattle.vt_spec.specs.Machine.World.{Task, World, mount_at, node_at, task_called}
+use Rattle.vt_spec.specs.Rights.{Credentials, allows, cap_dac_override, cap_dac_read_search, class_bits, execute_right, has_all, is_directory, read_right}
+use Rattle.vt_spec.specs.Tree.{Content, Node, bytes_in, is_directory_node, kind_of, names_in}
+use Rattle.vt_spec.specs.Tree.Content.{Directory, Regular, Symlink, Whiteout}
+use Rattle.vt_laws_worlds.specs.Worlds.Kept.{IsPlain}
+use Rattle.vt_laws_worlds.proofs.Plain.{plain_numbered}
+use Rattle.vt_laws_later_calls.specs.LaterPaths.{reads_all}
+use Rattle.std.specs.Prelude.{Result}
+use Rattle.vt_spec.specs.Language.Answers.{Answer}
+use Rattle.vt_spec.specs.Machine.Permits.Permit.{ToList, ToRead, ToStat}
+use Rattle.vt_spec.specs.declared.errors.Deny.{Deny}
+
+-- Who may read everything
+
+-- with one of two capabilities that grant it, a request is granted
+granted_by : (own one other first second : Bool) → (one || other) ≡ true → first ≡ true → second ≡ true
+    → (own || (one && first) || (other && second)) ≡ true
+granted_by true one other first second some e f = refl
+granted_by false true other true second some e f = refl
+granted_by false true other false second some e f = cc
+granted_by false false true first true some e f = refl
+granted_by false false true first false some e f = cc
+granted_by false false false first second some e f = cc
+
+-- every directory may be searched: CAP_DAC_OVERRIDE or CAP_DAC_READ_SEARCH
+pub search_all : (who : Credentials) → reads_all who ≡ true → (o : Option (Node ℕ)) → is_directory_node o ≡ true
+    → node_allows who execute_right o ≡ true
+search_all who all None is = cc
+search_all who all (Some node) is = by node.content is
+  where
+    by : (content : Content ℕ) → is_directory (kind_of content) ≡ true
+        → allows who node.attr (kind_of content) execute_right ≡ true
+    by (Directory parent entries opaque) e =
+        granted_by (has_all (class_bits who node.attr) execute_right) (has_all who.capabilities cap_dac_override)
+        (has_all who.capabilities cap_dac_read_search) true true all refl refl
+    by (Regular bytes) e = cc
+    by (Symlink text) e = cc
+    by Whiteout e = cc
+
+-- and every object read
+pub read_all : (who : Credentials) → reads_all who ≡ true → (attr : Attr) (content : Content ℕ)
+    → allows who attr (kind_of content) read_right ≡ true
+read_all who all attr (Directory parent entries opaque) =
+    granted_by (has_all (class_bits who attr) read_right) (has_all who.capabilities cap_dac_override)
+    (has_all who.capabilities cap_dac_read_search) true true all refl refl
+read_all who all attr (Regular bytes) =
+    granted_by (has_all (class_bits who attr) read_right) (has_all who.capabilities cap_dac_override)
+    (has_all who.capabilities cap_dac_read_search) true true all refl refl
+read_all who all attr (Symlink text) =
+    granted_by (has_all (class_bits who attr) read_right) (has_all who.capabilities cap_dac_override)
+    (has_all who.capabilities cap_dac_read_search) true true all refl refl
+read_all who all attr Whiteout =
+    granted_by (has_all (class_bits who attr) read_right) (has_all who.capabilities cap_dac_override)
+    (has_all who.capabilities cap_dac_read_search) true true all refl refl
+
+-- a call of a task, which is there
+module _ (world : World ℕ) (fresh : Fresh ℕ) (name : TaskName) (task : Task ℕ)
+    (called : task_called world name ≡ Some task)
+    (path : List ℕ) where
+  abbrev by_task : Call → Option (Task ℕ) → Outcome ℕ
+  by_task call o =
+      after world (ok_or o (denial S2)) (λ t.
+      finished nat_eq world name call (filesystems_changed_by nat_eq world (judge_in nat_eq fresh world t call))
+      (call_outcome nat_eq fresh world t call))
+
+  -- what it is answered, by its judgement
+  abbrev answer_of : Judgement ℕ → Result Answer Deny
+  answer_of judgement = (after world judgement (apply nat_eq fresh world task)).answer
+
+  pub lstat_of : (here : Here ℕ) → symlink_walk nat_eq world task path ≡ Ok here
+      → (policy nat_eq fresh world name (Lstat path)).answer
+      ≡ Ok (Told (stat_line (node_at nat_eq world here.location)))
+  unfolding lstat_permit
+  lstat_of here walk =
+      ap (λ o. (by_task (Lstat path) o).answer) called
+      ∙ ap (λ r. answer_of (and_then (walk_end r) (λ (here : Here ℕ). Ok (ToStat here.location)))) walk
+
+  pub lstat_refused : (stop : Stop ℕ) → symlink_walk nat_eq world task path ≡ Err stop
+      → (policy nat_eq fresh world name (Lstat path)).answer ≡ Err stop.deny
+  unfolding lstat_permit
+  lstat_refused stop walk =
+      ap (λ o. (by_task (Lstat path) o).answer) called
+      ∙ ap (λ r. answer_of (and_then (walk_end r) (λ (here : Here ℕ). Ok (ToStat here.location)))) walk
+
+  pub stat_of : (here : Here ℕ) → object_walk nat_eq world task path ≡ Ok here
+      → (policy nat_eq fresh world name (Stat path)).answer ≡ Ok (Told (stat_line (node_at nat_eq world here.location)))
+  unfolding stat_permit
+  stat_of here walk =
+      ap (λ o. (by_task (Stat path) o).answer) called
+      ∙ ap (λ r. answer_of (and_then (walk_end r) (λ (here : Here ℕ). Ok (ToStat here.location)))) walk
+
+  pub stat_refused : (stop : Stop ℕ) → object_walk nat_eq world task path ≡ Err stop
+      → (policy nat_eq fresh world name (Stat path)).answer ≡ Err stop.deny
+  unfolding stat_permit
+  stat_refused stop walk =
+      ap (λ o. (by_task (Stat path) o).answer) called
+      ∙ ap (λ r. answer_of (and_then (walk_end r) (λ (here : Here ℕ). Ok (ToStat here.location)))) walk
+
+  pub readlink_of : (here : Here ℕ) → symlink_walk nat_eq world task path ≡ Ok here
+      → is_kind_in SymlinkKind (node_at nat_eq world here.location) ≡ true
+      → (policy nat_eq fresh world name (Readlink path)).answer
+      ≡ Ok (Bytes (bytes_in (node_at nat_eq world here.location)))
+  unfolding readlink_permit
+  readlink_of here walk is =
+      ap (λ o. (by_task (Readlink path) o).answer) called
+      ∙ ap (λ r. answer_of (and_then (walk_end r) (λ (here : Here ℕ).
+      unless (readlink_rules nat_eq world here.location) (Ok (ToRead here.location))))) walk
+      ∙ ap (λ b. answer_of (unless ((not b, E5) ∷ []) (Ok (ToRead here.location)))) is
+
+  -- a directory is listed, if it may be read
+  pub list_of : IsPlain world → (here : Here ℕ) → directory_walk nat_eq world task path ≡ Ok here
+      → (policy nat_eq fresh world name (Ls path)).answer
+      ≡ cond (node_allows task.credentials read_right (node_at nat_eq world here.location))
+      (Ok (Names (names_in (node_at nat_eq world here.location)))) (Err (denial C1))
+  unfolding list_permit
+  list_of plain here walk =
+      ap (λ o. (by_task (Ls path) o).answer) called
+      ∙ ap (λ r. answer_of (and_then (walk_end r) (λ (here : Here ℕ).
+      unless (list_rules nat_eq world task here.location) (Ok (ToList here.location))))) walk
+      ∙ ap (λ o. answer_of (unless
+      ((not (node_allows task.credentials read_right (node_at nat_eq world here.location)), C1)
+      ∷ (not (mounter_allows o read_right (node_at nat_eq world here.location)), B1) ∷ []) (Ok (ToList here.location))))
+      (plain_numbered world plain (mount_at nat_eq world here.location).filesystem)
+      ∙ by (node_allows task.credentials read_right (node_at nat_eq world here.location))
+    where
+      by : (b : Bool) → answer_of (unless ((not b, C1) ∷ (false, B1) ∷ []) (Ok (ToList here.location)))
+          ≡ cond b (Ok (Names (names_in (node_at nat_eq world here.location)))) (Err (denial C1))
+      by true = refl
+      by false = refl
+
+  pub list_refused : (stop : Stop ℕ) → directory_walk nat_eq world task path ≡ Err stop
+      → (policy nat_eq fresh world name (Ls path)).answer ≡ Err stop.deny
+  unfolding list_permit
+  list_refused stop walk =
+      ap (λ o. (by_task (Ls path) o).answer) called
+      ∙ ap (λ r. answer_of (and_then (walk_end r) (λ (here : Here ℕ).
+      unless (list_rules nat_eq world task here.location) (Ok (ToList here.location))))) walk
+
+  -- a regular file is read, if it may be
+  pub read_of : IsPlain world → (here : Here ℕ) → object_walk nat_eq world task path ≡ Ok here
+      → (attr : Attr) (bytes : List ℕ)
+      → node_at nat_eq world here.location ≡ Some (record { attr = attr; content = Regular bytes })
+      → (policy nat_eq fresh world name (Read path)).answer
+      ≡ cond (allows task.credentials attr File read_right) (Ok (Bytes bytes)) (Err (denial C1))
+  unfolding read_permit
+  read_of plain here walk attr bytes is =
+      ap (λ o. (by_task (Read path) o).answer) called
+      ∙ ap (λ r. answer_of (and_then (walk_end r) (λ (here : Here ℕ).
+      unless (read_rules nat_eq world task here.location) (Ok (ToRead here.location))))) walk
+      ∙ (λ i. answer_of (unless ((is_directory_node (is i), E2) ∷ (is_kind_in White (is i), E9)
+      ∷ (not (node_allows task.credentials read_right (is i)), C1)
+      ∷ (
+        not (mounter_allows (plain_numbered world plain (mount_at nat_eq world here.location).filesystem i) read_right
+            (is i)),
+        B1,
+      ) ∷ []) (Ok (ToRead here.location))))
+      ∙ by (allows task.credentials attr File read_right)
+    where
+      by : (b : Bool)
+          → answer_of (unless ((false, E2) ∷ (false, E9) ∷ (not b, C1) ∷ (false, B1) ∷ []) (Ok (ToRead here.location)))
+          ≡ cond b (Ok (Bytes bytes)) (Err (denial C1))
+      by true = ap (λ o. Ok (Bytes (bytes_in o))) is
+      by false = refl

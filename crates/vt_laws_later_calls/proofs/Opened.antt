@@ -1,0 +1,141 @@
+-- What a granted open was permitted, and the descriptor that a task then has.
+use Rattle.std.proofs.Common.{◌≡◌, ◌≤◌, ◌<◌, refl, sym, ap, subst, ◌∙◌, ℕ, ◌+◌, nat_eq, eqb-true, eq-eqb, Bool, true, false, cond, ◌&&◌, List, [], ◌∷◌, Some, None, Ok, Err, Result, find, map, arith, nat_lt}
+use Rattle.std.proofs.lemmas.Bool.{and_parts, le-ltb, lt-ltb}
+use Rattle.std.proofs.lemmas.Slice.Eq.{bytes_eq-Decides}
+use Rattle.std.specs.Prelude.{nat_le}
+use Rattle.vt_spec.specs.declared.errors.Deny.{Deny}
+use Rattle.vt_spec.specs.Machine.Apply.{apply}
+use Rattle.vt_spec.specs.Language.Calls.{Access, TaskName, opens_for_writing, same_name}
+use Rattle.vt_spec.specs.Language.Calls.Creation.{NoCreation}
+use Rattle.vt_spec.specs.Lists.{Fresh}
+use Rattle.vt_spec.specs.Machine.Locked.{overlay_or}
+use Rattle.vt_spec.specs.Machine.Looks.{Looks}
+use Rattle.vt_spec.specs.Machine.Mounts.{Location}
+use Rattle.vt_spec.specs.Machine.Descriptors.{free_from, inserted, opened, with_copy}
+use Rattle.vt_spec.specs.Language.Answers.{Answer}
+use Rattle.vt_spec.specs.Language.Answers.Answer.{Opened}
+use Rattle.vt_spec.specs.Machine.Permits.{Permit}
+use Rattle.vt_spec.specs.Machine.Permits.Permit.{ToOpen}
+use Rattle.vt_spec.specs.Machine.Filesystems.{lies_only_in_lowers}
+use Rattle.vt_spec.specs.Machine.Walking.{Here, Stop, object_walk, walk_end}
+use Rattle.vt_spec.specs.Machine.World.{Descriptor, Task, World, mount_at, replaced_if_called, task_called, with_task}
+use Rattle.vt_spec.specs.Machine.Invariants.{are_ascending_from, is_within_limits}
+use Rattle.vt_laws_worlds.specs.Worlds.Kept.{IsPlain}
+use Rattle.vt_laws_worlds.proofs.Plain.{plain_numbered}
+use Rattle.vt_spec.proofs.Refusals.{same_ok}
+use Rattle.std.proofs.Math.Bool.{and-false}
+use Rattle.vt_spec.proofs.Descriptors.{free_above}
+use Rattle.vt_laws_rules.specs.Granted.{IsGranted}
+use Rattle.vt_laws_rules.specs.Granted.IsGranted.{opens}
+use Rattle.vt_spec.specs.Language.Calls.Call.{OpenFile}
+
+pub inserted_found : (number : ℕ) (descriptors : List (Descriptor ℕ)) (new : Descriptor ℕ)
+    → are_ascending_from number descriptors ≡ true → new.number ≡ free_from number descriptors
+    → find (λ (d : Descriptor ℕ). nat_eq new.number d.number) (inserted new descriptors) ≡ Some new
+inserted_found number [] new order free =
+    ap (λ b. cond b (Some new) None) (eq-eqb new.number new.number refl)
+inserted_found number (descriptor ∷ rest) new order free =
+    by (nat_eq descriptor.number number) refl (inserted_found (number + 1) rest new)
+  where
+    parts : (nat_le number descriptor.number ≡ true) × (are_ascending_from (descriptor.number + 1) rest ≡ true)
+    parts = and_parts (nat_le number descriptor.number) (are_ascending_from (descriptor.number + 1) rest) order
+
+    is_free : (c : Bool) → nat_eq descriptor.number number ≡ c
+        → new.number ≡ cond c (free_from (number + 1) rest) number
+    is_free c e = free ∙ ap (λ b. cond b (free_from (number + 1) rest) number) e
+
+    less : (a b : ℕ) → nat_le a b ≡ true → nat_eq b a ≡ false → a < b
+    less a b h e = grind arith
+
+    other : (a b : ℕ) → b < a → nat_eq a b ≡ false
+    other a b h = grind arith
+
+    by : (c : Bool) → nat_eq descriptor.number number ≡ c
+        → (are_ascending_from (number + 1) rest ≡ true → new.number ≡ free_from (number + 1) rest
+        → find (λ (d : Descriptor ℕ). nat_eq new.number d.number) (inserted new rest) ≡ Some new)
+        → find (λ (d : Descriptor ℕ). nat_eq new.number d.number)
+        (cond (nat_lt new.number descriptor.number) (new ∷ descriptor ∷ rest) (descriptor ∷ inserted new rest))
+        ≡ Some new
+    by true e later =
+        let same : descriptor.number ≡ number = eqb-true descriptor.number number e in
+        let is : new.number ≡ free_from (number + 1) rest = is_free true e in
+        let above : number + 1 ≤ free_from (number + 1) rest = free_above (number + 1) rest in
+        let under : descriptor.number < new.number = omega arith in
+        let next : descriptor.number + 1 ≡ number + 1 = omega arith in
+        ap (λ b. find (λ (d : Descriptor ℕ). nat_eq new.number d.number)
+        (cond b (new ∷ descriptor ∷ rest) (descriptor ∷ inserted new rest)))
+        (le-ltb new.number descriptor.number (omega arith))
+        ∙ ap (λ b. cond b (Some descriptor)
+        (find (λ (d : Descriptor ℕ). nat_eq new.number d.number) (inserted new rest)))
+        (other new.number descriptor.number under)
+        ∙ later (subst (λ n. are_ascending_from n rest ≡ true) next parts.1) is
+    by false e later =
+        let is : new.number ≡ number = is_free false e in
+        let above : number < descriptor.number = less number descriptor.number parts.0 e in
+        ap (λ b. find (λ (d : Descriptor ℕ). nat_eq new.number d.number)
+        (cond b (new ∷ descriptor ∷ rest) (descriptor ∷ inserted new rest)))
+        (lt-ltb new.number descriptor.number (omega arith))
+        ∙ ap (λ b. cond b (Some new) (find (λ (d : Descriptor ℕ). nat_eq new.number d.number) (descriptor ∷ rest)))
+        (eq-eqb new.number new.number refl)
+
+-- a task in the place of the one with its name is found
+pub called_replaced : (world : World ℕ) (name : TaskName) (task new : Task ℕ) → task_called world name ≡ Some task
+    → new.name ≡ name → task_called (with_task world new) name ≡ Some new
+called_replaced world name task new called own = go world.tasks called
+  where
+    itself : same_name name new.name ≡ true
+    itself = (bytes_eq-Decides name new.name).1 (sym own)
+
+    go : (list : List (Task ℕ)) → find (λ (t : Task ℕ). same_name name t.name) list ≡ Some task
+        → find (λ (t : Task ℕ). same_name name t.name) (map (replaced_if_called new) list) ≡ Some new
+    go [] e = cc
+    go (t ∷ list) e = by (same_name name t.name) refl (go list)
+      where
+        test : same_name new.name t.name ≡ same_name name t.name
+        test = ap (λ n. same_name n t.name) own
+
+        by : (b : Bool) → same_name name t.name ≡ b
+            → (find (λ (t : Task ℕ). same_name name t.name) list ≡ Some task
+            → find (λ (t : Task ℕ). same_name name t.name) (map (replaced_if_called new) list) ≡ Some new)
+            → find (λ (t : Task ℕ). same_name name t.name) (map (replaced_if_called new) (t ∷ list)) ≡ Some new
+        by true f later =
+            ap (λ b. find (λ (t : Task ℕ). same_name name t.name) (cond b new t ∷ map (replaced_if_called new) list))
+            (test ∙ f)
+            ∙ ap (λ b. cond b (Some new)
+            (find (λ (t : Task ℕ). same_name name t.name) (map (replaced_if_called new) list))) itself
+        by false f later =
+            ap (λ b. find (λ (t : Task ℕ). same_name name t.name) (cond b new t ∷ map (replaced_if_called new) list))
+            (test ∙ f)
+            ∙ ap (λ b. cond b (Some t)
+            (find (λ (t : Task ℕ). same_name name t.name) (map (replaced_if_called new) list))) f
+            ∙ later (sym (ap (λ b. cond b (Some t) (find (λ (t : Task ℕ). same_name name t.name) list)) f) ∙ e)
+
+-- where a walk ended
+pub walk_ended : {A : Type 0} (walk : Result A (Stop ℕ)) (a : A) → walk_end walk ≡ Ok a → walk ≡ Ok a
+walk_ended (Ok b) a e = ap Ok (same_ok b a e)
+walk_ended (Err stop) a e = cc
+
+-- what a granted open was permitted
+pub open_parts : (looks : Looks ℕ) {too_many : Permit ℕ → Bool} (task : Task ℕ) (path : List ℕ) (access : Access)
+    (permit : Permit ℕ) → IsGranted nat_eq looks too_many task (OpenFile path access NoCreation) permit
+    → (here : Here ℕ) × (object_walk nat_eq looks task path ≡ Ok here) × (permit ≡ ToOpen here.location access)
+open_parts looks task path access permit (opens _ _ here room end passed) = (here, end, refl)
+
+-- without overlays nothing is copied when a file is opened
+pub open_spent : (fresh : Fresh ℕ) (world : World ℕ) (plain : IsPlain world) (task : Task ℕ) (file : Location ℕ)
+    (access : Access) → apply nat_eq fresh world task (ToOpen file access) ≡ opened world task file access
+open_spent fresh world plain task file access =
+    ap (λ b. opened (with_copy nat_eq b fresh world file) task file access)
+    (ap (λ o. opens_for_writing access && overlay_or false (λ overlay. lies_only_in_lowers overlay file.node) o)
+    (plain_numbered world plain (mount_at nat_eq world file).filesystem) ∙ and-false (opens_for_writing access))
+
+pub opened_number : (a b : ℕ) → Path (Result Answer Deny) (Ok (Opened a)) (Ok (Opened b)) → b ≡ a
+opened_number a b e = sym (ap of_answer e)
+  where
+    of_answer : Result Answer Deny → ℕ
+    of_answer (Ok (Opened number)) = number
+    of_answer answer = 0
+
+pub descriptors_in_order : (task : Task ℕ) → is_within_limits task ≡ true → are_ascending_from 0 task.descriptors ≡ true
+descriptors_in_order task h =
+    (and_parts _ _ (and_parts _ _ (and_parts _ _ (and_parts _ _ (and_parts _ _ (and_parts _ _ h).0).0).0).0).0).1

@@ -1,0 +1,345 @@
+-- The descriptor of an open is on the file that is there, or with creat on a new one, which is empty.
+use Rattle.std.proofs.Common.{◌≡◌, refl, sym, ap, subst, ◌∙◌, true≢false, ℕ, nat_eq, eq-eqb, true, false, cond, List, [], take, drop, Some, None, Ok, find}
+use Rattle.std.proofs.lemmas.Option.{same_Some}
+use Rattle.vt_spec.specs.FileTree.{FileTree}
+use Rattle.vt_spec.specs.Language.Answers.{Answer}
+use Rattle.vt_spec.specs.Language.Answers.Answer.{Bytes, Opened}
+use Rattle.vt_spec.specs.Language.Calls.{Access, Call, Creation, TaskName, opens_for_reading, opens_for_writing, same_name}
+use Rattle.vt_spec.specs.Language.Calls.Call.{OpenFile}
+use Rattle.vt_spec.specs.Language.Calls.Creation.{Exclusive, NoCreation, OrCreate}
+use Rattle.vt_spec.specs.Language.Changes.{changed, with_inode}
+use Rattle.vt_spec.specs.Language.Changes.Change.{Make}
+use Rattle.vt_spec.specs.Lists.{Fresh, evens, odds}
+use Rattle.vt_spec.specs.Machine.Apply.{apply, with_new_inode}
+use Rattle.vt_spec.specs.Machine.Judge.{open_new_permit}
+use Rattle.vt_spec.specs.Machine.Looks.{Looks, looks_of}
+use Rattle.vt_spec.specs.Machine.Mounts.{Location, mount_in}
+use Rattle.vt_spec.specs.Machine.Descriptors.{free_number, opened, with_descriptor}
+use Rattle.vt_spec.specs.Machine.Rows.{new_file}
+use Rattle.vt_spec.specs.Machine.Outcomes.{Outcome}
+use Rattle.vt_spec.specs.Machine.Permits.{Permit}
+use Rattle.vt_spec.specs.Machine.Permits.Permit.{ToOpen}
+use Rattle.vt_spec.specs.Machine.Policy.{policy, raised_task}
+use Rattle.vt_spec.specs.Machine.Rules.Descriptors.{descriptor_numbered}
+use Rattle.vt_spec.specs.Machine.Run.{Serves}
+use Rattle.vt_spec.specs.Machine.Walking.{Here, Place, file_walk, name_of, new_walk, object_walk, is_special}
+use Rattle.vt_spec.specs.Machine.World.{Descriptor, Task, World, files_at, filesystem_numbered, mount_at, node_at, task_called, with_task}
+use Rattle.vt_spec.specs.Machine.Invariants.{IsWorld, is_within_limits}
+use Rattle.vt_spec.specs.Tree.{Node, bytes_in, is_directory_node, node_with_entry}
+use Rattle.vt_spec.proofs.Nodes.{directory_used, none_is_not}
+use Rattle.vt_laws_letting_go.proofs.Lists.{passes}
+use Rattle.vt_laws_trees.specs.Trees.Calls.{mounts_overlay}
+use Rattle.vt_laws_trees.specs.Trees.Limits.{names_few_groups}
+use Rattle.vt_laws_trees.proofs.trees.ChangesNodes.{elsewhere}
+use Rattle.vt_laws_worlds.specs.Worlds.Kept.{IsPlain}
+use Rattle.vt_laws_worlds.proofs.worlds.CallsKept.{name_found}
+use Rattle.vt_laws_worlds.proofs.worlds.SeenTrees.{change_mounts, change_tasks, unused_inode}
+use Rattle.vt_laws_permits.specs.Left.{IsGiven}
+use Rattle.vt_laws_permits.specs.Sees.{MayBeMade, SeesTo}
+use Rattle.vt_laws_permits.proofs.sees.SeesTasks.{given_permits_are_seen_to}
+use Rattle.vt_laws_later_calls.specs.Later.{CreateThenPread, ExclusiveThenPread, OpenOrCreateThenPread, OpenThenPread, OpensFile, OpensNewFile, ReadsBy}
+use Rattle.vt_laws_later_calls.proofs.Changed.{files_changed}
+use Rattle.vt_laws_later_calls.proofs.Granted.{IsPermitted, permitted}
+use Rattle.vt_laws_later_calls.proofs.Opened.{called_replaced, descriptors_in_order, inserted_found, open_parts, open_spent, opened_number}
+use Rattle.vt_laws_later_calls.proofs.Stays.{still_called, still_seen}
+use Rattle.vt_laws_later_calls.proofs.Through.{descriptor_located, pread_of, raised_descriptors}
+use Rattle.vt_laws_trees.proofs.trees.TreesTasks.{called_there}
+use Rattle.std.specs.Prelude.{Bool}
+use Rattle.vt_laws_later_calls.proofs.Ways.{same_end}
+use Rattle.vt_laws_rules.specs.Granted.{IsGranted}
+use Rattle.vt_laws_rules.specs.Granted.IsGranted.{creates, creates_exclusively, opens_existing}
+
+-- A call that leaves a descriptor on a file, in a world that has the tasks of the one before
+module _ (world : World ℕ) (fresh : Fresh ℕ) (name : TaskName) (task : Task ℕ) (path : List ℕ) (access : Access)
+    (creation : Creation) (number : ℕ) (is : IsWorld nat_eq world) (plain : IsPlain world)
+    (serves : Serves nat_eq world fresh) (called : task_called world name ≡ Some task)
+    (did : IsPermitted world fresh name (OpenFile path access creation) (Opened number)) (base : World ℕ)
+    (file : Location ℕ)
+    (outcome : apply nat_eq fresh world did.task did.permit ≡ opened base task file access)
+    (tasks : base.tasks ≡ world.tasks) where
+  abbrev call : Call
+  call = OpenFile path access creation
+
+  abbrev later : World ℕ
+  later = (policy nat_eq fresh world name call).world
+
+  is_free : number ≡ free_number task
+  is_free = opened_number (free_number task) number (sym (ap (λ (o : Outcome ℕ). o.answer) outcome) ∙ did.answered)
+
+  abbrev new_task : Task ℕ
+  new_task = with_descriptor task file access
+
+  abbrev new_descriptor : Descriptor ℕ
+  new_descriptor =
+      record {
+        number = free_number task;
+        location = file;
+        reads = opens_for_reading access;
+        writes = opens_for_writing access;
+      }
+
+  spent : (apply nat_eq fresh world did.task did.permit).world ≡ with_task base new_task
+  spent = ap (λ (o : Outcome ℕ). o.world) outcome
+
+  there : task_called (apply nat_eq fresh world did.task did.permit).world name ≡ Some new_task
+  there =
+      ap (λ w. task_called w name) spent
+      ∙ called_replaced base name task new_task (ap (find (λ (t : Task ℕ). same_name name t.name)) tasks ∙ called)
+      (sym (name_found world name task called))
+
+  in_order : is_within_limits task ≡ true
+  in_order =
+      passes is_within_limits world.tasks is.tasks.small_tasks task
+      (called_there world.tasks name task called)
+
+  found : descriptor_numbered new_task number ≡ Some new_descriptor
+  found =
+      ap (λ n. find (λ (d : Descriptor ℕ). nat_eq n d.number) new_task.descriptors) is_free
+      ∙ inserted_found 0 task.descriptors new_descriptor (descriptors_in_order task in_order) refl
+
+  -- what is at the file
+  pub file_seen : node_at nat_eq later file ≡ node_at nat_eq base file
+  file_seen =
+      still_seen world fresh name call (Opened number) is plain serves refl refl did name new_task there file
+      (descriptor_located new_task number new_descriptor found)
+      ∙ ap (λ w. node_at nat_eq w file) spent
+
+  still : task_called later name ≡ Some (raised_task name new_task)
+  still = still_called world fresh name call (Opened number) is plain serves refl refl did name new_task there
+
+  still_found : descriptor_numbered (raised_task name new_task) number ≡ Some new_descriptor
+  still_found = ap (find (λ (d : Descriptor ℕ). nat_eq number d.number)) (raised_descriptors name new_task) ∙ found
+
+  pub opens_file : OpensFile world fresh name task call file access number
+  opens_file = (is_free, (raised_task name new_task, still, numbered_so))
+    where
+      numbered_so : descriptor_numbered (raised_task name new_task) number
+          ≡ Some (record {
+            number = number;
+            location = file;
+            reads = opens_for_reading access;
+            writes = opens_for_writing access;
+          })
+      numbered_so =
+          subst (λ n. descriptor_numbered (raised_task name new_task) number
+          ≡ Some (record {
+            number = n;
+            location = file;
+            reads = opens_for_reading access;
+            writes = opens_for_writing access;
+          })) (sym is_free)
+          still_found
+
+  pub reads_by : ReadsBy world fresh name call access number (bytes_in (node_at nat_eq base file))
+  reads_by reads offset size later_fresh =
+      pread_of later later_fresh name
+      (raised_task name new_task) new_descriptor number offset size still still_found reads
+      ∙ ap (λ o. Ok (Bytes (take size (drop offset (bytes_in o))))) file_seen
+
+-- What a granted open with creat was permitted
+there_parts : (looks : Looks ℕ) {too_many : Permit ℕ → Bool} (task : Task ℕ) (path : List ℕ) (access : Access)
+    (mode : ℕ) (place : Place ℕ) (file : Location ℕ) (permit : Permit ℕ)
+    → file_walk nat_eq looks task path ≡ Ok place → place.object ≡ Some file
+    → IsGranted nat_eq looks too_many task (OpenFile path access (OrCreate mode)) permit
+    → permit ≡ ToOpen file access
+there_parts looks task path access mode place file permit walk object
+    (opens_existing _ _ _ other found room end named there passed) =
+    let same : other ≡ place = same_end other place (sym end ∙ walk) in
+    ap (λ f. ToOpen f access)
+    (same_Some found file (sym there ∙ ap (λ (p : Place ℕ). p.object) same ∙ object))
+there_parts looks task path access mode place file permit walk object
+    (creates _ _ _ other room end named missing passed) =
+    let same : other ≡ place = same_end other place (sym end ∙ walk) in
+    none_is_not None file refl (sym missing ∙ ap (λ (p : Place ℕ). p.object) same ∙ object)
+
+missing_parts : (looks : Looks ℕ) {too_many : Permit ℕ → Bool} (task : Task ℕ) (path : List ℕ) (access : Access)
+    (mode : ℕ) (place : Place ℕ) (permit : Permit ℕ)
+    → file_walk nat_eq looks task path ≡ Ok place → place.object ≡ None
+    → IsGranted nat_eq looks too_many task (OpenFile path access (OrCreate mode)) permit
+    → permit ≡ open_new_permit task place access mode
+missing_parts looks task path access mode place permit walk object
+    (opens_existing _ _ _ other found room end named there passed) =
+    let same : other ≡ place = same_end other place (sym end ∙ walk) in
+    none_is_not None found refl (sym object ∙ ap (λ (p : Place ℕ). p.object) (sym same) ∙ there)
+missing_parts looks task path access mode place permit walk object
+    (creates _ _ _ other room end named missing passed) =
+    ap (λ p. open_new_permit task p access mode) (same_end other place (sym end ∙ walk))
+
+pub exclusive_parts : (looks : Looks ℕ) {too_many : Permit ℕ → Bool} (task : Task ℕ) (path : List ℕ) (access : Access)
+    (mode : ℕ) (permit : Permit ℕ) → IsGranted nat_eq looks too_many task (OpenFile path access (Exclusive mode)) permit
+    → (place : Place ℕ) × (new_walk nat_eq looks task path ≡ Ok place) × (is_special place.last ≡ false)
+    × (place.slash ≡ false) × (permit ≡ open_new_permit task place access mode)
+exclusive_parts looks task path access mode permit (creates_exclusively _ _ _ place room end named passed) =
+    (place, end, named.0, named.1.0, refl)
+
+-- A new inode is as it was asked for
+pub made_node : (files : FileTree ℕ) (directory : ℕ) (name : List ℕ) (number : ℕ) (node : Node ℕ)
+    → is_directory_node (files.tree.node directory) ≡ true → files.tree.node number ≡ None
+    → (changed nat_eq files (Make directory name number node)).tree.node number ≡ Some node
+made_node files directory name number node is new =
+    elsewhere (with_inode nat_eq files number node) directory (node_with_entry name number) number
+    (λ same. true≢false (sym is ∙ ap (λ n. is_directory_node (files.tree.node n)) (sym same)
+    ∙ ap is_directory_node new))
+    ∙ ap (λ b. cond b (Some node) (files.tree.node number)) (eq-eqb number number refl)
+
+-- a call that was granted, in a world with its invariants, was given what it was permitted
+pub given_of : (world : World ℕ) (fresh : Fresh ℕ) (name : TaskName) (call : Call) (answer : Answer)
+    → Serves nat_eq world fresh → mounts_overlay call ≡ false → names_few_groups call ≡ true
+    → (did : IsPermitted world fresh name call answer) → IsGiven fresh world did.task did.permit
+given_of world fresh name call answer serves other few did = record {
+  serves = serves;
+  called = ap (task_called world) (sym (name_found world name did.task did.called)) ∙ did.called;
+  call = call;
+  no_overlay = other;
+  few_groups = few;
+  judged = did.judged;
+}
+
+-- what a permit to open a new file leaves at it
+module _ (world : World ℕ) (fresh : Fresh ℕ) (is : IsWorld nat_eq world) (plain : IsPlain world)
+    (serves : Serves nat_eq world fresh) (directory : Location ℕ) (name : List ℕ) (node : Node ℕ)
+    (made : MayBeMade world directory name node) where
+  abbrev pub made_world : World ℕ
+  made_world = with_new_inode nat_eq fresh world directory name node
+
+  abbrev pub made_at : Location ℕ
+  made_at = record { mount = directory.mount; node = fresh 0 }
+
+  pub made_tasks : made_world.tasks ≡ world.tasks
+  made_tasks = change_tasks (odds fresh) world plain directory (Make directory.node name (evens fresh 0) node)
+
+  pub made_seen : node_at nat_eq made_world made_at ≡ Some node
+  made_seen =
+      ap (λ mounts. (filesystem_numbered nat_eq made_world
+      (mount_in nat_eq mounts directory.mount).filesystem).files.tree.node (fresh 0))
+      (change_mounts (odds fresh) world plain directory (Make directory.node name (evens fresh 0) node))
+      ∙ ap (λ (f : FileTree ℕ). f.tree.node (fresh 0))
+      (files_changed (odds fresh) world plain directory (Make directory.node name (evens fresh 0) node)
+      (directory_used (files_at nat_eq world directory).tree directory.node made.name_is_free.in_directory))
+      ∙ made_node (files_at nat_eq world directory) directory.node name (fresh 0) node made.name_is_free.in_directory
+      (unused_inode world fresh serves is.files.numbers 0 (mount_at nat_eq world directory).filesystem)
+
+module _ (world : World ℕ) (fresh : Fresh ℕ) (name : TaskName) (task : Task ℕ) (path : List ℕ) (access : Access)
+    (mode number : ℕ) (creation : Creation) (is : IsWorld nat_eq world) (plain : IsPlain world)
+    (serves : Serves nat_eq world fresh) (called : task_called world name ≡ Some task)
+    (did : IsPermitted world fresh name (OpenFile path access creation) (Opened number)) (place : Place ℕ)
+    (permit : did.permit ≡ open_new_permit task place access mode) where
+  task_is : did.task ≡ task
+  task_is = same_Some did.task task (sym did.called ∙ called)
+
+  seen_to : SeesTo world did.task did.permit
+  seen_to =
+      given_permits_are_seen_to world fresh did.task did.permit is plain
+      (given_of world fresh name (OpenFile path access creation) (Opened number) serves refl refl did)
+
+  may : MayBeMade world place.parent (name_of place.last) (new_file task mode [])
+  may = (subst (SeesTo world did.task) permit seen_to).0
+
+  abbrev base : World ℕ
+  base = made_world world fresh is plain serves place.parent (name_of place.last) (new_file task mode []) may
+
+  abbrev new_place : Location ℕ
+  new_place = record { mount = place.parent.mount; node = fresh 0 }
+
+  outcome : apply nat_eq fresh world did.task did.permit ≡ opened base task new_place access
+  outcome = ap (apply nat_eq fresh world did.task) permit ∙ ap (λ t. opened base t new_place access) task_is
+
+  tasks : base.tasks ≡ world.tasks
+  tasks = made_tasks world fresh is plain serves place.parent (name_of place.last) (new_file task mode []) may
+
+  seen : node_at nat_eq base new_place ≡ Some (new_file task mode [])
+  seen = made_seen world fresh is plain serves place.parent (name_of place.last) (new_file task mode []) may
+
+  pub opens_new_file : OpensNewFile world fresh name task (OpenFile path access creation) place access mode number
+  opens_new_file = (
+    opens_file world fresh name task path access creation number is plain serves called did base new_place outcome
+        tasks,
+    file_seen world fresh name task path access creation number is plain serves called did base new_place outcome tasks
+        ∙ seen,
+    subst (ReadsBy world fresh name (OpenFile path access creation) access number) (ap bytes_in seen)
+        (reads_by world fresh name task path access creation number is plain serves called did base new_place outcome
+        tasks),
+  )
+
+pub open_then_pread : OpenThenPread
+open_then_pread world fresh name task path access number is plain serves called granted = (
+  here,
+  ap (λ t. object_walk nat_eq (looks_of nat_eq world) t path) (sym task_is) ∙ parts.1,
+  opens_file world fresh name task path access NoCreation number is plain serves called did world here.location outcome
+      refl,
+  reads_by world fresh name task path access NoCreation number is plain serves called did world here.location outcome
+      refl,
+)
+  where
+    did : IsPermitted world fresh name (OpenFile path access NoCreation) (Opened number)
+    did = permitted world fresh name (OpenFile path access NoCreation) (Opened number) refl granted
+
+    task_is : did.task ≡ task
+    task_is = same_Some did.task task (sym did.called ∙ called)
+
+    parts : (here : Here ℕ) × (object_walk nat_eq (looks_of nat_eq world) did.task path ≡ Ok here)
+        × (did.permit ≡ ToOpen here.location access)
+    parts = open_parts (looks_of nat_eq world) did.task path access did.permit did.granted
+
+    here : Here ℕ
+    here = parts.0
+
+    outcome : apply nat_eq fresh world did.task did.permit ≡ opened world task here.location access
+    outcome =
+        ap (apply nat_eq fresh world did.task) parts.2
+        ∙ open_spent fresh world plain did.task here.location access
+        ∙ ap (λ t. opened world t here.location access) task_is
+
+pub open_or_create_then_pread : OpenOrCreateThenPread
+open_or_create_then_pread world fresh name task path access mode number place file is plain serves called walk object
+    granted = (
+      opens_file world fresh name task path access
+          (OrCreate mode) number is plain serves called did world file outcome refl,
+      reads_by world fresh name task path access (OrCreate mode) number is plain serves called did world file outcome refl,
+    )
+  where
+    did : IsPermitted world fresh name (OpenFile path access (OrCreate mode)) (Opened number)
+    did = permitted world fresh name (OpenFile path access (OrCreate mode)) (Opened number) refl granted
+
+    task_is : did.task ≡ task
+    task_is = same_Some did.task task (sym did.called ∙ called)
+
+    outcome : apply nat_eq fresh world did.task did.permit ≡ opened world task file access
+    outcome =
+        ap (apply nat_eq fresh world did.task)
+        (there_parts (looks_of nat_eq world) did.task path access mode place file did.permit
+        (ap (λ t. file_walk nat_eq (looks_of nat_eq world) t path) task_is ∙ walk) object did.granted)
+        ∙ open_spent fresh world plain did.task file access
+        ∙ ap (λ t. opened world t file access) task_is
+
+pub create_then_pread : CreateThenPread
+create_then_pread world fresh name task path access mode number place is plain serves called walk object granted =
+    opens_new_file world fresh name task path access mode number (OrCreate mode) is plain serves called did place
+    (missing_parts (looks_of nat_eq world) did.task path access mode place did.permit
+    (ap (λ t. file_walk nat_eq (looks_of nat_eq world) t path) task_is ∙ walk) object did.granted
+    ∙ ap (λ t. open_new_permit t place access mode) task_is)
+  where
+    did : IsPermitted world fresh name (OpenFile path access (OrCreate mode)) (Opened number)
+    did = permitted world fresh name (OpenFile path access (OrCreate mode)) (Opened number) refl granted
+
+    task_is : did.task ≡ task
+    task_is = same_Some did.task task (sym did.called ∙ called)
+
+pub exclusive_then_pread : ExclusiveThenPread
+exclusive_then_pread world fresh name task path access mode number is plain serves called granted = (
+  parts.0,
+  ap (λ t. new_walk nat_eq (looks_of nat_eq world) t path) (sym task_is) ∙ parts.1,
+  opens_new_file world fresh name task path access mode number (Exclusive mode) is plain serves called did parts.0
+      (parts.4 ∙ ap (λ t. open_new_permit t parts.0 access mode) task_is),
+)
+  where
+    did : IsPermitted world fresh name (OpenFile path access (Exclusive mode)) (Opened number)
+    did = permitted world fresh name (OpenFile path access (Exclusive mode)) (Opened number) refl granted
+
+    task_is : did.task ≡ task
+    task_is = same_Some did.task task (sym did.called ∙ called)
+
+    parts : (place : Place ℕ) × (new_walk nat_eq (looks_of nat_eq world) did.task path ≡ Ok place)
+        × (is_special place.last ≡ false) × (place.slash ≡ false)
+        × (did.permit ≡ open_new_permit did.task place access mode)
+    parts = exclusive_parts (looks_of nat_eq world) did.task path access mode did.permit did.granted

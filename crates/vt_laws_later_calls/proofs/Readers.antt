@@ -1,0 +1,231 @@
+-- Who looks after a call that changed a tree, and where walks lead for him: for the caller himself, and for each task
+-- that stands where he does and may search everything.
+use Rattle.std.proofs.Common.{◌≡◌, refl, sym, ap, ◌∙◌, inl, inr, ◌⊎◌, true≢false, ℕ, zero, suc, nat_eq, Bool, true, false, cond, [], ◌∷◌, length, Option, Some, None, is_some, option_map, ok_or, find}
+use Rattle.vt_spec.specs.declared.errors.Deny.{Deny}
+use Rattle.vt_spec.specs.declared.errors.Rule.TheVariants.{W4, W6}
+use Rattle.vt_spec.specs.Errors.{denial}
+use Rattle.vt_spec.specs.Language.Answers.{Answer}
+use Rattle.vt_spec.specs.Language.Calls.{Call, TaskName, same_name}
+use Rattle.vt_spec.specs.Language.Changes.{Change, changed}
+use Rattle.vt_spec.specs.Lists.{Fresh, chain, last_or}
+use Rattle.vt_spec.specs.Machine.Filesystems.{raised, with_change}
+use Rattle.vt_spec.specs.Machine.Looks.{looks_of, may}
+use Rattle.vt_spec.specs.Machine.Mounts.{Location, Mount, child_at, root_of, stands_at, topmost}
+use Rattle.vt_spec.specs.Machine.Policy.{policy, raised_task}
+use Rattle.vt_spec.specs.Machine.Rightful.{node_allows}
+use Rattle.vt_spec.specs.Machine.Run.{Serves}
+use Rattle.vt_spec.specs.Machine.Walking.{LastWord, is_special, name_of}
+use Rattle.vt_spec.proofs.Walk.{stepped}
+use Rattle.vt_spec.specs.Machine.Walking.LastWord.{Dot, DotDot, Named, NoWord}
+use Rattle.vt_spec.specs.Machine.World.{Task, World, files_at, is_directory_at, mount_at, node_at, task_called}
+use Rattle.vt_spec.specs.Machine.Invariants.{IsWorld}
+use Rattle.vt_spec.specs.Rights.{execute_right}
+use Rattle.vt_spec.specs.Tree.{entries_in, entry_named, is_directory_node}
+use Rattle.vt_laws_calls.specs.Inodes.{change_of}
+use Rattle.vt_laws_letting_go.specs.FileChanges.{MayChange}
+use Rattle.vt_laws_mounts.proofs.mounts.MountsFound.{found_in}
+use Rattle.vt_laws_mounts.proofs.mounts.MountsPlaces.{stands_there}
+use Rattle.vt_spec.proofs.Lists.{among_from_all}
+use Rattle.vt_laws_trees.specs.Trees.{IsFileTree}
+use Rattle.vt_laws_trees.specs.Trees.Calls.{mounts_overlay}
+use Rattle.vt_laws_trees.specs.Trees.Limits.{names_few_groups}
+use Rattle.vt_laws_trees.proofs.trees.TreesOfMounts.{worlds_are_standing}
+use Rattle.vt_laws_worlds.specs.Worlds.Kept.{IsPlain}
+use Rattle.vt_laws_worlds.proofs.worlds.CallsKept.{name_found}
+use Rattle.vt_laws_worlds.proofs.worlds.SeenTrees.{change_tasks}
+use Rattle.vt_laws_later_calls.specs.LaterPaths.{LooksFrom, reads_all}
+use Rattle.vt_laws_later_calls.proofs.AfterChange.{later_is, node_changed, spent, world_rights, world_stays}
+use Rattle.vt_laws_later_calls.proofs.Granted.{IsPermitted}
+use Rattle.vt_laws_later_calls.proofs.Looked.{search_all}
+use Rattle.vt_laws_later_calls.proofs.Stays.{called_own, still_called}
+use Rattle.vt_laws_later_calls.proofs.Ways.{LeadsToo}
+use Rattle.vt_laws_later_calls.proofs.WaysChanges.{RightsStay, TreeStays}
+use Rattle.vt_laws_later_calls.proofs.WaysStay.{Known, StandsAs, WorldStays, node_here, node_in, world_leads}
+
+-- a task goes by its own name
+pub own_name : (world : World ℕ) (name : TaskName) (task : Task ℕ) → task_called world name ≡ Some task
+    → task_called world task.name ≡ Some task
+own_name world name task e = ap (task_called world) (sym (name_found world name task e)) ∙ e
+
+-- with the same credentials, or those that may search and read everything
+abbrev pub MayLook : Task ℕ → Task ℕ → Type 0
+MayLook task reader = (reader.credentials ≡ task.credentials) ⊎ (reads_all reader.credentials ≡ true)
+
+-- a task with its change number raised stands where it stood
+pub raised_stands : (name : TaskName) (task : Task ℕ) → StandsAs task (raised_task name task)
+raised_stands name task = by (same_name name task.name)
+  where
+    by : (b : Bool) → StandsAs task (cond b (record task { change = raised task.change }) task)
+    by true = record { root = refl; directory = refl }
+    by false = record { root = refl; directory = refl }
+
+pub raised_credentials : (name : TaskName) (task : Task ℕ) → (raised_task name task).credentials ≡ task.credentials
+raised_credentials name task = by (same_name name task.name)
+  where
+    by : (b : Bool) → (cond b (record task { change = raised task.change }) task).credentials ≡ task.credentials
+    by true = refl
+    by false = refl
+
+pub all_stands : (world : World ℕ) (task : Task ℕ) (name : TaskName) (reading : Task ℕ)
+    → LooksFrom world task name reading
+    → StandsAs task reading
+all_stands world task name reading looks = record { root = looks.root; directory = looks.directory }
+
+-- A name in a directory
+pub named_last : (last : LastWord) → is_special last ≡ false → last ≡ Named (name_of last)
+named_last NoWord e = absurd (true≢false e)
+named_last Dot e = absurd (true≢false e)
+named_last DotDot e = absurd (true≢false e)
+named_last (Named name) e = refl
+
+pub stepped_by : (world : World ℕ) (reader : Task ℕ) (here : Location ℕ) (last : LastWord) → is_special last ≡ false
+    → (o : Option ℕ) → entry_named (name_of last) (entries_in (node_at nat_eq world here)) ≡ o
+    → stepped nat_eq world reader here last
+    ≡ ok_or (option_map (topmost nat_eq world.mounts)
+    (option_map (λ object. record { mount = here.mount; node = object }) o)) (denial W6)
+stepped_by world reader here last special o e =
+    ap (stepped nat_eq world reader here) (named_last last special)
+    ∙ ap (λ o. ok_or (option_map (topmost nat_eq world.mounts)
+    (option_map (λ object. record { mount = here.mount; node = object }) o))
+    (denial W6)) e
+
+-- over what is no directory no mount stands
+pub uncovered : (world : World ℕ) → IsWorld nat_eq world → (location : Location ℕ)
+    → is_directory_at nat_eq world location ≡ false
+    → topmost nat_eq world.mounts location ≡ location
+uncovered world is location no_directory = by (child_at nat_eq world.mounts location) refl
+  where
+    over : (most : ℕ) → child_at nat_eq world.mounts location ≡ None
+        → last_or location (chain most (λ here. option_map root_of (child_at nat_eq world.mounts here)) location)
+        ≡ location
+    over zero none = refl
+    over (suc most) none =
+        ap (λ o. last_or location (elim (option_map root_of o) [
+          | None ↦ location ∷ []
+          | Some b ↦ location ∷ chain most (λ here. option_map root_of (child_at nat_eq world.mounts here)) b
+        ])) none
+
+    by : (o : Option (Mount ℕ)) → child_at nat_eq world.mounts location ≡ o
+        → topmost nat_eq world.mounts location ≡ location
+    by None e = over (length world.mounts) e
+    by (Some mount) e =
+        let found = found_in (stands_at nat_eq location) world.mounts mount e in
+        absurd (true≢false
+        (sym (among_from_all (λ (m : Mount ℕ). (place : Location ℕ) → m.mount_point ≡ Some place
+        → is_directory_at nat_eq world place ≡ true)
+        world.mounts (worlds_are_standing world is).places mount found.0 location (stands_there location mount found.1))
+        ∙ no_directory))
+
+module _ (world : World ℕ) (fresh : Fresh ℕ) (name : TaskName) (call : Call) (answer : Answer)
+    (is : IsWorld nat_eq world) (plain : IsPlain world) (serves : Serves nat_eq world fresh)
+    (other : mounts_overlay call ≡ false) (few : names_few_groups call ≡ true)
+    (did : IsPermitted world fresh name call answer) (location : Location ℕ) (change : Change ℕ) (from : Fresh ℕ)
+    (asks : change_of fresh world did.permit ≡ Some (location, change))
+    (does : spent world fresh name call answer is plain serves other few did
+    ≡ with_change nat_eq from world location change)
+    (something : is_some (node_at nat_eq world location) ≡ true)
+    (allowed : MayChange (files_at nat_eq world location) change) (tree : IsFileTree (files_at nat_eq world location))
+    (Refused : Deny → Type 0)
+    (stay : TreeStays (files_at nat_eq world location).tree
+    (changed nat_eq (files_at nat_eq world location) change).tree Refused) where
+  abbrev pub left : World ℕ
+  left = (policy nat_eq fresh world name call).world
+
+  pub stays : WorldStays world left Refused
+  stays =
+      world_stays world fresh name call answer is plain serves other few did location change from asks does something
+      allowed tree
+      Refused stay
+
+  pub is_left : IsWorld nat_eq left × IsPlain left
+  is_left = later_is world fresh name call answer is plain serves other few did
+
+  -- the caller is there still
+  pub caller : task_called left name ≡ Some (raised_task name did.task)
+  caller =
+      still_called world fresh name call answer is plain serves other few did name did.task
+      (ap (λ w. task_called w name) does
+      ∙ ap (find (λ (t : Task ℕ). same_name name t.name)) (change_tasks from world plain location change) ∙ did.called)
+
+  module _ (reader : Task ℕ) (called : task_called left reader.name ≡ Some reader)
+      (stands : StandsAs did.task reader) where
+    abbrev pub KnownToo : Location ℕ → Type 0
+    KnownToo here =
+        Known world left is plain is_left.0 is_left.1 did.task reader
+        (called_own world fresh name call answer is plain serves other few did) called stands Refused stays here
+
+    pub known_there : (here : Location ℕ) → KnownToo here
+        → is_some (node_in left (mount_at nat_eq world here).filesystem here.node) ≡ true
+    known_there here known =
+        ap is_some (sym (node_here world left is plain is_left.0 is_left.1 did.task reader
+        (called_own world fresh name call answer is plain serves other few did) called stands Refused stays here))
+        ∙ known.1.1
+
+    -- what is at the location of the change
+    pub seen_there : KnownToo location
+        → node_at nat_eq left location
+        ≡ (changed nat_eq (files_at nat_eq world location) change).tree.node location.node
+    seen_there known =
+        node_here world left is plain is_left.0 is_left.1 did.task reader
+        (called_own world fresh name call answer is plain serves other few did) called stands Refused stays location
+        ∙ node_changed world fresh name call answer is plain serves other few did location change from asks does
+        something allowed tree
+        location.node (known_there location known)
+
+    -- and at an inode of that filesystem
+    pub seen_at : (number : ℕ) → node_at nat_eq left (record { mount = location.mount; node = number })
+        ≡ node_in left (mount_at nat_eq world location).filesystem number
+    seen_at number =
+        node_here world left is plain is_left.0 is_left.1 did.task reader
+        (called_own world fresh name call answer is plain serves other few did) called stands Refused stays
+        (record { mount = location.mount; node = number })
+
+    leads_by : ((here : Location ℕ) → KnownToo here → is_directory_at nat_eq world here ≡ true
+        → may (looks_of nat_eq world) did.task here execute_right ≡ true
+        → (may (looks_of nat_eq left) reader here execute_right ≡ true)
+        ⊎ ((may (looks_of nat_eq left) reader here execute_right ≡ false) × Refused (denial W4)))
+        → LeadsToo (looks_of nat_eq world) (looks_of nat_eq left) did.task reader Refused KnownToo
+    leads_by rights =
+        world_leads world left is plain is_left.0 is_left.1 did.task reader
+        (called_own world fresh name call answer is plain serves other few did) called stands Refused stays rights
+
+    searched_by_all : reads_all reader.credentials ≡ true → (here : Location ℕ) → KnownToo here
+        → is_directory_at nat_eq world here ≡ true
+        → may (looks_of nat_eq left) reader here execute_right ≡ true
+    searched_by_all all here known directory =
+        search_all reader.credentials all (node_at nat_eq left here)
+        (ap is_directory_node (node_here world left is plain is_left.0 is_left.1 did.task reader
+        (called_own world fresh name call answer is plain serves other few did) called stands Refused stays here)
+        ∙ stays.directory (mount_at nat_eq world here).filesystem here.node known.0.1 (known_there here known)
+        ∙ directory)
+
+    -- where rights stay
+    pub leads : RightsStay (files_at nat_eq world location).tree
+        (changed nat_eq (files_at nat_eq world location) change).tree
+        → MayLook did.task reader → LeadsToo (looks_of nat_eq world)
+        (looks_of nat_eq left) did.task reader Refused KnownToo
+    leads rights (inr all) = leads_by (λ here known directory e. inl (searched_by_all all here known directory))
+    leads rights (inl same) = leads_by (λ here known directory e. inl
+        (ap (λ who. node_allows who execute_right (node_at nat_eq left here)) same
+        ∙ ap (node_allows did.task.credentials execute_right)
+        (node_here world left is plain is_left.0 is_left.1 did.task reader
+        (called_own world fresh name call answer is plain serves other few did) called stands Refused stays here)
+        ∙ world_rights world fresh name call answer is plain serves other few did location change from asks does
+        something allowed tree
+        rights (mount_at nat_eq world here).filesystem here.node execute_right did.task.credentials known.0.1
+        (known_there here known)
+        ∙ e))
+
+    -- where they may be lost, and that is a refusal
+    pub leads_or_hides : Refused (denial W4)
+        → LeadsToo (looks_of nat_eq world) (looks_of nat_eq left) did.task reader Refused KnownToo
+    leads_or_hides hides = leads_by
+        (λ here known directory e. by (may (looks_of nat_eq left) reader here execute_right))
+      where
+        by : (b : Bool) → (b ≡ true) ⊎ ((b ≡ false) × Refused (denial W4))
+        by true = inl refl
+        by false = inr (refl, hides)
+
+    pub leads_all : reads_all reader.credentials ≡ true
+        → LeadsToo (looks_of nat_eq world) (looks_of nat_eq left) did.task reader Refused KnownToo
+    leads_all all = leads_by (λ here known directory e. inl (searched_by_all all here known directory))

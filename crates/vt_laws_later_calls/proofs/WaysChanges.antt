@@ -1,0 +1,464 @@
+-- What changes of a tree leave of the ways through it.
+use Rattle.std.proofs.Common.{◌≡◌, ◌≢◌, refl, sym, ap, ◌∙◌, inl, inr, ◌⊎◌, ⊎_elim, true≢false, ℕ, nat_eq, eqb-true, ne_eqb, Bool, true, false, cond, not, List, Option, Some, None, is_some}
+use Rattle.std.proofs.lemmas.Bool.Decides.{eqb_tells}
+use Rattle.std.proofs.lemmas.Option.{same_Some}
+use Rattle.std.specs.Cmp.{tied_itself}
+use Rattle.std.specs.Cmp.Lexicographic.{bytes_decides, nat_list_cmp_total}
+use Rattle.std.specs.Ordering.{eq_by_cmp, is_eq}
+use Rattle.std.specs.Str.{bytes_eq}
+use Rattle.vt_spec.specs.declared.attributes.Attr.{Attr}
+use Rattle.vt_spec.specs.declared.errors.Deny.{Deny}
+use Rattle.vt_spec.specs.declared.errors.Rule.TheVariants.{W6}
+use Rattle.vt_spec.specs.Errors.{denial}
+use Rattle.vt_spec.specs.FileTree.{FileTree, symlink_text}
+use Rattle.vt_spec.specs.Language.Changes.{changed, changed_node, node_with_attr, node_with_parent, node_without_entry, with_name, without_entry, without_name, without_parent}
+use Rattle.vt_spec.specs.Language.Changes.Change.{Make, Move, Remove}
+use Rattle.vt_spec.specs.Machine.Rightful.{node_allows}
+use Rattle.vt_spec.specs.Rights.{Credentials, allows}
+use Rattle.vt_spec.specs.Tree.{Content, Node, Tree, entries_in, entries_of, entry_named, is_directory_node, kind_of, name_cmp, node_with_bytes, node_with_entry, parent_in, with_bytes, with_entries, with_entry}
+use Rattle.vt_spec.specs.Tree.Content.{Directory, Regular, Symlink, Whiteout}
+use Rattle.vt_spec.specs.TreeInvariant.{IsDirectory, entry_at}
+use Rattle.vt_spec.proofs.Nodes.{entries-node_with_bytes, entries-node_with_entry, entry_named-with_entry, entry_named-without_entry, is_directory-node_with_bytes, is_directory-node_with_entry, none_is_not, parent-node_with_bytes, parent-node_with_entry, same_name}
+use Rattle.vt_laws_trees.proofs.trees.ChangesNodes.{attr_keeps_place, changed_node_there as there, elsewhere, part_stays}
+use Rattle.vt_spec.proofs.NodeChanges.{directory_from_entry, entries-node_without_entry, is_directory-node_without_entry, node_with_parent-no_directory, parent-node_without_entry}
+
+-- What was there is of its kind, and a directory has its parent, a symlink its text. A name leads where it led, or is
+-- missing, and then it was no directory's.
+pub record TreeStays (tree later : Tree ℕ) (Refused : Deny → Type 0) : Type 0 where
+  pub root : later.root ≡ tree.root
+  pub directory : (n : ℕ) → is_some (tree.node n) ≡ true
+      → is_directory_node (later.node n) ≡ is_directory_node (tree.node n)
+  pub parent : (n : ℕ) → is_some (tree.node n) ≡ true → parent_in n (later.node n) ≡ parent_in n (tree.node n)
+  pub link : (n : ℕ) → is_some (tree.node n) ≡ true → symlink_text (later.node n) ≡ symlink_text (tree.node n)
+  pub entry : (directory : ℕ) (name : List ℕ) (number : ℕ) → entry_at tree directory name ≡ Some number
+      → (entry_at later directory name ≡ Some number)
+      ⊎ ((entry_at later directory name ≡ None) × (is_directory_node (tree.node number) ≡ false) × Refused (denial W6))
+
+-- what may be done to what was there stays
+abbrev pub RightsStay : Tree ℕ → Tree ℕ → Type 0
+RightsStay tree later =
+    (who : Credentials) (wanted n : ℕ) → is_some (tree.node n) ≡ true
+    → node_allows who wanted (later.node n) ≡ node_allows who wanted (tree.node n)
+
+-- What changes of an inode leave of a symlink
+pub link_with_bytes : (bytes : List ℕ) (o : Option (Node ℕ)) → symlink_text (node_with_bytes bytes o) ≡ symlink_text o
+link_with_bytes bytes None = refl
+link_with_bytes bytes (Some node) = by node.content
+  where
+    by : (content : Content ℕ) → symlink_text (Some (record { attr = node.attr; content = with_bytes content bytes }))
+        ≡ symlink_text (Some (record { attr = node.attr; content = content }))
+    by (Directory parent entries opaque) = refl
+    by (Regular old) = refl
+    by (Symlink text) = refl
+    by Whiteout = refl
+
+pub link_with_attr : (attr : Attr) (o : Option (Node ℕ)) → symlink_text (node_with_attr attr o) ≡ symlink_text o
+link_with_attr attr None = refl
+link_with_attr attr (Some node) = refl
+
+link_with_entries : (content : Content ℕ) (attr : Attr) (entries : List (List ℕ × ℕ))
+    → symlink_text (Some (record { attr = attr; content = with_entries content entries }))
+    ≡ symlink_text (Some (record { attr = attr; content = content }))
+link_with_entries (Directory parent old opaque) attr entries = refl
+link_with_entries (Regular bytes) attr entries = refl
+link_with_entries (Symlink text) attr entries = refl
+link_with_entries Whiteout attr entries = refl
+
+link_with_entry : (name : List ℕ) (number : ℕ) (o : Option (Node ℕ))
+    → symlink_text (node_with_entry name number o) ≡ symlink_text o
+link_with_entry name number None = refl
+link_with_entry name number (Some node) =
+    link_with_entries node.content node.attr (with_entry name number (entries_of node.content))
+
+pub link_without : (name : List ℕ) (o : Option (Node ℕ)) → symlink_text (node_without_entry name o) ≡ symlink_text o
+link_without name None = refl
+link_without name (Some node) = link_with_entries node.content node.attr (without_entry name (entries_of node.content))
+
+-- and of rights
+allows_with_bytes : (bytes : List ℕ) (who : Credentials) (wanted : ℕ) (o : Option (Node ℕ))
+    → node_allows who wanted (node_with_bytes bytes o) ≡ node_allows who wanted o
+allows_with_bytes bytes who wanted None = refl
+allows_with_bytes bytes who wanted (Some node) = by node.content
+  where
+    by : (content : Content ℕ) → allows who node.attr (kind_of (with_bytes content bytes)) wanted
+        ≡ allows who node.attr (kind_of content) wanted
+    by (Directory parent entries opaque) = refl
+    by (Regular old) = refl
+    by (Symlink text) = refl
+    by Whiteout = refl
+
+allows_with_entries : (content : Content ℕ) (attr : Attr) (entries : List (List ℕ × ℕ)) (who : Credentials) (wanted : ℕ)
+    → allows who attr (kind_of (with_entries content entries)) wanted ≡ allows who attr (kind_of content) wanted
+allows_with_entries (Directory parent old opaque) attr entries who wanted = refl
+allows_with_entries (Regular bytes) attr entries who wanted = refl
+allows_with_entries (Symlink text) attr entries who wanted = refl
+allows_with_entries Whiteout attr entries who wanted = refl
+
+allows_with_entry : (name : List ℕ) (number : ℕ) (who : Credentials) (wanted : ℕ) (o : Option (Node ℕ))
+    → node_allows who wanted (node_with_entry name number o) ≡ node_allows who wanted o
+allows_with_entry name number who wanted None = refl
+allows_with_entry name number who wanted (Some node) =
+    allows_with_entries node.content node.attr (with_entry name number (entries_of node.content)) who wanted
+
+pub allows_without : (name : List ℕ) (who : Credentials) (wanted : ℕ) (o : Option (Node ℕ))
+    → node_allows who wanted (node_without_entry name o) ≡ node_allows who wanted o
+allows_without name who wanted None = refl
+allows_without name who wanted (Some node) =
+    allows_with_entries node.content node.attr (without_entry name (entries_of node.content)) who wanted
+
+module _ (files : FileTree ℕ) (Refused : Deny → Type 0) where
+  -- Ways stay where an inode keeps its kind, entries, parent and text
+  ways_changed : (number : ℕ) (change : Option (Node ℕ) → Option (Node ℕ))
+      → ((o : Option (Node ℕ)) → is_directory_node (change o) ≡ is_directory_node o)
+      → ((o : Option (Node ℕ)) → entries_in (change o) ≡ entries_in o)
+      → ((own : ℕ) (o : Option (Node ℕ)) → parent_in own (change o) ≡ parent_in own o)
+      → ((o : Option (Node ℕ)) → symlink_text (change o) ≡ symlink_text o)
+      → TreeStays files.tree (changed_node nat_eq files number change).tree Refused
+  ways_changed number change kinds entries parents links = record {
+    root = refl;
+    directory = λ n is. part_stays files number change is_directory_node kinds n;
+    parent = λ n is. part_stays files number change (parent_in n) (parents n) n;
+    link = λ n is. part_stays files number change symlink_text links n;
+    entry = λ directory name object e.
+        inl (ap (entry_named name) (part_stays files number change entries_in entries directory) ∙ e);
+  }
+
+  pub ways_with_bytes : (file : ℕ) (bytes : List ℕ) → TreeStays files.tree (changed_node nat_eq files file
+      (node_with_bytes bytes)).tree Refused
+  ways_with_bytes file bytes =
+      ways_changed file (node_with_bytes bytes) (is_directory-node_with_bytes bytes) (entries-node_with_bytes bytes)
+      (parent-node_with_bytes bytes) (link_with_bytes bytes)
+
+  pub rights_with_bytes : (file : ℕ) (bytes : List ℕ)
+      → RightsStay files.tree (changed_node nat_eq files file (node_with_bytes bytes)).tree
+  rights_with_bytes file bytes who wanted n is =
+      part_stays files file (node_with_bytes bytes) (node_allows who wanted) (allows_with_bytes bytes who wanted) n
+
+  pub ways_with_attr : (object : ℕ) (attr : Attr) → TreeStays files.tree (changed_node nat_eq files object
+      (node_with_attr attr)).tree Refused
+  ways_with_attr object attr =
+      ways_changed object (node_with_attr attr) (attr_keeps_place attr).kind (attr_keeps_place attr).entries
+      (attr_keeps_place attr).parent (link_with_attr attr)
+
+  -- A name more in a directory, where none was
+  module _ (directory : ℕ) (name : List ℕ) (object : ℕ) (in_directory : IsDirectory files.tree directory)
+      (free : entry_at files.tree directory name ≡ None) where
+    abbrev named : FileTree ℕ
+    named = with_name nat_eq files directory name object
+
+    entry_now : (other : List ℕ) → entry_at named.tree directory other
+        ≡ cond (eq_by_cmp name_cmp other name) (Some object) (entry_at files.tree directory other)
+    entry_now other =
+        ap (λ o. entry_named other (entries_in o)) (there files directory (node_with_entry name object))
+        ∙ ap (entry_named other) (entries-node_with_entry name object (files.tree.node directory) in_directory)
+        ∙ entry_named-with_entry other name object (entries_in (files.tree.node directory))
+
+    -- the name leads to the object
+    pub name_leads : entry_at named.tree directory name ≡ Some object
+    name_leads =
+        entry_now name
+        ∙ ap (λ b. cond b (Some object) (entry_at files.tree directory name))
+        (ap is_eq (tied_itself nat_list_cmp_total name))
+
+    -- and each other where it led
+    entry_stays : (here : ℕ) (other : List ℕ) (next : ℕ) → entry_at files.tree here other ≡ Some next
+        → entry_at named.tree here other ≡ Some next
+    entry_stays here other next e =
+        ⊎_elim
+        (λ t. ap (λ m. entry_at named.tree m other) t.1 ∙ entry_now other
+        ∙ by (eq_by_cmp name_cmp other name) refl (ap (λ m. entry_at files.tree m other) (sym t.1) ∙ e))
+        (λ t. ap (λ o. entry_named other (entries_in o))
+        (elsewhere files directory (node_with_entry name object) here t.1) ∙ e)
+        (eqb_tells here directory)
+      where
+        by : (b : Bool) → eq_by_cmp name_cmp other name ≡ b → entry_at files.tree directory other ≡ Some next
+            → cond b (Some object) (entry_at files.tree directory other) ≡ Some next
+        by true tie is =
+            none_is_not (entry_at files.tree directory other) next
+            (ap (entry_at files.tree directory) (same_name other name tie) ∙ free) is
+        by false tie is = is
+
+    pub ways_named : TreeStays files.tree named.tree Refused
+    ways_named = record {
+      root = refl;
+      directory = λ n is. part_stays files directory (node_with_entry name object) is_directory_node
+          (is_directory-node_with_entry name object) n;
+      parent = λ n is. part_stays files directory (node_with_entry name object) (parent_in n)
+          (parent-node_with_entry name object n) n;
+      link = λ n is. part_stays files directory (node_with_entry name object) symlink_text
+          (link_with_entry name object) n;
+      entry = λ here other next e. inl (entry_stays here other next e);
+    }
+
+    pub rights_named : RightsStay files.tree named.tree
+    rights_named who wanted n is =
+        part_stays files directory (node_with_entry name object) (node_allows who wanted)
+        (allows_with_entry name object who wanted) n
+
+    -- what is not the directory is as it was
+    pub named_other : (n : ℕ) → n ≢ directory → named.tree.node n ≡ files.tree.node n
+    named_other n other = elsewhere files directory (node_with_entry name object) n other
+
+    -- A new object
+    module _ (node : Node ℕ) (new : files.tree.node object ≡ None) where
+      abbrev made : FileTree ℕ
+      made = changed nat_eq files (Make directory name object node)
+
+      not_new : (n : ℕ) → is_some (files.tree.node n) ≡ true → n ≢ object
+      not_new n is same = true≢false (sym is ∙ ap (λ m. is_some (files.tree.node m)) same ∙ ap is_some new)
+
+      directory_is : is_some (files.tree.node directory) ≡ true
+      directory_is = Rattle.vt_spec.proofs.Nodes.directory_used files.tree directory in_directory
+
+      -- what was there is as it is with the name alone
+      made_other : (n : ℕ) → is_some (files.tree.node n) ≡ true → made.tree.node n ≡ named.tree.node n
+      made_other n is =
+          ap (λ o. cond (nat_eq n directory) (node_with_entry name object o)
+          (cond (nat_eq n object) (Some node) (files.tree.node n)))
+          (ap (λ b. cond b (Some node) (files.tree.node directory))
+          (ne_eqb directory object (not_new directory directory_is)))
+          ∙ ap (λ b. cond (nat_eq n directory) (node_with_entry name object (files.tree.node directory))
+          (cond b (Some node) (files.tree.node n))) (ne_eqb n object (not_new n is))
+
+      pub made_entry : entry_at made.tree directory name ≡ Some object
+      made_entry = ap (λ o. entry_named name (entries_in o)) (made_other directory directory_is) ∙ name_leads
+
+      pub ways_made : TreeStays files.tree made.tree Refused
+      ways_made = record {
+        root = refl;
+        directory = λ n is. ap is_directory_node (made_other n is) ∙ ways_named.directory n is;
+        parent = λ n is. ap (parent_in n) (made_other n is) ∙ ways_named.parent n is;
+        link = λ n is. ap symlink_text (made_other n is) ∙ ways_named.link n is;
+        entry = λ here other next e.
+            inl (ap (λ o. entry_named other (entries_in o)) (made_other here (some_there here other next e))
+            ∙ entry_stays here other next e);
+      }
+        where
+          some_there : (here : ℕ) (other : List ℕ) (next : ℕ) → entry_at files.tree here other ≡ Some next
+              → is_some (files.tree.node here) ≡ true
+          some_there here other next e =
+              Rattle.vt_spec.proofs.Nodes.directory_used files.tree here
+              (directory_from_entry other next (files.tree.node here) e)
+
+      pub rights_made : RightsStay files.tree made.tree
+      rights_made who wanted n is = ap (node_allows who wanted) (made_other n is) ∙ rights_named who wanted n is
+
+  module _ (directory : ℕ) (name : List ℕ) (object : ℕ) (named_so : entry_at files.tree directory name ≡ Some object)
+      (no_directory : is_directory_node (files.tree.node object) ≡ false) where
+    abbrev unnamed : FileTree ℕ
+    unnamed = without_name nat_eq files directory name
+
+    abbrev removed : FileTree ℕ
+    removed = changed nat_eq files (Remove directory name object)
+
+    -- its parent is not asked for
+    removed_node : (n : ℕ) → removed.tree.node n ≡ unnamed.tree.node n
+    removed_node n = by (nat_eq n object) refl
+      where
+        kept : is_directory_node (unnamed.tree.node object) ≡ false
+        kept = part_stays files directory (node_without_entry name) is_directory_node
+            (is_directory-node_without_entry name) object ∙ no_directory
+
+        by : (b : Bool) → nat_eq n object ≡ b
+            → cond b (node_with_parent object (unnamed.tree.node object)) (unnamed.tree.node n) ≡ unnamed.tree.node n
+        by true e =
+            node_with_parent-no_directory object (unnamed.tree.node object) kept
+            ∙ ap unnamed.tree.node (sym (eqb-true n object e))
+        by false e = refl
+
+    entry_less : (other : List ℕ) → entry_at removed.tree directory other
+        ≡ cond (not (bytes_eq other name)) (entry_at files.tree directory other) None
+    entry_less other =
+        ap (λ o. entry_named other (entries_in o))
+        (removed_node directory ∙ there files directory (node_without_entry name))
+        ∙ ap (entry_named other) (entries-node_without_entry name (files.tree.node directory))
+        ∙ entry_named-without_entry other name (entries_in (files.tree.node directory))
+
+    pub name_missing : entry_at removed.tree directory name ≡ None
+    name_missing =
+        entry_less name ∙ ap (λ b. cond (not b) (entry_at files.tree directory name) None)
+        ((bytes_decides name name).1 refl)
+
+    removed_part : {A : Type 0} (part : Option (Node ℕ) → A)
+        → ((o : Option (Node ℕ)) → part (node_without_entry name o) ≡ part o)
+        → (n : ℕ) → part (removed.tree.node n) ≡ part (files.tree.node n)
+    removed_part part same n = ap part (removed_node n)
+        ∙ part_stays files directory (node_without_entry name) part same n
+
+    pub ways_removed : Refused (denial W6) → TreeStays files.tree removed.tree Refused
+    ways_removed missing = record {
+      root = refl;
+      directory = λ n is. removed_part is_directory_node (is_directory-node_without_entry name) n;
+      parent = λ n is. removed_part (parent_in n) (parent-node_without_entry name n) n;
+      link = λ n is. removed_part symlink_text (link_without name) n;
+      entry = entry_or;
+    }
+      where
+        entry_or : (here : ℕ) (other : List ℕ) (next : ℕ) → entry_at files.tree here other ≡ Some next
+            → (entry_at removed.tree here other ≡ Some next)
+            ⊎ ((entry_at removed.tree here other ≡ None) × (is_directory_node (files.tree.node next) ≡ false)
+            × Refused (denial W6))
+        entry_or here other next e =
+            ⊎_elim
+            (λ t. by (bytes_eq other name) refl (ap (λ m. entry_at removed.tree m other) t.1 ∙ entry_less other)
+            (ap (λ m. entry_at files.tree m other) (sym t.1) ∙ e))
+            (λ t. inl (ap (λ o. entry_named other (entries_in o))
+            (removed_node here ∙ elsewhere files directory (node_without_entry name) here t.1) ∙ e))
+            (eqb_tells here directory)
+          where
+            by : (b : Bool) → bytes_eq other name ≡ b
+                → entry_at removed.tree here other ≡ cond (not b) (entry_at files.tree directory other) None
+                → entry_at files.tree directory other ≡ Some next
+                → (entry_at removed.tree here other ≡ Some next)
+                ⊎ ((entry_at removed.tree here other ≡ None) × (is_directory_node (files.tree.node next) ≡ false)
+                × Refused (denial W6))
+            by true same now was =
+                let name_is : other ≡ name = (bytes_decides other name).0 same in
+                let object_is : object ≡ next =
+                same_Some object next (sym named_so ∙ ap (entry_at files.tree directory) (sym name_is) ∙ was) in
+                inr (now, ap (λ m. is_directory_node (files.tree.node m)) (sym object_is) ∙ no_directory, missing)
+            by false same now was = inl (now ∙ was)
+
+    pub rights_removed : RightsStay files.tree removed.tree
+    rights_removed who wanted n is = removed_part (node_allows who wanted) (allows_without name who wanted) n
+
+-- An object that is no directory leaves one name for another, which was free
+module _ (files : FileTree ℕ) (Refused : Deny → Type 0) (from : ℕ) (old : List ℕ) (to : ℕ) (new : List ℕ) (object : ℕ)
+    (named_so : entry_at files.tree from old ≡ Some object)
+    (no_directory : is_directory_node (files.tree.node object) ≡ false)
+    (in_directory : IsDirectory files.tree to) (free : entry_at files.tree to new ≡ None) where
+  abbrev less : FileTree ℕ
+  less = without_name nat_eq files from old
+
+  abbrev renamed : FileTree ℕ
+  renamed = with_name nat_eq less to new object
+
+  abbrev moved : FileTree ℕ
+  moved = changed nat_eq files (Move from old to new object)
+
+  -- it is the loss of one name and the gain of another
+  less_removed : (n : ℕ) → less.tree.node n ≡ (changed nat_eq files (Remove from old object)).tree.node n
+  less_removed n = sym (removed_node files Refused from old object named_so no_directory n)
+
+  less_kind : (n : ℕ) → is_directory_node (less.tree.node n) ≡ is_directory_node (files.tree.node n)
+  less_kind n = part_stays files from (node_without_entry old) is_directory_node (is_directory-node_without_entry old) n
+
+  less_directory : IsDirectory less.tree to
+  less_directory = less_kind to ∙ in_directory
+
+  less_entry : (here : ℕ) (other : List ℕ) → entry_at less.tree here other ≡ entry_at (changed nat_eq files
+      (Remove from old object)).tree here other
+  less_entry here other = ap (λ o. entry_named other (entries_in o)) (less_removed here)
+
+  less_free : entry_at less.tree to new ≡ None
+  less_free = ⊎_elim
+      (λ t. ap (λ m. entry_at less.tree m new) t.1 ∙ less_entry from new
+      ∙ entry_less files Refused from old object named_so no_directory new
+      ∙ by (bytes_eq new old) (ap (λ m. entry_at files.tree m new) (sym t.1) ∙ free))
+      (λ t. ap (λ o. entry_named new (entries_in o)) (elsewhere files from (node_without_entry old) to t.1) ∙ free)
+      (eqb_tells to from)
+    where
+      by : (b : Bool) → entry_at files.tree from new ≡ None → cond (not b) (entry_at files.tree from new) None ≡ None
+      by true e = refl
+      by false e = e
+
+  moved_node : (n : ℕ) → moved.tree.node n ≡ renamed.tree.node n
+  moved_node n =
+      ap (λ o. (changed_node nat_eq (with_name nat_eq
+      (without_name nat_eq (without_parent nat_eq files o) from old) to new object)
+      object (node_with_parent to)).tree.node n) free
+      ∙ by (nat_eq n object) refl
+    where
+      kept : is_directory_node (renamed.tree.node object) ≡ false
+      kept =
+          part_stays less to (node_with_entry new object) is_directory_node
+          (is_directory-node_with_entry new object) object
+          ∙ less_kind object ∙ no_directory
+
+      by : (b : Bool) → nat_eq n object ≡ b
+          → cond b (node_with_parent to (renamed.tree.node object)) (renamed.tree.node n) ≡ renamed.tree.node n
+      by true e = node_with_parent-no_directory to (renamed.tree.node object) kept
+          ∙ ap renamed.tree.node (sym (eqb-true n object e))
+      by false e = refl
+
+  pub moved_entry : entry_at moved.tree to new ≡ Some object
+  moved_entry = ap (λ o. entry_named new (entries_in o)) (moved_node to)
+      ∙ name_leads less Refused to new object less_directory less_free
+
+  -- a name that is missing is missing still
+  missing_stays : (here : ℕ) (other : List ℕ) → entry_at less.tree here other ≡ None → (here ≡ to → other ≡ new → ⊥)
+      → entry_at renamed.tree here other ≡ None
+  missing_stays here other e apart = ⊎_elim
+      (λ t. ap (λ m. entry_at renamed.tree m other) t.1
+      ∙ entry_now less Refused to new object less_directory less_free other
+      ∙ by t.1 (eq_by_cmp name_cmp other new) refl (ap (λ m. entry_at less.tree m other) (sym t.1) ∙ e))
+      (λ t. ap (λ o. entry_named other (entries_in o)) (elsewhere less to (node_with_entry new object) here t.1) ∙ e)
+      (eqb_tells here to)
+    where
+      by : here ≡ to → (b : Bool) → eq_by_cmp name_cmp other new ≡ b → entry_at less.tree to other ≡ None
+          → cond b (Some object) (entry_at less.tree to other) ≡ None
+      by same true tie h = absurd (apart same (same_name other new tie))
+      by same false tie h = h
+
+  pub moved_missing : entry_at moved.tree from old ≡ None
+  moved_missing =
+      ap (λ o. entry_named old (entries_in o)) (moved_node from)
+      ∙ missing_stays from old (less_entry from old ∙ name_missing files Refused from old object named_so no_directory)
+      (λ same_directory same_word.
+      none_is_not (entry_at files.tree to new) object free
+      ((λ i. entry_at files.tree (sym same_directory i) (sym same_word i)) ∙ named_so))
+
+  moved_part : {A : Type 0} (part : Option (Node ℕ) → A)
+      → ((o : Option (Node ℕ)) → part (node_without_entry old o) ≡ part o)
+      → ((o : Option (Node ℕ)) → part (node_with_entry new object o) ≡ part o) → (n : ℕ)
+      → part (moved.tree.node n) ≡ part
+      (files.tree.node n)
+  moved_part part without with n =
+      ap part (moved_node n) ∙ part_stays less to (node_with_entry new object) part with n
+      ∙ part_stays files from (node_without_entry old) part without n
+
+  pub ways_moved : Refused (denial W6) → TreeStays files.tree moved.tree Refused
+  ways_moved missing = record {
+    root = ap (λ o. (changed_node nat_eq
+        (with_name nat_eq (without_name nat_eq (without_parent nat_eq files o) from old) to new object)
+        object (node_with_parent to)).tree.root) free;
+    directory = λ n is. moved_part is_directory_node (is_directory-node_without_entry old)
+        (is_directory-node_with_entry new object) n;
+    parent = λ n is. moved_part (parent_in n) (parent-node_without_entry old n) (parent-node_with_entry new object n) n;
+    link = λ n is. moved_part symlink_text (link_without old) (link_with_entry new object) n;
+    entry = λ here other next e.
+        by here other next e
+        ((ways_removed files Refused from old object named_so no_directory missing).entry here other next e);
+  }
+    where
+      by : (here : ℕ) (other : List ℕ) (next : ℕ) → entry_at files.tree here other ≡ Some next
+          → (entry_at (changed nat_eq files (Remove from old object)).tree here other ≡ Some next)
+          ⊎ ((entry_at (changed nat_eq files (Remove from old object)).tree here other ≡ None)
+          × (is_directory_node (files.tree.node next) ≡ false) × Refused (denial W6))
+          → (entry_at moved.tree here other ≡ Some next)
+          ⊎ ((entry_at moved.tree here other ≡ None) × (is_directory_node (files.tree.node next) ≡ false)
+          × Refused (denial W6))
+      by here other next e (inl same) =
+          inl (ap (λ o. entry_named other (entries_in o)) (moved_node here)
+          ∙ entry_stays less Refused to new object less_directory less_free here other next
+          (less_entry here other ∙ same))
+      by here other next e (inr lost) =
+          inr (
+            ap (λ o. entry_named other (entries_in o)) (moved_node here)
+                ∙ missing_stays here other (less_entry here other ∙ lost.0)
+                (λ same_directory same_word.
+                none_is_not (entry_at files.tree to new) next free
+                ((λ i. entry_at files.tree (sym same_directory i) (sym same_word i)) ∙ e)),
+            lost.1,
+            lost.2,
+          )
+
+  pub rights_moved : RightsStay files.tree moved.tree
+  rights_moved who wanted n is =
+      moved_part (node_allows who wanted) (allows_without old who wanted) (allows_with_entry new object who wanted) n
+
+  -- the object is as it was
+  pub moved_object : object ≢ from → object ≢ to → moved.tree.node object ≡ files.tree.node object
+  moved_object not_from not_to =
+      moved_node object ∙ elsewhere less to (node_with_entry new object) object not_to
+      ∙ elsewhere files from (node_without_entry old) object not_from

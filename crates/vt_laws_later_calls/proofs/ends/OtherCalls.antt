@@ -1,0 +1,542 @@
+-- After a call that takes no use away the sweep is to look at what a new name replaced; after one that sets types it
+-- takes at the most masters of groups.
+use Rattle.std.proofs.Common.{◌≡◌, refl, sym, ap, subst, ◌∙◌, inl, inr, ◌⊎◌, ⊎_elim, true≢false, ℕ, nat_eq, Bool, true, false, not, ◌&&◌, List, [], ◌∷◌, Option, Some, None, is_some, map, Ok, Err}
+use Rattle.std.proofs.lemmas.Bool.{and_parts}
+use Rattle.std.proofs.Math.Bool.{and-false}
+use Rattle.std.specs.Prelude.{Contains}
+use Rattle.vt_laws_rules.proofs.given.GivenPermits.{permits_are_for_their_calls}
+use Rattle.vt_laws_rules.proofs.judged.CallsJudged.{call_is_judged_then_applied}
+use Rattle.vt_laws_rules.specs.Given.{IsFor, makes_a_name}
+use Rattle.vt_laws_layers.specs.Layers.Untouched.{changes_no_mount}
+use Rattle.vt_laws_letting_go.proofs.leaving.FilesChanged.{file_changes_let_go, none_left, opened_new_keeps_all}
+use Rattle.vt_laws_letting_go.proofs.leaving.LeftWithOverlays.{staying_keeps_overlays}
+use Rattle.vt_laws_letting_go.proofs.leaving.Retyped.{set_types_let_go}
+use Rattle.vt_laws_letting_go.proofs.leaving.TaskCalls.{forks_keep_all, new_credentials_keep_all, new_umasks_keep_all, opened_files_keep_all}
+use Rattle.vt_laws_letting_go.proofs.leaving.UsesKept.{flags_keep_all}
+use Rattle.vt_laws_letting_go.proofs.mounting.AttachedSwept.{binds_keep_all, new_mounts_of_trees_keep_all}
+use Rattle.vt_laws_letting_go.proofs.sweeps.OfWorlds.{locations_of_worlds_stand, mounts_of_worlds_stand, worlds_are_settled}
+use Rattle.vt_laws_letting_go.specs.Attaching.{is_attached}
+use Rattle.vt_laws_letting_go.specs.FileChanges.{MayChange}
+use Rattle.vt_laws_letting_go.specs.InUse.{AllInUse, IsListedTree}
+use Rattle.vt_laws_letting_go.specs.LeavingOverlays.{IsSettled}
+use Rattle.vt_laws_letting_go.specs.OneByOne.{Inode, let_go_group, let_go_groups}
+use Rattle.vt_laws_letting_go.specs.Overlays.{let_go_all_inodes, let_go_plain}
+use Rattle.vt_laws_letting_go.specs.Retyping.{groups_of_types}
+use Rattle.vt_laws_merging.proofs.mounted.Left.{mounting_lets_nothing_go}
+use Rattle.vt_laws_merging.proofs.mounted.Worlds.{are_new}
+use Rattle.vt_laws_overlays_let_go.proofs.changing.NamesGiven.{given_names_let_go, no_name_lost, opened_names_let_go}
+use Rattle.vt_laws_overlays_let_go.proofs.changing.NamesLost.{opened_copies_keep_all}
+use Rattle.vt_laws_overlays_let_go.proofs.changing.OverlayCalls.{reached_on_mount}
+use Rattle.vt_laws_overlays_let_go.specs.NamesGiven.{takes_a_name}
+use Rattle.vt_laws_overlays_let_go.specs.OverlayCalls.{is_on_mount}
+use Rattle.vt_laws_overlay_permits.proofs.asked.AskedOverlays.{permits_ask_properly}
+use Rattle.vt_laws_overlay_permits.proofs.asked.Unlocked.{permits_spare_what_is_locked}
+use Rattle.vt_laws_overlay_permits.proofs.changed.ChangedOverlays.{permits_can_change}
+use Rattle.vt_laws_overlay_permits.specs.Asked.{change_asked}
+use Rattle.vt_laws_overlay_permits.specs.Changed.{numbers_left}
+use Rattle.vt_spec.proofs.Found.{found_among}
+use Rattle.vt_spec.proofs.Lists.{among_from_contains, contains_from_among}
+use Rattle.vt_spec.proofs.NodeChanges.{file_is_there}
+use Rattle.vt_spec.specs.FileTree.{FileTree}
+use Rattle.vt_spec.specs.Language.Calls.{Access, Call, MountFlags, OverlayWords, opens_for_writing, same_name}
+use Rattle.vt_spec.specs.Language.Calls.Call.{Chdir, Chroot, Close, Exit, Lazy, Mkdir, MakeWhiteout, MountOverlay, MoveMount, PivotRoot, Rename, Rmdir, SetType, Setns, SymlinkAt, Umount, Unlink, Unshare, Write}
+use Rattle.vt_spec.specs.Language.Changes.{Change, changed}
+use Rattle.vt_spec.specs.Language.Changes.Change.{AddName, CopyUp, Make, Move, Remove, SetAttr, SetBytes, SetMark}
+use Rattle.vt_spec.specs.Lists.{Fresh, evens, is_among, when}
+use Rattle.vt_spec.specs.Machine.Apply.{apply}
+use Rattle.vt_spec.specs.Machine.Filesystems.{filesystem_changed, lies_only_in_lowers, overlay_changed, with_change}
+use Rattle.vt_spec.specs.Machine.Invariants.{IsWorld, is_there}
+use Rattle.vt_spec.specs.Machine.Judge.{Judgement, judge_in}
+use Rattle.vt_spec.specs.Machine.Locked.{overlay_or}
+use Rattle.vt_spec.specs.Machine.Looks.{looks_of}
+use Rattle.vt_spec.specs.Machine.Mounts.{Location}
+use Rattle.vt_spec.specs.Machine.Descriptors.{is_copied_up, opened, overwritten, with_copy, with_descriptor}
+use Rattle.vt_spec.specs.Machine.Outcomes.{Outcome, after}
+use Rattle.vt_spec.specs.Machine.Permits.{Permit}
+use Rattle.vt_spec.specs.Machine.Permits.Permit.{ToBind, ToChange, ToClose, ToEnterNamespace, ToExit, ToFork, ToMake, ToMountOverlay, ToMountPlain, ToMove, ToOpen, ToOpenNew, ToPivot, ToRemoveDirectory, ToRename, ToSetCredentials, ToSetDirectory, ToSetFlags, ToSetRoot, ToSetType, ToSetUmask, ToUnmount, ToUnmountLazily, ToUnshare, ToWritePart}
+use Rattle.vt_spec.specs.Machine.Policy.{call_outcome}
+use Rattle.vt_spec.specs.Machine.Run.{Serves}
+use Rattle.vt_spec.specs.Machine.Settled.{settled}
+use Rattle.vt_spec.specs.Machine.World.{Filesystem, Layer, Overlay, Task, World, files_at, filesystem_at, is_overlay, mount_at, node_at, task_called, with_task}
+use Rattle.vt_spec.specs.Tree.{Node, bytes_in}
+use Rattle.vt_laws_trees.proofs.trees.ChangesKeepTrees.{changes_keep_numbers, changes_keep_trees}
+use Rattle.vt_laws_trees.proofs.trees.TreesOfWorlds.{numbered_all}
+use Rattle.vt_laws_trees.specs.Trees.{IsProper}
+use Rattle.vt_laws_trees.specs.Trees.Calls.{mounts_overlay}
+use Rattle.vt_laws_worlds.proofs.worlds.FitPermitsNamed.{all_permits_fit}
+use Rattle.vt_laws_worlds.specs.Worlds.Permits.{IsDestination, IsReached, NamesWhatIsThere}
+use Rattle.vt_laws_later_calls.proofs.AfterChange.{listed}
+use Rattle.vt_laws_later_calls.specs.Ends.{KeepsAllButMasters, sets_type, takes_uses}
+use Rattle.vt_laws_later_calls.specs.Whiteouts.{AllTypesLeaveAllButMasters, OtherCallsLetWhiteoutsGo, replaced_as, replaced_by, replaced_if, replaced_in, replaced_over}
+use Rattle.vt_laws_trees.proofs.trees.TreesTasks.{called_there}
+use Rattle.vt_laws_overlay_permits.proofs.worlds.LowersAfterCalls.{makes_files}
+
+-- the sweep takes nothing
+abbrev KeepsAll : World ℕ → Type 0
+KeepsAll left = settled nat_eq left ≡ left
+
+-- or looks at these
+abbrev LetsGo : World ℕ → List Inode → Type 0
+LetsGo left inodes = settled nat_eq left ≡ let_go_plain left inodes
+
+-- groups that are let go of lose their masters, and nothing else changes
+groups_leave : (groups : List ℕ) (world : World ℕ)
+    → let_go_groups world groups ≡ record world { master = (let_go_groups world groups).master }
+groups_leave [] world = refl
+groups_leave (group ∷ groups) world = groups_leave groups (let_go_group world group)
+
+-- what takes nothing takes masters at the most
+kept_but_masters : (left : World ℕ) → KeepsAll left → KeepsAllButMasters left
+kept_but_masters left e =
+    e ∙ ap (λ master. record left { master = master }) (ap (λ (w : World ℕ). w.master) (sym e))
+
+-- Calls that change a mount ask for no change of a filesystem
+module _ (world : World ℕ) (fresh : Fresh ℕ) (task : Task ℕ) (call : Call)
+    (of_mounts : changes_no_mount call ≡ false) where
+  -- so it is none of the others
+  not_that : {A : Type 0} (other : Call) → call ≡ other → changes_no_mount other ≡ true → A
+  not_that other e files = absurd (true≢false (sym files ∙ ap changes_no_mount (sym e) ∙ of_mounts))
+
+  no_change : (location : Location ℕ) (change : Change ℕ)
+      → IsFor (looks_of nat_eq world) task call (ToChange location change) → ⊥
+  no_change location (Make directory name number node) for = for
+  no_change location (AddName directory name object) for = not_that _ for.2 refl
+  no_change location (Remove directory name object) for = not_that _ for.1 refl
+  no_change location (Move from old to new object) for = for
+  no_change location (SetBytes file bytes) for = not_that _ for.1 refl
+  no_change location (SetAttr object attr) for =
+      ⊎_elim (λ mode. not_that _ mode.2 refl) (λ owner. not_that _ owner.3 refl) for.1
+  no_change location (SetMark directory opaque) for = not_that _ for.1 refl
+  no_change location (CopyUp object) for = for
+
+  -- and its permit asks for none
+  pub asks_nothing : (permit : Permit ℕ) → IsFor (looks_of nat_eq world) task call permit
+      → change_asked fresh world permit ≡ None
+  asks_nothing (ToChange location change) for = absurd (no_change location change for)
+  asks_nothing (ToMake directory name node) for =
+      absurd (true≢false (sym (makes_files call for) ∙ of_mounts))
+  asks_nothing (ToRemoveDirectory parent name directory) for = not_that _ for.1 refl
+  asks_nothing (ToRename from old to new object replaced) for = not_that _ for.2 refl
+  asks_nothing (ToOpen file access) for = not_that _ for.2 refl
+  asks_nothing (ToOpenNew directory name node access) for = not_that _ for.2 refl
+  asks_nothing (ToWritePart file offset bytes) for = not_that _ for.1 refl
+  asks_nothing permit for = refl
+
+module _ (world : World ℕ) (fresh : Fresh ℕ) (task : Task ℕ) (is : IsWorld nat_eq world)
+    (serves : Serves nat_eq world fresh) (called : task_called world task.name ≡ Some task) where
+  settles : IsSettled world
+  settles = worlds_are_settled world is
+
+  in_use : AllInUse world
+  in_use = settles.in_use
+
+  among_tasks : Contains world.tasks task
+  among_tasks =
+      contains_from_among world.tasks task
+      (called_there world.tasks task.name task called)
+
+  -- A change of a tree, plain or an overlay, by which no name is lost
+  module _ (call : Call) (permit : Permit ℕ) (judged : judge_in nat_eq fresh world task call ≡ Ok permit)
+      (location : Location ℕ) (change : Change ℕ)
+      (asks : change_asked fresh world permit ≡ Some (location, change)) (none : takes_a_name change ≡ false)
+      (something : is_some (node_at nat_eq world location) ≡ true) where
+    abbrev files : FileTree ℕ
+    files = files_at nat_eq world location
+
+    abbrev merged : Filesystem ℕ
+    merged = filesystem_at nat_eq world location
+
+    abbrev number : ℕ
+    number = (mount_at nat_eq world location).filesystem
+
+    abbrev left : World ℕ
+    left = with_change nat_eq (numbers_left fresh permit) world location change
+
+    proper : IsProper files.tree change
+    proper = (permits_ask_properly world fresh task call permit location change is serves called judged asks).0
+
+    tree : IsListedTree files
+    tree =
+        ⊎_elim (λ tree. tree)
+        (λ missing. absurd (true≢false
+        (sym something ∙ ap (λ (f : Filesystem ℕ). is_some (f.files.tree.node location.node)) missing.0)))
+        (numbered_all (λ (f : Filesystem ℕ). IsListedTree f.files) number world.filesystems settles.trees)
+
+    after_tree : IsListedTree (changed nat_eq files change)
+    after_tree = record {
+      tree = changes_keep_trees files change tree.tree proper;
+      numbers = changes_keep_numbers files change tree.numbers;
+    }
+
+    there : is_among nat_eq number (map (λ (f : Filesystem ℕ). f.number) world.filesystems) ≡ true
+    there = listed number world.filesystems location.node something
+
+    -- what the change needs
+    may_change : (kind : Change ℕ) → IsProper files.tree kind → takes_a_name kind ≡ false → MayChange files kind
+    may_change (Make directory name object node) may none =
+        record { in_directory = may.name_is_free.in_directory; is_new = may.number_is_new }
+    may_change (AddName directory name object) may none = tt
+    may_change (Remove directory name object) may none = tt
+    may_change (Move from old to new object) may none = absurd (true≢false none)
+    may_change (SetBytes file bytes) may none = tt
+    may_change (SetAttr object attr) may none = tt
+    may_change (SetMark directory opaque) may none = tt
+    may_change (CopyUp object) may none = tt
+
+    -- in a plain tree nothing goes
+    plain_keeps : is_overlay merged ≡ false → KeepsAll left
+    plain_keeps plain =
+        file_changes_let_go (numbers_left fresh permit) world location change settles is.files.one_filesystem there
+        plain after_tree (may_change change proper none)
+        ∙ ap (λ names. let_go_all_inodes left (map (λ inode. (number, inode)) names))
+        (no_name_lost files change proper none)
+
+    -- so it looks at what is replaced
+    change_goes : LetsGo left (replaced_over world merged.overlay change)
+    change_goes = by merged.overlay refl
+      where
+        over : (overlay : Overlay ℕ) → merged.overlay ≡ Some overlay → (o : Option (Layer ℕ)) → overlay.upper ≡ o
+            → LetsGo left (replaced_in world overlay o change)
+        over overlay e None u =
+            subst KeepsAll
+            (sym (ap (λ o. filesystem_changed nat_eq (numbers_left fresh permit) world merged o change) e
+            ∙ ap (λ o. overlay_changed nat_eq (numbers_left fresh permit) world merged overlay o change) u))
+            is.nothing_unused
+        over overlay e (Some upper) u =
+            given_names_let_go (numbers_left fresh permit) world location change overlay upper is
+            (permits_can_change world fresh task call permit location change overlay upper is serves called judged asks
+            e u) proper none
+
+        by : (o : Option (Overlay ℕ)) → merged.overlay ≡ o → LetsGo left (replaced_over world o change)
+        by None e = plain_keeps (ap is_some e)
+        by (Some overlay) e = over overlay e overlay.upper refl
+
+    -- with a new file that is opened
+    opened_goes : (name : List ℕ) (node : Node ℕ) (access : Access) → permit ≡ ToOpenNew location name node access
+        → is_on_mount world location ≡ true
+        → LetsGo (apply nat_eq fresh world task (ToOpenNew location name node access)).world
+        (replaced_over world merged.overlay (Make location.node name (evens fresh 0) node))
+    opened_goes name node access same on = by merged.overlay refl
+      where
+        made : Change ℕ
+        made = Make location.node name (evens fresh 0) node
+
+        opens : World ℕ
+        opens = (apply nat_eq fresh world task (ToOpenNew location name node access)).world
+
+        judged_so : judge_in nat_eq fresh world task call ≡ Ok (ToOpenNew location name node access)
+        judged_so = judged ∙ ap Ok same
+
+        made_well : IsProper files.tree made
+        made_well =
+            (permits_ask_properly world fresh task call (ToOpenNew location name node access) location made is serves
+            called judged_so refl).0
+
+        made_tree : IsListedTree (changed nat_eq files made)
+        made_tree = record {
+          tree = changes_keep_trees files made tree.tree made_well;
+          numbers = changes_keep_numbers files made tree.numbers;
+        }
+
+        over : (overlay : Overlay ℕ) → merged.overlay ≡ Some overlay → (o : Option (Layer ℕ)) → overlay.upper ≡ o
+            → LetsGo opens (replaced_in world overlay o made)
+        over overlay e None u =
+            absurd (true≢false
+            (sym (ap (overlay_or false (λ (overlay : Overlay ℕ). not (is_some overlay.upper))) e
+            ∙ ap (λ o. not (is_some o)) u)
+            ∙ (permits_spare_what_is_locked world fresh task call (ToOpenNew location name node access) is serves called
+            judged_so).layer))
+        over overlay e (Some upper) u =
+            opened_names_let_go fresh world task location name node access overlay upper is among_tasks on
+            (permits_can_change world fresh task call (ToOpenNew location name node access) location made overlay upper
+            is serves called judged_so refl e u) made_well
+
+        by : (o : Option (Overlay ℕ)) → merged.overlay ≡ o → LetsGo opens (replaced_over world o made)
+        by None e =
+            opened_new_keeps_all fresh world task location name node access settles is.files.one_filesystem
+            is.tasks.one_task among_tasks there (ap is_some e) made_tree
+            (record { in_directory = made_well.name_is_free.in_directory; is_new = made_well.number_is_new })
+            made_well.name_is_free.free
+        by (Some overlay) e = over overlay e overlay.upper refl
+
+  -- a file that is opened is copied up, or not
+  opened_keeps : (call : Call) (file : Location ℕ) (access : Access)
+      → judge_in nat_eq fresh world task call ≡ Ok (ToOpen file access) → is_on_mount world file ≡ true
+      → KeepsAll (apply nat_eq fresh world task (ToOpen file access)).world
+  opened_keeps call file access judged on = by (is_copied_up nat_eq world file access) refl
+    where
+      opens : World ℕ
+      opens = (apply nat_eq fresh world task (ToOpen file access)).world
+
+      without_copy : KeepsAll (opened world task file access).world
+      without_copy =
+          staying_keeps_overlays world (with_task world (with_descriptor task file access)).tasks settles
+          (none_left world task file access is.tasks.one_task (among_from_contains world.tasks task among_tasks))
+
+      over : (overlay : Overlay ℕ) → (filesystem_at nat_eq world file).overlay ≡ Some overlay → (o : Option (Layer ℕ))
+          → overlay.upper ≡ o → is_copied_up nat_eq world file access ≡ true → KeepsAll opens
+      over overlay e None u copied =
+          subst KeepsAll
+          (sym (ap (λ b. (opened (with_copy nat_eq b fresh world file) task file access).world) copied
+          ∙ ap (λ o. (opened (filesystem_changed nat_eq fresh world (filesystem_at nat_eq world file) o
+          (CopyUp file.node)) task file access).world) e
+          ∙ ap (λ o. (opened (overlay_changed nat_eq fresh world (filesystem_at nat_eq world file) overlay o
+          (CopyUp file.node)) task file access).world) u)) without_copy
+      over overlay e (Some upper) u copied =
+          opened_copies_keep_all fresh world task file access overlay upper is among_tasks on copied
+          (permits_can_change world fresh task call (ToOpen file access) file (CopyUp file.node) overlay upper is serves
+          called judged (ap (λ b. when b (file, CopyUp file.node)) copied) e u)
+
+      in_overlay : (o : Option (Overlay ℕ)) → (filesystem_at nat_eq world file).overlay ≡ o
+          → is_copied_up nat_eq world file access ≡ true → KeepsAll opens
+      in_overlay None e copied =
+          absurd (true≢false (sym copied
+          ∙ ap (λ o. opens_for_writing access
+          && overlay_or false (λ overlay. lies_only_in_lowers overlay file.node) o) e
+          ∙ and-false (opens_for_writing access)))
+      in_overlay (Some overlay) e copied = over overlay e overlay.upper refl copied
+
+      by : (b : Bool) → is_copied_up nat_eq world file access ≡ b → KeepsAll opens
+      by true copied = in_overlay (filesystem_at nat_eq world file).overlay refl copied
+      by false copied =
+          opened_files_keep_all fresh world task file access settles is.tasks.one_task among_tasks copied
+
+  -- and replaces nothing
+  nothing_replaced : (file : Location ℕ) (b : Bool) → replaced_if world (when b (file, CopyUp file.node)) ≡ []
+  nothing_replaced file false = refl
+  nothing_replaced file true = by (filesystem_at nat_eq world file).overlay
+    where
+      over : (overlay : Overlay ℕ) (o : Option (Layer ℕ)) → replaced_in world overlay o (CopyUp file.node) ≡ []
+      over overlay None = refl
+      over overlay (Some upper) = refl
+
+      by : (o : Option (Overlay ℕ)) → replaced_over world o (CopyUp file.node) ≡ []
+      by None = refl
+      by (Some overlay) = over overlay overlay.upper
+
+  -- a mount may be attached at a destination
+  attached : (place : Location ℕ) → IsDestination world task place → is_attached world place.mount ≡ true
+  attached place at = ap is_some at.own
+
+  -- what a walk reaches is there
+  reached_something : (location : Location ℕ) → IsReached world task location
+      → is_some (node_at nat_eq world location) ≡ true
+  reached_something location reached =
+      (and_parts (is_on_mount world location)
+      (is_there nat_eq world (mount_at nat_eq world location).filesystem location.node) reached.there).1
+
+  abbrev spent : Permit ℕ → World ℕ
+  spent permit = (apply nat_eq fresh world task permit).world
+
+  abbrev Goes : Permit ℕ → Type 0
+  Goes permit = LetsGo (spent permit) (replaced_if world (change_asked fresh world permit))
+
+  -- what a permit leaves: after a change of types groups may lose their masters
+  abbrev Leaves : Permit ℕ → Type 0
+  Leaves (ToSetType mount word recursive) = KeepsAllButMasters (spent (ToSetType mount word recursive))
+  Leaves permit = Goes permit
+
+  -- What each permit leaves of a call that takes no use away
+  module _ (call : Call) (only : takes_uses call ≡ false) where
+    abbrev not_this : {A : Type 0} (other : Call) → call ≡ other → takes_uses other ≡ true → A
+    not_this other e takes = absurd (true≢false (sym takes ∙ ap takes_uses (sym e) ∙ only))
+
+    -- calls on files: link(2), write(2), chmod(2), chown(2), setxattr(2)
+    change_leaves : (location : Location ℕ) (change : Change ℕ)
+        → judge_in nat_eq fresh world task call ≡ Ok (ToChange location change)
+        → IsFor (looks_of nat_eq world) task call (ToChange location change)
+        → is_some (node_at nat_eq world location) ≡ true → Goes (ToChange location change)
+    change_leaves location (Make directory name object node) judged for something = absurd for
+    change_leaves location (AddName directory name object) judged for something =
+        change_goes call (ToChange location (AddName directory name object)) judged location
+        (AddName directory name object) refl refl something
+    change_leaves location (Remove directory name object) judged for something =
+        not_this (Unlink for.0) for.1 refl
+    change_leaves location (Move from old to new object) judged for something = absurd for
+    change_leaves location (SetBytes file bytes) judged for something =
+        change_goes call (ToChange location (SetBytes file bytes)) judged location (SetBytes file bytes) refl refl
+        something
+    change_leaves location (SetAttr object attr) judged for something =
+        change_goes call (ToChange location (SetAttr object attr)) judged location (SetAttr object attr) refl refl
+        something
+    change_leaves location (SetMark directory mark) judged for something =
+        change_goes call (ToChange location (SetMark directory mark)) judged location (SetMark directory mark) refl refl
+        something
+    change_leaves location (CopyUp object) judged for something = absurd for
+
+    -- pwrite(2)
+    written_leaves : (file : Location ℕ) (offset : ℕ) (bytes : List ℕ)
+        → judge_in nat_eq fresh world task call ≡ Ok (ToWritePart file offset bytes)
+        → is_some (node_at nat_eq world file) ≡ true → Goes (ToWritePart file offset bytes)
+    written_leaves file offset [] judged something = is.nothing_unused
+    written_leaves file offset (byte ∷ bytes) judged something =
+        change_goes call (ToWritePart file offset (byte ∷ bytes)) judged file
+        (SetBytes file.node (overwritten offset (byte ∷ bytes) (bytes_in (node_at nat_eq world file)))) refl refl
+        something
+
+    -- each permit
+    permit_leaves : (permit : Permit ℕ) → judge_in nat_eq fresh world task call ≡ Ok permit
+        → IsFor (looks_of nat_eq world) task call permit → NamesWhatIsThere world task permit → Leaves permit
+    permit_leaves (ToChange location change) judged for names =
+        change_leaves location change judged for (reached_something location names.0)
+    permit_leaves (ToMake directory name node) judged for names =
+        change_goes call (ToMake directory name node) judged directory (Make directory.node name (evens fresh 0) node)
+        refl refl (reached_something directory names.reached)
+    permit_leaves (ToRemoveDirectory parent name directory) judged for names = not_this (Rmdir for.0) for.1 refl
+    permit_leaves (ToRename from old to new object replaced) judged for names =
+        not_this (Rename for.0 for.1) for.2 refl
+    permit_leaves (ToOpen file access) judged for names =
+        opened_keeps call file access judged (reached_on_mount world task file names.reached)
+        ∙ ap (let_go_plain (spent (ToOpen file access)))
+        (sym (nothing_replaced file (is_copied_up nat_eq world file access)))
+    permit_leaves (ToOpenNew directory name node access) judged for names =
+        opened_goes call (ToOpenNew directory name node access) judged directory
+        (Make directory.node name (evens fresh 0) node) refl refl (reached_something directory names.0.reached) name
+        node access refl (reached_on_mount world task directory names.0.reached)
+    permit_leaves (ToWritePart file offset bytes) judged for names =
+        written_leaves file offset bytes judged (file_is_there (node_at nat_eq world file) names)
+    permit_leaves (ToClose descriptor) judged for names = not_this (Close descriptor) for refl
+    permit_leaves (ToSetDirectory directory) judged for names = not_this (Chdir for.0) for.1 refl
+    permit_leaves (ToSetRoot root) judged for names = not_this (Chroot for.0) for.1 refl
+    permit_leaves (ToSetUmask umask) judged for names =
+        new_umasks_keep_all umask fresh world task settles is.tasks.one_task among_tasks
+    permit_leaves (ToSetCredentials credentials) judged for names =
+        new_credentials_keep_all credentials fresh world task settles is.tasks.one_task among_tasks
+    permit_leaves (ToFork credentials) judged for names =
+        forks_keep_all credentials fresh world task settles is.tasks.one_task among_tasks
+    permit_leaves ToExit judged for names = not_this Exit for refl
+    permit_leaves ToUnshare judged for names = not_this Unshare for refl
+    permit_leaves (ToEnterNamespace namespace) judged for names = not_this (Setns for.0) for.1 refl
+    permit_leaves (ToMountPlain place flags) judged for names =
+        new_mounts_of_trees_keep_all fresh world task place flags in_use (mounts_of_worlds_stand world is)
+        (locations_of_worlds_stand world is) (attached place names)
+    permit_leaves (ToMountOverlay place overlay flags) judged for names = absurd names
+    permit_leaves (ToBind source place recursive) judged for names =
+        binds_keep_all fresh world task source place recursive in_use (mounts_of_worlds_stand world is)
+        (locations_of_worlds_stand world is) (attached place names.2)
+    permit_leaves (ToMove mount place) judged for names = not_this (MoveMount for.0 for.1) for.2 refl
+    permit_leaves (ToUnmount mount) judged for names = not_this (Umount for.0) for.1 refl
+    permit_leaves (ToUnmountLazily mount) judged for names = not_this (Lazy for.0) for.1 refl
+    permit_leaves (ToSetFlags mount flags) judged for names =
+        flags_keep_all world (record { mount = mount; node = 0 }) flags is.mounts.one_number in_use
+    permit_leaves (ToSetType mount word recursive) judged for names =
+        lets ∙ groups_leave groups left ∙ ap (λ master. record left { master = master })
+        (ap (λ (w : World ℕ). w.master) (sym lets))
+      where
+        left : World ℕ
+        left = spent (ToSetType mount word recursive)
+
+        groups : List ℕ
+        groups = groups_of_types fresh world mount recursive
+
+        lets : settled nat_eq left ≡ let_go_groups left groups
+        lets =
+            set_types_let_go fresh world task mount word recursive in_use (mounts_of_worlds_stand world is)
+            (ap is_some names)
+    permit_leaves (ToPivot new put) judged for names = not_this (PivotRoot for.0 for.1) for.2 refl
+    permit_leaves permit judged for names = is.nothing_unused
+
+    -- that a granted call is given
+    granted_leaves : (permit : Permit ℕ) → mounts_overlay call ≡ false
+        → judge_in nat_eq fresh world task call ≡ Ok permit → Leaves permit
+    granted_leaves permit plainly judged =
+        permit_leaves permit judged (permits_are_for_their_calls fresh world task call permit judged)
+        (all_permits_fit world fresh task call permit is serves called plainly judged).names
+
+    -- where no types are set, the permit looks at what it replaces
+    no_types : (permit : Permit ℕ) → IsFor (looks_of nat_eq world) task call permit → sets_type call ≡ false
+        → Leaves permit → Goes permit
+    no_types (ToSetType mount word recursive) for none leaves =
+        absurd (true≢false (sym (ap sets_type for.1) ∙ none))
+    no_types permit for none leaves = leaves
+
+    -- and a permit that asks for no change leaves all but masters
+    but_masters : (permit : Permit ℕ) → change_asked fresh world permit ≡ None → Leaves permit
+        → KeepsAllButMasters (spent permit)
+    but_masters (ToSetType mount word recursive) none leaves = leaves
+    but_masters permit none leaves =
+        kept_but_masters (spent permit) (leaves ∙ ap (λ o. let_go_plain (spent permit) (replaced_if world o)) none)
+
+  -- a call leaves what its judgement leaves
+  by_judgement : (P : World ℕ → Type 0) (call : Call) (judgement : Judgement ℕ)
+      → judge_in nat_eq fresh world task call ≡ judgement
+      → P (after world judgement (apply nat_eq fresh world task)).world
+      → P (call_outcome nat_eq fresh world task call).world
+  by_judgement P call judgement e =
+      subst (λ (o : Outcome ℕ). P o.world)
+      (sym (call_is_judged_then_applied fresh world task call
+      ∙ ap (λ j. after world j (apply nat_eq fresh world task)) e))
+
+  -- the mount of an overlay replaces nothing
+  mounting_goes : (path : List ℕ) (options : Option OverlayWords) (flags : MountFlags)
+      → LetsGo (call_outcome nat_eq fresh world task (MountOverlay path options flags)).world
+      (replaced_by fresh world task (MountOverlay path options flags))
+  mounting_goes path options flags =
+      mounting_lets_nothing_go fresh world task path options flags is (are_new world is fresh serves task called)
+      ∙ ap (let_go_plain (call_outcome nat_eq fresh world task (MountOverlay path options flags)).world)
+      (sym (none (judge_in nat_eq fresh world task (MountOverlay path options flags)) refl))
+    where
+      none : (judgement : Judgement ℕ) → judge_in nat_eq fresh world task (MountOverlay path options flags) ≡ judgement
+          → replaced_as fresh world judgement ≡ []
+      none (Err deny) e = refl
+      none (Ok permit) e =
+          ap (replaced_if world)
+          (asks_nothing world fresh task (MountOverlay path options flags) refl permit
+          (permits_are_for_their_calls fresh world task (MountOverlay path options flags) permit e))
+
+  -- any other call, granted or refused
+  call_goes : (call : Call) → takes_uses call ≡ false → sets_type call ≡ false → mounts_overlay call ≡ false
+      → LetsGo (call_outcome nat_eq fresh world task call).world (replaced_by fresh world task call)
+  call_goes call only no_type plainly = by (judge_in nat_eq fresh world task call) refl
+    where
+      judged_goes : (judgement : Judgement ℕ) → judge_in nat_eq fresh world task call ≡ judgement
+          → LetsGo (after world judgement (apply nat_eq fresh world task)).world (replaced_as fresh world judgement)
+      judged_goes (Ok permit) e =
+          no_types call only permit (permits_are_for_their_calls fresh world task call permit e) no_type
+          (granted_leaves call only permit plainly e)
+      judged_goes (Err deny) e = is.nothing_unused
+
+      by : (judgement : Judgement ℕ) → judge_in nat_eq fresh world task call ≡ judgement
+          → LetsGo (call_outcome nat_eq fresh world task call).world (replaced_by fresh world task call)
+      by judgement e =
+          by_judgement (λ w. LetsGo w (replaced_by fresh world task call)) call judgement e
+          (subst (λ j. LetsGo (after world judgement (apply nat_eq fresh world task)).world (replaced_as fresh world j))
+          (sym e) (judged_goes judgement e))
+
+-- the mount of an overlay, or not
+abbrev IsMounting : Call → Type 0
+IsMounting call =
+    (path : List ℕ) × (options : Option OverlayWords) × (flags : MountFlags) × (call ≡ MountOverlay path options flags)
+
+mounting_or : (call : Call) → IsMounting call ⊎ (mounts_overlay call ≡ false)
+mounting_or (MountOverlay path options flags) = inl (path, options, flags, refl)
+mounting_or call = inr refl
+
+pub other_calls_let_whiteouts_go : OtherCallsLetWhiteoutsGo
+other_calls_let_whiteouts_go world fresh task call is serves called only no_type =
+    ⊎_elim
+    (λ (mounting : IsMounting call).
+    subst (λ c. LetsGo (call_outcome nat_eq fresh world task c).world (replaced_by fresh world task c))
+    (sym mounting.3) (mounting_goes world fresh task is serves called mounting.0 mounting.1 mounting.2))
+    (λ plainly. call_goes world fresh task is serves called call only no_type plainly) (mounting_or call)
+
+pub all_types_leave_all_but_masters : AllTypesLeaveAllButMasters
+all_types_leave_all_but_masters world fresh task path word recursive is serves called =
+    by (judge_in nat_eq fresh world task call) refl
+  where
+    call : Call
+    call = SetType path word recursive
+
+    judged_keeps : (judgement : Judgement ℕ) → judge_in nat_eq fresh world task call ≡ judgement
+        → KeepsAllButMasters (after world judgement (apply nat_eq fresh world task)).world
+    judged_keeps (Ok permit) e =
+        but_masters world fresh task is serves called call refl permit
+        (asks_nothing world fresh task call refl permit
+        (permits_are_for_their_calls fresh world task call permit e))
+        (granted_leaves world fresh task is serves called call refl permit refl e)
+    judged_keeps (Err deny) e = kept_but_masters world is.nothing_unused
+
+    by : (judgement : Judgement ℕ) → judge_in nat_eq fresh world task call ≡ judgement
+        → KeepsAllButMasters (call_outcome nat_eq fresh world task call).world
+    by judgement e = by_judgement world fresh task is serves called KeepsAllButMasters call judgement e
+        (judged_keeps judgement e)

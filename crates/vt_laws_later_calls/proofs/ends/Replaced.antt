@@ -1,0 +1,161 @@
+-- What the upper layer has at a name that is free in the overlay is a whiteout.
+use Rattle.std.proofs.Common.{◌≡◌, refl, sym, ap, subst, ◌∙◌, ⊎_elim, ℕ, nat_eq, Bool, true, false, List, [], ◌∷◌, ◌++◌, map, Option, Some, None, Ok, Err, option_to_list}
+use Rattle.std.specs.Prelude.{option_and_then}
+use Rattle.std.proofs.lemmas.Option.{same_Some}
+use Rattle.vt_spec.specs.declared.attributes.Kind.TheVariants.{White}
+use Rattle.vt_spec.specs.FileTree.{is_kind_in}
+use Rattle.vt_spec.specs.Language.Changes.{Change}
+use Rattle.vt_spec.specs.Language.Changes.Change.{AddName, CopyUp, Make, Move, Remove, SetAttr, SetBytes, SetMark}
+use Rattle.vt_spec.specs.Lists.{then_some}
+use Rattle.vt_spec.specs.Machine.CopyUp.{Merge, Stack}
+use Rattle.vt_spec.specs.Machine.Filesystems.{merge_of, stack_of}
+use Rattle.vt_spec.specs.Machine.Invariants.{IsWorld, number_at_path}
+use Rattle.vt_spec.specs.Machine.Judge.{Judgement, judge_in}
+use Rattle.vt_spec.specs.Machine.Mounts.{Location}
+use Rattle.vt_spec.specs.Machine.Permits.{Permit}
+use Rattle.vt_spec.specs.Machine.World.{Layer, Overlay, World, filesystem_at, filesystem_numbered, mount_at, upper_object}
+use Rattle.vt_spec.specs.TreeInvariant.{entry_at, led}
+use Rattle.vt_spec.proofs.Lists.{Among, among_from_contains}
+use Rattle.vt_spec.proofs.Options.{none_is_some}
+use Rattle.vt_laws_trees.specs.Trees.{IsFree, IsProper}
+use Rattle.vt_laws_layers.proofs.layers.ShownNames.{last_name}
+use Rattle.vt_laws_layers.proofs.layers.UpperFit.{upper_is}
+use Rattle.vt_laws_overlays.specs.WhatIsShown.{IsWhole}
+use Rattle.vt_laws_overlays.proofs.changes.WholeWorlds.{overlays_are_whole}
+use Rattle.vt_laws_overlays.proofs.steps.WholeNames.{above_named, named_above}
+use Rattle.vt_laws_letting_go.specs.OneByOne.{Inode}
+use Rattle.vt_laws_overlays_let_go.specs.NamesGiven.{name_given, replaced_in_upper, upper_at_name}
+use Rattle.vt_laws_overlay_permits.specs.Asked.{change_asked}
+use Rattle.vt_laws_overlay_permits.proofs.asked.AskedOverlays.{permits_ask_properly}
+use Rattle.vt_laws_later_calls.specs.Whiteouts.{IsWhiteoutOfUpper, ReplacedAreWhiteouts, replaced_as, replaced_if, replaced_in, replaced_over}
+use Rattle.vt_laws_trees.specs.Trees.Settling.{inode_in}
+
+-- what an option that leads on leads to
+leads_on : {A B : Type 0} (o : Option A) (next : A → Option B) (b : B) → then_some o next ≡ Some b
+    → (a : A) × (o ≡ Some a) × (next a ≡ Some b)
+leads_on None next b e = none_is_some b e
+leads_on (Some a) next b e = (a, refl, e)
+
+module _ (world : World ℕ) (is : IsWorld nat_eq world) (number : ℕ) (overlay : Overlay ℕ)
+    (over : (filesystem_numbered nat_eq world number).overlay ≡ Some overlay) (upper : Layer ℕ)
+    (has : overlay.upper ≡ Some upper) where
+  abbrev stack : Stack ℕ
+  stack = stack_of nat_eq world overlay upper
+
+  abbrev merge : Merge ℕ
+  merge = merge_of nat_eq world (filesystem_numbered nat_eq world number) overlay upper
+
+  whole : IsWhole stack merge
+  whole = overlays_are_whole world number overlay upper is over has
+
+  -- a name that is free shows nothing, so the upper layer has a whiteout there, or nothing
+  at_name_is_white : (directory : ℕ) (name : List ℕ) → IsFree merge.files.tree directory name → (object : ℕ)
+      → upper_at_name world overlay upper (directory, name) ≡ Some object
+      → is_kind_in White (merge.upper.tree.node object) ≡ true
+  at_name_is_white directory name free object e = by (is_kind_in White (merge.upper.tree.node object)) refl
+    where
+      stands : (seen : ℕ) × (upper_object (overlay.real directory) ≡ Some seen)
+          × (entry_at merge.upper.tree seen name ≡ Some object)
+      stands = leads_on (upper_object (overlay.real directory)) (λ seen. entry_at merge.upper.tree seen name) object e
+
+      way : List (List ℕ)
+      way = free.reached.0
+
+      there : led merge.upper.tree stack.directory (way ++ name ∷ []) ≡ Some object
+      there =
+          last_name merge.upper.tree stack.directory way name
+          ∙ ap (option_and_then (λ d. entry_at merge.upper.tree d name))
+          (named_above stack merge whole way directory stands.0 free.reached.1
+          (upper_is (overlay.real directory) stands.0 stands.1))
+          ∙ stands.2
+
+      nothing : number_at_path merge.files (way ++ name ∷ []) ≡ None
+      nothing =
+          last_name merge.files.tree merge.files.tree.root way name
+          ∙ ap (option_and_then (λ d. entry_at merge.files.tree d name)) free.reached.1 ∙ free.free
+
+      by : (b : Bool) → is_kind_in White (merge.upper.tree.node object) ≡ b → b ≡ true
+      by true white = refl
+      by false white =
+          let shown = above_named stack merge whole (way ++ name ∷ []) object there white in
+          none_is_some shown.0 (sym nothing ∙ shown.1)
+
+-- What a change replaces
+module _ (world : World ℕ) (is : IsWorld nat_eq world) (location : Location ℕ) (change : Change ℕ)
+    (may : IsProper (filesystem_at nat_eq world location).files.tree change) (inode : Inode) where
+  abbrev number : ℕ
+  number = (mount_at nat_eq world location).filesystem
+
+  -- a change that its tree lets pass gives a name that is free
+  given_is_free : (kind : Change ℕ) → IsProper (filesystem_at nat_eq world location).files.tree kind
+      → (name : ℕ × List ℕ) → name_given kind ≡ Some name
+      → IsFree (filesystem_at nat_eq world location).files.tree name.0 name.1
+  given_is_free (Make directory w object node) may name e =
+      subst (λ (n : ℕ × List ℕ). IsFree (filesystem_at nat_eq world location).files.tree n.0 n.1) (same_Some _ name e)
+      may.name_is_free
+  given_is_free (AddName directory w object) may name e =
+      subst (λ (n : ℕ × List ℕ). IsFree (filesystem_at nat_eq world location).files.tree n.0 n.1) (same_Some _ name e)
+      may.name_is_free
+  given_is_free (Remove directory w object) may name e = none_is_some name e
+  given_is_free (Move from old to new object) may name e = none_is_some name e
+  given_is_free (SetBytes file bytes) may name e = none_is_some name e
+  given_is_free (SetAttr object attr) may name e = none_is_some name e
+  given_is_free (SetMark directory opaque) may name e = none_is_some name e
+  given_is_free (CopyUp object) may name e = none_is_some name e
+
+  -- of an overlay with an upper layer
+  upper_is_white : (overlay : Overlay ℕ) → (filesystem_at nat_eq world location).overlay ≡ Some overlay
+      → (upper : Layer ℕ) → overlay.upper ≡ Some upper → Among inode (replaced_in_upper world overlay upper change)
+      → IsWhiteoutOfUpper world inode
+  upper_is_white overlay over upper has m =
+      by (then_some (name_given change) (upper_at_name world overlay upper)) refl m
+    where
+      of : (object : ℕ) → then_some (name_given change) (upper_at_name world overlay upper) ≡ Some object
+          → inode ≡ (upper.filesystem, object) → IsWhiteoutOfUpper world inode
+      of object e same =
+          let given = leads_on (name_given change) (upper_at_name world overlay upper) object e in
+          record {
+            merged = number;
+            overlay = overlay;
+            upper = upper;
+            overlay_there = over;
+            upper_there = has;
+            in_upper = ap (λ (i : Inode). i.0) same;
+            white = ap (λ (i : Inode). is_kind_in White (inode_in world i.0 i.1)) same
+                ∙ at_name_is_white world is number overlay over upper has given.0.0 given.0.1
+                (given_is_free change may given.0 given.1) object given.2;
+          }
+
+      by : (o : Option ℕ) → then_some (name_given change) (upper_at_name world overlay upper) ≡ o
+          → Among inode (map (λ object. (upper.filesystem, object)) (option_to_list o)) → IsWhiteoutOfUpper world inode
+      by None e m = absurd m
+      by (Some object) e m = of object e (⊎_elim (λ same. same) (λ (none : ⊥). absurd none) m)
+
+  -- of any filesystem
+  over_is_white : (o : Option (Overlay ℕ)) → (filesystem_at nat_eq world location).overlay ≡ o
+      → Among inode (replaced_over world o change) → IsWhiteoutOfUpper world inode
+  over_is_white None over m = absurd m
+  over_is_white (Some overlay) over m = by overlay.upper refl m
+    where
+      by : (u : Option (Layer ℕ)) → overlay.upper ≡ u → Among inode (replaced_in world overlay u change)
+          → IsWhiteoutOfUpper world inode
+      by None has m = absurd m
+      by (Some upper) has m = upper_is_white overlay over upper has m
+
+pub replaced_are_whiteouts : ReplacedAreWhiteouts
+replaced_are_whiteouts world fresh task call is serves called only inode contains =
+    by (judge_in nat_eq fresh world task call) refl (among_from_contains _ inode contains)
+  where
+    asked : (permit : Permit ℕ) → judge_in nat_eq fresh world task call ≡ Ok permit
+        → (o : Option (Location ℕ × Change ℕ)) → change_asked fresh world permit ≡ o
+        → Among inode (replaced_if world o) → IsWhiteoutOfUpper world inode
+    asked permit judged None asks m = absurd m
+    asked permit judged (Some made) asks m =
+        over_is_white world is made.0 made.1
+        (permits_ask_properly world fresh task call permit made.0 made.1 is serves called judged asks).0 inode
+        (filesystem_at nat_eq world made.0).overlay refl m
+
+    by : (judgement : Judgement ℕ) → judge_in nat_eq fresh world task call ≡ judgement
+        → Among inode (replaced_as fresh world judgement) → IsWhiteoutOfUpper world inode
+    by (Ok permit) judged m = asked permit judged (change_asked fresh world permit) refl m
+    by (Err deny) judged m = absurd m

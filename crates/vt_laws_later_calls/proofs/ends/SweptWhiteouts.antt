@@ -1,0 +1,113 @@
+-- What is left where inodes of plain trees are looked at: mounts, groups, filesystems, and every other inode.
+use Rattle.std.proofs.Common.{◌≡◌, refl, sym, ap, subst, ◌∙◌, ◌⊎◌, inl, inr, ⊎_elim, ℕ, nat_eq, eqb-true, Bool, true, false, cond, not, ◌&&◌, List, [], ◌∷◌, find, map, Option, Some, None, unwrap_or}
+use Rattle.std.proofs.lemmas.Bool.{and_parts}
+use Rattle.vt_spec.specs.Machine.World.{Filesystem, World, no_filesystem}
+use Rattle.vt_spec.specs.Tree.{Node}
+use Rattle.vt_spec.proofs.Lists.{Among, contains_from_among}
+use Rattle.vt_laws_letting_go.specs.InUse.{is_inode_used}
+use Rattle.vt_laws_letting_go.specs.OneByOne.{Inode}
+use Rattle.vt_laws_letting_go.specs.Overlays.{is_plain, let_go_in, let_go_in_of, let_go_plain, without_inode_of}
+use Rattle.vt_laws_trees.proofs.trees.TreesOfWorlds.{numbered}
+use Rattle.vt_laws_later_calls.specs.Whiteouts.{LeavesAllBut}
+use Rattle.vt_laws_trees.specs.Trees.Settling.{inode_in}
+
+-- nothing changes but filesystems
+only_filesystems : (list : List Inode) (world : World ℕ)
+    → let_go_plain world list ≡ record world { filesystems = (let_go_plain world list).filesystems }
+only_filesystems [] world = refl
+only_filesystems (inode ∷ rest) world = only_filesystems rest (let_go_in is_plain world inode)
+
+module _ (world : World ℕ) (inode : Inode) where
+  abbrev change : Filesystem ℕ → Filesystem ℕ
+  change = let_go_in_of is_plain world inode
+
+  same_number : (f : Filesystem ℕ) → (change f).number ≡ f.number
+  same_number f = by ((is_plain f && nat_eq f.number inode.0) && not (is_inode_used world f inode.1))
+    where
+      by : (b : Bool) → (cond b (without_inode_of inode.1 f) f).number ≡ f.number
+      by true = refl
+      by false = refl
+
+  same_numbers : (list : List (Filesystem ℕ)) → map (λ (f : Filesystem ℕ). f.number) (map change list)
+      ≡ map (λ (f : Filesystem ℕ). f.number) list
+  same_numbers [] = refl
+  same_numbers (f ∷ rest) =
+      ap (λ n. n ∷ map (λ (f : Filesystem ℕ). f.number) (map change rest)) (same_number f)
+      ∙ ap (λ l. f.number ∷ l) (same_numbers rest)
+
+  -- what becomes of an inode: it stays, or it is the one that is looked at, and goes
+  module _ (filesystem number : ℕ) where
+    abbrev StaysOrGoes : Option (Node ℕ) → Option (Node ℕ) → Type 0
+    StaysOrGoes was now = (now ≡ was) ⊎ (((filesystem, number) ≡ inode) × (now ≡ None))
+
+    in_one : (f : Filesystem ℕ) → filesystem ≡ f.number
+        → StaysOrGoes (f.files.tree.node number) ((change f).files.tree.node number)
+    in_one f at = by ((is_plain f && nat_eq f.number inode.0) && not (is_inode_used world f inode.1)) refl
+      where
+        itself : nat_eq f.number inode.0 ≡ true → (b : Bool) → nat_eq number inode.1 ≡ b
+            → StaysOrGoes (f.files.tree.node number) (cond b None (f.files.tree.node number))
+        itself of true e =
+            let first = at ∙ eqb-true f.number inode.0 of in
+            let second = eqb-true number inode.1 e in
+            inr ((λ i. (first i, second i)), refl)
+        itself of false e = inl refl
+
+        by : (b : Bool) → ((is_plain f && nat_eq f.number inode.0) && not (is_inode_used world f inode.1)) ≡ b
+            → StaysOrGoes (f.files.tree.node number) ((cond b (without_inode_of inode.1 f) f).files.tree.node number)
+        by true e =
+            itself (and_parts (is_plain f) (nat_eq f.number inode.0)
+            (and_parts (is_plain f && nat_eq f.number inode.0) (not (is_inode_used world f inode.1)) e).0).1
+            (nat_eq number inode.1) refl
+        by false e = inl refl
+
+    in_list : (list : List (Filesystem ℕ))
+        → StaysOrGoes ((numbered filesystem list).files.tree.node number)
+        ((numbered filesystem (map change list)).files.tree.node number)
+    in_list [] = inl refl
+    in_list (first ∷ rest) =
+        subst (λ n. StaysOrGoes ((numbered filesystem (first ∷ rest)).files.tree.node number)
+        ((unwrap_or (cond (nat_eq filesystem n) (Some (change first))
+        (find (λ (f : Filesystem ℕ). nat_eq filesystem f.number) (map change rest)))
+        (no_filesystem filesystem)).files.tree.node number)) (sym (same_number first))
+        (by (nat_eq filesystem first.number) refl (in_list rest))
+      where
+        by : (b : Bool) → nat_eq filesystem first.number ≡ b
+            → StaysOrGoes ((numbered filesystem rest).files.tree.node number)
+            ((numbered filesystem (map change rest)).files.tree.node number)
+            → StaysOrGoes ((unwrap_or (cond b (Some first)
+            (find (λ (f : Filesystem ℕ). nat_eq filesystem f.number) rest))
+            (no_filesystem filesystem)).files.tree.node number)
+            ((unwrap_or (cond b (Some (change first))
+            (find (λ (f : Filesystem ℕ). nat_eq filesystem f.number) (map change rest)))
+            (no_filesystem filesystem)).files.tree.node number)
+        by true e later = in_one first (eqb-true filesystem first.number e)
+        by false e later = later
+
+-- one after the other
+numbers_stay : (list : List Inode) (world : World ℕ)
+    → map (λ (f : Filesystem ℕ). f.number) (let_go_plain world list).filesystems
+    ≡ map (λ (f : Filesystem ℕ). f.number) world.filesystems
+numbers_stay [] world = refl
+numbers_stay (inode ∷ rest) world =
+    numbers_stay rest (let_go_in is_plain world inode) ∙ same_numbers world inode world.filesystems
+
+inodes_stay : (list : List Inode) (world : World ℕ) (filesystem number : ℕ)
+    → (inode_in (let_go_plain world list) filesystem number ≡ inode_in world filesystem number)
+    ⊎ (Among (filesystem, number) list × (inode_in (let_go_plain world list) filesystem number ≡ None))
+inodes_stay [] world filesystem number = inl refl
+inodes_stay (inode ∷ rest) world filesystem number =
+    ⊎_elim
+    (λ same. ⊎_elim (λ stays. inl (same ∙ stays)) (λ goes. inr (inl goes.0, same ∙ goes.1))
+    (in_list world inode filesystem number world.filesystems))
+    (λ gone. inr (inr gone.0, gone.1))
+    (inodes_stay rest (let_go_in is_plain world inode) filesystem number)
+
+pub leaves_all_but : (world : World ℕ) (list : List Inode) → LeavesAllBut list world (let_go_plain world list)
+leaves_all_but world list = record {
+  mounts = ap (λ (w : World ℕ). w.mounts) (only_filesystems list world);
+  masters = ap (λ (w : World ℕ). w.master) (only_filesystems list world);
+  filesystems = numbers_stay list world;
+  inodes = λ filesystem number.
+      ⊎_elim inl (λ gone. inr (contains_from_among list (filesystem, number) gone.0, gone.1))
+      (inodes_stay list world filesystem number);
+}

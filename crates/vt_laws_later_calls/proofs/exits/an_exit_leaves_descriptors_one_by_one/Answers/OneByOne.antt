@@ -1,0 +1,133 @@
+-- Descriptors are closed one after the other, with a sweep after each, and then the task ends.
+use Rattle.std.proofs.Common.{◌≡◌, refl, sym, ap, subst, ◌∙◌, inl, inr, ℕ, nat_eq, Bool, true, false, cond, not, List, [], ◌∷◌, Option, Some, None, filter, flat_map, map}
+use Rattle.vt_laws_letting_go.proofs.ends.EndsInTurn.{one_sweep_for_exits_with_overlays}
+use Rattle.vt_laws_letting_go.proofs.leaving.LeftOneByOne.{one_sweep_with_overlays}
+use Rattle.vt_laws_letting_go.proofs.leaving.PlacesLeft.{comes_nowhere_itself, location_among}
+use Rattle.vt_laws_letting_go.proofs.Lists.{Among, all_pass, among-flat_map, among-from_filter, among-from_flat_map, among-from_map, among-map}
+use Rattle.vt_laws_letting_go.proofs.mounting.MountsSwept.{mounts_stand}
+use Rattle.vt_laws_letting_go.proofs.sweeps.OfWorlds.{worlds_are_settled}
+use Rattle.vt_laws_letting_go.specs.InUse.{HasTrees, UppersArePlain}
+use Rattle.vt_laws_letting_go.specs.Leaving.{comes_nowhere, is_location_among, with_sweeps}
+use Rattle.vt_laws_letting_go.specs.LeavingOverlays.{IsSettled}
+use Rattle.vt_laws_letting_go.specs.Overlays.{RealsAreThere}
+use Rattle.vt_spec.proofs.Found.{found_among}
+use Rattle.vt_spec.proofs.Worlds.{same_name_itself}
+use Rattle.vt_spec.specs.Language.Calls.{TaskName, same_name}
+use Rattle.vt_spec.specs.Lists.{Fresh}
+use Rattle.vt_spec.specs.Machine.Apply.{apply}
+use Rattle.vt_spec.specs.Machine.Invariants.{MountInvariants}
+use Rattle.vt_spec.specs.Machine.Mounts.{Location}
+use Rattle.vt_spec.specs.Machine.Namespaces.{namespaces_ended}
+use Rattle.vt_spec.specs.Machine.Descriptors.{without_descriptor}
+use Rattle.vt_spec.specs.Machine.Permits.Permit.{ToExit}
+use Rattle.vt_spec.specs.Machine.Settled.{settled}
+use Rattle.vt_spec.specs.Machine.World.{Descriptor, Task, World, all_locations, locations_of, replaced_if_called, task_called, with_task}
+use Rattle.vt_laws_worlds.proofs.kept.MountsAlike.{same_mounts}
+use Rattle.vt_laws_worlds.proofs.worlds.CallsKept.{name_found}
+use Rattle.vt_laws_later_calls.specs.Exits.{ExitLeavesOneByOne, closed_by, closed_in}
+use Rattle.vt_laws_trees.proofs.trees.TreesTasks.{called_there}
+
+-- the locations of a task with a descriptor less are locations of the task
+still_located : (task : Task ℕ) (number : ℕ) (location : Location ℕ)
+    → Among location (locations_of (without_descriptor task number)) → Among location (locations_of task)
+still_located task number location (inl e) = inl e
+still_located task number location (inr (inl e)) = inr (inl e)
+still_located task number location (inr (inr m)) =
+    let from = among-from_map (λ (d : Descriptor ℕ). d.location) (without_descriptor task number).descriptors location m
+    in
+    inr (inr (subst (λ l. Among l (map (λ (d : Descriptor ℕ). d.location) task.descriptors)) (sym from.2)
+    (among-map (λ (d : Descriptor ℕ). d.location) task.descriptors from.0
+    (among-from_filter _ task.descriptors from.0 from.1).0)))
+
+-- a task of the world that closes a descriptor comes to no new location
+closing_comes_nowhere : (world : World ℕ) (task : Task ℕ) (number : ℕ) → Among task world.tasks
+    → comes_nowhere world (with_task world (without_descriptor task number)).tasks ≡ true
+closing_comes_nowhere world task number there =
+    all_pass (is_location_among (all_locations world)) (flat_map locations_of (map change world.tasks)) (λ location m.
+    let from = among-from_flat_map locations_of (map change world.tasks) location m in
+    let old = among-from_map change world.tasks from.0 from.1 in
+    let was = by location old.0 old.1 (same_name task.name old.0.name)
+    (subst (λ t. Among location (locations_of t)) old.2 from.2) in
+    location_among (all_locations world) location
+    (among-flat_map locations_of world.tasks was.0 location was.1 was.2))
+  where
+    change : Task ℕ → Task ℕ
+    change = replaced_if_called (without_descriptor task number)
+
+    by : (location : Location ℕ) (old : Task ℕ) → Among old world.tasks → (b : Bool)
+        → Among location (locations_of (cond b (without_descriptor task number) old))
+        → (was : Task ℕ) × Among was world.tasks × Among location (locations_of was)
+    by location old m true n = (task, there, still_located task number location n)
+    by location old m false n = (old, m, n)
+
+-- a task that was changed is gone with the others of its name
+gone_alike : (name : TaskName) (new : Task ℕ) → name ≡ new.name → (tasks : List (Task ℕ))
+    → filter (λ other. not (same_name name other.name)) (map (replaced_if_called new) tasks)
+    ≡ filter (λ other. not (same_name name other.name)) tasks
+gone_alike name new called [] = refl
+gone_alike name new called (old ∷ tasks) =
+    by (same_name new.name old.name) refl (gone_alike name new called tasks)
+  where
+    stays : Task ℕ → Bool
+    stays other = not (same_name name other.name)
+
+    by : (b : Bool) → same_name new.name old.name ≡ b
+        → filter stays (map (replaced_if_called new) tasks) ≡ filter stays tasks
+        → filter stays (cond b new old ∷ map (replaced_if_called new) tasks) ≡ filter stays (old ∷ tasks)
+    by true e rest =
+        ap (λ b. cond (not b) (new ∷ filter stays (map (replaced_if_called new) tasks))
+        (filter stays (map (replaced_if_called new) tasks)))
+        (ap (same_name name) (sym called) ∙ same_name_itself name)
+        ∙ rest
+        ∙ ap (λ b. cond (not b) (old ∷ filter stays tasks) (filter stays tasks))
+        (sym (ap (λ n. same_name n old.name) called ∙ e))
+    by false e rest = ap (λ left. cond (stays old) (old ∷ left) left) rest
+
+module _ (fresh : Fresh ℕ) (task : Task ℕ) where
+  abbrev ended : World ℕ → World ℕ
+  ended world = settled nat_eq (apply nat_eq fresh world task ToExit).world
+
+  abbrev one_by_one : World ℕ → List ℕ → World ℕ
+  one_by_one world numbers = with_sweeps (closed_in fresh task.name) world numbers
+
+  -- from whichever world of trees, swept, the same is left
+  abbrev EndsAlike : List ℕ → Type 0
+  EndsAlike numbers =
+      (world : World ℕ) → HasTrees world → UppersArePlain world → RealsAreThere world → MountInvariants nat_eq world
+      → ended (one_by_one (settled nat_eq world) numbers) ≡ ended world
+
+  closed_in_turn : (numbers : List ℕ) → EndsAlike numbers
+  closed_in_turn [] world trees uppers reals kept =
+      one_sweep_for_exits_with_overlays fresh world task trees uppers reals kept
+  closed_in_turn (number ∷ rest) world trees uppers reals kept =
+      by (task_called world task.name) refl (closed_in_turn rest)
+    where
+      closed : World ℕ → Option (Task ℕ) → World ℕ
+      closed now found = settled nat_eq (closed_by fresh now number found)
+
+      by : (found : Option (Task ℕ)) → task_called world task.name ≡ found → EndsAlike rest
+          → ended (one_by_one (closed (settled nat_eq world) found) rest) ≡ ended world
+      by None e later =
+          ap (λ now. ended (one_by_one now rest))
+          (one_sweep_with_overlays world world.tasks trees uppers reals (mounts_stand world kept)
+          (comes_nowhere_itself world))
+          ∙ later world trees uppers reals kept
+      by (Some one) e later =
+          ap (λ now. ended (one_by_one now rest))
+          (one_sweep_with_overlays world changed.tasks trees uppers reals (mounts_stand world kept)
+          (closing_comes_nowhere world one number
+          (called_there world.tasks task.name one e)))
+          ∙ later changed trees uppers reals (same_mounts world changed refl refl kept)
+          ∙ ap (λ tasks. settled nat_eq (namespaces_ended nat_eq (record world { tasks = tasks })))
+          (gone_alike task.name (without_descriptor one number) (name_found world task.name one e) world.tasks)
+        where
+          changed : World ℕ
+          changed = with_task world (without_descriptor one number)
+
+pub exit_leaves_one_by_one : ExitLeavesOneByOne
+exit_leaves_one_by_one fresh world task numbers is =
+    ap (λ now. ended fresh task (one_by_one fresh task now numbers)) (sym is.nothing_unused)
+    ∙ closed_in_turn fresh task numbers world settles.trees settles.uppers settles.reals is.mounts
+  where
+    settles : IsSettled world
+    settles = worlds_are_settled world is

@@ -1,0 +1,250 @@
+-- A group ends with its last member.
+use Rattle.std.proofs.Common.{◌≡◌, refl, sym, ap, subst, ◌∙◌, ◌⊎◌, inl, inr, ⊎_elim, ℕ, nat_eq, eqb-true, eq-eqb, Bool, true, false, true≢false, cond, not, ◌||◌, ◌&&◌, List, [], ◌∷◌, ◌++◌, Option, Some, None, is_some, option_to_list}
+use Rattle.std.specs.Prelude.{nat_lt}
+use Rattle.std.specs.List.{list_all, list_any}
+use Rattle.vt_spec.specs.Lists.{holds_of, then_some}
+use Rattle.vt_spec.specs.Machine.Invariants.{HasLivingGroups, Lives, MountInvariants}
+use Rattle.vt_spec.specs.Machine.Invariants.Lives.{has_master, has_no_master}
+use Rattle.vt_spec.specs.Machine.Mounts.{Mount, Propagation, group_of, source_of}
+use Rattle.vt_spec.specs.Machine.Mounts.Propagation.{Private, Shared, Slave, Unbindable}
+use Rattle.vt_spec.specs.Machine.Receives.{has_members, is_lost_group, is_member_of, lost_a_group, regrouped, regrouped_by}
+use Rattle.vt_spec.specs.Machine.Settled.{without_dead_groups}
+use Rattle.vt_spec.specs.Machine.World.{World, with_mounts}
+use Rattle.vt_spec.proofs.Truths.{or_false_left}
+use Rattle.vt_laws_mounts.proofs.GroupsKept.{member_shared}
+use Rattle.vt_laws_mounts.proofs.GroupsUp.{Up, live_members}
+use Rattle.vt_laws_mounts.proofs.GroupsUp.Up.{here}
+use Rattle.vt_laws_mounts.proofs.propagation.PropagationUp.{no_loop}
+use Rattle.vt_laws_letting_go.specs.Counts.{member_count, times}
+use Rattle.vt_laws_letting_go.specs.Groups.{GroupsLiveBut, OneGroupIsHandedOn, hand_on, is_group_or_lives}
+use Rattle.vt_laws_letting_go.specs.InUse.{AllInUse}
+use Rattle.vt_laws_letting_go.specs.OneByOne.{GroupsInUseBut, without_master}
+use Rattle.vt_laws_letting_go.proofs.Lists.{Among, all_pass, among-append, among-append_left, among-append_right, among_from_all, any_passes, none_passes, one_passes}
+use Rattle.vt_laws_letting_go.proofs.sweeps.LookedUp.{group_is_looked_up}
+use Rattle.vt_laws_letting_go.proofs.sweeps.OneByOne.{groups_go_one_by_one}
+use Rattle.vt_laws_later_calls.specs.LastUse.{GroupGoesWithItsLastMember, GroupIsHandedOnWithItsLastMember}
+use Rattle.vt_laws_later_calls.proofs.last_use.OneLess.{some_without_another, some_without_it}
+
+-- the master of a group that lives has a member
+master_lives : (members : ℕ → Bool) (master : ℕ → Option ℕ) (group : ℕ) → Lives members master group
+    → list_all members (option_to_list (master group)) ≡ true
+master_lives members master group (has_no_master it has e) = ap (λ o. list_all members (option_to_list o)) e
+master_lives members master group (has_master it above has e later) =
+    ap (λ o. list_all members (option_to_list o)) e
+    ∙ ap (λ b. b && true) (live_members master members above later)
+
+-- a mount has lost no group where its group and the master of that have members
+unlost : (world : World ℕ) (mount : Mount ℕ)
+    → ((group : ℕ) → source_of mount.propagation ≡ Some group → (has_members nat_eq world.mounts group ≡ true)
+    × (list_all (has_members nat_eq world.mounts) (option_to_list (world.master group)) ≡ true))
+    → lost_a_group nat_eq world mount ≡ false
+unlost world mount live = by (source_of mount.propagation) refl
+  where
+    master : (o : Option ℕ) → list_all (has_members nat_eq world.mounts) (option_to_list o) ≡ true
+        → is_lost_group nat_eq world o ≡ false
+    master None h = refl
+    master (Some above) h = ap not (only (has_members nat_eq world.mounts above) h)
+      where
+        only : (b : Bool) → (b && true) ≡ true → b ≡ true
+        only true e = refl
+        only false e = e
+
+    by : (o : Option ℕ) → source_of mount.propagation ≡ o
+        → (is_lost_group nat_eq world o || is_lost_group nat_eq world (then_some o world.master)) ≡ false
+    by None e = refl
+    by (Some group) e =
+        let both = live group e in
+        ap (λ b. not b || is_lost_group nat_eq world (world.master group)) both.0
+        ∙ master (world.master group) both.1
+
+-- where groups live, no mount has lost one
+pub none_lost : (world : World ℕ) → MountInvariants nat_eq world
+    → list_any (lost_a_group nat_eq world) world.mounts ≡ false
+none_lost world mounts =
+    none_passes (lost_a_group nat_eq world) world.mounts (λ mount m. unlost world mount (λ group e.
+    let life = among_from_all (HasLivingGroups nat_eq world) world.mounts mounts.groups mount m group e in (
+      live_members world.master (has_members nat_eq world.mounts) group life,
+      master_lives (has_members nat_eq world.mounts) world.master group life,
+    )))
+
+-- One mount leaves a group
+module _ (world : World ℕ) (front back : List (Mount ℕ)) (old new : Mount ℕ) (group : ℕ)
+    (before : world.mounts ≡ front ++ (old ∷ back)) (was : old.propagation ≡ Shared group)
+    (is : source_of new.propagation ≡ None) where
+  abbrev after : World ℕ
+  after = with_mounts world (front ++ (new ∷ back))
+
+  new_is_none : (other : ℕ) → is_member_of nat_eq other new ≡ false
+  new_is_none other = by new.propagation is
+    where
+      by : (kind : Propagation ℕ) → source_of kind ≡ None → holds_of (nat_eq other) (group_of kind) ≡ false
+      by (Shared own) e = absurd (true≢false (ap is_some e))
+      by (Slave master) e = refl
+      by Private e = refl
+      by Unbindable e = refl
+
+  old_is_one : (other : ℕ) → is_member_of nat_eq other old ≡ nat_eq other group
+  old_is_one other = ap (λ kind. holds_of (nat_eq other) (group_of kind)) was
+
+  -- other groups have members as before
+  members_as_before : (other : ℕ) → nat_eq other group ≡ false
+      → has_members nat_eq after.mounts other ≡ has_members nat_eq world.mounts other
+  members_as_before other differs =
+      sym (some_without_another (is_member_of nat_eq other) new (new_is_none other) front back)
+      ∙ some_without_another (is_member_of nat_eq other) old (old_is_one other ∙ differs) front back
+      ∙ ap (list_any (is_member_of nat_eq other)) (sym before)
+
+  -- the group has one if it had more
+  members_still : has_members nat_eq after.mounts group ≡ nat_lt 1 (member_count world group)
+  members_still =
+      sym (some_without_another (is_member_of nat_eq group) new (new_is_none group) front back)
+      ∙ some_without_it (is_member_of nat_eq group) old (old_is_one group ∙ eq-eqb group group refl) front back
+      ∙ ap (λ mounts. nat_lt 1 (times (is_member_of nat_eq group) mounts)) (sym before)
+
+  other_groups : AllInUse world → GroupsInUseBut (group ∷ []) after
+  other_groups in_use other among none =
+      in_use.groups other (sym (members_as_before other (or_false_left (nat_eq other group) false among)) ∙ none)
+
+  pub group_left : AllInUse world → without_dead_groups nat_eq after
+      ≡ cond (nat_lt 1 (member_count world group)) after (without_master after group)
+  group_left in_use =
+      groups_go_one_by_one after (group ∷ []) (other_groups in_use)
+      ∙ group_is_looked_up after group
+      ∙ ap (λ b. cond b after (without_master after group)) members_still
+
+  module _ (in_use : AllInUse world) (mounts : MountInvariants nat_eq world) where
+    abbrev members : ℕ → Bool
+    members = has_members nat_eq world.mounts
+
+    -- what had members is the group, or has some
+    had_members : (other : ℕ) → members other ≡ true → is_group_or_lives after group other ≡ true
+    had_members other has = by (nat_eq other group) refl
+      where
+        by : (b : Bool) → nat_eq other group ≡ b → (b || has_members nat_eq after.mounts other) ≡ true
+        by true e = refl
+        by false e = members_as_before other e ∙ has
+
+    had_members_all : (o : Option ℕ) → list_all members (option_to_list o) ≡ true
+        → list_all (is_group_or_lives after group) (option_to_list o) ≡ true
+    had_members_all None h = refl
+    had_members_all (Some other) h = ap (λ b. b && true) (had_members other (only (members other) h))
+      where
+        only : (b : Bool) → (b && true) ≡ true → b ≡ true
+        only true e = refl
+        only false e = e
+
+    -- a mount of the world after is new, or was there
+    was_there : (mount : Mount ℕ) → Among mount after.mounts
+        → (source_of mount.propagation ≡ None) ⊎ Among mount world.mounts
+    was_there mount m =
+        ⊎_elim
+        (λ f. inr (there (among-append_left front (old ∷ back) mount f)))
+        (λ rest. ⊎_elim (λ same. inl (ap (λ x. source_of x.propagation) same ∙ is))
+        (λ b. inr (there (among-append_right front (old ∷ back) mount (inr b)))) rest)
+        (among-append front (new ∷ back) mount m)
+      where
+        there : Among mount (front ++ (old ∷ back)) → Among mount world.mounts
+        there n = subst (Among mount) (sym before) n
+
+    source_lives : (mount : Mount ℕ) → Among mount after.mounts → (source : ℕ)
+        → source_of mount.propagation ≡ Some source → Lives members world.master source
+    source_lives mount m source e =
+        ⊎_elim (λ none. absurd (true≢false (ap is_some (sym e ∙ none))))
+        (λ n. among_from_all (HasLivingGroups nat_eq world) world.mounts mounts.groups mount n source e)
+        (was_there mount m)
+
+    -- a group with members lives
+    lives : (other : ℕ) → members other ≡ true → Lives members world.master other
+    lives other has =
+        let t = one_passes (is_member_of nat_eq other) world.mounts has in
+        among_from_all (HasLivingGroups nat_eq world) world.mounts mounts.groups t.0 t.1 other
+        (ap source_of (member_shared other t.0 t.2))
+
+    its_life : Lives members world.master group
+    its_life = lives group (any_passes (is_member_of nat_eq group) world.mounts old
+        (subst (Among old) (sym before) (among-append_right front (old ∷ back) old (inl refl)))
+        (old_is_one group ∙ eq-eqb group group refl))
+
+    -- its master is another group, and has members
+    master_has : list_all (has_members nat_eq after.mounts) (option_to_list (world.master group)) ≡ true
+    master_has = by (world.master group) refl (master_lives members world.master group its_life)
+      where
+        by : (o : Option ℕ) → world.master group ≡ o → list_all members (option_to_list o) ≡ true
+            → list_all (has_members nat_eq after.mounts) (option_to_list o) ≡ true
+        by None e h = refl
+        by (Some above) e h =
+            ap (λ b. b && true) (members_as_before above (apart (nat_eq above group) refl)) ∙ h
+          where
+            apart : (b : Bool) → nat_eq above group ≡ b → b ≡ false
+            apart false f = refl
+            apart true f = absurd (no_loop world.master members group its_life above e
+                (subst (λ g. Up world.master g group) (sym (eqb-true above group f)) (here group)))
+
+    live_but : GroupsLiveBut group after
+    live_but = record {
+      of_mounts = all_pass (λ mount. list_all (is_group_or_lives after group)
+          (option_to_list (source_of mount.propagation))) after.mounts
+          (λ mount m. of mount m (source_of mount.propagation) refl);
+      of_groups = λ other. above other (members other) refl;
+      its_master = master_has;
+      in_use = other_groups in_use;
+    }
+      where
+        of : (mount : Mount ℕ) → Among mount after.mounts → (o : Option ℕ) → source_of mount.propagation ≡ o
+            → list_all (is_group_or_lives after group) (option_to_list o) ≡ true
+        of mount m None e = refl
+        of mount m (Some source) e =
+            ap (λ b. b && true)
+            (had_members source (live_members world.master members source (source_lives mount m source e)))
+
+        above : (other : ℕ) (b : Bool) → members other ≡ b
+            → list_all (is_group_or_lives after group) (option_to_list (world.master other)) ≡ true
+        above other true has =
+            had_members_all (world.master other) (master_lives members world.master other (lives other has))
+        above other false none =
+            ap (λ o. list_all (is_group_or_lives after group) (option_to_list o)) (in_use.groups other none)
+
+    -- where the group has members left, none has lost a group
+    none_lost_after : has_members nat_eq after.mounts group ≡ true
+        → list_any (lost_a_group nat_eq after) after.mounts ≡ false
+    none_lost_after has =
+        none_passes (lost_a_group nat_eq after) after.mounts (λ mount m. unlost after mount (λ source e.
+        let life = source_lives mount m source e in (
+          still source (live_members world.master members source life),
+          all_still (world.master source) (master_lives members world.master source life),
+        )))
+      where
+        still : (other : ℕ) → members other ≡ true → has_members nat_eq after.mounts other ≡ true
+        still other had = by (nat_eq other group) refl
+          where
+            by : (b : Bool) → nat_eq other group ≡ b → has_members nat_eq after.mounts other ≡ true
+            by true e = ap (has_members nat_eq after.mounts) (eqb-true other group e) ∙ has
+            by false e = members_as_before other e ∙ had
+
+        all_still : (o : Option ℕ) → list_all members (option_to_list o) ≡ true
+            → list_all (has_members nat_eq after.mounts) (option_to_list o) ≡ true
+        all_still None h = refl
+        all_still (Some other) h = ap (λ b. b && true) (still other (only (members other) h))
+          where
+            only : (b : Bool) → (b && true) ≡ true → b ≡ true
+            only true e = refl
+            only false e = e
+
+    pub group_handed_on : OneGroupIsHandedOn → regrouped nat_eq after
+        ≡ cond (nat_lt 1 (member_count world group)) after (hand_on after group)
+    group_handed_on one =
+        by (has_members nat_eq after.mounts group) refl
+        ∙ ap (λ b. cond b after (hand_on after group)) members_still
+      where
+        by : (b : Bool) → has_members nat_eq after.mounts group ≡ b
+            → regrouped nat_eq after ≡ cond b after (hand_on after group)
+        by true has = ap (λ lost. regrouped_by nat_eq lost after) (none_lost_after has)
+        by false none = one after group live_but none
+
+pub group_is_handed_on_with_its_last_member : OneGroupIsHandedOn → GroupIsHandedOnWithItsLastMember
+group_is_handed_on_with_its_last_member one world front back old new group in_use mounts before was is =
+    group_handed_on world front back old new group before was is in_use mounts one
+
+pub group_goes_with_its_last_member : GroupGoesWithItsLastMember
+group_goes_with_its_last_member world front back old new group in_use before was is =
+    group_left world front back old new group before was is in_use

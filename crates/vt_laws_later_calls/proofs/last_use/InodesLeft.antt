@@ -1,0 +1,284 @@
+-- An inode goes with its last use.
+use Rattle.std.proofs.Common.{◌≡◌, refl, sym, ap, subst, ◌∙◌, ℕ, nat_eq, eqb-true, eq-eqb, Bool, true, false, true≢false, cond, not, ◌||◌, ◌&&◌, ◌+◌, [], ◌∷◌, ◌++◌, find, map, Option, Some, None, is_some, option_map, unwrap_or, arith}
+use Rattle.std.specs.Prelude.{nat_lt}
+use Rattle.std.specs.List.{list_all}
+use Rattle.std.proofs.Math.Bool.{and-false, and-true}
+use Rattle.std.proofs.lemmas.Bool.{and_parts}
+use Rattle.vt_spec.specs.Lists.{any_pair}
+use Rattle.vt_spec.specs.Machine.Locked.{of_overlay, overlay_or}
+use Rattle.vt_spec.specs.Machine.Settled.{without_dead_in, without_dead_inodes}
+use Rattle.vt_spec.specs.Machine.World.{Filesystem, Overlay, World, filesystem_numbered, is_overlay, no_filesystem}
+use Rattle.vt_laws_letting_go.specs.Counts.{inode_uses}
+use Rattle.vt_laws_letting_go.specs.InUse.{HasTrees, InodesInUse, UppersArePlain, is_inode_used}
+use Rattle.vt_laws_letting_go.specs.OneByOne.{Inode, InodesInUseBut, is_used_or_among, let_go_inode, let_go_inode_of, without_inode, without_inode_at}
+use Rattle.vt_laws_letting_go.specs.Overlays.{RealsAreThere, is_plain, let_go_in, let_go_in_of, let_go_plain, uppers_in, uppers_of, uppers_of_inode, uppers_of_inode_in, without_inode_of, without_real}
+use Rattle.vt_laws_letting_go.proofs.Lists.{Among, all_from_among, all_pass, among-from_map, among_from_all, flat_map_none, found_by, found_in, map_same, passes}
+use Rattle.vt_laws_letting_go.proofs.sweeps.InUse.{inodes_stay}
+use Rattle.vt_laws_letting_go.proofs.sweeps.Inodes.{inodes_go_one_by_one}
+use Rattle.vt_laws_letting_go.proofs.sweeps.LookedUp.{inode_is_looked_up}
+use Rattle.vt_laws_letting_go.proofs.sweeps.UsesCounted.{used_while_counted}
+use Rattle.vt_laws_letting_go.proofs.sweeps.WithOverlays.{all_inodes_go_one_by_one}
+use Rattle.vt_laws_counts.specs.Using.{is_inode}
+use Rattle.vt_laws_later_calls.specs.LastUse.{ExchangeOfOneLosesOneUse, InodeBesideOverlaysGoesWithItsLastUse, InodeGoesWithItsLastUse, InodeOfOverlayGoesWithItsLastUse, LosesOneUse, without_inode_of_any, without_merged_inode}
+use Rattle.vt_laws_later_calls.proofs.last_use.OneLess.{some_left}
+use Rattle.vt_spec.proofs.Lists.{map_alike}
+
+pub exchange_of_one_loses_one_use : ExchangeOfOneLosesOneUse
+exchange_of_one_loses_one_use world after inode exchange = record {
+  numbers = λ filesystem. ap (λ f. f.files.numbers) (exchange filesystem).same;
+  uses = λ filesystem number. alike (inode_uses world (filesystem_numbered nat_eq world filesystem) number)
+      (inode_uses after (filesystem_numbered nat_eq after filesystem) number)
+      (cond (is_inode filesystem number inode) 1 0) ((exchange filesystem).uses number);
+}
+  where
+    alike : (a b c : ℕ) → a + 0 ≡ b + (c + 0) → a ≡ b + c
+    alike a b c e = omega arith
+
+-- where all inodes are used, so are those of the filesystem of a number
+used_in_numbered : (world : World ℕ) → InodesInUse world → (k number : ℕ)
+    → Among number (filesystem_numbered nat_eq world k).files.numbers
+    → is_inode_used world (filesystem_numbered nat_eq world k) number ≡ true
+used_in_numbered world in_use k number =
+    by (find (λ (f : Filesystem ℕ). nat_eq k f.number) world.filesystems) refl
+  where
+    by : (o : Option (Filesystem ℕ)) → find (λ (f : Filesystem ℕ). nat_eq k f.number) world.filesystems ≡ o
+        → Among number (unwrap_or o (no_filesystem k)).files.numbers
+        → is_inode_used world (unwrap_or o (no_filesystem k)) number ≡ true
+    by None e m = absurd m
+    by (Some f) e m =
+        passes (is_inode_used world f) f.files.numbers
+        (among_from_all (λ g. list_all (is_inode_used world g) g.files.numbers ≡ true) world.filesystems in_use f
+        (found_in (λ (g : Filesystem ℕ). nat_eq k g.number) world.filesystems f e).0) number m
+
+module _ (world after : World ℕ) (inode : Inode) (in_use : InodesInUse world) (loses : LosesOneUse inode world after)
+    (one : any_pair (λ (a b : Filesystem ℕ). nat_eq a.number b.number) after.filesystems ≡ false) where
+  -- it is used if it had more uses
+  used_still : is_inode_used after (filesystem_numbered nat_eq after inode.0) inode.1
+      ≡ nat_lt 1 (inode_uses world (filesystem_numbered nat_eq world inode.0) inode.1)
+  used_still =
+      used_while_counted after (filesystem_numbered nat_eq after inode.0) inode.1
+      ∙ some_left (inode_uses world (filesystem_numbered nat_eq world inode.0) inode.1)
+      (inode_uses after (filesystem_numbered nat_eq after inode.0) inode.1)
+      (loses.uses inode.0 inode.1
+      ∙ ap (λ b. inode_uses after (filesystem_numbered nat_eq after inode.0) inode.1 + cond b 1 0)
+      (λ i. eq-eqb inode.0 inode.0 refl i && eq-eqb inode.1 inode.1 refl i))
+
+  -- every other inode is used as before
+  used_as_before : (k number : ℕ) → is_inode k number inode ≡ false
+      → is_inode_used after (filesystem_numbered nat_eq after k) number
+      ≡ is_inode_used world (filesystem_numbered nat_eq world k) number
+  used_as_before k number differs =
+      used_while_counted after (filesystem_numbered nat_eq after k) number
+      ∙ ap (nat_lt 0) (sym (alike (inode_uses world (filesystem_numbered nat_eq world k) number)
+      (inode_uses after (filesystem_numbered nat_eq after k) number)
+      (loses.uses k number
+      ∙ ap (λ b. inode_uses after (filesystem_numbered nat_eq after k) number + cond b 1 0) differs)))
+      ∙ sym (used_while_counted world (filesystem_numbered nat_eq world k) number)
+    where
+      alike : (a b : ℕ) → a ≡ b + 0 → a ≡ b
+      alike a b e = omega arith
+
+  pub found_after : (filesystem : Filesystem ℕ) → Among filesystem after.filesystems
+      → filesystem_numbered nat_eq after filesystem.number ≡ filesystem
+  found_after filesystem m =
+      found_by (λ (x : Filesystem ℕ). x.number) (no_filesystem filesystem.number) after.filesystems one filesystem m
+
+  -- what is not this inode is used
+  others_used : (filesystem : Filesystem ℕ) → Among filesystem after.filesystems → (number : ℕ)
+      → Among number filesystem.files.numbers → is_inode filesystem.number number inode ≡ false
+      → is_inode_used after filesystem number ≡ true
+  others_used filesystem m number n differs =
+      ap (λ f. is_inode_used after f number) (sym (found_after filesystem m))
+      ∙ used_as_before filesystem.number number differs
+      ∙ used_in_numbered world in_use filesystem.number number
+      (subst (Among number) (ap (λ f. f.files.numbers) (sym (found_after filesystem m))
+      ∙ loses.numbers filesystem.number) n)
+
+  other_inodes : InodesInUseBut (inode ∷ []) after
+  other_inodes =
+      all_from_among (λ f. list_all (is_used_or_among (inode ∷ []) after f) f.files.numbers ≡ true) after.filesystems
+      (λ f m. all_pass (is_used_or_among (inode ∷ []) after f) f.files.numbers
+      (λ number n. by f m number n (is_inode f.number number inode) refl))
+    where
+      by : (f : Filesystem ℕ) → Among f after.filesystems → (number : ℕ) → Among number f.files.numbers → (b : Bool)
+          → is_inode f.number number inode ≡ b → ((b || false) || is_inode_used after f number) ≡ true
+      by f m number n true e = refl
+      by f m number n false e = others_used f m number n e
+
+  -- while it has another use, all are used
+  all_used : nat_lt 1 (inode_uses world (filesystem_numbered nat_eq world inode.0) inode.1) ≡ true → InodesInUse after
+  all_used more =
+      all_from_among (λ f. list_all (is_inode_used after f) f.files.numbers ≡ true) after.filesystems
+      (λ f m. all_pass (is_inode_used after f) f.files.numbers
+      (λ number n. by f m number n (is_inode f.number number inode) refl))
+    where
+      by : (f : Filesystem ℕ) → Among f after.filesystems → (number : ℕ) → Among number f.files.numbers → (b : Bool)
+          → is_inode f.number number inode ≡ b → is_inode_used after f number ≡ true
+      by f m number n true e =
+          let parts = and_parts (nat_eq f.number inode.0) (nat_eq number inode.1) e in
+          ap (λ g. is_inode_used after g number) (sym (found_after f m))
+          ∙ (λ i. is_inode_used after (filesystem_numbered nat_eq after (eqb-true f.number inode.0 parts.0 i))
+          (eqb-true number inode.1 parts.1 i))
+          ∙ used_still ∙ more
+      by f m number n false e = others_used f m number n e
+
+  -- the filesystem of its number
+  pub its_kind : (b : Bool) → is_overlay (filesystem_numbered nat_eq after inode.0) ≡ b → (filesystem : Filesystem ℕ)
+      → Among filesystem after.filesystems → nat_eq filesystem.number inode.0 ≡ true → is_overlay filesystem ≡ b
+  its_kind b kind filesystem m e =
+      ap is_overlay (sym (found_after filesystem m))
+      ∙ ap (λ k. is_overlay (filesystem_numbered nat_eq after k)) (eqb-true filesystem.number inode.0 e) ∙ kind
+
+  looked_up : let_go_inode after inode
+      ≡ cond (nat_lt 1 (inode_uses world (filesystem_numbered nat_eq world inode.0) inode.1)) after
+      (without_inode_at after inode)
+  looked_up = inode_is_looked_up after inode one ∙ ap (λ b. cond b after (without_inode_at after inode)) used_still
+
+  -- Of a plain tree, beside overlays
+  module _ (plain : is_overlay (filesystem_numbered nat_eq after inode.0) ≡ false) where
+    -- no overlay is looked at
+    merged_stay : let_go_in is_overlay after inode ≡ after
+    merged_stay =
+        ap (λ filesystems. record after { filesystems = filesystems })
+        (map_same (let_go_in_of is_overlay after inode) after.filesystems
+        (λ f m. ap (λ b. cond (b && not (is_inode_used after f inode.1)) (without_inode_of inode.1 f) f)
+        (by f m (nat_eq f.number inode.0) refl)))
+      where
+        by : (f : Filesystem ℕ) → Among f after.filesystems → (b : Bool) → nat_eq f.number inode.0 ≡ b
+            → (is_overlay f && nat_eq f.number inode.0) ≡ false
+        by f m true e = ap (λ b. b && nat_eq f.number inode.0) (its_kind false plain f m e)
+        by f m false e = ap (λ b. is_overlay f && b) e ∙ and-false (is_overlay f)
+
+    no_uppers : uppers_of_inode after inode ≡ []
+    no_uppers =
+        flat_map_none (uppers_of_inode_in inode) after.filesystems (λ f m. by f m (nat_eq f.number inode.0) refl)
+      where
+        none : (o : Option (Overlay ℕ)) → is_some o ≡ false → overlay_or [] (uppers_in inode.1) o ≡ []
+        none None e = refl
+        none (Some overlay) e = absurd (true≢false e)
+
+        by : (f : Filesystem ℕ) → Among f after.filesystems → (b : Bool) → nat_eq f.number inode.0 ≡ b
+            → cond b (of_overlay [] (uppers_in inode.1) f) [] ≡ []
+        by f m true e = none f.overlay (its_kind false plain f m e)
+        by f m false e = refl
+
+    -- in a plain tree it has no real object
+    plain_looked_at : let_go_in is_plain after inode ≡ let_go_inode after inode
+    plain_looked_at =
+        ap (λ filesystems. record after { filesystems = filesystems })
+        (map_alike (let_go_in_of is_plain after inode) (let_go_inode_of after inode) after.filesystems
+        (λ f m. by f m (nat_eq f.number inode.0) refl (is_inode_used after f inode.1)))
+      where
+        no_real : (o : Option (Overlay ℕ)) → is_some o ≡ false → option_map (without_real inode.1) o ≡ o
+        no_real None e = refl
+        no_real (Some overlay) e = absurd (true≢false e)
+
+        by : (f : Filesystem ℕ) → Among f after.filesystems → (b : Bool) → nat_eq f.number inode.0 ≡ b → (used : Bool)
+            → cond ((is_plain f && nat_eq f.number inode.0) && not used) (without_inode_of inode.1 f) f
+            ≡ cond (nat_eq f.number inode.0 && not used) (record f { files = without_inode inode.1 f.files }) f
+        by f m true e used =
+            ap (λ b. cond ((not b && nat_eq f.number inode.0) && not used) (without_inode_of inode.1 f) f)
+            (its_kind false plain f m e)
+            ∙ ap (λ o. cond (nat_eq f.number inode.0 && not used)
+            (record f { files = without_inode inode.1 f.files; overlay = o }) f)
+            (no_real f.overlay (its_kind false plain f m e))
+        by f m false e used =
+            ap (λ b. cond ((is_plain f && b) && not used) (without_inode_of inode.1 f) f) e
+            ∙ ap (λ b. cond (b && not used) (without_inode_of inode.1 f) f) (and-false (is_plain f))
+            ∙ ap (λ b. cond (b && not used) (record f { files = without_inode inode.1 f.files }) f) (sym e)
+
+    beside_overlays : HasTrees after → UppersArePlain after → RealsAreThere after
+        → without_dead_inodes nat_eq after
+        ≡ cond (nat_lt 1 (inode_uses world (filesystem_numbered nat_eq world inode.0) inode.1)) after
+        (without_inode_at after inode)
+    beside_overlays trees uppers reals =
+        all_inodes_go_one_by_one after (inode ∷ []) trees uppers reals other_inodes
+        ∙ ap (λ w. let_go_plain w (inode ∷ uppers_of after (inode ∷ []))) merged_stay
+        ∙ ap (λ list. let_go_plain after (inode ∷ (list ++ []))) no_uppers
+        ∙ plain_looked_at ∙ looked_up
+
+  -- Of an overlay
+  module _ (merged : is_overlay (filesystem_numbered nat_eq after inode.0) ≡ true) where
+    unused : nat_lt 1 (inode_uses world (filesystem_numbered nat_eq world inode.0) inode.1) ≡ false
+        → (f : Filesystem ℕ) → Among f after.filesystems → nat_eq f.number inode.0 ≡ true
+        → is_inode_used after f inode.1 ≡ false
+    unused last f m e =
+        ap (λ g. is_inode_used after g inode.1) (sym (found_after f m))
+        ∙ ap (λ k. is_inode_used after (filesystem_numbered nat_eq after k) inode.1) (eqb-true f.number inode.0 e)
+        ∙ used_still ∙ last
+
+    -- it goes
+    merged_goes : nat_lt 1 (inode_uses world (filesystem_numbered nat_eq world inode.0) inode.1) ≡ false
+        → let_go_in is_overlay after inode ≡ without_merged_inode after inode
+    merged_goes last =
+        ap (λ filesystems. record after { filesystems = filesystems })
+        (map_alike (let_go_in_of is_overlay after inode) (without_inode_of_any inode) after.filesystems
+        (λ f m. ap (λ b. cond b (without_inode_of inode.1 f) f) (by f m (nat_eq f.number inode.0) refl)))
+      where
+        by : (f : Filesystem ℕ) → Among f after.filesystems → (b : Bool) → nat_eq f.number inode.0 ≡ b
+            → ((is_overlay f && nat_eq f.number inode.0) && not (is_inode_used after f inode.1))
+            ≡ nat_eq f.number inode.0
+        by f m true e =
+            (λ i. (its_kind true merged f m e i && nat_eq f.number inode.0) && not (unused last f m e i))
+            ∙ and-true (nat_eq f.number inode.0)
+        by f m false e =
+            ap (λ b. (is_overlay f && b) && not (is_inode_used after f inode.1)) e
+            ∙ ap (λ b. b && not (is_inode_used after f inode.1)) (and-false (is_overlay f)) ∙ sym e
+
+    -- no plain tree has its number
+    no_plain : let_go_in is_plain (without_merged_inode after inode) inode ≡ without_merged_inode after inode
+    no_plain =
+        ap (λ filesystems. record after { filesystems = filesystems })
+        (map_same (let_go_in_of is_plain (without_merged_inode after inode) inode)
+        (map (without_inode_of_any inode) after.filesystems)
+        (λ g m. let from = among-from_map (without_inode_of_any inode) after.filesystems g m in
+        ap (let_go_in_of is_plain (without_merged_inode after inode) inode) from.2
+        ∙ by from.0 from.1 (nat_eq from.0.number inode.0) refl ∙ sym from.2))
+      where
+        stays : (g : Filesystem ℕ) → (is_plain g && nat_eq g.number inode.0) ≡ false
+            → let_go_in_of is_plain (without_merged_inode after inode) inode g ≡ g
+        stays g e =
+            ap (λ b. cond (b && not (is_inode_used (without_merged_inode after inode) g inode.1))
+            (without_inode_of inode.1 g) g) e
+
+        still_merged : (o : Option (Overlay ℕ)) → is_some (option_map (without_real inode.1) o) ≡ is_some o
+        still_merged None = refl
+        still_merged (Some overlay) = refl
+
+        by : (f : Filesystem ℕ) → Among f after.filesystems → (b : Bool) → nat_eq f.number inode.0 ≡ b
+            → let_go_in_of is_plain (without_merged_inode after inode) inode (without_inode_of_any inode f)
+            ≡ without_inode_of_any inode f
+        by f m true e = stays (without_inode_of_any inode f)
+            (ap (λ b. is_plain (cond b (without_inode_of inode.1 f) f) && nat_eq
+            (cond b (without_inode_of inode.1 f) f).number inode.0) e
+            ∙ ap (λ b. not b && nat_eq f.number inode.0) (still_merged f.overlay ∙ its_kind true merged f m e))
+        by f m false e = stays (without_inode_of_any inode f)
+            (ap (λ b. is_plain (cond b (without_inode_of inode.1 f) f) && nat_eq
+            (cond b (without_inode_of inode.1 f) f).number inode.0) e
+            ∙ ap (λ b. is_plain f && b) e ∙ and-false (is_plain f))
+
+    pub of_overlay_left : HasTrees after → UppersArePlain after → RealsAreThere after → (more : Bool)
+        → nat_lt 1 (inode_uses world (filesystem_numbered nat_eq world inode.0) inode.1) ≡ more
+        → without_dead_inodes nat_eq after
+        ≡ cond more after (let_go_plain (without_merged_inode after inode) (uppers_of after (inode ∷ [])))
+    of_overlay_left trees uppers reals true e =
+        ap (without_dead_in nat_eq (λ f. not (is_overlay f))) (inodes_stay is_overlay after (all_used e))
+        ∙ inodes_stay (λ f. not (is_overlay f)) after (all_used e)
+    of_overlay_left trees uppers reals false e =
+        all_inodes_go_one_by_one after (inode ∷ []) trees uppers reals other_inodes
+        ∙ ap (λ w. let_go_plain w (inode ∷ uppers_of after (inode ∷ []))) (merged_goes e)
+        ∙ ap (λ w. let_go_plain w (uppers_of after (inode ∷ []))) no_plain
+
+pub inode_goes_with_its_last_use : InodeGoesWithItsLastUse
+inode_goes_with_its_last_use world after inode in_use loses plain trees one =
+    inodes_go_one_by_one after (inode ∷ []) plain trees (other_inodes world after inode in_use.inodes loses one)
+    ∙ looked_up world after inode in_use.inodes loses one
+
+pub inode_beside_overlays_goes_with_its_last_use : InodeBesideOverlaysGoesWithItsLastUse
+inode_beside_overlays_goes_with_its_last_use world after inode in_use loses plain trees uppers reals one =
+    beside_overlays world after inode in_use.inodes loses one plain trees uppers reals
+
+pub inode_of_overlay_goes_with_its_last_use : InodeOfOverlayGoesWithItsLastUse
+inode_of_overlay_goes_with_its_last_use world after inode in_use loses merged trees uppers reals one =
+    of_overlay_left world after inode in_use.inodes loses one merged trees uppers reals
+    (nat_lt 1 (inode_uses world (filesystem_numbered nat_eq world inode.0) inode.1)) refl

@@ -1,0 +1,73 @@
+-- A namespace ends with its last task.
+use Rattle.std.proofs.Common.{◌≡◌, refl, sym, ap, ◌∙◌, ℕ, nat_eq, eqb-true, eq-eqb, Bool, true, false, cond, ◌||◌, List, ◌∷◌, ◌++◌}
+use Rattle.std.specs.Prelude.{nat_lt}
+use Rattle.std.specs.List.{list_any}
+use Rattle.vt_spec.specs.Machine.Invariants.{MountInvariants, NamespaceInvariants}
+use Rattle.vt_spec.specs.Machine.Namespaces.{has_tasks, namespaces_ended}
+use Rattle.vt_spec.specs.Machine.Receives.{regrouped_by}
+use Rattle.vt_spec.specs.Machine.World.{Namespace, Task, World}
+use Rattle.vt_laws_letting_go.specs.Counts.{times}
+use Rattle.vt_laws_letting_go.specs.Ends.{without_namespace}
+use Rattle.vt_laws_letting_go.specs.Leaving.{with_tasks}
+use Rattle.vt_laws_letting_go.proofs.Lists.{Among, all_pass, passes}
+use Rattle.vt_laws_letting_go.proofs.ends.NamespacesEnd.{no_namespace_ends, one_namespace_ends}
+use Rattle.vt_laws_later_calls.specs.LastUse.{NamespaceEndsWithItsLastTask, task_count}
+use Rattle.vt_laws_later_calls.proofs.last_use.Groups.{none_lost}
+use Rattle.vt_laws_later_calls.proofs.last_use.OneLess.{some_without_another, some_without_it}
+use Rattle.vt_spec.proofs.Truths.{nat_eq-swapped}
+
+module _ (world : World ℕ) (front back : List (Task ℕ)) (task : Task ℕ) (mounts : MountInvariants nat_eq world)
+    (namespaces : NamespaceInvariants nat_eq world) (before : world.tasks ≡ front ++ (task ∷ back)) where
+  abbrev after : World ℕ
+  after = with_tasks world (front ++ back)
+
+  -- some task is in the namespace of this number
+  abbrev is_entered : ℕ → Bool
+  is_entered number = list_any (λ (other : Task ℕ). nat_eq number other.namespace) (front ++ back)
+
+  -- its own namespace has tasks if it had more
+  entered_still : is_entered task.namespace ≡ nat_lt 1 (task_count world task.namespace)
+  entered_still =
+      some_without_it (λ (other : Task ℕ). nat_eq task.namespace other.namespace) task
+      (eq-eqb task.namespace task.namespace refl) front back
+      ∙ ap (λ tasks. nat_lt 1 (times (λ (other : Task ℕ). nat_eq task.namespace other.namespace) tasks)) (sym before)
+
+  -- other namespaces have tasks as before
+  entered_as_before : (namespace : Namespace ℕ) → Among namespace world.namespaces
+      → nat_eq task.namespace namespace.number ≡ false → has_tasks nat_eq after namespace ≡ true
+  entered_as_before namespace m differs =
+      some_without_another (λ (other : Task ℕ). nat_eq namespace.number other.namespace) task
+      (nat_eq-swapped task.namespace namespace.number false differs) front back
+      ∙ ap (list_any (λ (other : Task ℕ). nat_eq namespace.number other.namespace)) (sym before)
+      ∙ passes (has_tasks nat_eq world) world.namespaces namespaces.namespaces_live namespace m
+
+  namespace_left : (b : Bool) → is_entered task.namespace ≡ b
+      → namespaces_ended nat_eq after ≡ cond b after (without_namespace after task.namespace)
+  namespace_left true has =
+      no_namespace_ends after namespaces.mounts_listed
+      (all_pass (has_tasks nat_eq after) world.namespaces
+      (λ namespace m. by namespace m (nat_eq task.namespace namespace.number) refl))
+      ∙ ap (λ lost. regrouped_by nat_eq lost after) (none_lost world mounts)
+    where
+      by : (namespace : Namespace ℕ) → Among namespace world.namespaces → (b : Bool)
+          → nat_eq task.namespace namespace.number ≡ b → has_tasks nat_eq after namespace ≡ true
+      by namespace m true e = ap is_entered (sym (eqb-true task.namespace namespace.number e)) ∙ has
+      by namespace m false e = entered_as_before namespace m e
+  namespace_left false none =
+      one_namespace_ends after task.namespace namespaces.mounts_listed none
+      (all_pass (λ namespace. nat_eq task.namespace namespace.number || has_tasks nat_eq after namespace)
+      world.namespaces
+      (λ namespace m. by namespace m (nat_eq task.namespace namespace.number) refl))
+    where
+      by : (namespace : Namespace ℕ) → Among namespace world.namespaces → (b : Bool)
+          → nat_eq task.namespace namespace.number ≡ b → (b || has_tasks nat_eq after namespace) ≡ true
+      by namespace m true e = refl
+      by namespace m false e = entered_as_before namespace m e
+
+pub namespace_ends_with_its_last_task : NamespaceEndsWithItsLastTask
+namespace_ends_with_its_last_task world front back task mounts namespaces before =
+    namespace_left world front back task mounts namespaces before
+    (list_any (λ (other : Task ℕ). nat_eq task.namespace other.namespace) (front ++ back)) refl
+    ∙ ap (λ b. cond b (with_tasks world (front ++ back)) (without_namespace (with_tasks world
+    (front ++ back)) task.namespace))
+    (entered_still world front back task mounts namespaces before)

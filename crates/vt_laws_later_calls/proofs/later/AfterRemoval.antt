@@ -1,0 +1,282 @@
+-- The world that a granted rmdir leaves: the task's own mounts are seen as they were, the directory has lost its name,
+-- and walks that do not go up from it lead where they led.
+use Rattle.std.proofs.Common.{◌≡◌, ◌≢◌, refl, sym, ap, subst, ◌∙◌, inl, inr, ◌⊎◌, ⊎_elim, ℕ, nat_eq, eqb-true, Bool, true, false, ◌||◌, List, filter, Some, None, Ok, is_some, find}
+use Rattle.std.specs.Prelude.{unwrap_or}
+use Rattle.std.proofs.lemmas.Bool.{and_parts}
+use Rattle.vt_spec.specs.declared.errors.Deny.{Deny}
+use Rattle.vt_spec.specs.declared.errors.Rule.TheVariants.{W6}
+use Rattle.vt_spec.specs.Errors.{denial}
+use Rattle.vt_spec.specs.FileTree.{FileTree, symlink_text}
+use Rattle.vt_spec.specs.Language.Answers.{Answer}
+use Rattle.vt_spec.specs.Language.Calls.{Call, TaskName, same_name}
+use Rattle.vt_spec.specs.Language.Changes.{Change, changed}
+use Rattle.vt_spec.specs.Language.Changes.Change.{Remove}
+use Rattle.vt_spec.specs.Lists.{Fresh}
+use Rattle.vt_spec.specs.Machine.Apply.{apply}
+use Rattle.vt_spec.specs.Machine.Detach.{is_going, mounts_on, without_mounts_on}
+use Rattle.vt_spec.specs.Machine.Filesystems.{with_change}
+use Rattle.vt_spec.specs.Machine.Invariants.{IsWorld}
+use Rattle.vt_spec.specs.Machine.Looks.{looks_of}
+use Rattle.vt_spec.specs.Machine.Mounts.{Location, Mount}
+use Rattle.vt_spec.specs.Machine.Permits.Permit.{ToRemoveDirectory}
+use Rattle.vt_spec.specs.Machine.Policy.{policy, raised_task}
+use Rattle.vt_spec.specs.Machine.Rightful.{node_allows}
+use Rattle.vt_spec.specs.Machine.Rules.Conditions.{is_mount_point_in}
+use Rattle.vt_spec.specs.Machine.Run.{Serves}
+use Rattle.vt_spec.specs.Machine.Settled.{is_located, mount_lives}
+use Rattle.vt_spec.specs.Machine.World.{Filesystem, Task, World, files_at, filesystem_numbered, mount_at, mount_numbered, no_filesystem, node_at, task_called}
+use Rattle.vt_spec.specs.Rights.{Credentials}
+use Rattle.vt_spec.specs.Tree.{Tree, entries_in, entry_named, is_directory_node, parent_in}
+use Rattle.vt_spec.specs.TreeInvariant.{entry_at}
+use Rattle.vt_spec.proofs.Nodes.{directory_used}
+use Rattle.vt_laws_letting_go.specs.Unmounting.{numbers_of_trees}
+use Rattle.vt_laws_mounts.proofs.mounts.Standing.{standing_is_computed}
+use Rattle.vt_laws_mounts.proofs.ends.Unmounting.{kept_by_number}
+use Rattle.vt_laws_mounts.proofs.ends.UnmountingTrees.{AreClosed, trees_closed}
+use Rattle.vt_laws_overlays_let_go.proofs.changing.MountsOfOthers.{reached_stays, removal_reached}
+use Rattle.vt_laws_permits.specs.Sees.{SeesTo}
+use Rattle.vt_laws_permits.proofs.sees.SeesTasks.{given_permits_are_seen_to}
+use Rattle.vt_laws_trees.specs.Trees.{MayRemove}
+use Rattle.vt_laws_trees.specs.Trees.Calls.{mounts_overlay}
+use Rattle.vt_laws_trees.specs.Trees.Limits.{names_few_groups}
+use Rattle.vt_laws_worlds.specs.Worlds.Kept.{IsPlain}
+use Rattle.vt_laws_worlds.specs.Worlds.Permits.{IsReached}
+use Rattle.vt_laws_worlds.proofs.worlds.PermitsSeen.{taken_plain}
+use Rattle.vt_laws_worlds.proofs.worlds.Reached.{IsOn, is_reached}
+use Rattle.vt_laws_worlds.proofs.worlds.SeenTrees.{change_mounts, change_tasks}
+use Rattle.vt_laws_later_calls.proofs.AfterChange.{as_spent, later_files, later_is}
+use Rattle.vt_laws_later_calls.proofs.Changed.{files_changed, files_other}
+use Rattle.vt_laws_later_calls.proofs.Granted.{IsPermitted}
+use Rattle.vt_laws_later_calls.proofs.OpenedNew.{given_of}
+use Rattle.vt_laws_later_calls.proofs.later.SettledRoots.{root_settled}
+use Rattle.vt_laws_later_calls.proofs.Stays.{called_own, spent_unsettled, still_called}
+use Rattle.vt_laws_later_calls.proofs.WaysChanges.{RightsStay}
+use Rattle.vt_laws_later_calls.proofs.later.WaysLeft.{MountsSeen, ObjectsStay}
+use Rattle.vt_laws_later_calls.proofs.later.WaysMounts.{own_mount, top_same, topmost_same}
+use Rattle.vt_laws_later_calls.proofs.later.WaysRemoved.{removed_entry, removed_kind, removed_link, removed_name, removed_parent, removed_rights}
+use Rattle.vt_laws_later_calls.proofs.WaysStay.{mount_root, node_in, tree_in}
+use Rattle.vt_spec.proofs.Worlds.{filesystems-taken_away, tasks-taken_away}
+
+module _ (world : World ℕ) (fresh : Fresh ℕ) (name : TaskName) (call : Call) (answer : Answer)
+    (is : IsWorld nat_eq world) (plain : IsPlain world) (serves : Serves nat_eq world fresh)
+    (other : mounts_overlay call ≡ false) (few : names_few_groups call ≡ true)
+    (did : IsPermitted world fresh name call answer) (parent : Location ℕ) (word : List ℕ) (object : Location ℕ)
+    (permit_is : did.permit ≡ ToRemoveDirectory parent word object) where
+  abbrev pub left : World ℕ
+  left = (policy nat_eq fresh world name call).world
+
+  abbrev pub spent : World ℕ
+  spent = (apply nat_eq fresh world did.task did.permit).world
+
+  abbrev middle : World ℕ
+  middle = without_mounts_on nat_eq world object
+
+  abbrev gone : List ℕ
+  gone = numbers_of_trees world (mounts_on nat_eq world object)
+
+  abbrev change : Change ℕ
+  change = Remove parent.node word object.node
+
+  abbrev pub shown : ℕ
+  shown = (mount_at nat_eq world parent).filesystem
+
+  pub is_left : IsWorld nat_eq left × IsPlain left
+  is_left = later_is world fresh name call answer is plain serves other few did
+
+  pub own_task : task_called world did.task.name ≡ Some did.task
+  own_task = called_own world fresh name call answer is plain serves other few did
+
+  pub seen_to : SeesTo world did.task (ToRemoveDirectory parent word object)
+  seen_to =
+      subst (SeesTo world did.task) permit_is
+      (given_permits_are_seen_to world fresh did.task did.permit is plain
+      (given_of world fresh name call answer serves other few did))
+
+  pub may : MayRemove (files_at nat_eq world parent).tree parent.node word object.node
+  may = seen_to.1
+
+  -- the parent is reached, and no mount of the task's namespace stands on the directory
+  pub reaches : IsReached world did.task parent
+      × (is_mount_point_in nat_eq (looks_of nat_eq world) did.task.namespace object ≡ false)
+  reaches =
+      removal_reached fresh world is did.task own_task call (ToRemoveDirectory parent word object)
+      (did.judged ∙ ap Ok permit_is)
+
+  pub own_parent : IsOn world is did.task parent.mount
+  own_parent = ((and_parts _ _ reaches.0.there).0, reaches.0.seen)
+
+  pub parent_there : is_some (node_at nat_eq world parent) ≡ true
+  parent_there = (and_parts _ _ reaches.0.there).1
+
+  -- Mounts
+  stays : (number : ℕ) → IsOn world is did.task number → is_going nat_eq gone number ≡ false
+  stays number own =
+      let root : Location ℕ = record { mount = number; node = (mount_numbered nat_eq world number).root } in
+      reached_stays world is did.task object root reaches.1
+      (is_reached world is did.task root
+      (own, directory_used (files_at nat_eq world root).tree root.node (mount_root world is number own.0)))
+
+  closed : AreClosed world gone
+  closed =
+      trees_closed world is.mounts.one_number ((standing_is_computed world is.mounts.one_number).0 is.mounts.standing)
+      (mounts_on nat_eq world object)
+
+  middle_plain : IsPlain middle
+  middle_plain = taken_plain world gone plain
+
+  does : spent ≡ with_change nat_eq fresh middle parent change
+  does = ap (λ p. (apply nat_eq fresh world did.task p).world) permit_is
+
+  living : left.mounts ≡ filter (mount_lives nat_eq spent) middle.mounts
+  living =
+      ap (λ (w : World ℕ). w.mounts) did.left
+      ∙ ap (filter (mount_lives nat_eq spent))
+      (ap (λ (w : World ℕ). w.mounts) does ∙ change_mounts fresh middle middle_plain parent change)
+
+  attached_live : (mount : Mount ℕ) → is_some mount.namespace ≡ true → mount_lives nat_eq spent mount ≡ true
+  attached_live mount e = ap (λ b. b || is_located nat_eq spent mount.number) e
+
+  -- the caller is there still
+  pub caller : task_called left name ≡ Some (raised_task name did.task)
+  caller =
+      still_called world fresh name call answer is plain serves other few did name did.task
+      (ap (λ w. task_called w name) does
+      ∙ ap (find (λ (t : Task ℕ). same_name name t.name))
+      (change_tasks fresh middle middle_plain parent change ∙ tasks-taken_away world gone)
+      ∙ did.called)
+
+  pub mounts_seen : (reader : Task ℕ) → reader.root ≡ did.task.root
+      → MountsSeen world left is plain is_left.0 is_left.1 did.task reader
+  mounts_seen reader roots = record {
+    own = own_mount world left is is_left.0 did.task gone closed (mount_lives nat_eq spent) living attached_live stays;
+    topmost_is = topmost_same world left is is_left.0 did.task gone closed
+        (mount_lives nat_eq spent) living attached_live stays;
+    top_is = top_same world left is is_left.0 did.task gone closed
+        (mount_lives nat_eq spent) living attached_live stays reader roots;
+  }
+
+  -- Filesystems
+  middle_shown : (mount_at nat_eq middle parent).filesystem ≡ shown
+  middle_shown = (kept_by_number world gone parent.mount (stays parent.mount own_parent)).filesystem
+
+  middle_numbered : (number : ℕ) → filesystem_numbered nat_eq middle number ≡ filesystem_numbered nat_eq world number
+  middle_numbered number =
+      ap (λ list. unwrap_or (find (λ (f : Filesystem ℕ). nat_eq number f.number) list)
+      (no_filesystem number)) (filesystems-taken_away world gone)
+
+  middle_files : files_at nat_eq middle parent ≡ files_at nat_eq world parent
+  middle_files =
+      ap (λ n. (filesystem_numbered nat_eq middle n).files) middle_shown
+      ∙ ap (λ (f : Filesystem ℕ). f.files) (middle_numbered shown)
+
+  spent_files : (number : ℕ) → (filesystem_numbered nat_eq spent number).files
+      ≡ (filesystem_numbered nat_eq (with_change nat_eq fresh middle parent change) number).files
+  spent_files number = ap (λ w. (filesystem_numbered nat_eq w number).files) does
+
+  pub spent_shown : (filesystem_numbered nat_eq spent shown).files
+      ≡ changed nat_eq (files_at nat_eq world parent) change
+  spent_shown =
+      spent_files shown
+      ∙ ap (λ n. (filesystem_numbered nat_eq (with_change nat_eq fresh middle parent change) n).files)
+      (sym middle_shown)
+      ∙ files_changed fresh middle middle_plain parent change
+      (ap (λ (f : FileTree ℕ). is_some (f.tree.node parent.node)) middle_files ∙ parent_there)
+      ∙ ap (λ f. changed nat_eq f change) middle_files
+
+  -- what each tree has left
+  pub record IsLess (number : ℕ) (tree later : Tree ℕ) : Type 0 where
+    pub root : later.root ≡ tree.root
+    pub directory : (n : ℕ) → is_directory_node (later.node n) ≡ is_directory_node (tree.node n)
+    pub link : (n : ℕ) → symlink_text (later.node n) ≡ symlink_text (tree.node n)
+    pub rights : RightsStay tree later
+    pub parents : (n : ℕ) → (number ≡ shown → n ≢ object.node) → parent_in n (later.node n) ≡ parent_in n (tree.node n)
+    pub entry : (here : ℕ) (any : List ℕ) (next : ℕ) → entry_at tree here any ≡ Some next
+        → (entry_at later here any ≡ Some next)
+        ⊎ ((entry_at later here any ≡ None) × (number ≡ shown) × (next ≡ object.node))
+
+  pub each : (number : ℕ) → IsLess number (tree_in world number) (tree_in spent number)
+  each number = by (nat_eq shown number) refl
+    where
+      here : IsLess shown (tree_in world shown) (changed nat_eq (files_at nat_eq world parent) change).tree
+      here = record {
+        root = refl;
+        directory = removed_kind (files_at nat_eq world parent) parent.node word object.node may;
+        link = removed_link (files_at nat_eq world parent) parent.node word object.node may;
+        rights = removed_rights (files_at nat_eq world parent) parent.node word object.node may;
+        parents = λ n differs. removed_parent (files_at nat_eq world parent) parent.node word object.node may n
+            (differs refl);
+        entry = λ at any next e. ⊎_elim (λ same. inl same) (λ lost. inr (lost.0, refl, lost.1))
+            (removed_entry (files_at nat_eq world parent) parent.node word object.node may at any next e);
+      }
+
+      same : IsLess number (tree_in world number) (tree_in world number)
+      same = record {
+        root = refl;
+        directory = λ n. refl;
+        link = λ n. refl;
+        rights = λ who wanted n there. refl;
+        parents = λ n differs. refl;
+        entry = λ at any next e. inl e;
+      }
+
+      by : (b : Bool) → nat_eq shown number ≡ b → IsLess number (tree_in world number) (tree_in spent number)
+      by true e =
+          subst (λ n. IsLess n (tree_in world n) (tree_in spent n)) (eqb-true shown number e)
+          (subst (λ (f : FileTree ℕ). IsLess shown (tree_in world shown) f.tree) (sym spent_shown) here)
+      by false e =
+          subst (λ (f : FileTree ℕ). IsLess number (tree_in world number) f.tree)
+          (sym (spent_files number
+          ∙ files_other fresh middle middle_plain parent change number (ap (λ n. nat_eq n number) middle_shown ∙ e)
+          ∙ ap (λ (f : Filesystem ℕ). f.files) (middle_numbered number))) same
+
+  pub node_left : (filesystem number : ℕ) → is_some (node_in left filesystem number) ≡ true
+      → node_in left filesystem number ≡ node_in spent filesystem number
+  node_left filesystem number there =
+      as_spent world fresh name call answer is plain serves other few did filesystem number there
+
+  pub root_left : (filesystem number : ℕ) → is_some (node_in left filesystem number) ≡ true
+      → (tree_in left filesystem).root ≡ (tree_in world filesystem).root
+  root_left filesystem number there =
+      let files = later_files world fresh name call answer is plain serves other few did filesystem in
+      ap (λ (f : FileTree ℕ). f.tree.root) files
+      ∙ root_settled spent
+      (spent_unsettled world fresh name call answer is plain serves other few did).files.one_filesystem filesystem
+      number
+      (ap (λ (f : FileTree ℕ). is_some (f.tree.node number)) (sym files) ∙ there)
+      ∙ (each filesystem).root
+
+  pub rights_left : (filesystem number : ℕ) → is_some (node_in left filesystem number) ≡ true
+      → is_some (node_in world filesystem number) ≡ true
+      → (who : Credentials) (wanted : ℕ)
+      → node_allows who wanted (node_in left filesystem number)
+      ≡ node_allows who wanted (node_in world filesystem number)
+  rights_left filesystem number now was who wanted =
+      ap (node_allows who wanted) (node_left filesystem number now)
+      ∙ (each filesystem).rights who wanted number was
+
+  pub objects_stay : (Refused : Deny → Type 0) → Refused (denial W6) → ObjectsStay world left Refused
+  objects_stay Refused missing = record {
+    directory = λ filesystem number was now. ap is_directory_node (node_left filesystem number now)
+        ∙ (each filesystem).directory number;
+    link = λ filesystem number was now. ap symlink_text (node_left filesystem number now)
+        ∙ (each filesystem).link number;
+    entry = λ filesystem here any next e now. by filesystem here any next now ((each filesystem).entry here any next e);
+  }
+    where
+      by : (filesystem here : ℕ) (any : List ℕ) (next : ℕ) → is_some (node_in left filesystem here) ≡ true
+          → (entry_at (tree_in spent filesystem) here any ≡ Some next)
+          ⊎ ((entry_at (tree_in spent filesystem) here any ≡ None) × (filesystem ≡ shown) × (next ≡ object.node))
+          → (entry_at (tree_in left filesystem) here any ≡ Some next)
+          ⊎ ((entry_at (tree_in left filesystem) here any ≡ None) × Refused (denial W6))
+      by filesystem here any next now (inl same) =
+          inl (ap (λ o. entry_named any (entries_in o)) (node_left filesystem here now) ∙ same)
+      by filesystem here any next now (inr lost) =
+          inr (ap (λ o. entry_named any (entries_in o)) (node_left filesystem here now) ∙ lost.0, missing)
+
+  -- the name is missing
+  pub name_left : is_some (node_in left shown parent.node) ≡ true
+      → entry_at (tree_in left shown) parent.node word ≡ None
+  name_left there =
+      ap (λ o. entry_named word (entries_in o))
+      (node_left shown parent.node there ∙ ap (λ (f : FileTree ℕ). f.tree.node parent.node) spent_shown)
+      ∙ removed_name (files_at nat_eq world parent) parent.node word object.node may

@@ -1,0 +1,292 @@
+-- The world that a granted rename leaves: the object has its new name and what it had, and no mount stands on it.
+use Rattle.std.proofs.Common.{◌≡◌, ◌≢◌, refl, sym, ap, subst, ◌∙◌, true≢false, ℕ, nat_eq, eq-eqb, ne_eqb, Bool, true, false, cond, ◌&&◌, ◌||◌, List, [], length, filter, find, Option, Some, None, is_some}
+use Rattle.std.specs.List.{list_any}
+use Rattle.std.specs.Prelude.{option_map, unwrap_or}
+use Rattle.std.proofs.lemmas.Bool.{and_from}
+use Rattle.std.specs.Cmp.Lexicographic.{bytes_decides}
+use Rattle.std.specs.Str.{bytes_eq}
+use Rattle.vt_spec.specs.FileTree.{FileTree}
+use Rattle.vt_spec.specs.Language.Answers.{Answer}
+use Rattle.vt_spec.specs.Language.Calls.{Call, TaskName}
+use Rattle.vt_spec.specs.Language.Changes.{Change, changed}
+use Rattle.vt_spec.specs.Language.Changes.Change.{Move}
+use Rattle.vt_spec.specs.Lists.{Fresh, holds_of, is_among}
+use Rattle.vt_spec.specs.Machine.Apply.{apply}
+use Rattle.vt_spec.specs.Machine.Detach.{is_point, mounts_on, points_of, upper_points, without_replaced}
+use Rattle.vt_spec.specs.Machine.Filesystems.{with_change}
+use Rattle.vt_spec.specs.Machine.Invariants.{IsWorld, is_nowhere_or_attached}
+use Rattle.vt_spec.specs.Machine.Locked.{of_overlay}
+use Rattle.vt_spec.specs.Machine.Looks.{looks_of}
+use Rattle.vt_spec.specs.Machine.Mounts.{Location, Mount, child_at, root_of, stands_at, topmost}
+use Rattle.vt_spec.specs.Machine.Permits.Permit.{ToRename}
+use Rattle.vt_spec.specs.Machine.Policy.{policy}
+use Rattle.vt_spec.specs.Machine.Rules.Conditions.{is_mount_point_anywhere}
+use Rattle.vt_spec.specs.Machine.Run.{Serves}
+use Rattle.vt_spec.specs.Machine.Settled.{mount_lives}
+use Rattle.vt_spec.specs.Machine.World.{Filesystem, World, files_at, filesystem_at, filesystem_numbered, mount_at, mount_numbered, no_filesystem}
+use Rattle.vt_spec.specs.Tree.{entries_in, entry_named, is_directory_node}
+use Rattle.vt_spec.specs.TreeInvariant.{entry_at}
+use Rattle.vt_spec.proofs.Lists.{Among, among-filter, among-from_filter, among_from_list_all, any_from_among}
+use Rattle.vt_spec.proofs.Nodes.{directory_used}
+use Rattle.vt_laws_letting_go.proofs.leaving.PlacesLeft.{nowhere_parts}
+use Rattle.vt_laws_layers.specs.Layers.Untouched.{IsKept}
+use Rattle.vt_laws_layers.proofs.layers.LowersKept.{kept_both, kept_same, others_stay}
+use Rattle.vt_laws_layers.proofs.layers.LowersMounts.{same_mounted_without}
+use Rattle.vt_laws_layers.proofs.views.Entries.{is_entry, is_that_entry}
+use Rattle.vt_laws_layers.proofs.views.Moves.{move_told, no_way_up}
+use Rattle.vt_laws_mounts.specs.Mounts.Attaching.{numbers_of}
+use Rattle.vt_laws_mounts.proofs.ends.Ending.{replaced_keeps_mounts}
+use Rattle.vt_laws_mounts.proofs.mounts.MountsFound.{found_in, found_there}
+use Rattle.vt_laws_mounts.proofs.mounts.MountsPlaces.{stands_there}
+use Rattle.vt_laws_mounts.proofs.mounts.MountsReplaced.{found_itself}
+use Rattle.vt_laws_mounts.proofs.mounts.Standing.{standing_is_computed}
+use Rattle.vt_laws_mounts.proofs.ends.UnmountingTrees.{trees_closed}
+use Rattle.vt_laws_permits.specs.Sees.{MayBeRenamed, SeesTo}
+use Rattle.vt_laws_permits.proofs.sees.SeesNames.{tree_here}
+use Rattle.vt_laws_permits.proofs.sees.SeesTasks.{given_permits_are_seen_to}
+use Rattle.vt_laws_letting_go.specs.Unmounting.{numbers_of_trees}
+use Rattle.vt_laws_trees.specs.Trees.{IsFileTree}
+use Rattle.vt_laws_trees.specs.Trees.Calls.{mounts_overlay}
+use Rattle.vt_laws_trees.specs.Trees.Limits.{names_few_groups}
+use Rattle.vt_laws_trees.proofs.trees.TreesOfWorlds.{number_numbered}
+use Rattle.vt_laws_worlds.specs.Worlds.Kept.{IsPlain}
+use Rattle.vt_laws_worlds.proofs.worlds.PermitsSeen.{replaced_plain}
+use Rattle.vt_laws_worlds.proofs.worlds.SeenTrees.{change_mounts}
+use Rattle.vt_laws_later_calls.proofs.AfterChange.{as_spent, later_is}
+use Rattle.vt_laws_later_calls.proofs.Changed.{files_changed}
+use Rattle.vt_laws_later_calls.proofs.Granted.{IsPermitted}
+use Rattle.vt_laws_later_calls.proofs.OpenedNew.{given_of}
+use Rattle.vt_laws_later_calls.proofs.later.WaysMounts.{placed_before, stops}
+use Rattle.vt_laws_later_calls.proofs.WaysStay.{node_in, tree_in}
+use Rattle.vt_spec.proofs.NodeChanges.{directory_from_entry}
+use Rattle.vt_spec.proofs.Worlds.{filesystems-without_replaced, number-mount_in, shown-without_replaced}
+
+-- Mounts that stand on an object, as its filesystem shows it
+module _ (world : World ℕ) (is : IsWorld nat_eq world) (object : Location ℕ)
+    (uncovered : is_mount_point_anywhere (looks_of nat_eq world) object ≡ false) where
+  -- there is none
+  pub none_on_it : (mount : Mount ℕ) (place : Location ℕ) → Among mount world.mounts → mount.mount_point ≡ Some place
+      → (mount_at nat_eq world place).filesystem ≡ (mount_at nat_eq world object).filesystem → place.node ≡ object.node
+      → ⊥
+  none_on_it mount place m at same node =
+      true≢false
+      (sym (any_from_among (λ (m : Mount ℕ). is_some m.namespace) (mounts_on nat_eq world object) mount
+      (among-filter (λ (m : Mount ℕ). list_any (λ point. is_point nat_eq world point.0 point.1 m)
+      (points_of nat_eq world object)) world.mounts
+      mount m on_it) (attached (is_some mount.namespace) refl))
+      ∙ uncovered)
+    where
+      number_is : (mount_at nat_eq world place).filesystem ≡ (filesystem_at nat_eq world object).number
+      number_is = same ∙ sym (number_numbered (mount_at nat_eq world object).filesystem world.filesystems)
+
+      on_it : list_any (λ point. is_point nat_eq world point.0 point.1 mount) (points_of nat_eq world object) ≡ true
+      on_it =
+          ap (λ b. b || list_any (λ point. is_point nat_eq world point.0 point.1 mount)
+          (of_overlay [] (λ overlay. upper_points world (filesystem_at nat_eq world object) overlay object.node)
+          (filesystem_at nat_eq world object)))
+          (ap (holds_of (λ at. nat_eq at.node object.node
+          && nat_eq (mount_at nat_eq world at).filesystem (filesystem_at nat_eq world object).number)) at
+          ∙ and_from _ _ (eq-eqb place.node object.node node)
+          (eq-eqb (mount_at nat_eq world place).filesystem (filesystem_at nat_eq world object).number number_is))
+
+      attached : (b : Bool) → is_some mount.namespace ≡ b → is_some mount.namespace ≡ true
+      attached true e = e
+      attached false e =
+          absurd (true≢false (sym (ap is_some at)
+          ∙ (nowhere_parts mount
+          (among_from_list_all is_nowhere_or_attached world.mounts is.mounts.nowhere mount m) e).0))
+
+  pub free_over : (place : Location ℕ)
+      → (mount_at nat_eq world place).filesystem ≡ (mount_at nat_eq world object).filesystem
+      → place.node ≡ object.node → topmost nat_eq world.mounts place ≡ place
+  free_over place same node =
+      stops (length world.mounts) (λ here. option_map root_of (child_at nat_eq world.mounts here)) place
+      (by (child_at nat_eq world.mounts place) refl)
+    where
+      by : (o : Option (Mount ℕ)) → child_at nat_eq world.mounts place ≡ o
+          → option_map root_of (child_at nat_eq world.mounts place) ≡ None
+      by None e = ap (option_map root_of) e
+      by (Some mount) e =
+          let found = found_in (stands_at nat_eq place) world.mounts mount e in
+          absurd (none_on_it mount place found.0 (stands_there place mount found.1) same node)
+
+module _ (world : World ℕ) (fresh : Fresh ℕ) (name : TaskName) (call : Call) (answer : Answer)
+    (is : IsWorld nat_eq world) (plain : IsPlain world) (serves : Serves nat_eq world fresh)
+    (other : mounts_overlay call ≡ false) (few : names_few_groups call ≡ true)
+    (did : IsPermitted world fresh name call answer) (from : Location ℕ) (old : List ℕ) (to : Location ℕ) (new : List ℕ)
+    (object : Location ℕ) (replaced : Option (Location ℕ))
+    (permit_is : did.permit ≡ ToRename from old to new object replaced)
+    (uncovered : is_mount_point_anywhere (looks_of nat_eq world) object ≡ false) where
+  abbrev pub left : World ℕ
+  left = (policy nat_eq fresh world name call).world
+
+  abbrev spent : World ℕ
+  spent = (apply nat_eq fresh world did.task did.permit).world
+
+  abbrev middle : World ℕ
+  middle = without_replaced nat_eq world replaced
+
+  abbrev change : Change ℕ
+  change = Move from.node old to.node new object.node
+
+  abbrev pub shown : ℕ
+  shown = (mount_at nat_eq world from).filesystem
+
+  abbrev files : FileTree ℕ
+  files = files_at nat_eq world from
+
+  pub is_left : IsWorld nat_eq left × IsPlain left
+  is_left = later_is world fresh name call answer is plain serves other few did
+
+  pub may : MayBeRenamed world from old to new object replaced
+  may =
+      subst (SeesTo world did.task) permit_is
+      (given_permits_are_seen_to world fresh did.task did.permit is plain
+      (given_of world fresh name call answer serves other few did))
+
+  from_directory : is_directory_node ((files_at nat_eq world from).tree.node from.node) ≡ true
+  from_directory =
+      directory_from_entry old object.node ((files_at nat_eq world from).tree.node from.node) may.moves.named
+
+  tree : IsFileTree (files_at nat_eq world from)
+  tree = tree_here world is from from_directory
+
+  pub object_shown : (mount_at nat_eq world object).filesystem ≡ shown
+  object_shown = ap (λ m. (mount_numbered nat_eq world m).filesystem) may.object_mount
+
+  pub to_shown : (mount_at nat_eq world to).filesystem ≡ shown
+  to_shown = ap (λ m. (mount_numbered nat_eq world m).filesystem) may.to_mount
+
+  -- Filesystems
+  middle_plain : IsPlain middle
+  middle_plain = replaced_plain world replaced plain
+
+  middle_files : files_at nat_eq middle from ≡ files_at nat_eq world from
+  middle_files =
+      ap (λ n. (filesystem_numbered nat_eq middle n).files) (shown-without_replaced world replaced from)
+      ∙ ap (λ list. (unwrap_or (find (λ (f : Filesystem ℕ). nat_eq shown f.number) list) (no_filesystem shown)).files)
+      (filesystems-without_replaced world replaced)
+
+  does : spent ≡ with_change nat_eq fresh middle from change
+  does = ap (λ p. (apply nat_eq fresh world did.task p).world) permit_is
+
+  spent_shown : (filesystem_numbered nat_eq spent shown).files ≡ changed nat_eq (files_at nat_eq world from) change
+  spent_shown =
+      ap (λ w. (filesystem_numbered nat_eq w shown).files) does
+      ∙ ap (λ n. (filesystem_numbered nat_eq (with_change nat_eq fresh middle from change) n).files)
+      (sym (shown-without_replaced world replaced from))
+      ∙ files_changed fresh middle middle_plain from change
+      (ap (λ (f : FileTree ℕ). is_some (f.tree.node from.node)) middle_files
+      ∙ directory_used (files_at nat_eq world from).tree from.node from_directory)
+      ∙ ap (λ f. changed nat_eq f change) middle_files
+
+  node_left : (number : ℕ) → is_some (node_in left shown number) ≡ true
+      → node_in left shown number ≡ (changed nat_eq (files_at nat_eq world from) change).tree.node number
+  node_left number there =
+      as_spent world fresh name call answer is plain serves other few did shown number there
+      ∙ ap (λ (f : FileTree ℕ). f.tree.node number) spent_shown
+
+  entry_left : (directory : ℕ) (word : List ℕ) → is_some (node_in left shown directory) ≡ true
+      → entry_at (tree_in left shown) directory word
+      ≡ cond (is_entry to.node new directory word) (Some object.node)
+      (cond (is_entry from.node old directory word) None (entry_at (files_at nat_eq world from).tree directory word))
+  entry_left directory word there =
+      ap (λ o. entry_named word (entries_in o)) (node_left directory there)
+      ∙ move_told (files_at nat_eq world from) from.node old to.node new object.node may.moves.in_directory directory
+      word
+
+  entry_itself : (directory : ℕ) (word : List ℕ) → is_entry directory word directory word ≡ true
+  entry_itself directory word = ap (λ b. b && bytes_eq word word) (eq-eqb directory directory refl)
+      ∙ (bytes_decides word word).1 refl
+
+  -- the object has its new name, and no longer the old one
+  pub new_left : is_some (node_in left shown to.node) ≡ true
+      → entry_at (tree_in left shown) to.node new ≡ Some object.node
+  new_left there =
+      entry_left to.node new there
+      ∙ ap (λ b. cond b (Some object.node)
+      (cond (is_entry from.node old to.node new) None (entry_at (files_at nat_eq world from).tree to.node new)))
+      (entry_itself to.node new)
+
+  pub old_left : entry_at (files_at nat_eq world from).tree to.node new ≢ Some object.node
+      → is_some (node_in left shown from.node) ≡ true
+      → entry_at (tree_in left shown) from.node old ≡ None
+  old_left two there = entry_left from.node old there ∙ by (is_entry to.node new from.node old) refl
+    where
+      by : (b : Bool) → is_entry to.node new from.node old ≡ b
+          → cond b (Some object.node) (cond (is_entry from.node old from.node old) None
+          (entry_at (files_at nat_eq world from).tree from.node old)) ≡ None
+      by true e =
+          let same = is_that_entry to.node new from.node old e in
+          absurd (two ((λ i. entry_at (files_at nat_eq world from).tree (sym same.0 i) (sym same.1 i))
+          ∙ may.moves.named))
+      by false e =
+          ap (λ b. cond b None (entry_at (files_at nat_eq world from).tree from.node old)) (entry_itself from.node old)
+
+  -- and is as it was
+  pub object_left : is_some (node_in left shown object.node) ≡ true
+      → IsKept ((files_at nat_eq world from).tree.node object.node) (node_in left shown object.node)
+  object_left there =
+      kept_both _ _ _
+      (others_stay (files_at nat_eq world from) change object.node
+      (ap (λ b. b || (nat_eq object.node to.node || false)) (ne_eqb object.node from.node not_from)
+      ∙ ap (λ b. b || false) (ne_eqb object.node to.node not_to)))
+      (kept_same _ _ (node_left object.node there))
+    where
+      not_from : object.node ≢ from.node
+      not_from same = no_way_up (files_at nat_eq world from) tree.tree from.node old object.node may.moves.named []
+          (ap Some same)
+
+      not_to : object.node ≢ to.node
+      not_to same = may.moves.not_under [] (ap Some same)
+
+  -- Mounts
+  living : left.mounts ≡ filter (mount_lives nat_eq spent) middle.mounts
+  living =
+      ap (λ (w : World ℕ). w.mounts) did.left
+      ∙ ap (filter (mount_lives nat_eq spent))
+      (ap (λ (w : World ℕ). w.mounts) does ∙ change_mounts fresh middle middle_plain from change)
+
+  in_middle : (mount : Mount ℕ) → Among mount left.mounts → Among mount middle.mounts
+  in_middle mount m = (among-from_filter (mount_lives nat_eq spent) middle.mounts mount
+      (subst (Among mount) living m)).0
+
+  placed_in_world : (mount : Mount ℕ) (place : Location ℕ) → Among mount left.mounts → mount.mount_point ≡ Some place
+      → (was : Mount ℕ) × Among was world.mounts × (was.mount_point ≡ Some place)
+  placed_in_world mount place m e = by replaced (in_middle mount m)
+    where
+      by : (o : Option (Location ℕ)) → Among mount (without_replaced nat_eq world o).mounts
+          → (was : Mount ℕ) × Among was world.mounts × (was.mount_point ≡ Some place)
+      by None among = (mount, among, e)
+      by (Some gone) among =
+          placed_before world is (numbers_of_trees world (mounts_on nat_eq world gone))
+          (trees_closed world is.mounts.one_number
+          ((standing_is_computed world is.mounts.one_number).0 is.mounts.standing) (mounts_on nat_eq world gone))
+          mount place among e
+
+  pub left_mount : (number : ℕ) → is_among nat_eq number (numbers_of left.mounts) ≡ true
+      → (mount_numbered nat_eq left number).filesystem ≡ (mount_numbered nat_eq world number).filesystem
+  left_mount number listed =
+      ap (λ (m : Mount ℕ). m.filesystem)
+      (sym (ap (mount_numbered nat_eq middle) (sym (number-mount_in left.mounts number))
+      ∙ found_itself middle.mounts (replaced_keeps_mounts world replaced is.mounts).one_number
+      (mount_numbered nat_eq left number)
+      (in_middle (mount_numbered nat_eq left number) (found_there left.mounts number listed))))
+      ∙ shown-without_replaced world replaced (record { mount = number; node = 0 })
+
+  -- none stands on the object
+  pub free_left : (place : Location ℕ) → is_among nat_eq place.mount (numbers_of left.mounts) ≡ true
+      → (mount_at nat_eq left place).filesystem ≡ shown → place.node ≡ object.node
+      → topmost nat_eq left.mounts place ≡ place
+  free_left place listed same node =
+      stops (length left.mounts) (λ here. option_map root_of (child_at nat_eq left.mounts here)) place
+      (by (child_at nat_eq left.mounts place) refl)
+    where
+      by : (o : Option (Mount ℕ)) → child_at nat_eq left.mounts place ≡ o
+          → option_map root_of (child_at nat_eq left.mounts place) ≡ None
+      by None e = ap (option_map root_of) e
+      by (Some mount) e =
+          let found = found_in (stands_at nat_eq place) left.mounts mount e in
+          let was = placed_in_world mount place found.0 (stands_there place mount found.1) in
+          absurd (none_on_it world is object uncovered was.0 place was.1 was.2
+          (sym (left_mount place.mount listed) ∙ same ∙ sym object_shown) node)

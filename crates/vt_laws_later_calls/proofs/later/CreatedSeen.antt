@@ -1,0 +1,493 @@
+-- A name that open made exists.
+use Rattle.std.proofs.Common.{◌≡◌, refl, sym, ap, subst, ◌∙◌, inl, inr, ◌⊎◌, ℕ, nat_eq, nat_le, length, eqb-true, Bool, true, false, List, [], ◌∷◌, Option, Some, None, is_some, option_map, Result, Ok, Err, ok_or, find, reverse}
+use Rattle.std.proofs.lemmas.Option.{same_Some}
+use Rattle.vt_spec.specs.declared.errors.Deny.{Deny}
+use Rattle.vt_spec.specs.declared.errors.Rule.TheVariants.{E1, E2, S2, S3, W4}
+use Rattle.vt_spec.specs.Errors.{NoneFails, Rules, and_then, denial, unless}
+use Rattle.vt_spec.specs.FileTree.{FileTree}
+use Rattle.vt_spec.specs.Language.Answers.Answer.{Opened}
+use Rattle.vt_spec.specs.Language.Calls.{Access, Call, TaskName, same_name}
+use Rattle.vt_spec.specs.Language.Calls.Call.{OpenFile}
+use Rattle.vt_spec.specs.Language.Calls.Creation.{Exclusive}
+use Rattle.vt_spec.specs.Language.Changes.{Change, changed}
+use Rattle.vt_spec.specs.Language.Changes.Change.{Make}
+use Rattle.vt_spec.specs.Language.Limits.{most_descriptors}
+use Rattle.vt_spec.specs.Lists.{Fresh, odds}
+use Rattle.vt_spec.specs.Machine.Apply.{apply, with_new_inode}
+use Rattle.vt_spec.specs.Machine.Judge.{judge_in, open_new_permit, Judgement, create_file_permit, open_by_permit, open_permit}
+use Rattle.vt_spec.specs.Machine.Looks.{Looks, looks_of}
+use Rattle.vt_spec.specs.Machine.Looks as Look
+use Rattle.vt_spec.specs.Machine.Mounts.{Location}
+use Rattle.vt_spec.specs.Machine.Descriptors.{with_descriptor}
+use Rattle.vt_spec.specs.Machine.Rows.{new_file}
+use Rattle.vt_spec.specs.Machine.Outcomes.{after}
+use Rattle.vt_spec.specs.Machine.Policy.{call_outcome, filesystems_changed_by, finished, policy, raised_task}
+use Rattle.vt_spec.specs.Machine.Rightful.{node_allows}
+use Rattle.vt_spec.specs.Machine.Rules.Descriptors.{exclusive_word_rules}
+use Rattle.vt_spec.specs.Machine.Run.{Serves}
+use Rattle.vt_spec.specs.Machine.Settled.{settled}
+use Rattle.vt_spec.specs.Machine.Walking.{Place, Stop, entry_location, final_word, followed, prefix_walked, is_special, last_word, name_of, new_name_rules, new_walk, place_walk, placed, search_rules, steps_at, stopped_by, then_walk, walk_end, walk_start, walk_unless, words_walked}
+use Rattle.vt_spec.specs.Machine.Walking.LastWord.{Named}
+use Rattle.vt_spec.specs.Machine.World.{Task, World, files_at, filesystem_numbered, is_directory_at, mount_at, node_at, task_called, with_task}
+use Rattle.vt_spec.specs.Machine.Invariants.{IsWorld}
+use Rattle.vt_spec.specs.PathText.{ends_in_slash, words}
+use Rattle.vt_spec.specs.Rights.{Credentials, execute_right}
+use Rattle.vt_spec.specs.Tree.{Node, entries_in, entry_named, is_directory_node}
+use Rattle.vt_spec.proofs.Lists.{contains_from_among}
+use Rattle.vt_spec.proofs.Nodes.{directory_used}
+use Rattle.vt_laws_calls.specs.Inodes.{change_of}
+use Rattle.vt_laws_letting_go.specs.InUse.{IsListedTree}
+use Rattle.vt_laws_letting_go.proofs.leaving.FilesChanged.{opened_new_keeps_all}
+use Rattle.vt_laws_letting_go.proofs.sweeps.OfWorlds.{worlds_are_settled}
+use Rattle.vt_laws_permits.specs.Sees.{MayBeMade, SeesTo}
+use Rattle.vt_laws_permits.proofs.sees.SeesFit.{given_changes_are_proper}
+use Rattle.vt_laws_permits.proofs.sees.SeesNames.{tree_here}
+use Rattle.vt_laws_permits.proofs.sees.SeesTasks.{given_permits_are_seen_to}
+use Rattle.vt_laws_trees.specs.Trees.{IsFileTree}
+use Rattle.vt_laws_trees.proofs.trees.ChangesKeepTrees.{changes_keep_numbers, changes_keep_trees}
+use Rattle.vt_laws_worlds.specs.Worlds.Kept.{IsPlain}
+use Rattle.vt_laws_worlds.proofs.worlds.CallsKept.{name_found}
+use Rattle.vt_laws_worlds.proofs.Plain.{plain_numbered}
+use Rattle.vt_laws_worlds.proofs.worlds.SeenTrees.{change_mounts, change_tasks, unused_inode}
+use Rattle.vt_laws_later_calls.specs.LaterPaths.{ExclusiveTwice}
+use Rattle.vt_laws_later_calls.proofs.AfterChange.{later_files, later_is, listed, spent}
+use Rattle.vt_laws_later_calls.proofs.Changed.{files_changed, files_other}
+use Rattle.vt_laws_later_calls.proofs.Granted.{IsPermitted, permitted}
+use Rattle.vt_laws_later_calls.proofs.Looked.{search_all}
+use Rattle.vt_laws_later_calls.proofs.MadeSeen.{Never, new_parts}
+use Rattle.vt_laws_later_calls.proofs.Opened.{called_replaced}
+use Rattle.vt_laws_later_calls.proofs.OpenedNew.{given_of, exclusive_parts}
+use Rattle.vt_laws_later_calls.proofs.Readers.{MayLook, all_stands, named_last, own_name, raised_credentials, raised_stands}
+use Rattle.vt_laws_later_calls.proofs.Stays.{called_own, still_called}
+use Rattle.vt_spec.proofs.Refusals.{passed}
+use Rattle.vt_laws_later_calls.proofs.Ways.{LeadsToo, Stops, at, search_too}
+use Rattle.vt_laws_later_calls.proofs.WaysChanges.{RightsStay, TreeStays, made_entry, rights_made, ways_made}
+use Rattle.vt_laws_later_calls.proofs.WaysPlaces.{NamedPlace, front_too, named_place, through}
+use Rattle.vt_laws_later_calls.proofs.WaysStay.{Known, StandsAs, WorldStays, node_here, node_in, tree_in, world_leads}
+use Rattle.vt_spec.proofs.Found.{found_among}
+use Rattle.vt_spec.proofs.Worlds.{answer-finished_by}
+use Rattle.vt_spec.specs.Language.Answers.{Answer}
+
+-- A world in which one filesystem shows another tree
+module _ (world later : World ℕ) (shown : ℕ) (files : FileTree ℕ) (mounts : later.mounts ≡ world.mounts)
+    (here : (filesystem_numbered nat_eq later shown).files ≡ files)
+    (elsewhere : (number : ℕ) → nat_eq shown number ≡ false
+    → (filesystem_numbered nat_eq later number).files ≡ (filesystem_numbered nat_eq world number).files) where
+  in_each : (P : ℕ → FileTree ℕ → Type 0) → P shown files
+      → ((number : ℕ) → P number (filesystem_numbered nat_eq world number).files)
+      → (number : ℕ) → P number (filesystem_numbered nat_eq later number).files
+  in_each P is others number = by (nat_eq shown number) refl
+    where
+      by : (b : Bool) → nat_eq shown number ≡ b → P number (filesystem_numbered nat_eq later number).files
+      by true e = subst (λ n. P n (filesystem_numbered nat_eq later n).files) (eqb-true shown number e)
+          (subst (P shown) (sym here) is)
+      by false e = subst (P number) (sym (elsewhere number e)) (others number)
+
+  stays_by : (Refused : Deny → Type 0) → TreeStays (tree_in world shown) files.tree Refused
+      → WorldStays world later Refused
+  stays_by Refused stay = record {
+    mounts = mounts;
+    root = λ number. (each number).root;
+    directory = λ number n was now. (each number).directory n was;
+    parent = λ number n was now. (each number).parent n was;
+    link = λ number n was now. (each number).link n was;
+    entry = λ number directory name n e now. (each number).entry directory name n e;
+  }
+    where
+      itself : (t : FileTree ℕ) → TreeStays t.tree t.tree Refused
+      itself t = record {
+        root = refl;
+        directory = λ n was. refl;
+        parent = λ n was. refl;
+        link = λ n was. refl;
+        entry = λ directory entry n e. inl e;
+      }
+
+      each : (number : ℕ) → TreeStays (tree_in world number) (tree_in later number) Refused
+      each = in_each (λ number t. TreeStays (tree_in world number) t.tree Refused) stay
+          (λ number. itself (filesystem_numbered nat_eq world number).files)
+
+  rights_by : RightsStay (tree_in world shown) files.tree → (filesystem number wanted : ℕ) (who : Credentials)
+      → is_some (node_in world filesystem number) ≡ true
+      → node_allows who wanted (node_in later filesystem number)
+      ≡ node_allows who wanted (node_in world filesystem number)
+  rights_by rights filesystem number wanted who was =
+      in_each (λ f t. is_some (node_in world f number) ≡ true
+      → node_allows who wanted (t.tree.node number) ≡ node_allows who wanted (node_in world f number))
+      (λ there_before. rights who wanted number there_before) (λ f there_before. refl) filesystem was
+
+-- The place of a name, in what a call left
+module _ (looks later : Looks ℕ) (task reader : Task ℕ) (Refused : Deny → Type 0) (Known : Location ℕ → Type 0)
+    (leads : LeadsToo looks later task reader Refused Known) (path : List ℕ) (place : Place ℕ)
+    (named : is_special place.last ≡ false) (parts : NamedPlace looks task path place) (object : Option (Location ℕ))
+    (found : Known place.parent → entry_location nat_eq later place.parent (name_of place.last) ≡ object) where
+  abbrev IsPlacedThere : Result (Place ℕ) (Stop ℕ) → Type 0
+  IsPlacedThere walk =
+      ((steps : List (List ℕ)) × (walk ≡ Ok (record {
+        parent = place.parent;
+        last = place.last;
+        object = object;
+        slash = place.slash;
+        steps = steps;
+      })))
+      ⊎ Stops Refused walk
+
+  word_is : last_word parts.word ≡ Named (name_of place.last)
+  word_is = parts.last_is ∙ named_last place.last named
+
+  place_is : place_walk nat_eq later reader path
+      ≡ then_walk (words_walked nat_eq later reader (followed nat_eq later reader) (walk_start reader path) parts.front)
+      (λ here. placed nat_eq later reader here (Named (name_of place.last)) (ends_in_slash path))
+  place_is =
+      ap (λ r. then_walk r (λ text.
+      then_walk (prefix_walked nat_eq later reader (followed nat_eq later reader) (walk_start reader text)
+      (reverse (words text)))
+      (λ here. placed nat_eq later reader here (final_word (reverse (words text))) (ends_in_slash text)))) parts.parsed
+      ∙ ap (λ list. then_walk (prefix_walked nat_eq later reader (followed nat_eq later reader)
+      (walk_start reader path) list)
+      (λ here. placed nat_eq later reader here (final_word list) (ends_in_slash path))) parts.words_are
+      ∙ ap (λ last. then_walk (words_walked nat_eq later reader (followed nat_eq later reader)
+      (walk_start reader path) parts.front)
+      (λ here. placed nat_eq later reader here last (ends_in_slash path))) word_is
+
+  pub place_too : IsPlacedThere (place_walk nat_eq later reader path)
+  place_too =
+      subst IsPlacedThere (sym place_is)
+      (through looks later task reader Refused Known leads IsPlacedThere
+      (words_walked nat_eq later reader (followed nat_eq later reader)
+      (walk_start reader path) parts.front) _ parts.here
+      (front_too looks later task reader Refused Known leads path place named parts)
+      (λ steps known. by steps known
+      (search_too looks later task reader Refused Known leads parts.here.location known parts.searched))
+      (λ stop refused. inr (stop, refused, refl)))
+    where
+      by : (steps : List (List ℕ)) → Known parts.here.location
+          → NoneFails (search_rules nat_eq later reader parts.here.location)
+          ⊎ (Refused (denial W4) × ((answer : Result (Location ℕ) Deny)
+          → unless (search_rules nat_eq later reader parts.here.location) answer ≡ Err (denial W4)))
+          → IsPlacedThere (placed nat_eq later reader (at parts.here steps) (Named (name_of place.last))
+          (ends_in_slash path))
+      by steps known (inl pass) =
+          inl (
+            steps_at nat_eq later reader (at parts.here steps) (Named (name_of place.last)),
+            ap (λ r. stopped_by {A = Place ℕ}
+                (steps_at nat_eq later reader (at parts.here steps) (Named (name_of place.last)))
+                (and_then r (λ o.
+                Ok (record {
+                  parent = parts.here.location;
+                  last = Named (name_of place.last);
+                  object = o;
+                  slash = ends_in_slash path;
+                  steps = steps_at nat_eq later reader (at parts.here steps) (Named (name_of place.last));
+                }))))
+                (passed (search_rules nat_eq later reader parts.here.location)
+                (Ok (entry_location nat_eq later parts.here.location (name_of place.last))) pass)
+                ∙ (λ i. Ok (record {
+                  parent = parts.parent_is i;
+                  last = sym (named_last place.last named) i;
+                  object = (ap (λ l. entry_location nat_eq later l (name_of place.last)) parts.parent_is
+                      ∙ found (subst Known parts.parent_is known)) i;
+                  slash = parts.slash_is i;
+                  steps = steps_at nat_eq later reader (at parts.here steps) (Named (name_of place.last));
+                })),
+          )
+      by steps known (inr hidden) =
+          inr (
+            record {
+              deny = denial W4;
+              steps = steps_at nat_eq later reader (at parts.here steps)
+                  (Named (name_of place.last));
+            },
+            hidden.0,
+            hidden_so (search_rules nat_eq later reader parts.here.location) hidden.1,
+          )
+        where
+          hidden_so : (rules : Rules)
+              → ((answer : Result (Location ℕ) Deny) → unless rules answer ≡ Err (denial W4))
+              → stopped_by {A = Place ℕ} (steps_at nat_eq later reader (at parts.here steps)
+              (Named (name_of place.last)))
+              (and_then (unless rules (Ok (entry_location nat_eq later parts.here.location (name_of place.last)))) (λ o.
+              Ok (record {
+                parent = parts.here.location;
+                last = Named (name_of place.last);
+                object = o;
+                slash = ends_in_slash path;
+                steps = steps_at nat_eq later reader (at parts.here steps) (Named (name_of place.last));
+              })))
+              ≡ Err (record {
+                deny = denial W4;
+                steps = steps_at nat_eq later reader (at parts.here steps)
+                    (Named (name_of place.last));
+              })
+          hidden_so [] h = absurd (never (h (Ok place.parent)))
+            where
+              never : Path (Result (Location ℕ) Deny) (Ok place.parent) (Err (denial W4)) → ⊥
+              never e = cc
+          hidden_so ((true, rule) ∷ rows) h =
+              ap (λ d. Err (record {
+                deny = d;
+                steps = steps_at nat_eq later reader (at parts.here steps)
+                    (Named (name_of place.last));
+              }))
+              (same_deny (h (Ok place.parent)))
+            where
+              same_deny : Path (Result (Location ℕ) Deny) (Err (denial rule)) (Err (denial W4))
+                  → denial rule ≡ denial W4
+              same_deny e = cc
+          hidden_so ((false, rule) ∷ rows) h = hidden_so rows h
+
+-- what a task is answered by a judgement
+abbrev answer_of : Fresh ℕ → World ℕ → Task ℕ → Judgement ℕ → Result Answer Deny
+answer_of fresh world task judgement = (after world judgement (apply nat_eq fresh world task)).answer
+
+-- What a second open answers
+exclusive_refused : (world : World ℕ) (fresh : Fresh ℕ) (name : TaskName) (task : Task ℕ) (path : List ℕ)
+    (access : Access) (mode : ℕ)
+    (place : Place ℕ) → task_called world name ≡ Some task → nat_le most_descriptors (length task.descriptors) ≡ false
+    → new_walk nat_eq (looks_of nat_eq world) task path ≡ Ok place → is_special place.last ≡ false → place.slash ≡ false
+    → is_some place.object ≡ true
+    → (policy nat_eq fresh world name (OpenFile path access (Exclusive mode))).answer ≡ Err (denial E1)
+unfolding open_permit
+exclusive_refused world fresh name task path access mode place called room walk named no_slash there =
+    ap (λ o. (after world (ok_or o (denial S2)) (λ t.
+    finished nat_eq world name (OpenFile path access (Exclusive mode))
+    (filesystems_changed_by nat_eq world (judge_in nat_eq fresh world t (OpenFile path access (Exclusive mode))))
+    (call_outcome nat_eq fresh world t (OpenFile path access (Exclusive mode))))).answer) called
+    ∙ answer-finished_by _ world name _ (call_outcome nat_eq fresh world task (OpenFile path access (Exclusive mode)))
+    ∙ ap (λ b. answer_of fresh world task (unless ((b, S3) ∷ [])
+    (open_by_permit nat_eq (looks_of nat_eq world) task path access (Exclusive mode)))) room
+    ∙ ap (λ r. answer_of fresh world task (and_then (walk_end r) (λ (place : Place ℕ).
+    unless (exclusive_word_rules place) (create_file_permit nat_eq (looks_of nat_eq world) task place access mode)))) walk
+    ∙ (λ i. answer_of fresh world task (unless ((named i, E1) ∷ (no_slash i, E2) ∷ (there i, E1) ∷ [])
+    (create_file_permit nat_eq (looks_of nat_eq world) task place access mode)))
+
+module _ (path : List ℕ) (world : World ℕ) (fresh : Fresh ℕ) (name : TaskName) (task : Task ℕ) (access : Access)
+    (mode number : ℕ)
+    (is : IsWorld nat_eq world) (plain : IsPlain world) (serves : Serves nat_eq world fresh)
+    (called : task_called world name ≡ Some task)
+    (did : IsPermitted world fresh name (OpenFile path access (Exclusive mode)) (Opened number)) (place : Place ℕ)
+    (walk : new_walk nat_eq (looks_of nat_eq world) did.task path ≡ Ok place) (named : is_special place.last ≡ false)
+    (no_slash : place.slash ≡ false) (permit : did.permit ≡ open_new_permit did.task place access mode) where
+  abbrev call : Call
+  call = OpenFile path access (Exclusive mode)
+
+  abbrev later : World ℕ
+  later = (policy nat_eq fresh world name call).world
+
+  abbrev node : Node ℕ
+  node = new_file did.task mode []
+
+  abbrev parent : Location ℕ
+  parent = place.parent
+
+  abbrev entry : List ℕ
+  entry = name_of place.last
+
+  abbrev change : Change ℕ
+  change = Make parent.node entry (fresh 0) node
+
+  abbrev base : World ℕ
+  base = with_new_inode nat_eq fresh world parent entry node
+
+  abbrev new_task : Task ℕ
+  new_task = with_descriptor did.task (record { mount = parent.mount; node = fresh 0 }) access
+
+  own : task_called world did.task.name ≡ Some did.task
+  own = called_own world fresh name call (Opened number) is plain serves refl refl did
+
+  may : MayBeMade world parent entry node
+  may =
+      (subst (SeesTo world did.task) permit
+      (given_permits_are_seen_to world fresh did.task did.permit is plain (given_of world fresh name call
+      (Opened number) serves refl refl did))).0
+
+  something : is_some (node_at nat_eq world parent) ≡ true
+  something = directory_used (files_at nat_eq world parent).tree parent.node may.name_is_free.in_directory
+
+  tree : IsFileTree (files_at nat_eq world parent)
+  tree = tree_here world is parent may.name_is_free.in_directory
+
+  new : (files_at nat_eq world parent).tree.node (fresh 0) ≡ None
+  new = unused_inode world fresh serves is.files.numbers 0 (mount_at nat_eq world parent).filesystem
+
+  after_tree : IsListedTree (changed nat_eq (files_at nat_eq world parent) change)
+  after_tree = record {
+    tree = changes_keep_trees (files_at nat_eq world parent) change tree.tree
+        (given_changes_are_proper world fresh did.task did.permit parent change is plain
+        (given_of world fresh name call (Opened number) serves refl refl did) (ap (change_of fresh world) permit)).0;
+    numbers = changes_keep_numbers (files_at nat_eq world parent) change tree.numbers;
+  }
+
+  spent_is : spent world fresh name call (Opened number) is plain serves refl refl did ≡ with_task base new_task
+  spent_is = ap (λ p. (apply nat_eq fresh world did.task p).world) permit
+
+  settles : settled nat_eq (spent world fresh name call (Opened number) is plain serves refl refl did)
+      ≡ with_task base new_task
+  settles =
+      ap (λ p. settled nat_eq (apply nat_eq fresh world did.task p).world) permit
+      ∙ opened_new_keeps_all fresh world did.task parent entry node access
+      (worlds_are_settled world is) is.files.one_filesystem
+      is.tasks.one_task (contains_from_among world.tasks did.task (found_among (λ
+      (t : Task ℕ). same_name name t.name) world.tasks did.task did.called))
+      (listed (mount_at nat_eq world parent).filesystem world.filesystems parent.node something)
+      (ap is_some (plain_numbered world plain (mount_at nat_eq world parent).filesystem)) after_tree
+      (record { in_directory = may.name_is_free.in_directory; is_new = new }) may.name_is_free.free
+
+  mounts_stay : later.mounts ≡ world.mounts
+  mounts_stay =
+      ap (λ (w : World ℕ). w.mounts) did.left ∙ ap (λ (w : World ℕ). w.mounts) settles
+      ∙ change_mounts (odds fresh) world plain parent change
+
+  files_stay : (n : ℕ) → (filesystem_numbered nat_eq later n).files ≡ (filesystem_numbered nat_eq base n).files
+  files_stay n =
+      later_files world fresh name call (Opened number) is plain serves refl refl did n
+      ∙ ap (λ w. (filesystem_numbered nat_eq w n).files) settles
+
+  here_files : (filesystem_numbered nat_eq later (mount_at nat_eq world parent).filesystem).files ≡ changed nat_eq
+      (files_at nat_eq world parent) change
+  here_files =
+      files_stay (mount_at nat_eq world parent).filesystem
+      ∙ files_changed (odds fresh) world plain parent change something
+
+  other_files : (n : ℕ) → nat_eq (mount_at nat_eq world parent).filesystem n ≡ false
+      → (filesystem_numbered nat_eq later n).files ≡ (filesystem_numbered nat_eq world n).files
+  other_files n other = files_stay n ∙ files_other (odds fresh) world plain parent change n other
+
+  stays : WorldStays world later Never
+  stays =
+      stays_by world later (mount_at nat_eq world parent).filesystem
+      (changed nat_eq (files_at nat_eq world parent) change) mounts_stay
+      here_files other_files Never
+      (ways_made (files_at nat_eq world parent) Never parent.node entry
+      (fresh 0) may.name_is_free.in_directory may.name_is_free.free node new)
+
+  is_later : IsWorld nat_eq later × IsPlain later
+  is_later = later_is world fresh name call (Opened number) is plain serves refl refl did
+
+  caller_there : task_called later name ≡ Some (raised_task name new_task)
+  caller_there =
+      still_called world fresh name call (Opened number) is plain serves refl refl did name new_task
+      (ap (λ w. task_called w name) spent_is
+      ∙ called_replaced base name did.task new_task
+      (ap (find (λ (t : Task ℕ). same_name name t.name)) (change_tasks (odds fresh) world plain parent change)
+      ∙ did.called)
+      (sym (name_found world name did.task did.called)))
+
+  again_refused : (reader : TaskName) (reading : Task ℕ) → task_called later reader ≡ Some reading
+      → StandsAs did.task reading
+      → MayLook did.task reading → nat_le most_descriptors (length reading.descriptors) ≡ false
+      → (again : Access) (other : ℕ)
+      → (later_fresh : Fresh ℕ)
+      → (policy nat_eq later_fresh later reader (OpenFile path again (Exclusive other))).answer ≡ Err (denial E1)
+  again_refused reader reading found stands looks room again other later_fresh = by
+      (place_too (looks_of nat_eq world) (looks_of nat_eq later) did.task reading Never _ leads path place named
+      (named_place (looks_of nat_eq world) did.task path place
+      (new_parts (looks_of nat_eq world) did.task path place walk) named)
+      (Some (record { mount = parent.mount; node = fresh 0 })) there)
+    where
+      self : task_called later reading.name ≡ Some reading
+      self = own_name later reader reading found
+
+      at_node : (here : Location ℕ) → node_at nat_eq later here
+          ≡ node_in later (mount_at nat_eq world here).filesystem here.node
+      at_node here =
+          node_here world later is plain is_later.0 is_later.1 did.task reading own self stands Never stays here
+
+      leads : LeadsToo (looks_of nat_eq world) (looks_of nat_eq later) did.task reading Never
+          (Known world later is plain is_later.0 is_later.1 did.task reading own
+          (own_name later reader reading found) stands Never stays)
+      leads =
+          world_leads world later is plain is_later.0 is_later.1 did.task reading own self stands Never stays
+          (λ here known directory e. inl (searched here known directory e looks))
+        where
+          searched : (here : Location ℕ) → Known world later is plain is_later.0 is_later.1 did.task reading own
+              (own_name later reader reading found) stands Never stays here
+              → is_directory_at nat_eq world here ≡ true
+              → Look.may (looks_of nat_eq world) did.task here execute_right ≡ true
+              → MayLook did.task reading
+              → Look.may (looks_of nat_eq later) reading here execute_right ≡ true
+          searched here known directory e (inr all) =
+              search_all reading.credentials all (node_at nat_eq later here)
+              (ap is_directory_node (at_node here)
+              ∙ stays.directory (mount_at nat_eq world here).filesystem here.node known.0.1
+              (ap is_some (sym (at_node here))
+              ∙ known.1.1) ∙ directory)
+          searched here known directory e (inl same) =
+              ap (λ who. node_allows who execute_right (node_at nat_eq later here)) same
+              ∙ ap (node_allows did.task.credentials execute_right) (at_node here)
+              ∙ rights_by world later (mount_at nat_eq world parent).filesystem (changed nat_eq
+              (files_at nat_eq world parent) change) mounts_stay
+              here_files other_files
+              (rights_made (files_at nat_eq world parent) Never parent.node entry
+              (fresh 0) may.name_is_free.in_directory may.name_is_free.free node new)
+              (mount_at nat_eq world here).filesystem here.node execute_right did.task.credentials known.0.1 ∙ e
+
+      there : Known world later is plain is_later.0 is_later.1 did.task reading own
+          (own_name later reader reading found) stands Never stays parent
+          → entry_location nat_eq (looks_of nat_eq later) parent entry
+          ≡ Some (record { mount = parent.mount; node = fresh 0 })
+      there known =
+          ap (λ o. option_map {U = Location ℕ} (λ object. record { mount = parent.mount; node = object })
+          (entry_named entry
+          (entries_in o)))
+          (at_node parent ∙ ap (λ (f : FileTree ℕ). f.tree.node parent.node) here_files)
+          ∙ ap (option_map {U = Location ℕ} (λ object. record { mount = parent.mount; node = object }))
+          (made_entry (files_at nat_eq world parent) Never parent.node entry
+          (fresh 0) may.name_is_free.in_directory may.name_is_free.free node new)
+
+      by : ((steps : List (List ℕ)) × (place_walk nat_eq (looks_of nat_eq later) reading path ≡ Ok (record {
+        parent = place.parent;
+        last = place.last;
+        object = Some (record { mount = parent.mount; node = fresh 0 });
+        slash = place.slash;
+        steps = steps;
+      }))) ⊎ Stops Never (place_walk nat_eq (looks_of nat_eq later) reading path)
+          → (policy nat_eq later_fresh later reader (OpenFile path again (Exclusive other))).answer ≡ Err (denial E1)
+      by (inl e) =
+          exclusive_refused later later_fresh reader reading path again other _ found room
+          (ap (λ r. then_walk r (λ p. walk_unless p.steps
+          (new_name_rules nat_eq (looks_of nat_eq later) p) p)) e.1) named no_slash refl
+      by (inr stop) = absurd stop.1
+
+pub exclusive_twice : ExclusiveTwice
+exclusive_twice path world fresh name task access again mode other number is plain serves called granted = (
+  λ now there room later_fresh.
+      again_refused path world fresh name task access mode number is plain serves called did facts.0 facts.1 facts.2
+      facts.3 facts.4
+      name now there (subst (StandsAs did.task) (same_Some _ now (sym caller_here ∙ there)) raised_stands_so)
+      (inl (ap (λ (t : Task ℕ). t.credentials) (sym (same_Some _ now (sym caller_here ∙ there)))
+      ∙ raised_credentials name
+      (with_descriptor did.task
+      (record { mount = facts.0.parent.mount; node = fresh 0 }) access))) room again other later_fresh,
+  λ reader reading looks room later_fresh.
+      again_refused path world fresh name task access mode number is plain serves called did facts.0 facts.1 facts.2
+      facts.3 facts.4
+      reader reading looks.called (subst (λ t. StandsAs t reading) (sym task_is)
+      (all_stands _ task reader reading looks))
+      (inr looks.all) room again other later_fresh,
+)
+  where
+    did : IsPermitted world fresh name (OpenFile path access (Exclusive mode)) (Opened number)
+    did = permitted world fresh name (OpenFile path access (Exclusive mode)) (Opened number) refl granted
+
+    task_is : did.task ≡ task
+    task_is = same_Some did.task task (sym did.called ∙ called)
+
+    facts : (place : Place ℕ) × (new_walk nat_eq (looks_of nat_eq world) did.task path ≡ Ok place)
+        × (is_special place.last ≡ false)
+        × (place.slash ≡ false) × (did.permit ≡ open_new_permit did.task place access mode)
+    facts = exclusive_parts (looks_of nat_eq world) did.task path access mode did.permit did.granted
+
+    caller_here : task_called (policy nat_eq fresh world name (OpenFile path access (Exclusive mode))).world name
+        ≡ Some (raised_task name (with_descriptor did.task
+        (record { mount = facts.0.parent.mount; node = fresh 0 }) access))
+    caller_here =
+        caller_there path world fresh name task access mode number is plain serves called did facts.0 facts.1 facts.2
+        facts.3 facts.4
+
+    raised_stands_so : StandsAs did.task (raised_task name (with_descriptor did.task
+        (record { mount = facts.0.parent.mount; node = fresh 0 }) access))
+    raised_stands_so =
+        let raised = raised_stands name
+        (with_descriptor did.task (record { mount = facts.0.parent.mount; node = fresh 0 }) access) in
+        record { root = raised.root; directory = raised.directory }

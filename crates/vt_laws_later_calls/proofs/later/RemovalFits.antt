@@ -1,0 +1,427 @@
+-- After a granted rmdir ways up stay, but from the directory that was removed: there is W8, or no walk comes there.
+use Rattle.std.proofs.Common.{◌≡◌, ◌≢◌, refl, sym, ap, subst, ◌∙◌, inl, inr, ◌⊎◌, ⊎_elim, true≢false, ℕ, nat_eq, eqb-true, eq-eqb, Bool, true, false, not, ◌&&◌, ◌||◌, List, [], length, Option, Some, None, is_some}
+use Rattle.std.specs.List.{list_all, list_any}
+use Rattle.std.specs.Prelude.{option_map, option_to_list}
+use Rattle.std.proofs.lemmas.Bool.{and_from, and_parts, not-false, or_parts, or_right}
+use Rattle.std.proofs.lemmas.Option.{same_Some}
+use Rattle.vt_spec.specs.declared.errors.Deny.{Deny}
+use Rattle.vt_spec.specs.declared.errors.Rule.TheVariants.{W8}
+use Rattle.vt_spec.specs.Errors.{denial}
+use Rattle.vt_spec.specs.FileTree.{FileTree, is_directory_under, is_removed}
+use Rattle.vt_spec.specs.Language.Answers.{Answer}
+use Rattle.vt_spec.specs.Language.Calls.{Call, TaskName}
+use Rattle.vt_spec.specs.Lists.{Fresh, holds_of}
+use Rattle.vt_spec.specs.Machine.Detach.{is_point, mounts_on, points_of, upper_points}
+use Rattle.vt_spec.specs.Machine.Invariants.{IsWorld, is_nowhere_or_attached}
+use Rattle.vt_spec.specs.Machine.Locked.{of_overlay}
+use Rattle.vt_spec.specs.Machine.Mounts.{Location, Mount, child_at, root_of, same_location, stands_at, topmost}
+use Rattle.vt_spec.specs.Machine.Permits.Permit.{ToRemoveDirectory}
+use Rattle.vt_spec.specs.Machine.Run.{Serves}
+use Rattle.vt_spec.proofs.Walk.{hop, is_lost, parent_location}
+use Rattle.vt_spec.specs.Machine.World.{Task, World, files_at, filesystem_at, filesystem_numbered, mount_at, mount_numbered, node_at}
+use Rattle.vt_spec.specs.Tree.{Tree, entries_in, entry_named, is_directory_node, parent_in}
+use Rattle.vt_spec.specs.TreeInvariant.{entry_at}
+use Rattle.vt_spec.proofs.Lists.{Among, among-filter, among_from_list_all, any_from_among}
+use Rattle.vt_spec.proofs.Nodes.{directory_used, none_is_not}
+use Rattle.vt_spec.proofs.Trees.{reached_named}
+use Rattle.vt_laws_letting_go.proofs.leaving.PlacesLeft.{nowhere_parts}
+use Rattle.vt_laws_mounts.proofs.mounts.MountsFound.{found_in, placed_among}
+use Rattle.vt_laws_mounts.proofs.mounts.MountsReplaced.{found_itself}
+use Rattle.vt_laws_permits.proofs.sees.SeesNames.{tree_here}
+use Rattle.vt_laws_trees.specs.Trees.{IsFileTree}
+use Rattle.vt_laws_trees.specs.Trees.Calls.{mounts_overlay}
+use Rattle.vt_laws_trees.specs.Trees.Limits.{names_few_groups}
+use Rattle.vt_laws_trees.proofs.trees.TreesEntered.{chain_ends}
+use Rattle.vt_laws_trees.proofs.trees.TreesOfWorlds.{number_numbered}
+use Rattle.vt_laws_trees.proofs.trees.TreesReached.{not_removed_reached}
+use Rattle.vt_laws_worlds.specs.Worlds.Kept.{IsPlain}
+use Rattle.vt_laws_worlds.proofs.worlds.Reached.{IsFoundDirectory}
+use Rattle.vt_laws_later_calls.proofs.later.AfterRemoval.{each, is_left, left, may, mounts_seen, node_left, reaches, root_left, seen_to, shown, spent, spent_shown}
+use Rattle.vt_laws_later_calls.proofs.Granted.{IsPermitted}
+use Rattle.vt_laws_later_calls.proofs.later.WaysLeft.{BothAre, FitsWays, GoesUp, top}
+use Rattle.vt_laws_later_calls.proofs.later.WaysMounts.{SeenAlike, hop_known, hop_place}
+use Rattle.vt_laws_later_calls.proofs.later.WaysRemoved.{nothing_in_it, removed_alone, removed_name}
+use Rattle.vt_laws_later_calls.proofs.WaysStay.{mount_root, node_in, tree_in}
+use Rattle.vt_laws_later_calls.proofs.WaysTrees.{DirectoryNamesStay, KeepsAbove, present_later, under_later}
+use Rattle.vt_spec.proofs.NodeChanges.{directory_from_entry}
+use Rattle.vt_spec.proofs.Truths.{or_false_left}
+
+module _ (world : World ℕ) (fresh : Fresh ℕ) (name : TaskName) (call : Call) (answer : Answer)
+    (is : IsWorld nat_eq world) (plain : IsPlain world) (serves : Serves nat_eq world fresh)
+    (other : mounts_overlay call ≡ false) (few : names_few_groups call ≡ true)
+    (did : IsPermitted world fresh name call answer) (parent : Location ℕ) (word : List ℕ) (object : Location ℕ)
+    (permit_is : did.permit ≡ ToRemoveDirectory parent word object) (reader : Task ℕ)
+    (roots : reader.root ≡ did.task.root) where
+  abbrev later : World ℕ
+  later = left world fresh name call answer is plain serves other few did parent word object permit_is
+
+  abbrev fs : ℕ
+  fs = shown world fresh name call answer is plain serves other few did parent word object permit_is
+
+  abbrev pub is_later : IsWorld nat_eq later × IsPlain later
+  is_later = is_left world fresh name call answer is plain serves other few did parent word object permit_is
+
+  abbrev spent_world : World ℕ
+  spent_world = spent world fresh name call answer is plain serves other few did parent word object permit_is
+
+  abbrev tree : Tree ℕ
+  tree = (files_at nat_eq world parent).tree
+
+  parent_directory : is_directory_node (tree.node parent.node) ≡ true
+  parent_directory =
+      directory_from_entry word object.node (tree.node parent.node)
+      (may world fresh name call answer is plain serves other few did parent word object permit_is).named
+
+  file_tree : IsFileTree (files_at nat_eq world parent)
+  file_tree = tree_here world is parent parent_directory
+
+  -- the directory that was removed
+  abbrev pub IsRemoved : Location ℕ → Type 0
+  IsRemoved here = ((mount_at nat_eq world here).filesystem ≡ fs) × (here.node ≡ object.node)
+
+  abbrev ends_at : Location ℕ → Bool
+  ends_at here = same_location nat_eq here did.task.root || nat_eq here.node (mount_at nat_eq world here).root
+
+  -- it is not that, or `..` stays there
+  abbrev pub IsOutside : Location ℕ → Type 0
+  IsOutside here = IsRemoved here
+      → (same_location nat_eq here did.task.root || nat_eq here.node (mount_at nat_eq world here).root) ≡ true
+
+  -- what has entries is not that
+  not_above : (number : ℕ) (any : List ℕ) (next : ℕ) → number ≡ fs
+      → entry_at (tree_in world number) object.node any ≡ Some next → ⊥
+  not_above number any next same e =
+      nothing_in_it (files_at nat_eq world parent) parent.node word object.node
+      (may world fresh name call answer is plain serves other few did parent word object permit_is) any next
+      (ap (λ n. entry_at (tree_in world n) object.node any) (sym same) ∙ e)
+
+  not_root : object.node ≢ tree.root
+  not_root same =
+      file_tree.tree.root_unnamed parent.node word
+      ((may world fresh name call answer is plain serves other few did parent word object permit_is).named
+      ∙ ap Some same)
+
+  module _ (here : Location ℕ) (known : BothAre world later is plain is_later.0 is_later.1 did.task reader here) where
+    abbrev number : ℕ
+    number = (mount_at nat_eq world here).filesystem
+
+    alike : SeenAlike (mount_at nat_eq world here) (mount_at nat_eq later here)
+    alike =
+        (mounts_seen world fresh name call answer is plain serves other few did parent word object permit_is reader
+        roots).own
+        here.mount known.0.0 known.1.0.0
+
+    files_here : files_at nat_eq later here ≡ (filesystem_numbered nat_eq later number).files
+    files_here = ap (λ n. (filesystem_numbered nat_eq later n).files) alike.filesystem
+
+    there : is_some (node_in later number here.node) ≡ true
+    there =
+        ap (λ (f : FileTree ℕ). is_some (f.tree.node here.node)) (sym files_here)
+        ∙ directory_used (files_at nat_eq later here).tree here.node known.1.1
+
+    as_spent : node_in later number here.node ≡ node_in spent_world number here.node
+    as_spent =
+        node_left world fresh name call answer is plain serves other few did parent word object permit_is number
+        here.node there
+
+    tree_later : IsFileTree (filesystem_numbered nat_eq later number).files
+    tree_later = subst IsFileTree files_here (tree_here later is_later.0 here known.1.1)
+
+    tree_before : IsFileTree (filesystem_numbered nat_eq world number).files
+    tree_before = tree_here world is here known.0.1
+
+    root_same : (tree_in later number).root ≡ (tree_in world number).root
+    root_same =
+        root_left world fresh name call answer is plain serves other few did parent word object permit_is number
+        here.node there
+
+    -- from it `..` leads nowhere
+    lost_there : IsRemoved here → is_lost nat_eq later here ≡ true
+    lost_there removed =
+        ap (λ b. b || not (is_directory_under nat_eq
+        (filesystem_numbered nat_eq later (mount_at nat_eq later here).filesystem).files
+        (mount_at nat_eq later here).root here.node))
+        (ap (λ (f : FileTree ℕ). is_removed nat_eq f.tree here.node) files_here
+        ∙ ap (is_removed nat_eq (tree_in later number)) removed.1
+        ∙ removed_alone (files_at nat_eq world parent) parent.node word object.node
+        (may world fresh name call answer is plain serves other few did parent word object permit_is)
+        (tree_in later number)
+        (ap (λ n. node_in later number n) (sym removed.1) ∙ as_spent
+        ∙ (λ i. node_in spent_world (removed.0 i) (removed.1 i))
+        ∙ ap (λ (f : FileTree ℕ). f.tree.node object.node)
+        (spent_shown world fresh name call answer is plain serves other few did parent word object permit_is))
+        (λ same. not_root (same ∙ root_same ∙ ap (λ n. (tree_in world n).root) removed.0)))
+
+    -- from another one it leads where it led
+    abbrev Keeps : ℕ → Type 0
+    Keeps n = number ≡ fs → n ≢ object.node
+
+    above : KeepsAbove Keeps (tree_in world number)
+    above directory any next e keeps same at =
+        not_above number any next same (ap (λ n. entry_at (tree_in world number) n any) (sym at) ∙ e)
+
+    names : DirectoryNamesStay Keeps (tree_in world number) (tree_in later number)
+    names directory any next e is_one keeps now =
+        by ((each world fresh name call answer is plain serves other few did parent word object permit_is number).entry
+        directory any next e)
+      where
+        node : node_in later number directory ≡ node_in spent_world number directory
+        node =
+            node_left world fresh name call answer is plain serves other few did parent word object permit_is number
+            directory now
+
+        by : (entry_at (tree_in spent_world number) directory any ≡ Some next)
+            ⊎ ((entry_at (tree_in spent_world number) directory any ≡ None)
+            × (number ≡ fs) × (next ≡ object.node))
+            → entry_at (tree_in later number) directory any ≡ Some next
+        by (inl same) = ap (λ o. entry_named any (entries_in o)) node ∙ same
+        by (inr lost) = absurd (keeps lost.1 lost.2)
+
+    goes_up : Keeps here.node → is_lost nat_eq world here ≡ false
+        → GoesUp world later is plain is_later.0 is_later.1 did.task reader here
+    goes_up keeps found = record {
+      parent = ap (λ (f : FileTree ℕ). parent_in here.node (f.tree.node here.node)) files_here
+          ∙ ap (parent_in here.node) as_spent
+          ∙ (each world fresh name call answer is plain serves other few did parent word object permit_is
+          number).parents here.node keeps;
+      not_lost =
+          (λ i. is_removed nat_eq (files_here i).tree here.node
+          || not (is_directory_under nat_eq (files_here i) (alike.root i) here.node))
+          ∙ (λ i. present i || not (under i));
+    }
+      where
+        parts : (is_removed nat_eq (tree_in world number) here.node ≡ false)
+            × (not (is_directory_under nat_eq (filesystem_numbered nat_eq world number).files
+            (mount_at nat_eq world here).root here.node) ≡ false)
+        parts = or_parts _ _ found
+
+        now_directory : is_directory_node (node_in later number here.node) ≡ true
+        now_directory = ap (λ (f : FileTree ℕ). is_directory_node (f.tree.node here.node)) (sym files_here) ∙ known.1.1
+
+        root_there : is_some (node_in later number (mount_at nat_eq world here).root) ≡ true
+        root_there =
+            (λ i. is_some (node_in later (sym alike.filesystem i) (sym alike.root i)))
+            ∙ directory_used (files_at nat_eq later here).tree (mount_at nat_eq later here).root
+            (mount_root later is_later.0 here.mount known.1.0.0)
+
+        present : is_removed nat_eq (tree_in later number) here.node ≡ false
+        present =
+            present_later Keeps (filesystem_numbered nat_eq world number).files
+            (filesystem_numbered nat_eq later number).files tree_before.tree
+            tree_later root_same above names
+            (mount_at nat_eq world here).root here.node known.0.1 now_directory keeps root_there parts.0
+            (not-false _ parts.1)
+
+        under : is_directory_under nat_eq (filesystem_numbered nat_eq later number).files
+            (mount_at nat_eq world here).root here.node ≡ true
+        under =
+            under_later Keeps (filesystem_numbered nat_eq world number).files
+            (filesystem_numbered nat_eq later number).files tree_before.tree
+            tree_later root_same above names
+            (mount_at nat_eq world here).root here.node known.0.1 now_directory keeps root_there parts.0
+            (not-false _ parts.1)
+
+    -- and never to it
+    up_outside : is_lost nat_eq world here ≡ false → IsRemoved (parent_location nat_eq world here) → ⊥
+    up_outside found removed =
+        ⊎_elim
+        (λ root. not_root (sym removed.1
+        ∙ ap (λ n. parent_in n (node_in world number n)) (sym root)
+        ∙ tree_before.tree.root_parent ∙ ap (λ n. (tree_in world n).root) removed.0))
+        (λ named. not_above number named.1 here.node removed.0
+        (ap (λ n. entry_at (tree_in world number) n named.1)
+        (sym removed.1 ∙ tree_before.tree.one_parent named.0 named.1 here.node named.2 known.0.1)
+        ∙ named.2))
+        (reached_named (tree_in world number) here.node
+        (not_removed_reached (tree_in world number) tree_before.tree here.node known.0.1 (or_false_left _ _ found)))
+
+    -- its name leads there no longer
+    name_outside : (any : List ℕ) → entry_named any (entries_in (node_at nat_eq world here)) ≡ Some object.node
+        → entry_named any (entries_in (node_at nat_eq later here)) ≡ Some object.node → number ≡ fs → ⊥
+    name_outside any e f same =
+        none_is_not (entry_named any (entries_in (node_at nat_eq later here))) object.node
+        (ap (λ (t : FileTree ℕ). entry_named any (entries_in (t.tree.node here.node))) files_here
+        ∙ ap (λ o. entry_named any (entries_in o)) as_spent
+        ∙ (λ i. entry_at (tree_in spent_world (same i)) (at i) (word_is i))
+        ∙ ap (λ (t : FileTree ℕ). entry_at t.tree parent.node word)
+        (spent_shown world fresh name call answer is plain serves other few did parent word object permit_is)
+        ∙ removed_name (files_at nat_eq world parent) parent.node word object.node
+        (may world fresh name call answer is plain serves other few did parent word object permit_is))
+        f
+      where
+        named : entry_at tree here.node any ≡ Some object.node
+        named = ap (λ n. entry_at (tree_in world n) here.node any) (sym same) ∙ e
+
+        is_directory : is_directory_node (tree.node object.node) ≡ true
+        is_directory =
+            let seen =
+            seen_to world fresh name call answer is plain serves other few did parent word object permit_is in
+            ap (λ m. is_directory_node (node_in world (mount_numbered nat_eq world m).filesystem object.node))
+            (sym seen.0) ∙ seen.2
+
+        at : here.node ≡ parent.node
+        at =
+            sym (file_tree.tree.one_parent here.node any object.node named is_directory)
+            ∙ file_tree.tree.one_parent parent.node word object.node
+            (may world fresh name call answer is plain serves other few did parent word object permit_is).named
+            is_directory
+
+        word_is : any ≡ word
+        word_is =
+            file_tree.tree.one_name parent.node any word object.node (ap (λ n. entry_at tree n any) (sym at) ∙ named)
+            (may world fresh name call answer is plain serves other few did parent word object permit_is).named
+            is_directory
+
+  -- Mounts
+  root_outside : (a b : Location ℕ) → option_map root_of (child_at nat_eq world.mounts a) ≡ Some b → IsOutside b
+  root_outside a b e removed = by (child_at nat_eq world.mounts a) refl e
+    where
+      by : (o : Option (Mount ℕ)) → child_at nat_eq world.mounts a ≡ o → option_map root_of o ≡ Some b
+          → ends_at b ≡ true
+      by None f h = none_is_not None b refl h
+      by (Some mount) f h =
+          let found = found_in (stands_at nat_eq a) world.mounts mount f in
+          let itself = found_itself world.mounts is.mounts.one_number mount found.0 in
+          subst (λ (l : Location ℕ). ends_at l ≡ true) (same_Some (root_of mount) b h)
+          (or_right (same_location nat_eq (root_of mount) did.task.root) _
+          (eq-eqb mount.root (mount_numbered nat_eq world mount.number).root
+          (ap (λ (m : Mount ℕ). m.root) (sym itself))))
+
+  over_outside : (place : Location ℕ) → IsOutside place → IsOutside (topmost nat_eq world.mounts place)
+  over_outside place outside =
+      chain_ends IsOutside (λ here. option_map root_of (child_at nat_eq world.mounts here))
+      (λ a b out e. root_outside a b e)
+      (length world.mounts) place place outside
+
+  -- no mount of the task's namespace stands on it
+  place_outside : (a b : Location ℕ) → IsFoundDirectory world is did.task a → hop nat_eq world did.task a ≡ Some b
+      → IsRemoved b → ⊥
+  place_outside a b found e removed =
+      true≢false
+      (sym (any_from_among (λ (m : Mount ℕ). holds_of (nat_eq did.task.namespace) m.namespace)
+      (mounts_on nat_eq world object) mount
+      (among-filter (λ (m : Mount ℕ). list_any (λ point. is_point nat_eq world point.0 point.1 m)
+      (points_of nat_eq world object)) world.mounts mount
+      there on_it) own)
+      ∙ (reaches world fresh name call answer is plain serves other few did parent word object permit_is).1)
+    where
+      mount : Mount ℕ
+      mount = mount_at nat_eq world a
+
+      at : (mount_at nat_eq world a).mount_point ≡ Some b
+      at = hop_place world is did.task a b e
+
+      there : Among (mount_at nat_eq world a) world.mounts
+      there = placed_among world.mounts a.mount b at
+
+      same_mount : object.mount ≡ parent.mount
+      same_mount = (seen_to world fresh name call answer is plain serves other few did parent word object permit_is).0
+
+      number_is : (mount_at nat_eq world b).filesystem ≡ (filesystem_at nat_eq world object).number
+      number_is =
+          removed.0
+          ∙ ap (λ m. (mount_numbered nat_eq world m).filesystem) (sym same_mount)
+          ∙ sym (number_numbered (mount_at nat_eq world object).filesystem world.filesystems)
+
+      on_it : list_any (λ point. is_point nat_eq world point.0 point.1 (mount_at nat_eq world a))
+          (points_of nat_eq world object) ≡ true
+      on_it =
+          ap (λ b. b || list_any (λ point. is_point nat_eq world point.0 point.1 (mount_at nat_eq world a))
+          (of_overlay [] (λ overlay. upper_points world (filesystem_at nat_eq world object) overlay object.node)
+          (filesystem_at nat_eq world object)))
+          (ap (holds_of (λ place. nat_eq place.node object.node
+          && nat_eq (mount_at nat_eq world place).filesystem (filesystem_at nat_eq world object).number)) at
+          ∙ and_from _ _ (eq-eqb b.node object.node removed.1)
+          (eq-eqb (mount_at nat_eq world b).filesystem (filesystem_at nat_eq world object).number number_is))
+
+      own : holds_of (nat_eq did.task.namespace) (mount_at nat_eq world a).namespace ≡ true
+      own = by (mount_at nat_eq world a).namespace refl found.0.1
+        where
+          by : (o : Option ℕ) → (mount_at nat_eq world a).namespace ≡ o
+              → list_all (nat_eq did.task.namespace) (option_to_list o) ≡ true
+              → holds_of (nat_eq did.task.namespace) (mount_at nat_eq world a).namespace ≡ true
+          by None f g = absurd (nowhere_unplaced_here f)
+            where
+              nowhere_unplaced_here : (mount_at nat_eq world a).namespace ≡ None → ⊥
+              nowhere_unplaced_here none =
+                  true≢false (sym (ap is_some at)
+                  ∙ (nowhere_parts (mount_at nat_eq world a)
+                  (among_from_list_all is_nowhere_or_attached world.mounts is.mounts.nowhere
+                  (mount_at nat_eq world a) there) (ap is_some none)).0)
+          by (Some n) f g = ap (holds_of (nat_eq did.task.namespace)) f ∙ (and_parts _ _ g).0
+
+  top_outside : (here : Location ℕ) → IsFoundDirectory world is did.task here → IsOutside here
+      → IsOutside (top world later is plain is_later.0 is_later.1 did.task reader here)
+  top_outside here found outside =
+      (chain_ends (λ (l : Location ℕ). IsFoundDirectory world is did.task l × IsOutside l) (hop nat_eq world did.task)
+      (λ a b both e. (hop_known world is did.task a b both.0 e, λ removed. absurd (place_outside a b both.0 e removed)))
+      (length world.mounts) here here (found, outside)).1
+
+  -- So ways up stay, where no walk begins in it, or W8 may be the refusal
+  module _ (Refused : Deny → Type 0) where
+    abbrev pub Fits : Location ℕ → Type 0
+    Fits here = Refused (denial W8) ⊎ IsOutside here
+
+    up_fits : (here : Location ℕ) → BothAre world later is plain is_later.0 is_later.1 did.task reader here → Fits here
+        → ends_at here ≡ false
+        → is_lost nat_eq world here ≡ false
+        → (GoesUp world later is plain is_later.0 is_later.1 did.task reader here
+        × Fits (parent_location nat_eq world here))
+        ⊎ (Refused (denial W8) × (is_lost nat_eq later here ≡ true))
+    up_fits here known fits not_top found =
+        by (nat_eq (mount_at nat_eq world here).filesystem fs) (nat_eq here.node object.node) refl refl
+      where
+        at_it : IsRemoved here → Fits here
+            → (GoesUp world later is plain is_later.0 is_later.1 did.task reader here
+            × Fits (parent_location nat_eq world here))
+            ⊎ (Refused (denial W8) × (is_lost nat_eq later here ≡ true))
+        at_it removed (inl refused) = inr (refused, lost_there here known removed)
+        at_it removed (inr outside) = absurd (true≢false (sym (outside removed) ∙ not_top))
+
+        elsewhere : ((mount_at nat_eq world here).filesystem ≡ fs → here.node ≢ object.node)
+            → (GoesUp world later is plain is_later.0 is_later.1 did.task reader here
+            × Fits (parent_location nat_eq world here))
+            ⊎ (Refused (denial W8) × (is_lost nat_eq later here ≡ true))
+        elsewhere keeps = inl (
+          goes_up here known keeps found,
+          inr
+              (λ removed. absurd (up_outside here known found removed)),
+        )
+
+        by : (p q : Bool) → nat_eq (mount_at nat_eq world here).filesystem fs ≡ p → nat_eq here.node object.node ≡ q
+            → (GoesUp world later is plain is_later.0 is_later.1 did.task reader here
+            × Fits (parent_location nat_eq world here))
+            ⊎ (Refused (denial W8) × (is_lost nat_eq later here ≡ true))
+        by true true e f = at_it (eqb-true _ _ e, eqb-true _ _ f) fits
+        by true false e f = elsewhere (λ same same_node.
+            absurd (true≢false (sym (eq-eqb here.node object.node same_node) ∙ f)))
+        by false q e f = elsewhere (λ same same_node.
+            absurd (true≢false (sym (eq-eqb (mount_at nat_eq world here).filesystem fs same) ∙ e)))
+
+    pub fits_ways : FitsWays world later is plain is_later.0 is_later.1 did.task reader Refused Fits
+    fits_ways = record {
+      named = λ here any next known fits e f. named here any next known e f fits;
+      over = λ place own fits. over place fits;
+      hopped = λ here known fits. hopped here known fits;
+      up = up_fits;
+    }
+      where
+        named : (here : Location ℕ) (any : List ℕ) (next : ℕ)
+            → BothAre world later is plain is_later.0 is_later.1 did.task reader here
+            → entry_named any (entries_in (node_at nat_eq world here)) ≡ Some next
+            → entry_named any (entries_in (node_at nat_eq later here)) ≡ Some next
+            → Fits here → Fits (record { mount = here.mount; node = next })
+        named here any next known e f (inl refused) = inl refused
+        named here any next known e f (inr outside) =
+            inr (λ removed. absurd (name_outside here known any (e ∙ ap Some removed.1)
+            (f ∙ ap Some removed.1) removed.0))
+
+        over : (place : Location ℕ) → Fits place → Fits (topmost nat_eq world.mounts place)
+        over place (inl refused) = inl refused
+        over place (inr outside) = inr (over_outside place outside)
+
+        hopped : (here : Location ℕ) → BothAre world later is plain is_later.0 is_later.1 did.task reader here
+            → Fits here
+            → Fits (top world later is plain is_later.0 is_later.1 did.task reader here)
+        hopped here known (inl refused) = inl refused
+        hopped here known (inr outside) = inr (top_outside here known.0 outside)

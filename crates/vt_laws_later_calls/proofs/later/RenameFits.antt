@@ -1,0 +1,390 @@
+-- After a granted rename of a directory to a free name walks that begin outside of it lead where they led.
+use Rattle.std.proofs.Common.{◌≡◌, ◌≢◌, refl, sym, ap, subst, ◌∙◌, inl, inr, ◌⊎◌, true≢false, ℕ, nat_eq, eqb-true, eq-eqb, Bool, true, false, cond, List, [], ◌∷◌, ◌++◌, length, find, Option, Some, None, is_some}
+use Rattle.std.specs.List.{list_all}
+use Rattle.std.specs.Prelude.{option_map, option_to_list}
+use Rattle.std.proofs.lemmas.Bool.{and_from, and_parts}
+use Rattle.std.proofs.lemmas.Option.{same_Some}
+use Rattle.vt_spec.specs.declared.attributes.Kind.TheVariants.{Symlink as SymlinkKind}
+use Rattle.vt_spec.specs.declared.errors.Deny.{Deny}
+use Rattle.vt_spec.specs.declared.errors.Rule.TheVariants.{W6}
+use Rattle.vt_spec.specs.Errors.{denial}
+use Rattle.vt_spec.specs.FileTree.{FileTree, attr_in, is_directory_under, is_kind, kind_in, symlink_text}
+use Rattle.vt_spec.specs.Language.Answers.{Answer}
+use Rattle.vt_spec.specs.Language.Calls.{Call, TaskName, same_name}
+use Rattle.vt_spec.specs.Language.Changes.{Change, changed, changed_node, node_with_parent, node_without_entry, with_name, without_name, without_parent}
+use Rattle.vt_spec.specs.Language.Changes.Change.{Move}
+use Rattle.vt_spec.specs.Lists.{Fresh, when}
+use Rattle.vt_spec.specs.Machine.Apply.{apply}
+use Rattle.vt_spec.specs.Machine.Filesystems.{with_change}
+use Rattle.vt_spec.specs.Machine.Invariants.{IsWorld, is_nowhere_or_attached}
+use Rattle.vt_spec.specs.Machine.Looks.{looks_of}
+use Rattle.vt_spec.specs.Machine.Mounts.{Location, Mount, child_at, root_of, stands_at, topmost}
+use Rattle.vt_spec.specs.Machine.Permits.Permit.{ToRename}
+use Rattle.vt_spec.specs.Machine.Policy.{raised_task}
+use Rattle.vt_spec.specs.Machine.Rightful.{node_allows}
+use Rattle.vt_spec.specs.Machine.Rules.Conditions.{is_mount_point_anywhere}
+use Rattle.vt_spec.specs.Machine.Run.{Serves}
+use Rattle.vt_spec.proofs.Walk.{hop}
+use Rattle.vt_spec.specs.Machine.World.{Task, World, files_at, filesystem_numbered, mount_at, node_at, task_called}
+use Rattle.vt_spec.specs.Rights.{Credentials, allows}
+use Rattle.vt_spec.specs.Tree.{Node, Tree, bytes_in, entries_in, entry_named, is_directory_node, node_with_entry, parent_in}
+use Rattle.vt_spec.specs.TreeInvariant.{IsReached, entry_at, led}
+use Rattle.vt_spec.proofs.Lists.{Among, among_from_list_all, contains_from_among}
+use Rattle.vt_spec.proofs.Nodes.{directory_used, none_is_not, parent-node_with_entry}
+use Rattle.vt_spec.proofs.Trees.{found, led-append}
+use Rattle.vt_laws_calls.specs.Inodes.{change_of}
+use Rattle.vt_laws_layers.proofs.layers.CopyingNames.{moved_part}
+use Rattle.vt_laws_layers.proofs.views.Entries.{is_entry, is_that_entry}
+use Rattle.vt_laws_layers.proofs.views.Moves.{led_parts, move_told, no_way_up}
+use Rattle.vt_laws_letting_go.specs.FileChanges.{IsMoved}
+use Rattle.vt_laws_letting_go.proofs.leaving.PlacesLeft.{nowhere_parts}
+use Rattle.vt_laws_mounts.proofs.mounts.MountsFound.{found_in, placed_among}
+use Rattle.vt_laws_mounts.proofs.mounts.MountsReplaced.{found_itself}
+use Rattle.vt_laws_permits.specs.Sees.{MayBeRenamed}
+use Rattle.vt_laws_permits.proofs.sees.SeesNames.{tree_here}
+use Rattle.vt_laws_trees.specs.Trees.{IsFileTree}
+use Rattle.vt_laws_trees.specs.Trees.Calls.{mounts_overlay}
+use Rattle.vt_laws_trees.specs.Trees.Limits.{names_few_groups}
+use Rattle.vt_laws_trees.proofs.trees.ChangesNodes.{elsewhere, part_stays}
+use Rattle.vt_laws_trees.proofs.trees.TreesAbove.{under_seen}
+use Rattle.vt_laws_trees.proofs.trees.TreesEntered.{chain_ends}
+use Rattle.vt_laws_worlds.specs.Worlds.Kept.{IsPlain}
+use Rattle.vt_laws_worlds.proofs.worlds.Reached.{IsFoundDirectory}
+use Rattle.vt_laws_worlds.proofs.worlds.SeenTrees.{change_tasks}
+use Rattle.vt_laws_later_calls.specs.LaterNames.{StandsOutside, lies_in}
+use Rattle.vt_laws_later_calls.proofs.AfterChange.{all_stays, as_spent, in_each, later_files, later_mounts}
+use Rattle.vt_laws_later_calls.proofs.later.AfterRename.{is_left, left, may, object_shown, shown}
+use Rattle.vt_laws_later_calls.proofs.Granted.{IsPermitted}
+use Rattle.vt_laws_later_calls.proofs.later.SettledRoots.{root_settled}
+use Rattle.vt_laws_later_calls.proofs.Stays.{spent_unsettled, still_called}
+use Rattle.vt_laws_later_calls.proofs.WaysChanges.{RightsStay}
+use Rattle.vt_laws_later_calls.proofs.later.WaysLeft.{ObjectsStay}
+use Rattle.vt_laws_later_calls.proofs.later.WaysMounts.{hop_place}
+use Rattle.vt_laws_later_calls.proofs.WaysStay.{node_in, tree_in}
+use Rattle.vt_spec.proofs.NodeChanges.{directory_from_entry, parent-node_without_entry}
+
+-- what is of one kind, owner, mode and text
+link_same : (was now : Option (Node ℕ)) → is_some now ≡ is_some was → kind_in now ≡ kind_in was
+    → bytes_in now ≡ bytes_in was
+    → symlink_text now ≡ symlink_text was
+link_same None None there kind bytes = refl
+link_same None (Some now) there kind bytes = absurd (true≢false there)
+link_same (Some was) None there kind bytes = absurd (true≢false (sym there))
+link_same (Some was) (Some now) there kind bytes = λ i. when (is_kind SymlinkKind (kind i)) (bytes i)
+
+allows_same : (was now : Option (Node ℕ)) → is_some now ≡ is_some was → kind_in now ≡ kind_in was
+    → attr_in now ≡ attr_in was
+    → (who : Credentials) (wanted : ℕ) → node_allows who wanted now ≡ node_allows who wanted was
+allows_same None None there kind attr who wanted = refl
+allows_same None (Some now) there kind attr who wanted = absurd (true≢false there)
+allows_same (Some was) None there kind attr who wanted = absurd (true≢false (sym there))
+allows_same (Some was) (Some now) there kind attr who wanted = λ i. allows who (attr i) (kind i) wanted
+
+-- what a move to a free name leaves of a tree
+pub record IsMovedIn (object : ℕ) (own : Type 0) (tree later : Tree ℕ) : Type 0 where
+  pub root : later.root ≡ tree.root
+  pub directory : (n : ℕ) → is_directory_node (later.node n) ≡ is_directory_node (tree.node n)
+  pub link : (n : ℕ) → symlink_text (later.node n) ≡ symlink_text (tree.node n)
+  pub rights : RightsStay tree later
+  pub parents : (n : ℕ) → (own → n ≢ object) → parent_in n (later.node n) ≡ parent_in n (tree.node n)
+  pub entry : (here : ℕ) (any : List ℕ) (next : ℕ) → entry_at tree here any ≡ Some next
+      → (entry_at later here any ≡ Some next) ⊎ ((entry_at later here any ≡ None) × own × (next ≡ object))
+
+module _ (files : FileTree ℕ) (from : ℕ) (old : List ℕ) (to : ℕ) (new : List ℕ) (object : ℕ)
+    (named : entry_at files.tree from old ≡ Some object) (in_directory : is_directory_node (files.tree.node to) ≡ true)
+    (free : entry_at files.tree to new ≡ None) (own : Type 0) (itself : own) where
+  abbrev moved : FileTree ℕ
+  moved = changed nat_eq files (Move from old to new object)
+
+  with_free : Option ℕ → FileTree ℕ
+  with_free o =
+      changed_node nat_eq (with_name nat_eq
+      (without_name nat_eq (without_parent nat_eq files o) from old) to new object) object (node_with_parent to)
+
+  moved_in : IsMovedIn object own files.tree moved.tree
+  unfolding with_free
+  moved_in = record {
+    root = ap (λ o. (with_free o).tree.root) free;
+    directory = λ n. moved_part is_directory_node (λ change keeps. keeps.directory) files from old to new object n;
+    link = λ n. moved_part symlink_text
+        (λ change keeps o. link_same o (change o) (keeps.there o) (keeps.kind o)
+        (keeps.bytes o)) files from old to new object n;
+    rights = λ who wanted n is. moved_part (node_allows who wanted)
+        (λ change keeps o. allows_same o (change o) (keeps.there o) (keeps.kind o)
+        (keeps.attr o) who wanted) files from old to new object n;
+    parents = λ n differs.
+        ap (λ o. parent_in n ((with_free o).tree.node n)) free
+        ∙ ap (parent_in n) (elsewhere (with_name nat_eq (without_name nat_eq files from old) to new object) object
+        (node_with_parent to) n
+        (differs itself))
+        ∙ part_stays (without_name nat_eq files from old) to (node_with_entry new object) (parent_in n)
+        (parent-node_with_entry new object n) n
+        ∙ part_stays files from (node_without_entry old) (parent_in n) (parent-node_without_entry old n) n;
+    entry = λ here any next e. by here any next e (is_entry to new here any) refl (is_entry from old here any) refl;
+  }
+    where
+      by : (here : ℕ) (any : List ℕ) (next : ℕ) → entry_at files.tree here any ≡ Some next
+          → (p : Bool) → is_entry to new here any ≡ p → (q : Bool) → is_entry from old here any ≡ q
+          → (entry_at moved.tree here any ≡ Some next) ⊎ ((entry_at moved.tree here any ≡ None) × own × (next ≡ object))
+      by here any next e true f q g =
+          let same = is_that_entry to new here any f in
+          none_is_not (entry_at files.tree here any) next ((λ i. entry_at files.tree (same.0 i) (same.1 i)) ∙ free) e
+      by here any next e false f true g =
+          let same = is_that_entry from old here any g in
+          inr (
+            move_told files from old to new object in_directory here any
+                ∙ (λ i. cond (f i) (Some object) (cond (g i) None (entry_at files.tree here any))),
+            itself,
+            same_Some next object (sym e ∙ (λ i. entry_at files.tree (same.0 i) (same.1 i)) ∙ named),
+          )
+      by here any next e false f false g =
+          inl (
+          move_told files from old to new object in_directory here any
+          ∙ (λ i. cond (f i) (Some object) (cond (g i) None (entry_at files.tree here any))) ∙ e
+          )
+
+module _ (world : World ℕ) (fresh : Fresh ℕ) (name : TaskName) (call : Call) (answer : Answer)
+    (is : IsWorld nat_eq world) (plain : IsPlain world) (serves : Serves nat_eq world fresh)
+    (other : mounts_overlay call ≡ false) (few : names_few_groups call ≡ true)
+    (did : IsPermitted world fresh name call answer) (from : Location ℕ) (old : List ℕ) (to : Location ℕ) (new : List ℕ)
+    (object : Location ℕ) (permit_is : did.permit ≡ ToRename from old to new object None)
+    (uncovered : is_mount_point_anywhere (looks_of nat_eq world) object ≡ false)
+    (is_directory : is_directory_node ((files_at nat_eq world from).tree.node object.node) ≡ true)
+    (outside : StandsOutside world did.task object) where
+  abbrev pub later : World ℕ
+  later =
+      left world fresh name call answer is plain serves other few did from old to new object None permit_is uncovered
+
+  abbrev pub spent : World ℕ
+  spent = (apply nat_eq fresh world did.task did.permit).world
+
+  abbrev pub fs : ℕ
+  fs = shown world fresh name call answer is plain serves other few did from old to new object None permit_is uncovered
+
+  abbrev pub tree : Tree ℕ
+  tree = (files_at nat_eq world from).tree
+
+  abbrev pub left_is : IsWorld nat_eq later × IsPlain later
+  left_is =
+      is_left world fresh name call answer is plain serves other few did from old to new object None permit_is uncovered
+
+  pub seen : MayBeRenamed world from old to new object None
+  seen = may world fresh name call answer is plain serves other few did from old to new object None permit_is uncovered
+
+  from_directory : is_directory_node ((files_at nat_eq world from).tree.node from.node) ≡ true
+  from_directory =
+      directory_from_entry old object.node ((files_at nat_eq world from).tree.node from.node) seen.moves.named
+
+  pub file_tree : IsFileTree (files_at nat_eq world from)
+  file_tree = tree_here world is from from_directory
+
+  free : entry_at (files_at nat_eq world from).tree to.node new ≡ None
+  free =
+      ap (λ m. entry_at (files_at nat_eq world (record { mount = m; node = from.node })).tree to.node new)
+      (sym seen.to_mount)
+      ∙ none_of (entry_at (files_at nat_eq world to).tree to.node new) (sym seen.replaces)
+    where
+      none_of : (o : Option ℕ) → option_map {U = Location ℕ} (λ number. record { mount = to.mount; node = number }) o
+          ≡ None → o ≡ None
+      none_of None e = refl
+      none_of (Some x) e = cc
+
+  abbrev change : Change ℕ
+  change = Move from.node old to.node new object.node
+
+  does : spent ≡ with_change nat_eq fresh world from change
+  does = ap (λ p. (apply nat_eq fresh world did.task p).world) permit_is
+
+  asks : change_of fresh world did.permit ≡ Some (from, change)
+  asks = ap (change_of fresh world) permit_is
+
+  something : is_some (node_at nat_eq world from) ≡ true
+  something = directory_used (files_at nat_eq world from).tree from.node from_directory
+
+  allowed : IsMoved (files_at nat_eq world from) from.node old to.node object.node
+  allowed = record { named = seen.moves.named; in_directory = seen.moves.in_directory }
+
+  pub mounts_same : later.mounts ≡ world.mounts
+  mounts_same =
+      later_mounts world fresh name call answer is plain serves other few did from change fresh asks does something
+      allowed file_tree
+
+  pub each : (number : ℕ) → IsMovedIn object.node (number ≡ fs) (tree_in world number) (tree_in spent number)
+  each =
+      in_each world fresh name call answer is plain serves other few did from change fresh asks does something allowed
+      file_tree
+      (λ number f. IsMovedIn object.node (number ≡ fs) (tree_in world number) f.tree)
+      (moved_in (files_at nat_eq world from) from.node old to.node new object.node seen.moves.named
+      seen.moves.in_directory free (fs ≡ fs) refl)
+      (λ number. record {
+        root = refl;
+        directory = λ n. refl;
+        link = λ n. refl;
+        rights = λ who wanted n there. refl;
+        parents = λ n differs. refl;
+        entry = λ here any next e. inl e;
+      })
+
+  pub node_left : (filesystem number : ℕ) → is_some (node_in later filesystem number) ≡ true
+      → node_in later filesystem number ≡ node_in spent filesystem number
+  node_left filesystem number there =
+      as_spent world fresh name call answer is plain serves other few did filesystem number there
+
+  -- the object and the caller are there still
+  pub object_later : is_some (node_in later fs object.node) ≡ true
+  object_later =
+      let files = files_at nat_eq world from in
+      ap is_some (all_stays world fresh name call answer is plain serves other few did from change fresh asks does
+      something allowed file_tree
+      (ap option_to_list free) object.node)
+      ∙ directory_used (changed nat_eq files change).tree object.node
+      ((moved_in files from.node old to.node new object.node seen.moves.named seen.moves.in_directory free
+      (fs ≡ fs) refl).directory object.node
+      ∙ is_directory)
+
+  pub caller : task_called later name ≡ Some (raised_task name did.task)
+  caller =
+      still_called world fresh name call answer is plain serves other few did name did.task
+      (ap (λ w. task_called w name) does
+      ∙ ap (find (λ (t : Task ℕ). same_name name t.name)) (change_tasks fresh world plain from change) ∙ did.called)
+
+  pub root_left : (filesystem number : ℕ) → is_some (node_in later filesystem number) ≡ true
+      → (tree_in later filesystem).root ≡ (tree_in world filesystem).root
+  root_left filesystem number there =
+      let files = later_files world fresh name call answer is plain serves other few did filesystem in
+      ap (λ (f : FileTree ℕ). f.tree.root) files
+      ∙ root_settled spent
+      (spent_unsettled world fresh name call answer is plain serves other few did).files.one_filesystem filesystem
+      number
+      (ap (λ (f : FileTree ℕ). is_some (f.tree.node number)) (sym files) ∙ there)
+      ∙ (each filesystem).root
+
+  pub rights_left : (filesystem number : ℕ) → is_some (node_in later filesystem number) ≡ true
+      → is_some (node_in world filesystem number) ≡ true
+      → (who : Credentials) (wanted : ℕ)
+      → node_allows who wanted (node_in later filesystem number)
+      ≡ node_allows who wanted (node_in world filesystem number)
+  rights_left filesystem number now was who wanted =
+      ap (node_allows who wanted) (node_left filesystem number now) ∙ (each filesystem).rights who wanted number was
+
+  pub objects_stay : (Refused : Deny → Type 0) → Refused (denial W6) → ObjectsStay world later Refused
+  objects_stay Refused missing = record {
+    directory = λ filesystem number was now. ap is_directory_node (node_left filesystem number now)
+        ∙ (each filesystem).directory number;
+    link = λ filesystem number was now. ap symlink_text (node_left filesystem number now)
+        ∙ (each filesystem).link number;
+    entry = λ filesystem here any next e now. by filesystem here any next now ((each filesystem).entry here any next e);
+  }
+    where
+      by : (filesystem here : ℕ) (any : List ℕ) (next : ℕ) → is_some (node_in later filesystem here) ≡ true
+          → (entry_at (tree_in spent filesystem) here any ≡ Some next)
+          ⊎ ((entry_at (tree_in spent filesystem) here any ≡ None) × (filesystem ≡ fs) × (next ≡ object.node))
+          → (entry_at (tree_in later filesystem) here any ≡ Some next)
+          ⊎ ((entry_at (tree_in later filesystem) here any ≡ None) × Refused (denial W6))
+      by filesystem here any next now (inl same) =
+          inl (ap (λ o. entry_named any (entries_in o)) (node_left filesystem here now) ∙ same)
+      by filesystem here any next now (inr lost) =
+          inr (ap (λ o. entry_named any (entries_in o)) (node_left filesystem here now) ∙ lost.0, missing)
+
+  -- What lies in the directory, by names
+  abbrev pub InIt : ℕ → Type 0
+  InIt n = (names : List (List ℕ)) × (led tree object.node names ≡ Some n)
+
+  pub in_further : (here : ℕ) (any : List ℕ) (next : ℕ) → InIt here → entry_at tree here any ≡ Some next → InIt next
+  in_further here any next way e = (way.0 ++ any ∷ [], led-append tree object.node way.0 any here next way.1 e)
+
+  object_reached : IsReached tree object.node
+  object_reached =
+      file_tree.tree.reached object.node is_directory (from.node, old, seen.moves.named)
+
+  pub in_reached : (n : ℕ) → InIt n → IsReached tree n
+  in_reached n way =
+      (object_reached.0 ++ way.0, led_parts tree object_reached.0 way.0 tree.root object.node object_reached.1 ∙ way.1)
+
+  lies_so : (here : Location ℕ) → (mount_at nat_eq world here).filesystem ≡ fs
+      → is_directory_node (tree.node here.node) ≡ true → InIt here.node
+      → lies_in world object here ≡ true
+  lies_so here same directory way =
+      let shown_is =
+      object_shown world fresh name call answer is plain serves other few did from old to new object None permit_is
+      uncovered in
+      and_from _ _ (eq-eqb _ _ (same ∙ sym shown_is))
+      (ap (λ n. is_directory_under nat_eq (filesystem_numbered nat_eq world n).files object.node here.node) shown_is
+      ∙ under_seen (files_at nat_eq world from) file_tree here.node directory
+      (in_reached here.node way) object.node way.0 way.1)
+
+  -- no way leads back up to where its name was
+  pub from_outside : InIt from.node → ⊥
+  from_outside way = no_way_up
+      (files_at nat_eq world from) file_tree.tree from.node old object.node seen.moves.named way.0 way.1
+
+  -- where an entry leads to it, its name was there
+  pub its_entry : (here : ℕ) (any : List ℕ) → entry_at tree here any ≡ Some object.node
+      → (here ≡ from.node) × (any ≡ old)
+  its_entry here any e =
+      let at : here ≡ from.node =
+      sym (file_tree.tree.one_parent here any object.node e is_directory)
+      ∙ file_tree.tree.one_parent from.node old object.node seen.moves.named is_directory in (
+        at,
+        file_tree.tree.one_name from.node any old object.node
+            (ap (λ n. entry_at tree n any) (sym at) ∙ e) seen.moves.named is_directory,
+      )
+
+  -- outside, or on a mount whose root is inside
+  abbrev pub Fits : Location ℕ → Type 0
+  Fits here =
+      (mount_at nat_eq world here).filesystem ≡ fs → is_directory_node (tree.node here.node) ≡ true → InIt here.node
+      → InIt (mount_at nat_eq world here).root
+
+  outside_fits : (here : Location ℕ) → lies_in world object here ≡ false → Fits here
+  outside_fits here lies same directory way = absurd (true≢false (sym (lies_so here same directory way) ∙ lies))
+
+  pub root_fits : Fits did.task.root
+  root_fits = outside_fits did.task.root outside.root
+
+  pub directory_fits : Fits did.task.directory
+  directory_fits = outside_fits did.task.directory outside.directory
+
+  root_of_child : (a b : Location ℕ) → option_map root_of (child_at nat_eq world.mounts a) ≡ Some b → Fits b
+  root_of_child a b e same directory way = by (child_at nat_eq world.mounts a) refl e
+    where
+      by : (o : Option (Mount ℕ)) → child_at nat_eq world.mounts a ≡ o → option_map root_of o ≡ Some b
+          → InIt (mount_at nat_eq world b).root
+      by None f h = none_is_not None b refl h
+      by (Some mount) f h =
+          let found = found_in (stands_at nat_eq a) world.mounts mount f in
+          let itself = found_itself world.mounts is.mounts.one_number mount found.0 in
+          let b_is : root_of mount ≡ b = same_Some (root_of mount) b h in
+          subst InIt
+          (ap (λ (l : Location ℕ). l.node) (sym b_is) ∙ ap (λ (m : Mount ℕ). m.root) (sym itself)
+          ∙ ap (λ (l : Location ℕ). (mount_at nat_eq world l).root) b_is) way
+
+  pub over_fits : (place : Location ℕ) → Fits place → Fits (topmost nat_eq world.mounts place)
+  over_fits place fits =
+      chain_ends Fits (λ here. option_map root_of (child_at nat_eq world.mounts here))
+      (λ a b fit e. root_of_child a b e)
+      (length world.mounts) place place fits
+
+  -- no mount of the task's namespace stands inside
+  pub point_fits : (a b : Location ℕ) → IsFoundDirectory world is did.task a → hop nat_eq world did.task a ≡ Some b
+      → Fits b
+  point_fits a b found e =
+      outside_fits b
+      (outside.points (mount_at nat_eq world a) b (contains_from_among world.mounts (mount_at nat_eq world a) there)
+      (own (mount_at nat_eq world a).namespace refl found.0.1) at)
+    where
+      at : (mount_at nat_eq world a).mount_point ≡ Some b
+      at = hop_place world is did.task a b e
+
+      there : Among (mount_at nat_eq world a) world.mounts
+      there = placed_among world.mounts a.mount b at
+
+      own : (o : Option ℕ) → (mount_at nat_eq world a).namespace ≡ o
+          → list_all (nat_eq did.task.namespace) (option_to_list o) ≡ true
+          → (mount_at nat_eq world a).namespace ≡ Some did.task.namespace
+      own None f g =
+          absurd (true≢false (sym (ap is_some at)
+          ∙ (nowhere_parts (mount_at nat_eq world a)
+          (among_from_list_all is_nowhere_or_attached world.mounts is.mounts.nowhere (mount_at nat_eq world a) there)
+          (ap is_some f)).0))
+      own (Some n) f g = f ∙ ap Some (sym (eqb-true did.task.namespace n (and_parts _ _ g).0))

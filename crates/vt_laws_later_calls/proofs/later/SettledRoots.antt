@@ -1,0 +1,100 @@
+-- A filesystem that something is in when what nothing uses is gone has the root that it had.
+use Rattle.std.proofs.Common.{◌≡◌, refl, sym, ap, ◌∙◌, inl, inr, true≢false, ℕ, nat_eq, eqb-true, Bool, true, false, cond, not, List, [], ◌∷◌, find, map, Option, Some, None, is_some}
+use Rattle.std.proofs.lemmas.Option.{same_Some}
+use Rattle.std.specs.List.{list_all}
+use Rattle.std.specs.Prelude.{option_map, unwrap_or}
+use Rattle.vt_spec.specs.Lists.{any_pair, is_among}
+use Rattle.vt_spec.specs.Machine.Settled.{filesystem_lives, only_used, only_used_by, settled, used_in, without_dead_filesystems, without_dead_in, without_dead_mounts}
+use Rattle.vt_spec.specs.Machine.World.{Filesystem, World, filesystem_numbered, is_overlay, no_filesystem}
+use Rattle.vt_spec.proofs.Lists.{Among, among-from_filter}
+use Rattle.vt_laws_letting_go.proofs.sweeps.OfWorlds.{found_filesystem}
+
+abbrev looked_up : ℕ → List (Filesystem ℕ) → Option (Filesystem ℕ)
+looked_up number list = find (λ (f : Filesystem ℕ). nat_eq number f.number) list
+
+-- what is looked up in a list that was changed one by one
+looked_up-map : (change : Filesystem ℕ → Filesystem ℕ) → ((f : Filesystem ℕ) → (change f).number ≡ f.number)
+    → (number : ℕ)
+    (list : List (Filesystem ℕ)) → looked_up number (map change list) ≡ option_map change (looked_up number list)
+looked_up-map change same number [] = refl
+looked_up-map change same number (first ∷ rest) =
+    ap (λ n. cond (nat_eq number n) (Some (change first)) (looked_up number (map change rest))) (same first)
+    ∙ by (nat_eq number first.number) (looked_up-map change same number rest)
+  where
+    by : (b : Bool) → looked_up number (map change rest) ≡ option_map change (looked_up number rest)
+        → cond b (Some (change first)) (looked_up number (map change rest))
+        ≡ option_map change (cond b (Some first) (looked_up number rest))
+    by true later = refl
+    by false later = later
+
+-- what is found has the number, and is one of the list
+looked_up_is : (number : ℕ) (list : List (Filesystem ℕ)) (f : Filesystem ℕ) → looked_up number list ≡ Some f
+    → Among f list × (number ≡ f.number)
+looked_up_is number [] f e = absurd (true≢false (sym (ap is_some e)))
+looked_up_is number (first ∷ rest) f e = by (nat_eq number first.number) refl e (looked_up_is number rest f)
+  where
+    by : (b : Bool) → nat_eq number first.number ≡ b → cond b (Some first) (looked_up number rest) ≡ Some f
+        → (looked_up number rest ≡ Some f → Among f rest × (number ≡ f.number))
+        → Among f (first ∷ rest) × (number ≡ f.number)
+    by true g h later =
+        let same : first ≡ f = same_Some first f h in
+        (inl (sym same), eqb-true number first.number g ∙ ap (λ (x : Filesystem ℕ). x.number) same)
+    by false g h later = let found = later h in (inr found.0, found.1)
+
+module _ (world : World ℕ) (one : any_pair (λ (a b : Filesystem ℕ). nat_eq a.number b.number) world.filesystems
+    ≡ false) where
+  abbrev living : World ℕ
+  living = without_dead_filesystems nat_eq (without_dead_mounts nat_eq world)
+
+  abbrev first : World ℕ
+  first = without_dead_in nat_eq is_overlay living
+
+  swept : (w : World ℕ) (chosen : Bool) (f : Filesystem ℕ)
+      → ((only_used nat_eq w chosen f).number ≡ f.number)
+      × ((only_used nat_eq w chosen f).files.tree.root ≡ f.files.tree.root)
+  swept w false f = (refl, refl)
+  swept w true f = by (list_all (λ number. is_among nat_eq number (used_in nat_eq w f)) f.files.numbers)
+    where
+      by : (b : Bool) → ((only_used_by nat_eq b (used_in nat_eq w f) f).number ≡ f.number)
+          × ((only_used_by nat_eq b (used_in nat_eq w f) f).files.tree.root ≡ f.files.tree.root)
+      by true = (refl, refl)
+      by false = (refl, refl)
+
+  abbrev once : Filesystem ℕ → Filesystem ℕ
+  once f = only_used nat_eq living (is_overlay f) f
+
+  abbrev twice : Filesystem ℕ → Filesystem ℕ
+  twice f = only_used nat_eq first (not (is_overlay f)) f
+
+  looked_up_settled : (number : ℕ) → looked_up number (settled nat_eq world).filesystems
+      ≡ option_map twice (option_map once (looked_up number living.filesystems))
+  looked_up_settled number =
+      looked_up-map twice (λ f. (swept first (not (is_overlay f)) f).0) number first.filesystems
+      ∙ ap (option_map twice) (looked_up-map once (λ f. (swept living (is_overlay f) f).0) number living.filesystems)
+
+  pub root_settled : (number inode : ℕ)
+      → is_some ((filesystem_numbered nat_eq (settled nat_eq world) number).files.tree.node inode) ≡ true
+      → (filesystem_numbered nat_eq (settled nat_eq world) number).files.tree.root
+      ≡ (filesystem_numbered nat_eq world number).files.tree.root
+  root_settled number inode there = by (looked_up number living.filesystems) refl
+    where
+      left : (o : Option (Filesystem ℕ)) → looked_up number living.filesystems ≡ o
+          → filesystem_numbered nat_eq (settled nat_eq world) number
+          ≡ unwrap_or (option_map twice (option_map once o)) (no_filesystem number)
+      left o e =
+          ap (λ x. unwrap_or x (no_filesystem number)) (looked_up_settled number)
+          ∙ ap (λ x. unwrap_or (option_map twice (option_map once x)) (no_filesystem number)) e
+
+      by : (o : Option (Filesystem ℕ)) → looked_up number living.filesystems ≡ o
+          → (filesystem_numbered nat_eq (settled nat_eq world) number).files.tree.root
+          ≡ (filesystem_numbered nat_eq world number).files.tree.root
+      by None e = absurd (true≢false
+          (sym there ∙ ap (λ (f : Filesystem ℕ). is_some (f.files.tree.node inode)) (left None e)))
+      by (Some f) e =
+          let found = looked_up_is number living.filesystems f e in
+          let among = (among-from_filter
+          (filesystem_lives nat_eq (without_dead_mounts nat_eq world)) world.filesystems f found.0).0 in
+          ap (λ (x : Filesystem ℕ). x.files.tree.root) (left (Some f) e)
+          ∙ (swept first (not (is_overlay (once f))) (once f)).1 ∙ (swept living (is_overlay f) f).1
+          ∙ ap (λ (x : Filesystem ℕ). x.files.tree.root)
+          (sym (found_filesystem world.filesystems one f among) ∙ ap (filesystem_numbered nat_eq world) (sym found.1))

@@ -1,0 +1,145 @@
+-- What the removal of an empty directory leaves of the ways through its tree.
+use Rattle.std.proofs.Common.{◌≡◌, ◌≢◌, refl, sym, ap, ◌∙◌, inl, inr, ◌⊎◌, ⊎_elim, true≢false, ℕ, nat_eq, Bool, true, false, cond, not, ne_eqb, map, List, [], ◌||◌, Option, Some, None, is_some}
+use Rattle.std.proofs.lemmas.Bool.Decides.{eqb_tells}
+use Rattle.std.proofs.lemmas.Option.{same_Some}
+use Rattle.std.specs.Cmp.Lexicographic.{bytes_decides}
+use Rattle.std.specs.Str.{bytes_eq}
+use Rattle.vt_spec.specs.FileTree.{FileTree, is_removed, symlink_text, targets_in}
+use Rattle.vt_spec.specs.Language.Changes.{changed, content_with_parent, node_with_parent, node_without_entry, without_name}
+use Rattle.vt_spec.specs.Language.Changes.Change.{Remove}
+use Rattle.vt_spec.specs.Lists.{is_among, when}
+use Rattle.vt_spec.specs.Machine.Rightful.{node_allows}
+use Rattle.vt_spec.specs.Rights.{Credentials, allows}
+use Rattle.vt_spec.specs.Tree.{Content, Node, Tree, entries_in, entry_named, is_directory_node, kind_of, parent_in}
+use Rattle.vt_spec.specs.Tree.Content.{Directory, Regular, Symlink, Whiteout}
+use Rattle.vt_spec.specs.TreeInvariant.{entry_at}
+use Rattle.vt_spec.proofs.Nodes.{entry_named-without_entry}
+use Rattle.vt_laws_trees.specs.Trees.{MayRemove}
+use Rattle.vt_laws_trees.proofs.trees.ChangesNodes.{changed_node_there as there, elsewhere, own_parent-node_with_parent, part_stays}
+use Rattle.vt_laws_later_calls.proofs.WaysChanges.{RightsStay, allows_without, link_without}
+use Rattle.vt_spec.proofs.NodeChanges.{entries-node_with_parent, entries-node_without_entry, is_directory-node_with_parent, is_directory-node_without_entry, parent-node_without_entry}
+
+link_with_parent : (parent : ℕ) (o : Option (Node ℕ)) → symlink_text (node_with_parent parent o) ≡ symlink_text o
+link_with_parent parent None = refl
+link_with_parent parent (Some node) = by node.content
+  where
+    by : (content : Content ℕ) → symlink_text
+        (Some (record { attr = node.attr; content = content_with_parent parent content }))
+        ≡ symlink_text (Some (record { attr = node.attr; content = content }))
+    by (Directory old entries opaque) = refl
+    by (Regular bytes) = refl
+    by (Symlink text) = refl
+    by Whiteout = refl
+
+allows_with_parent : (parent : ℕ) (who : Credentials) (wanted : ℕ) (o : Option (Node ℕ))
+    → node_allows who wanted (node_with_parent parent o) ≡ node_allows who wanted o
+allows_with_parent parent who wanted None = refl
+allows_with_parent parent who wanted (Some node) = by node.content
+  where
+    by : (content : Content ℕ) → allows who node.attr (kind_of (content_with_parent parent content)) wanted
+        ≡ allows who node.attr (kind_of content) wanted
+    by (Directory old entries opaque) = refl
+    by (Regular bytes) = refl
+    by (Symlink text) = refl
+    by Whiteout = refl
+
+module _ (files : FileTree ℕ) (directory : ℕ) (name : List ℕ) (object : ℕ)
+    (may : MayRemove files.tree directory name object) where
+  abbrev unnamed : FileTree ℕ
+  unnamed = without_name nat_eq files directory name
+
+  abbrev pub removed : FileTree ℕ
+  removed = changed nat_eq files (Remove directory name object)
+
+  removed_part : {A : Type 0} (part : Option (Node ℕ) → A)
+      → ((o : Option (Node ℕ)) → part (node_with_parent object o) ≡ part o)
+      → ((o : Option (Node ℕ)) → part (node_without_entry name o) ≡ part o) → (n : ℕ)
+      → part (removed.tree.node n) ≡ part (files.tree.node n)
+  removed_part part parent entry n =
+      part_stays unnamed object (node_with_parent object) part parent n
+      ∙ part_stays files directory (node_without_entry name) part entry n
+
+  pub removed_kind : (n : ℕ) → is_directory_node (removed.tree.node n) ≡ is_directory_node (files.tree.node n)
+  removed_kind n =
+      removed_part is_directory_node (is_directory-node_with_parent object) (is_directory-node_without_entry name) n
+
+  pub removed_link : (n : ℕ) → symlink_text (removed.tree.node n) ≡ symlink_text (files.tree.node n)
+  removed_link n = removed_part symlink_text (link_with_parent object) (link_without name) n
+
+  pub removed_rights : RightsStay files.tree removed.tree
+  removed_rights who wanted n is =
+      removed_part (node_allows who wanted) (allows_with_parent object who wanted) (allows_without name who wanted) n
+
+  pub removed_parent : (n : ℕ) → n ≢ object → parent_in n (removed.tree.node n) ≡ parent_in n (files.tree.node n)
+  removed_parent n other =
+      ap (parent_in n) (elsewhere unnamed object (node_with_parent object) n other)
+      ∙ part_stays files directory (node_without_entry name) (parent_in n) (parent-node_without_entry name n) n
+
+  -- its names
+  removed_entries : (n : ℕ) → entries_in (removed.tree.node n) ≡ entries_in (unnamed.tree.node n)
+  removed_entries n = part_stays unnamed object (node_with_parent object) entries_in (entries-node_with_parent object) n
+
+  entry_less : (other : List ℕ) → entry_at removed.tree directory other
+      ≡ cond (not (bytes_eq other name)) (entry_at files.tree directory other) None
+  entry_less other =
+      ap (entry_named other) (removed_entries directory
+      ∙ ap entries_in (there files directory (node_without_entry name))
+      ∙ entries-node_without_entry name (files.tree.node directory))
+      ∙ entry_named-without_entry other name (entries_in (files.tree.node directory))
+
+  pub removed_name : entry_at removed.tree directory name ≡ None
+  removed_name =
+      entry_less name ∙ ap (λ b. cond (not b) (entry_at files.tree directory name) None)
+      ((bytes_decides name name).1 refl)
+
+  pub removed_entry : (here : ℕ) (other : List ℕ) (next : ℕ) → entry_at files.tree here other ≡ Some next
+      → (entry_at removed.tree here other ≡ Some next) ⊎ ((entry_at removed.tree here other ≡ None) × (next ≡ object))
+  removed_entry here other next e =
+      ⊎_elim
+      (λ t. by (bytes_eq other name) refl (ap (λ m. entry_at removed.tree m other) t.1 ∙ entry_less other)
+      (ap (λ m. entry_at files.tree m other) (sym t.1) ∙ e))
+      (λ t. inl (ap (entry_named other) (removed_entries here
+      ∙ ap entries_in (elsewhere files directory (node_without_entry name) here t.1)) ∙ e))
+      (eqb_tells here directory)
+    where
+      by : (b : Bool) → bytes_eq other name ≡ b
+          → entry_at removed.tree here other ≡ cond (not b) (entry_at files.tree directory other) None
+          → entry_at files.tree directory other ≡ Some next
+          → (entry_at removed.tree here other ≡ Some next)
+          ⊎ ((entry_at removed.tree here other ≡ None) × (next ≡ object))
+      by true same now was =
+          let name_is : other ≡ name = (bytes_decides other name).0 same in
+          inr (now, same_Some next object (sym was ∙ ap (entry_at files.tree directory) name_is ∙ may.named))
+      by false same now was = inl (now ∙ was)
+
+  -- the directory is empty, and stands alone
+  pub nothing_in_it : (other : List ℕ) (next : ℕ) → entry_at files.tree object other ≡ Some next → ⊥
+  nothing_in_it other next e = none_at (entries_in (files.tree.node object)) may.empty e
+    where
+      none_at : (entries : List (List ℕ × ℕ)) → entries ≡ [] → entry_named other entries ≡ Some next → ⊥
+      none_at entries empty f = true≢false
+          (sym (sym (ap (λ list. is_some (entry_named {N = ℕ} other list)) empty) ∙ ap is_some f))
+
+  removed_empty : entries_in (removed.tree.node object) ≡ []
+  removed_empty =
+      removed_entries object
+      ∙ ⊎_elim
+      (λ t. absurd (nothing_in_it name object (ap (λ m. entry_at files.tree m name) t.1 ∙ may.named)))
+      (λ t. ap entries_in (elsewhere files directory (node_without_entry name) object t.1) ∙ may.empty)
+      (eqb_tells object directory)
+
+  pub removed_alone : (tree : Tree ℕ) → tree.node object ≡ removed.tree.node object → object ≢ tree.root
+      → is_removed nat_eq tree object ≡ true
+  removed_alone tree same other =
+      ap (λ b. not (b || is_some (cond b None
+      (when (is_among nat_eq object (targets_in (tree.node (parent_in object (tree.node object)))))
+      (parent_in object (tree.node object)))))) (ne_eqb object tree.root other)
+      ∙ ap (λ p. not (is_some (when (is_among nat_eq object (targets_in (tree.node p))) p))) own
+      ∙ ap (λ entries. not (is_some (when
+      (is_among nat_eq object (map (λ (entry : List ℕ × ℕ). entry.1) entries)) object)))
+      (ap entries_in same ∙ removed_empty)
+    where
+      own : parent_in object (tree.node object) ≡ object
+      own =
+          ap (parent_in object) (same ∙ there unnamed object (node_with_parent object))
+          ∙ own_parent-node_with_parent object (unnamed.tree.node object)

@@ -1,0 +1,421 @@
+-- A directory that was renamed is found at its new path, by whoever stands outside of it, and its old path is missing.
+use Rattle.std.proofs.Common.{◌≡◌, refl, sym, ap, subst, ◌∙◌, inl, inr, ◌⊎◌, ⊎_elim, true≢false, ℕ, nat_eq, Bool, true, false, cond, List, Option, Some, None, is_some, map, Ok, Err}
+use Rattle.std.proofs.lemmas.Option.{same_Some}
+use Rattle.vt_spec.specs.declared.errors.Rule.{Rule}
+use Rattle.vt_spec.specs.declared.errors.Rule.TheVariants.{C1, W4, W6}
+use Rattle.vt_spec.specs.Errors.{denial}
+use Rattle.vt_spec.specs.Language.Answers.{StatLine}
+use Rattle.vt_spec.specs.Language.Answers.Answer.{Done, Names, Told}
+use Rattle.vt_spec.specs.Language.Calls.{TaskName}
+use Rattle.vt_spec.specs.Language.Calls.Call.{Ls, Lstat, Rename}
+use Rattle.vt_spec.specs.Lists.{Fresh}
+use Rattle.vt_spec.specs.Machine.Invariants.{IsWorld}
+use Rattle.vt_spec.specs.Machine.Looks.{looks_of, may as may_do}
+use Rattle.vt_spec.specs.Machine.Mounts.{Location, mount_in}
+use Rattle.vt_spec.specs.Machine.Apply.{stat_line}
+use Rattle.vt_spec.specs.Machine.Permits.Permit.{ToRename}
+use Rattle.vt_spec.specs.Machine.Policy.{policy, raised_task}
+use Rattle.vt_spec.specs.Machine.Rightful.{node_allows}
+use Rattle.vt_spec.specs.Machine.Rules.Removing.{is_one_object, object_there}
+use Rattle.vt_spec.specs.Machine.Run.{Serves}
+use Rattle.vt_spec.specs.Machine.Walking.{Place, directory_walk, is_directory_there, name_of, new_walk, old_leaf_walk, place_walk, stepped}
+use Rattle.vt_spec.specs.Machine.World.{Task, World, files_at, is_directory_at, mount_at, node_at, task_called}
+use Rattle.vt_spec.specs.Rights.{Credentials, execute_right, read_right}
+use Rattle.vt_spec.specs.Tree.{Node, entries_in, entry_named, is_directory_node, names_in}
+use Rattle.vt_laws_layers.specs.Layers.Untouched.{IsKept}
+use Rattle.vt_laws_permits.specs.Sees.{MayBeRenamed}
+use Rattle.vt_laws_worlds.specs.Worlds.Kept.{IsPlain}
+use Rattle.vt_laws_worlds.proofs.worlds.Reached.{directory_no_link}
+use Rattle.vt_laws_later_calls.specs.LaterNames.{IsAnsweredUnlessBy, RenameDirectoryThenList, RenameDirectoryThenLstat, StandsOutside}
+use Rattle.vt_laws_later_calls.specs.Later.{IsAnswered}
+use Rattle.vt_laws_later_calls.specs.LaterPaths.{IsAnsweredUnless, IsRefused, LooksFrom, reads_all}
+use Rattle.vt_laws_later_calls.proofs.later.AfterRename.{free_left, may, new_left, object_left, old_left, to_shown}
+use Rattle.vt_laws_later_calls.proofs.Granted.{IsPermitted, permitted}
+use Rattle.vt_laws_later_calls.proofs.Looked.{list_of, list_refused, lstat_of, lstat_refused, read_all, search_all}
+use Rattle.vt_laws_later_calls.proofs.MadeSeen.{new_parts}
+use Rattle.vt_laws_later_calls.proofs.Readers.{MayLook, all_stands, own_name, raised_credentials, raised_stands, stepped_by}
+use Rattle.vt_laws_later_calls.proofs.later.RenameFits.{Fits, caller, directory_fits, fs, left_is, mounts_same, object_later, objects_stay, rights_left, root_fits}
+use Rattle.vt_laws_later_calls.proofs.later.RenameWays.{fits_ways, mounts_seen}
+use Rattle.vt_laws_later_calls.proofs.Stays.{called_own}
+use Rattle.vt_laws_later_calls.proofs.later.later_calls_see_it_at_the_path.Answers.FoundByName.{NamesParts, before, directory_kept, is_directory_before, names_parts, old_listed, old_told, told_alike}
+use Rattle.vt_laws_later_calls.proofs.later.later_calls_see_it_at_the_path.Answers.Unlinked.{Missing}
+use Rattle.vt_laws_later_calls.proofs.Ways.{LeadsToo}
+use Rattle.vt_laws_later_calls.proofs.later.WaysLeft.{FitsWays, Known, MountsSeen, ObjectsStay, node_here, ways_lead}
+use Rattle.vt_laws_later_calls.proofs.WaysPlaces.{EndsThere, directory_named_too, named_place, symlink_missing, symlink_named_too}
+use Rattle.vt_laws_later_calls.proofs.WaysStay.{StandsAs, node_in}
+
+module _ (world : World ℕ) (fresh : Fresh ℕ) (name : TaskName) (old new : List ℕ) (from to : Place ℕ)
+    (is : IsWorld nat_eq world)
+    (plain : IsPlain world) (serves : Serves nat_eq world fresh)
+    (did : IsPermitted world fresh name (Rename old new) Done)
+    (parts : NamesParts (looks_of nat_eq world) did.task old new from to did.permit)
+    (to_walked : place_walk nat_eq (looks_of nat_eq world) did.task new ≡ Ok to)
+    (permit_is : did.permit ≡ ToRename from.parent (name_of from.last) to.parent (name_of to.last)
+    (object_there from) None)
+    (is_dir : is_directory_node ((files_at nat_eq world from.parent).tree.node (object_there from).node) ≡ true)
+    (outside : StandsOutside world did.task (object_there from)) where
+  abbrev later : World ℕ
+  later = (policy nat_eq fresh world name (Rename old new)).world
+
+  abbrev object : ℕ
+  object = (object_there from).node
+
+  abbrev was : Option (Node ℕ)
+  was = (files_at nat_eq world from.parent).tree.node object
+
+  abbrev place_after : Location ℕ
+  place_after = record { mount = to.parent.mount; node = object }
+
+  seen : MayBeRenamed world from.parent (name_of from.last) to.parent (name_of to.last) (object_there from) None
+  seen =
+      may world fresh name (Rename old new) Done is plain serves refl refl did from.parent (name_of from.last) to.parent
+      (name_of to.last) (object_there from) None permit_is parts.uncovered
+
+  abbrev own_fs : ℕ
+  own_fs =
+      fs world fresh name (Rename old new) Done is plain serves refl refl did from.parent (name_of from.last) to.parent
+      (name_of to.last) (object_there from) permit_is parts.uncovered is_dir outside
+
+  abbrev is_left : IsWorld nat_eq later × IsPlain later
+  is_left =
+      left_is world fresh name (Rename old new) Done is plain serves refl refl did from.parent
+      (name_of from.last) to.parent
+      (name_of to.last) (object_there from) permit_is parts.uncovered is_dir outside
+
+  abbrev Fit : Location ℕ → Type 0
+  Fit =
+      Fits world fresh name (Rename old new) Done is plain serves refl refl did from.parent
+      (name_of from.last) to.parent
+      (name_of to.last) (object_there from) permit_is parts.uncovered is_dir outside
+
+  mounts_are : (reading : Task ℕ) → reading.root ≡ did.task.root
+      → MountsSeen world later is plain is_left.0 is_left.1 did.task reading
+  mounts_are =
+      mounts_seen world fresh name (Rename old new) Done is plain serves refl refl did from.parent
+      (name_of from.last) to.parent
+      (name_of to.last) (object_there from) permit_is parts.uncovered is_dir outside
+
+  objects_are : ObjectsStay world later Missing
+  objects_are =
+      objects_stay world fresh name (Rename old new) Done is plain serves refl refl did from.parent
+      (name_of from.last) to.parent
+      (name_of to.last) (object_there from) permit_is parts.uncovered is_dir outside
+      Missing refl
+
+  ways_are : (reading : Task ℕ) → reading.root ≡ did.task.root
+      → FitsWays world later is plain is_left.0 is_left.1 did.task reading Missing Fit
+  ways_are reading roots =
+      fits_ways world fresh name (Rename old new) Done is plain serves refl refl did from.parent
+      (name_of from.last) to.parent
+      (name_of to.last) (object_there from) permit_is parts.uncovered is_dir outside
+      reading roots Missing
+
+  rights_are : (filesystem number : ℕ) → is_some (node_in later filesystem number) ≡ true
+      → is_some (node_in world filesystem number) ≡ true
+      → (who : Credentials) (wanted : ℕ)
+      → node_allows who wanted (node_in later filesystem number)
+      ≡ node_allows who wanted (node_in world filesystem number)
+  rights_are =
+      rights_left world fresh name (Rename old new) Done is plain serves refl refl did from.parent
+      (name_of from.last) to.parent
+      (name_of to.last) (object_there from) permit_is parts.uncovered is_dir outside
+
+  to_fs : (mount_at nat_eq world to.parent).filesystem ≡ own_fs
+  to_fs =
+      to_shown world fresh name (Rename old new) Done is plain serves refl refl did from.parent
+      (name_of from.last) to.parent
+      (name_of to.last) (object_there from) None permit_is parts.uncovered
+
+  after_fs : (mount_at nat_eq later place_after).filesystem ≡ own_fs
+  after_fs =
+      ap (λ mounts. (mount_in nat_eq mounts to.parent.mount).filesystem)
+      (mounts_same world fresh name (Rename old new) Done is plain serves refl refl did from.parent
+      (name_of from.last) to.parent
+      (name_of to.last) (object_there from) permit_is parts.uncovered is_dir outside)
+      ∙ to_fs
+
+  kept : IsKept was (node_at nat_eq later place_after)
+  kept =
+      subst (λ n. IsKept was (node_in later n object)) (sym after_fs)
+      (object_left world fresh name (Rename old new) Done is plain serves refl refl did from.parent
+      (name_of from.last) to.parent
+      (name_of to.last) (object_there from) None permit_is parts.uncovered
+      (object_later world fresh name (Rename old new) Done is plain serves refl refl did from.parent
+      (name_of from.last) to.parent
+      (name_of to.last) (object_there from) permit_is parts.uncovered is_dir outside))
+
+  directory_after : is_directory_at nat_eq later place_after ≡ true
+  directory_after = directory_kept was (node_at nat_eq later place_after) kept ∙ is_dir
+
+  own : task_called world did.task.name ≡ Some did.task
+  own = called_own world fresh name (Rename old new) Done is plain serves refl refl did
+
+  module _ (reader : TaskName) (reading : Task ℕ) (called : task_called later reader ≡ Some reading)
+      (stands : StandsAs did.task reading) (looks : MayLook did.task reading) where
+    abbrev KnownSo : Location ℕ → Type 0
+    KnownSo =
+        Known world later is plain is_left.0 is_left.1 did.task reading
+        own
+        (own_name later reader reading called) stands Missing
+        (mounts_are reading stands.root)
+        objects_are
+        Fit
+        (ways_are reading stands.root)
+
+    here_is : (here : Location ℕ) → KnownSo here
+        → node_at nat_eq later here ≡ node_in later (mount_at nat_eq world here).filesystem here.node
+    here_is here known =
+        node_here world later is plain is_left.0 is_left.1 did.task reading
+        own
+        (own_name later reader reading called) stands Missing
+        (mounts_are reading stands.root)
+        objects_are
+        Fit
+        (ways_are reading stands.root)
+        here known.0
+
+    now_there : (here : Location ℕ) → KnownSo here
+        → is_some (node_in later (mount_at nat_eq world here).filesystem here.node) ≡ true
+    now_there here known = ap is_some (sym (here_is here known)) ∙ known.0.1.1
+
+    searched : (here : Location ℕ) → KnownSo here → is_directory_at nat_eq world here ≡ true
+        → may_do (looks_of nat_eq world) did.task here execute_right ≡ true
+        → (may_do (looks_of nat_eq later) reading here execute_right ≡ true)
+        ⊎ ((may_do (looks_of nat_eq later) reading here execute_right ≡ false) × Missing (denial W4))
+    searched here known directory e = inl (by looks)
+      where
+        by : MayLook did.task reading → may_do (looks_of nat_eq later) reading here execute_right ≡ true
+        by (inr all) =
+            search_all reading.credentials all (node_at nat_eq later here)
+            (ap is_directory_node (here_is here known)
+            ∙ objects_are.directory (mount_at nat_eq world here).filesystem here.node known.0.0.1 (now_there here known)
+            ∙ directory)
+        by (inl same) =
+            ap (λ who. node_allows who execute_right (node_at nat_eq later here)) same
+            ∙ ap (node_allows did.task.credentials execute_right) (here_is here known)
+            ∙ rights_are (mount_at nat_eq world here).filesystem here.node
+            (now_there here known) known.0.0.1 did.task.credentials execute_right
+            ∙ e
+
+    leads : LeadsToo (looks_of nat_eq world) (looks_of nat_eq later) did.task reading Missing KnownSo
+    leads =
+        ways_lead world later is plain is_left.0 is_left.1 did.task reading
+        own
+        (own_name later reader reading called) stands Missing
+        (mounts_are reading stands.root)
+        objects_are
+        Fit
+        (ways_are reading stands.root)
+        searched
+        (root_fits world fresh name (Rename old new) Done is plain serves refl refl did from.parent
+        (name_of from.last) to.parent
+        (name_of to.last) (object_there from) permit_is parts.uncovered is_dir outside)
+        (directory_fits world fresh name (Rename old new) Done is plain serves refl refl did from.parent
+        (name_of from.last) to.parent
+        (name_of to.last) (object_there from) permit_is parts.uncovered is_dir outside)
+
+    new_stepped : KnownSo to.parent → stepped nat_eq (looks_of nat_eq later) reading to.parent to.last ≡ Ok place_after
+    new_stepped known =
+        stepped_by later reading to.parent to.last parts.to_named (Some object)
+        (ap (λ o. entry_named (name_of to.last) (entries_in o))
+        (here_is to.parent known ∙ ap (λ n. node_in later n to.parent.node) to_fs)
+        ∙ new_left world fresh name (Rename old new) Done is plain serves refl refl did from.parent
+        (name_of from.last) to.parent
+        (name_of to.last) (object_there from) None permit_is parts.uncovered
+        (ap (λ n. is_some (node_in later n to.parent.node)) (sym to_fs) ∙ now_there to.parent known))
+        ∙ ap Ok (free_left world fresh name (Rename old new) Done is plain serves refl refl did from.parent
+        (name_of from.last) to.parent
+        (name_of to.last) (object_there from) None permit_is parts.uncovered
+        place_after known.0.1.0.0 after_fs refl)
+
+    new_told : (later_fresh : Fresh ℕ)
+        → ((policy nat_eq later_fresh later reader (Lstat new)).answer ≡ Ok (Told (stat_line was)))
+        ⊎ ((policy nat_eq later_fresh later reader (Lstat new)).answer ≡ Err (denial W6))
+    new_told later_fresh =
+        ⊎_elim
+        (λ ends. inl (lstat_of later later_fresh reader reading called new _ ends.1
+        ∙ ap (λ line. Ok (Told line)) (told_alike was (node_at nat_eq later place_after) kept)))
+        (λ stop. inr (lstat_refused later later_fresh reader reading called new stop.0 stop.2 ∙ ap Err stop.1))
+        (symlink_named_too (looks_of nat_eq world)
+        (looks_of nat_eq later) did.task reading Missing KnownSo leads new to parts.to_named
+        (named_place (looks_of nat_eq world) did.task new to to_walked parts.to_named) place_after new_stepped
+        (λ slash. (directory_no_link (node_at nat_eq later place_after) directory_after, directory_after)))
+
+    old_missing : (later_fresh : Fresh ℕ)
+        → (policy nat_eq later_fresh later reader (Lstat old)).answer ≡ Err (denial W6)
+    old_missing later_fresh =
+        let stop = symlink_missing (looks_of nat_eq world)
+        (looks_of nat_eq later) did.task reading Missing KnownSo leads old from parts.from_named
+        (named_place (looks_of nat_eq world) did.task old from parts.from_walked parts.from_named) (denial W6) refl
+        (λ known.
+        stepped_by later reading from.parent from.last parts.from_named None
+        (ap (λ o. entry_named (name_of from.last) (entries_in o)) (here_is from.parent known)
+        ∙ old_left world fresh name (Rename old new) Done is plain serves refl refl did from.parent
+        (name_of from.last) to.parent
+        (name_of to.last) (object_there from) None permit_is parts.uncovered
+        seen.moves.replaced_other (now_there from.parent known))) in
+        lstat_refused later later_fresh reader reading called old stop.0 stop.2 ∙ ap Err stop.1
+
+    -- its names
+    list_walk : EndsThere Missing (directory_walk nat_eq (looks_of nat_eq later) reading new) place_after
+        (named_place (looks_of nat_eq world) did.task new to to_walked parts.to_named).here.left
+    list_walk =
+        directory_named_too (looks_of nat_eq world)
+        (looks_of nat_eq later) did.task reading Missing KnownSo leads new to parts.to_named
+        (named_place (looks_of nat_eq world) did.task new to to_walked parts.to_named) place_after new_stepped
+        (directory_no_link (node_at nat_eq later place_after) directory_after) directory_after
+
+    abbrev Listed : Fresh ℕ → Type 0
+    Listed later_fresh = (policy nat_eq later_fresh later reader (Ls new)).answer ≡ Ok (Names (names_in was))
+
+    abbrev RefusedBy : Fresh ℕ → Rule → Type 0
+    RefusedBy later_fresh rule = (policy nat_eq later_fresh later reader (Ls new)).answer ≡ Err (denial rule)
+
+    new_listed : (later_fresh : Fresh ℕ) → Listed later_fresh ⊎ (RefusedBy later_fresh C1 ⊎ RefusedBy later_fresh W6)
+    new_listed later_fresh = by list_walk
+      where
+        read : (b : Bool)
+            → (policy nat_eq later_fresh later reader (Ls new)).answer
+            ≡ cond b (Ok (Names (names_in (node_at nat_eq later place_after)))) (Err (denial C1))
+            → Listed later_fresh ⊎ (RefusedBy later_fresh C1 ⊎ RefusedBy later_fresh W6)
+        read true e = inl (e ∙ ap (λ entries. Ok (Names (map (λ (entry : List ℕ × ℕ). entry.0) entries))) kept.names)
+        read false e = inr (inl e)
+
+        by : EndsThere Missing (directory_walk nat_eq (looks_of nat_eq later) reading new) place_after
+            (named_place (looks_of nat_eq world) did.task new to to_walked parts.to_named).here.left
+            → Listed later_fresh ⊎ (RefusedBy later_fresh C1 ⊎ RefusedBy later_fresh W6)
+        by (inl ends) =
+            read (node_allows reading.credentials read_right (node_at nat_eq later place_after))
+            (list_of later later_fresh reader reading called new is_left.1 _ ends.1)
+        by (inr stop) = inr (inr (list_refused later later_fresh reader reading called new stop.0 stop.2
+            ∙ ap Err stop.1))
+
+    all_listed : reads_all reading.credentials ≡ true → (later_fresh : Fresh ℕ)
+        → Listed later_fresh ⊎ RefusedBy later_fresh W6
+    all_listed all later_fresh = by list_walk
+      where
+        may_read : (o : Option (Node ℕ)) → is_directory_node o ≡ true
+            → node_allows reading.credentials read_right o ≡ true
+        may_read None directory = absurd (true≢false (sym directory))
+        may_read (Some node) directory = read_all reading.credentials all node.attr node.content
+
+        by : EndsThere Missing (directory_walk nat_eq (looks_of nat_eq later) reading new) place_after
+            (named_place (looks_of nat_eq world) did.task new to to_walked parts.to_named).here.left
+            → Listed later_fresh ⊎ RefusedBy later_fresh W6
+        by (inl ends) =
+            inl (list_of later later_fresh reader reading called new is_left.1 _ ends.1
+            ∙ ap (λ b. cond b (Ok (Names (names_in (node_at nat_eq later place_after)))) (Err (denial C1)))
+            (may_read (node_at nat_eq later place_after) directory_after)
+            ∙ ap (λ entries. Ok (Names (map (λ (entry : List ℕ × ℕ). entry.0) entries))) kept.names)
+        by (inr stop) = inr (list_refused later later_fresh reader reading called new stop.0 stop.2 ∙ ap Err stop.1)
+
+-- what a granted rename of a directory to a free name was permitted, by the task that stands outside
+module _ (old new : List ℕ) (world : World ℕ) (fresh : Fresh ℕ) (name : TaskName) (task : Task ℕ) (from to : Place ℕ)
+    (is : IsWorld nat_eq world) (plain : IsPlain world) (serves : Serves nat_eq world fresh)
+    (called : task_called world name ≡ Some task)
+    (from_is : old_leaf_walk nat_eq (looks_of nat_eq world) task old ≡ Ok from)
+    (to_is : new_walk nat_eq (looks_of nat_eq world) task new ≡ Ok to)
+    (directory : is_directory_there nat_eq (looks_of nat_eq world) from ≡ true) (free : to.object ≡ None)
+    (stands : StandsOutside world task (object_there from))
+    (granted : (policy nat_eq fresh world name (Rename old new)).answer ≡ Ok Done) where
+  abbrev RenamedTold : Type 0
+  RenamedTold =
+      (line : StatLine) × IsAnswered world name (Lstat old) (Told line)
+      × IsAnsweredUnless W6 (policy nat_eq fresh world name (Rename old new)).world name (Lstat new) (Told line)
+      × IsRefused W6 (policy nat_eq fresh world name (Rename old new)).world name (Lstat old)
+      × ((reader : TaskName) (reading : Task ℕ)
+      → LooksFrom (policy nat_eq fresh world name (Rename old new)).world task reader reading
+      → IsAnsweredUnless W6 (policy nat_eq fresh world name (Rename old new)).world reader (Lstat new) (Told line)
+      × IsRefused W6 (policy nat_eq fresh world name (Rename old new)).world reader (Lstat old))
+
+  abbrev RenamedListed : Type 0
+  RenamedListed =
+      (names : List (List ℕ)) × IsAnsweredUnless C1 world name (Ls old) (Names names)
+      × IsAnsweredUnlessBy C1 W6 (policy nat_eq fresh world name (Rename old new)).world name (Ls new) (Names names)
+      × ((reader : TaskName) (reading : Task ℕ)
+      → LooksFrom (policy nat_eq fresh world name (Rename old new)).world task reader reading
+      → IsAnsweredUnless W6 (policy nat_eq fresh world name (Rename old new)).world reader (Ls new) (Names names))
+
+  did : IsPermitted world fresh name (Rename old new) Done
+  did = permitted world fresh name (Rename old new) Done refl granted
+
+  task_is : did.task ≡ task
+  task_is = same_Some did.task task (sym did.called ∙ called)
+
+  to_here : new_walk nat_eq (looks_of nat_eq world) did.task new ≡ Ok to
+  to_here = ap (λ t. new_walk nat_eq (looks_of nat_eq world) t new) task_is ∙ to_is
+
+  two : is_one_object nat_eq (looks_of nat_eq world) (object_there from) to.object ≡ false
+  two = ap (is_one_object nat_eq (looks_of nat_eq world) (object_there from)) free
+
+  parts : NamesParts (looks_of nat_eq world) did.task old new from to did.permit
+  parts =
+      names_parts (looks_of nat_eq world) did.task old new from to did.permit
+      (ap (λ t. old_leaf_walk nat_eq (looks_of nat_eq world) t old) task_is ∙ from_is) to_here two did.judged
+
+  to_walked : place_walk nat_eq (looks_of nat_eq world) did.task new ≡ Ok to
+  to_walked = new_parts (looks_of nat_eq world) did.task new to to_here
+
+  permit_is : did.permit ≡ ToRename from.parent (name_of from.last) to.parent (name_of to.last) (object_there from) None
+  permit_is = parts.permit_is ∙ ap
+      (ToRename from.parent (name_of from.last) to.parent (name_of to.last) (object_there from)) free
+
+  is_dir : is_directory_node ((files_at nat_eq world from.parent).tree.node (object_there from).node) ≡ true
+  is_dir = is_directory_before world fresh name old new from to is plain serves did parts directory
+
+  outside : StandsOutside world did.task (object_there from)
+  outside = subst (λ t. StandsOutside world t (object_there from)) (sym task_is) stands
+
+  caller_here : task_called (policy nat_eq fresh world name (Rename old new)).world name
+      ≡ Some (raised_task name did.task)
+  caller_here =
+      caller world fresh name (Rename old new) Done is plain serves refl refl did from.parent
+      (name_of from.last) to.parent
+      (name_of to.last) (object_there from) permit_is parts.uncovered is_dir outside
+
+  same_stand : (reader : TaskName) (reading : Task ℕ)
+      → LooksFrom (policy nat_eq fresh world name (Rename old new)).world task reader reading
+      → StandsAs did.task reading
+  same_stand reader reading looks =
+      subst (λ t. StandsAs t reading) (sym task_is) (all_stands _ task reader reading looks)
+
+  moved_told : RenamedTold
+  moved_told = (
+    stat_line (before world fresh name old new from to is plain serves did parts),
+    old_told world fresh name old new from to is plain serves did parts,
+    new_told world fresh name old new from to is plain serves did parts to_walked permit_is is_dir outside name
+        (raised_task name did.task) caller_here (raised_stands name did.task) (inl (raised_credentials name did.task)),
+    old_missing world fresh name old new from to is plain serves did parts to_walked permit_is is_dir outside name
+        (raised_task name did.task) caller_here (raised_stands name did.task) (inl (raised_credentials name did.task)),
+    λ reader reading looks. (
+      new_told world fresh name old new from to is plain serves did parts to_walked permit_is is_dir outside reader
+          reading looks.called
+          (same_stand reader reading looks) (inr looks.all),
+      old_missing world fresh name old new from to is plain serves did parts to_walked permit_is is_dir outside reader
+          reading looks.called
+          (same_stand reader reading looks) (inr looks.all),
+    ),
+  )
+
+  moved_listed : RenamedListed
+  moved_listed = (
+    names_in (before world fresh name old new from to is plain serves did parts),
+    old_listed world fresh name old new from to is plain serves did parts directory,
+    new_listed world fresh name old new from to is plain serves did parts to_walked permit_is is_dir outside name
+        (raised_task name did.task) caller_here (raised_stands name did.task) (inl (raised_credentials name did.task)),
+    λ reader reading looks.
+        all_listed world fresh name old new from to is plain serves did parts to_walked permit_is is_dir outside reader
+        reading looks.called
+        (same_stand reader reading looks) (inr looks.all) looks.all,
+  )
+
+pub rename_directory_then_lstat : RenameDirectoryThenLstat
+rename_directory_then_lstat old new world fresh name task from to is plain serves called from_is to_is directory free
+    stands granted =
+    moved_told old new world fresh name task from to is plain serves called from_is to_is directory free stands granted
+
+pub rename_directory_then_list : RenameDirectoryThenList
+rename_directory_then_list old new world fresh name task from to is plain serves called from_is to_is directory free
+    stands granted =
+    moved_listed old new world fresh name task from to is plain serves called from_is to_is directory free stands
+    granted

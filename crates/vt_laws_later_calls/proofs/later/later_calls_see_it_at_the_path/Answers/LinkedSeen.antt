@@ -1,0 +1,202 @@
+-- A name more leads to the object of the old one.
+use Rattle.std.proofs.Common.{◌≡◌, ◌≢◌, refl, sym, ap, subst, ◌∙◌, inl, inr, true≢false, ℕ, nat_eq, eqb-true, true, false, List, Some, is_some, Ok}
+use Rattle.std.specs.Prelude.{option_to_list, Bool}
+use Rattle.std.proofs.lemmas.Option.{same_Some}
+use Rattle.std.proofs.lemmas.Bool.{not-false}
+use Rattle.vt_spec.specs.Language.Answers.Answer.{Done, Told}
+use Rattle.vt_spec.specs.Language.Calls.{TaskName}
+use Rattle.vt_spec.specs.Language.Calls.Call.{LinkTo, Lstat}
+use Rattle.vt_spec.specs.Language.Changes.{Change, changed}
+use Rattle.vt_spec.specs.Lists.{Fresh}
+use Rattle.vt_spec.specs.Machine.Apply.{apply, stat_line}
+use Rattle.vt_spec.specs.Machine.Filesystems.{with_change}
+use Rattle.vt_spec.specs.Machine.Looks.{Looks, looks_of}
+use Rattle.vt_spec.specs.Machine.Looks as Look
+use Rattle.vt_spec.specs.Machine.Mounts.{Location, topmost}
+use Rattle.vt_spec.specs.Machine.Rows.{linking}
+use Rattle.vt_spec.specs.Machine.Permits.{Permit}
+use Rattle.vt_spec.specs.Machine.Permits.Permit.{ToChange}
+use Rattle.vt_spec.specs.Machine.Policy.{policy, raised_task}
+use Rattle.vt_spec.specs.Machine.Run.{Serves}
+use Rattle.vt_spec.specs.Machine.Walking.{Here, Place, is_special, name_of, place_walk, symlink_walk}
+use Rattle.vt_spec.specs.Machine.World.{Task, World, files_at, is_directory_at, node_at, task_called}
+use Rattle.vt_spec.specs.Machine.Invariants.{IsWorld}
+use Rattle.vt_spec.specs.Tree.{entries_in, entry_named, is_directory_node}
+use Rattle.vt_spec.proofs.Nodes.{directory_used}
+use Rattle.vt_laws_calls.specs.Inodes.{change_of}
+use Rattle.vt_laws_permits.specs.Sees.{SeesTo}
+use Rattle.vt_laws_permits.proofs.sees.SeesNames.{tree_here}
+use Rattle.vt_laws_permits.proofs.sees.SeesTasks.{given_permits_are_seen_to}
+use Rattle.vt_laws_trees.specs.Trees.{IsFileTree}
+use Rattle.vt_laws_worlds.specs.Worlds.Kept.{IsPlain}
+use Rattle.vt_laws_later_calls.specs.LaterPaths.{LinkThenLstat}
+use Rattle.vt_laws_later_calls.specs.Later.{IsAnswered}
+use Rattle.vt_laws_later_calls.proofs.AfterChange.{all_stays, later_mounts, spent}
+use Rattle.vt_laws_later_calls.proofs.Granted.{IsPermitted, permitted}
+use Rattle.vt_laws_later_calls.proofs.Looked.{lstat_of}
+use Rattle.vt_laws_later_calls.proofs.MadeSeen.{Never, new_leaf_parts, no_slash_there, surely}
+use Rattle.vt_laws_later_calls.proofs.OpenedNew.{given_of}
+use Rattle.vt_laws_later_calls.proofs.Readers.{MayLook, all_stands, caller, leads, own_name, raised_credentials, raised_stands, seen_at, seen_there, stepped_by, uncovered}
+use Rattle.vt_laws_later_calls.proofs.WaysChanges.{RightsStay, TreeStays, name_leads, named_other, rights_named, ways_named}
+use Rattle.vt_laws_later_calls.proofs.WaysPlaces.{named_place, symlink_named_too}
+use Rattle.vt_laws_later_calls.proofs.WaysStay.{StandsAs}
+use Rattle.vt_laws_rules.specs.Granted.{IsGranted}
+use Rattle.vt_laws_rules.specs.Granted.IsGranted.{makes_hard_link}
+
+-- what a granted link was permitted
+record LinkParts (looks : Looks ℕ) (task : Task ℕ) (old new : List ℕ) (permit : Permit ℕ) : Type 0 where
+  from : Here ℕ
+  found : symlink_walk nat_eq looks task old ≡ Ok from
+  place : Place ℕ
+  walked : place_walk nat_eq looks task new ≡ Ok place
+  named : is_special place.last ≡ false
+  no_slash : place.slash ≡ false
+  no_directory : Look.is_directory_at looks from.location ≡ false
+  one_mount : nat_eq from.location.mount place.parent.mount ≡ true
+  permit_is : permit ≡ ToChange place.parent (linking from.location place)
+
+link_parts : (looks : Looks ℕ) {too_many : Permit ℕ → Bool} (task : Task ℕ) (old new : List ℕ) (permit : Permit ℕ)
+    → IsGranted nat_eq looks too_many task (LinkTo old new) permit → LinkParts looks task old new permit
+link_parts looks task old new permit (makes_hard_link _ _ from place from_end end word passed) =
+    let leaf = new_leaf_parts looks task new place end in
+    record {
+      from = from;
+      found = from_end;
+      place = place;
+      walked = leaf.0;
+      named = word.0;
+      no_slash = no_slash_there place.slash (is_some place.object) passed.0 leaf.1;
+      no_directory = passed.1.0;
+      one_mount = not-false _ passed.1.1.1.1.1.0;
+      permit_is = refl;
+    }
+
+module _ (world : World ℕ) (fresh : Fresh ℕ) (name : TaskName) (old new : List ℕ) (is : IsWorld nat_eq world)
+    (plain : IsPlain world) (serves : Serves nat_eq world fresh)
+    (did : IsPermitted world fresh name (LinkTo old new) Done)
+    (parts : LinkParts (looks_of nat_eq world) did.task old new did.permit) where
+  abbrev place : Place ℕ
+  place = parts.place
+
+  abbrev object : Location ℕ
+  object = parts.from.location
+
+  abbrev change : Change ℕ
+  change = linking object place
+
+  abbrev later : World ℕ
+  later = (policy nat_eq fresh world name (LinkTo old new)).world
+
+  seen_to : SeesTo world did.task (ToChange place.parent change)
+  seen_to =
+      subst (SeesTo world did.task) parts.permit_is
+      (given_permits_are_seen_to world fresh did.task did.permit is plain
+      (given_of world fresh name (LinkTo old new) Done serves refl refl did))
+
+  in_directory : is_directory_at nat_eq world place.parent ≡ true
+  in_directory = seen_to.1.name_is_free.in_directory
+
+  something : is_some (node_at nat_eq world place.parent) ≡ true
+  something = directory_used (files_at nat_eq world place.parent).tree place.parent.node in_directory
+
+  tree : IsFileTree (files_at nat_eq world place.parent)
+  tree = tree_here world is place.parent in_directory
+
+  asks : change_of fresh world did.permit ≡ Some (place.parent, change)
+  asks = ap (change_of fresh world) parts.permit_is
+
+  does : spent world fresh name (LinkTo old new) Done is plain serves refl refl did
+      ≡ with_change nat_eq fresh world place.parent change
+  does = ap (λ p. (apply nat_eq fresh world did.task p).world) parts.permit_is
+
+  stay : TreeStays (files_at nat_eq world place.parent).tree
+      (changed nat_eq (files_at nat_eq world place.parent) change).tree Never
+  stay = ways_named (files_at nat_eq world place.parent) Never place.parent.node
+      (name_of place.last) object.node in_directory seen_to.1.name_is_free.free
+
+  rights : RightsStay (files_at nat_eq world place.parent).tree
+      (changed nat_eq (files_at nat_eq world place.parent) change).tree
+  rights = rights_named (files_at nat_eq world place.parent) Never place.parent.node
+      (name_of place.last) object.node in_directory seen_to.1.name_is_free.free
+
+  -- the object, through the mount of the new name
+  named_object : Location ℕ
+  named_object = record { mount = place.parent.mount; node = object.node }
+
+  same_object : object ≡ record { mount = place.parent.mount; node = object.node }
+  same_object = λ i. record { mount = eqb-true object.mount place.parent.mount parts.one_mount i; node = object.node }
+
+  object_other : object.node ≢ place.parent.node
+  object_other same =
+      true≢false (sym in_directory ∙ ap (λ n. is_directory_node ((files_at nat_eq world place.parent).tree.node n))
+      (sym same)
+      ∙ sym (ap (is_directory_at nat_eq world) same_object) ∙ parts.no_directory)
+
+  there : (reader : TaskName) (reading : Task ℕ) → task_called later reader ≡ Some reading
+      → StandsAs did.task reading → MayLook did.task reading
+      → IsAnswered later reader (Lstat new) (Told (stat_line (node_at nat_eq world object)))
+  there reader reading called stands looks later_fresh =
+      let own = own_name later reader reading called in
+      let at_name = named_place (looks_of nat_eq world) did.task new place parts.walked parts.named in
+      let walk = surely _ _ _ (symlink_named_too (looks_of nat_eq world)
+      (looks_of nat_eq later) did.task reading Never _
+      (leads world fresh name
+      (LinkTo old new) Done is plain serves refl refl did place.parent change fresh asks does something tt tree Never
+      stay
+      reading own stands rights looks) new place parts.named at_name
+      (record { mount = place.parent.mount; node = object.node })
+      (λ known.
+      stepped_by later reading place.parent place.last parts.named (Some object.node)
+      (ap (λ o. entry_named (name_of place.last) (entries_in o))
+      (seen_there world fresh name
+      (LinkTo old new) Done is plain serves refl refl did place.parent change fresh asks does something tt tree Never
+      stay
+      reading own stands known)
+      ∙ name_leads (files_at nat_eq world place.parent) Never place.parent.node
+      (name_of place.last) object.node in_directory seen_to.1.name_is_free.free)
+      ∙ ap Ok (ap (λ mounts. topmost nat_eq mounts (record { mount = place.parent.mount; node = object.node }))
+      (later_mounts world fresh name
+      (LinkTo old new) Done is plain serves refl refl did place.parent change fresh asks does something tt tree)
+      ∙ uncovered world is (record { mount = place.parent.mount; node = object.node })
+      (sym (ap (is_directory_at nat_eq world) same_object) ∙ parts.no_directory)))
+      (λ slash. absurd (true≢false (sym slash ∙ at_name.slash_is ∙ parts.no_slash)))) in
+      lstat_of later later_fresh reader reading called new _ walk.1
+      ∙ ap (λ o. Ok (Told (stat_line o)))
+      (seen_at world fresh name
+      (LinkTo old new) Done is plain serves refl refl did place.parent change fresh asks does something tt tree Never
+      stay
+      reading own stands object.node
+      ∙ all_stays world fresh name
+      (LinkTo old new) Done is plain serves refl refl did place.parent change fresh asks does something tt tree
+      (ap option_to_list seen_to.1.name_is_free.free) object.node
+      ∙ named_other (files_at nat_eq world place.parent) Never place.parent.node
+      (name_of place.last) object.node in_directory seen_to.1.name_is_free.free
+      object.node object_other
+      ∙ sym (ap (node_at nat_eq world) same_object))
+
+  caller_there : task_called later name ≡ Some (raised_task name did.task)
+  caller_there =
+      caller world fresh name
+      (LinkTo old new) Done is plain serves refl refl did place.parent change fresh asks does something tt tree Never
+      stay
+
+pub link_then_lstat : LinkThenLstat
+link_then_lstat old new world fresh name task is plain serves called granted = (
+  stat_line (node_at nat_eq world parts.from.location),
+  λ other_fresh. lstat_of world other_fresh name did.task did.called old parts.from parts.found,
+  there world fresh name old new is plain serves did parts name (raised_task name did.task)
+      (caller_there world fresh name old new is plain serves did parts) (raised_stands name did.task)
+      (inl (raised_credentials name did.task)),
+  λ reader reading looks.
+      there world fresh name old new is plain serves did parts reader reading looks.called
+      (subst (λ t. StandsAs t reading) (sym task_is) (all_stands _ task reader reading looks)) (inr looks.all),
+)
+  where
+    did : IsPermitted world fresh name (LinkTo old new) Done
+    did = permitted world fresh name (LinkTo old new) Done refl granted
+
+    task_is : did.task ≡ task
+    task_is = same_Some did.task task (sym did.called ∙ called)
+
+    parts : LinkParts (looks_of nat_eq world) did.task old new did.permit
+    parts = link_parts (looks_of nat_eq world) did.task old new did.permit did.granted

@@ -1,0 +1,161 @@
+-- A name that was removed is missing.
+use Rattle.std.proofs.Common.{◌≡◌, refl, sym, ap, subst, ◌∙◌, inl, inr, ℕ, nat_eq, true, false, not, ◌&&◌, List, [], ◌∷◌, Some, None, is_some, Ok, Err}
+use Rattle.std.proofs.lemmas.Option.{same_Some}
+use Rattle.vt_spec.specs.declared.errors.Deny.{Deny}
+use Rattle.vt_spec.specs.declared.errors.Rule.TheVariants.{W3, W6}
+use Rattle.vt_spec.specs.Errors.{denial}
+use Rattle.vt_spec.specs.Language.Answers.Answer.{Done}
+use Rattle.vt_spec.specs.Language.Calls.{TaskName}
+use Rattle.vt_spec.specs.Language.Calls.Call.{Lstat, Unlink}
+use Rattle.vt_spec.specs.Language.Changes.{Change}
+use Rattle.vt_spec.specs.Lists.{Fresh}
+use Rattle.vt_spec.specs.Machine.Apply.{apply}
+use Rattle.vt_spec.specs.Machine.Looks.{Looks, looks_of}
+use Rattle.vt_spec.specs.Machine.Permits.{Permit}
+use Rattle.vt_spec.specs.Machine.Permits.Permit.{ToChange}
+use Rattle.vt_spec.specs.Machine.Policy.{policy, raised_task}
+use Rattle.vt_spec.specs.Machine.Run.{Serves}
+use Rattle.vt_spec.specs.Machine.Rules.Removing.{object_there, removing}
+use Rattle.vt_spec.specs.Machine.Walking.{Place, is_directory_there, is_special, name_of, old_walk, place_walk}
+use Rattle.vt_spec.specs.Machine.World.{Task, World, files_at, is_directory_at, node_at, task_called}
+use Rattle.vt_spec.specs.Machine.Invariants.{IsWorld}
+use Rattle.vt_spec.specs.Tree.{entries_in, entry_named}
+use Rattle.vt_spec.proofs.Nodes.{directory_used}
+use Rattle.vt_laws_calls.specs.Inodes.{change_of}
+use Rattle.vt_laws_permits.specs.Sees.{SeesTo}
+use Rattle.vt_laws_permits.proofs.sees.SeesNames.{tree_here}
+use Rattle.vt_laws_permits.proofs.sees.SeesTasks.{given_permits_are_seen_to}
+use Rattle.vt_laws_trees.specs.Trees.{IsFileTree}
+use Rattle.vt_laws_worlds.specs.Worlds.Kept.{IsPlain}
+use Rattle.vt_laws_later_calls.specs.LaterPaths.{UnlinkThenLstat}
+use Rattle.vt_laws_later_calls.proofs.Granted.{IsPermitted, permitted}
+use Rattle.vt_laws_later_calls.proofs.Looked.{lstat_refused}
+use Rattle.vt_laws_later_calls.proofs.OpenedNew.{given_of}
+use Rattle.vt_laws_later_calls.proofs.Readers.{MayLook, all_stands, caller, leads, own_name, raised_credentials, raised_stands, seen_there, stepped_by}
+use Rattle.vt_laws_later_calls.proofs.Ways.{both_walked, walk_passing}
+use Rattle.vt_laws_later_calls.proofs.WaysChanges.{name_missing, rights_removed, ways_removed}
+use Rattle.vt_laws_later_calls.proofs.WaysPlaces.{named_place, symlink_missing}
+use Rattle.vt_laws_later_calls.proofs.WaysStay.{StandsAs}
+use Rattle.vt_spec.proofs.NodeChanges.{directory_from_entry}
+use Rattle.std.specs.Prelude.{Bool}
+use Rattle.vt_laws_rules.specs.Granted.{IsGranted}
+use Rattle.vt_laws_rules.specs.Granted.IsGranted.{unlinks}
+
+-- a name may be missing
+abbrev pub Missing : Deny → Type 0
+Missing deny = deny ≡ denial W6
+
+-- what a walk to an old name found
+pub old_parts : (looks : Looks ℕ) (task : Task ℕ) (path : List ℕ) (place : Place ℕ)
+    → old_walk nat_eq looks task path ≡ Ok place
+    → (place_walk nat_eq looks task path ≡ Ok place) × (not (is_some place.object) ≡ false)
+old_parts looks task path place e =
+    let walks = both_walked (place_walk nat_eq looks task path) _ place e in
+    let parts = walk_passing walks.0.steps ((not (is_some walks.0.object), W6) ∷ []) walks.0 place walks.2 in
+    (walks.1 ∙ ap Ok parts.1, ap (λ (p : Place ℕ). not (is_some p.object)) (sym parts.1) ∙ parts.0.0)
+
+-- what a granted unlink was permitted
+record UnlinkParts (looks : Looks ℕ) (task : Task ℕ) (path : List ℕ) (permit : Permit ℕ) : Type 0 where
+  place : Place ℕ
+  walked : place_walk nat_eq looks task path ≡ Ok place
+  named : is_special place.last ≡ false
+  permit_is : permit ≡ ToChange place.parent (removing place (object_there place))
+
+unlink_parts : (looks : Looks ℕ) {too_many : Permit ℕ → Bool} (task : Task ℕ) (path : List ℕ) (permit : Permit ℕ)
+    → IsGranted nat_eq looks too_many task (Unlink path) permit → UnlinkParts looks task path permit
+unlink_parts looks task path permit (unlinks _ place end named passed) =
+    let olds = both_walked (old_walk nat_eq looks task path) _ place end in
+    let slash = walk_passing olds.0.steps
+    ((olds.0.slash && not (is_directory_there nat_eq looks olds.0), W3) ∷ []) olds.0 place olds.2 in
+    let old = old_parts looks task path place (olds.1 ∙ ap Ok slash.1) in
+    record { place = place; walked = old.0; named = named.0; permit_is = refl }
+
+module _ (world : World ℕ) (fresh : Fresh ℕ) (name : TaskName) (path : List ℕ) (is : IsWorld nat_eq world)
+    (plain : IsPlain world) (serves : Serves nat_eq world fresh) (did : IsPermitted world fresh name (Unlink path) Done)
+    (parts : UnlinkParts (looks_of nat_eq world) did.task path did.permit) where
+  abbrev place : Place ℕ
+  place = parts.place
+
+  abbrev change : Change ℕ
+  change = removing place (object_there place)
+
+  abbrev later : World ℕ
+  later = (policy nat_eq fresh world name (Unlink path)).world
+
+  seen_to : SeesTo world did.task (ToChange place.parent change)
+  seen_to =
+      subst (SeesTo world did.task) parts.permit_is
+      (given_permits_are_seen_to world fresh did.task did.permit is plain
+      (given_of world fresh name (Unlink path) Done serves refl refl did))
+
+  in_directory : is_directory_at nat_eq world place.parent ≡ true
+  in_directory =
+      directory_from_entry (name_of place.last) (object_there place).node
+      ((files_at nat_eq world place.parent).tree.node place.parent.node)
+      seen_to.1.named
+
+  something : is_some (node_at nat_eq world place.parent) ≡ true
+  something = directory_used (files_at nat_eq world place.parent).tree place.parent.node in_directory
+
+  tree : IsFileTree (files_at nat_eq world place.parent)
+  tree = tree_here world is place.parent in_directory
+
+  gone : (reader : TaskName) (reading : Task ℕ) → task_called later reader ≡ Some reading
+      → StandsAs did.task reading → MayLook did.task reading → (later_fresh : Fresh ℕ)
+      → (policy nat_eq later_fresh later reader (Lstat path)).answer ≡ Err (denial W6)
+  gone reader reading called stands looks later_fresh =
+      let stop = symlink_missing (looks_of nat_eq world) (looks_of nat_eq later) did.task reading Missing _
+      (leads world fresh name (Unlink path) Done is plain serves refl refl did place.parent change fresh
+      (ap (change_of fresh world) parts.permit_is)
+      (ap (λ p. (apply nat_eq fresh world did.task p).world) parts.permit_is) something tt tree Missing
+      (ways_removed (files_at nat_eq world place.parent) Missing place.parent.node (name_of place.last)
+      (object_there place).node
+      seen_to.1.named seen_to.2 refl)
+      reading (own_name later reader reading called) stands
+      (rights_removed (files_at nat_eq world place.parent) Missing place.parent.node (name_of place.last)
+      (object_there place).node
+      seen_to.1.named seen_to.2) looks)
+      path place parts.named (named_place (looks_of nat_eq world) did.task path place parts.walked parts.named)
+      (denial W6) refl
+      (λ known.
+      stepped_by later reading place.parent place.last parts.named None
+      (ap (λ o. entry_named (name_of place.last) (entries_in o))
+      (seen_there world fresh name (Unlink path) Done is plain serves refl refl did place.parent change fresh
+      (ap (change_of fresh world) parts.permit_is)
+      (ap (λ p. (apply nat_eq fresh world did.task p).world) parts.permit_is) something tt tree Missing
+      (ways_removed (files_at nat_eq world place.parent) Missing place.parent.node (name_of place.last)
+      (object_there place).node
+      seen_to.1.named seen_to.2 refl)
+      reading (own_name later reader reading called) stands known)
+      ∙ name_missing (files_at nat_eq world place.parent) Missing place.parent.node (name_of place.last)
+      (object_there place).node
+      seen_to.1.named seen_to.2)) in
+      lstat_refused later later_fresh reader reading called path stop.0 stop.2 ∙ ap Err stop.1
+
+  caller_there : task_called later name ≡ Some (raised_task name did.task)
+  caller_there =
+      caller world fresh name (Unlink path) Done is plain serves refl refl did place.parent change fresh
+      (ap (change_of fresh world) parts.permit_is)
+      (ap (λ p. (apply nat_eq fresh world did.task p).world) parts.permit_is) something tt tree Missing
+      (ways_removed (files_at nat_eq world place.parent) Missing place.parent.node (name_of place.last)
+      (object_there place).node
+      seen_to.1.named seen_to.2 refl)
+
+pub unlink_then_lstat : UnlinkThenLstat
+unlink_then_lstat path world fresh name task is plain serves called granted = (
+  gone world fresh name path is plain serves did parts name (raised_task name did.task)
+      (caller_there world fresh name path is plain serves did parts) (raised_stands name did.task)
+      (inl (raised_credentials name did.task)),
+  λ reader reading looks.
+      gone world fresh name path is plain serves did parts reader reading looks.called
+      (subst (λ t. StandsAs t reading) (sym task_is) (all_stands _ task reader reading looks)) (inr looks.all),
+)
+  where
+    did : IsPermitted world fresh name (Unlink path) Done
+    did = permitted world fresh name (Unlink path) Done refl granted
+
+    task_is : did.task ≡ task
+    task_is = same_Some did.task task (sym did.called ∙ called)
+
+    parts : UnlinkParts (looks_of nat_eq world) did.task path did.permit
+    parts = unlink_parts (looks_of nat_eq world) did.task path did.permit did.granted

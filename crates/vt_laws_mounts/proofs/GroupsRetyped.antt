@@ -1,0 +1,185 @@
+-- Groups live on through a change of type.
+use Rattle.std.proofs.Common.{◌≡◌, refl, sym, ap, subst, ◌∙◌, true, false, nat_eq, Bool, List, Option, Some, [], eq-eqb, eqb-true, inl, inr, is_some, true≢false, ⊎_elim, ◌∷◌, ◌⊎◌, ℕ, length}
+use Rattle.std.specs.List.{list_any}
+use Rattle.vt_spec.specs.Machine.Mounts.{Mount, Propagation, index_of, source_of}
+use Rattle.vt_spec.specs.Machine.Mounts.Propagation.{Private, Shared, Slave, Unbindable}
+use Rattle.vt_spec.specs.Language.Calls.TypeWord.{ToPrivate, ToShared, ToSlave, ToUnbindable}
+use Rattle.vt_laws_mounts.proofs.GroupsUp.{EndsUp, LivesIn, lives_in}
+use Rattle.vt_laws_mounts.proofs.GroupsUp.EndsUp.{at_top, goes_up}
+use Rattle.vt_spec.specs.Machine.Invariants.Lives.{has_master, has_no_master}
+use Rattle.vt_spec.proofs.Lists.{Among, among-from_map, any_among, is_among_numbers}
+use Rattle.vt_spec.specs.Lists.{is_among}
+use Rattle.vt_laws_mounts.specs.Mounts.Receivers.{GroupsLive}
+use Rattle.vt_laws_mounts.specs.Mounts.Invariants.{TypeKeepsGroups}
+use Rattle.vt_spec.specs.Language.Calls.{TypeWord}
+use Rattle.vt_spec.specs.Machine.World.{World, mount_numbered}
+use Rattle.vt_laws_mounts.proofs.mounts.MountsRetyped.{between, groups_by, next_world, retype, retyped_if}
+use Rattle.std.proofs.lemmas.Bool.Decides.{eqb_tells}
+use Rattle.std.proofs.lemmas.Bool.{false_from_ne_true}
+use Rattle.vt_spec.specs.Machine.Receives.{has_members, is_member_of}
+use Rattle.std.specs.Prelude.{if◌then◌else◌, option_to_list}
+use Rattle.vt_spec.specs.Machine.Types.{master_after, named_mounts, type_after, with_master, with_new_groups}
+use Rattle.vt_laws_mounts.proofs.GroupsKept.{member_shared, regrouped_live}
+use Rattle.vt_spec.specs.Machine.Run.{numbers_in_use, used_by_mount}
+use Rattle.vt_laws_mounts.proofs.mounts.MountsNumbered.{mount_uses}
+use Rattle.std.proofs.lemmas.Option.{same_Some}
+use Rattle.vt_spec.proofs.Worlds.{found_or_none, tree_among}
+
+-- what a type that is taken has as its source
+source_taken : (new : ℕ) (word : TypeWord) (kind : Propagation ℕ) (source : ℕ)
+    → source_of (type_after new word kind) ≡ Some source → (source ≡ new) ⊎ (source_of kind ≡ Some source)
+source_taken new ToShared (Shared group) source e = inr e
+source_taken new ToShared (Slave above) source e = inl (sym (same_Some new source e))
+source_taken new ToShared Private source e = inl (sym (same_Some new source e))
+source_taken new ToShared Unbindable source e = inl (sym (same_Some new source e))
+source_taken new ToSlave (Shared group) source e = inr e
+source_taken new ToSlave (Slave above) source e = inr e
+source_taken new ToSlave Private source e = inr e
+source_taken new ToSlave Unbindable source e = inr e
+source_taken new ToPrivate kind source e = absurd (true≢false (sym (ap is_some e)))
+source_taken new ToUnbindable kind source e = absurd (true≢false (sym (ap is_some e)))
+
+-- the master of a group after new groups were made: as it was, or that of the mount for which the group is new
+module _ (group : ℕ → ℕ) where
+  IsNewMaster : List (Mount ℕ) → ℕ → Option ℕ → Type 0
+  IsNewMaster named one above =
+      (mount : Mount ℕ) × Among mount named × (one ≡ group mount.number) × (above ≡ master_after mount.propagation)
+
+  new_or_old : (master : ℕ → Option ℕ) (named : List (Mount ℕ)) (one : ℕ)
+      → (with_new_groups nat_eq group master named one ≡ master one)
+      ⊎ IsNewMaster named one (with_new_groups nat_eq group master named one)
+  unfolding IsNewMaster
+  new_or_old master [] one = inl refl
+  new_or_old master (first ∷ rest) one =
+      ⊎_elim
+      (λ kept.
+      ⊎_elim
+      (λ other. inl (kept ∙ ap (λ b. if b then master_after first.propagation else master one) other.0))
+      (λ same. inr (
+        first,
+        inl refl,
+        same.1,
+        kept ∙ ap (λ b. if b then master_after first.propagation else master one) same.0,
+      ))
+      (either one (group first.number)))
+      (λ t. inr (t.0, inr t.1, t.2, t.3))
+      (new_or_old (with_master nat_eq master (group first.number) (master_after first.propagation)) rest one)
+    where
+      either : (a b : ℕ) → ((nat_eq a b ≡ false) × Unit {0}) ⊎ ((nat_eq a b ≡ true) × (a ≡ b))
+      either a b = ⊎_elim (λ t. inr t) (λ t. inl (t.0, tt)) (eqb_tells a b)
+
+  -- a group that is made for one of them has a new master
+  new_for_one : (master : ℕ → Option ℕ) (named : List (Mount ℕ)) (mount : Mount ℕ) → Among mount named
+      → IsNewMaster named (group mount.number) (with_new_groups nat_eq group master named (group mount.number))
+  unfolding IsNewMaster
+  new_for_one master [] mount m = absurd m
+  new_for_one master (first ∷ rest) mount m =
+      ⊎_elim
+      (λ kept.
+      ⊎_elim
+      (λ e. (
+        first,
+        inl refl,
+        ap (λ (x : Mount ℕ). group x.number) e,
+        kept ∙ ap (λ b. if b then master_after first.propagation else master (group mount.number))
+            (eq-eqb (group mount.number) (group first.number) (ap (λ (x : Mount ℕ). group x.number) e)),
+      ))
+      (λ l.
+      let t =
+      new_for_one (with_master nat_eq master (group first.number) (master_after first.propagation)) rest mount l in
+      (t.0, inr t.1, t.2, t.3))
+      m)
+      (λ t. (t.0, inr t.1, t.2, t.3))
+      (new_or_old (with_master nat_eq master (group first.number) (master_after first.propagation)) rest
+      (group mount.number))
+
+module _ (world : World ℕ) (group : ℕ → ℕ) (word : TypeWord) (named : List (Mount ℕ)) (live : GroupsLive world)
+    (none : (number : ℕ) → has_members nat_eq world.mounts (group number) ≡ false)
+    (sourced : (mount : Mount ℕ) → Among mount named
+    → (source : ℕ) → source_of mount.propagation ≡ Some source → Among mount world.mounts) where
+  abbrev after_all : ℕ → Option ℕ
+  after_all = with_new_groups nat_eq group world.master named
+
+  other_master : (one : ℕ) → has_members nat_eq world.mounts one ≡ true → after_all one ≡ world.master one
+  unfolding IsNewMaster
+  other_master one has =
+      ⊎_elim (λ kept. kept)
+      (λ t. absurd (true≢false (sym has ∙ ap (has_members nat_eq world.mounts) t.2 ∙ none t.0.number)))
+      (new_or_old group world.master named one)
+
+  still_ends : (one : ℕ) → LivesIn world one → EndsUp after_all one
+  still_ends one (has_no_master it has e) = at_top it (other_master it has ∙ e)
+  still_ends one (has_master it next has e later) = goes_up it next (other_master it has ∙ e) (still_ends next later)
+
+  new_ends : (mount : Mount ℕ) → Among mount named → EndsUp after_all (group mount.number)
+  unfolding IsNewMaster
+  new_ends mount m =
+      let t = new_for_one group world.master named mount m in
+      by t.0 t.1 t.0.propagation refl t.3
+    where
+      by : (x : Mount ℕ) → Among x named → (kind : Propagation ℕ) → x.propagation ≡ kind
+          → after_all (group mount.number) ≡ master_after x.propagation → EndsUp after_all (group mount.number)
+      by x l (Shared one) e is = at_top (group mount.number) (is ∙ ap master_after e)
+      by x l (Slave above) e is =
+          goes_up (group mount.number) above (is ∙ ap master_after e)
+          (still_ends above (lives_in world live x (sourced x l above (ap source_of e)) above (ap source_of e)))
+      by x l Private e is = at_top (group mount.number) (is ∙ ap master_after e)
+      by x l Unbindable e is = at_top (group mount.number) (is ∙ ap master_after e)
+
+  pub all_live : GroupsLive (next_world world group word named)
+  all_live = regrouped_live (between world group word named) (λ mount m source e.
+      let from = among-from_map (retype world group word named) world.mounts mount m in
+      by from.0 from.1 (list_any (λ (other : Mount ℕ). nat_eq from.0.number other.number) named) refl source
+      (sym (ap (λ x. source_of x.propagation) from.2) ∙ e))
+    where
+      by : (old : Mount ℕ) → Among old world.mounts → (b : Bool)
+          → list_any (λ (other : Mount ℕ). nat_eq old.number other.number) named ≡ b
+          → (source : ℕ) → source_of (retype world group word named old).propagation ≡ Some source
+          → EndsUp after_all source
+      by old m true e source f =
+          let chosen = any_among (λ (other : Mount ℕ). nat_eq old.number other.number) named e in
+          let same : old.number ≡ chosen.0.number = eqb-true old.number chosen.0.number chosen.2 in
+          ⊎_elim
+          (λ new. subst (EndsUp after_all) (ap group (sym same) ∙ sym new) (new_ends chosen.0 chosen.1))
+          (λ was. still_ends source (lives_in world live old m source was))
+          (source_taken (group old.number) word old.propagation source
+          (sym (ap (λ b. source_of (retyped_if world group word named old b).propagation) e) ∙ f))
+      by old m false e source f =
+          still_ends source (lives_in world live old m source
+          (sym (ap (λ b. source_of (retyped_if world group word named old b).propagation) e) ∙ f))
+
+-- numbers that are not in use have no members
+pub unused_members : (world : World ℕ) (number : ℕ) → is_among nat_eq number (numbers_in_use world) ≡ false
+    → has_members nat_eq world.mounts number ≡ false
+unused_members world number h = false_from_ne_true (has_members nat_eq world.mounts number) (λ has.
+    let member = any_among (is_member_of nat_eq number) world.mounts has in
+    let shared = member_shared number member.0 member.2 in
+    let used : Among number (used_by_mount member.0) =
+    inr (subst (λ k. Among number (option_to_list (source_of k))) (sym shared) (inl refl)) in
+    let among = mount_uses world member.0 member.1 number used in
+    true≢false (sym (is_among_numbers (numbers_in_use world) number among) ∙ h))
+
+-- a named mount with a source is one of the world's
+named_sourced : (world : World ℕ) (number : ℕ) (recursive : Bool) (mount : Mount ℕ)
+    → Among mount (named_mounts nat_eq world number recursive)
+    → (source : ℕ) → source_of mount.propagation ≡ Some source → Among mount world.mounts
+named_sourced world number recursive mount m source e = by recursive m
+  where
+    itself : mount ≡ mount_numbered nat_eq world number → Among mount world.mounts
+    itself same =
+        ⊎_elim (λ there. subst (λ x. Among x world.mounts) (sym same) there)
+        (λ none. absurd (true≢false (sym (ap is_some e) ∙ ap (λ x. is_some (source_of x.propagation)) (same ∙ none))))
+        (found_or_none world.mounts number)
+
+    by : (b : Bool) → Among mount (named_mounts nat_eq world number b) → Among mount world.mounts
+    by true l =
+        ⊎_elim itself (λ there. there)
+        (tree_among (length world.mounts) world.mounts (mount_numbered nat_eq world number) mount l)
+    by false l = ⊎_elim itself (λ none. absurd none) l
+
+pub type_keeps_groups : TypeKeepsGroups
+type_keeps_groups world fresh number word recursive serves live =
+    all_live world (groups_by world fresh number recursive) word (named_mounts nat_eq world number recursive) live
+    (λ other. unused_members world (groups_by world fresh number recursive other)
+    (serves.unused (index_of nat_eq (named_mounts nat_eq world number recursive) other)))
+    (named_sourced world number recursive)

@@ -1,0 +1,114 @@
+-- A mount outside every namespace stays nowhere where a tree of mounts is attached in one.
+use Rattle.std.proofs.Common.{◌≡◌, refl, sym, ap, ◌∙◌, true, false, nat_eq, ℕ, Bool, List, None, Option, Some, [], flat_map, is_some, map, not, true≢false, ⊎_elim, ◌&&◌, ◌++◌, ◌∷◌, ◌||◌}
+use Rattle.std.proofs.lemmas.Bool.{and_parts}
+use Rattle.vt_spec.proofs.Lists.{Among, among-append, among-from_filter, among-from_flat_map, among-from_map, among_from_list_all, list_all_from_among}
+use Rattle.vt_spec.specs.Machine.Attach.{Copies, added_mounts, attached_by, bind_tree, copies_at, copy_at, moved_tree, pushed_onto, reaches, receiver_stood_on, receivers_of, takes_part, with_moved_mounts}
+use Rattle.vt_spec.specs.Lists.{holds_of, rest_of}
+use Rattle.vt_spec.specs.Machine.Mounts.{Location, Mount, same_location, stands_at}
+use Rattle.vt_spec.specs.Machine.NewMounts.{new_mount, with_new_filesystem}
+use Rattle.vt_spec.specs.Machine.World.{World, mount_at}
+use Rattle.vt_spec.specs.Machine.Invariants.{is_nowhere_or_attached, is_private}
+use Rattle.vt_laws_mounts.specs.Mounts.Attached.{BindsKeepNowhere, MovesKeepNowhere, NewMountsKeepNowhere}
+use Rattle.vt_laws_mounts.specs.Mounts.Invariants.{NowhereOrAttached}
+use Rattle.vt_laws_mounts.proofs.mounts.MountsAttached.{arriving, graft, moved_ones, parts, push, supplied}
+use Rattle.vt_laws_mounts.proofs.mounts.MountsFound.{found_in}
+use Rattle.vt_spec.proofs.Worlds.{among-folded_mounts}
+
+module _ (world : World ℕ) (new : Copies ℕ) (place : Location ℕ) (moves : Bool) (mounts : List (Mount ℕ))
+    (nowhere : NowhereOrAttached world) (attached : is_some (mount_at nat_eq world place).namespace ≡ true) where
+  abbrev IsFit : Mount ℕ → Type 0
+  IsFit mount = is_nowhere_or_attached mount ≡ true
+
+  abbrev part_list : List (Mount ℕ)
+  part_list = parts world new place moves mounts
+
+  abbrev copies : Mount ℕ → List (Mount ℕ)
+  copies = copies_at nat_eq world new (graft world new place moves mounts) part_list
+
+  -- a copy is in the namespace of its part
+  copy_fits : (part copy : Mount ℕ) → is_some part.namespace ≡ true → Among copy (copies part) → IsFit copy
+  copy_fits part copy e m =
+      let tree = graft world new place moves mounts in
+      let from = among-from_map (copy_at nat_eq world new tree part_list part) tree.twigs copy m in
+      ap is_nowhere_or_attached from.2
+      ∙ ap (λ b. b || (not true && is_private (copy_at nat_eq world new tree part_list part from.0).propagation)) e
+
+  taker_attached : (part : Mount ℕ) → Among part (rest_of part_list) → is_some part.namespace ≡ true
+  taker_attached part m =
+      let takes =
+      (among-from_filter (takes_part nat_eq world place) (receivers_of nat_eq world (mount_at nat_eq world place)) part
+      m).1 in
+      let elsewhere = not (nat_eq place.mount part.number) in
+      let alike = nat_eq (mount_at nat_eq world place).filesystem part.filesystem in
+      (and_parts elsewhere (is_some part.namespace)
+      (and_parts (elsewhere && is_some part.namespace) alike
+      (and_parts (elsewhere && is_some part.namespace && alike) (reaches nat_eq world place.node part) takes).0).0).1
+
+  -- what is pushed up stood at a place
+  push_fits : (mount : Mount ℕ) → IsFit mount → IsFit (push world new place moves mounts mount)
+  push_fits mount e = by (receiver_stood_on nat_eq (graft world new place moves mounts) part_list mount) refl
+    where
+      is_there : {A : Type 0} (test : A → Bool) (found : Option A) → holds_of test found ≡ true → is_some found ≡ true
+      is_there test None h = absurd (true≢false (sym h))
+      is_there test (Some a) h = refl
+
+      by : (part : Option (Mount ℕ))
+          → receiver_stood_on nat_eq (graft world new place moves mounts) part_list mount ≡ part
+          → IsFit (pushed_onto nat_eq world new (graft world new place moves mounts) part_list mount part)
+      by None f = e
+      by (Some part) f =
+          let at : Mount ℕ → Location ℕ = λ part. record { mount = part.number; node = place.node } in
+          let stood = (found_in (λ other. stands_at nat_eq (at other) mount) (rest_of part_list) part f).1 in
+          sym (ap (λ b. is_some mount.namespace || (not b && is_private mount.propagation))
+          (is_there (same_location nat_eq (at part)) mount.mount_point stood))
+          ∙ e
+
+  moved_fits : (b : Bool) (mount : Mount ℕ)
+      → Among mount (with_moved_mounts nat_eq b world.mounts (arriving world new place moves mounts)) → IsFit mount
+  moved_fits true mount m =
+      ⊎_elim
+      (λ old. among_from_list_all is_nowhere_or_attached world.mounts nowhere mount old)
+      (copy_fits (mount_at nat_eq world place) mount attached)
+      (among-folded_mounts world.mounts (arriving world new place moves mounts) mount m)
+  moved_fits false mount m = among_from_list_all is_nowhere_or_attached world.mounts nowhere mount m
+
+  added_fits : (b : Bool) (mount : Mount ℕ) → Among mount (added_mounts b (arriving world new place moves mounts))
+      → IsFit mount
+  added_fits true mount m = absurd m
+  added_fits false mount m = copy_fits (mount_at nat_eq world place) mount attached m
+
+  attach_keeps_nowhere : NowhereOrAttached (attached_by nat_eq world new place moves mounts)
+  attach_keeps_nowhere =
+      let old = map (push world new place moves mounts) (moved_ones world new place moves mounts) in
+      let added = added_mounts moves (arriving world new place moves mounts) in
+      let rest = flat_map copies (rest_of part_list) in
+      list_all_from_among is_nowhere_or_attached ((old ++ added) ++ rest) (λ mount m.
+      ⊎_elim
+      (λ front.
+      ⊎_elim
+      (λ pushed.
+      let from =
+      among-from_map (push world new place moves mounts) (moved_ones world new place moves mounts) mount pushed in
+      ap is_nowhere_or_attached from.2 ∙ push_fits from.0 (moved_fits moves from.0 from.1))
+      (added_fits moves mount)
+      (among-append old added mount front))
+      (λ later.
+      let from = among-from_flat_map copies (rest_of part_list) mount later in
+      copy_fits from.0 mount (taker_attached from.0 from.1) from.2)
+      (among-append (old ++ added) rest mount m))
+
+pub binds_keep_nowhere : BindsKeepNowhere
+binds_keep_nowhere world fresh source place recursive nowhere attached =
+    let mounts = bind_tree nat_eq world source recursive in
+    attach_keeps_nowhere world (supplied world fresh place mounts) place false mounts nowhere attached
+
+pub new_mounts_keep_nowhere : NewMountsKeepNowhere
+new_mounts_keep_nowhere world fresh place filesystem flags nowhere attached =
+    let larger = with_new_filesystem world filesystem in
+    let mounts = new_mount filesystem.number filesystem.files.tree.root flags ∷ [] in
+    attach_keeps_nowhere larger (supplied larger fresh place mounts) place false mounts nowhere attached
+
+pub moves_keep_nowhere : MovesKeepNowhere
+moves_keep_nowhere world fresh source place nowhere attached =
+    let mounts = moved_tree nat_eq world source.mount in
+    attach_keeps_nowhere world (supplied world fresh place mounts) place true mounts nowhere attached

@@ -1,0 +1,300 @@
+-- What namespaces have left of their mounts where some are taken away.
+use Rattle.std.proofs.Common.{◌≡◌, refl, sym, ap, subst, ◌∙◌, true, false, nat_eq, ℕ, Bool, List, None, Option, Some, [], arith, cond, eq-eqb, eqb-true, filter, flat_map, inl, inr, is_some, length, map, not, option_map, zero, suc, true≢false, ⊎_elim, ◌&&◌, ◌∷◌, ◌≤◌, ◌⊎◌}
+use Rattle.std.proofs.lemmas.Bool.{and_from, false_from_ne_true, le-leb}
+use Rattle.std.specs.List.{list_any}
+use Rattle.vt_spec.proofs.Lists.{Among, all_from_among, among-from_filter, among-from_flat_map, among-from_map, among_from_contains, among_from_list_all, among_numbers, any_among, any_from_among, contains_from_among, filter_here, filter_skip, list_all_from_among}
+use Rattle.vt_spec.specs.Machine.Detach.{after_going, going, is_going, is_point, mounts_on, mount_point_left, points_of, taken_away}
+use Rattle.vt_spec.specs.Lists.{holds_of}
+use Rattle.vt_spec.specs.Machine.Mounts.{Location, Mount, children, mount_in, mount_tree, stands_on, tree_from}
+use Rattle.vt_spec.specs.Machine.Namespaces.{has_tasks, is_in_ended}
+use Rattle.vt_spec.specs.Machine.Receives.{inheriting}
+use Rattle.vt_spec.specs.Machine.World.{Namespace, World, mount_at, mount_numbered}
+use Rattle.vt_spec.specs.Machine.Invariants.{is_root_mount}
+use Rattle.vt_laws_mounts.specs.Mounts.Invariants.{OneNumberEach}
+use Rattle.vt_laws_mounts.specs.Mounts.Ending.{ByEndedNamespaces, ByPoints, ByReplaced, ByTrees, ByUnmount, EndedNamespacesKeepRootMounts, HasNoMoreMounts, IsOutOrStays, PointsKeepRootMounts, ReplacedKeepsRootMounts, TakesNoMountsIn, TreesKeepRootMounts, UnmountKeepsRootMounts, root_mounts_in, is_in}
+use Rattle.vt_laws_mounts.proofs.Groups.{mounts-regrouped}
+use Rattle.vt_laws_mounts.proofs.mounts.MountsReplaced.{found_itself}
+use Rattle.vt_laws_mounts.proofs.ends.Unmounting.{going_is_detached, middle, staying_is_placed}
+use Rattle.vt_laws_mounts.proofs.ends.UnmountingNamespaces.{in_ended}
+use Rattle.vt_laws_mounts.proofs.ends.UnmountingPlaces.{goes_or_may}
+use Rattle.std.proofs.Math.Bool.{and-false}
+use Rattle.vt_spec.proofs.Worlds.{number-after_going, number-mount_in}
+
+-- Lists that are filtered
+module _ {A : Type 0} where
+  filter_twice : (p q : A → Bool) (xs : List A) → filter p (filter q xs) ≡ filter (λ x. q x && p x) xs
+  filter_twice p q [] = refl
+  filter_twice p q (y ∷ ys) = by (q y) refl (filter_twice p q ys)
+    where
+      by : (b : Bool) → q y ≡ b → filter p (filter q ys) ≡ filter (λ x. q x && p x) ys
+          → filter p (filter q (y ∷ ys)) ≡ filter (λ x. q x && p x) (y ∷ ys)
+      by true e later =
+          ap (filter p) (filter_here q y ys e) ∙ ap (λ rest. cond (p y) (y ∷ rest) rest) later
+          ∙ sym (ap (λ b. cond (b && p y) (y ∷ filter (λ x. q x && p x) ys) (filter (λ x. q x && p x) ys)) e)
+      by false e later =
+          ap (filter p) (filter_skip q y ys e) ∙ later
+          ∙ sym (filter_skip (λ x. q x && p x) y ys (ap (λ b. b && p y) e))
+
+  same_count : (p q : A → Bool) (f : A → A) (xs : List A) → ((x : A) → Among x xs → p (f x) ≡ q x)
+      → length (filter p (map f xs)) ≡ length (filter q xs)
+  same_count p q f [] same = refl
+  same_count p q f (y ∷ ys) same =
+      ap (λ b. length (cond b (f y ∷ filter p (map f ys)) (filter p (map f ys)))) (same y (inl refl))
+      ∙ by (q y) (same_count p q f ys (λ x m. same x (inr m)))
+    where
+      by : (b : Bool) → length (filter p (map f ys)) ≡ length (filter q ys)
+          → length (cond b (f y ∷ filter p (map f ys)) (filter p (map f ys)))
+          ≡ length (cond b (y ∷ filter q ys) (filter q ys))
+      by true later = omega (arith, later)
+      by false later = later
+
+  no_higher_count : (p q : A → Bool) (f : A → A) (xs : List A) → ((x : A) → p (f x) ≡ true → q x ≡ true)
+      → length (filter p (map f xs)) ≤ length (filter q xs)
+  no_higher_count p q f [] passes = omega arith
+  no_higher_count p q f (y ∷ ys) passes = by (p (f y)) refl (q y) refl (no_higher_count p q f ys passes)
+    where
+      by : (b : Bool) → p (f y) ≡ b → (c : Bool) → q y ≡ c → length (filter p (map f ys)) ≤ length (filter q ys)
+          → length (filter p (map f (y ∷ ys))) ≤ length (filter q (y ∷ ys))
+      by true e true g later =
+          let here = ap length (filter_here p (f y) (map f ys) e) in
+          let there = ap length (filter_here q y ys g) in
+          omega (arith, here, there, later)
+      by true e false g later = absurd (true≢false (sym (passes y e) ∙ g))
+      by false e true g later =
+          let here = ap length (filter_skip p (f y) (map f ys) e) in
+          let there = ap length (filter_here q y ys g) in
+          omega (arith, here, there, later)
+      by false e false g later =
+          let here = ap length (filter_skip p (f y) (map f ys) e) in
+          let there = ap length (filter_skip q y ys g) in
+          omega (arith, here, there, later)
+
+-- One mount, whatever goes
+module _ (world : World ℕ) (gone : List ℕ) where
+  abbrev after_it : Mount ℕ → Mount ℕ
+  after_it mount = inheriting nat_eq (middle world gone) (after_going nat_eq world gone mount)
+
+  mounts_after : (taken_away nat_eq world gone).mounts ≡ map after_it world.mounts
+  mounts_after = mounts-regrouped (middle world gone) ∙ map_map world.mounts
+    where
+      map_map : (mounts : List (Mount ℕ))
+          → map (inheriting nat_eq (middle world gone)) (map (after_going nat_eq world gone) mounts)
+          ≡ map after_it mounts
+      map_map [] = refl
+      map_map (mount ∷ mounts) = ap (λ rest. after_it mount ∷ rest) (map_map mounts)
+
+  namespace_after : (mount : Mount ℕ)
+      → ((after_it mount).namespace ≡ None) ⊎ ((after_it mount).namespace ≡ mount.namespace)
+  namespace_after mount = by (is_going nat_eq gone mount.number) refl
+    where
+      by : (b : Bool) → is_going nat_eq gone mount.number ≡ b
+          → ((after_it mount).namespace ≡ None) ⊎ ((after_it mount).namespace ≡ mount.namespace)
+      by true e = inl (ap (λ m. m.namespace) (going_is_detached world gone mount e))
+      by false e = inr (ap (λ m. m.namespace) (staying_is_placed world gone mount e))
+
+  pub taken_has_no_more : HasNoMoreMounts world (taken_away nat_eq world gone)
+  taken_has_no_more namespace =
+      le-leb _ _
+      (subst (λ mounts. length (filter (is_in namespace) mounts) ≤ length (filter (is_in namespace) world.mounts))
+      (sym mounts_after)
+      (no_higher_count (is_in namespace) (is_in namespace) after_it world.mounts (λ mount e.
+      ⊎_elim (λ none. absurd (true≢false (sym e ∙ ap (holds_of (nat_eq namespace)) none)))
+      (λ same. ap (holds_of (nat_eq namespace)) (sym same) ∙ e)
+      (namespace_after mount))))
+
+  pub taken_takes_none_in : TakesNoMountsIn world (taken_away nat_eq world gone)
+  taken_takes_none_in = all_from_among (IsOutOrStays world) (taken_away nat_eq world gone).mounts (λ mount m.
+      let from = among-from_map after_it world.mounts mount (subst (Among mount) mounts_after m) in
+      by mount from.0 from.1 from.2 (namespace_after from.0))
+    where
+      by : (mount old : Mount ℕ) → Among old world.mounts → mount ≡ after_it old
+          → ((after_it old).namespace ≡ None) ⊎ ((after_it old).namespace ≡ old.namespace) → IsOutOrStays world mount
+      by mount old m e (inl none) = inl (ap (λ x. x.namespace) e ∙ none)
+      by mount old m e (inr same) = inr (
+        old,
+        contains_from_among world.mounts old m,
+        ap (λ x. x.number) e ∙ number-after_going world gone old,
+        ap (λ x. x.namespace) e ∙ same,
+      )
+
+  abbrev is_root : ℕ → Mount ℕ → Bool
+  is_root namespace mount = is_in namespace mount && is_root_mount nat_eq mount
+
+  -- root mounts stay where those that go are none, or in another namespace
+  pub taken_keeps_roots : (namespace : ℕ)
+      → ((mount : Mount ℕ) → Among mount world.mounts → is_going nat_eq gone mount.number ≡ true
+      → (is_some mount.mount_point ≡ true) ⊎ (is_in namespace mount ≡ false))
+      → root_mounts_in (taken_away nat_eq world gone) namespace ≡ root_mounts_in world namespace
+  taken_keeps_roots namespace placed =
+      ap (λ mounts. length (filter (is_root_mount nat_eq) (filter (is_in namespace) mounts))) mounts_after
+      ∙ ap length (filter_twice (is_root_mount nat_eq) (is_in namespace) (map after_it world.mounts))
+      ∙ same_count (is_root namespace) (is_root namespace) after_it world.mounts
+      (λ mount m. by mount m (is_going nat_eq gone mount.number) refl)
+      ∙ sym (ap length (filter_twice (is_root_mount nat_eq) (is_in namespace) world.mounts))
+    where
+      no_root : (mount : Mount ℕ) → (is_some mount.mount_point ≡ true) ⊎ (is_in namespace mount ≡ false)
+          → is_root namespace mount ≡ false
+      no_root mount (inl e) = ap (λ b. is_in namespace mount && not b) e ∙ and-false (is_in namespace mount)
+      no_root mount (inr e) = ap (λ b. b && is_root_mount nat_eq mount) e
+
+      placed_alike : (place : Option (Location ℕ))
+          → is_some (option_map (mount_point_left nat_eq world gone) place) ≡ is_some place
+      placed_alike None = refl
+      placed_alike (Some p) = refl
+
+      by : (mount : Mount ℕ) → Among mount world.mounts → (b : Bool) → is_going nat_eq gone mount.number ≡ b
+          → is_root namespace (after_it mount) ≡ is_root namespace mount
+      by mount m true e =
+          ap (λ x. holds_of (nat_eq namespace) x.namespace && not (is_some x.mount_point))
+          (going_is_detached world gone mount e)
+          ∙ sym (no_root mount (placed mount m e))
+      by mount m false e =
+          ap (λ x. holds_of (nat_eq namespace) x.namespace && not (is_some x.mount_point))
+          (staying_is_placed world gone mount e)
+          ∙ ap (λ b. is_in namespace mount && not b) (placed_alike mount.mount_point)
+
+-- a mount with the number of another is that one
+same_mount : (world : World ℕ) → OneNumberEach world → (a b : Mount ℕ) → Among a world.mounts → Among b world.mounts
+    → a.number ≡ b.number → a ≡ b
+same_mount world one a b m n same =
+    sym (found_itself world.mounts one a m) ∙ ap (mount_in nat_eq world.mounts) same
+    ∙ found_itself world.mounts one b n
+
+pub unmount_keeps_roots : UnmountKeepsRootMounts
+unmount_keeps_roots world one each placed namespace =
+    let itself = mount_numbered nat_eq world one in
+    taken_keeps_roots world (going nat_eq world itself) namespace (λ mount m goes.
+    inl (⊎_elim
+    (λ same. ap (λ x. is_some x.mount_point) (sym (found_itself world.mounts each mount m)
+    ∙ ap (mount_in nat_eq world.mounts) (same ∙ number-mount_in world.mounts one)) ∙ placed)
+    (λ t. ap (λ x. is_some x.mount_point) (same_mount world each mount t.0 m t.1 t.3) ∙ t.4)
+    (goes_or_may world itself mount.number goes)))
+
+-- what lies in a tree is its top, or stands at a place
+pub tree_placed : (depth : ℕ) (mounts : List (Mount ℕ)) (top x : Mount ℕ) → Among x (tree_from nat_eq depth mounts top)
+    → (x ≡ top) ⊎ (Among x mounts × (is_some x.mount_point ≡ true))
+tree_placed zero mounts top x m = ⊎_elim inl (λ none. absurd none) m
+tree_placed (suc depth) mounts top x m =
+    ⊎_elim inl
+    (λ later.
+    let from = among-from_flat_map (tree_from nat_eq depth mounts) (children nat_eq mounts top.number) x later in
+    let child = among-from_filter (stands_on nat_eq top.number) mounts from.0 from.1 in
+    ⊎_elim
+    (λ same. inr (
+      subst (λ z. Among z mounts) (sym same) child.0,
+      ap (λ z. is_some z.mount_point) same
+          ∙ placed from.0.mount_point child.1,
+    ))
+    inr
+    (tree_placed depth mounts from.0 x from.2))
+    m
+  where
+    placed : (place : Option (Location ℕ)) → holds_of (λ p. nat_eq top.number p.mount) place ≡ true
+        → is_some place ≡ true
+    placed None e = absurd (true≢false (sym e))
+    placed (Some p) e = refl
+
+pub trees_keep_roots : TreesKeepRootMounts
+trees_keep_roots world tops each placed namespace =
+    let trees = flat_map (mount_tree nat_eq world.mounts) tops in
+    let gone = map (λ (mount : Mount ℕ). mount.number) trees in
+    taken_keeps_roots world gone namespace (λ mount m goes.
+    let from = among-from_map (λ (x : Mount ℕ). x.number) trees mount.number (among_numbers gone mount.number goes) in
+    let tree = among-from_flat_map (mount_tree nat_eq world.mounts) tops from.0 from.1 in
+    inl (⊎_elim
+    (λ same.
+    ap (λ x. is_some x.mount_point) (sym (found_itself world.mounts each mount m)
+    ∙ ap (mount_in nat_eq world.mounts) (from.2 ∙ ap (λ x. x.number) same))
+    ∙ among_from_list_all (λ (x : Mount ℕ). is_some
+    (mount_numbered nat_eq world x.number).mount_point) tops placed tree.0 tree.1)
+    (λ t. ap (λ x. is_some x.mount_point) (same_mount world each mount from.0 m t.0 from.2) ∙ t.1)
+    (tree_placed (length world.mounts) world.mounts tree.0 from.0 tree.2)))
+
+pub points_keep_roots : PointsKeepRootMounts
+points_keep_roots world location each =
+    trees_keep_roots world (mounts_on nat_eq world location) each
+    (list_all_from_among (λ (x : Mount ℕ). is_some (mount_numbered nat_eq world x.number).mount_point)
+    (mounts_on nat_eq world location) (λ mount m.
+    let from =
+    among-from_filter (λ (x : Mount ℕ). list_any (λ point. is_point nat_eq world point.0 point.1 x)
+    (points_of nat_eq world location)) world.mounts mount m in
+    let some =
+    any_among (λ point. is_point nat_eq world point.0 point.1 mount) (points_of nat_eq world location) from.1 in
+    ap (λ x. is_some x.mount_point) (found_itself world.mounts each mount from.0)
+    ∙ placed mount.mount_point some.0 some.2))
+  where
+    placed : (place : Option (Location ℕ)) (point : ℕ × ℕ)
+        → holds_of (λ p. nat_eq p.node point.1 && nat_eq (mount_at nat_eq world p).filesystem point.0) place ≡ true
+        → is_some place ≡ true
+    placed None point e = absurd (true≢false (sym e))
+    placed (Some p) point e = refl
+
+pub replaced_keeps_roots : ReplacedKeepsRootMounts
+replaced_keeps_roots world None each namespace = refl
+replaced_keeps_roots world (Some object) each namespace = points_keep_roots world object each namespace
+
+pub ended_namespaces_keep_roots : EndedNamespacesKeepRootMounts
+ended_namespaces_keep_roots world listed each there tasks =
+    taken_keeps_roots world (in_ended world) listed.number (λ mount m goes.
+    let from =
+    among-from_map (λ (x : Mount ℕ). x.number) (filter (is_in_ended nat_eq world) world.mounts) mount.number
+    (among_numbers (in_ended world) mount.number goes) in
+    let end = among-from_filter (is_in_ended nat_eq world) world.mounts from.0 from.1 in
+    inr (elsewhere mount.namespace (ap (λ (x : Mount ℕ). ended_of x.namespace)
+    (same_mount world each mount from.0 m end.0 from.2) ∙ end.1)))
+  where
+    ended_of : Option ℕ → Bool
+    ended_of namespace =
+        holds_of (λ number. not (list_any
+        (λ (n : Namespace ℕ). nat_eq number n.number && has_tasks nat_eq world n) world.namespaces)) namespace
+
+    elsewhere : (namespace : Option ℕ) → ended_of namespace ≡ true → holds_of (nat_eq listed.number) namespace ≡ false
+    elsewhere None e = refl
+    elsewhere (Some number) e = false_from_ne_true (nat_eq listed.number number) (λ same.
+        true≢false
+        (sym e
+        ∙ ap not (any_from_among (λ
+        (n : Namespace ℕ). nat_eq number n.number && has_tasks nat_eq world n) world.namespaces listed
+        (among_from_contains world.namespaces listed there)
+        (and_from (nat_eq number listed.number) (has_tasks nat_eq world listed)
+        (eq-eqb number listed.number (sym (eqb-true listed.number number same))) tasks))))
+
+-- The counts of each change
+pub unmount_has_no_more : ByUnmount HasNoMoreMounts
+unmount_has_no_more world one = taken_has_no_more world (going nat_eq world (mount_numbered nat_eq world one))
+
+pub trees_have_no_more : ByTrees HasNoMoreMounts
+trees_have_no_more world tops =
+    taken_has_no_more world (map (λ (mount : Mount ℕ). mount.number) (flat_map (mount_tree nat_eq world.mounts) tops))
+
+pub points_have_no_more : ByPoints HasNoMoreMounts
+points_have_no_more world location = trees_have_no_more world (mounts_on nat_eq world location)
+
+pub replaced_has_no_more : ByReplaced HasNoMoreMounts
+replaced_has_no_more world None namespace = le-leb _ _ (omega arith)
+replaced_has_no_more world (Some object) namespace = points_have_no_more world object namespace
+
+pub ended_namespaces_have_no_more : ByEndedNamespaces HasNoMoreMounts
+ended_namespaces_have_no_more world = taken_has_no_more world (in_ended world)
+
+pub stays_in : (world : World ℕ) → TakesNoMountsIn world world
+stays_in world = all_from_among (IsOutOrStays world) world.mounts (λ mount m.
+    inr (mount, contains_from_among world.mounts mount m, refl, refl))
+
+pub unmount_takes_none_in : ByUnmount TakesNoMountsIn
+unmount_takes_none_in world one = taken_takes_none_in world (going nat_eq world (mount_numbered nat_eq world one))
+
+pub trees_take_none_in : ByTrees TakesNoMountsIn
+trees_take_none_in world tops =
+    taken_takes_none_in world (map (λ (mount : Mount ℕ). mount.number)
+    (flat_map (mount_tree nat_eq world.mounts) tops))
+
+pub points_take_none_in : ByPoints TakesNoMountsIn
+points_take_none_in world location = trees_take_none_in world (mounts_on nat_eq world location)
+
+pub replaced_takes_none_in : ByReplaced TakesNoMountsIn
+replaced_takes_none_in world None = stays_in world
+replaced_takes_none_in world (Some object) = points_take_none_in world object
+
+pub ended_namespaces_take_none_in : ByEndedNamespaces TakesNoMountsIn
+ended_namespaces_take_none_in world = taken_takes_none_in world (in_ended world)

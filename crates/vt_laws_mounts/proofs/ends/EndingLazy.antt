@@ -1,0 +1,210 @@
+-- A lazy unmount keeps the invariants of mounts: as the event of a mount comes, nothing stands on it any more.
+use Rattle.std.proofs.Common.{◌≡◌, refl, sym, ap, subst, ◌∙◌, true, false, nat_eq, ℕ, Bool, List, None, Option, Some, [], arith, eqb-true, inl, inr, is_some, not, suc, true≢false, ⊎_elim, ◌∷◌, ◌<◌, ◌≤◌, ◌⊎◌, ◌&&◌, ◌||◌}
+use Rattle.std.proofs.lemmas.Bool.{false_from_ne_true}
+use Rattle.std.specs.Prelude.{if◌then◌else◌}
+use Rattle.vt_spec.proofs.Lists.{Among, among-from_map, among_cases, among_from_list_all, among_numbers, none_from_among}
+use Rattle.vt_spec.specs.Machine.Detach.{depth_of, going, has_child, taken_away, unmounted, unmounted_if_there}
+use Rattle.vt_spec.specs.Lists.{folded, holds_of, is_among}
+use Rattle.vt_spec.specs.Machine.Mounts.{Location, Mount, stands_on}
+use Rattle.vt_spec.specs.Machine.World.{World, mount_numbered}
+use Rattle.vt_spec.specs.Machine.Invariants.{MountInvariants, is_nowhere_or_attached, is_private}
+use Rattle.vt_laws_mounts.specs.Mounts.Attaching.{numbers_of}
+use Rattle.vt_laws_mounts.specs.Mounts.Invariants.{NowhereOrAttached}
+use Rattle.vt_laws_mounts.specs.Mounts.Ending.{LazyUnmountKeepsMounts}
+use Rattle.vt_laws_mounts.proofs.ends.Ending.{unmount_keeps_mounts}
+use Rattle.vt_laws_mounts.proofs.ends.EndingOrder.{AreDeepestFirst, in_order, is_itself, is_taken_in_turn, lies_in_it, taken_in_turn}
+use Rattle.vt_laws_mounts.proofs.mounts.MountsReplaced.{found_itself}
+use Rattle.vt_laws_mounts.proofs.mounts.Standing.{LiesIn, depth_by_rank, further_in, rank, rank_child}
+use Rattle.vt_laws_mounts.proofs.mounts.Standing.LiesIn.{itself, under}
+use Rattle.vt_laws_mounts.proofs.ends.Unmounting.{detached_by_number, root_stays, taken}
+use Rattle.vt_laws_mounts.proofs.ends.UnmountingEnds.{the_mount_itself_goes}
+use Rattle.vt_laws_mounts.proofs.ends.UnmountingPlaces.{Falls, stood}
+use Rattle.vt_laws_mounts.proofs.ends.UnmountingPlaces.Falls.{direct, down}
+use Rattle.vt_spec.proofs.Worlds.{found_or_none}
+
+-- a mount outside every namespace has no place
+no_place_outside : (world : World ℕ) → NowhereOrAttached world → (number : ℕ)
+    → is_some (mount_numbered nat_eq world number).namespace ≡ false
+    → (mount_numbered nat_eq world number).mount_point ≡ None
+no_place_outside world nowhere number e =
+    ⊎_elim
+    (λ there. by mount.mount_point
+    (sym (ap (λ b. b || (not (is_some mount.mount_point) && is_private mount.propagation)) e)
+    ∙ among_from_list_all is_nowhere_or_attached world.mounts nowhere mount there))
+    (λ none. ap (λ m. m.mount_point) none)
+    (found_or_none world.mounts number)
+  where
+    mount : Mount ℕ
+    mount = mount_numbered nat_eq world number
+
+    by : (place : Option (Location ℕ)) → (not (is_some place) && is_private mount.propagation) ≡ true → place ≡ None
+    by None f = refl
+    by (Some place) f = absurd (true≢false (sym f))
+
+-- a mount on which nothing stands is without a place once it is unmounted
+no_place_then : (world : World ℕ) → MountInvariants nat_eq world → (one : ℕ) → has_child nat_eq world one ≡ false
+    → (mount_numbered nat_eq (unmounted nat_eq world one) one).mount_point ≡ None
+no_place_then world kept one childless = by (mount_numbered nat_eq world one).mount_point refl
+  where
+    by : (place : Option (Location ℕ)) → (mount_numbered nat_eq world one).mount_point ≡ place
+        → (mount_numbered nat_eq (unmounted nat_eq world one) one).mount_point ≡ None
+    by None e = root_stays world (going nat_eq world (mount_numbered nat_eq world one)) one e
+    by (Some place) e =
+        ap (λ m. m.mount_point)
+        (detached_by_number world (going nat_eq world (mount_numbered nat_eq world one)) one
+        (the_mount_itself_goes world one place kept.one_child e childless))
+
+module _ (start : World ℕ) (at_first : MountInvariants nat_eq start) (one : ℕ) where
+  abbrev rank_of : ℕ → ℕ
+  rank_of number = rank start at_first.one_number at_first.standing number
+
+  -- a mount stood over another as the call began
+  abbrev StoodOver : ℕ → ℕ → Type 0
+  StoodOver below number = LiesIn start below number × (rank_of below < rank_of number)
+
+  -- The events that are left, when a part of them is over: each mount stands on one over which it stood, and those of
+  -- the tree whose event is over stand nowhere
+  pub record IsUnderWay (world : World ℕ) (left : List (Mount ℕ)) : Type 0 where
+    pub kept : MountInvariants nat_eq world
+    over : (number : ℕ) (place : Location ℕ) → (mount_numbered nat_eq world number).mount_point ≡ Some place
+        → StoodOver place.mount number
+    done : (number : ℕ) → LiesIn start one number
+        → (is_among nat_eq number (numbers_of left) ≡ true) ⊎ ((mount_numbered nat_eq world number).mount_point ≡ None)
+    order : AreDeepestFirst start left
+    lies : (mount : Mount ℕ) → Among mount left → LiesIn start one mount.number
+    itself : (mount : Mount ℕ) → Among mount left → mount_numbered nat_eq start mount.number ≡ mount
+
+  further : (a b c : ℕ) → StoodOver a b → StoodOver b c → StoodOver a c
+  further a b c first second =
+      let low = first.1 in
+      let high = second.1 in
+      (further_in start a b c first.0 second.0, omega (arith, low, high))
+
+  -- none that is left lies deeper than the next one
+  no_deeper : (mount : Mount ℕ) (left : List (Mount ℕ)) → AreDeepestFirst start (mount ∷ left)
+      → ((m : Mount ℕ) → Among m (mount ∷ left) → mount_numbered nat_eq start m.number ≡ m)
+      → (number : ℕ) → is_among nat_eq number (numbers_of (mount ∷ left)) ≡ true
+      → rank_of number ≤ rank_of mount.number
+  no_deeper mount left order its number m =
+      ⊎_elim
+      (λ same. let equal = ap rank_of same in omega (arith, equal))
+      (λ later.
+      let from =
+      among-from_map (λ (x : Mount ℕ). x.number) left number (among_numbers (numbers_of left) number later) in
+      let x = from.0 in
+      let first : depth_of nat_eq start mount ≡ suc (rank_of mount.number) =
+      ap (depth_of nat_eq start) (sym (its mount (inl refl)))
+      ∙ depth_by_rank start at_first.one_number at_first.standing mount.number in
+      let second : depth_of nat_eq start x ≡ suc (rank_of x.number) =
+      ap (depth_of nat_eq start) (sym (its x (inr from.1)))
+      ∙ depth_by_rank start at_first.one_number at_first.standing x.number in
+      let equal : rank_of number ≡ rank_of x.number = ap rank_of from.2 in
+      let below = order.0 x from.1 in
+      omega (arith, first, second, equal, below))
+      (among_cases number mount.number (numbers_of left) m)
+
+  module _ (world : World ℕ) (mount : Mount ℕ) (left : List (Mount ℕ)) (way : IsUnderWay world (mount ∷ left)) where
+    pub childless : has_child nat_eq world mount.number ≡ false
+    childless =
+        none_from_among (stands_on nat_eq mount.number) world.mounts
+        (λ x m. false_from_ne_true _ (λ on. none x m x.mount_point refl on))
+      where
+        none : (x : Mount ℕ) → Among x world.mounts → (place : Option (Location ℕ)) → x.mount_point ≡ place
+            → stands_on nat_eq mount.number x ≡ true → ⊥
+        none x m None e on = true≢false (sym on ∙ ap (holds_of (λ p. nat_eq mount.number p.mount)) e)
+        none x m (Some p) e on =
+            let same : mount.number ≡ p.mount =
+            eqb-true mount.number p.mount (sym (ap (holds_of (λ q. nat_eq mount.number q.mount)) e) ∙ on) in
+            let found = found_itself world.mounts way.kept.one_number x m in
+            let over = way.over x.number p (ap (λ z. z.mount_point) found ∙ e) in
+            let high = over.1 in
+            let equal : rank_of mount.number ≡ rank_of p.mount = ap rank_of same in
+            let lies =
+            further_in start one mount.number x.number (way.lies mount (inl refl))
+            (subst (λ k. LiesIn start k x.number) (sym same) over.0) in
+            ⊎_elim
+            (λ later.
+            let low = no_deeper mount left way.order way.itself x.number later in
+            absurd (omega (arith, low, high, equal)))
+            (λ gone. true≢false (sym (ap is_some e) ∙ ap (λ z. is_some z.mount_point) (sym found) ∙ ap is_some gone))
+            (way.done x.number lies)
+
+    abbrev gone : List ℕ
+    gone = going nat_eq world (mount_numbered nat_eq world mount.number)
+
+    -- what falls stood over what it falls to
+    falls_over : (number : ℕ) (rest : Location ℕ) → Falls world gone (mount_numbered nat_eq world number) rest
+        → StoodOver rest.mount number
+    falls_over number rest (direct at e) = way.over number at e
+    falls_over number rest (down place below fall goes e) =
+        further below.mount place.mount number (way.over place.mount below e) (falls_over number place fall)
+
+    over_then : (number : ℕ) (place : Location ℕ)
+        → (mount_numbered nat_eq (taken_away nat_eq world gone) number).mount_point ≡ Some place
+        → StoodOver place.mount number
+    over_then number place e =
+        falls_over number place
+        (stood world gone (mount_numbered nat_eq world number) place
+        (sym (ap (λ m. m.mount_point) (taken world gone number)) ∙ e)).1
+
+    -- of a mount without a place nothing is left to do
+    done_then : (after : World ℕ) → (mount_numbered nat_eq after mount.number).mount_point ≡ None
+        → ((number : ℕ) → (mount_numbered nat_eq world number).mount_point ≡ None
+        → (mount_numbered nat_eq after number).mount_point ≡ None)
+        → (number : ℕ) → LiesIn start one number
+        → (is_among nat_eq number (numbers_of left) ≡ true) ⊎ ((mount_numbered nat_eq after number).mount_point ≡ None)
+    done_then after here stays number lies =
+        ⊎_elim
+        (λ later.
+        ⊎_elim
+        (λ same. inr (ap (λ k. (mount_numbered nat_eq after k).mount_point) same ∙ here))
+        inl
+        (among_cases number mount.number (numbers_of left) later))
+        (λ none. inr (stays number none))
+        (way.done number lies)
+
+    pub next : IsUnderWay (unmounted_if_there nat_eq world mount) left
+    next = by (is_some (mount_numbered nat_eq world mount.number).namespace) refl
+      where
+        by : (b : Bool) → is_some (mount_numbered nat_eq world mount.number).namespace ≡ b
+            → IsUnderWay (if b then unmounted nat_eq world mount.number else world) left
+        by true e = record {
+          kept = unmount_keeps_mounts world mount.number way.kept childless;
+          over = over_then;
+          done =
+              done_then (unmounted nat_eq world mount.number) (no_place_then world way.kept mount.number childless)
+              (root_stays world gone);
+          order = way.order.1;
+          lies = λ x m. way.lies x (inr m);
+          itself = λ x m. way.itself x (inr m);
+        }
+        by false e = record {
+          kept = way.kept;
+          over = way.over;
+          done = done_then world (no_place_outside world way.kept.nowhere mount.number e) (λ number none. none);
+          order = way.order.1;
+          lies = λ x m. way.lies x (inr m);
+          itself = λ x m. way.itself x (inr m);
+        }
+
+  all_events : (left : List (Mount ℕ)) (world : World ℕ) → IsUnderWay world left
+      → MountInvariants nat_eq (folded (unmounted_if_there nat_eq) world left)
+  all_events [] world way = way.kept
+  all_events (mount ∷ left) world way =
+      all_events left (unmounted_if_there nat_eq world mount) (next world mount left way)
+
+  pub begun : IsUnderWay start (taken_in_turn start one)
+  begun = record {
+    kept = at_first;
+    over = λ number place e.
+        let child = rank_child start at_first.one_number at_first.standing number place e in
+        (under place.mount number place e (itself place.mount), omega (arith, child));
+    done = λ number lies. inl (is_taken_in_turn start at_first.one_number at_first.standing one number lies);
+    order = in_order start one;
+    lies = lies_in_it start at_first.one_number at_first.standing one;
+    itself = is_itself start at_first.one_number at_first.standing one;
+  }
+
+pub lazy_unmount_keeps_mounts : LazyUnmountKeepsMounts
+lazy_unmount_keeps_mounts world one kept =
+    all_events world kept one (taken_in_turn world one) world (begun world kept one)

@@ -1,0 +1,298 @@
+-- An unmount takes just the mounts that propagation names.
+use Rattle.std.proofs.Common.{◌≡◌, refl, sym, ap, ◌∙◌, ⊎_elim, ℕ, zero, suc, nat_eq, Bool, true, false, true≢false, List, length, map, Option, Some, None, is_some, find}
+use Rattle.std.specs.Prelude.{if◌then◌else◌, option_map}
+use Rattle.std.specs.List.{list_any}
+use Rattle.std.proofs.lemmas.List.{length-map}
+use Rattle.std.proofs.lemmas.Bool.{and_parts, not-true}
+use Rattle.vt_spec.specs.Machine.Detach.{after_going, going, is_going, mount_point_of_parent, mount_point_left, taken_away}
+use Rattle.vt_spec.specs.Lists.{chain, last_or}
+use Rattle.vt_spec.specs.Machine.Mounts.{Location, Mount, Propagation, detached, mount_in, no_mount}
+use Rattle.vt_spec.specs.Machine.Mounts.Propagation.{Private, Shared, Slave, Unbindable}
+use Rattle.vt_spec.specs.Machine.Receives.{groups_up, has_members, inherited, inheriting, lost_a_group, regrouped_by, slave_of_heir}
+use Rattle.vt_spec.specs.Machine.World.{World, mount_at, mount_numbered, with_mounts}
+use Rattle.vt_spec.specs.Machine.Invariants.{stands_in_its_namespace}
+use Rattle.vt_laws_mounts.specs.Mounts.Unmounting.{FallsTo, GroupsKeepTheirMasters, KeepsAllButMounts, KeepsAllButMountPointAndType, ChainsEnd, RootMountsStay, SlavesAreInherited, UnmountIsOfMounts, UnmountKeepsTheOrder, WhatCoveredFalls, WhatGoesIsDetached, WhatStaysKeeps, WhatStaysKeepsItsMountPoint, WhatStaysKeepsItsType, has_its_master}
+use Rattle.vt_laws_mounts.specs.Mounts.Unmounting.FallsTo.{falls, rests}
+use Rattle.vt_laws_mounts.proofs.Groups.{inherited_kept, master-regrouped, members-regrouped, mounts-regrouped}
+use Rattle.vt_spec.proofs.Lists.{among_from_list_all, chain_ends, chain_goes_on, find_agrees, last_of_chain}
+use Rattle.vt_laws_mounts.proofs.mounts.MountsFound.{found-map, numbers-map}
+use Rattle.vt_spec.proofs.Worlds.{number-after_going, number-mount_in, found_or_none}
+pub use Rattle.vt_spec.proofs.Worlds.{number-after_going as number_after}
+
+module _ (world : World ℕ) (gone : List ℕ) where
+  -- one mount after the event
+  pub going_is_detached : (mount : Mount ℕ) → is_going nat_eq gone mount.number ≡ true
+      → after_going nat_eq world gone mount ≡ detached mount
+  going_is_detached mount e =
+      ap (λ b. if b then detached mount else
+      (record mount { mount_point = option_map (mount_point_left nat_eq world gone) mount.mount_point })) e
+
+  pub staying_is_placed : (mount : Mount ℕ) → is_going nat_eq gone mount.number ≡ false
+      → after_going nat_eq world gone mount
+      ≡ record mount { mount_point = option_map (mount_point_left nat_eq world gone) mount.mount_point }
+  staying_is_placed mount e =
+      ap (λ b. if b then detached mount else
+      (record mount { mount_point = option_map (mount_point_left nat_eq world gone) mount.mount_point })) e
+
+  none_after : (number : ℕ) → after_going nat_eq world gone (no_mount number) ≡ no_mount number
+  none_after number = by (is_going nat_eq gone number)
+    where
+      by : (b : Bool)
+          → (if b then detached (no_mount number) else
+          (record (no_mount number) { mount_point = option_map (mount_point_left nat_eq world gone) None }))
+          ≡ no_mount number
+      by true = refl
+      by false = refl
+
+  -- the world in which they are detached, before groups inherit
+  abbrev pub middle : World ℕ
+  middle = with_mounts world (map (after_going nat_eq world gone) world.mounts)
+
+  pub taken : (number : ℕ)
+      → mount_numbered nat_eq (taken_away nat_eq world gone) number ≡ inheriting nat_eq middle
+      (after_going nat_eq world gone (mount_numbered nat_eq world number))
+  taken number =
+      ap (λ mounts. mount_in nat_eq mounts number) (mounts-regrouped middle)
+      ∙ found-map (inheriting nat_eq middle) (λ mount. refl) middle.mounts number refl
+      ∙ ap (inheriting nat_eq middle)
+      (found-map (after_going nat_eq world gone) (number-after_going world gone) world.mounts number
+      (none_after number))
+
+  pub numbers_taken : map (λ mount. mount.number) (taken_away nat_eq world gone).mounts
+      ≡ map (λ mount. mount.number) world.mounts
+  numbers_taken =
+      ap (map (λ mount. mount.number)) (mounts-regrouped middle)
+      ∙ numbers-map (inheriting nat_eq middle) (λ mount. refl) middle.mounts
+      ∙ numbers-map (after_going nat_eq world gone) (number-after_going world gone) world.mounts
+
+  -- what goes, by the number of what is found
+  taken_going : (number : ℕ) → is_going nat_eq gone (mount_numbered nat_eq world number).number ≡ true
+      → mount_numbered nat_eq (taken_away nat_eq world gone) number ≡ detached (mount_numbered nat_eq world number)
+  taken_going number e = taken number
+      ∙ ap (inheriting nat_eq middle) (going_is_detached (mount_numbered nat_eq world number) e)
+
+  taken_staying : (number : ℕ) → is_going nat_eq gone (mount_numbered nat_eq world number).number ≡ false
+      → mount_numbered nat_eq (taken_away nat_eq world gone) number
+      ≡ inheriting nat_eq middle
+      (record (mount_numbered nat_eq world number) {
+        mount_point = option_map (mount_point_left nat_eq world gone)
+            (mount_numbered nat_eq world number).mount_point;
+      })
+  taken_staying number e = taken number
+      ∙ ap (inheriting nat_eq middle) (staying_is_placed (mount_numbered nat_eq world number) e)
+
+  -- Places
+
+  -- the place of the mount that a place is on
+  abbrev down : Location ℕ → Option (Location ℕ)
+  down place = (mount_at nat_eq world place).mount_point
+
+  pub left_at_rest : (n : ℕ) (place : Location ℕ) → is_going nat_eq gone place.mount ≡ false
+      → last_or place (chain n (mount_point_of_parent nat_eq world gone) place) ≡ place
+  left_at_rest zero place e = refl
+  left_at_rest (suc n) place e =
+      ap (last_or place) (chain_ends (mount_point_of_parent nat_eq world gone) n place
+      (ap (λ b. if b then down place else None) e))
+
+  -- the places below a place end within so many steps
+  abbrev EndsBelow : ℕ → Location ℕ → Type 0
+  EndsBelow n place = is_some (down (last_or place (chain n down place))) ≡ false
+
+  falls_to_rest : (n : ℕ) (place rest : Location ℕ) → EndsBelow n place → FallsTo world gone place rest
+      → last_or place (chain n (mount_point_of_parent nat_eq world gone) place) ≡ rest
+  falls_to_rest n place rest ends (rests at stays) = left_at_rest n at stays
+  falls_to_rest zero place rest ends (falls at below end goes under later) =
+      absurd (true≢false (sym (ap is_some under) ∙ ends))
+  falls_to_rest (suc n) place rest ends (falls at below end goes under later) =
+      let next : mount_point_of_parent nat_eq world gone at ≡ Some below =
+      ap (λ b. if b then down at else None) goes ∙ under in
+      ap (last_or at) (chain_goes_on (mount_point_of_parent nat_eq world gone) n at below next)
+      ∙ last_of_chain (mount_point_of_parent nat_eq world gone) n below at
+      ∙ falls_to_rest n below end
+      (sym (ap (λ p. is_some (down p))
+      (ap (last_or at) (chain_goes_on down n at below under) ∙ last_of_chain down n below at))
+      ∙ ends) later
+
+  abbrev below_mount : Mount ℕ → Option (Mount ℕ)
+  below_mount mount = option_map (mount_at nat_eq world) mount.mount_point
+
+  -- the mounts below the mount of a place are those of the places below it
+  same_end : (n : ℕ) (place : Location ℕ)
+      → (last_or (mount_at nat_eq world place) (chain n below_mount (mount_at nat_eq world place))).mount_point ≡ down
+      (last_or place (chain n down place))
+  same_end zero place = refl
+  same_end (suc n) place = by (down place) refl (same_end n)
+    where
+      by : (found : Option (Location ℕ)) → down place ≡ found
+          → ((next : Location ℕ)
+          → (last_or (mount_at nat_eq world next) (chain n below_mount (mount_at nat_eq world next))).mount_point ≡ down
+          (last_or next (chain n down next)))
+          → (last_or (mount_at nat_eq world place)
+          (chain (suc n) below_mount (mount_at nat_eq world place))).mount_point ≡ down
+          (last_or place (chain (suc n) down place))
+      by None e later =
+          ap (λ ms. (last_or (mount_at nat_eq world place) ms).mount_point)
+          (chain_ends below_mount n (mount_at nat_eq world place) (ap (option_map (mount_at nat_eq world)) e))
+          ∙ sym (ap (λ ps. down (last_or place ps)) (chain_ends down n place e))
+      by (Some next) e later =
+          ap (λ m. m.mount_point)
+          (ap (last_or (mount_at nat_eq world place))
+          (chain_goes_on below_mount n (mount_at nat_eq world place) (mount_at nat_eq world next)
+          (ap (option_map (mount_at nat_eq world)) e))
+          ∙ last_of_chain below_mount n (mount_at nat_eq world next) (mount_at nat_eq world place))
+          ∙ later next
+          ∙ sym (ap down (ap (last_or place) (chain_goes_on down n place next e) ∙ last_of_chain down n next place))
+
+  ends_below : ChainsEnd world → (place : Location ℕ) → EndsBelow (length world.mounts) place
+  ends_below ends place =
+      ap is_some (sym (same_end (length world.mounts) place))
+      ∙ ⊎_elim
+      (λ m. not-true _
+      (and_parts _ _ (among_from_list_all (stands_in_its_namespace nat_eq world) world.mounts ends
+      (mount_at nat_eq world place) m)).0)
+      (λ none. ap (λ m. is_some (last_or m (chain (length world.mounts) below_mount m)).mount_point) none
+      ∙ none_ends (length world.mounts) place.mount)
+      (found_or_none world.mounts place.mount)
+    where
+      none_ends : (n number : ℕ) → is_some
+          (last_or (no_mount number) (chain n below_mount (no_mount number))).mount_point ≡ false
+      none_ends zero number = refl
+      none_ends (suc n) number = refl
+
+  -- What goes and what stays, by a number
+  abbrev left : ℕ → Mount ℕ
+  left number = mount_numbered nat_eq (taken_away nat_eq world gone) number
+
+  abbrev before_it : ℕ → Mount ℕ
+  before_it number = mount_numbered nat_eq world number
+
+  goes_so : (number : ℕ) (b : Bool) → is_going nat_eq gone number ≡ b
+      → is_going nat_eq gone (before_it number).number ≡ b
+  goes_so number b e = ap (is_going nat_eq gone) (number-mount_in world.mounts number) ∙ e
+
+  pub detached_by_number : (number : ℕ) → is_going nat_eq gone number ≡ true → left number ≡ detached (before_it number)
+  detached_by_number number e = taken_going number (goes_so number true e)
+
+  pub kept_by_number : (number : ℕ) → is_going nat_eq gone number ≡ false
+      → KeepsAllButMountPointAndType (before_it number) (left number)
+  kept_by_number number e =
+      let it = taken_staying number (goes_so number false e) in
+      record {
+        number = ap (λ m. m.number) it;
+        namespace = ap (λ m. m.namespace) it;
+        filesystem = ap (λ m. m.filesystem) it;
+        root = ap (λ m. m.root) it;
+        flags = ap (λ m. m.flags) it;
+      }
+
+  place_by_number : (number : ℕ) (place : Location ℕ) → is_going nat_eq gone number ≡ false
+      → (before_it number).mount_point ≡ Some place
+      → (left number).mount_point ≡ Some (mount_point_left nat_eq world gone place)
+  place_by_number number place e at =
+      ap (λ m. m.mount_point) (taken_staying number (goes_so number false e))
+      ∙ ap (option_map (mount_point_left nat_eq world gone)) at
+
+  pub place_kept : (number : ℕ) (place : Location ℕ) → is_going nat_eq gone number ≡ false
+      → (before_it number).mount_point ≡ Some place
+      → is_going nat_eq gone place.mount ≡ false → (left number).mount_point ≡ Some place
+  place_kept number place e at stays =
+      place_by_number number place e at ∙ ap Some (left_at_rest (length world.mounts) place stays)
+
+  pub place_fallen : ChainsEnd world → (number : ℕ) (place rest : Location ℕ) → is_going nat_eq gone number ≡ false
+      → (before_it number).mount_point ≡ Some place → FallsTo world gone place rest
+      → (left number).mount_point ≡ Some rest
+  place_fallen ends number place rest e at fall =
+      place_by_number number place e at
+      ∙ ap Some (falls_to_rest (length world.mounts) place rest (ends_below ends place) fall)
+
+  pub root_stays : (number : ℕ) → (before_it number).mount_point ≡ None → (left number).mount_point ≡ None
+  root_stays number at = ap (λ m. m.mount_point) (taken number)
+      ∙ by (is_going nat_eq gone (before_it number).number) refl
+    where
+      by : (b : Bool) → is_going nat_eq gone (before_it number).number ≡ b
+          → (after_going nat_eq world gone (before_it number)).mount_point ≡ None
+      by true e = ap (λ m. m.mount_point) (going_is_detached (before_it number) e)
+      by false e =
+          ap (λ m. m.mount_point) (staying_is_placed (before_it number) e)
+          ∙ ap (option_map (mount_point_left nat_eq world gone)) at
+
+  -- Types
+  type_by_number : (number : ℕ) → is_going nat_eq gone number ≡ false
+      → (left number).propagation ≡ inherited nat_eq middle (before_it number).propagation
+  type_by_number number e = ap (λ m. m.propagation) (taken_staying number (goes_so number false e))
+
+  members_of_middle : (group : ℕ)
+      → has_members nat_eq (taken_away nat_eq world gone).mounts group ≡ has_members nat_eq middle.mounts group
+  members_of_middle group = members-regrouped middle group
+
+  pub type_kept : (number : ℕ) → is_going nat_eq gone number ≡ false
+      → has_its_master (taken_away nat_eq world gone) (before_it number).propagation ≡ true
+      → (left number).propagation ≡ (before_it number).propagation
+  type_kept number e has = type_by_number number e ∙ by (before_it number).propagation has
+    where
+      by : (kind : Propagation ℕ) → has_its_master (taken_away nat_eq world gone) kind ≡ true
+          → inherited nat_eq middle kind ≡ kind
+      by (Shared group) h = refl
+      by (Slave above) h = inherited_kept middle above (sym (members_of_middle above) ∙ h)
+      by Private h = refl
+      by Unbindable h = refl
+
+  pub slave_inherits : (number master : ℕ) → is_going nat_eq gone number ≡ false
+      → (before_it number).propagation ≡ Slave master
+      → (left number).propagation ≡ slave_of_heir
+      (find (has_members nat_eq (taken_away nat_eq world gone).mounts) (groups_up world master))
+  slave_inherits number master e slave =
+      type_by_number number e ∙ ap (inherited nat_eq middle) slave
+      ∙ ap (λ n. slave_of_heir (find (has_members nat_eq middle.mounts) (chain n world.master master)))
+      (length-map world.mounts (after_going nat_eq world gone))
+      ∙ ap slave_of_heir
+      (find_agrees (has_members nat_eq middle.mounts) (has_members nat_eq (taken_away nat_eq world gone).mounts)
+      (λ group. sym (members_of_middle group)) (groups_up world master))
+
+  pub master_kept : (group master : ℕ) → world.master group ≡ Some master
+      → has_members nat_eq (taken_away nat_eq world gone).mounts master ≡ true
+      → (taken_away nat_eq world gone).master group ≡ Some master
+  master_kept group master e h = master-regrouped middle group master e (sym (members_of_middle master) ∙ h)
+
+  pub all_but_mounts : KeepsAllButMounts world (taken_away nat_eq world gone)
+  all_but_mounts = by (list_any (lost_a_group nat_eq middle) middle.mounts)
+    where
+      by : (b : Bool) → KeepsAllButMounts world (regrouped_by nat_eq b middle)
+      by true = record { filesystems = refl; namespaces = refl; tasks = refl; change = refl }
+      by false = record { filesystems = refl; namespaces = refl; tasks = refl; change = refl }
+
+-- At an unmount
+abbrev gone_with : World ℕ → ℕ → List ℕ
+gone_with world one = going nat_eq world (mount_numbered nat_eq world one)
+
+pub unmount_keeps_the_order : UnmountKeepsTheOrder
+unmount_keeps_the_order world one = numbers_taken world (gone_with world one)
+
+pub what_goes_is_detached : WhatGoesIsDetached
+what_goes_is_detached world one number e = detached_by_number world (gone_with world one) number e
+
+pub what_stays_keeps : WhatStaysKeeps
+what_stays_keeps world one number e = kept_by_number world (gone_with world one) number e
+
+pub what_stays_keeps_its_place : WhatStaysKeepsItsMountPoint
+what_stays_keeps_its_place world one number place e at stays =
+    place_kept world (gone_with world one) number place e at stays
+
+pub root_mounts_stay : RootMountsStay
+root_mounts_stay world one number at = root_stays world (gone_with world one) number at
+
+pub what_covered_falls : WhatCoveredFalls
+what_covered_falls world one number place rest ends e at fall =
+    place_fallen world (gone_with world one) ends number place rest e at fall
+
+pub what_stays_keeps_its_type : WhatStaysKeepsItsType
+what_stays_keeps_its_type world one number e has = type_kept world (gone_with world one) number e has
+
+pub slaves_are_inherited : SlavesAreInherited
+slaves_are_inherited world one number master e slave = slave_inherits world (gone_with world one) number master e slave
+
+pub groups_keep_their_masters : GroupsKeepTheirMasters
+groups_keep_their_masters world one group master e h = master_kept world (gone_with world one) group master e h
+
+pub unmount_is_of_mounts : UnmountIsOfMounts
+unmount_is_of_mounts world one = all_but_mounts world (gone_with world one)

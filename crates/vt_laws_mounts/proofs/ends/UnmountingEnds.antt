@@ -1,0 +1,190 @@
+-- Mounts that end with something else, and lazy unmounts.
+use Rattle.std.proofs.Common.{◌≡◌, refl, sym, ap, subst, ◌∙◌, true, false, Bool, List, None, Some, [], is_some, map, nat_eq, true≢false, ⊎_elim, ◌∷◌, ◌⊎◌, ℕ, inr, inl}
+use Rattle.vt_spec.proofs.Lists.{Among, among-filter, among-filter_map, among-map, filter_none, head_among, is_among_numbers}
+use Rattle.vt_laws_mounts.specs.Mounts.Unmounting.{KeepsAllButMounts, KeepsAllButMountPointAndType}
+use Rattle.vt_laws_mounts.specs.Mounts.Ends.{LazyDetachesOrKeeps, LazyIsOfMounts, OthersAreKept, OthersKeepTheirMountPoints, OthersKeepTheirTypes, TakenAreDetached, TheMountItselfGoes}
+use Rattle.vt_spec.specs.Machine.Mounts.Propagation.{Private, Shared, Slave, Unbindable}
+use Rattle.vt_spec.specs.Machine.Mounts.{Propagation, child_at, children, detached, group_of, is_shared, mount_tree, source_of, stands_on, Mount}
+use Rattle.vt_spec.specs.Machine.World.{World, mount_at, mount_numbered}
+use Rattle.vt_spec.specs.Machine.Detach.{after_going, deepest_first, goes_at, going, going_at, going_from, is_going, may_go, only_cover, taken_away, unmounted, unmounted_if_there}
+use Rattle.vt_laws_mounts.proofs.ends.Unmounting.{all_but_mounts, detached_by_number, going_is_detached, kept_by_number, middle, place_kept, staying_is_placed, taken, type_kept}
+use Rattle.vt_laws_mounts.proofs.ends.UnmountingGoes.{child_goes_so, receivers_of_shared}
+use Rattle.std.specs.Prelude.{filter_map, if◌then◌else◌}
+use Rattle.vt_spec.specs.Lists.{folded, is_among}
+use Rattle.vt_laws_mounts.proofs.mounts.MountsPlaces.{found_at_its_place}
+use Rattle.vt_spec.specs.Machine.Receives.{inheriting, receivers, receives}
+use Rattle.std.specs.List.{list_any}
+use Rattle.vt_laws_mounts.proofs.mounts.Receivers.{receives_from_source}
+use Rattle.vt_spec.proofs.Worlds.{number-mount_in, found_or_none}
+
+pub taken_are_detached : TakenAreDetached
+taken_are_detached world gone number e = detached_by_number world gone number e
+
+pub others_are_kept : OthersAreKept
+others_are_kept world gone number e = kept_by_number world gone number e
+
+pub others_keep_their_places : OthersKeepTheirMountPoints
+others_keep_their_places world gone number place e at stays = place_kept world gone number place e at stays
+
+pub others_keep_their_types : OthersKeepTheirTypes
+others_keep_their_types world gone number e has = type_kept world gone number e has
+
+-- Lazily
+abbrev DetachedOrKept : Mount ℕ → Mount ℕ → Type 0
+DetachedOrKept before later = (later ≡ detached before) ⊎ KeepsAllButMountPointAndType before later
+
+-- a mount after one event, by the world before
+event : (world : World ℕ) (gone : List ℕ) (number : ℕ)
+    → DetachedOrKept (mount_numbered nat_eq world number) (mount_numbered nat_eq (taken_away nat_eq world gone) number)
+event world gone number = by (is_going nat_eq gone number) refl
+  where
+    by : (b : Bool) → is_going nat_eq gone number ≡ b
+        → DetachedOrKept (mount_numbered nat_eq world number)
+        (mount_numbered nat_eq (taken_away nat_eq world gone) number)
+    by true e = inl (detached_by_number world gone number e)
+    by false e = inr (kept_by_number world gone number e)
+
+-- what is detached twice, or kept and then detached
+detached_of_kept : (a b : Mount ℕ) → KeepsAllButMountPointAndType a b → detached b ≡ detached a
+detached_of_kept a b r = λ i. record {
+  number = r.number i;
+  namespace = None;
+  mount_point = None;
+  filesystem = r.filesystem i;
+  root = r.root i;
+  flags = r.flags i;
+  propagation = Private;
+}
+
+-- a mount outside every namespace, with no place and no group, stays as it is
+stays_detached : (world : World ℕ) (gone : List ℕ) (number : ℕ) (before : Mount ℕ)
+    → mount_numbered nat_eq world number ≡ detached before
+    → mount_numbered nat_eq (taken_away nat_eq world gone) number ≡ detached before
+stays_detached world gone number before e =
+    taken world gone number ∙ ap (λ m. inheriting nat_eq (middle world gone) (after_going nat_eq world gone m)) e
+    ∙ by (is_going nat_eq gone before.number) refl
+  where
+    by : (b : Bool) → is_going nat_eq gone before.number ≡ b
+        → inheriting nat_eq (middle world gone) (after_going nat_eq world gone (detached before)) ≡ detached before
+    by true f = ap (inheriting nat_eq (middle world gone)) (going_is_detached world gone (detached before) f)
+    by false f = ap (inheriting nat_eq (middle world gone)) (staying_is_placed world gone (detached before) f)
+
+then_event : (before : Mount ℕ) (world : World ℕ) (gone : List ℕ) (number : ℕ)
+    → DetachedOrKept before (mount_numbered nat_eq world number)
+    → DetachedOrKept before (mount_numbered nat_eq (taken_away nat_eq world gone) number)
+then_event before world gone number (inl e) = inl (stays_detached world gone number before e)
+then_event before world gone number (inr r) =
+    ⊎_elim
+    (λ e. inl (e ∙ detached_of_kept before (mount_numbered nat_eq world number) r))
+    (λ s. inr (record {
+      number = s.number ∙ r.number;
+      namespace = s.namespace ∙ r.namespace;
+      filesystem = s.filesystem ∙ r.filesystem;
+      root = s.root ∙ r.root;
+      flags = s.flags ∙ r.flags;
+    }))
+    (event world gone number)
+
+all_events : (before : Mount ℕ) (number : ℕ) (mounts : List (Mount ℕ)) (world : World ℕ)
+    → DetachedOrKept before (mount_numbered nat_eq world number)
+    → DetachedOrKept before (mount_numbered nat_eq (folded (unmounted_if_there nat_eq) world mounts) number)
+all_events before number [] world r = r
+all_events before number (mount ∷ mounts) world r =
+    all_events before number mounts (unmounted_if_there nat_eq world mount)
+    (by (is_some (mount_numbered nat_eq world mount.number).namespace))
+  where
+    by : (b : Bool) → DetachedOrKept before
+        (mount_numbered nat_eq (if b then unmounted nat_eq world mount.number else world) number)
+    by true = then_event before world (going nat_eq world (mount_numbered nat_eq world mount.number)) number r
+    by false = r
+
+pub lazy_detaches_or_keeps : LazyDetachesOrKeeps
+lazy_detaches_or_keeps world one number =
+    all_events (mount_numbered nat_eq world number) number
+    (deepest_first nat_eq world (mount_tree nat_eq world.mounts (mount_numbered nat_eq world one))) world
+    (inr (record { number = refl; namespace = refl; filesystem = refl; root = refl; flags = refl }))
+
+all_of_mounts : (mounts : List (Mount ℕ)) (world : World ℕ)
+    → KeepsAllButMounts world (folded (unmounted_if_there nat_eq) world mounts)
+all_of_mounts [] world = record { filesystems = refl; namespaces = refl; tasks = refl; change = refl }
+all_of_mounts (mount ∷ mounts) world =
+    let first = by (is_some (mount_numbered nat_eq world mount.number).namespace) in
+    let later = all_of_mounts mounts (unmounted_if_there nat_eq world mount) in
+    record {
+      filesystems = later.filesystems ∙ first.filesystems;
+      namespaces = later.namespaces ∙ first.namespaces;
+      tasks = later.tasks ∙ first.tasks;
+      change = later.change ∙ first.change;
+    }
+  where
+    by : (b : Bool) → KeepsAllButMounts world (if b then unmounted nat_eq world mount.number else world)
+    by true = all_but_mounts world (going nat_eq world (mount_numbered nat_eq world mount.number))
+    by false = record { filesystems = refl; namespaces = refl; tasks = refl; change = refl }
+
+pub lazy_is_of_mounts : LazyIsOfMounts
+lazy_is_of_mounts world one =
+    all_of_mounts (deepest_first nat_eq world (mount_tree nat_eq world.mounts (mount_numbered nat_eq world one))) world
+
+-- The mount itself
+pub the_mount_itself_goes : TheMountItselfGoes
+the_mount_itself_goes world one place one_each at childless =
+    ap (λ ns. is_going nat_eq ns one) (ap (going_at nat_eq world itself) at) ∙ by parent.propagation refl
+  where
+    itself : Mount ℕ
+    itself = mount_numbered nat_eq world one
+
+    parent : Mount ℕ
+    parent = mount_at nat_eq world place
+
+    number : itself.number ≡ one
+    number = number-mount_in world.mounts one
+
+    alone : is_among nat_eq one (itself.number ∷ []) ≡ true
+    alone = head_among one itself.number [] (sym number)
+
+    -- nothing stands on it
+    empty : (list : List (Mount ℕ)) → list_any (stands_on nat_eq one) list ≡ false → children nat_eq list one ≡ []
+    empty list h = filter_none (stands_on nat_eq one) list h
+
+    may : may_go nat_eq world itself ≡ true
+    may =
+        ap (λ n. only_cover nat_eq itself (children nat_eq world.mounts n)) number
+        ∙ ap (only_cover nat_eq itself) (empty world.mounts childless)
+
+    itself_among : Among itself world.mounts
+    itself_among =
+        ⊎_elim (λ m. m) (λ none. absurd (true≢false (sym (ap is_some at) ∙ ap (λ m. is_some m.mount_point) none)))
+        (found_or_none world.mounts one)
+
+    at_parent : child_at nat_eq world.mounts (record { mount = parent.number; node = place.node }) ≡ Some itself
+    at_parent = ap (λ n. child_at nat_eq world.mounts (record { mount = n; node = place.node }))
+        (number-mount_in world.mounts place.mount)
+        ∙ found_at_its_place world.mounts one_each itself itself_among place at
+
+    parent_among : (group : ℕ) → parent.propagation ≡ Shared group → Among parent world.mounts
+    parent_among group e =
+        ⊎_elim (λ m. m)
+        (λ none. absurd (true≢false (sym (ap (λ k. is_some (group_of k)) e)
+        ∙ ap (λ m. is_some (group_of m.propagation)) none)))
+        (found_or_none world.mounts place.mount)
+
+    by : (kind : Propagation ℕ) → parent.propagation ≡ kind
+        → is_going nat_eq (going_from nat_eq world itself place (is_shared parent.propagation)) one ≡ true
+    by (Shared group) e =
+        ap (λ k. is_going nat_eq (going_from nat_eq world itself place (is_shared k)) one) e
+        ∙ ap (λ rs. is_among nat_eq one
+        (map (λ (gone : Mount ℕ). gone.number)
+        (filter_map (goes_at nat_eq world place.node) rs))) (receivers_of_shared world parent group e)
+        ∙ is_among_numbers _ one
+        (subst (λ n. Among n
+        (map (λ (gone : Mount ℕ). gone.number)
+        (filter_map (goes_at nat_eq world place.node) (receivers nat_eq world group)))) number
+        (among-map (λ (gone : Mount ℕ). gone.number)
+        (filter_map (goes_at nat_eq world place.node) (receivers nat_eq world group)) itself
+        (among-filter_map (goes_at nat_eq world place.node) (receivers nat_eq world group) parent itself
+        (among-filter (receives nat_eq world group) world.mounts parent (parent_among group e)
+        (receives_from_source world group parent (ap source_of e)))
+        (child_goes_so world place.node parent itself at_parent may))))
+    by (Slave above) e = ap (λ k. is_going nat_eq (going_from nat_eq world itself place (is_shared k)) one) e ∙ alone
+    by Private e = ap (λ k. is_going nat_eq (going_from nat_eq world itself place (is_shared k)) one) e ∙ alone
+    by Unbindable e = ap (λ k. is_going nat_eq (going_from nat_eq world itself place (is_shared k)) one) e ∙ alone

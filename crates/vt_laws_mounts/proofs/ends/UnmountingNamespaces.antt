@@ -1,0 +1,108 @@
+-- A namespace that ends leaves at most one mount at a place in the others.
+use Rattle.std.proofs.Common.{◌≡◌, refl, sym, ap, subst, ◌∙◌, true, false, zero, suc, nat_eq, ℕ, List, None, Option, Some, eqb-true, filter, is_some, map, not, option_map, true≢false, ◌&&◌}
+use Rattle.vt_spec.specs.Machine.Mounts.{Location, Mount, mount_in}
+use Rattle.vt_spec.proofs.Lists.{Among, among-filter, among-from_filter, among-from_map, among-map, among_from_list_all, among_numbers, chain_ends, chain_goes_on, is_among_numbers, last_of_chain}
+use Rattle.vt_laws_mounts.specs.Mounts.Invariants.{EndedNamespacesLeaveOneMountAMountPoint, OneNumberEach}
+use Rattle.vt_laws_mounts.specs.Mounts.Unmounting.{ChainsEnd}
+use Rattle.vt_spec.specs.Machine.World.{World, mount_at, Namespace}
+use Rattle.std.proofs.lemmas.Bool.{and_parts, not-true}
+use Rattle.vt_spec.specs.Lists.{chain, holds_of, last_or, same_option}
+use Rattle.vt_laws_mounts.proofs.ends.UnmountingTrees.{AreClosed, closed_keeps_apart}
+use Rattle.vt_laws_mounts.proofs.mounts.MountsReplaced.{found_itself}
+use Rattle.vt_spec.specs.Machine.Namespaces.{has_tasks, is_in_ended}
+use Rattle.vt_spec.specs.Machine.Invariants.{last_parent, stands_in_its_namespace}
+use Rattle.std.specs.List.{list_any}
+use Rattle.vt_spec.proofs.Found.{length_from_among}
+
+-- one step more changes no chain that has ended
+last_longer : {A : Type 0} (next : A → Option A) (n : ℕ) (a : A) → next (last_or a (chain n next a)) ≡ None
+    → last_or a (chain (suc n) next a) ≡ last_or a (chain n next a)
+last_longer next zero a e = ap (last_or a) (chain_ends next zero a e)
+last_longer next (suc n) a e = by (next a) refl (last_longer next n)
+  where
+    by : (found : Option _) → next a ≡ found
+        → ((b : _) → next (last_or b (chain n next b)) ≡ None
+        → last_or b (chain (suc n) next b) ≡ last_or b (chain n next b))
+        → last_or a (chain (suc (suc n)) next a) ≡ last_or a (chain (suc n) next a)
+    by None f later = ap (last_or a) (chain_ends next (suc n) a f) ∙ sym (ap (last_or a) (chain_ends next n a f))
+    by (Some b) f later =
+        let shorter : last_or a (chain (suc n) next a) ≡ last_or b (chain n next b) =
+        ap (last_or a) (chain_goes_on next n a b f) ∙ last_of_chain next n b a in
+        ap (last_or a) (chain_goes_on next (suc n) a b f)
+        ∙ last_of_chain next (suc n) b a
+        ∙ later b (ap next (sym shorter) ∙ e)
+        ∙ sym shorter
+
+pub one_namespace : (a b : Option ℕ) → same_option nat_eq a b ≡ true → a ≡ b
+one_namespace None None e = refl
+one_namespace None (Some b) e = absurd (true≢false (sym e))
+one_namespace (Some a) None e = absurd (true≢false (sym e))
+one_namespace (Some a) (Some b) e = ap Some (eqb-true a b e)
+
+module _ (world : World ℕ) (ends : ChainsEnd world) where
+  abbrev under : Mount ℕ → Option (Mount ℕ)
+  under mount = option_map (mount_at nat_eq world) mount.mount_point
+
+  no_more : (mount : Mount ℕ) → is_some mount.mount_point ≡ false → under mount ≡ None
+  no_more mount e = by mount.mount_point e
+    where
+      by : (place : Option (Location ℕ)) → is_some place ≡ false → option_map (mount_at nat_eq world) place ≡ None
+      by None f = refl
+      by (Some place) f = absurd (true≢false f)
+
+  parts : (mount : Mount ℕ) → Among mount world.mounts
+      → (is_some (last_parent nat_eq world mount).mount_point ≡ false)
+      × (mount.namespace ≡ (last_parent nat_eq world mount).namespace)
+  parts mount m =
+      let both : (not (is_some (last_parent nat_eq world mount).mount_point) ≡ true)
+      × (same_option nat_eq mount.namespace (last_parent nat_eq world mount).namespace ≡ true) =
+      and_parts _ _ (among_from_list_all (stands_in_its_namespace nat_eq world) world.mounts ends mount m) in
+      (not-true _ both.0, one_namespace mount.namespace (last_parent nat_eq world mount).namespace both.1)
+
+  -- a mount is in the namespace of the one that it stands on
+  pub same_namespace : (x : Mount ℕ) (place : Location ℕ) → Among x world.mounts → x.mount_point ≡ Some place
+      → Among (mount_at nat_eq world place) world.mounts
+      → x.namespace ≡ (mount_at nat_eq world place).namespace
+  same_namespace x place m e n =
+      let on = mount_at nat_eq world place in
+      let size = length_from_among world.mounts x m in
+      let first = parts x m in
+      let other = parts on n in
+      let shorter : last_parent nat_eq world x ≡ last_or on (chain size.0 under on) =
+      ap (λ k. last_or x (chain k under x)) size.1
+      ∙ ap (last_or x) (chain_goes_on under size.0 x on (ap (option_map (mount_at nat_eq world)) e))
+      ∙ last_of_chain under size.0 on x in
+      let same : last_parent nat_eq world on ≡ last_parent nat_eq world x =
+      ap (λ k. last_or on (chain k under on)) size.1
+      ∙ last_longer under size.0 on (no_more (last_or on (chain size.0 under on))
+      (ap (λ l. is_some l.mount_point) (sym shorter) ∙ first.0))
+      ∙ sym shorter in
+      first.1 ∙ sym (other.1 ∙ ap (λ l. l.namespace) same)
+
+-- the mounts of namespaces that end
+abbrev pub in_ended : World ℕ → List ℕ
+in_ended world = map (λ (mount : Mount ℕ). mount.number) (filter (is_in_ended nat_eq world) world.mounts)
+
+pub ended_closed : (world : World ℕ) → ChainsEnd world → OneNumberEach world → AreClosed world (in_ended world)
+ended_closed world ends one x place m e goes =
+    let from =
+    among-from_map (λ (mount : Mount ℕ). mount.number) (filter (is_in_ended nat_eq world) world.mounts) place.mount
+    (among_numbers (in_ended world) place.mount goes) in
+    let end = among-from_filter (is_in_ended nat_eq world) world.mounts from.0 from.1 in
+    let it : mount_at nat_eq world place ≡ from.0 =
+    ap (mount_in nat_eq world.mounts) from.2 ∙ found_itself world.mounts one from.0 end.0 in
+    let there : Among (mount_at nat_eq world place) world.mounts = subst (λ z. Among z world.mounts) (sym it) end.0 in
+    let namespace : x.namespace ≡ from.0.namespace =
+    same_namespace world ends x place m e there ∙ ap (λ z. z.namespace) it in
+    is_among_numbers (in_ended world) x.number
+    (among-map (λ (mount : Mount ℕ). mount.number) (filter (is_in_ended nat_eq world) world.mounts) x
+    (among-filter (is_in_ended nat_eq world) world.mounts x m
+    (ap (holds_of
+    (λ number. not
+    (list_any (λ (listed : Namespace ℕ). nat_eq number listed.number
+    && has_tasks nat_eq world listed) world.namespaces))) namespace ∙ end.1)))
+
+pub ended_namespaces_leave_one_mount_a_place : EndedNamespacesLeaveOneMountAMountPoint
+ended_namespaces_leave_one_mount_a_place world ends both =
+    let kept = closed_keeps_apart world (in_ended world) (ended_closed world ends both.by_number) both in
+    record { by_number = kept.by_number; by_place = kept.by_place }

@@ -1,0 +1,271 @@
+-- What is attached leaves the mounts that were there.
+use Rattle.std.specs.List.{list_any}
+use Rattle.std.proofs.lemmas.List.{map-append}
+use Rattle.std.proofs.Common.{◌≡◌, refl, sym, ap, ◌∙◌, Bool, List, None, Option, Some, [], ℕ, ◌∷◌, nat_eq, append_assoc, cond, eq-eqb, find, flat_map, inl, inr, map, subst, ◌++◌, false, true, length, ◌⊎◌}
+use Rattle.vt_spec.specs.Machine.Attach.{Copies, Graft, added_mounts, attached_by, copies_at, copies_from, copy_at, copy_number, graft_of, moved_tree, parts_of, pushed_onto, pushed_up, receiver_stood_on, twig_of, with_moved_mounts}
+use Rattle.vt_laws_mounts.specs.Mounts.Attaching.{KeepsAllButMountPoint, AttachKeepsMounts, AttachLeavesMounts, KeepsWhatItShows, MoveKeepsMounts, MoveLeavesMounts, NewMountsFollow, is_mount, numbers_of, stands_at_a_receiver, MovedMountsShow}
+use Rattle.vt_spec.specs.Machine.Mounts.{Mount, group_of, no_mount, stands_at, Location, mount_in, with_mount}
+use Rattle.vt_spec.specs.Machine.World.{World, mount_at, mount_numbered}
+use Rattle.vt_spec.specs.Lists.{folded, rest_of, Fresh, is_among}
+use Rattle.std.specs.Prelude.{if◌then◌else◌}
+use Rattle.std.proofs.lemmas.Bool.{or_parts}
+use Rattle.vt_spec.proofs.Lists.{Among, among-from_map, among-map, none_among}
+use Rattle.vt_laws_mounts.proofs.mounts.MountsReplaced.{found-append, found-with_mount_other, numbers-with_mount, found_itself, related-with_mount}
+use Rattle.vt_laws_mounts.proofs.mounts.MountsFound.{found-map, numbers-map}
+use Rattle.vt_spec.proofs.Truths.{nat_eq_false_turned}
+use Rattle.vt_spec.proofs.Worlds.{number-mount_in, tree_among}
+
+-- a test that no element passes finds none
+none_found : {A : Type 0} (test : A → Bool) (xs : List A) → list_any test xs ≡ false → find test xs ≡ None
+none_found test [] h = refl
+none_found test (x ∷ xs) h =
+    let apart_from : (test x ≡ false) × (list_any test xs ≡ false) = or_parts _ _ h in
+    ap (λ b. cond b (Some x) (find test xs)) apart_from.0 ∙ none_found test xs apart_from.1
+
+module _ (world : World ℕ) (new : Copies ℕ) (graft : Graft ℕ) (parts : List (Mount ℕ)) where
+  -- a receiver moves a mount up, or none does
+  pub push_keeps : (mount : Mount ℕ) → KeepsAllButMountPoint mount (pushed_up nat_eq world new graft parts mount)
+  push_keeps mount = by (receiver_stood_on nat_eq graft parts mount)
+    where
+      by : (part : Option (Mount ℕ)) → KeepsAllButMountPoint mount (pushed_onto nat_eq world new graft parts mount part)
+      by None =
+          record { number = refl; namespace = refl; filesystem = refl; root = refl; flags = refl; propagation = refl }
+      by (Some part) =
+          record { number = refl; namespace = refl; filesystem = refl; root = refl; flags = refl; propagation = refl }
+
+  abbrev pub is_pushed_by : Mount ℕ → Mount ℕ → Bool
+  is_pushed_by mount receiver = stands_at nat_eq
+      (record { mount = receiver.number; node = graft.destination.node }) mount
+
+  -- what stands at no receiver's place is left
+  pub none_pushes : (mount : Mount ℕ)
+      → list_any (is_pushed_by mount) (rest_of parts) ≡ false
+      → pushed_up nat_eq world new graft parts mount ≡ mount
+  none_pushes mount h =
+      ap (pushed_onto nat_eq world new graft parts mount)
+      (none_found (is_pushed_by mount) (rest_of parts) h)
+
+  stands_nowhere : (number : ℕ) (receivers : List (Mount ℕ))
+      → list_any (is_pushed_by (no_mount number)) receivers ≡ false
+  stands_nowhere number [] = refl
+  stands_nowhere number (receiver ∷ receivers) = stands_nowhere number receivers
+
+  pub none_pushed : (number : ℕ) → pushed_up nat_eq world new graft parts (no_mount number) ≡ no_mount number
+  none_pushed number = none_pushes (no_mount number) (stands_nowhere number (rest_of parts))
+
+-- mounts that are replaced one after the other
+pub numbers-folded : (mounts copies : List (Mount ℕ))
+    → numbers_of (folded (with_mount nat_eq) mounts copies) ≡ numbers_of mounts
+numbers-folded mounts [] = refl
+numbers-folded mounts (copy ∷ copies) =
+    numbers-folded (with_mount nat_eq mounts copy) copies ∙ numbers-with_mount copy mounts
+
+pub found-folded_other : (mounts copies : List (Mount ℕ)) (number : ℕ)
+    → ((copy : Mount ℕ) → Among copy copies → nat_eq copy.number number ≡ false)
+    → mount_in nat_eq (folded (with_mount nat_eq) mounts copies) number ≡ mount_in nat_eq mounts number
+found-folded_other mounts [] number h = refl
+found-folded_other mounts (copy ∷ copies) number h =
+    found-folded_other (with_mount nat_eq mounts copy) copies number (λ c m. h c (inr m))
+    ∙ found-with_mount_other copy mounts number (h copy (inl refl))
+
+module _ (world : World ℕ) (new : Copies ℕ) (place : Location ℕ) (moves : Bool) (mounts : List (Mount ℕ)) where
+  abbrev pub graft : Graft ℕ
+  graft = graft_of nat_eq world new place moves mounts
+
+  abbrev pub parts : List (Mount ℕ)
+  parts = parts_of nat_eq world place
+
+  abbrev pub push : Mount ℕ → Mount ℕ
+  push = pushed_up nat_eq world new graft parts
+
+  -- what comes to the destination
+  abbrev pub arriving : List (Mount ℕ)
+  arriving = copies_at nat_eq world new graft parts (mount_at nat_eq world place)
+
+  -- the mounts that were there, where some of them moved
+  abbrev pub moved_ones : List (Mount ℕ)
+  moved_ones = with_moved_mounts nat_eq moves world.mounts arriving
+
+  abbrev pub others : List (Mount ℕ)
+  others = added_mounts moves arriving ++ flat_map (copies_at nat_eq world new graft parts) (rest_of parts)
+
+  pub in_front : (attached_by nat_eq world new place moves mounts).mounts ≡ map push moved_ones ++ others
+  in_front =
+      append_assoc (map push moved_ones) (added_mounts moves arriving)
+      (flat_map (copies_at nat_eq world new graft parts) (rest_of parts))
+
+  push_number : (mount : Mount ℕ) → (push mount).number ≡ mount.number
+  push_number mount = (push_keeps world new graft parts mount).number
+
+  pub numbers_moved : numbers_of moved_ones ≡ numbers_of world.mounts
+  numbers_moved = by moves
+    where
+      by : (b : Bool) → numbers_of (with_moved_mounts nat_eq b world.mounts arriving) ≡ numbers_of world.mounts
+      by true = numbers-folded world.mounts arriving
+      by false = refl
+
+  numbers_pushed : numbers_of (map push moved_ones) ≡ numbers_of world.mounts
+  numbers_pushed = numbers-map push push_number moved_ones ∙ numbers_moved
+
+  pub numbers_attached : numbers_of (attached_by nat_eq world new place moves mounts).mounts
+      ≡ numbers_of world.mounts ++ numbers_of others
+  numbers_attached =
+      ap numbers_of in_front
+      ∙ map-append (λ (mount : Mount ℕ). mount.number) (map push moved_ones) others
+      ∙ ap (λ ns. ns ++ numbers_of others) numbers_pushed
+
+  -- a mount that was there is found, moved up where it stood at a receiver
+  pub found_attached : (number : ℕ) → is_mount world number ≡ true
+      → mount_numbered nat_eq (attached_by nat_eq world new place moves mounts) number
+      ≡ push (mount_in nat_eq moved_ones number)
+  found_attached number there =
+      ap (λ ms. mount_in nat_eq ms number) in_front
+      ∙ found-append (map push moved_ones) others number (ap (is_among nat_eq number) numbers_pushed ∙ there)
+      ∙ found-map push push_number moved_ones number (none_pushed world new graft parts number)
+
+  pub push_leaves : (mount : Mount ℕ) → stands_at_a_receiver world place mount ≡ false → push mount ≡ mount
+  push_leaves mount h = none_pushes world new graft parts mount h
+
+-- the numbers of what is new, out of a supply
+abbrev pub supplied : World ℕ → Fresh ℕ → Location ℕ → List (Mount ℕ) → Copies ℕ
+supplied world fresh place mounts = copies_from nat_eq fresh (parts_of nat_eq world place) mounts
+
+pub new_mounts_follow : NewMountsFollow
+new_mounts_follow world fresh place moves mounts =
+    let new = supplied world fresh place mounts in
+    (numbers_of (others world new place moves mounts), numbers_attached world new place moves mounts)
+
+pub attach_keeps_mounts : AttachKeepsMounts
+attach_keeps_mounts world fresh place mounts number there =
+    let new = supplied world fresh place mounts in
+    subst (KeepsAllButMountPoint (mount_numbered nat_eq world number))
+    (sym (found_attached world new place false mounts number there))
+    (push_keeps world new (graft_of nat_eq world new place false mounts) (parts_of nat_eq world place)
+    (mount_numbered nat_eq world number))
+
+pub attach_leaves_mounts : AttachLeavesMounts
+attach_leaves_mounts world fresh place mounts number there h =
+    let new = supplied world fresh place mounts in
+    found_attached world new place false mounts number there
+    ∙ push_leaves world new place false mounts (mount_numbered nat_eq world number) h
+
+-- What moves
+
+module _ (world : World ℕ) (new : Copies ℕ) (place : Location ℕ) (mounts : List (Mount ℕ)) where
+  abbrev pub move : Graft ℕ
+  move = graft_of nat_eq world new place true mounts
+
+  -- at the destination a mount that moves keeps its number
+  pub keeps_number : (origin : ℕ) → copy_number nat_eq new move (mount_at nat_eq world place).number origin ≡ origin
+  keeps_number origin =
+      ap (λ b. if b then origin else new.copy (mount_at nat_eq world place).number origin)
+      (eq-eqb (mount_at nat_eq world place).number place.mount (number-mount_in world.mounts place.mount))
+
+  -- each mount that arrives is one that moves, with all that it shows
+  pub arrives : (copy : Mount ℕ) → Among copy (arriving world new place true mounts)
+      → (origin : Mount ℕ) × Among origin mounts × KeepsWhatItShows origin copy
+  arrives copy m =
+      let from =
+      among-from_map (copy_at nat_eq world new move (parts_of nat_eq world place) (mount_at nat_eq world place))
+      move.twigs copy m in
+      let twig =
+      among-from_map (twig_of new (group_of (mount_at nat_eq world place).propagation)) mounts from.0 from.1 in
+      let origin : from.0.origin ≡ twig.0 = ap (λ t. t.origin) twig.2 in (
+        twig.0,
+        twig.1,
+        record {
+          number = ap (λ c. c.number) from.2 ∙ keeps_number from.0.origin.number ∙ ap (λ o. o.number) origin;
+          filesystem = ap (λ c. c.filesystem) from.2 ∙ ap (λ o. o.filesystem) origin;
+          root = ap (λ c. c.root) from.2 ∙ ap (λ o. o.root) origin;
+          flags = ap (λ c. c.flags) from.2 ∙ ap (λ o. o.flags) origin;
+        },
+      )
+
+  pub stays_put : (number : ℕ) → is_among nat_eq number (numbers_of mounts) ≡ false
+      → mount_in nat_eq (moved_ones world new place true mounts) number ≡ mount_numbered nat_eq world number
+  stays_put number other =
+      found-folded_other world.mounts (arriving world new place true mounts) number (λ copy m.
+      let from = arrives copy m in
+      nat_eq_false_turned number copy.number
+      (ap (nat_eq number) from.2.number
+      ∙ none_among (nat_eq number) (numbers_of mounts) other from.0.number
+      (among-map (λ (mount : Mount ℕ). mount.number) mounts from.0 from.1)))
+
+pub move_keeps_mounts : MoveKeepsMounts
+move_keeps_mounts world fresh place mounts number there other =
+    let new = supplied world fresh place mounts in
+    subst (KeepsAllButMountPoint (mount_numbered nat_eq world number))
+    (sym (found_attached world new place true mounts number there
+    ∙ ap (push world new place true mounts) (stays_put world new place mounts number other)))
+    (push_keeps world new (graft_of nat_eq world new place true mounts) (parts_of nat_eq world place)
+    (mount_numbered nat_eq world number))
+
+pub move_leaves_mounts : MoveLeavesMounts
+move_leaves_mounts world fresh place mounts number there other h =
+    let new = supplied world fresh place mounts in
+    found_attached world new place true mounts number there
+    ∙ ap (push world new place true mounts) (stays_put world new place mounts number other)
+    ∙ push_leaves world new place true mounts (mount_numbered nat_eq world number) h
+
+-- one that moves shows the same
+shows_itself : (mount : Mount ℕ) → KeepsWhatItShows mount mount
+shows_itself mount = record { number = refl; filesystem = refl; root = refl; flags = refl }
+
+shows_on : (a b c : Mount ℕ) → KeepsWhatItShows a b → KeepsWhatItShows b c → KeepsWhatItShows a c
+shows_on a b c r s =
+    record {
+      number = s.number ∙ r.number;
+      filesystem = s.filesystem ∙ r.filesystem;
+      root = s.root ∙ r.root;
+      flags = s.flags ∙ r.flags;
+    }
+
+shows_back : (a b : Mount ℕ) → KeepsWhatItShows a b → KeepsWhatItShows b a
+shows_back a b r =
+    record { number = sym r.number; filesystem = sym r.filesystem; root = sym r.root; flags = sym r.flags }
+
+shown_by_all : (before mounts copies : List (Mount ℕ))
+    → ((number : ℕ) → KeepsWhatItShows (mount_in nat_eq before number) (mount_in nat_eq mounts number))
+    → ((copy : Mount ℕ) → Among copy copies → KeepsWhatItShows (mount_in nat_eq before copy.number) copy)
+    → (number : ℕ)
+    → KeepsWhatItShows (mount_in nat_eq before number)
+    (mount_in nat_eq (folded (with_mount nat_eq) mounts copies) number)
+shown_by_all before mounts [] so each number = so number
+shown_by_all before mounts (copy ∷ copies) so each number =
+    shown_by_all before (with_mount nat_eq mounts copy) copies
+    (λ n. shows_on (mount_in nat_eq before n) (mount_in nat_eq mounts n)
+    (mount_in nat_eq (with_mount nat_eq mounts copy) n) (so n)
+    (related-with_mount KeepsWhatItShows shows_itself mounts copy
+    (shows_on (mount_in nat_eq mounts copy.number) (mount_in nat_eq before copy.number) copy
+    (shows_back (mount_in nat_eq before copy.number) (mount_in nat_eq mounts copy.number) (so copy.number))
+    (each copy (inl refl))) n))
+    (λ c m. each c (inr m)) number
+
+pub moved_mounts_show : MovedMountsShow
+moved_mounts_show world fresh source place number one there =
+    let mounts = moved_tree nat_eq world source.mount in
+    let new = supplied world fresh place mounts in
+    let moved : KeepsWhatItShows (mount_numbered nat_eq world number)
+    (mount_in nat_eq (moved_ones world new place true mounts) number) =
+    shown_by_all world.mounts world.mounts (arriving world new place true mounts)
+    (λ n. shows_itself (mount_in nat_eq world.mounts n)) (λ copy m.
+    let from = arrives world new place mounts copy m in
+    subst (λ origin. KeepsWhatItShows origin copy)
+    (sym (itself from.0 (tree_among (length world.mounts) world.mounts (mount_at nat_eq world source) from.0 from.1))
+    ∙ ap (mount_in nat_eq world.mounts) (sym from.2.number))
+    from.2)
+    number in
+    let pushed =
+    push_keeps world new (graft_of nat_eq world new place true mounts) (parts_of nat_eq world place)
+    (mount_in nat_eq (moved_ones world new place true mounts) number) in
+    subst (KeepsWhatItShows (mount_numbered nat_eq world number))
+    (sym (found_attached world new place true mounts number there))
+    (shows_on (mount_numbered nat_eq world number) _ _ moved
+    (record { number = pushed.number; filesystem = pushed.filesystem; root = pushed.root; flags = pushed.flags }))
+  where
+    itself : (origin : Mount ℕ) → (origin ≡ mount_at nat_eq world source) ⊎ Among origin world.mounts
+        → mount_in nat_eq world.mounts origin.number ≡ origin
+    itself origin (inl e) =
+        ap (λ m. mount_in nat_eq world.mounts m.number) e
+        ∙ ap (mount_in nat_eq world.mounts) (number-mount_in world.mounts source.mount) ∙ sym e
+    itself origin (inr m) = found_itself world.mounts one origin m

@@ -1,0 +1,112 @@
+-- The places below places come to an end through changes of types and flags.
+use Rattle.std.proofs.Common.{◌≡◌, refl, sym, ap, subst, ◌∙◌, zero, suc, nat_eq, ℕ, None, Option, Some, is_some, length, not, option_map, ◌&&◌}
+use Rattle.vt_spec.specs.Machine.Mounts.{Location, Mount, mount_in}
+use Rattle.vt_spec.proofs.Lists.{Among, among-map, among_from_list_all, chain_ends, chain_goes_on, is_among_numbers, last_of_chain, list_all_from_among}
+use Rattle.vt_laws_mounts.specs.Mounts.Invariants.{FlagsKeepChainsEnding, InheritanceKeepsChainsEnding, OneNumberEach, TypeKeepsChainsEnding}
+use Rattle.vt_laws_mounts.specs.Mounts.Unmounting.{ChainsEnd}
+use Rattle.vt_spec.specs.Machine.World.{World, mount_at, mount_numbered, with_flags}
+use Rattle.vt_spec.specs.Lists.{chain, is_among, last_or, same_option}
+use Rattle.vt_laws_mounts.proofs.mounts.MountsFound.{found-map, found_there, numbers-map}
+use Rattle.vt_laws_mounts.proofs.mounts.MountsReplaced.{found_itself, numbers-with_mount, one_number_by_numbers, related-with_mount}
+use Rattle.vt_spec.specs.Machine.Receives.{inheriting, regrouped}
+use Rattle.vt_spec.specs.Machine.Invariants.{last_parent, stands_in_its_namespace}
+use Rattle.std.proofs.lemmas.List.{length-map}
+use Rattle.vt_laws_mounts.proofs.Groups.{mounts-regrouped}
+use Rattle.vt_laws_mounts.specs.Mounts.Attaching.{numbers_of}
+use Rattle.vt_laws_mounts.proofs.mounts.MountsRetyped.{numbers_with_type, type_is_all_that_changes}
+use Rattle.vt_spec.specs.Machine.Types.{with_type}
+use Rattle.vt_spec.proofs.Worlds.{number-mount_in}
+
+-- a mount with the place and the namespace of another
+pub record StandsAlike (before later : Mount ℕ) : Type 0 where
+  pub mount_point : later.mount_point ≡ before.mount_point
+  pub namespace : later.namespace ≡ before.namespace
+
+module _ (world after : World ℕ)
+    (alike : (number : ℕ) → StandsAlike (mount_numbered nat_eq world number) (mount_numbered nat_eq after number)) where
+  abbrev below_before : Mount ℕ → Option (Mount ℕ)
+  below_before mount = option_map (mount_at nat_eq world) mount.mount_point
+
+  abbrev below_after : Mount ℕ → Option (Mount ℕ)
+  below_after mount = option_map (mount_at nat_eq after) mount.mount_point
+
+  same_last : (n : ℕ) (a b : Mount ℕ) → StandsAlike a b
+      → StandsAlike (last_or a (chain n below_before a)) (last_or b (chain n below_after b))
+  same_last zero a b r = r
+  same_last (suc n) a b r = by a.mount_point refl (same_last n)
+    where
+      by : (found : Option (Location ℕ)) → a.mount_point ≡ found
+          → ((x y : Mount ℕ) → StandsAlike x y
+          → StandsAlike (last_or x (chain n below_before x)) (last_or y (chain n below_after y)))
+          → StandsAlike (last_or a (chain (suc n) below_before a)) (last_or b (chain (suc n) below_after b))
+      by None e later =
+          subst (λ l. StandsAlike l (last_or b (chain (suc n) below_after b)))
+          (sym (ap (last_or a) (chain_ends below_before n a (ap (option_map (mount_at nat_eq world)) e))))
+          (subst (StandsAlike a)
+          (sym (ap (last_or b) (chain_ends below_after n b
+          (ap (option_map (mount_at nat_eq after)) (r.mount_point ∙ e))))) r)
+      by (Some at) e later =
+          let x = mount_at nat_eq world at in
+          let y = mount_at nat_eq after at in
+          subst (λ l. StandsAlike l (last_or b (chain (suc n) below_after b)))
+          (sym (ap (last_or a) (chain_goes_on below_before n a x (ap (option_map (mount_at nat_eq world)) e))
+          ∙ last_of_chain below_before n x a))
+          (subst (StandsAlike (last_or x (chain n below_before x)))
+          (sym (ap (last_or b) (chain_goes_on below_after n b y
+          (ap (option_map (mount_at nat_eq after)) (r.mount_point ∙ e)))
+          ∙ last_of_chain below_after n y b))
+          (later x y (alike at.mount)))
+
+  pub places_end_alike : OneNumberEach world → numbers_of after.mounts ≡ numbers_of world.mounts → ChainsEnd world
+      → ChainsEnd after
+  places_end_alike one numbers ends =
+      list_all_from_among (stands_in_its_namespace nat_eq after) after.mounts (λ mount m.
+      let old = mount_numbered nat_eq world mount.number in
+      let found : mount_numbered nat_eq after mount.number ≡ mount =
+      found_itself after.mounts (one_number_by_numbers world.mounts after.mounts numbers one) mount m in
+      let r : StandsAlike old mount = subst (StandsAlike old) found (alike mount.number) in
+      let there : Among old world.mounts = found_there world.mounts mount.number
+      (ap (is_among nat_eq mount.number) (sym numbers)
+      ∙ is_among_numbers (numbers_of after.mounts) mount.number
+      (among-map (λ (x : Mount ℕ). x.number) after.mounts mount m)) in
+      let long : length after.mounts ≡ length world.mounts =
+      sym (length-map after.mounts (λ (x : Mount ℕ). x.number)) ∙ ap length numbers
+      ∙ length-map world.mounts (λ (x : Mount ℕ). x.number) in
+      let last = same_last (length world.mounts) old mount r in
+      ap (λ n. not (is_some (last_or mount (chain n below_after mount)).mount_point)
+      && same_option nat_eq mount.namespace
+      (last_or mount (chain n below_after mount)).namespace) long
+      ∙ ap (λ p. not (is_some p) && same_option nat_eq mount.namespace
+      (last_or mount (chain (length world.mounts) below_after mount)).namespace) last.mount_point
+      ∙ ap (λ s. not (is_some (last_parent nat_eq world old).mount_point)
+      && same_option nat_eq mount.namespace s) last.namespace
+      ∙ ap (λ s. not (is_some (last_parent nat_eq world old).mount_point) && same_option nat_eq s
+      (last_parent nat_eq world old).namespace) r.namespace
+      ∙ among_from_list_all (stands_in_its_namespace nat_eq world) world.mounts ends old there)
+
+pub type_keeps_places_ending : TypeKeepsChainsEnding
+type_keeps_places_ending world fresh number word recursive one ends =
+    places_end_alike world (with_type nat_eq fresh world number word recursive)
+    (λ other. let r = type_is_all_that_changes world fresh number word recursive other in
+    record { mount_point = r.mount_point; namespace = r.namespace })
+    one (numbers_with_type world fresh number word recursive) ends
+
+pub flags_keep_places_ending : FlagsKeepChainsEnding
+flags_keep_places_ending world here flags one ends =
+    let new = record (mount_at nat_eq world here) { flags = flags } in
+    places_end_alike world (with_flags nat_eq world here.mount flags)
+    (related-with_mount StandsAlike (λ mount. record { mount_point = refl; namespace = refl }) world.mounts new
+    (subst (λ m. StandsAlike m new) (sym (ap (mount_in nat_eq world.mounts) (number-mount_in world.mounts here.mount)))
+    (record { mount_point = refl; namespace = refl })))
+    one (numbers-with_mount new world.mounts) ends
+
+pub inheritance_keeps_places_ending : InheritanceKeepsChainsEnding
+inheritance_keeps_places_ending world one ends =
+    places_end_alike world (regrouped nat_eq world)
+    (λ number.
+    subst (StandsAlike (mount_numbered nat_eq world number))
+    (sym (ap (λ mounts. mount_in nat_eq mounts number) (mounts-regrouped world)
+    ∙ found-map (inheriting nat_eq world) (λ mount. refl) world.mounts number refl))
+    (record { mount_point = refl; namespace = refl }))
+    one (ap numbers_of (mounts-regrouped world)
+    ∙ numbers-map (inheriting nat_eq world) (λ mount. refl) world.mounts) ends

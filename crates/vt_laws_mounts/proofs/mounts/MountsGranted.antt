@@ -1,0 +1,142 @@
+-- What a granted call leaves.
+use Rattle.std.proofs.Common.{◌≡◌, refl, sym, ap, ◌∙◌, ℕ, nat_eq, Bool, true, false, not, ◌||◌, List, [], ◌∷◌, filter, Some, is_ok, ok_or, Ok, Err, Result, flat_map, inl, inr, is_some, map, subst, ⊎_elim, ◌++◌, ◌⊎◌}
+use Rattle.vt_spec.specs.declared.errors.Rule.TheVariants.{S2}
+use Rattle.vt_spec.specs.Errors.{denial}
+use Rattle.vt_spec.specs.Language.Calls.{Call, TaskName, same_name}
+use Rattle.vt_spec.specs.Lists.{Fresh}
+use Rattle.vt_spec.specs.Machine.Mounts.{Mount}
+use Rattle.vt_spec.specs.Language.Answers.{Answer}
+use Rattle.vt_spec.specs.Machine.Outcomes.{Outcome, after}
+use Rattle.vt_spec.specs.Machine.Judge.{judge_in}
+use Rattle.vt_spec.specs.Machine.Policy.{call_outcome, filesystems_changed_by, finished, finished_by, numbers_raised, only_looks, policy, raised_task}
+use Rattle.vt_spec.specs.Machine.Settled.{mount_lives, settled}
+use Rattle.vt_spec.specs.Machine.World.{Task, World, locations_of, task_called}
+use Rattle.vt_spec.specs.Machine.Filesystems.{raised}
+use Rattle.vt_laws_mounts.specs.Mounts.FileCalls.{HasLiving}
+use Rattle.vt_spec.specs.declared.errors.Deny.{Deny}
+use Rattle.std.proofs.lemmas.List.Elements.{filter_agree}
+use Rattle.std.specs.Prelude.{if◌then◌else◌}
+use Rattle.std.specs.List.{list_any}
+use Rattle.vt_laws_rules.proofs.given.CallsGranted.{answered_holds}
+use Rattle.vt_laws_rules.specs.Granted.{IsGranted}
+use Rattle.vt_spec.proofs.Refusals.{same_ok}
+use Rattle.vt_spec.specs.Machine.Apply.{apply, overfills}
+use Rattle.vt_spec.specs.Machine.Looks.{looks_of}
+use Rattle.vt_spec.specs.Machine.Permits.{Permit}
+use Rattle.vt_spec.specs.Machine.Walking.{Stop, walk_end}
+
+-- a walk ends at one place
+pub one_end : {A : Type 0} (walk : Result A (Stop ℕ)) (a b : A) → walk ≡ Ok a → walk_end walk ≡ Ok b → a ≡ b
+one_end walk a b e f = same_ok a b (sym (ap walk_end e) ∙ f)
+
+-- a task with its change number raised is where it was
+locations_raised : (name : TaskName) (task : Task ℕ) → locations_of (raised_task name task) ≡ locations_of task
+locations_raised name task = by (same_name name task.name)
+  where
+    by : (b : Bool) → locations_of (if b then (record task { change = raised task.change }) else task)
+        ≡ locations_of task
+    by true = refl
+    by false = refl
+
+all_locations_raised : (name : TaskName) (tasks : List (Task ℕ))
+    → flat_map locations_of (map (raised_task name) tasks) ≡ flat_map locations_of tasks
+all_locations_raised name [] = refl
+all_locations_raised name (task ∷ tasks) =
+    ap (λ here. here ++ flat_map locations_of (map (raised_task name) tasks)) (locations_raised name task)
+    ∙ ap (λ rest. locations_of task ++ rest) (all_locations_raised name tasks)
+
+-- what lives after a call lives as its outcome leaves it
+lives_then : (before world : World ℕ) (name : TaskName) (changed : List ℕ) (mount : Mount ℕ)
+    → mount_lives nat_eq world mount
+    ≡ mount_lives nat_eq (numbers_raised nat_eq before name changed (settled nat_eq world)) mount
+lives_then before world name changed mount =
+    ap (λ locations. is_some mount.namespace || list_any (λ location. nat_eq mount.number location.mount) locations)
+    (sym (all_locations_raised name world.tasks))
+
+living_then : (before world : World ℕ) (name : TaskName) (changed : List ℕ)
+    → HasLiving (numbers_raised nat_eq before name changed (settled nat_eq world)) world.mounts
+living_then before world name changed =
+    filter_agree (mount_lives nat_eq world)
+    (mount_lives nat_eq (numbers_raised nat_eq before name changed (settled nat_eq world)))
+    (lives_then before world name changed) world.mounts
+
+-- a call leaves its outcome's world, or that without the dead
+finished_leaves : (b : Bool) (before : World ℕ) (name : TaskName) (changed : List ℕ) (outcome : Outcome ℕ)
+    → ((finished_by nat_eq b before name changed outcome).world.mounts ≡ outcome.world.mounts)
+    ⊎ HasLiving (finished_by nat_eq b before name changed outcome).world outcome.world.mounts
+finished_leaves true before name changed outcome = inl refl
+finished_leaves false before name changed outcome = inr (living_then before outcome.world name changed)
+
+pub policy_leaves : (fresh : Fresh ℕ) (world : World ℕ) (name : TaskName) (call : Call)
+    → ((task : Task ℕ) → (call_outcome nat_eq fresh world task call).world.mounts ≡ world.mounts)
+    → ((policy nat_eq fresh world name call).world.mounts ≡ world.mounts)
+    ⊎ HasLiving (policy nat_eq fresh world name call).world world.mounts
+policy_leaves fresh world name call leaves = by (ok_or (task_called world name) (denial S2))
+  where
+    changed : Task ℕ → List ℕ
+    changed task = filesystems_changed_by nat_eq world (judge_in nat_eq fresh world task call)
+
+    by : (found : Result (Task ℕ) Deny)
+        → ((after world found
+        (λ task. finished nat_eq world name call (changed task)
+        (call_outcome nat_eq fresh world task call))).world.mounts ≡ world.mounts)
+        ⊎ HasLiving
+        (after world found
+        (λ task. finished nat_eq world name call (changed task)
+        (call_outcome nat_eq fresh world task call))).world world.mounts
+    by (Ok task) =
+        let outcome = call_outcome nat_eq fresh world task call in
+        let ended = finished nat_eq world name call (changed task) outcome in
+        ⊎_elim (λ e. inl (e ∙ leaves task)) (λ e. inr (e ∙ ap (filter (mount_lives nat_eq ended.world)) (leaves task)))
+        (finished_leaves (only_looks call || not (is_ok outcome.answer)) world name (changed task) outcome)
+    by (Err deny) = inl refl
+
+module _ (fresh : Fresh ℕ) (world : World ℕ) (name : TaskName) (task : Task ℕ) (call : Call)
+    (is : task_called world name ≡ Some task) where
+  abbrev changed : Task ℕ → List ℕ
+  changed one = filesystems_changed_by nat_eq world (judge_in nat_eq fresh world one call)
+
+  policy_is : policy nat_eq fresh world name call ≡ finished nat_eq world name call (changed task)
+      (call_outcome nat_eq fresh world task call)
+  policy_is =
+      ap (λ found. after world (ok_or found (denial S2))
+      (λ t. finished nat_eq world name call (changed t) (call_outcome nat_eq fresh world t call))) is
+
+  answer_stays : (b : Bool) (outcome : Outcome ℕ)
+      → (finished_by nat_eq b world name (changed task) outcome).answer ≡ outcome.answer
+  answer_stays true outcome = refl
+  answer_stays false outcome = refl
+
+  -- a call is answered as its outcome is
+  pub answered : (policy nat_eq fresh world name call).answer ≡ (call_outcome nat_eq fresh world task call).answer
+  answered =
+      ap (λ o. o.answer) policy_is
+      ∙ answer_stays (only_looks call || not (is_ok (call_outcome nat_eq fresh world task call).answer))
+      (call_outcome nat_eq fresh world task call)
+
+  -- where it is granted, and does not only look, the dead mounts are gone
+  pub settles : (answer : Answer) → only_looks call ≡ false → (policy nat_eq fresh world name call).answer ≡ Ok answer
+      → HasLiving (policy nat_eq fresh world name call).world (call_outcome nat_eq fresh world task call).world.mounts
+  settles answer looks e =
+      let outcome = call_outcome nat_eq fresh world task call in
+      let ends : policy nat_eq fresh world name call ≡ finished_by nat_eq false world name (changed task) outcome =
+      policy_is
+      ∙ ap (λ b. finished_by nat_eq (b || not (is_ok outcome.answer)) world name (changed task) outcome) looks
+      ∙ ap (λ a. finished_by nat_eq (not (is_ok a)) world name (changed task) outcome) (sym answered ∙ e) in
+      subst (λ o. HasLiving o.world outcome.world.mounts) (sym ends)
+      (living_then world outcome.world name (changed task))
+
+-- a call that leaves these mounts, where it is granted
+pub leaves_mounts : (fresh : Fresh ℕ) (world : World ℕ) (name : TaskName) (task : Task ℕ) (call : Call)
+    (left : List (Mount ℕ)) (answer : Answer)
+    → only_looks call ≡ false
+    → ((permit : Permit ℕ)
+    → IsGranted nat_eq (looks_of nat_eq world) (overfills nat_eq fresh world task) task call permit
+    → (apply nat_eq fresh world task permit).world.mounts ≡ left)
+    → task_called world name ≡ Some task → (policy nat_eq fresh world name call).answer ≡ Ok answer
+    → HasLiving (policy nat_eq fresh world name call).world left
+leaves_mounts fresh world name task call left answer looks makes is e =
+    subst (HasLiving (policy nat_eq fresh world name call).world)
+    (answered_holds (λ later. later.mounts ≡ left) fresh world task call answer
+    (sym (answered fresh world name task call is) ∙ e) makes)
+    (settles fresh world name task call is answer looks e)

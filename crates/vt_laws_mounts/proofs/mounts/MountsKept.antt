@@ -1,0 +1,134 @@
+-- Conditions of a world that changes of mounts keep.
+use Rattle.vt_spec.specs.Machine.World.{World, mount_at, mount_numbered, with_flags}
+use Rattle.vt_laws_mounts.proofs.mounts.MountsReplaced.{one_number_by_numbers, numbers-with_mount}
+use Rattle.std.proofs.Common.{◌≡◌, refl, sym, ap, ◌∙◌, true, false, Bool, List, None, Option, Some, filter, is_some, map, not, option_map, true≢false, ◌&&◌, ◌||◌, ℕ, nat_eq}
+use Rattle.std.specs.List.{list_all}
+use Rattle.vt_spec.specs.Machine.Mounts.Propagation.{Private, Shared, Slave, Unbindable}
+use Rattle.vt_laws_mounts.specs.Mounts.Invariants.{KeptByEndedNamespaces, KeptByFlags, KeptByInheritance, KeptByPivot, KeptBySettling, KeptByTakingAway, KeptByType, KeptByUnmount, NowhereOrAttached, OneNumberEach}
+use Rattle.vt_spec.specs.Machine.Mounts.{Location, Propagation, Mount, detached}
+use Rattle.vt_spec.specs.Machine.Detach.{after_going, going, is_going, mount_point_left, taken_away}
+use Rattle.vt_spec.proofs.Lists.{all-filter, all-map, pair-filter}
+use Rattle.std.specs.Prelude.{if◌then◌else◌}
+use Rattle.vt_spec.specs.Machine.Receives.{inherited, inheriting, regrouped}
+use Rattle.vt_spec.specs.Machine.Namespaces.{is_in_ended, pivoted, pivoted_mount}
+use Rattle.vt_spec.specs.Machine.Invariants.{is_private, is_nowhere_or_attached}
+use Rattle.vt_laws_mounts.proofs.ends.Unmounting.{middle, numbers_taken}
+use Rattle.vt_spec.specs.Machine.Settled.{mount_lives}
+use Rattle.vt_laws_mounts.proofs.Groups.{mounts-regrouped}
+use Rattle.vt_laws_mounts.proofs.mounts.MountsFound.{numbers-map}
+use Rattle.vt_laws_mounts.specs.Mounts.Attaching.{numbers_of}
+use Rattle.vt_laws_mounts.proofs.mounts.MountsRetyped.{numbers_with_type}
+use Rattle.vt_spec.specs.Machine.Types.{with_type}
+use Rattle.vt_spec.proofs.Worlds.{number-pivoted_mount}
+
+-- Numbers
+pub numbers_regrouped : (world : World ℕ) → numbers_of (regrouped nat_eq world).mounts ≡ numbers_of world.mounts
+numbers_regrouped world = ap numbers_of (mounts-regrouped world)
+    ∙ numbers-map (inheriting nat_eq world) (λ mount. refl) world.mounts
+
+pub taking_away_keeps_numbers : KeptByTakingAway OneNumberEach
+taking_away_keeps_numbers world gone e =
+    one_number_by_numbers world.mounts (taken_away nat_eq world gone).mounts (numbers_taken world gone) e
+
+pub unmount_keeps_numbers : KeptByUnmount OneNumberEach
+unmount_keeps_numbers world one e =
+    taking_away_keeps_numbers world (going nat_eq world (mount_numbered nat_eq world one)) e
+
+pub ended_namespaces_keep_numbers : KeptByEndedNamespaces OneNumberEach
+ended_namespaces_keep_numbers world e =
+    taking_away_keeps_numbers world (map (λ mount. mount.number) (filter (is_in_ended nat_eq world) world.mounts)) e
+
+pub inheritance_keeps_numbers : KeptByInheritance OneNumberEach
+inheritance_keeps_numbers world e =
+    one_number_by_numbers world.mounts (regrouped nat_eq world).mounts (numbers_regrouped world) e
+
+pub types_keep_numbers : KeptByType OneNumberEach
+types_keep_numbers world fresh one word recursive e =
+    one_number_by_numbers world.mounts (with_type nat_eq fresh world one word recursive).mounts
+    (numbers_with_type world fresh one word recursive) e
+
+pub flags_keep_numbers : KeptByFlags OneNumberEach
+flags_keep_numbers world here flags e =
+    one_number_by_numbers world.mounts (with_flags nat_eq world here.mount flags).mounts
+    (numbers-with_mount (record (mount_at nat_eq world here) { flags = flags }) world.mounts) e
+
+pub pivot_keeps_numbers : KeptByPivot OneNumberEach
+pivot_keeps_numbers world namespace root new put e =
+    one_number_by_numbers world.mounts (pivoted nat_eq world namespace root new put).mounts
+    (numbers-map (pivoted_mount nat_eq root new put) (number-pivoted_mount root new put) world.mounts) e
+
+pub settling_keeps_numbers : KeptBySettling OneNumberEach
+settling_keeps_numbers world e =
+    pair-filter (λ (a b : Mount ℕ). nat_eq a.number b.number) (mount_lives nat_eq world) world.mounts e
+
+-- Mounts outside every namespace
+nowhere_inherits : (world : World ℕ) (mount : Mount ℕ) → is_nowhere_or_attached mount ≡ true
+    → is_nowhere_or_attached (inheriting nat_eq world mount) ≡ true
+nowhere_inherits world mount e = by mount.propagation refl e
+  where
+    either_way : (a b c : Bool) → (a || (b && false)) ≡ true → (a || (b && c)) ≡ true
+    either_way true b c h = refl
+    either_way false true c h = absurd (true≢false (sym h))
+    either_way false false c h = absurd (true≢false (sym h))
+
+    by : (kind : Propagation ℕ) → mount.propagation ≡ kind
+        → (is_some mount.namespace || (not (is_some mount.mount_point) && is_private mount.propagation)) ≡ true
+        → (is_some mount.namespace
+        || (not (is_some mount.mount_point) && is_private (inherited nat_eq world mount.propagation))) ≡ true
+    by (Shared group) f h =
+        ap (λ k. is_some mount.namespace || (not (is_some mount.mount_point) && is_private (inherited nat_eq world k)))
+        f
+        ∙ sym (ap (λ k. is_some mount.namespace || (not (is_some mount.mount_point) && is_private k)) f) ∙ h
+    by (Slave above) f h =
+        either_way (is_some mount.namespace) (not (is_some mount.mount_point))
+        (is_private (inherited nat_eq world mount.propagation))
+        (sym (ap (λ k. is_some mount.namespace || (not (is_some mount.mount_point) && is_private k)) f) ∙ h)
+    by Private f h =
+        ap (λ k. is_some mount.namespace || (not (is_some mount.mount_point) && is_private (inherited nat_eq world k)))
+        f
+        ∙ sym (ap (λ k. is_some mount.namespace || (not (is_some mount.mount_point) && is_private k)) f) ∙ h
+    by Unbindable f h =
+        ap (λ k. is_some mount.namespace || (not (is_some mount.mount_point) && is_private (inherited nat_eq world k)))
+        f
+        ∙ sym (ap (λ k. is_some mount.namespace || (not (is_some mount.mount_point) && is_private k)) f) ∙ h
+
+nowhere_after : (world : World ℕ) (gone : List ℕ) (mount : Mount ℕ) → is_nowhere_or_attached mount ≡ true
+    → is_nowhere_or_attached (after_going nat_eq world gone mount) ≡ true
+nowhere_after world gone mount e = by (is_going nat_eq gone mount.number) mount.mount_point refl
+  where
+    by : (b : Bool) (place : Option (Location ℕ)) → mount.mount_point ≡ place
+        → is_nowhere_or_attached
+        (if b then detached mount else
+        (record mount { mount_point = option_map (mount_point_left nat_eq world gone) mount.mount_point })) ≡ true
+    by true place f = refl
+    by false None f =
+        ap (λ p. is_some mount.namespace ||
+        (not (is_some (option_map (mount_point_left nat_eq world gone) p)) && is_private mount.propagation)) f
+        ∙ sym (ap (λ p. is_some mount.namespace || (not (is_some p) && is_private mount.propagation)) f) ∙ e
+    by false (Some place) f =
+        ap (λ p. is_some mount.namespace ||
+        (not (is_some (option_map (mount_point_left nat_eq world gone) p)) && is_private mount.propagation)) f
+        ∙ sym (ap (λ p. is_some mount.namespace || (not (is_some p) && is_private mount.propagation)) f) ∙ e
+
+pub taking_away_keeps_nowhere : KeptByTakingAway NowhereOrAttached
+taking_away_keeps_nowhere world gone e =
+    ap (list_all is_nowhere_or_attached) (mounts-regrouped (middle world gone))
+    ∙ all-map is_nowhere_or_attached (inheriting nat_eq (middle world gone)) (nowhere_inherits (middle world gone))
+    (map (after_going nat_eq world gone) world.mounts)
+    (all-map is_nowhere_or_attached (after_going nat_eq world gone) (nowhere_after world gone) world.mounts e)
+
+pub unmount_keeps_nowhere : KeptByUnmount NowhereOrAttached
+unmount_keeps_nowhere world one e =
+    taking_away_keeps_nowhere world (going nat_eq world (mount_numbered nat_eq world one)) e
+
+pub ended_namespaces_keep_nowhere : KeptByEndedNamespaces NowhereOrAttached
+ended_namespaces_keep_nowhere world e =
+    taking_away_keeps_nowhere world (map (λ mount. mount.number) (filter (is_in_ended nat_eq world) world.mounts)) e
+
+pub inheritance_keeps_nowhere : KeptByInheritance NowhereOrAttached
+inheritance_keeps_nowhere world e =
+    ap (list_all is_nowhere_or_attached) (mounts-regrouped world)
+    ∙ all-map is_nowhere_or_attached (inheriting nat_eq world) (nowhere_inherits world) world.mounts e
+
+pub settling_keeps_nowhere : KeptBySettling NowhereOrAttached
+settling_keeps_nowhere world e = all-filter is_nowhere_or_attached (mount_lives nat_eq world) world.mounts e

@@ -1,0 +1,106 @@
+-- Calls that are of no mount leave the mounts as they were.
+use Rattle.std.proofs.Common.{◌≡◌, refl, sym, ℕ, nat_eq, Bool, true, false, true≢false, List, [], ◌∷◌, Option, Some, None}
+use Rattle.vt_spec.specs.Language.Calls.{Call}
+use Rattle.vt_spec.specs.Language.Calls.Call.{Bind, Exit, Lazy, MountOverlay, MountPlain, MoveMount, PivotRoot, Remount, Rename, Rmdir, SetType, Setns, Umount, Unshare}
+use Rattle.vt_spec.specs.Language.Changes.{Change}
+use Rattle.vt_spec.specs.Machine.Filesystems.{filesystem_changed, overlay_changed, with_change}
+use Rattle.vt_spec.specs.Lists.{Fresh, odds, evens}
+use Rattle.vt_spec.specs.Machine.Mounts.{Location}
+use Rattle.vt_spec.specs.Machine.Descriptors.{pwritten, with_copy, is_copied_up, overwritten}
+use Rattle.vt_spec.specs.Machine.Rows.{file_mode, linking, making, new_file}
+use Rattle.vt_spec.specs.Machine.Rules.Removing.{object_there, removing}
+use Rattle.vt_spec.specs.Machine.World.{Filesystem, Layer, Overlay, Task, World, filesystem_at, node_at}
+use Rattle.vt_spec.specs.Tree.{bytes_in}
+use Rattle.vt_laws_mounts.specs.Mounts.FileCalls.{FileCallsLeaveMounts, is_of_no_mount}
+use Rattle.vt_laws_mounts.proofs.mounts.MountsGranted.{policy_leaves}
+use Rattle.vt_spec.specs.Language.Changes.Change.{CopyUp, SetBytes, SetMark}
+use Rattle.vt_laws_rules.proofs.given.CallsGranted.{call_holds}
+use Rattle.vt_laws_rules.specs.Granted.{IsGranted, directory_made, symlink_made, whiteout_made}
+use Rattle.vt_laws_rules.specs.Granted.IsGranted.{changes_mark, changes_mode, changes_owner, creates, creates_exclusively, makes_directory, makes_hard_link, makes_symlink, makes_whiteout, opens, opens_existing, overwrites_file, unlinks, writes_new_file, writes_part}
+use Rattle.vt_spec.specs.Machine.Apply.{apply, overfills}
+use Rattle.vt_spec.specs.Machine.Looks.{looks_of}
+use Rattle.vt_spec.specs.Machine.Permits.{Permit}
+
+module _ (world : World ℕ) where
+  pub mounts-with_change : (fresh : Fresh ℕ) (location : Location ℕ) (change : Change ℕ)
+      → (with_change nat_eq fresh world location change).mounts ≡ world.mounts
+  mounts-with_change fresh location change =
+      by (filesystem_at nat_eq world location) (filesystem_at nat_eq world location).overlay
+    where
+      upper : (filesystem : Filesystem ℕ) (overlay : Overlay ℕ) (layer : Option (Layer ℕ))
+          → (overlay_changed nat_eq fresh world filesystem overlay layer change).mounts ≡ world.mounts
+      upper filesystem overlay None = refl
+      upper filesystem overlay (Some layer) = refl
+
+      by : (filesystem : Filesystem ℕ) (overlay : Option (Overlay ℕ))
+          → (filesystem_changed nat_eq fresh world filesystem overlay change).mounts ≡ world.mounts
+      by filesystem None = refl
+      by filesystem (Some overlay) = upper filesystem overlay overlay.upper
+
+  copied_leaves : (b : Bool) (fresh : Fresh ℕ) (file : Location ℕ)
+      → (with_copy nat_eq b fresh world file).mounts ≡ world.mounts
+  copied_leaves true fresh file = mounts-with_change fresh file (CopyUp file.node)
+  copied_leaves false fresh file = refl
+
+  pwritten_leaves : (fresh : Fresh ℕ) (file : Location ℕ) (offset : ℕ) (bytes : List ℕ)
+      → (pwritten nat_eq fresh world file offset bytes).mounts ≡ world.mounts
+  pwritten_leaves fresh file offset [] = refl
+  pwritten_leaves fresh file offset (byte ∷ bytes) =
+      mounts-with_change fresh file (SetBytes file.node
+      (overwritten offset (byte ∷ bytes) (bytes_in (node_at nat_eq world file))))
+
+  -- each way in which a call is granted
+  granted_leaves : (fresh : Fresh ℕ) (task : Task ℕ) (call : Call) (permit : Permit ℕ) → is_of_no_mount call ≡ true
+      → IsGranted nat_eq (looks_of nat_eq world) (overfills nat_eq fresh world task) task call permit
+      → (apply nat_eq fresh world task permit).world.mounts ≡ world.mounts
+  granted_leaves fresh task call permit e (overwrites_file path bytes place file end named there passed) =
+      mounts-with_change fresh file (SetBytes file.node bytes)
+  granted_leaves fresh task call permit e (writes_new_file path bytes place end named missing fits passed) =
+      mounts-with_change (odds fresh) place.parent (making place (evens fresh 0) (new_file task file_mode bytes))
+  granted_leaves fresh task call permit e (makes_directory path mode place end passed) =
+      mounts-with_change (odds fresh) place.parent (making place (evens fresh 0) (directory_made task place mode))
+  granted_leaves fresh task call permit e (makes_symlink text path place fits end passed) =
+      mounts-with_change (odds fresh) place.parent (making place (evens fresh 0) (symlink_made task text))
+  granted_leaves fresh task call permit e (makes_whiteout path place end passed) =
+      mounts-with_change (odds fresh) place.parent (making place (evens fresh 0) (whiteout_made task))
+  granted_leaves fresh task call permit e (makes_hard_link old new from place start end named passed) =
+      mounts-with_change fresh place.parent (linking from.location place)
+  granted_leaves fresh task call permit e (unlinks path place end named passed) =
+      mounts-with_change fresh place.parent (removing place (object_there place))
+  granted_leaves fresh task call permit e (changes_mode path mode here end passed) =
+      mounts-with_change fresh here.location _
+  granted_leaves fresh task call permit e (changes_owner path uid gid here end passed) =
+      mounts-with_change fresh here.location _
+  granted_leaves fresh task call permit e (changes_mark path mark here admin end passed) =
+      mounts-with_change fresh here.location (SetMark here.location.node mark)
+  granted_leaves fresh task call permit e (opens path access here room end passed) =
+      copied_leaves (is_copied_up nat_eq world here.location access) fresh here.location
+  granted_leaves fresh task call permit e (opens_existing path access mode place file room end named there passed) =
+      copied_leaves (is_copied_up nat_eq world file access) fresh file
+  granted_leaves fresh task call permit e (creates path access mode place room end named missing passed) =
+      mounts-with_change (odds fresh) place.parent (making place (evens fresh 0) (new_file task mode []))
+  granted_leaves fresh task call permit e (creates_exclusively path access mode place room end named passed) =
+      mounts-with_change (odds fresh) place.parent (making place (evens fresh 0) (new_file task mode []))
+  granted_leaves fresh task call permit e (writes_part number offset bytes descriptor found passed) =
+      pwritten_leaves fresh descriptor.location offset bytes
+  granted_leaves fresh task (Rmdir path) permit e granted = absurd (true≢false (sym e))
+  granted_leaves fresh task (Rename old new) permit e granted = absurd (true≢false (sym e))
+  granted_leaves fresh task Exit permit e granted = absurd (true≢false (sym e))
+  granted_leaves fresh task Unshare permit e granted = absurd (true≢false (sym e))
+  granted_leaves fresh task (Setns name) permit e granted = absurd (true≢false (sym e))
+  granted_leaves fresh task (MountPlain path flags) permit e granted = absurd (true≢false (sym e))
+  granted_leaves fresh task (MountOverlay path options flags) permit e granted = absurd (true≢false (sym e))
+  granted_leaves fresh task (Bind source path recursive) permit e granted = absurd (true≢false (sym e))
+  granted_leaves fresh task (MoveMount source path) permit e granted = absurd (true≢false (sym e))
+  granted_leaves fresh task (Umount path) permit e granted = absurd (true≢false (sym e))
+  granted_leaves fresh task (Lazy path) permit e granted = absurd (true≢false (sym e))
+  granted_leaves fresh task (Remount path flags) permit e granted = absurd (true≢false (sym e))
+  granted_leaves fresh task (SetType path word recursive) permit e granted = absurd (true≢false (sym e))
+  granted_leaves fresh task (PivotRoot new put) permit e granted = absurd (true≢false (sym e))
+  granted_leaves fresh task call permit e granted = refl
+
+pub file_calls_leave_mounts : FileCallsLeaveMounts
+file_calls_leave_mounts fresh world name call e =
+    policy_leaves fresh world name call (λ task.
+    call_holds (λ later. later.mounts ≡ world.mounts) fresh world task call refl
+    (λ permit. granted_leaves world fresh task call permit e))

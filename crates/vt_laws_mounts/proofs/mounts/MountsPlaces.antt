@@ -1,0 +1,92 @@
+-- Where mounts stand.
+use Rattle.std.proofs.Common.{◌≡◌, refl, sym, ap, ◌∙◌, ⊎_elim, ℕ, nat_eq, eq-eqb, Bool, true, false, true≢false, cond, ◌&&◌, List, [], ◌∷◌, Option, Some, None, is_some, find}
+use Rattle.std.specs.List.{list_any}
+use Rattle.std.proofs.lemmas.Bool.{and_from, or_parts}
+use Rattle.std.proofs.lemmas.Option.{same_Some}
+use Rattle.vt_spec.specs.Lists.{any_pair, holds_of, same_option}
+use Rattle.vt_spec.specs.Machine.Mounts.{Location, Mount, child_at, same_location, stands_at}
+use Rattle.vt_spec.specs.Machine.Invariants.{share_a_mount_point}
+use Rattle.vt_laws_mounts.specs.Mounts.MountPoints.{OneMountAMountPoint, StandsAloneAtItsMountPoint}
+use Rattle.vt_spec.proofs.Lists.{Among, all_from_among, none_among}
+use Rattle.vt_spec.proofs.Worlds.{same_location_is}
+
+pub same_location_itself : (place : Location ℕ) → same_location nat_eq place place ≡ true
+same_location_itself place =
+    and_from (nat_eq place.mount place.mount) (nat_eq place.node place.node) (eq-eqb place.mount place.mount refl)
+    (eq-eqb place.node place.node refl)
+
+-- a mount that stands at a place has it
+pub stands_there : (place : Location ℕ) (mount : Mount ℕ) → stands_at nat_eq place mount ≡ true
+    → mount.mount_point ≡ Some place
+stands_there place mount h = by mount.mount_point refl
+  where
+    by : (other : Option (Location ℕ)) → mount.mount_point ≡ other → mount.mount_point ≡ Some place
+    by None e = absurd (true≢false (sym h ∙ ap (holds_of (same_location nat_eq place)) e))
+    by (Some other) e = e ∙ ap Some
+        (sym (same_location_is place other (sym (ap (holds_of (same_location nat_eq place)) e) ∙ h)))
+
+pub stands_at_its_place : (place : Location ℕ) (mount : Mount ℕ) → mount.mount_point ≡ Some place
+    → stands_at nat_eq place mount ≡ true
+stands_at_its_place place mount e = ap (holds_of (same_location nat_eq place)) e ∙ same_location_itself place
+
+pub one_place_of_two : (place : Location ℕ) (a b : Mount ℕ) → a.mount_point ≡ Some place → b.mount_point ≡ Some place
+    → share_a_mount_point nat_eq a b ≡ true
+one_place_of_two place a b e f =
+    ap (λ p. is_some p && same_option (same_location nat_eq) p b.mount_point) e
+    ∙ ap (same_option (same_location nat_eq) (Some place)) f
+    ∙ same_location_itself place
+
+-- where no two stand at one place, one that stands there is found there
+pub found_at_its_place : (mounts : List (Mount ℕ)) → OneMountAMountPoint mounts → (mount : Mount ℕ) → Among mount mounts
+    → (place : Location ℕ)
+    → mount.mount_point ≡ Some place → child_at nat_eq mounts place ≡ Some mount
+found_at_its_place [] one mount m place e = absurd m
+found_at_its_place (first ∷ rest) one mount m place e =
+    let apart : (list_any (share_a_mount_point nat_eq first) rest ≡ false)
+    × (any_pair (share_a_mount_point nat_eq) rest ≡ false) =
+    or_parts _ _ one in
+    ⊎_elim
+    (λ same. ap (λ b. cond b (Some first) (find (stands_at nat_eq place) rest))
+    (stands_at_its_place place first (ap (λ x. x.mount_point) (sym same) ∙ e)) ∙ ap Some (sym same))
+    (λ later.
+    by (stands_at nat_eq place first) refl (none_among (share_a_mount_point nat_eq first) rest apart.0 mount later)
+    (found_at_its_place rest apart.1 mount later place e))
+    m
+  where
+    by : (b : Bool) → stands_at nat_eq place first ≡ b → share_a_mount_point nat_eq first mount ≡ false
+        → find (stands_at nat_eq place) rest ≡ Some mount → child_at nat_eq (first ∷ rest) place ≡ Some mount
+    by true here differ found = absurd
+        (true≢false (sym (one_place_of_two place first mount (stands_there place first here) e) ∙ differ))
+    by false here differ found = ap (λ b. cond b (Some first) (find (stands_at nat_eq place) rest)) here ∙ found
+
+pub stands_alone : StandsAloneAtItsMountPoint
+stands_alone mounts one =
+    all_from_among
+    (λ mount. (place : Location ℕ) → mount.mount_point ≡ Some place → child_at nat_eq mounts place ≡ Some mount) mounts
+    (λ mount m place e. found_at_its_place mounts one mount m place e)
+
+-- two that stand at one place have it
+pub place_of_both : (a b : Mount ℕ) → share_a_mount_point nat_eq a b ≡ true
+    → (place : Location ℕ) × (a.mount_point ≡ Some place) × (b.mount_point ≡ Some place)
+place_of_both a b h = by a.mount_point refl b.mount_point refl h
+  where
+    by : (p : Option (Location ℕ)) → a.mount_point ≡ p → (q : Option (Location ℕ)) → b.mount_point ≡ q
+        → share_a_mount_point nat_eq a b ≡ true
+        → (place : Location ℕ) × (a.mount_point ≡ Some place) × (b.mount_point ≡ Some place)
+    by None e q f t = absurd (true≢false
+        (sym t ∙ ap (λ p. is_some p && same_option (same_location nat_eq) p b.mount_point) e))
+    by (Some p) e None f t =
+        absurd (true≢false (sym t ∙ ap (λ x. is_some x && same_option (same_location nat_eq) x b.mount_point) e
+        ∙ ap (same_option (same_location nat_eq) (Some p)) f))
+    by (Some p) e (Some q) f t =
+        let same : p ≡ q =
+        same_location_is p q
+        (sym (ap (λ x. is_some x && same_option (same_location nat_eq) x b.mount_point) e
+        ∙ ap (same_option (same_location nat_eq) (Some p)) f) ∙ t) in
+        (p, e, f ∙ ap Some (sym same))
+
+-- only one mount stands at a place
+pub one_stander : (mounts : List (Mount ℕ)) → OneMountAMountPoint mounts → (a b : Mount ℕ) → Among a mounts
+    → Among b mounts → (place : Location ℕ) → a.mount_point ≡ Some place → b.mount_point ≡ Some place → a ≡ b
+one_stander mounts one a b m n place e f =
+    same_Some a b (sym (found_at_its_place mounts one a m place e) ∙ found_at_its_place mounts one b n place f)

@@ -1,0 +1,161 @@
+-- A mount in the place of the one with its number.
+use Rattle.std.proofs.Common.{◌≡◌, refl, sym, ap, ◌∙◌, Bool, List, Some, [], cond, eq-eqb, eqb-true, find, nat_eq, subst, true≢false, unwrap_or, ℕ, ⊎_elim, ◌++◌, ◌||◌, ◌∷◌, false, true}
+use Rattle.vt_spec.specs.Machine.Mounts.{Mount, mount_in, no_mount, replaced_if_same, with_mount}
+use Rattle.vt_laws_mounts.proofs.mounts.MountsFound.{found-map, numbers-map}
+use Rattle.std.specs.Prelude.{if◌then◌else◌}
+use Rattle.vt_spec.specs.Lists.{is_among, any_pair}
+use Rattle.vt_laws_mounts.specs.Mounts.Attaching.{numbers_of, OneNumberAMount}
+use Rattle.std.proofs.lemmas.Bool.{or_parts}
+use Rattle.vt_spec.proofs.Lists.{Among, none_among}
+use Rattle.std.specs.List.{list_any}
+use Rattle.vt_spec.proofs.Truths.{nat_eq_false_turned}
+use Rattle.vt_spec.proofs.Worlds.{number-mount_in}
+pub use Rattle.vt_spec.proofs.Worlds.{tree_among}
+
+module _ (new : Mount ℕ) where
+  pub replaced_there : (old : Mount ℕ) → nat_eq new.number old.number ≡ true → replaced_if_same nat_eq new old ≡ new
+  replaced_there old e = ap (λ b. if b then new else old) e
+
+  pub replaced_elsewhere : (old : Mount ℕ) → nat_eq new.number old.number ≡ false
+      → replaced_if_same nat_eq new old ≡ old
+  replaced_elsewhere old e = ap (λ b. if b then new else old) e
+
+  pub number_replaced : (old : Mount ℕ) → (replaced_if_same nat_eq new old).number ≡ old.number
+  number_replaced old = by (nat_eq new.number old.number) refl
+    where
+      by : (b : Bool) → nat_eq new.number old.number ≡ b → (if b then new else old).number ≡ old.number
+      by true e = eqb-true new.number old.number e
+      by false e = refl
+
+  -- the other mounts are found as they were
+  pub found-with_mount_other : (mounts : List (Mount ℕ)) (number : ℕ) → nat_eq new.number number ≡ false
+      → mount_in nat_eq (with_mount nat_eq mounts new) number ≡ mount_in nat_eq mounts number
+  found-with_mount_other mounts number e =
+      found-map (replaced_if_same nat_eq new) number_replaced mounts number (replaced_elsewhere (no_mount number) e)
+      ∙ replaced_elsewhere (mount_in nat_eq mounts number) (ap (nat_eq new.number) (number-mount_in mounts number) ∙ e)
+
+  pub numbers-with_mount : (mounts : List (Mount ℕ)) → numbers_of (with_mount nat_eq mounts new) ≡ numbers_of mounts
+  numbers-with_mount mounts = numbers-map (replaced_if_same nat_eq new) number_replaced mounts
+
+  -- where a mount has its number, it is found itself
+  pub found-with_mount_itself : (mounts : List (Mount ℕ)) → is_among nat_eq new.number (numbers_of mounts) ≡ true
+      → mount_in nat_eq (with_mount nat_eq mounts new) new.number ≡ new
+  found-with_mount_itself [] h = absurd (true≢false (sym h))
+  found-with_mount_itself (first ∷ rest) h = by (nat_eq new.number first.number) refl (found-with_mount_itself rest)
+    where
+      here : (b : Bool)
+          → mount_in nat_eq (with_mount nat_eq (first ∷ rest) new) new.number ≡ mount_in nat_eq
+          (replaced_if_same nat_eq new first ∷ with_mount nat_eq rest new) new.number
+      here b = refl
+
+      by : (b : Bool) → nat_eq new.number first.number ≡ b
+          → (is_among nat_eq new.number (numbers_of rest) ≡ true
+          → mount_in nat_eq (with_mount nat_eq rest new) new.number ≡ new)
+          → mount_in nat_eq (with_mount nat_eq (first ∷ rest) new) new.number ≡ new
+      by true e later =
+          ap (λ x. mount_in nat_eq (x ∷ with_mount nat_eq rest new) new.number) (replaced_there first e)
+          ∙ ap (λ b. unwrap_or (cond b (Some new)
+          (find (λ mount. nat_eq new.number mount.number) (with_mount nat_eq rest new)))
+          (no_mount new.number)) (eq-eqb new.number new.number refl)
+      by false e later =
+          ap (λ x. mount_in nat_eq (x ∷ with_mount nat_eq rest new) new.number) (replaced_elsewhere first e)
+          ∙ ap (λ b. unwrap_or
+          (cond b (Some first) (find (λ mount. nat_eq new.number mount.number) (with_mount nat_eq rest new)))
+          (no_mount new.number)) e
+          ∙ later (sym (ap (λ b. b || is_among nat_eq new.number (numbers_of rest)) e) ∙ h)
+
+-- a number that no mount has
+pub none_numbered : (mounts : List (Mount ℕ)) (number : ℕ) → is_among nat_eq number (numbers_of mounts) ≡ false
+    → mount_in nat_eq mounts number ≡ no_mount number
+none_numbered [] number h = refl
+none_numbered (first ∷ rest) number h =
+    let parts : (nat_eq number first.number ≡ false) × (is_among nat_eq number (numbers_of rest) ≡ false) =
+    or_parts (nat_eq number first.number) (is_among nat_eq number (numbers_of rest)) h in
+    ap (λ b. unwrap_or (cond b (Some first) (find (λ mount. nat_eq number mount.number) rest))
+    (no_mount number)) parts.0
+    ∙ none_numbered rest number parts.1
+
+-- A mount that is changed where it stands, as it is found: what holds between the old and the new holds of what is
+-- found before and after.
+module _ (R : Mount ℕ → Mount ℕ → Type 0) (same : (mount : Mount ℕ) → R mount mount) where
+  pub related-with_mount : (mounts : List (Mount ℕ)) (new : Mount ℕ) → R (mount_in nat_eq mounts new.number) new
+      → (number : ℕ)
+      → R (mount_in nat_eq mounts number) (mount_in nat_eq (with_mount nat_eq mounts new) number)
+  related-with_mount mounts new r number = by (nat_eq new.number number) refl
+    where
+      there : (b : Bool) → is_among nat_eq new.number (numbers_of mounts) ≡ b
+          → R (mount_in nat_eq mounts new.number) (mount_in nat_eq (with_mount nat_eq mounts new) new.number)
+      there true e = subst (R (mount_in nat_eq mounts new.number)) (sym (found-with_mount_itself new mounts e)) r
+      there false e =
+          subst (R (mount_in nat_eq mounts new.number))
+          (none_numbered mounts new.number e
+          ∙ sym (none_numbered (with_mount nat_eq mounts new) new.number
+          (ap (is_among nat_eq new.number) (numbers-with_mount new mounts) ∙ e)))
+          (same (mount_in nat_eq mounts new.number))
+
+      by : (b : Bool) → nat_eq new.number number ≡ b
+          → R (mount_in nat_eq mounts number) (mount_in nat_eq (with_mount nat_eq mounts new) number)
+      by true e =
+          subst (λ n. R (mount_in nat_eq mounts n) (mount_in nat_eq (with_mount nat_eq mounts new) n))
+          (eqb-true new.number number e) (there (is_among nat_eq new.number (numbers_of mounts)) refl)
+      by false e =
+          subst (R (mount_in nat_eq mounts number)) (sym (found-with_mount_other new mounts number e))
+          (same (mount_in nat_eq mounts number))
+
+-- what stands first in a list is found there
+pub found-append : (mounts others : List (Mount ℕ)) (number : ℕ) → is_among nat_eq number (numbers_of mounts) ≡ true
+    → mount_in nat_eq (mounts ++ others) number ≡ mount_in nat_eq mounts number
+found-append [] others number h = absurd (true≢false (sym h))
+found-append (first ∷ rest) others number h = by (nat_eq number first.number) refl (found-append rest others number)
+  where
+    by : (b : Bool) → nat_eq number first.number ≡ b
+        → (is_among nat_eq number (numbers_of rest) ≡ true
+        → mount_in nat_eq (rest ++ others) number ≡ mount_in nat_eq rest number)
+        → mount_in nat_eq ((first ∷ rest) ++ others) number ≡ mount_in nat_eq (first ∷ rest) number
+    by true e later =
+        ap (λ b. unwrap_or (cond b (Some first) (find (λ mount. nat_eq number mount.number) (rest ++ others)))
+        (no_mount number)) e
+        ∙ sym (ap (λ b. unwrap_or (cond b (Some first) (find (λ mount. nat_eq number mount.number) rest))
+        (no_mount number)) e)
+    by false e later =
+        ap (λ b. unwrap_or (cond b (Some first) (find (λ mount. nat_eq number mount.number) (rest ++ others)))
+        (no_mount number)) e
+        ∙ later (sym (ap (λ b. b || is_among nat_eq number (numbers_of rest)) e) ∙ h)
+        ∙ sym (ap (λ b. unwrap_or (cond b (Some first) (find (λ mount. nat_eq number mount.number) rest))
+        (no_mount number)) e)
+
+-- where no two mounts have one number, a mount is found by its own
+pub found_itself : (mounts : List (Mount ℕ)) → OneNumberAMount mounts → (mount : Mount ℕ) → Among mount mounts
+    → mount_in nat_eq mounts mount.number ≡ mount
+found_itself [] one mount m = absurd m
+found_itself (first ∷ rest) one mount m =
+    let parts : (list_any (λ (other : Mount ℕ). nat_eq first.number other.number) rest ≡ false)
+    × OneNumberAMount rest = or_parts _ _ one in
+    ⊎_elim
+    (λ e. ap (λ b. unwrap_or (cond b (Some first) (find (λ other. nat_eq mount.number other.number) rest))
+    (no_mount mount.number)) (eq-eqb mount.number first.number (ap (λ x. x.number) e)) ∙ sym e)
+    (λ later.
+    ap (λ b. unwrap_or (cond b (Some first) (find (λ other. nat_eq mount.number other.number) rest))
+    (no_mount mount.number))
+    (nat_eq_false_turned first.number mount.number
+    (none_among (λ (other : Mount ℕ). nat_eq first.number other.number) rest parts.0 mount later))
+    ∙ found_itself rest parts.1 mount later)
+    m
+
+any_by_numbers : (number : ℕ) (mounts : List (Mount ℕ))
+    → list_any (λ (other : Mount ℕ). nat_eq number other.number) mounts ≡ list_any (nat_eq number) (numbers_of mounts)
+any_by_numbers number [] = refl
+any_by_numbers number (mount ∷ mounts) = ap (λ b. nat_eq number mount.number || b) (any_by_numbers number mounts)
+
+pub pair_by_numbers : (mounts : List (Mount ℕ))
+    → any_pair (λ (a b : Mount ℕ). nat_eq a.number b.number) mounts ≡ any_pair nat_eq (numbers_of mounts)
+pair_by_numbers [] = refl
+pair_by_numbers (mount ∷ mounts) =
+    ap (λ b. b || any_pair (λ (a b : Mount ℕ). nat_eq a.number b.number) mounts) (any_by_numbers mount.number mounts)
+    ∙ ap (λ b. list_any (nat_eq mount.number) (numbers_of mounts) || b) (pair_by_numbers mounts)
+
+pub one_number_by_numbers : (before later : List (Mount ℕ)) → numbers_of later ≡ numbers_of before
+    → OneNumberAMount before
+    → OneNumberAMount later
+one_number_by_numbers before later same e =
+    pair_by_numbers later ∙ ap (any_pair nat_eq) same ∙ sym (pair_by_numbers before) ∙ e

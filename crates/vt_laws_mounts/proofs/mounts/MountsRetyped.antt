@@ -1,0 +1,211 @@
+-- A change of flags or of type is of the mounts that it names.
+use Rattle.std.proofs.Common.{◌≡◌, refl, sym, ap, ◌∙◌, true, false, Bool, subst, ℕ, nat_eq, List, None, [], inl, map, ◌∷◌, ◌||◌}
+use Rattle.std.specs.List.{list_any}
+use Rattle.vt_spec.specs.Machine.Mounts.Propagation.{Private, Shared, Slave, Unbindable}
+use Rattle.vt_spec.specs.Language.Calls.TypeWord.{ToSlave}
+use Rattle.vt_laws_mounts.specs.Mounts.Changing.{FlagsAreOfOne, FlagsAreSet, KeepsAllButType, AloneIsPrivate, TypeIsAllThatChanges, TypeIsOfTheNamed, TypeIsTaken, TypesAreOfMounts}
+use Rattle.vt_laws_mounts.specs.Mounts.Unmounting.{KeepsAllButMounts, has_its_master}
+use Rattle.vt_spec.specs.Machine.Mounts.{Mount, Propagation, mount_in, numbers_by, with_mount}
+use Rattle.vt_spec.specs.Language.Calls.{TypeWord}
+use Rattle.vt_spec.specs.Machine.World.{World, mount_numbered, mount_at}
+use Rattle.vt_laws_mounts.proofs.mounts.MountsFound.{found-map, found-map_there, numbers-map}
+use Rattle.vt_laws_mounts.proofs.mounts.MountsReplaced.{found-with_mount_itself, found-with_mount_other, none_numbered}
+use Rattle.vt_spec.specs.Machine.Receives.{has_members, inherited, inheriting, lost_a_group, regrouped_by, slave_of_heir}
+use Rattle.vt_laws_mounts.proofs.Groups.{inherited_kept, members-regrouped, mounts-regrouped, no_heir}
+use Rattle.vt_spec.specs.Lists.{is_among, Fresh}
+use Rattle.vt_laws_mounts.specs.Mounts.Attaching.{is_mount, numbers_of}
+use Rattle.vt_spec.specs.Machine.Types.{master_after, named_mounts, retyped, retyped_mount, type_after, with_master, with_new_groups, with_type}
+use Rattle.vt_spec.proofs.Lists.{is_among_numbers}
+use Rattle.std.specs.Prelude.{if◌then◌else◌}
+use Rattle.vt_spec.proofs.Worlds.{number-mount_in}
+
+pub flags_are_set : FlagsAreSet
+flags_are_set world here flags there =
+    let one = mount_at nat_eq world here in
+    let number : one.number ≡ here.mount = number-mount_in world.mounts here.mount in
+    let new = record one { flags = flags } in
+    ap (mount_in nat_eq (with_mount nat_eq world.mounts new)) (sym number)
+    ∙ found-with_mount_itself new world.mounts (ap (λ n. is_among nat_eq n (numbers_of world.mounts)) number ∙ there)
+
+pub flags_are_of_one : FlagsAreOfOne
+flags_are_of_one world here flags number other =
+    found-with_mount_other (record (mount_at nat_eq world here) { flags = flags }) world.mounts number
+    (ap (λ n. nat_eq n number) (number-mount_in world.mounts here.mount) ∙ other)
+
+-- Types
+all_but_type_itself : (mount : Mount ℕ) → KeepsAllButType mount mount
+all_but_type_itself mount =
+    record { number = refl; namespace = refl; mount_point = refl; filesystem = refl; root = refl; flags = refl }
+
+-- mounts that take their types at once
+module _ (world : World ℕ) (group : ℕ → ℕ) (word : TypeWord) (named : List (Mount ℕ)) where
+  abbrev pub retype : Mount ℕ → Mount ℕ
+  retype = retyped_mount nat_eq group word named
+
+  abbrev pub retyped_if : Mount ℕ → Bool → Mount ℕ
+  retyped_if mount chosen =
+      if chosen then (record mount { propagation = type_after (group mount.number) word mount.propagation }) else mount
+
+  -- before groups inherit
+  abbrev pub between : World ℕ
+  between = record world { mounts = map retype world.mounts; master = with_new_groups nat_eq group world.master named }
+
+  abbrev pub next_world : World ℕ
+  next_world = retyped nat_eq world group word named
+
+  abbrev is_named : Mount ℕ → Bool
+  is_named mount = list_any (λ (other : Mount ℕ). nat_eq mount.number other.number) named
+
+  pub retype_keeps : (mount : Mount ℕ) → KeepsAllButType mount (retype mount)
+  retype_keeps mount = by (is_named mount)
+    where
+      by : (b : Bool) → KeepsAllButType mount (retyped_if mount b)
+      by true =
+          record { number = refl; namespace = refl; mount_point = refl; filesystem = refl; root = refl; flags = refl }
+      by false = all_but_type_itself mount
+
+  pub numbers-retyped : numbers_of next_world.mounts ≡ numbers_of world.mounts
+  numbers-retyped =
+      ap numbers_of (mounts-regrouped between) ∙ numbers-map (inheriting nat_eq between) (λ mount. refl) between.mounts
+      ∙ numbers-map retype (λ mount. (retype_keeps mount).number) world.mounts
+
+  pub retyped_found : (number : ℕ) → is_mount world number ≡ true
+      → mount_numbered nat_eq next_world number
+      ≡ inheriting nat_eq between (retype (mount_numbered nat_eq world number))
+  retyped_found number there =
+      ap (λ mounts. mount_in nat_eq mounts number) (mounts-regrouped between)
+      ∙ found-map (inheriting nat_eq between) (λ mount. refl) between.mounts number refl
+      ∙ ap (inheriting nat_eq between)
+      (found-map_there retype (λ mount. (retype_keeps mount).number) world.mounts number there)
+
+  retyped_missing : (number : ℕ) → is_mount world number ≡ false
+      → mount_numbered nat_eq next_world number ≡ mount_numbered nat_eq world number
+  retyped_missing number missing =
+      none_numbered next_world.mounts number (ap (is_among nat_eq number) numbers-retyped ∙ missing)
+      ∙ sym (none_numbered world.mounts number missing)
+
+  pub keeps_all_but_type : (number : ℕ)
+      → KeepsAllButType (mount_numbered nat_eq world number) (mount_numbered nat_eq next_world number)
+  keeps_all_but_type number = by (is_mount world number) refl
+    where
+      by : (b : Bool) → is_mount world number ≡ b
+          → KeepsAllButType (mount_numbered nat_eq world number) (mount_numbered nat_eq next_world number)
+      by true there =
+          let r = retype_keeps (mount_numbered nat_eq world number) in
+          subst (KeepsAllButType (mount_numbered nat_eq world number)) (sym (retyped_found number there))
+          (record {
+            number = r.number;
+            namespace = r.namespace;
+            mount_point = r.mount_point;
+            filesystem = r.filesystem;
+            root = r.root;
+            flags = r.flags;
+          })
+      by false missing =
+          subst (KeepsAllButType (mount_numbered nat_eq world number)) (sym (retyped_missing number missing))
+          (all_but_type_itself (mount_numbered nat_eq world number))
+
+  named_by_number : (number : ℕ)
+      → is_named (mount_numbered nat_eq world number) ≡ is_among nat_eq number (numbers_of named)
+  named_by_number number =
+      ap (λ n. list_any (λ (other : Mount ℕ). nat_eq n other.number) named) (number-mount_in world.mounts number)
+      ∙ by named
+    where
+      by : (list : List (Mount ℕ))
+          → list_any (λ (other : Mount ℕ). nat_eq number other.number) list ≡ is_among nat_eq number (numbers_of list)
+      by [] = refl
+      by (first ∷ rest) = ap (λ b. nat_eq number first.number || b) (by rest)
+
+  pub members_between : (one : ℕ) → has_members nat_eq next_world.mounts one ≡ has_members nat_eq between.mounts one
+  members_between one = members-regrouped between one
+
+  pub kept_where_master : (kind : Propagation ℕ) → has_its_master next_world kind ≡ true
+      → inherited nat_eq between kind ≡ kind
+  kept_where_master (Shared one) h = refl
+  kept_where_master (Slave above) h = inherited_kept between above (sym (members_between above) ∙ h)
+  kept_where_master Private h = refl
+  kept_where_master Unbindable h = refl
+
+  pub type_of_unnamed : (number : ℕ) → is_among nat_eq number (numbers_of named) ≡ false
+      → has_its_master next_world (mount_numbered nat_eq world number).propagation ≡ true
+      → (mount_numbered nat_eq next_world number).propagation ≡ (mount_numbered nat_eq world number).propagation
+  type_of_unnamed number unnamed has = by (is_mount world number) refl
+    where
+      by : (b : Bool) → is_mount world number ≡ b
+          → (mount_numbered nat_eq next_world number).propagation ≡ (mount_numbered nat_eq world number).propagation
+      by true there =
+          let one = mount_numbered nat_eq world number in
+          ap (λ m. m.propagation) (retyped_found number there)
+          ∙ ap (λ b. inherited nat_eq between (retyped_if one b).propagation)
+          (named_by_number number ∙ unnamed)
+          ∙ kept_where_master one.propagation has
+      by false missing = ap (λ m. m.propagation) (retyped_missing number missing)
+
+  pub type_of_named : (number : ℕ) → is_mount world number ≡ true → is_among nat_eq number (numbers_of named) ≡ true
+      → (mount_numbered nat_eq next_world number).propagation
+      ≡ inherited nat_eq between (type_after (group number) word (mount_numbered nat_eq world number).propagation)
+  type_of_named number there chosen =
+      let one = mount_numbered nat_eq world number in
+      ap (λ m. m.propagation) (retyped_found number there)
+      ∙ ap (λ b. inherited nat_eq between (retyped_if one b).propagation)
+      (named_by_number number ∙ chosen)
+      ∙ ap (λ n. inherited nat_eq between (type_after (group n) word one.propagation))
+      (number-mount_in world.mounts number)
+
+  pub retyping_is_of_mounts : KeepsAllButMounts world next_world
+  retyping_is_of_mounts = by (list_any (lost_a_group nat_eq between) between.mounts)
+    where
+      by : (b : Bool) → KeepsAllButMounts world (regrouped_by nat_eq b between)
+      by true = record { filesystems = refl; namespaces = refl; tasks = refl; change = refl }
+      by false = record { filesystems = refl; namespaces = refl; tasks = refl; change = refl }
+
+-- The laws
+abbrev pub groups_by : World ℕ → Fresh ℕ → ℕ → Bool → ℕ → ℕ
+groups_by world fresh number recursive = numbers_by nat_eq fresh (named_mounts nat_eq world number recursive)
+
+pub type_is_all_that_changes : TypeIsAllThatChanges
+type_is_all_that_changes world fresh number word recursive other =
+    keeps_all_but_type world (groups_by world fresh number recursive) word
+    (named_mounts nat_eq world number recursive) other
+
+pub types_are_of_mounts : TypesAreOfMounts
+types_are_of_mounts world fresh number word recursive =
+    retyping_is_of_mounts world (groups_by world fresh number recursive) word
+    (named_mounts nat_eq world number recursive)
+
+pub type_is_of_the_named : TypeIsOfTheNamed
+type_is_of_the_named world fresh number word recursive other unnamed has =
+    type_of_unnamed world (groups_by world fresh number recursive) word (named_mounts nat_eq world number recursive)
+    other unnamed has
+
+pub type_is_taken : TypeIsTaken
+type_is_taken world fresh number word recursive other there chosen has =
+    let group = groups_by world fresh number recursive in
+    let named = named_mounts nat_eq world number recursive in
+    type_of_named world group word named other there chosen
+    ∙ kept_where_master world group word named
+    (type_after (group other) word (mount_numbered nat_eq world other).propagation) has
+
+pub alone_is_private : AloneIsPrivate
+alone_is_private world fresh number one there shared no_master none =
+    let group = groups_by world fresh number false in
+    let named = named_mounts nat_eq world number false in
+    let middle = between world group ToSlave named in
+    let chosen : is_among nat_eq number (numbers_of named) ≡ true =
+    is_among_numbers (numbers_of named) number (inl (sym (number-mount_in world.mounts number))) in
+    let above : middle.master one ≡ None =
+    ap (λ kind. with_master nat_eq world.master (group (mount_numbered nat_eq world number).number)
+    (master_after kind) one) shared
+    ∙ either_none (nat_eq one (group (mount_numbered nat_eq world number).number)) no_master in
+    type_of_named world group ToSlave named number there chosen
+    ∙ ap (λ kind. inherited nat_eq middle (type_after (group number) ToSlave kind)) shared
+    ∙ ap slave_of_heir (no_heir middle one above (sym (members_between world group ToSlave named one) ∙ none))
+  where
+    either_none : (b : Bool) → world.master one ≡ None → (if b then None else world.master one) ≡ None
+    either_none true e = refl
+    either_none false e = e
+
+pub numbers_with_type : (world : World ℕ) (fresh : Fresh ℕ) (number : ℕ) (word : TypeWord) (recursive : Bool)
+    → numbers_of (with_type nat_eq fresh world number word recursive).mounts ≡ numbers_of world.mounts
+numbers_with_type world fresh number word recursive =
+    numbers-retyped world (groups_by world fresh number recursive) word (named_mounts nat_eq world number recursive)

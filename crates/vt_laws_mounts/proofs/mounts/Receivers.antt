@@ -1,0 +1,241 @@
+-- What the policy takes for the receivers of a group is what receives from it.
+use Rattle.std.proofs.Common.{◌≡◌, refl, sym, ap, subst, ◌∙◌, inl, ⊎_elim, ℕ, zero, suc, nat_eq, Bool, true, false, true≢false, ◌&&◌, [], ◌∷◌, length, Option, Some, None, is_some}
+use Rattle.std.specs.Prelude.{◌↔◌, option_map, option_to_list, unwrap_or}
+use Rattle.std.specs.List.{list_all}
+use Rattle.std.proofs.lemmas.Bool.{and_parts, not-true}
+use Rattle.std.proofs.lemmas.Option.{same_Some}
+use Rattle.vt_spec.specs.Lists.{chain, holds_of, is_among, last_or}
+use Rattle.vt_spec.specs.Machine.Mounts.{Mount, Propagation, group_of, source_of}
+use Rattle.vt_spec.specs.Machine.Mounts.Propagation.{Private, Shared, Slave, Unbindable}
+use Rattle.vt_spec.specs.Machine.Receives.{Receives, groups_up, has_members, receivers, receives}
+use Rattle.vt_spec.specs.Machine.Receives.Receives.{further_down, member, slave}
+use Rattle.vt_spec.specs.Machine.World.{World}
+use Rattle.vt_spec.specs.Machine.Invariants.{has_living_groups, masters_end}
+use Rattle.vt_laws_mounts.specs.Mounts.Receivers.{GroupsLive, IsClosed, ReceiversAreClosed, ReceiversAreLeast, ReceiversReceive, ReceivesIsComputed}
+use Rattle.vt_spec.proofs.Lists.{Among, all_from_among, among-filter, among-from_filter, among_cases, among_from_all, among_from_contains, among_from_list_all, chain_ends, chain_goes_on, contains_from_among, head_among, last_of_chain, tail_among}
+use Rattle.vt_spec.specs.Machine.Attach.{receivers_of}
+
+-- receivers are mounts of the world
+pub receivers_there : (world : World ℕ) (mount one : Mount ℕ) → Among one (receivers_of nat_eq world mount)
+    → Among one world.mounts
+receivers_there world mount one = by (group_of mount.propagation)
+  where
+    by : (group : Option ℕ) → Among one (unwrap_or (option_map (receivers nat_eq world) group) [])
+        → Among one world.mounts
+    by None m = absurd m
+    by (Some group) m = (among-from_filter (receives nat_eq world group) world.mounts one m).0
+
+module _ (master : ℕ → Option ℕ) where
+  -- what goes up the masters goes up a chain of them
+  pub along_chain : (P : ℕ → Type 0) → ((group lower : ℕ) → master lower ≡ Some group → P lower → P group)
+      → (n source group : ℕ) → P source → is_among nat_eq group (chain n master source) ≡ true → P group
+  along_chain P up zero source group p h =
+      ⊎_elim (λ e. subst P (sym e) p) (λ none. absurd (true≢false (sym none))) (among_cases group source [] h)
+  along_chain P up (suc n) source group p h =
+      by (master source) refl (λ above q later. along_chain P up n above group q later)
+    where
+      by : (found : Option ℕ) → master source ≡ found
+          → ((above : ℕ) → P above → is_among nat_eq group (chain n master above) ≡ true → P group) → P group
+      by None e next =
+          ⊎_elim (λ same. subst P (sym same) p) (λ none. absurd (true≢false (sym none)))
+          (among_cases group source [] (sym (ap (is_among nat_eq group) (chain_ends master n source e)) ∙ h))
+      by (Some above) e next =
+          ⊎_elim (λ same. subst P (sym same) p) (λ later. next above (up above source e p) later)
+          (among_cases group source (chain n master above)
+          (sym (ap (is_among nat_eq group) (chain_goes_on master n source above e)) ∙ h))
+
+  -- the end of a chain has no master
+  abbrev Ends : ℕ → ℕ → Type 0
+  Ends n source = is_some (master (last_or source (chain n master source))) ≡ false
+
+  no_end : (source group : ℕ) → master source ≡ Some group → is_some (master source) ≡ false → ⊥
+  no_end source group e ends = true≢false (sym (ap is_some e) ∙ ends)
+
+  -- a chain begins with its start
+  pub start_among : (n source : ℕ) → is_among nat_eq source (chain n master source) ≡ true
+  start_among zero source = head_among source source [] refl
+  start_among (suc n) source = by (master source) refl
+    where
+      by : (found : Option ℕ) → master source ≡ found → is_among nat_eq source (chain (suc n) master source) ≡ true
+      by None e = ap (is_among nat_eq source) (chain_ends master n source e) ∙ head_among source source [] refl
+      by (Some above) e =
+          ap (is_among nat_eq source) (chain_goes_on master n source above e)
+          ∙ head_among source source (chain n master above) refl
+
+  -- a chain that ends holds the master of each of its groups
+  pub chain_is_closed : (n source lower group : ℕ) → Ends n source → master lower ≡ Some group
+      → is_among nat_eq lower (chain n master source) ≡ true
+      → is_among nat_eq group (chain n master source) ≡ true
+  chain_is_closed zero source lower group ends above h =
+      ⊎_elim (λ same. absurd (no_end source group (ap master (sym same) ∙ above) ends))
+      (λ none. absurd (true≢false (sym none)))
+      (among_cases lower source [] h)
+  chain_is_closed (suc n) source lower group ends above h =
+      by (master source) refl (λ next. chain_is_closed n next lower group)
+    where
+      by : (found : Option ℕ) → master source ≡ found
+          → ((next : ℕ) → Ends n next → master lower ≡ Some group → is_among nat_eq lower (chain n master next) ≡ true
+          → is_among nat_eq group (chain n master next) ≡ true)
+          → is_among nat_eq group (chain (suc n) master source) ≡ true
+      by None e go =
+          ⊎_elim
+          (λ same. absurd (no_end source group (ap master (sym same) ∙ above) (ap is_some e)))
+          (λ none. absurd (true≢false (sym none)))
+          (among_cases lower source [] (sym (ap (is_among nat_eq lower) (chain_ends master n source e)) ∙ h))
+      by (Some next) e go =
+          let longer : chain (suc n) master source ≡ source ∷ chain n master next =
+          chain_goes_on master n source next e in
+          let last : last_or source (chain (suc n) master source) ≡ last_or next (chain n master next) =
+          ap (last_or source) longer ∙ last_of_chain master n next source in
+          ap (is_among nat_eq group) longer
+          ∙ tail_among group source (chain n master next)
+          (⊎_elim
+          (λ same.
+          let it : next ≡ group = same_Some next group (sym e ∙ ap master (sym same) ∙ above) in
+          subst (λ g. is_among nat_eq g (chain n master next) ≡ true) it (start_among n next))
+          (λ later. go next (sym (ap (λ g. is_some (master g)) last) ∙ ends) above later)
+          (among_cases lower source (chain n master next) (sym (ap (is_among nat_eq lower) longer) ∙ h)))
+
+-- the group or master of a mount, and the groups up the masters, have members and come to an end
+pub groups_live_at : (world : World ℕ) → GroupsLive world → (mount : Mount ℕ) → Among mount world.mounts → (source : ℕ)
+    → source_of mount.propagation ≡ Some source
+    → (list_all (has_members nat_eq world.mounts) (groups_up world source) ≡ true)
+    × (masters_end nat_eq world source ≡ true)
+groups_live_at world live mount m source e =
+    and_parts _ _
+    (among_from_list_all (λ group. list_all (has_members nat_eq world.mounts) (groups_up world group)
+    && masters_end nat_eq world group)
+    (option_to_list (source_of mount.propagation))
+    (among_from_list_all (has_living_groups nat_eq world) world.mounts live mount m) source
+    (subst (λ s. Among source (option_to_list s)) (sym e) (inl refl)))
+
+ends_above : (world : World ℕ) → GroupsLive world → (mount : Mount ℕ) → Among mount world.mounts → (source : ℕ)
+    → source_of mount.propagation ≡ Some source
+    → is_some (world.master (last_or source (groups_up world source))) ≡ false
+ends_above world live mount m source e = not-true _ (groups_live_at world live mount m source e).1
+
+module _ (world : World ℕ) where
+  -- what is found to receive has a source, up whose masters the group is
+  receives_by_source : (group source : ℕ) (mount : Mount ℕ) → source_of mount.propagation ≡ Some source
+      → receives nat_eq world group mount ≡ is_among nat_eq group (groups_up world source)
+  receives_by_source group source mount e = ap (holds_of (λ s. is_among nat_eq group (groups_up world s))) e
+
+  pub receives_soundly : (group : ℕ) (mount : Mount ℕ) → receives nat_eq world group mount ≡ true
+      → Receives world group mount
+  receives_soundly group mount h = by mount.propagation refl
+    where
+      from : (source : ℕ) → source_of mount.propagation ≡ Some source → Receives world source mount
+          → Receives world group mount
+      from source e r =
+          along_chain world.master (λ g. Receives world g mount)
+          (λ above lower up here. further_down above lower mount up here)
+          (length world.mounts) source group r (sym (receives_by_source group source mount e) ∙ h)
+
+      none : source_of mount.propagation ≡ None → Receives world group mount
+      none e = absurd (true≢false (sym h ∙ ap (holds_of (λ s. is_among nat_eq group (groups_up world s))) e))
+
+      by : (kind : Propagation ℕ) → mount.propagation ≡ kind → Receives world group mount
+      by (Shared own) e = from own (ap source_of e) (member own mount e)
+      by (Slave above) e = from above (ap source_of e) (slave above mount e)
+      by Private e = none (ap source_of e)
+      by Unbindable e = none (ap source_of e)
+
+  pub receives_from_source : (group : ℕ) (mount : Mount ℕ) → source_of mount.propagation ≡ Some group
+      → receives nat_eq world group mount ≡ true
+  receives_from_source group mount e =
+      receives_by_source group group mount e ∙ start_among world.master (length world.mounts) group
+
+  receives_further_down : GroupsLive world → (group lower : ℕ) (mount : Mount ℕ) → Among mount world.mounts
+      → world.master lower ≡ Some group
+      → receives nat_eq world lower mount ≡ true → receives nat_eq world group mount ≡ true
+  receives_further_down live group lower mount m up h = by (source_of mount.propagation) refl
+    where
+      by : (source : Option ℕ) → source_of mount.propagation ≡ source → receives nat_eq world group mount ≡ true
+      by None e = absurd (true≢false (sym h ∙ ap (holds_of (λ s. is_among nat_eq lower (groups_up world s))) e))
+      by (Some source) e =
+          receives_by_source group source mount e
+          ∙ chain_is_closed world.master (length world.mounts) source lower group
+          (ends_above world live mount m source e) up
+          (sym (receives_by_source lower source mount e) ∙ h)
+
+  pub receives_completely : GroupsLive world → (group : ℕ) (mount : Mount ℕ) → Among mount world.mounts
+      → Receives world group mount
+      → receives nat_eq world group mount ≡ true
+  receives_completely live group mount m (member own one e) = receives_from_source own one (ap source_of e)
+  receives_completely live group mount m (slave above one e) = receives_from_source above one (ap source_of e)
+  receives_completely live group mount m (further_down above lower one up r) =
+      receives_further_down live above lower one m up (receives_completely live lower one m r)
+
+pub receives_is_computed : ReceivesIsComputed
+receives_is_computed world group live =
+    all_from_among (λ mount. (receives nat_eq world group mount ≡ true) ↔ Receives world group mount) world.mounts
+    (λ mount m. (receives_soundly world group mount, receives_completely world live group mount m))
+
+pub receivers_receive : ReceiversReceive
+receivers_receive world group mount live = (
+  λ c.
+      let found : Among mount world.mounts × (receives nat_eq world group mount ≡ true) =
+      among-from_filter (receives nat_eq world group) world.mounts mount
+      (among_from_contains (receivers nat_eq world group) mount c) in
+      (contains_from_among world.mounts mount found.0, receives_soundly world group mount found.1),
+  λ t.
+      let m : Among mount world.mounts = among_from_contains world.mounts mount t.0 in
+      contains_from_among (receivers nat_eq world group) mount
+      (among-filter (receives nat_eq world group) world.mounts mount m
+      (receives_completely world live group mount m t.1)),
+)
+
+pub receivers_are_closed : ReceiversAreClosed
+receivers_are_closed world live = record {
+  members = λ group. all_from_among
+      (λ mount. mount.propagation ≡ Shared group → receives nat_eq world group mount ≡ true) world.mounts
+      (λ mount m e. receives_from_source world group mount (ap source_of e));
+  slaves = λ group. all_from_among
+      (λ mount. mount.propagation ≡ Slave group → receives nat_eq world group mount ≡ true) world.mounts
+      (λ mount m e. receives_from_source world group mount (ap source_of e));
+  further_down =
+      λ group lower up. all_from_among (λ mount. receives nat_eq world lower mount ≡ true
+      → receives nat_eq world group mount ≡ true) world.mounts
+      (λ mount m h. receives_further_down world live group lower mount m up h);
+}
+
+-- what receives is in every closed set
+in_closed : (world : World ℕ) (set : ℕ → Mount ℕ → Bool) → IsClosed world set → (group : ℕ) (mount : Mount ℕ)
+    → Among mount world.mounts
+    → Receives world group mount → set group mount ≡ true
+in_closed world set closed group mount m (member own one e) =
+    among_from_all (λ x. x.propagation ≡ Shared own → set own x ≡ true) world.mounts (closed.members own) one m e
+in_closed world set closed group mount m (slave above one e) =
+    among_from_all (λ x. x.propagation ≡ Slave above → set above x ≡ true) world.mounts (closed.slaves above) one m e
+in_closed world set closed group mount m (further_down above lower one up r) =
+    among_from_all (λ x. set lower x ≡ true → set above x ≡ true) world.mounts
+    (closed.further_down above lower up) one m
+    (in_closed world set closed lower one m r)
+
+pub receivers_are_least : ReceiversAreLeast
+receivers_are_least world set group closed =
+    all_from_among (λ mount. receives nat_eq world group mount ≡ true → set group mount ≡ true) world.mounts
+    (λ mount m h. in_closed world set closed group mount m (receives_soundly world group mount h))
+
+-- what receives from a mount is there, and receives from its group
+pub receiver_receives : (world : World ℕ) (mount part : Mount ℕ) → Among part (receivers_of nat_eq world mount)
+    → (group : ℕ) × (mount.propagation ≡ Shared group) × Among part world.mounts
+    × (receives nat_eq world group part ≡ true)
+receiver_receives world mount part m = by mount.propagation refl
+  where
+    none : receivers_of nat_eq world mount ≡ []
+        → (group : ℕ) × (mount.propagation ≡ Shared group) × Among part world.mounts
+        × (receives nat_eq world group part ≡ true)
+    none e = absurd (subst (λ l. Among part l) e m)
+
+    by : (kind : Propagation ℕ) → mount.propagation ≡ kind
+        → (group : ℕ) × (mount.propagation ≡ Shared group) × Among part world.mounts
+        × (receives nat_eq world group part ≡ true)
+    by (Shared group) e =
+        let t =
+        among-from_filter (receives nat_eq world group) world.mounts part
+        (subst (λ k. Among part (unwrap_or (option_map (receivers nat_eq world) (group_of k)) [])) e m) in
+        (group, e, t.0, t.1)
+    by (Slave master) e = none (ap (λ k. unwrap_or (option_map (receivers nat_eq world) (group_of k)) []) e)
+    by Private e = none (ap (λ k. unwrap_or (option_map (receivers nat_eq world) (group_of k)) []) e)
+    by Unbindable e = none (ap (λ k. unwrap_or (option_map (receivers nat_eq world) (group_of k)) []) e)

@@ -1,0 +1,378 @@
+-- What moves, before anything is attached for the receivers: each mount stands, at most one at a place.
+use Rattle.std.proofs.Common.{◌≡◌, refl, sym, ap, subst, ◌∙◌, true, false, nat_eq, ℕ, Bool, List, None, Option, Some, [], eq-eqb, eqb-true, inl, inr, is_some, map, not, option_map, true≢false, ⊎_elim, ◌&&◌, ◌∷◌, ◌||◌}
+use Rattle.std.specs.List.{list_any}
+use Rattle.std.specs.Prelude.{if◌then◌else◌, unwrap_or}
+use Rattle.std.proofs.lemmas.Bool.{false_from_ne_true, or_from, or_parts}
+use Rattle.std.proofs.lemmas.Option.{same_Some}
+use Rattle.vt_spec.proofs.Lists.{Among, all_from_among, among-from_map, among-map, among_from_all, among_from_list_all, among_numbers, list_all_from_among, none_among, none_from_among, pair-map}
+use Rattle.vt_spec.specs.Machine.Attach.{Copies, Graft, Twig, copy_at, graft_of, parts_of, mount_point_on_copy, twig_of}
+use Rattle.vt_spec.specs.Lists.{any_pair, first_of_list, folded, holds_of, is_among}
+use Rattle.vt_spec.specs.Machine.Mounts.{Location, Mount, child_at, group_of, mount_in, stands_at, with_mount}
+use Rattle.vt_spec.specs.Machine.World.{World, mount_at, mount_numbered}
+use Rattle.vt_spec.specs.Machine.Invariants.{Stands, is_nowhere_or_attached, is_private}
+use Rattle.vt_spec.specs.Machine.Invariants.Stands.{at_root, on_parent}
+use Rattle.vt_laws_mounts.specs.Mounts.Attaching.{OneNumberAMount, is_mount, numbers_of}
+use Rattle.vt_laws_mounts.specs.Mounts.Invariants.{NowhereOrAttached}
+use Rattle.vt_laws_mounts.specs.Mounts.Standing.{AllStand}
+use Rattle.vt_laws_mounts.specs.Mounts.MountPoints.{OneMountAMountPoint}
+use Rattle.vt_laws_mounts.proofs.attached.AttachingPlaces.{beside, one_place, test, two_of}
+use Rattle.vt_laws_mounts.proofs.mounts.MountsPlaces.{stands_at_its_place}
+use Rattle.vt_laws_mounts.proofs.attached.Attaching.{Hangs, hanging}
+use Rattle.vt_laws_mounts.proofs.attached.Attaching.Hangs.{from_parent, from_top}
+use Rattle.vt_laws_mounts.proofs.mounts.MountsAttached.{arriving, found-folded_other, keeps_number, moved_ones, numbers_moved, stays_put}
+use Rattle.vt_laws_mounts.proofs.mounts.MountsFound.{found_there, placed_among, unfound}
+use Rattle.vt_laws_mounts.proofs.mounts.MountsNumbered.{is_one_of, same_number, same_origin}
+use Rattle.vt_laws_mounts.proofs.mounts.MountsReplaced.{found-with_mount_itself, found_itself, numbers-with_mount, one_number_by_numbers}
+use Rattle.vt_spec.proofs.Truths.{nat_eq_false_turned}
+use Rattle.vt_spec.proofs.Worlds.{number-mount_in}
+
+-- mounts that are replaced by others with numbers of their own are found
+pub found_folded : (mounts copies : List (Mount ℕ)) → OneNumberAMount copies → (copy : Mount ℕ) → Among copy copies
+    → is_among nat_eq copy.number (numbers_of mounts) ≡ true
+    → mount_in nat_eq (folded (with_mount nat_eq) mounts copies) copy.number ≡ copy
+found_folded mounts [] own copy m is = absurd m
+found_folded mounts (first ∷ copies) own copy m is =
+    let parted : (list_any (same_number first) copies ≡ false) × OneNumberAMount copies =
+    or_parts (list_any (same_number first) copies) (any_pair same_number copies) own in
+    ⊎_elim
+    (λ e.
+    subst (λ x. mount_in nat_eq (folded (with_mount nat_eq) mounts (first ∷ copies)) x.number ≡ x) (sym e)
+    (found-folded_other (with_mount nat_eq mounts first) copies first.number (λ other n.
+    nat_eq_false_turned first.number other.number (none_among (same_number first) copies parted.0 other n))
+    ∙ found-with_mount_itself first mounts
+    (subst (λ (x : Mount ℕ). is_among nat_eq x.number (numbers_of mounts) ≡ true) e is)))
+    (λ later.
+    found_folded (with_mount nat_eq mounts first) copies parted.1 copy later
+    (ap (is_among nat_eq copy.number) (numbers-with_mount first mounts) ∙ is))
+    m
+
+-- two of a list, told apart by their numbers
+pub pair_by : (test : Mount ℕ → Mount ℕ → Bool) (list : List (Mount ℕ)) → OneNumberAMount list
+    → ((a b : Mount ℕ) → Among a list → Among b list → same_number a b ≡ false → test a b ≡ false)
+    → any_pair test list ≡ false
+pair_by test [] own each = refl
+pair_by test (first ∷ rest) own each =
+    let parted : (list_any (same_number first) rest ≡ false) × OneNumberAMount rest =
+    or_parts (list_any (same_number first) rest) (any_pair same_number rest) own in
+    or_from (list_any (test first) rest) (any_pair test rest)
+    (none_from_among (test first) rest (λ x m.
+    each first x (inl refl) (inr m) (none_among (same_number first) rest parted.0 x m)))
+    (pair_by test rest parted.1 (λ a b m n. each a b (inr m) (inr n)))
+
+-- a mount of the list has this number
+abbrev pub is_moved : List (Mount ℕ) → ℕ → Bool
+is_moved mounts number = is_among nat_eq number (numbers_of mounts)
+
+-- The mounts of a list are a whole tree of a world's, and the place is on none of them, in their namespace
+pub record MayMove (world : World ℕ) (place : Location ℕ) (mounts : List (Mount ℕ)) : Type 0 where
+  pub own : OneNumberAMount mounts
+  pub one : OneNumberAMount world.mounts
+  pub nowhere : NowhereOrAttached world
+  pub all : AllStand world
+  pub there : is_mount world place.mount ≡ true
+  pub inside : (origin : Mount ℕ) → Among origin mounts → Among origin world.mounts
+  pub hangs : (origin : Mount ℕ) → Among origin mounts → Hangs mounts origin.number
+  pub top : Mount ℕ
+  pub rest : List (Mount ℕ)
+  pub is_tree : mounts ≡ top ∷ rest
+  pub closed : (x : Mount ℕ) (at : Location ℕ) → Among x world.mounts → x.mount_point ≡ Some at
+      → is_moved mounts at.mount ≡ true → is_moved mounts x.number ≡ true
+  pub outside : is_moved mounts place.mount ≡ false
+  pub in_one : (origin : Mount ℕ) → Among origin mounts → origin.namespace ≡ (mount_at nat_eq world place).namespace
+  pub attached : is_some (mount_at nat_eq world place).namespace ≡ true
+
+module _ (world : World ℕ) (new : Copies ℕ) (place : Location ℕ) (mounts : List (Mount ℕ))
+    (may : MayMove world place mounts) where
+  abbrev tree : Graft ℕ
+  tree = graft_of nat_eq world new place true mounts
+
+  abbrev parts : List (Mount ℕ)
+  parts = parts_of nat_eq world place
+
+  abbrev destination : Mount ℕ
+  destination = mount_at nat_eq world place
+
+  abbrev twig : Mount ℕ → Twig ℕ
+  twig = twig_of new (group_of destination.propagation)
+
+  abbrev made : Twig ℕ → Mount ℕ
+  made = copy_at nat_eq world new tree parts destination
+
+  -- a mount that moves, at the destination
+  abbrev pub arrived : Mount ℕ → Mount ℕ
+  arrived origin = made (twig origin)
+
+  -- the world in which it is there
+  abbrev pub left : World ℕ
+  left = record world { mounts = moved_ones world new place true mounts }
+
+  arrived_number : (twig : Twig ℕ) → (made twig).number ≡ twig.origin.number
+  arrived_number it = keeps_number world new place mounts it.origin.number
+
+  arrive_apart : OneNumberAMount (arriving world new place true mounts)
+  arrive_apart =
+      pair-map same_origin same_number made tree.twigs
+      (λ a b m n differ.
+      ap (nat_eq (made a).number) (arrived_number b) ∙ ap (λ k. nat_eq k b.origin.number) (arrived_number a) ∙ differ)
+      (pair-map same_number same_origin twig mounts (λ a b m n differ. differ) may.own)
+
+  pub same_numbers : numbers_of left.mounts ≡ numbers_of world.mounts
+  same_numbers = numbers_moved world new place true mounts
+
+  pub one_left : OneNumberAMount left.mounts
+  one_left = one_number_by_numbers world.mounts left.mounts same_numbers may.one
+
+  pub found_arrived : (origin : Mount ℕ) → Among origin mounts
+      → mount_numbered nat_eq left origin.number ≡ arrived origin
+  found_arrived origin m =
+      ap (mount_in nat_eq left.mounts) (sym (arrived_number (twig origin)))
+      ∙ found_folded world.mounts (arriving world new place true mounts) arrive_apart (arrived origin)
+      (among-map made tree.twigs (twig origin) (among-map twig mounts origin m))
+      (ap (λ k. is_among nat_eq k (numbers_of world.mounts)) (arrived_number (twig origin))
+      ∙ is_one_of world.mounts origin (may.inside origin m))
+
+  pub found_stayed : (number : ℕ) → is_moved mounts number ≡ false
+      → mount_numbered nat_eq left number ≡ mount_numbered nat_eq world number
+  found_stayed number other = stays_put world new place mounts number other
+
+  -- A mount of it did not move, or is one that arrived
+  pub data LeftCase (mount : Mount ℕ) : Type 0 where
+    stayed : Among mount world.mounts → LeftCase mount
+    came : (origin : Mount ℕ) → Among origin mounts → mount ≡ arrived origin → LeftCase mount
+
+  -- a mount that moves, by its number
+  mover : (number : ℕ) → is_moved mounts number ≡ true
+      → (origin : Mount ℕ) × Among origin mounts × (number ≡ origin.number)
+  mover number e =
+      among-from_map (λ (mount : Mount ℕ). mount.number) mounts number (among_numbers (numbers_of mounts) number e)
+
+  left_case : (mount : Mount ℕ) → Among mount left.mounts → LeftCase mount
+  left_case mount m = by (is_moved mounts mount.number) refl
+    where
+      itself : mount_numbered nat_eq left mount.number ≡ mount
+      itself = found_itself left.mounts one_left mount m
+
+      by : (b : Bool) → is_moved mounts mount.number ≡ b → LeftCase mount
+      by true e =
+          let origin = mover mount.number e in
+          came origin.0 origin.1
+          (sym itself ∙ ap (mount_in nat_eq left.mounts) origin.2 ∙ found_arrived origin.0 origin.1)
+      by false e =
+          stayed (subst (λ x. Among x world.mounts) (sym (found_stayed mount.number e) ∙ itself)
+          (found_there world.mounts mount.number
+          (ap (is_among nat_eq mount.number) (sym same_numbers) ∙ is_one_of left.mounts mount m)))
+
+  pub nowhere_left : NowhereOrAttached left
+  nowhere_left =
+      list_all_from_among is_nowhere_or_attached left.mounts (λ mount m. by mount (left_case mount m))
+    where
+      by : (mount : Mount ℕ) → LeftCase mount → is_nowhere_or_attached mount ≡ true
+      by mount (stayed m) = among_from_list_all is_nowhere_or_attached world.mounts may.nowhere mount m
+      by mount (came origin m e) =
+          ap is_nowhere_or_attached e
+          ∙ ap (λ b. b || (not (is_some (arrived origin).mount_point) && is_private (arrived origin).propagation))
+          may.attached
+
+  -- it is in the namespace in which it was
+  pub namespace_kept : (mount : Mount ℕ) → Among mount world.mounts
+      → (mount_numbered nat_eq left mount.number).namespace ≡ mount.namespace
+  namespace_kept mount m = by (is_moved mounts mount.number) refl
+    where
+      by : (b : Bool) → is_moved mounts mount.number ≡ b
+          → (mount_numbered nat_eq left mount.number).namespace ≡ mount.namespace
+      by true e =
+          let origin = mover mount.number e in
+          let itself : origin.0 ≡ mount =
+          sym (found_itself world.mounts may.one origin.0 (may.inside origin.0 origin.1))
+          ∙ ap (mount_in nat_eq world.mounts) (sym origin.2) ∙ found_itself world.mounts may.one mount m in
+          ap (λ n. (mount_numbered nat_eq left n).namespace) origin.2
+          ∙ ap (λ (x : Mount ℕ). x.namespace) (found_arrived origin.0 origin.1)
+          ∙ sym (may.in_one origin.0 origin.1) ∙ ap (λ (x : Mount ℕ). x.namespace) itself
+      by false e =
+          ap (λ (x : Mount ℕ). x.namespace) (found_stayed mount.number e ∙ found_itself world.mounts may.one mount m)
+
+  -- Where a mount that moved stands: the top at the place, another one where it stood
+  abbrev landing : Option (Location ℕ) → Bool → Location ℕ
+  landing parent first =
+      if first then record { mount = destination.number; node = place.node }
+      else unwrap_or (option_map (mount_point_on_copy nat_eq new tree destination.number) parent) place
+
+  placed : (origin : Mount ℕ) (b : Bool) → nat_eq origin.number may.top.number ≡ b
+      → (arrived origin).mount_point ≡ Some (landing origin.mount_point b)
+  placed origin b e =
+      ap (λ c. Some (landing origin.mount_point c))
+      (ap (λ (ms : List (Mount ℕ)). holds_of (same_origin (twig origin)) (first_of_list (map twig ms))) may.is_tree ∙ e)
+
+  top_place : (origin : Mount ℕ) → nat_eq origin.number may.top.number ≡ true
+      → (arrived origin).mount_point ≡ Some place
+  top_place origin e =
+      placed origin true e
+      ∙ ap (λ (k : ℕ). Some (record { mount = k; node = place.node })) (number-mount_in world.mounts place.mount)
+
+  other_place : (origin : Mount ℕ) → nat_eq origin.number may.top.number ≡ false → (on : Location ℕ)
+      → origin.mount_point ≡ Some on → (arrived origin).mount_point ≡ Some on
+  other_place origin e on f =
+      placed origin false e ∙ ap (λ p. Some (landing p false)) f
+      ∙ ap (λ (k : ℕ). Some (record { mount = k; node = on.node })) (keeps_number world new place mounts on.mount)
+
+  is_top_of : (first : Mount ℕ) (rest : List (Mount ℕ)) → mounts ≡ first ∷ rest → (number : ℕ) → number ≡ first.number
+      → nat_eq number may.top.number ≡ true
+  is_top_of first rest list number e =
+      let same : first ≡ may.top = same_Some first may.top (ap first_of_list (sym list ∙ may.is_tree)) in
+      eq-eqb number may.top.number (e ∙ ap (λ (x : Mount ℕ). x.number) same)
+
+  same_mover : (a b : Mount ℕ) → Among a mounts → Among b mounts → a.number ≡ b.number → a ≡ b
+  same_mover a b m n same =
+      sym (found_itself mounts may.own a m) ∙ ap (mount_in nat_eq mounts) same ∙ found_itself mounts may.own b n
+
+  data ArrivedPlace (origin : Mount ℕ) : Type 0 where
+    at_place : nat_eq origin.number may.top.number ≡ true → (arrived origin).mount_point ≡ Some place
+        → ArrivedPlace origin
+    as_before : (on : Location ℕ) → origin.mount_point ≡ Some on → (arrived origin).mount_point ≡ Some on
+        → ArrivedPlace origin
+
+  arrived_place : (origin : Mount ℕ) → Among origin mounts → (number : ℕ) → Hangs mounts number → number ≡ origin.number
+      → ArrivedPlace origin
+  arrived_place origin m number (from_top first rest list) is =
+      let e = is_top_of first rest list origin.number (sym is) in at_place e (top_place origin e)
+  arrived_place origin m number (from_parent other on l f later) is =
+      by (nat_eq origin.number may.top.number) refl
+    where
+      by : (b : Bool) → nat_eq origin.number may.top.number ≡ b → ArrivedPlace origin
+      by true e = at_place e (top_place origin e)
+      by false e =
+          let place_is : origin.mount_point ≡ Some on =
+          ap (λ (x : Mount ℕ). x.mount_point) (sym (same_mover other origin l m is)) ∙ f in
+          as_before on place_is (other_place origin e on place_is)
+
+  -- Standing
+  stayed_stands : (number : ℕ) → Stands nat_eq world number → is_moved mounts number ≡ false
+      → Stands nat_eq left number
+  stayed_stands number (at_root it e) other =
+      at_root it (ap (λ (x : Mount ℕ). x.mount_point) (found_stayed it other) ∙ e)
+  stayed_stands number (on_parent it on e f stands) other =
+      by (is_moved mounts on.mount) refl (stayed_stands on.mount stands)
+    where
+      by : (b : Bool) → is_moved mounts on.mount ≡ b
+          → (is_moved mounts on.mount ≡ false → Stands nat_eq left on.mount) → Stands nat_eq left it
+      by true g parent_stands =
+          absurd (true≢false
+          (sym (may.closed (mount_numbered nat_eq world it) on (placed_among world.mounts it on e) e g)
+          ∙ ap (is_moved mounts) (number-mount_in world.mounts it) ∙ other))
+      by false g parent_stands =
+          on_parent it on (ap (λ (x : Mount ℕ). x.mount_point) (found_stayed it other) ∙ e)
+          (ap (λ (x : Mount ℕ). x.namespace) (found_stayed it other) ∙ f
+          ∙ sym (ap (λ (x : Mount ℕ). x.namespace) (found_stayed on.mount g)))
+          (parent_stands g)
+
+  destination_stands : Stands nat_eq left place.mount
+  destination_stands =
+      stayed_stands place.mount
+      (subst (Stands nat_eq world) (number-mount_in world.mounts place.mount)
+      (among_from_all (λ (x : Mount ℕ). Stands nat_eq world x.number) world.mounts may.all destination
+      (found_there world.mounts place.mount may.there)))
+      may.outside
+
+  top_stands : (origin : Mount ℕ) → Among origin mounts → nat_eq origin.number may.top.number ≡ true
+      → Stands nat_eq left origin.number
+  top_stands origin m e =
+      on_parent origin.number place
+      (ap (λ (x : Mount ℕ). x.mount_point) (found_arrived origin m) ∙ top_place origin e)
+      (ap (λ (x : Mount ℕ). x.namespace) (found_arrived origin m)
+      ∙ sym (ap (λ (x : Mount ℕ). x.namespace) (found_stayed place.mount may.outside)))
+      destination_stands
+
+  moved_stands : (number : ℕ) → Hangs mounts number → (origin : Mount ℕ) → Among origin mounts
+      → origin.number ≡ number → Stands nat_eq left origin.number
+  moved_stands number (from_top first rest list) origin m same =
+      top_stands origin m (is_top_of first rest list origin.number same)
+  moved_stands number (from_parent other on l f later) origin m same =
+      by (nat_eq origin.number may.top.number) refl (moved_stands on.mount later)
+    where
+      by : (b : Bool) → nat_eq origin.number may.top.number ≡ b
+          → ((x : Mount ℕ) → Among x mounts → x.number ≡ on.mount → Stands nat_eq left x.number)
+          → Stands nat_eq left origin.number
+      by true e parent_stands = top_stands origin m e
+      by false e parent_stands =
+          let place_is : origin.mount_point ≡ Some on =
+          ap (λ (x : Mount ℕ). x.mount_point) (sym (same_mover other origin l m (sym same))) ∙ f in
+          let parent = hanging mounts on.mount later in
+          on_parent origin.number on
+          (ap (λ (x : Mount ℕ). x.mount_point) (found_arrived origin m) ∙ other_place origin e on place_is)
+          (ap (λ (x : Mount ℕ). x.namespace) (found_arrived origin m)
+          ∙ sym (ap (λ n. (mount_numbered nat_eq left n).namespace) (sym parent.2)
+          ∙ ap (λ (x : Mount ℕ). x.namespace) (found_arrived parent.0 parent.1)))
+          (subst (Stands nat_eq left) parent.2 (parent_stands parent.0 parent.1 parent.2))
+
+  pub all_left : AllStand left
+  all_left =
+      all_from_among (λ (mount : Mount ℕ). Stands nat_eq left mount.number) left.mounts (λ mount m.
+      by mount (left_case mount m))
+    where
+      moved_one : (origin : Mount ℕ) → Among origin mounts → Stands nat_eq left (arrived origin).number
+      moved_one origin m =
+          subst (Stands nat_eq left) (sym (arrived_number (twig origin)))
+          (moved_stands origin.number (may.hangs origin m) origin m refl)
+
+      by : (mount : Mount ℕ) → LeftCase mount → Stands nat_eq left mount.number
+      by mount (came origin m e) = subst (λ (x : Mount ℕ). Stands nat_eq left x.number) (sym e) (moved_one origin m)
+      by mount (stayed m) = at (is_moved mounts mount.number) refl
+        where
+          at : (b : Bool) → is_moved mounts mount.number ≡ b → Stands nat_eq left mount.number
+          at true e =
+              let origin = mover mount.number e in
+              subst (Stands nat_eq left) (sym origin.2)
+              (moved_stands origin.0.number (may.hangs origin.0 origin.1) origin.0 origin.1 refl)
+          at false e =
+              stayed_stands mount.number
+              (among_from_all (λ (x : Mount ℕ). Stands nat_eq world x.number) world.mounts may.all mount m) e
+
+  -- Places: the top is at the place, another one where a mount of its number stood
+  data LeftPlace (mount : Mount ℕ) : Type 0 where
+    at_destination : nat_eq mount.number may.top.number ≡ true → mount.mount_point ≡ Some place → LeftPlace mount
+    as_it_was : (old : Mount ℕ) → Among old world.mounts → old.number ≡ mount.number
+        → mount.mount_point ≡ old.mount_point
+        → LeftPlace mount
+
+  left_place : (mount : Mount ℕ) → LeftCase mount → LeftPlace mount
+  left_place mount (stayed m) = as_it_was mount m refl refl
+  left_place mount (came origin m e) = by (arrived_place origin m origin.number (may.hangs origin m) refl)
+    where
+      number : mount.number ≡ origin.number
+      number = ap (λ (x : Mount ℕ). x.number) e ∙ arrived_number (twig origin)
+
+      by : ArrivedPlace origin → LeftPlace mount
+      by (at_place f g) =
+          at_destination (ap (λ k. nat_eq k may.top.number) number ∙ f) (ap (λ (x : Mount ℕ). x.mount_point) e ∙ g)
+      by (as_before on f g) =
+          as_it_was origin (may.inside origin m) (sym number) (ap (λ (x : Mount ℕ). x.mount_point) e ∙ g ∙ sym f)
+
+  pub places_left : OneMountAMountPoint world.mounts → child_at nat_eq world.mounts place ≡ None
+      → OneMountAMountPoint left.mounts
+  places_left places free =
+      pair_by test left.mounts one_left (λ a b m n differ.
+      by a b (left_place a (left_case a m)) (left_place b (left_case b n)) differ)
+    where
+      -- none stood at the place
+      not_there : (old : Mount ℕ) → Among old world.mounts → old.mount_point ≡ Some place → ⊥
+      not_there old m e =
+          true≢false (sym (stands_at_its_place place old e) ∙ unfound (stands_at nat_eq place) world.mounts free old m)
+
+      by : (a b : Mount ℕ) → LeftPlace a → LeftPlace b → same_number a b ≡ false → test a b ≡ false
+      by a b (at_destination e f) (at_destination g h) differ =
+          absurd (true≢false
+          (sym (eq-eqb a.number b.number
+          (eqb-true a.number may.top.number e ∙ sym (eqb-true b.number may.top.number g)))
+          ∙ differ))
+      by a b (at_destination e f) (as_it_was old m g h) differ =
+          false_from_ne_true (test a b) (λ both.
+          let t = one_place a b both in
+          not_there old m (sym h ∙ t.2 ∙ ap Some (sym (same_Some place t.0 (sym f ∙ t.1)))))
+      by a b (as_it_was old m g h) (at_destination e f) differ =
+          false_from_ne_true (test a b) (λ both.
+          let t = one_place a b both in
+          not_there old m (sym h ∙ t.1 ∙ ap Some (sym (same_Some place t.0 (sym f ∙ t.2)))))
+      by a b (as_it_was old m e f) (as_it_was other n g h) differ =
+          ap (beside b.mount_point) f ∙ ap (λ p. beside p old.mount_point) h
+          ∙ two_of world.mounts places old other m n
+          (ap (λ k. nat_eq k other.number) e ∙ ap (nat_eq a.number) g ∙ differ)

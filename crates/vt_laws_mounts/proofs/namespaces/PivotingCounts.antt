@@ -1,0 +1,194 @@
+-- A pivot of the root leaves each namespace as many mounts and as many root mounts.
+use Rattle.std.proofs.Common.{◌≡◌, refl, sym, ap, ◌∙◌, true, false, suc, nat_eq, ℕ, Bool, List, Some, [], eq-eqb, eqb-true, filter, is_some, length, not, true≢false, ⊎_elim, ◌&&◌, ◌∷◌}
+use Rattle.std.specs.List.{list_any}
+use Rattle.std.proofs.lemmas.Bool.{false_from_ne_true, or_parts}
+use Rattle.std.proofs.lemmas.List.{length-map}
+use Rattle.vt_spec.proofs.Lists.{Among, among-filter, among-from_filter, filter_here, filter_skip, none_among, pair-filter}
+use Rattle.vt_spec.specs.Lists.{any_pair, holds_of}
+use Rattle.vt_spec.specs.Machine.Mounts.{Location, Mount}
+use Rattle.vt_spec.specs.Machine.Namespaces.{pivoted}
+use Rattle.vt_spec.specs.Machine.World.{World, mounts_of}
+use Rattle.vt_spec.specs.Machine.Invariants.{MountInvariants, is_root_mount}
+use Rattle.vt_laws_mounts.specs.Mounts.Attaching.{OneNumberAMount}
+use Rattle.vt_laws_mounts.specs.Mounts.Namespaces.{CanPivot, PivotKeepsCounts}
+use Rattle.vt_laws_mounts.proofs.mounts.MountsCounted.{as_many_mounts, filter-map}
+use Rattle.vt_laws_mounts.proofs.mounts.MountsNumbered.{same_number}
+use Rattle.vt_laws_mounts.proofs.namespaces.Pivoting.{is_new, is_root, move, moved_namespace, moved_new, moved_other, moved_root, new_among, new_placed, root_among}
+use Rattle.vt_spec.proofs.Truths.{nat_eq_false_turned}
+use Rattle.vt_spec.proofs.Found.{filter_alike}
+use Rattle.vt_laws_mounts.specs.Mounts.Ending.{is_in}
+
+-- but for one mount
+abbrev besides : (Mount ℕ → Bool) → Mount ℕ → Mount ℕ → Bool
+besides p a mount = p mount && not (nat_eq a.number mount.number)
+
+-- what passes a test is one more than what passes besides one that does
+one_more : (p : Mount ℕ → Bool) (xs : List (Mount ℕ)) → OneNumberAMount xs → (a : Mount ℕ) → Among a xs → p a ≡ true
+    → length (filter p xs) ≡ suc (length (filter (besides p a) xs))
+one_more p [] one a m e = absurd m
+one_more p (y ∷ ys) one a m e =
+    let parts : (list_any (same_number y) ys ≡ false) × OneNumberAMount ys =
+    or_parts (list_any (same_number y) ys) (any_pair same_number ys) one in
+    ⊎_elim
+    (λ same.
+    ap length (filter_here p y ys (ap p (sym same) ∙ e))
+    ∙ ap (λ l. suc (length l))
+    (filter_alike p (besides p a) ys (λ x k.
+    sym (and_true (p x) (nat_eq a.number x.number)
+    (ap (λ (z : Mount ℕ). nat_eq z.number x.number) same ∙ none_among (same_number y) ys parts.0 x k))))
+    ∙ ap (λ l. suc (length l))
+    (sym (filter_skip (besides p a) y ys (and_false (p y) (nat_eq a.number y.number)
+    (eq-eqb a.number y.number (ap (λ (z : Mount ℕ). z.number) same))))))
+    (λ later.
+    by (p y) refl (nat_eq_false_turned y.number a.number (none_among (same_number y) ys parts.0 a later))
+    (one_more p ys parts.1 a later e))
+    m
+  where
+    and_true : (b c : Bool) → c ≡ false → (b && not c) ≡ b
+    and_true true c f = ap not f
+    and_true false c f = refl
+
+    and_false : (b c : Bool) → c ≡ true → (b && not c) ≡ false
+    and_false true c f = ap not f
+    and_false false c f = refl
+
+    by : (b : Bool) → p y ≡ b → nat_eq a.number y.number ≡ false
+        → length (filter p ys) ≡ suc (length (filter (besides p a) ys))
+        → length (filter p (y ∷ ys)) ≡ suc (length (filter (besides p a) (y ∷ ys)))
+    by true f g rest =
+        ap length (filter_here p y ys f) ∙ ap suc rest
+        ∙ ap (λ l. suc (length l))
+        (sym (filter_here (besides p a) y ys (and_true (p y) (nat_eq a.number y.number) g ∙ f)))
+    by false f g rest =
+        ap length (filter_skip p y ys f) ∙ rest
+        ∙ ap (λ l. suc (length l))
+        (sym (filter_skip (besides p a) y ys (and_true (p y) (nat_eq a.number y.number) g ∙ f)))
+
+-- two tests, of which each passes one mount that the other does not
+as_many_pass : (p q : Mount ℕ → Bool) (xs : List (Mount ℕ)) → OneNumberAMount xs → (a b : Mount ℕ) → Among a xs
+    → Among b xs → p a ≡ true → q b ≡ true → ((x : Mount ℕ) → Among x xs → besides p a x ≡ besides q b x)
+    → length (filter p xs) ≡ length (filter q xs)
+as_many_pass p q xs one a b m n e f same =
+    one_more p xs one a m e ∙ ap (λ l. suc (length l)) (filter_alike (besides p a) (besides q b) xs same)
+    ∙ sym (one_more q xs one b n f)
+
+module _ (world : World ℕ) (namespace : ℕ) (root new : Mount ℕ) (put : Location ℕ)
+    (may : CanPivot world namespace root new put) (mounts : MountInvariants nat_eq world) where
+  abbrev change : Mount ℕ → Mount ℕ
+  change = move world namespace root new put may mounts
+
+  abbrev before : Mount ℕ → Bool
+  before = is_root_mount nat_eq
+
+  abbrev later : Mount ℕ → Bool
+  later mount = is_root_mount nat_eq (change mount)
+
+  new_not_before : before new ≡ false
+  new_not_before = ap not (new_placed world namespace root new put may mounts)
+
+  root_not_later : later root ≡ false
+  root_not_later = ap (λ p. not (is_some p)) (moved_root world namespace root new put may mounts)
+
+  new_later : later new ≡ before root
+  new_later = ap (λ p. not (is_some p)) (moved_new world namespace root new put may mounts)
+
+  other_later : (mount : Mount ℕ) → nat_eq mount.number new.number ≡ false → nat_eq mount.number root.number ≡ false
+      → later mount ≡ before mount
+  other_later mount e f = ap before (moved_other world namespace root new put may mounts mount e f)
+
+  -- where the old root mount is over another, no mount begins or ends to be one of a namespace
+  alike : before root ≡ false → (mount : Mount ℕ) → Among mount world.mounts → later mount ≡ before mount
+  alike over mount m = by (nat_eq mount.number new.number) refl (nat_eq mount.number root.number) refl
+    where
+      by : (a : Bool) → nat_eq mount.number new.number ≡ a → (b : Bool) → nat_eq mount.number root.number ≡ b
+          → later mount ≡ before mount
+      by true e b f =
+          let same = is_new world namespace root new put may mounts mount m e in
+          ap later same ∙ new_later ∙ over ∙ sym new_not_before ∙ ap before (sym same)
+      by false e true f =
+          let same = is_root world namespace root new put may mounts mount m f in
+          ap later same ∙ root_not_later ∙ sym over ∙ ap before (sym same)
+      by false e false f = other_later mount e f
+
+  -- in another namespace none is moved
+  elsewhere : (other : ℕ) → nat_eq other namespace ≡ false → (mount : Mount ℕ) → Among mount world.mounts
+      → is_in other mount ≡ true → later mount ≡ before mount
+  elsewhere other differ mount m here =
+      other_later mount
+      (false_from_ne_true (nat_eq mount.number new.number) (λ e.
+      not_here new may.new_inside (is_new world namespace root new put may mounts mount m e)))
+      (false_from_ne_true (nat_eq mount.number root.number) (λ e.
+      not_here root may.root_inside (is_root world namespace root new put may mounts mount m e)))
+    where
+      not_here : (x : Mount ℕ) → x.namespace ≡ Some namespace → mount ≡ x → ⊥
+      not_here x e same =
+          true≢false
+          (sym here ∙ ap (is_in other) same ∙ ap (holds_of (nat_eq other)) e ∙ differ)
+
+  -- in its own the new root mount begins where the old one ends
+  besides_alike : (mount : Mount ℕ) → Among mount world.mounts → besides later new mount ≡ besides before root mount
+  besides_alike mount m = by (nat_eq mount.number new.number) refl (nat_eq mount.number root.number) refl
+    where
+      hidden : (b c : Bool) → c ≡ true → (b && not c) ≡ false
+      hidden true c f = ap not f
+      hidden false c f = refl
+
+      by : (a : Bool) → nat_eq mount.number new.number ≡ a → (b : Bool) → nat_eq mount.number root.number ≡ b
+          → besides later new mount ≡ besides before root mount
+      by true e b f =
+          let same = is_new world namespace root new put may mounts mount m e in
+          hidden (later mount) (nat_eq new.number mount.number)
+          (eq-eqb new.number mount.number (sym (eqb-true mount.number new.number e)))
+          ∙ sym (ap (λ b. b && not (nat_eq root.number mount.number)) (ap before same ∙ new_not_before))
+      by false e true f =
+          let same = is_root world namespace root new put may mounts mount m f in
+          ap (λ b. b && not (nat_eq new.number mount.number)) (ap later same ∙ root_not_later)
+          ∙ sym (hidden (before mount) (nat_eq root.number mount.number)
+          (eq-eqb root.number mount.number (sym (eqb-true mount.number root.number f))))
+      by false e false f =
+          ap (λ b. b && not (nat_eq new.number mount.number)) (other_later mount e f)
+          ∙ ap (λ b. before mount && not b) (nat_eq_false_turned mount.number new.number e)
+          ∙ sym (ap (λ b. before mount && not b) (nat_eq_false_turned mount.number root.number f))
+
+  roots_of : (other : ℕ) → length (filter later (mounts_of nat_eq world other))
+      ≡ length (filter before (mounts_of nat_eq world other))
+  roots_of other = by (before root) refl (nat_eq other namespace) refl
+    where
+      here : (mount : Mount ℕ) → Among mount (mounts_of nat_eq world other)
+          → Among mount world.mounts × (is_in other mount ≡ true)
+      here mount m = among-from_filter (is_in other) world.mounts mount m
+
+      by : (b : Bool) → before root ≡ b → (c : Bool) → nat_eq other namespace ≡ c
+          → length (filter later (mounts_of nat_eq world other)) ≡ length (filter before (mounts_of nat_eq world other))
+      by false e c f =
+          ap length (filter_alike later before (mounts_of nat_eq world other) (λ mount m.
+          alike e mount (here mount m).0))
+      by true e false f =
+          ap length (filter_alike later before (mounts_of nat_eq world other) (λ mount m.
+          elsewhere other f mount (here mount m).0 (here mount m).1))
+      by true e true f =
+          as_many_pass later before (mounts_of nat_eq world other)
+          (pair-filter same_number (is_in other) world.mounts mounts.one_number) new root
+          (among-filter (is_in other) world.mounts new (new_among world namespace root new put may mounts)
+          (ap (holds_of (nat_eq other)) may.new_inside ∙ f))
+          (among-filter (is_in other) world.mounts root (root_among world namespace root new put may mounts)
+          (ap (holds_of (nat_eq other)) may.root_inside ∙ f))
+          (new_later ∙ e) e (λ mount m. besides_alike mount (here mount m).0)
+
+pub pivot_keeps_counts : PivotKeepsCounts
+pivot_keeps_counts world namespace root new put may mounts other =
+    let change_of = move world namespace root new put may mounts in
+    let these =
+    as_many_mounts world (pivoted nat_eq world namespace root new put) change_of refl
+    (λ mount m. moved_namespace world namespace root new put may mounts mount)
+    other in
+    let before_these = mounts_of nat_eq world other in
+    record {
+      mounts = ap length these ∙ length-map before_these change_of;
+      roots = ap (λ l. length (filter (is_root_mount nat_eq) l)) these
+          ∙ ap length
+          (filter-map (is_root_mount nat_eq) (λ mount. is_root_mount nat_eq (change_of mount)) change_of before_these
+          (λ mount m. refl))
+          ∙ length-map (filter (λ mount. is_root_mount nat_eq (change_of mount)) before_these) change_of
+          ∙ roots_of world namespace root new put may mounts other;
+    }

@@ -1,0 +1,58 @@
+-- The topmost mount over a place.
+use Rattle.std.proofs.Common.{◌≡◌, refl, ap, ◌∙◌, zero, suc, nat_eq, ℕ, None, Option, Some, arith, length, option_map, ◌+◌, ◌≤◌}
+use Rattle.vt_spec.specs.Lists.{chain, last_or}
+use Rattle.vt_spec.specs.Machine.Mounts.{Location, Mount, child_at, root_of, stands_at}
+use Rattle.vt_spec.specs.Machine.World.{World}
+use Rattle.vt_spec.specs.Machine.Invariants.{MountInvariants}
+use Rattle.vt_spec.proofs.Lists.{chain_ends, chain_goes_on, last_of_chain}
+use Rattle.vt_laws_mounts.specs.Mounts.Namespaces.{TopmostIsFree}
+use Rattle.vt_laws_mounts.proofs.mounts.MountsFound.{found_in}
+use Rattle.vt_laws_mounts.proofs.mounts.MountsPlaces.{stands_there}
+use Rattle.vt_laws_mounts.proofs.mounts.MountsReplaced.{found_itself}
+use Rattle.vt_laws_mounts.proofs.mounts.Standing.{rank, rank_bounded, rank_child}
+
+module _ (world : World ℕ) (mounts : MountInvariants nat_eq world) where
+  abbrev level : ℕ → ℕ
+  level = rank world mounts.one_number mounts.standing
+
+  abbrev over : Location ℕ → Option (Location ℕ)
+  over here = option_map root_of (child_at nat_eq world.mounts here)
+
+  -- what stands at a place is one higher
+  higher : (here : Location ℕ) (child : Mount ℕ) → child_at nat_eq world.mounts here ≡ Some child
+      → level child.number ≡ suc (level here.mount)
+  higher here child e =
+      let found = found_in (stands_at nat_eq here) world.mounts child e in
+      rank_child world mounts.one_number mounts.standing child.number here
+      (ap (λ x. x.mount_point) (found_itself world.mounts mounts.one_number child found.0)
+      ∙ stands_there here child found.1)
+
+  free_after : (n : ℕ) (here : Location ℕ) → length world.mounts ≤ n + level here.mount
+      → child_at nat_eq world.mounts (last_or here (chain n over here)) ≡ None
+  free_after zero here far = by (child_at nat_eq world.mounts here) refl
+    where
+      by : (found : Option (Mount ℕ)) → child_at nat_eq world.mounts here ≡ found
+          → child_at nat_eq world.mounts here ≡ None
+      by None e = e
+      by (Some child) e =
+          let one = higher here child e in
+          let bound = rank_bounded world mounts.one_number mounts.standing child.number in
+          absurd (omega (arith, far, one, bound))
+  free_after (suc n) here far = by (child_at nat_eq world.mounts here) refl (free_after n)
+    where
+      by : (found : Option (Mount ℕ)) → child_at nat_eq world.mounts here ≡ found
+          → ((next : Location ℕ) → length world.mounts ≤ n + level next.mount
+          → child_at nat_eq world.mounts (last_or next (chain n over next)) ≡ None)
+          → child_at nat_eq world.mounts (last_or here (chain (suc n) over here)) ≡ None
+      by None e later =
+          ap (λ l. child_at nat_eq world.mounts (last_or here l)) (chain_ends over n here (ap (option_map root_of) e))
+          ∙ e
+      by (Some child) e later =
+          let one = higher here child e in
+          ap (child_at nat_eq world.mounts)
+          (ap (last_or here) (chain_goes_on over n here (root_of child) (ap (option_map root_of) e))
+          ∙ last_of_chain over n (root_of child) here)
+          ∙ later (root_of child) (omega (arith, far, one))
+
+pub topmost_is_free : TopmostIsFree
+topmost_is_free world place mounts = free_after world mounts (length world.mounts) place (omega arith)

@@ -1,0 +1,199 @@
+-- The list of mounts after an unshare.
+use Rattle.std.proofs.Common.{◌≡◌, refl, sym, ap, ◌∙◌, Bool, List, [], None, eq-eqb, eqb-true, true≢false, Option, Some, cond, false, flat_map, map, nat_eq, option_map, true, unwrap_or, ℕ, ◌+◌, ◌∷◌, inl, inr}
+use Rattle.std.proofs.lemmas.List.Folds.{flat_map-map}
+use Rattle.std.proofs.lemmas.Bool.{false_from_ne_true}
+use Rattle.vt_spec.proofs.Lists.{Among, among-filter, among-from_filter}
+use Rattle.vt_spec.specs.FileTree.{path_down}
+use Rattle.vt_spec.specs.Machine.Listing.{groups_shown, mount_line, number_among, mount_point_spot, root_spot, spot_of, type_line}
+use Rattle.vt_spec.specs.Lists.{Fresh, each_once, evens, holds_of, odds, index_from}
+use Rattle.vt_spec.specs.Machine.Mounts.{Location, Mount, index_of, numbers_by}
+use Rattle.vt_spec.specs.Machine.Namespaces.{copied_mount, location_on_copy, unshared}
+use Rattle.vt_spec.specs.Language.Answers.{Spot}
+use Rattle.vt_spec.specs.Machine.Run.{Serves}
+use Rattle.vt_spec.specs.Machine.World.{Task, World, filesystem_numbered, is_overlay, mount_numbered, mounts_of}
+use Rattle.vt_spec.specs.Machine.Invariants.{MountInvariants}
+use Rattle.vt_laws_mounts.specs.Mounts.Propagation.{UnshareListsOthersTheSame, UnshareListsTheSame}
+use Rattle.vt_laws_mounts.proofs.mounts.MountsNumbered.{is_one_of, one_index}
+use Rattle.vt_laws_mounts.proofs.namespaces.Unsharing.{itself, parent_of, copy_found, old_found}
+use Rattle.vt_laws_mounts.proofs.namespaces.UnsharingNamespaces.{unshare_copies_mounts, unshare_leaves_namespaces}
+use Rattle.vt_spec.proofs.FreshNumbers.{odds-distinct, served-distinct}
+use Rattle.vt_laws_mounts.specs.Mounts.Ending.{is_in}
+
+pub map_alike : {A B C : Type 0} (f : A → C) (g : B → C) (h : A → B) (xs : List A)
+    → ((x : A) → Among x xs → g (h x) ≡ f x) → map g (map h xs) ≡ map f xs
+map_alike f g h [] same = refl
+map_alike f g h (y ∷ ys) same =
+    ap (λ x. x ∷ map g (map h ys)) (same y (inl refl))
+    ∙ ap (λ l. f y ∷ l) (map_alike f g h ys (λ x m. same x (inr m)))
+
+pub map_both : {A C : Type 0} (f g : A → C) (xs : List A) → ((x : A) → Among x xs → g x ≡ f x) → map g xs ≡ map f xs
+map_both f g [] same = refl
+map_both f g (y ∷ ys) same =
+    ap (λ x. x ∷ map g ys) (same y (inl refl)) ∙ ap (λ l. f y ∷ l) (map_both f g ys (λ x m. same x (inr m)))
+
+-- the place of a new number among new numbers
+new_place : (new : ℕ → ℕ) (copy : Mount ℕ → Mount ℕ) → ((mount : Mount ℕ) → (copy mount).number ≡ new mount.number)
+    → (number k : ℕ) (mounts : List (Mount ℕ))
+    → ((mount : Mount ℕ) → Among mount mounts → nat_eq (new number) (new mount.number) ≡ nat_eq number mount.number)
+    → index_from (nat_eq (new number)) k (map (λ (x : Mount ℕ). x.number) (map copy mounts))
+    ≡ index_from (nat_eq number) k (map (λ (x : Mount ℕ). x.number) mounts)
+new_place new copy numbers number k [] same = refl
+new_place new copy numbers number k (mount ∷ rest) same =
+    ap (λ n. cond (nat_eq (new number) n) (Some k)
+    (index_from (nat_eq (new number)) (k + 1) (map (λ (x : Mount ℕ). x.number) (map copy rest)))) (numbers mount)
+    ∙ ap (λ b. cond b (Some k)
+    (index_from (nat_eq (new number)) (k + 1) (map (λ (x : Mount ℕ). x.number) (map copy rest)))) (same mount
+    (inl refl))
+    ∙ ap (cond (nat_eq number mount.number) (Some k))
+    (new_place new copy numbers number (k + 1) rest (λ other m. same other (inr m)))
+
+module _ (world : World ℕ) (fresh : Fresh ℕ) (task : Task ℕ) (serves : Serves nat_eq world fresh)
+    (mounts : MountInvariants nat_eq world) where
+  abbrev after : World ℕ
+  after = unshared nat_eq world fresh task
+
+  abbrev copied : List (Mount ℕ)
+  copied = mounts_of nat_eq world task.namespace
+
+  abbrev new_number : ℕ → ℕ
+  new_number = numbers_by nat_eq (odds fresh) copied
+
+  abbrev copy : Mount ℕ → Mount ℕ
+  copy = copied_mount new_number (evens fresh 0)
+
+  new_apart : (a b : Mount ℕ) → Among a copied → Among b copied
+      → nat_eq (new_number a.number) (new_number b.number) ≡ nat_eq a.number b.number
+  new_apart a b m n = by (nat_eq a.number b.number) refl
+    where
+      by : (same : Bool) → nat_eq a.number b.number ≡ same
+          → nat_eq (new_number a.number) (new_number b.number) ≡ nat_eq a.number b.number
+      by true e =
+          eq-eqb (new_number a.number) (new_number b.number) (ap new_number (eqb-true a.number b.number e)) ∙ sym e
+      by false e = false_from_ne_true (nat_eq (new_number a.number) (new_number b.number)) (λ same.
+          true≢false
+          (sym (eq-eqb a.number b.number
+          (one_index copied a.number b.number (is_one_of copied a m) (is_one_of copied b n)
+          (odds-distinct fresh (served-distinct world fresh serves) (index_of nat_eq copied a.number)
+          (index_of nat_eq copied b.number)
+          (eqb-true (new_number a.number) (new_number b.number) same)))) ∙ e)) ∙ sym e
+
+  -- the parent of a mount of a namespace is in the namespace
+  parent_inside : (namespace : ℕ) (mount : Mount ℕ) → Among mount (mounts_of nat_eq world namespace)
+      → (place : Location ℕ) → mount.mount_point ≡ Some place
+      → (parent : Mount ℕ) × Among parent (mounts_of nat_eq world namespace) × (parent.number ≡ place.mount)
+      × Among parent world.mounts
+  parent_inside namespace mount m place e =
+      let from = among-from_filter (is_in namespace) world.mounts mount m in
+      let parent = parent_of world mounts mount from.0 place e in (
+        parent.parent,
+        among-filter (is_in namespace) world.mounts parent.parent parent.there
+            (ap (holds_of (nat_eq namespace)) (sym parent.namespace) ∙ from.1),
+        parent.number,
+        parent.there,
+      )
+
+  abbrev spot : Mount ℕ → Location ℕ → Spot
+  spot parent place =
+      spot_of (path_down nat_eq (filesystem_numbered nat_eq world parent.filesystem).files parent.root place.node)
+
+  abbrev place_cell : World ℕ → List (Mount ℕ) → Location ℕ → ℕ × Spot
+  place_cell those list place =
+      (number_among nat_eq (map (λ (other : Mount ℕ). other.number) list) place.mount, mount_point_spot nat_eq those place)
+
+  copied_cell : (parent : Mount ℕ) → Among parent copied → Among parent world.mounts → (place : Location ℕ)
+      → parent.number ≡ place.mount
+      → place_cell after (map copy copied) (location_on_copy new_number place) ≡ place_cell world copied place
+  copied_cell parent m there place same =
+      let number : number_among nat_eq (map (λ (other : Mount ℕ). other.number) (map copy copied))
+      (new_number place.mount)
+      ≡ number_among nat_eq (map (λ (other : Mount ℕ). other.number) copied) place.mount =
+      ap (λ n. number_among nat_eq (map (λ (other : Mount ℕ). other.number) (map copy copied)) (new_number n))
+      (sym same)
+      ∙ ap (λ k. unwrap_or k 0)
+      (new_place new_number copy (λ mount. refl) parent.number 1 copied (λ other n. new_apart parent other m n))
+      ∙ ap (number_among nat_eq (map (λ (other : Mount ℕ). other.number) copied)) same in
+      let shows : mount_point_spot nat_eq after (location_on_copy new_number place)
+      ≡ mount_point_spot nat_eq world place =
+      ap (λ n. spot (mount_numbered nat_eq after (new_number n)) place) (sym same)
+      ∙ ap (λ (x : Mount ℕ). spot x place) (copy_found world fresh task serves mounts parent m)
+      ∙ ap (λ (x : Mount ℕ). spot x place) (sym (itself world mounts parent there))
+      ∙ ap (λ n. spot (mount_numbered nat_eq world n) place) same in
+      λ i. (number i, shows i)
+
+  copied_places : (mount : Mount ℕ) → Among mount copied
+      → option_map (place_cell after (map copy copied)) (copy mount).mount_point
+      ≡ option_map (place_cell world copied) mount.mount_point
+  copied_places mount m = by mount.mount_point refl
+    where
+      by : (found : Option (Location ℕ)) → mount.mount_point ≡ found
+          → option_map (place_cell after (map copy copied)) (option_map (location_on_copy new_number) found)
+          ≡ option_map (place_cell world copied) found
+      by None e = refl
+      by (Some place) e =
+          let parent = parent_inside task.namespace mount m place e in
+          ap Some (copied_cell parent.0 parent.1 parent.3 place parent.2)
+
+  same_filesystems : map (λ (x : Mount ℕ). x.filesystem) (map copy copied) ≡ map (λ (x : Mount ℕ). x.filesystem) copied
+  same_filesystems = map_alike (λ (x : Mount ℕ). x.filesystem) (λ (x : Mount ℕ). x.filesystem) copy copied (λ x m. refl)
+
+  same_groups : flat_map (groups_shown after) (map copy copied) ≡ flat_map (groups_shown world) copied
+  same_groups = flat_map-map (groups_shown after) copy copied
+
+  copied_line : (mount : Mount ℕ) → Among mount copied
+      → mount_line nat_eq after (map copy copied) (copy mount) ≡ mount_line nat_eq world copied mount
+  copied_line mount m = λ i. record {
+    mount_point = copied_places mount m i;
+    overlay = is_overlay (filesystem_numbered nat_eq world mount.filesystem);
+    filesystem = number_among nat_eq (each_once nat_eq (same_filesystems i)) mount.filesystem;
+    root = root_spot nat_eq world mount;
+    flags = mount.flags;
+    kind = type_line nat_eq world (each_once nat_eq (same_groups i)) mount.propagation;
+  }
+
+  other_places : (namespace : ℕ) (mount : Mount ℕ) → Among mount (mounts_of nat_eq world namespace)
+      → option_map (place_cell after (mounts_of nat_eq world namespace)) mount.mount_point
+      ≡ option_map (place_cell world (mounts_of nat_eq world namespace)) mount.mount_point
+  other_places namespace mount m = by mount.mount_point refl
+    where
+      list : List (Mount ℕ)
+      list = mounts_of nat_eq world namespace
+
+      by : (found : Option (Location ℕ)) → mount.mount_point ≡ found
+          → option_map (place_cell after (mounts_of nat_eq world namespace)) found
+          ≡ option_map (place_cell world (mounts_of nat_eq world namespace)) found
+      by None e = refl
+      by (Some place) e =
+          let parent = parent_inside namespace mount m place e in
+          ap (λ (x : Mount ℕ). Some (
+            number_among nat_eq (map (λ (other : Mount ℕ). other.number)
+                (mounts_of nat_eq world namespace)) place.mount,
+            spot x place,
+          ))
+          (ap (mount_numbered nat_eq after) (sym parent.2) ∙ old_found world fresh task serves mounts parent.0 parent.3
+          ∙ sym (itself world mounts parent.0 parent.3) ∙ ap (mount_numbered nat_eq world) parent.2)
+
+  other_line : (namespace : ℕ) (mount : Mount ℕ) → Among mount (mounts_of nat_eq world namespace)
+      → mount_line nat_eq after (mounts_of nat_eq world namespace) mount
+      ≡ mount_line nat_eq world (mounts_of nat_eq world namespace) mount
+  other_line namespace mount m = λ i. record (mount_line nat_eq world (mounts_of nat_eq world namespace) mount) {
+    mount_point = other_places namespace mount m i;
+  }
+
+pub unshare_lists_the_same : UnshareListsTheSame
+unshare_lists_the_same world fresh task serves mounts empty =
+    let now = unshared nat_eq world fresh task in
+    let those = mounts_of nat_eq world task.namespace in
+    ap (λ (l : List (Mount ℕ)). map (mount_line nat_eq now l) l) (unshare_copies_mounts world fresh task empty)
+    ∙ map_alike (mount_line nat_eq world those)
+    (mount_line nat_eq now (map (copy world fresh task serves mounts) those))
+    (copy world fresh task serves mounts) those
+    (copied_line world fresh task serves mounts)
+
+pub unshare_lists_others_the_same : UnshareListsOthersTheSame
+unshare_lists_others_the_same world fresh task namespace serves mounts other =
+    let now = unshared nat_eq world fresh task in
+    let those = mounts_of nat_eq world namespace in
+    ap (λ (l : List (Mount ℕ)). map (mount_line nat_eq now l) l)
+    (unshare_leaves_namespaces world fresh task namespace other)
+    ∙ map_both (mount_line nat_eq world those) (mount_line nat_eq now those) those
+    (other_line world fresh task serves mounts namespace)

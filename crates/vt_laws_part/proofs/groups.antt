@@ -1,0 +1,3 @@
+-- What the proofs of src/groups.rt use.
+pub mod EventsApart
+pub mod ReceiversAlike

@@ -1,0 +1,2 @@
+-- What the proofs of src/locks.rt use.
+pub mod LockedTrees

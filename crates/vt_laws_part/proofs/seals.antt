@@ -1,0 +1,2 @@
+-- What the proofs of src/seals.rt use.
+pub mod ByPart

@@ -1,0 +1,3 @@
+-- What the proofs of src/walks.rt use.
+pub mod StepsAgree
+pub mod WalksAgree

@@ -1,0 +1,106 @@
+-- What lines, looks and directives leave as it was.
+use Rattle.std.proofs.Common.{◌≡◌, refl, subst, ℕ, nat_eq, Bool, true, false, ◌||◌, nat_lt, length, List, [], ◌∷◌, Option, Some, None, Result, Ok, Err, IfErr, ok_or}
+use Rattle.vt_laws_rules.proofs.rules.Outcomes.{after_keeps, error_is, judged_keeps}
+use Rattle.vt_laws_rules.proofs.rules.OwnRules.{policy_refuses_own}
+use Rattle.vt_laws_rules.specs.Denials.{DeniedLineChangesNothing, DirectiveChangesNothing, LookChangesNothing, RefusedMemoryChangesNothing}
+use Rattle.vt_spec.specs.declared.errors.Deny.{Deny}
+use Rattle.vt_spec.specs.declared.errors.Rule.TheVariants.{S2}
+use Rattle.vt_spec.specs.Errors.{denial}
+use Rattle.vt_spec.specs.Language.Calls.{Call, TaskName}
+use Rattle.vt_spec.specs.Language.Calls.Directive.{AskPeers, AskSealed}
+use Rattle.vt_spec.specs.Lists.{Fresh}
+use Rattle.vt_spec.specs.Machine.Outcomes.{Outcome}
+use Rattle.vt_spec.specs.Machine.Policy.{call_outcome, finished_by, only_looks}
+use Rattle.vt_spec.specs.Machine.Run.{Step, line_step_by, requested, spoken_step, step_world}
+use Rattle.vt_spec.specs.Machine.Run.Step.{Answered, Silent}
+use Rattle.vt_spec.specs.Language.Script.{Grammar, Request, is_silent, request_of}
+use Rattle.vt_spec.specs.Language.Limits.{longest_line}
+use Rattle.vt_spec.specs.Language.Script.Request.{Asking, Calling}
+use Rattle.vt_spec.specs.Machine.Sealed.{directed}
+use Rattle.vt_spec.specs.Machine.World.{Task, World, task_called}
+use Rattle.vt_laws_rules.proofs.given.CallsGranted.{call_holds}
+use Rattle.vt_laws_rules.specs.Granted.{IsGranted}
+use Rattle.vt_laws_rules.specs.Granted.IsGranted.{lists_directory, lists_mounts, may_execute, reads_file, reads_part, reads_symlink, shows_object, shows_symlink}
+use Rattle.vt_spec.specs.Machine.Apply.{apply, overfills}
+use Rattle.vt_spec.specs.Machine.Looks.{looks_of}
+use Rattle.vt_spec.specs.Machine.Permits.{Permit}
+
+pub directive_changes_nothing : DirectiveChangesNothing
+directive_changes_nothing world AskPeers = refl
+directive_changes_nothing world (AskSealed names) = judged_keeps world (_ ∷ []) _ refl
+
+-- what a call that only looks is permitted leaves the world
+looks_keep : (fresh : Fresh ℕ) (world : World ℕ) (task : Task ℕ) (call : Call) (permit : Permit ℕ)
+    → only_looks call ≡ true
+    → IsGranted nat_eq (looks_of nat_eq world) (overfills nat_eq fresh world task) task call permit
+    → (apply nat_eq fresh world task permit).world ≡ world
+looks_keep fresh world task call permit e (lists_directory path here end passed) = refl
+looks_keep fresh world task call permit e (shows_object path here end) = refl
+looks_keep fresh world task call permit e (shows_symlink path here end) = refl
+looks_keep fresh world task call permit e (reads_symlink path here end passed) = refl
+looks_keep fresh world task call permit e (reads_file path here end passed) = refl
+looks_keep fresh world task call permit e (may_execute path here end passed) = refl
+looks_keep fresh world task call permit e (reads_part number offset size descriptor found) = refl
+looks_keep fresh world task call permit e lists_mounts = refl
+looks_keep fresh world task call permit e granted = cc
+
+-- no change number is raised by a look
+unraised : (looks granted : Bool) (world : World ℕ) (name : TaskName) (changed : List ℕ) (outcome : Outcome ℕ)
+    → looks ≡ true
+    → outcome.world ≡ world
+    → (finished_by nat_eq (looks || granted) world name changed outcome).world ≡ world
+unraised true granted world name changed outcome e same = same
+unraised false granted world name changed outcome e same = cc
+
+pub look_changes_nothing : LookChangesNothing
+look_changes_nothing fresh world name call looks =
+    after_keeps world (ok_or (task_called world name) (denial S2)) _ (λ task.
+    unraised (only_looks call) _ world name _ (call_outcome nat_eq fresh world task call) looks
+    (call_holds (λ left. left ≡ world) fresh world task call refl (λ permit granted.
+    looks_keep fresh world task call permit looks granted)))
+
+-- an outcome that is a denial has left the world
+abbrev KeepsIfDenied : World ℕ → Outcome ℕ → Type 0
+KeepsIfDenied world outcome = IfErr outcome.answer (λ deny. outcome.world ≡ world)
+
+abbrev StepKeepsIfDenied : World ℕ → Step ℕ → Type 0
+StepKeepsIfDenied world Silent = Unit {0}
+StepKeepsIfDenied world (Answered outcome) = KeepsIfDenied world outcome
+
+denial_keeps : {A : Type 0} (answer : Result A Deny) {P : Type 0} → P → IfErr answer (λ deny. P)
+denial_keeps (Ok a) p = tt
+denial_keeps (Err deny) p = p
+
+request_keeps : (world : World ℕ) (request : Option Request) (fresh : Fresh ℕ)
+    → KeepsIfDenied world (requested nat_eq world request fresh)
+request_keeps world None fresh = refl
+request_keeps world (Some (Calling task call)) fresh = (policy_refuses_own fresh world task call).0
+request_keeps world (Some (Asking directive)) fresh =
+    denial_keeps (directed nat_eq world directive).answer (directive_changes_nothing world directive)
+
+spoken_keeps : (grammar : Grammar) (world : World ℕ) (line : List ℕ) (fresh : Option (Fresh ℕ))
+    → StepKeepsIfDenied world (spoken_step nat_eq grammar world line fresh)
+spoken_keeps grammar world line None = refl
+spoken_keeps grammar world line (Some fresh) = request_keeps world (request_of grammar line) fresh
+
+line_keeps : (long silent : Bool) (grammar : Grammar) (world : World ℕ) (line : List ℕ) (fresh : Option (Fresh ℕ))
+    → StepKeepsIfDenied world (line_step_by nat_eq long silent grammar world line fresh)
+line_keeps true silent grammar world line fresh = refl
+line_keeps false true grammar world line fresh = tt
+line_keeps false false grammar world line fresh = spoken_keeps grammar world line fresh
+
+pub denied_line_changes_nothing : DeniedLineChangesNothing
+denied_line_changes_nothing grammar world line fresh outcome deny steps e =
+    error_is (λ d. outcome.world ≡ world) outcome.answer deny e
+    (subst (StepKeepsIfDenied world) steps
+    (line_keeps (nat_lt longest_line (length line)) (is_silent line) grammar world line fresh))
+
+refused_keeps : (long silent : Bool) (grammar : Grammar) (world : World ℕ) (line : List ℕ)
+    → step_world world (line_step_by nat_eq long silent grammar world line None) ≡ world
+refused_keeps true silent grammar world line = refl
+refused_keeps false true grammar world line = refl
+refused_keeps false false grammar world line = refl
+
+pub refused_memory_changes_nothing : RefusedMemoryChangesNothing
+refused_memory_changes_nothing grammar world line =
+    refused_keeps (nat_lt longest_line (length line)) (is_silent line) grammar world line

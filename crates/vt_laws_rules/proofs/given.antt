@@ -1,0 +1,4 @@
+-- What the proofs of src/given.rt use.
+pub mod CallsGranted
+pub mod GivenPermits
+pub mod Inversion

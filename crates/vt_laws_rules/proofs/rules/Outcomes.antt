@@ -1,0 +1,133 @@
+-- What an outcome that is put together of steps that may be refused keeps of them.
+use Rattle.std.proofs.Common.{◌≡◌, refl, subst, Bool, true, false, not, List, [], ◌∷◌, ◌++◌, ◌&&◌, ◌||◌, Result, Ok, Err, IfErr, is_ok, cond}
+use Rattle.std.specs.Str.{bytes_eq}
+use Rattle.vt_laws_rules.specs.RuleRanks.{is_among}
+use Rattle.vt_spec.specs.declared.errors.Deny.{Deny}
+use Rattle.vt_spec.specs.declared.errors.Rule.{Rule}
+use Rattle.vt_spec.specs.Errors.{Rules, and_then, denial, rule_name, unless}
+use Rattle.vt_spec.specs.Language.Answers.{Answer}
+use Rattle.vt_spec.specs.Machine.Outcomes.{Outcome, after, judged}
+use Rattle.vt_spec.specs.Machine.Policy.{finished_by}
+use Rattle.vt_spec.specs.Machine.Walking.{Stop, stopped_by, then_walk, walk_end, walk_unless}
+use Rattle.vt_spec.specs.Language.Calls.{TaskName}
+use Rattle.vt_spec.specs.Machine.World.{World}
+use Rattle.vt_spec.proofs.Truths.{and_true_right}
+
+-- what is told of the error of a result is told of it in every form
+pub error_is : {A : Type 0} (P : Deny → Type 0) (result : Result A Deny) (deny : Deny) → result ≡ Err deny
+    → IfErr result P → P deny
+error_is P (Ok a) deny e h = cc
+error_is P (Err other) deny e h = let same : other ≡ deny = cc in subst P same h
+
+-- a rule is among more rules where it is among the last of them
+pub among_more : (own : List Rule) (rule : Rule) (rules : List Rule) → is_among rule rules ≡ true
+    → is_among rule (own ++ rules) ≡ true
+among_more [] rule rules e = e
+among_more (one ∷ own) rule rules e = either (bytes_eq (rule_name one) (rule_name rule)) (among_more own rule rules e)
+  where
+    either : (b : Bool) {c : Bool} → c ≡ true → (b || c) ≡ true
+    either true e = refl
+    either false e = e
+
+-- and where it is among the first of them
+pub among_front : (rules more : List Rule) (rule : Rule) → is_among rule rules ≡ true
+    → is_among rule (rules ++ more) ≡ true
+among_front [] more rule e = cc
+among_front (one ∷ rules) more rule e =
+    either (bytes_eq (rule_name one) (rule_name rule)) e (among_front rules more rule)
+  where
+    either : (b : Bool) {c d : Bool} → (b || c) ≡ true → (c ≡ true → d ≡ true) → (b || d) ≡ true
+    either true e f = refl
+    either false e f = f e
+
+module _ (rules : List Rule) where
+  -- a refusal by one of the rules, with its error
+  abbrev pub IsOwn : Deny → Type 0
+  IsOwn deny = (deny ≡ denial deny.rule) × (is_among deny.rule rules ≡ true)
+
+  -- each row that may fail has one of the rules
+  abbrev pub are_own : Rules → Bool
+  are_own [] = true
+  are_own ((fails, rule) ∷ rows) = (is_among rule rules || not fails) && are_own rows
+
+  -- a result is refused by those rules alone
+  abbrev pub RefusesOwn : {A : Type 0} → Result A Deny → Type 0
+  RefusesOwn result = IfErr result IsOwn
+
+  -- a walk is stopped by those rules alone
+  abbrev pub StopsOwn : {A N : Type 0} → Result A (Stop N) → Type 0
+  StopsOwn result = IfErr result (λ stop. IsOwn stop.deny)
+
+  first_own : (among others : Bool) → ((among || false) && others) ≡ true → among ≡ true
+  first_own true others e = refl
+  first_own false others e = e
+
+  pub unless_own : {A : Type 0} (rows : Rules) (answer : Result A Deny) → are_own rows ≡ true → RefusesOwn answer
+      → RefusesOwn (unless rows answer)
+  unless_own [] answer own h = h
+  unless_own ((true, rule) ∷ rows) answer own h = (refl, first_own (is_among rule rules) (are_own rows) own)
+  unless_own ((false, rule) ∷ rows) answer own h =
+      unless_own rows answer (and_true_right (is_among rule rules || true) (are_own rows) own) h
+
+  pub and_then_own : {A B : Type 0} (first : Result A Deny) (next : A → Result B Deny) → RefusesOwn first
+      → ((a : A) → RefusesOwn (next a))
+      → RefusesOwn (and_then first next)
+  and_then_own (Ok a) next own h = h a
+  and_then_own (Err deny) next own h = own
+
+  pub if_own : {A : Type 0} (test : Bool) (a b : Result A Deny) → RefusesOwn a → RefusesOwn b
+      → RefusesOwn (cond test a b)
+  if_own true a b h k = h
+  if_own false a b h k = k
+
+  module _ {N : Type 0} where
+    pub stopped_own : {A : Type 0} (steps : List (List N)) (result : Result A Deny) → RefusesOwn result
+        → StopsOwn (stopped_by steps result)
+    stopped_own steps (Ok a) own = tt
+    stopped_own steps (Err deny) own = own
+
+    pub walk_unless_own : {A : Type 0} (steps : List (List N)) (rows : Rules) (a : A) → are_own rows ≡ true
+        → StopsOwn (walk_unless steps rows a)
+    walk_unless_own steps rows a own = stopped_own steps (unless rows (Ok a)) (unless_own rows (Ok a) own tt)
+
+    pub then_walk_own : {A B : Type 0} (first : Result A (Stop N)) (next : A → Result B (Stop N)) → StopsOwn first
+        → ((a : A) → StopsOwn (next a)) → StopsOwn (then_walk first next)
+    then_walk_own (Ok a) next own h = h a
+    then_walk_own (Err stop) next own h = own
+
+    pub walk_end_own : {A : Type 0} (walk : Result A (Stop N)) → StopsOwn walk → RefusesOwn (walk_end walk)
+    walk_end_own (Ok a) own = tt
+    walk_end_own (Err stop) own = own
+
+    -- an outcome is refused by those rules alone, and leaves the world where it is
+    abbrev pub DeniesOwn : World N → Outcome N → Type 0
+    DeniesOwn world outcome = IfErr outcome.answer (λ deny. (outcome.world ≡ world) × IsOwn deny)
+
+    pub after_own : {A : Type 0} (world : World N) (first : Result A Deny) (next : A → Outcome N) → RefusesOwn first
+        → ((a : A) → DeniesOwn world (next a)) → DeniesOwn world (after world first next)
+    after_own world (Ok a) next own h = h a
+    after_own world (Err deny) next own h = (refl, own)
+
+    -- change numbers are raised where a call is granted alone
+    pub finished_own : (eq : N → N → Bool) (world : World N) (name : TaskName) (changed : List N) (looks : Bool)
+        (answer : Result Answer Deny) (left : World N)
+        → DeniesOwn world (record { answer = answer; world = left })
+        → DeniesOwn world (finished_by eq (looks || not (is_ok answer)) world name changed
+        (record { answer = answer; world = left }))
+    finished_own eq world name changed true answer left own = own
+    finished_own eq world name changed false (Ok a) left own = tt
+    finished_own eq world name changed false (Err deny) left own = own
+
+-- what leaves the world as it is
+module _ {N : Type 0} where
+  pub judged_keeps : (world : World N) (rules : Rules) (outcome : Outcome N) → outcome.world ≡ world
+      → (judged world rules outcome).world ≡ world
+  judged_keeps world [] outcome e = e
+  judged_keeps world ((true, rule) ∷ rows) outcome e = refl
+  judged_keeps world ((false, rule) ∷ rows) outcome e = judged_keeps world rows outcome e
+
+  pub after_keeps : {A : Type 0} (world : World N) (result : Result A Deny) (next : A → Outcome N)
+      → ((a : A) → (next a).world ≡ world)
+      → (after world result next).world ≡ world
+  after_keeps world (Ok a) next e = e a
+  after_keeps world (Err deny) next e = refl

@@ -1,0 +1,105 @@
+-- Change numbers, and the order of numbers beside trees, are not looked at.
+use Rattle.std.proofs.Common.{◌≡◌, refl, ap, subst, ◌∙◌, ℕ, nat_eq, Bool, true, false, cond, ◌||◌, ◌&&◌, List, [], ◌∷◌, ◌++◌, map, find, flat_map, Some, is_some, option_map, true≢false, sym}
+use Rattle.std.specs.Prelude.{unwrap_or}
+use Rattle.std.specs.List.{All, list_any}
+use Rattle.std.proofs.lemmas.List.Elements.{All-head, All-tail}
+use Rattle.vt_laws_rules.proofs.judged.LooksAlike.{alike_are_judged_alike}
+use Rattle.vt_laws_rules.proofs.same.SameLooks.{others_look_alike}
+use Rattle.vt_laws_rules.specs.Judged.{LookAlike}
+use Rattle.vt_laws_rules.specs.Same.{PlainHasOneName, SameWorldsAreJudgedAlike, SameWorldsLookAlike}
+use Rattle.vt_spec.specs.Machine.Detach.{going, has_child}
+use Rattle.vt_spec.specs.Lists.{is_among}
+use Rattle.vt_spec.specs.Machine.Looks.{looks_of}
+use Rattle.vt_spec.specs.Machine.SameWorlds.{without_changes}
+use Rattle.vt_spec.specs.Machine.World.{Filesystem, Task, World, is_overlay, locations_of, mount_numbered, no_filesystem}
+use Rattle.vt_spec.specs.Language.Calls.{TaskName, same_name}
+use Rattle.vt_laws_rules.proofs.judged.NumbersRaised.{bare_task}
+
+-- a world with all its change numbers at zero but those of filesystems
+abbrev pub bare : World ℕ → World ℕ
+bare world = record (without_changes world) { filesystems = world.filesystems }
+
+locations_bare : (tasks : List (Task ℕ)) → flat_map locations_of (map bare_task tasks) ≡ flat_map locations_of tasks
+locations_bare [] = refl
+locations_bare (task ∷ tasks) = ap (λ rest. locations_of task ++ rest) (locations_bare tasks)
+
+written_bare : (mount : ℕ) (tasks : List (Task ℕ))
+    → list_any (λ (task : Task ℕ). list_any
+    (λ descriptor. descriptor.writes && nat_eq mount descriptor.location.mount) task.descriptors)
+    (map bare_task tasks)
+    ≡ list_any (λ (task : Task ℕ). list_any
+    (λ descriptor. descriptor.writes && nat_eq mount descriptor.location.mount) task.descriptors)
+    tasks
+written_bare mount [] = refl
+written_bare mount (task ∷ tasks) =
+    ap (λ rest. list_any (λ descriptor. descriptor.writes && nat_eq mount descriptor.location.mount) task.descriptors
+    || rest)
+    (written_bare mount tasks)
+
+namespace_bare : (name : TaskName) (tasks : List (Task ℕ))
+    → option_map (λ (task : Task ℕ). task.namespace) (find (λ task. same_name name task.name) (map bare_task tasks))
+    ≡ option_map (λ (task : Task ℕ). task.namespace) (find (λ task. same_name name task.name) tasks)
+namespace_bare name [] = refl
+namespace_bare name (task ∷ tasks) = by (same_name name task.name) (namespace_bare name tasks)
+  where
+    by : (b : Bool)
+        → option_map (λ (task : Task ℕ). task.namespace) (find (λ task. same_name name task.name) (map bare_task tasks))
+        ≡ option_map (λ (task : Task ℕ). task.namespace) (find (λ task. same_name name task.name) tasks)
+        → option_map (λ (task : Task ℕ). task.namespace)
+        (cond b (Some (bare_task task)) (find (λ task. same_name name task.name) (map bare_task tasks)))
+        ≡ option_map (λ (task : Task ℕ). task.namespace)
+        (cond b (Some task) (find (λ task. same_name name task.name) tasks))
+    by true later = refl
+    by false later = later
+
+-- change numbers are not looked at
+bare_looks : (world : World ℕ) → looks_of nat_eq (bare world) ≡ looks_of nat_eq world
+bare_looks world = λ i. record (looks_of nat_eq world) {
+  namespace_called = λ name. namespace_bare name world.tasks i;
+  is_busy = λ mount.
+      has_child nat_eq world mount
+      || list_any (λ location. is_among nat_eq location.mount (going nat_eq world (mount_numbered nat_eq world mount)))
+      (locations_bare world.tasks i);
+  is_written_through = λ mount. written_bare mount world.tasks i;
+}
+
+pub same_worlds_look_alike : SameWorldsLookAlike
+same_worlds_look_alike one other same alone =
+    subst (λ looks. LookAlike looks (looks_of nat_eq other)) (bare_looks one)
+    (subst (LookAlike (looks_of nat_eq (bare one))) (ap (looks_of nat_eq) rest ∙ bare_looks other)
+    (others_look_alike (bare one) other.filesystems same.filesystems alone))
+  where
+    rest : record (bare one) { filesystems = other.filesystems } ≡ bare other
+    rest = λ i. record {
+      mounts = same.mounts i;
+      master = same.master i;
+      filesystems = other.filesystems;
+      namespaces = same.namespaces i;
+      tasks = same.tasks i;
+      change = 0;
+    }
+
+pub same_worlds_are_judged_alike : SameWorldsAreJudgedAlike
+same_worlds_are_judged_alike one other same alone overfills task call =
+    alike_are_judged_alike (looks_of nat_eq one) (looks_of nat_eq other) (same_worlds_look_alike one other same alone)
+    overfills task call
+
+plain_there : (number : ℕ) (list : List (Filesystem ℕ)) → All (λ filesystem. is_overlay filesystem ≡ false) list
+    → is_overlay (unwrap_or (find (λ filesystem. nat_eq number filesystem.number) list) (no_filesystem number)) ≡ false
+plain_there number [] all = refl
+plain_there number (filesystem ∷ list) all =
+    by (nat_eq number filesystem.number)
+    (plain_there number list (All-tail (λ filesystem. is_overlay filesystem ≡ false) filesystem list all))
+  where
+    by : (b : Bool)
+        → is_overlay (unwrap_or (find (λ filesystem. nat_eq number filesystem.number) list) (no_filesystem number))
+        ≡ false
+        → is_overlay
+        (unwrap_or (cond b (Some filesystem) (find (λ filesystem. nat_eq number filesystem.number) list))
+        (no_filesystem number)) ≡ false
+    by true later = All-head (λ filesystem. is_overlay filesystem ≡ false) filesystem list all
+    by false later = later
+
+pub plain_has_one_name : PlainHasOneName
+plain_has_one_name world plain number overlay is object one other below in_one in_other =
+    absurd (true≢false (sym (ap is_some is) ∙ plain_there number world.filesystems plain))

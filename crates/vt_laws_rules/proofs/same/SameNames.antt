@@ -1,0 +1,166 @@
+-- What lies only below in an overlay has one name in a world that has the invariants: its real object is of a path, and
+-- the names that lead to it are that path.
+use Rattle.std.proofs.Common.{◌≡◌, refl, sym, ap, subst, ◌∙◌, true≢false, eq-eqb, eqb-true, suc, zero, ℕ, nat_eq, Bool, true, false, cond, List, [], ◌∷◌, ◌++◌, map, find, reverse, Option, Some, None, is_some, option_map, unwrap_or}
+use Rattle.std.specs.List.{All}
+use Rattle.std.proofs.lemmas.Bool.{not-true}
+use Rattle.std.proofs.lemmas.List.{reverse-append, reverse-reverse}
+use Rattle.std.proofs.lemmas.List.Elements.{All-head, All-tail}
+use Rattle.vt_laws_rules.proofs.same.SameJudged.{same_worlds_look_alike}
+use Rattle.vt_laws_rules.proofs.same.SameMany.{same_worlds_judge_alike}
+use Rattle.vt_laws_rules.specs.Same.{SameInvariantWorldsJudgeAlike, SameInvariantWorldsLookAlike, WorldsHaveOneName}
+use Rattle.vt_spec.proofs.NodeChanges.{directory_from_entry, entry_from}
+use Rattle.vt_spec.proofs.Options.{cons-rest, none_is_some}
+use Rattle.vt_spec.proofs.Trees.{led-append, root_reached}
+use Rattle.vt_spec.proofs.Worlds.{nothing_is_no_object}
+use Rattle.vt_spec.specs.FileTree.{has_entry_to}
+use Rattle.vt_spec.specs.Lists.{then_some}
+use Rattle.vt_spec.specs.Machine.Filesystems.{lies_only_in_lowers}
+use Rattle.vt_spec.specs.Machine.Invariants.{IsMerged, SameObject, real_node, real_shown}
+use Rattle.vt_spec.specs.Machine.Layers.{shown}
+use Rattle.vt_spec.specs.Machine.Merging.{real_object}
+use Rattle.vt_spec.specs.Machine.Views.{Shown}
+use Rattle.vt_spec.specs.Machine.World.{Filesystem, Overlay, Real, World, filesystem_numbered, is_overlay, no_filesystem, open_layer, shown_layers, upper_object}
+use Rattle.vt_spec.specs.Machine.World.Real.{Lower, Upper}
+use Rattle.vt_spec.specs.Tree.{Tree, entry_named}
+use Rattle.vt_spec.specs.TreeInvariant.{IsReached, IsTree, entry_at, led}
+
+-- an overlay that is found is a filesystem of the world, so its tree is one
+tree_found : (number : ℕ) (list : List (Filesystem ℕ)) → All (λ filesystem. IsTree filesystem.files.tree) list
+    → is_overlay (unwrap_or (find (λ filesystem. nat_eq number filesystem.number) list) (no_filesystem number)) ≡ true
+    → IsTree (unwrap_or (find (λ filesystem. nat_eq number filesystem.number) list)
+    (no_filesystem number)).files.tree
+tree_found number [] all is = absurd (true≢false (sym is))
+tree_found number (filesystem ∷ list) all is =
+    by (nat_eq number filesystem.number) is
+    (tree_found number list (All-tail (λ filesystem. IsTree filesystem.files.tree) filesystem list all))
+  where
+    first_or : Bool → Filesystem ℕ
+    first_or b =
+        unwrap_or (cond b (Some filesystem) (find (λ filesystem. nat_eq number filesystem.number) list))
+        (no_filesystem number)
+
+    by : (b : Bool) → is_overlay (first_or b) ≡ true
+        → (is_overlay (first_or false) ≡ true → IsTree (first_or false).files.tree) → IsTree (first_or b).files.tree
+    by true is rest = All-head (λ filesystem. IsTree filesystem.files.tree) filesystem list all
+    by false is rest = rest is
+
+-- a directory that has an entry is not out of reach
+not_out_of_reach : (tree : Tree ℕ) → IsTree tree → (directory : ℕ) (name : List ℕ) (object : ℕ)
+    → entry_at tree directory name ≡ Some object → ¬ (¬ (IsReached tree directory))
+not_out_of_reach tree conditions directory name object e out =
+    let is = directory_from_entry name object (tree.node directory) e in
+    none_is_some object (sym (ap (entry_named name) (conditions.unnamed_empty directory is
+    (λ root. out (subst (IsReached tree) (sym root) (root_reached tree)))
+    (λ named. out (conditions.reached directory is named)))) ∙ e)
+
+-- where one name more leads, the names before it are told by all of them
+names_before : (one other : List (List ℕ)) (a b : List ℕ) → (one ++ a ∷ []) ≡ (other ++ b ∷ []) → one ≡ other
+names_before one other a b e =
+    sym (reverse-reverse one)
+    ∙ ap reverse (cons-rest a b (reverse one) (reverse other)
+    (sym (reverse-append one (a ∷ [])) ∙ ap reverse e ∙ reverse-append other (b ∷ [])))
+    ∙ reverse-reverse other
+
+-- the path of a real object that lies below
+abbrev path_or : List (List ℕ) → Option (Real ℕ) → List (List ℕ)
+path_or default None = default
+path_or default (Some (Upper object)) = default
+path_or default (Some (Lower layer path)) = path
+
+-- what lies below, and is there, lies below at the path where it is shown
+path_shown : (world : World ℕ) (overlay : Overlay ℕ) (path default : List (List ℕ))
+    → is_some (real_shown nat_eq world overlay path) ≡ true
+    → is_some (upper_object (real_shown nat_eq world overlay path)) ≡ false
+    → path_or default (real_shown nat_eq world overlay path) ≡ path
+path_shown world overlay path default =
+    by (is_some overlay.upper) (shown (map (open_layer nat_eq world) (shown_layers overlay)) path)
+  where
+    real_by : Bool → Option (Shown ℕ) → Option (Real ℕ)
+    real_by writable o =
+        option_map (λ object. real_object writable object.seen.layer object)
+        (option_map (λ seen. record { path = path; seen = seen }) o)
+
+    at : (writable : Bool) (layer object : ℕ)
+        → is_some (upper_object (real_by writable (Some (record { layer = layer; object = object })))) ≡ false
+        → path_or default (real_by writable (Some (record { layer = layer; object = object }))) ≡ path
+    at true zero object h = absurd (true≢false h)
+    at true (suc layer) object h = refl
+    at false layer object h = refl
+
+    by : (writable : Bool) (o : Option (Shown ℕ)) → is_some (real_by writable o) ≡ true
+        → is_some (upper_object (real_by writable o)) ≡ false → path_or default (real_by writable o) ≡ path
+    by writable None t h = absurd (true≢false (sym t))
+    by writable (Some seen) t h = at writable seen.layer seen.object h
+
+module _ (world : World ℕ) (filesystem : Filesystem ℕ) (overlay : Overlay ℕ)
+    (merged : IsMerged nat_eq world filesystem overlay) (conditions : IsTree filesystem.files.tree) where
+  abbrev tree : Tree ℕ
+  tree = filesystem.files.tree
+
+  -- what is there has a real object
+  real_there : (object : ℕ) → is_some (tree.node object) ≡ true → is_some (overlay.real object) ≡ true
+  real_there object there = by (overlay.real object) refl
+    where
+      by : (o : Option (Real ℕ)) → overlay.real object ≡ o → is_some o ≡ true
+      by (Some real) e = refl
+      by None e =
+          absurd (nothing_is_no_object (tree.node object) there
+          (subst (λ o. SameObject (tree.node object) (then_some o (real_node nat_eq world overlay))) e
+          (merged.real_objects object)))
+
+  -- so names that lead to what lies below are the path of its real object
+  path_of_names : (object : ℕ) (path : List (List ℕ)) → lies_only_in_lowers overlay object ≡ true
+      → is_some (tree.node object) ≡ true → led tree tree.root path ≡ Some object
+      → path_or [] (overlay.real object) ≡ path
+  path_of_names object path below there leads =
+      let same = merged.names path object leads in
+      ap (path_or []) same
+      ∙ path_shown world overlay path []
+      (sym (ap is_some same) ∙ real_there object there)
+      (sym (ap (λ o. is_some (upper_object o)) same) ∙ not-true (is_some (upper_object (overlay.real object))) below)
+
+  one_directory : (object one other : ℕ) → lies_only_in_lowers overlay object ≡ true
+      → has_entry_to nat_eq tree one object ≡ true → has_entry_to nat_eq tree other object ≡ true → one ≡ other
+  one_directory object one other below in_one in_other =
+      let first = entry_from tree conditions one object in_one in
+      let second = entry_from tree conditions other object in_other in
+      let there = conditions.alive one first.0 object first.1 in
+      by first.0 second.0 first.1 second.1 there (nat_eq one other) refl
+    where
+      reached_alike : (name again : List ℕ) → entry_at tree one name ≡ Some object
+          → entry_at tree other again ≡ Some object → is_some (tree.node object) ≡ true → IsReached tree one
+          → IsReached tree other → one ≡ other
+      reached_alike name again e f there way path =
+          let first = path_of_names object (way.0 ++ name ∷ []) below there
+          (led-append tree tree.root way.0 name one object way.1 e)
+          in
+          let second = path_of_names object (path.0 ++ again ∷ []) below there
+          (led-append tree tree.root path.0 again other object path.1 f)
+          in
+          let same = names_before way.0 path.0 name again (sym first ∙ second) in
+          ap unwrap_or_zero (sym way.1 ∙ ap (led tree tree.root) same ∙ path.1)
+        where
+          unwrap_or_zero : Option ℕ → ℕ
+          unwrap_or_zero o = unwrap_or o 0
+
+      by : (name again : List ℕ) → entry_at tree one name ≡ Some object → entry_at tree other again ≡ Some object
+          → is_some (tree.node object) ≡ true → (b : Bool) → nat_eq one other ≡ b → one ≡ other
+      by name again e f there true same = eqb-true one other same
+      by name again e f there false differ =
+          absurd (not_out_of_reach tree conditions one name object e (λ way.
+          not_out_of_reach tree conditions other again object f (λ path.
+          true≢false (sym (eq-eqb one other (reached_alike name again e f there way path)) ∙ differ))))
+
+pub worlds_have_one_name : WorldsHaveOneName
+worlds_have_one_name world invariants number overlay is object one other below in_one in_other =
+    one_directory world (filesystem_numbered nat_eq world number) overlay
+    (invariants.overlays.overlays_merge number overlay is)
+    (tree_found number world.filesystems invariants.files.trees (ap is_some is)) object one other below in_one in_other
+
+pub invariant_worlds_look_alike : SameInvariantWorldsLookAlike
+invariant_worlds_look_alike one other same invariants =
+    same_worlds_look_alike one other same (worlds_have_one_name one invariants)
+
+pub invariant_worlds_judge_alike : SameInvariantWorldsJudgeAlike
+invariant_worlds_judge_alike one other same invariants =
+    same_worlds_judge_alike one other same (worlds_have_one_name one invariants)

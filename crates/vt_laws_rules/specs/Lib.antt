@@ -1,0 +1,11 @@
+pub mod Asked
+pub mod Denials
+pub mod Given
+pub mod Granted
+pub mod Judged
+pub mod Numbers
+pub mod Plain
+pub mod Renaming
+pub mod RuleOrder
+pub mod RuleRanks
+pub mod Same

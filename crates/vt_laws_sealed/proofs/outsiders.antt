@@ -1,0 +1,27 @@
+-- What the proofs of src/outsiders.rt use.
+pub mod Attaching
+pub mod Binding
+pub mod ChangedWorlds
+pub mod Changing
+pub mod Closing
+pub mod CutTrees
+pub mod Ending
+pub mod Entering
+pub mod Filesystems
+pub mod FlagsSet
+pub mod Joining
+pub mod Masters
+pub mod Opening
+pub mod OtherMounts
+pub mod OwnTasks
+pub mod Pivoting
+pub mod Raising
+pub mod Refusals
+pub mod Regrouping
+pub mod Reshaping
+pub mod Retyping
+pub mod Standing
+pub mod Staying
+pub mod Sweeping
+pub mod TakingAway
+pub mod Unmounting

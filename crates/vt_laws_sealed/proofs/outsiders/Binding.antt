@@ -1,0 +1,161 @@
+-- Binds and new mounts of others: mount(2) with MS_BIND, and with MS_REC, and of a tmpfs.
+use Rattle.std.proofs.Common.{◌≡◌, refl, sym, ap, subst, ◌∙◌, inl, inr, ⊎_elim, ℕ, zero, suc, nat_eq, Bool, true, false, true≢false, List, [], ◌∷◌, ◌++◌, ◌*◌, ◌+◌, Some, Ok, filter, length, not}
+use Rattle.vt_spec.specs.Language.Calls.{Call, MountFlags, TaskName}
+use Rattle.vt_spec.specs.Lists.{Fresh, odds}
+use Rattle.vt_spec.specs.Machine.Apply.{apply, filesystems_changed}
+use Rattle.vt_spec.specs.Machine.Attach.{bind_tree, bindable_children, bindable_tree, bound, stands_under}
+use Rattle.vt_spec.specs.Machine.Judge.{judge_in}
+use Rattle.vt_spec.specs.Machine.Mounts.{Location, Mount, children, is_unbindable}
+use Rattle.vt_spec.specs.Machine.NewMounts.{new_mount, plain_filesystem}
+use Rattle.vt_spec.specs.Machine.Permits.{Permit}
+use Rattle.vt_spec.specs.Machine.Permits.Permit.{ToBind, ToMountPlain}
+use Rattle.vt_spec.specs.Machine.Sealed.{is_own_namespace}
+use Rattle.vt_spec.specs.Machine.Settled.{settled}
+use Rattle.vt_spec.specs.Machine.World.{Filesystem, Task, World, mount_at, task_called}
+use Rattle.vt_spec.proofs.Lists.{Among, among-from_filter, among-from_flat_map}
+use Rattle.vt_spec.proofs.Options.{none_is_some}
+use Rattle.vt_spec.proofs.Worlds.{found_or_none, number-mount_in}
+use Rattle.vt_laws_trees.specs.Trees.Calls.{mounts_overlay}
+use Rattle.vt_laws_rules.proofs.given.GivenPermits.{permits_are_for_their_calls}
+use Rattle.vt_laws_worlds.proofs.worlds.CallsKept.{name_found}
+use Rattle.vt_laws_worlds.proofs.worlds.FitPermitsNamed.{all_permits_fit}
+use Rattle.vt_laws_later_calls.specs.Ends.{sets_type, takes_uses}
+use Rattle.vt_laws_part.specs.Seals.{IsApart}
+use Rattle.vt_laws_part.proofs.seals.ByPart.{apart_if_sealed}
+use Rattle.vt_laws_sealed.specs.Outsiders.{IsOutsidersCall, LeaveASealedSet, binds, mounts_plain}
+use Rattle.vt_laws_sealed.proofs.outsiders.Attaching.{OriginOf, attaching_leaves_apart}
+use Rattle.vt_laws_sealed.proofs.outsiders.Filesystems.{larger_overlays, larger_sees}
+use Rattle.vt_laws_sealed.proofs.outsiders.OtherMounts.{IsIn, child_in, is_other, namespace_outside}
+use Rattle.vt_laws_sealed.proofs.outsiders.OwnTasks.{caller_outside, nothing_is_swept}
+use Rattle.vt_laws_sealed.proofs.outsiders.Refusals.{leaves_apart_itself}
+use Rattle.vt_laws_sealed.proofs.outsiders.Staying.{LeavesApart, by_permit}
+
+module _ (world : World ℕ) (names : List TaskName) (apart : IsApart world names) (namespace : ℕ)
+    (outside : is_own_namespace nat_eq world names namespace ≡ false) where
+  bindable_in : (parent : Mount ℕ) → IsIn world namespace parent → (child : Mount ℕ)
+      → Among child (bindable_children nat_eq world.mounts parent.number) → IsIn world namespace child
+  bindable_in parent is child m =
+      child_in world names apart namespace parent is child
+      (among-from_filter (λ (x : Mount ℕ). not (is_unbindable x.propagation))
+      (children nat_eq world.mounts parent.number) child m).0
+
+  tree_in : (fuel : ℕ) (mount : Mount ℕ) → IsIn world namespace mount → (x : Mount ℕ)
+      → Among x (bindable_tree nat_eq fuel world.mounts mount) → IsIn world namespace x
+  tree_in zero mount is x m = ⊎_elim (λ e. subst (IsIn world namespace) (sym e) is) (λ none. absurd none) m
+  tree_in (suc fuel) mount is x m =
+      ⊎_elim (λ e. subst (IsIn world namespace) (sym e) is)
+      (λ later.
+      let from = among-from_flat_map (bindable_tree nat_eq fuel world.mounts)
+      (bindable_children nat_eq world.mounts mount.number) x later in
+      tree_in fuel from.0 (bindable_in mount is from.0 from.1) x from.2) m
+
+  -- each mount that a bind copies is one of others
+  module _ (fresh : Fresh ℕ) (source : Location ℕ) (placed : (mount_at nat_eq world source).namespace ≡ Some namespace) where
+    source_in : IsIn world namespace (mount_at nat_eq world source)
+    source_in = (
+      ⊎_elim (λ m. m) (λ none. none_is_some namespace (sym (ap (λ (m : Mount ℕ). m.namespace) none) ∙ placed))
+          (found_or_none world.mounts source.mount),
+      placed,
+    )
+
+    of_bound : (origin : Mount ℕ) → origin ≡ bound nat_eq world source → OriginOf world fresh names origin
+    of_bound origin e =
+        inl (
+          mount_at nat_eq world source,
+          is_other world names apart namespace outside (mount_at nat_eq world source) source_in.0 placed,
+          ap (λ (x : Mount ℕ). x.propagation) e,
+          ap (λ (x : Mount ℕ). x.filesystem) e,
+        )
+
+    of_tree : (origin : Mount ℕ) → IsIn world namespace origin → OriginOf world fresh names origin
+    of_tree origin is = inl (origin, is_other world names apart namespace outside origin is.0 is.1, refl, refl)
+
+    pub bind_origins : (recursive : Bool) (origin : Mount ℕ) → Among origin (bind_tree nat_eq world source recursive)
+        → OriginOf world fresh names origin
+    bind_origins false origin m = ⊎_elim (of_bound origin) (λ none. absurd none) m
+    bind_origins true origin m =
+        ⊎_elim (of_bound origin)
+        (λ later.
+        let from = among-from_flat_map (bindable_tree nat_eq (length world.mounts) world.mounts)
+        (filter (stands_under nat_eq world source) (bindable_children nat_eq world.mounts source.mount)) origin later in
+        let child = (among-from_filter (stands_under nat_eq world source)
+        (bindable_children nat_eq world.mounts source.mount) from.0 from.1).0 in
+        of_tree origin (tree_in (length world.mounts) from.0
+        (bindable_in (mount_at nat_eq world source) source_in from.0
+        (subst (λ n. Among from.0 (bindable_children nat_eq world.mounts n))
+        (sym (number-mount_in world.mounts source.mount)) child)) origin from.2)) m
+
+bind_leaves : (world : World ℕ) (fresh : Fresh ℕ) (names : List TaskName) (name : TaskName) (call : Call)
+    (task : Task ℕ) → IsOutsidersCall world fresh names name call → task_called world name ≡ Some task
+    → (source place : Location ℕ) (recursive : Bool)
+    → judge_in nat_eq fresh world task call ≡ Ok (ToBind source place recursive)
+    → LeavesApart world (settled nat_eq (apply nat_eq fresh world task (ToBind source place recursive)).world) names []
+bind_leaves world fresh names name call task outsider called source place recursive judged =
+    let apart = apart_if_sealed world names outsider.is outsider.sealed_off in
+    let for = permits_are_for_their_calls fresh world task call (ToBind source place recursive) judged in
+    let named = (all_permits_fit world fresh task call (ToBind source place recursive) outsider.is outsider.serves
+    (ap (task_called world) (sym (name_found world name task called)) ∙ called)
+    (ap mounts_overlay for.2) judged).names in
+    let outside = namespace_outside world names apart task
+    (caller_outside world fresh names name call task outsider called) in
+    subst (λ w. LeavesApart world w names [])
+    (sym (nothing_is_swept world fresh names name call task (ToBind source place recursive) outsider called judged
+    (ap takes_uses for.2) (ap sets_type for.2) refl))
+    (attaching_leaves_apart world names apart fresh outsider.serves world.filesystems
+    (leaves_apart_itself world fresh names name call outsider).sees refl fresh (λ k. (k, refl)) place task.namespace
+    outside named.2.own (bind_tree nat_eq world source recursive)
+    (bind_origins world names apart task.namespace outside fresh source named.1 recursive))
+
+by_bind : (world : World ℕ) (fresh : Fresh ℕ) (names : List TaskName) (name : TaskName) (call : Call)
+    (task : Task ℕ) → IsOutsidersCall world fresh names name call → task_called world name ≡ Some task
+    → (permit : Permit ℕ) → judge_in nat_eq fresh world task call ≡ Ok permit → binds permit ≡ true
+    → LeavesApart world (settled nat_eq (apply nat_eq fresh world task permit).world) names
+    (filesystems_changed nat_eq world permit)
+by_bind world fresh names name call task outsider called (ToBind source place recursive) judged e =
+    bind_leaves world fresh names name call task outsider called source place recursive judged
+by_bind world fresh names name call task outsider called permit judged e = absurd (true≢false (sym e))
+
+pub binds_leave_a_sealed_set : LeaveASealedSet binds
+binds_leave_a_sealed_set =
+    by_permit binds (λ world fresh names name call task permit outsider called judged these.
+    by_bind world fresh names name call task outsider called permit judged these)
+
+-- A new mount: mount(2) of a tmpfs
+plain_leaves : (world : World ℕ) (fresh : Fresh ℕ) (names : List TaskName) (name : TaskName) (call : Call)
+    (task : Task ℕ) → IsOutsidersCall world fresh names name call → task_called world name ≡ Some task
+    → (place : Location ℕ) (flags : MountFlags)
+    → judge_in nat_eq fresh world task call ≡ Ok (ToMountPlain place flags)
+    → LeavesApart world (settled nat_eq (apply nat_eq fresh world task (ToMountPlain place flags)).world) names []
+plain_leaves world fresh names name call task outsider called place flags judged =
+    let apart = apart_if_sealed world names outsider.is outsider.sealed_off in
+    let for = permits_are_for_their_calls fresh world task call (ToMountPlain place flags) judged in
+    let named = (all_permits_fit world fresh task call (ToMountPlain place flags) outsider.is outsider.serves
+    (ap (task_called world) (sym (name_found world name task called)) ∙ called)
+    (ap mounts_overlay for.1) judged).names in
+    let outside = namespace_outside world names apart task
+    (caller_outside world fresh names name call task outsider called) in
+    let added : Filesystem ℕ = plain_filesystem nat_eq fresh in
+    subst (λ w. LeavesApart world w names [])
+    (sym (nothing_is_swept world fresh names name call task (ToMountPlain place flags) outsider called judged
+    (ap takes_uses for.1) (ap sets_type for.1) refl))
+    (attaching_leaves_apart world names apart fresh outsider.serves (world.filesystems ++ added ∷ [])
+    (larger_sees world names apart fresh outsider.serves added 0 refl refl)
+    (larger_overlays world names apart fresh outsider.serves added 0 refl refl) (odds fresh) (λ k. (2 * k + 1, refl)) place
+    task.namespace outside named.own (new_mount added.number added.files.tree.root flags ∷ [])
+    (λ origin m. ⊎_elim
+    (λ e. inr (ap (λ (x : Mount ℕ). x.propagation) e, 0, ap (λ (x : Mount ℕ). x.filesystem) e))
+    (λ none. absurd none) m))
+
+by_plain : (world : World ℕ) (fresh : Fresh ℕ) (names : List TaskName) (name : TaskName) (call : Call)
+    (task : Task ℕ) → IsOutsidersCall world fresh names name call → task_called world name ≡ Some task
+    → (permit : Permit ℕ) → judge_in nat_eq fresh world task call ≡ Ok permit → mounts_plain permit ≡ true
+    → LeavesApart world (settled nat_eq (apply nat_eq fresh world task permit).world) names
+    (filesystems_changed nat_eq world permit)
+by_plain world fresh names name call task outsider called (ToMountPlain place flags) judged e =
+    plain_leaves world fresh names name call task outsider called place flags judged
+by_plain world fresh names name call task outsider called permit judged e = absurd (true≢false (sym e))
+
+pub new_mounts_leave_a_sealed_set : LeaveASealedSet mounts_plain
+new_mounts_leave_a_sealed_set =
+    by_permit mounts_plain (λ world fresh names name call task permit outsider called judged these.
+    by_plain world fresh names name call task outsider called permit judged these)

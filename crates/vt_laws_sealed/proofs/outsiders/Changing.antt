@@ -1,0 +1,129 @@
+-- Mounts of others that change, and stay where they are.
+use Rattle.std.proofs.Common.{◌≡◌, refl, ap, ◌∙◌, ℕ, nat_eq, Bool, true, false, cond, List, [], ◌∷◌, Option, Some, find, map, not, ◌&&◌, ◌||◌}
+use Rattle.std.specs.Prelude.{unwrap_or}
+use Rattle.std.specs.List.{list_all, list_any}
+use Rattle.vt_spec.specs.Language.Calls.{TaskName}
+use Rattle.vt_spec.specs.Lists.{holds_of}
+use Rattle.vt_spec.specs.Machine.Mounts.{Location, Mount, mount_in, no_mount}
+use Rattle.vt_spec.specs.Machine.Receives.{is_member_of}
+use Rattle.vt_spec.specs.Machine.Sealed.{is_own_namespace, locations, members, no_outsider_on, other_mounts, outsiders, own_mounts, shares_no_events}
+use Rattle.vt_spec.specs.Machine.World.{World, mount_at}
+use Rattle.vt_spec.proofs.Lists.{Among}
+use Rattle.vt_laws_letting_go.proofs.Lists.{any-map, filter-map}
+use Rattle.vt_laws_part.specs.Parts.{SeesTheSame}
+use Rattle.vt_laws_part.specs.Seals.{IsApart}
+use Rattle.vt_laws_part.proofs.Kept.{filter_map_map, filter_map_same}
+use Rattle.vt_laws_part.proofs.part.PartOfPart.{is_own, keep}
+use Rattle.vt_laws_sealed.proofs.outsiders.Staying.{LeavesApart, free_from}
+
+-- Mounts of others may change in all but number, namespace and filesystem.
+pub record KeepsPlaces (change : Mount ℕ → Mount ℕ) : Type 0 where
+  pub number : (mount : Mount ℕ) → (change mount).number ≡ mount.number
+  pub namespace : (mount : Mount ℕ) → (change mount).namespace ≡ mount.namespace
+  pub filesystem : (mount : Mount ℕ) → (change mount).filesystem ≡ mount.filesystem
+
+module _ (world : World ℕ) (names : List TaskName) (apart : IsApart world names) (change : Mount ℕ → Mount ℕ)
+    (keeps : KeepsPlaces change)
+    (kept_same : (mount : Mount ℕ) → Among mount world.mounts
+    → keep world names (members world names) (change mount) ≡ keep world names (members world names) mount)
+    (master : ℕ → Option ℕ) where
+  abbrev pub left : World ℕ
+  left = record world { mounts = map change world.mounts; master = master }
+
+  abbrev kept : Mount ℕ → Option (Mount ℕ)
+  kept = keep world names (members world names)
+
+  own_kept : (mount : Mount ℕ)
+      → is_own world names (members world names) (change mount) ≡ is_own world names (members world names) mount
+  own_kept mount = ap (holds_of (is_own_namespace nat_eq world names)) (keeps.namespace mount)
+
+  pub own_changed : own_mounts nat_eq left names ≡ map change (own_mounts nat_eq world names)
+  own_changed = filter-map (is_own world names (members world names)) change world.mounts own_kept
+
+  pub others_changed : other_mounts nat_eq left names ≡ map change (other_mounts nat_eq world names)
+  others_changed =
+      filter-map (λ (mount : Mount ℕ). holds_of (λ n. not (is_own_namespace nat_eq world names n)) mount.namespace) change
+      world.mounts
+      (λ mount. ap (holds_of (λ n. not (is_own_namespace nat_eq world names n))) (keeps.namespace mount))
+
+  -- what is found is changed alike
+  found_in : {B : Type 0} (value : Mount ℕ → B) → ((mount : Mount ℕ) → value (change mount) ≡ value mount) → (number : ℕ)
+      → (list : List (Mount ℕ)) → value (mount_in nat_eq (map change list) number) ≡ value (mount_in nat_eq list number)
+  found_in value same number [] = refl
+  found_in {B} value same number (mount ∷ rest) =
+      ap (λ n. value (unwrap_or (cond (nat_eq number n) (Some (change mount))
+      (find (λ (m : Mount ℕ). nat_eq number m.number) (map change rest))) (no_mount number))) (keeps.number mount)
+      ∙ by (nat_eq number mount.number) (found_in value same number rest)
+    where
+      by : (b : Bool)
+          → value (mount_in nat_eq (map change rest) number) ≡ value (mount_in nat_eq rest number)
+          → value (unwrap_or (cond b (Some (change mount))
+          (find (λ (m : Mount ℕ). nat_eq number m.number) (map change rest))) (no_mount number))
+          ≡ value (unwrap_or (cond b (Some mount) (find (λ (m : Mount ℕ). nat_eq number m.number) rest))
+          (no_mount number))
+      by true later = same mount
+      by false later = later
+
+  shown_at : (location : Location ℕ)
+      → (mount_at nat_eq left location).filesystem ≡ (mount_at nat_eq world location).filesystem
+  shown_at location =
+      found_in (λ (mount : Mount ℕ). mount.filesystem) keeps.filesystem location.mount world.mounts
+
+  placed_at : (location : Location ℕ)
+      → (mount_at nat_eq left location).namespace ≡ (mount_at nat_eq world location).namespace
+  placed_at location = found_in (λ (mount : Mount ℕ). mount.namespace) keeps.namespace location.mount world.mounts
+
+  any_same : (p q : Location ℕ → Bool) → ((x : Location ℕ) → p x ≡ q x) → (list : List (Location ℕ))
+      → list_any p list ≡ list_any q list
+  any_same p q same [] = refl
+  any_same p q same (x ∷ rest) =
+      ap (λ b. b || list_any p rest) (same x) ∙ ap (λ b. q x || b) (any_same p q same rest)
+
+  all_same : (p q : Location ℕ → Bool) → ((x : Location ℕ) → p x ≡ q x) → (list : List (Location ℕ))
+      → list_all p list ≡ list_all q list
+  all_same p q same [] = refl
+  all_same p q same (x ∷ rest) =
+      ap (λ b. b && list_all p rest) (same x) ∙ ap (λ b. q x && b) (all_same p q same rest)
+
+  no_outsider_same : (number : ℕ) → no_outsider_on nat_eq left names number ≡ no_outsider_on nat_eq world names number
+  no_outsider_same number =
+      ap (λ b. not b && not (list_any (λ location. nat_eq number (mount_at nat_eq left location).filesystem)
+      (locations (outsiders world names))))
+      (ap (list_any (λ (mount : Mount ℕ). nat_eq number mount.filesystem)) others_changed
+      ∙ any-map (λ (mount : Mount ℕ). nat_eq number mount.filesystem) change (other_mounts nat_eq world names)
+      (λ mount. ap (nat_eq number) (keeps.filesystem mount)))
+      ∙ ap (λ b. not (list_any (λ (mount : Mount ℕ). nat_eq number mount.filesystem) (other_mounts nat_eq world names))
+      && not b)
+      (any_same (λ location. nat_eq number (mount_at nat_eq left location).filesystem)
+      (λ location. nat_eq number (mount_at nat_eq world location).filesystem)
+      (λ location. ap (nat_eq number) (shown_at location)) (locations (outsiders world names)))
+
+  pub sees : ((group : ℕ) → list_any (is_member_of nat_eq group) (own_mounts nat_eq world names) ≡ true
+      → master group ≡ world.master group) → SeesTheSame world left names
+  sees own_masters = record {
+    tasks = refl;
+    mounts = filter_map_map kept change world.mounts
+        ∙ filter_map_same (λ mount. kept (change mount)) kept world.mounts kept_same;
+    masters = own_masters;
+    direct = λ number m. refl;
+    filesystems = refl;
+    namespaces = refl;
+  }
+
+  pub changing_leaves_apart : ((group : ℕ) → list_any (is_member_of nat_eq group) (own_mounts nat_eq world names) ≡ true
+      → master group ≡ world.master group) → shares_no_events nat_eq left names ≡ true → LeavesApart world left names []
+  changing_leaves_apart own_masters events = record {
+    sees = sees own_masters;
+    others = record {
+      tasks = apart.tasks;
+      events = events;
+      locations =
+          all_same (λ location. not (holds_of (is_own_namespace nat_eq world names) (mount_at nat_eq left location).namespace))
+          (λ location. not (holds_of (is_own_namespace nat_eq world names) (mount_at nat_eq world location).namespace))
+          (λ location. ap (λ o. not (holds_of (is_own_namespace nat_eq world names) o)) (placed_at location))
+          (locations (outsiders world names))
+          ∙ apart.locations;
+      free = free_from world left names refl (λ number of free. no_outsider_same number ∙ free);
+    };
+    unraised = λ number m. refl;
+  }

@@ -1,0 +1,182 @@
+-- Namespaces of others that end with their last tasks: _exit(2).
+use Rattle.std.proofs.Common.{◌≡◌, refl, sym, ap, subst, ◌∙◌, ◌⊎◌, inl, inr, ⊎_elim, ℕ, nat_eq, Bool, true, false, cond, true≢false, List, [], Option, Some, None, Ok, filter, length, map, not, ◌&&◌, eq-eqb, eqb-true}
+use Rattle.std.specs.List.{list_any}
+use Rattle.std.proofs.lemmas.Bool.{and_from, false_from_ne_true, not-false}
+use Rattle.vt_spec.specs.Language.Calls.{Call, TaskName, same_name}
+use Rattle.vt_spec.specs.Lists.{Fresh, holds_of, is_among}
+use Rattle.vt_spec.specs.Machine.Apply.{apply, filesystems_changed}
+use Rattle.vt_spec.specs.Machine.Detach.{is_going}
+use Rattle.vt_spec.specs.Machine.Invariants.{is_listed}
+use Rattle.vt_spec.specs.Machine.Judge.{judge_in}
+use Rattle.vt_spec.specs.Machine.Mounts.{Location, Mount}
+use Rattle.vt_spec.specs.Machine.Namespaces.{has_tasks, is_in_ended, namespaces_ended}
+use Rattle.vt_spec.specs.Machine.Permits.{Permit}
+use Rattle.vt_spec.specs.Machine.Permits.Permit.{ToExit}
+use Rattle.vt_spec.specs.Machine.Run.{Serves}
+use Rattle.vt_spec.specs.Machine.Sealed.{is_member_task, is_own_namespace, locations, members, outsiders, sealed}
+use Rattle.vt_spec.specs.Machine.Settled.{settled}
+use Rattle.vt_spec.specs.Machine.World.{Namespace, Task, World, locations_of, mount_numbered, task_called}
+use Rattle.vt_spec.proofs.Lists.{Among, among-flat_map, among-filter, among-from_filter, among-from_flat_map, among-from_map, among_from_list_all, among_numbers, any_among, any_from_among}
+use Rattle.vt_spec.proofs.Found.{found_among}
+use Rattle.vt_spec.proofs.Worlds.{same_task_name}
+use Rattle.vt_laws_letting_go.proofs.Lists.{filter_less}
+use Rattle.vt_laws_mounts.proofs.mounts.MountsReplaced.{found_itself}
+use Rattle.vt_laws_worlds.proofs.worlds.CallsKept.{name_found}
+use Rattle.vt_laws_part.specs.Seals.{IsApart}
+use Rattle.vt_laws_part.proofs.seals.ByPart.{apart_if_sealed}
+use Rattle.vt_laws_sealed.specs.Outsiders.{IsOutsidersCall, LeaveASealedSet, ends_task}
+use Rattle.vt_laws_sealed.proofs.outsiders.ChangedWorlds.{OthersMove}
+use Rattle.vt_laws_sealed.proofs.outsiders.OtherMounts.{namespace_outside}
+use Rattle.vt_laws_sealed.proofs.outsiders.OwnTasks.{IsOutside}
+use Rattle.vt_laws_sealed.proofs.outsiders.Staying.{LeavesApart, by_permit}
+use Rattle.vt_laws_sealed.proofs.outsiders.TakingAway.{taking_leaves_apart}
+
+-- Other tasks, with the members as they were; then the namespaces without tasks end
+module _ (world : World ℕ) (names : List TaskName) (apart : IsApart world names) (sealed_off : sealed nat_eq world names ≡ true)
+    (fresh : Fresh ℕ) (serves : Serves nat_eq world fresh) (task : Task ℕ) (there : Among task world.tasks)
+    (tasks : List (Task ℕ)) (same : filter (is_member_task names) tasks ≡ members world names)
+    (outside : (t : Task ℕ) → Among t (filter (λ (x : Task ℕ). not (is_member_task names x)) tasks)
+    → is_own_namespace nat_eq world names t.namespace ≡ false)
+    (located : (location : Location ℕ)
+    → Among location (locations (filter (λ (x : Task ℕ). not (is_member_task names x)) tasks))
+    → IsOutside world names location) where
+  abbrev pub before : World ℕ
+  before = record world { tasks = tasks }
+
+  abbrev is_own : ℕ → Bool
+  is_own = is_own_namespace nat_eq world names
+
+  abbrev lives_on : ℕ → Bool
+  lives_on number =
+      list_any (λ (namespace : Namespace ℕ). nat_eq number namespace.number && has_tasks nat_eq before namespace)
+      world.namespaces
+
+  -- a namespace of theirs has tasks
+  own_has_tasks : (number : ℕ) → is_own number ≡ true → list_any (λ (t : Task ℕ). nat_eq number t.namespace) tasks ≡ true
+  own_has_tasks number own =
+      let member = any_among (λ (t : Task ℕ). nat_eq number t.namespace) (members world names) own in
+      any_from_among (λ (t : Task ℕ). nat_eq number t.namespace) tasks member.0
+      (among-from_filter (is_member_task names) tasks member.0 (subst (Among member.0) (sym same) member.1)).0 member.2
+
+  listed_at : (number : ℕ) → is_listed nat_eq world number ≡ true
+      → (namespace : Namespace ℕ) × Among namespace world.namespaces × (nat_eq number namespace.number ≡ true)
+  listed_at number h =
+      let at = any_among (nat_eq number) (map (λ (n : Namespace ℕ). n.number) world.namespaces) h in
+      let from = among-from_map (λ (n : Namespace ℕ). n.number) world.namespaces at.0 at.1 in
+      (from.0, from.1, ap (nat_eq number) (sym from.2) ∙ at.2)
+
+  own_lives : (number : ℕ) → is_own number ≡ true → lives_on number ≡ true
+  own_lives number own =
+      let member = any_among (λ (t : Task ℕ). nat_eq number t.namespace) (members world names) own in
+      let listed = listed_at member.0.namespace
+      (among_from_list_all (λ (t : Task ℕ). is_listed nat_eq world t.namespace) world.tasks
+      apart.is.namespaces.tasks_listed member.0
+      (among-from_filter (is_member_task names) world.tasks member.0 member.1).0) in
+      let found : nat_eq number listed.0.number ≡ true =
+      ap (λ k. nat_eq k listed.0.number) (eqb-true number member.0.namespace member.2) ∙ listed.2 in
+      any_from_among
+      (λ (namespace : Namespace ℕ). nat_eq number namespace.number && has_tasks nat_eq before namespace)
+      world.namespaces listed.0 listed.1
+      (and_from (nat_eq number listed.0.number) (has_tasks nat_eq before listed.0) found
+      (own_has_tasks listed.0.number (ap is_own (sym (eqb-true number listed.0.number found)) ∙ own)))
+
+  -- mounts that go
+  abbrev ends : Mount ℕ → Bool
+  ends = is_in_ended nat_eq before
+
+  abbrev gone : List ℕ
+  gone = map (λ (mount : Mount ℕ). mount.number) (filter ends world.mounts)
+
+  ended_if_going : (number : ℕ) → is_going nat_eq gone number ≡ true → ends (mount_numbered nat_eq world number) ≡ true
+  ended_if_going number h =
+      let from = among-from_map (λ (mount : Mount ℕ). mount.number) (filter ends world.mounts) number
+      (among_numbers gone number h) in
+      let at = among-from_filter ends world.mounts from.0 from.1 in
+      ap ends (ap (mount_numbered nat_eq world) from.2
+      ∙ found_itself world.mounts apart.is.mounts.one_number from.0 at.0) ∙ at.1
+
+  others_go : (number : ℕ) → is_going nat_eq gone number ≡ true
+      → (namespace : ℕ) × ((mount_numbered nat_eq world number).namespace ≡ Some namespace)
+      × (is_own namespace ≡ false)
+  others_go number h = by (mount_numbered nat_eq world number).namespace refl (ended_if_going number h)
+    where
+      by : (o : Option ℕ) → (mount_numbered nat_eq world number).namespace ≡ o
+          → holds_of (λ n. not (lives_on n)) o ≡ true
+          → (namespace : ℕ) × ((mount_numbered nat_eq world number).namespace ≡ Some namespace)
+          × (is_own namespace ≡ false)
+      by None e ended = absurd (true≢false (sym ended))
+      by (Some n) e ended = (
+        n,
+        e,
+        false_from_ne_true (is_own n) (λ own.
+            true≢false (sym ended ∙ ap not (own_lives n own))),
+      )
+
+  abbrev namespaces_left : List (Namespace ℕ)
+  namespaces_left = filter (has_tasks nat_eq before) world.namespaces
+
+  moved : OthersMove world names tasks namespaces_left
+  moved = record {
+    members = same;
+    outside = outside;
+    located = located;
+    listed = filter_less (λ (n : Namespace ℕ). is_own n.number) (has_tasks nat_eq before) world.namespaces
+        (λ n m ended. false_from_ne_true (is_own n.number) (λ own.
+        true≢false (sym (own_has_tasks n.number own) ∙ ended)));
+  }
+
+  pub ending_leaves_apart : LeavesApart world (settled nat_eq (namespaces_ended nat_eq before)) names []
+  ending_leaves_apart =
+      taking_leaves_apart world names apart sealed_off fresh serves task there tasks namespaces_left moved gone others_go
+
+-- _exit(2)
+module _ (world : World ℕ) (fresh : Fresh ℕ) (names : List TaskName) (name : TaskName) (call : Call)
+    (task : Task ℕ) (outsider : IsOutsidersCall world fresh names name call)
+    (called : task_called world name ≡ Some task) where
+  set_apart : IsApart world names
+  set_apart = apart_if_sealed world names outsider.is outsider.sealed_off
+
+  abbrev others : List (Task ℕ)
+  others = filter (λ (t : Task ℕ). not (same_name task.name t.name)) world.tasks
+
+  members_there : filter (is_member_task names) others ≡ members world names
+  members_there =
+      filter_less (is_member_task names) (λ (t : Task ℕ). not (same_name task.name t.name)) world.tasks
+      (λ t m gone. ap (λ n. is_among same_name n names)
+      (sym (same_task_name task.name t.name (not-false (same_name task.name t.name) gone))
+      ∙ sym (name_found world name task called))
+      ∙ outsider.outside)
+
+  out_before : (t : Task ℕ) → Among t (filter (λ (x : Task ℕ). not (is_member_task names x)) others)
+      → Among t (outsiders world names)
+  out_before t m =
+      let out = among-from_filter (λ (x : Task ℕ). not (is_member_task names x)) others t m in
+      among-filter (λ (x : Task ℕ). not (is_member_task names x)) world.tasks t
+      (among-from_filter (λ (x : Task ℕ). not (same_name task.name x.name)) world.tasks t out.0).0 out.1
+
+  exit_leaves : LeavesApart world (settled nat_eq (apply nat_eq fresh world task ToExit).world) names []
+  exit_leaves =
+      ending_leaves_apart world names set_apart outsider.sealed_off fresh outsider.serves task
+      (found_among (λ (t : Task ℕ). same_name name t.name) world.tasks task called) others members_there
+      (λ t m. namespace_outside world names set_apart t (out_before t m))
+      (λ location m.
+      let of = among-from_flat_map locations_of (filter (λ (x : Task ℕ). not (is_member_task names x)) others) location m in
+      inl (
+        location,
+        among-flat_map locations_of (outsiders world names) of.0 location (out_before of.0 of.1) of.2,
+        refl,
+      ))
+
+by_exit : (world : World ℕ) (fresh : Fresh ℕ) (names : List TaskName) (name : TaskName) (call : Call)
+    (task : Task ℕ) → IsOutsidersCall world fresh names name call → task_called world name ≡ Some task
+    → (permit : Permit ℕ) → judge_in nat_eq fresh world task call ≡ Ok permit → ends_task permit ≡ true
+    → LeavesApart world (settled nat_eq (apply nat_eq fresh world task permit).world) names
+    (filesystems_changed nat_eq world permit)
+by_exit world fresh names name call task outsider called ToExit judged e =
+    exit_leaves world fresh names name call task outsider called
+by_exit world fresh names name call task outsider called permit judged e = absurd (true≢false (sym e))
+
+pub exits_leave_a_sealed_set : LeaveASealedSet ends_task
+exits_leave_a_sealed_set =
+    by_permit ends_task (λ world fresh names name call task permit outsider called judged these.
+    by_exit world fresh names name call task outsider called permit judged these)

@@ -1,0 +1,155 @@
+-- Others that enter other namespaces: setns(2).
+use Rattle.std.proofs.Common.{◌≡◌, refl, sym, ap, subst, ◌∙◌, ◌⊎◌, inl, inr, ⊎_elim, ℕ, nat_eq, Bool, true, false, cond, true≢false, List, [], Option, Some, None, Ok, filter, is_some, map, not, eqb-true}
+use Rattle.std.specs.Prelude.{ok_or, option_map, unwrap_or}
+use Rattle.vt_spec.specs.declared.errors.Rule.TheVariants.{S2}
+use Rattle.vt_spec.specs.Errors.{denial}
+use Rattle.vt_spec.specs.Language.Calls.{Call, TaskName, same_name}
+use Rattle.vt_spec.specs.Lists.{Fresh, holds_of, is_among}
+use Rattle.vt_spec.specs.Machine.Apply.{apply, filesystems_changed, overfills}
+use Rattle.vt_spec.specs.Machine.Judge.{judge_in}
+use Rattle.vt_spec.specs.Machine.Looks.{looks_of}
+use Rattle.vt_spec.specs.Machine.Mounts.{Location, Mount, root_of, topmost}
+use Rattle.vt_spec.specs.Machine.Namespaces.{entered_at, namespace_root}
+use Rattle.vt_spec.specs.Machine.Permits.{Permit}
+use Rattle.vt_spec.specs.Machine.Permits.Permit.{ToEnterNamespace}
+use Rattle.vt_spec.specs.Machine.Sealed.{is_member_task, is_own_namespace, outsiders}
+use Rattle.vt_spec.specs.Machine.Settled.{settled}
+use Rattle.vt_spec.specs.Machine.World.{Task, World, locations_of, mounts_of, replaced_if_called, root_mount, task_called}
+use Rattle.vt_spec.proofs.Found.{found_among}
+use Rattle.vt_spec.proofs.Lists.{Among, among-filter, among-flat_map, among-from_filter, among-from_flat_map, among-from_map}
+use Rattle.vt_laws_mounts.proofs.mounts.MountsReplaced.{found_itself}
+use Rattle.vt_laws_rules.proofs.given.Inversion.{calls_are_granted}
+use Rattle.vt_laws_rules.specs.Granted.{IsGranted}
+use Rattle.vt_laws_rules.specs.Granted.IsGranted.{enters_namespace}
+use Rattle.vt_laws_worlds.proofs.worlds.CallsKept.{name_found}
+use Rattle.vt_laws_sealed.specs.Outsiders.{IsOutsidersCall, LeaveASealedSet, enters_namespaces}
+use Rattle.vt_laws_sealed.proofs.outsiders.Ending.{ending_leaves_apart}
+use Rattle.vt_laws_sealed.proofs.outsiders.Entering.{apart, ground_of_others, old_outside, task_there}
+use Rattle.vt_laws_sealed.proofs.outsiders.OtherMounts.{namespace_outside}
+use Rattle.vt_laws_sealed.proofs.outsiders.OwnTasks.{IsOutside, replaced_members}
+use Rattle.vt_laws_sealed.proofs.outsiders.Standing.{topmost_ground}
+use Rattle.vt_laws_sealed.proofs.outsiders.Staying.{LeavesApart, by_permit}
+
+module _ (world : World ℕ) (fresh : Fresh ℕ) (names : List TaskName) (name : TaskName) (call : Call)
+    (task : Task ℕ) (outsider : IsOutsidersCall world fresh names name call)
+    (called : task_called world name ≡ Some task) (namespace : ℕ)
+    (judged : judge_in nat_eq fresh world task call ≡ Ok (ToEnterNamespace namespace)) where
+  -- the task whose namespace it is
+  abbrev Host : Type 0
+  Host = (host : Task ℕ) × Among host (outsiders world names) × (host.namespace ≡ namespace)
+
+  host_of : (asked : Call) (permit : Permit ℕ)
+      → IsGranted nat_eq (looks_of nat_eq world) (overfills nat_eq fresh world task) task asked permit
+      → call ≡ asked → permit ≡ ToEnterNamespace namespace → Host
+  host_of asked permit (enters_namespace host_name found ended may) e p = by (task_called world host_name) refl ended
+    where
+      by : (o : Option (Task ℕ)) → task_called world host_name ≡ o
+          → ok_or (option_map (λ (t : Task ℕ). t.namespace) o) (denial S2) ≡ Ok found → Host
+      by None g h = absurd cc
+      by (Some host) g h =
+          let same : found ≡ namespace = cc in
+          let is : host.namespace ≡ found = cc in (
+            host,
+            among-filter (λ (t : Task ℕ). not (is_member_task names t)) world.tasks host
+                (found_among (λ (t : Task ℕ). same_name host_name t.name) world.tasks host g)
+                (ap not (ap (λ n. is_among same_name n names) (sym (name_found world host_name host g))
+                ∙ outsider.apart host_name e)),
+            is ∙ same,
+          )
+  host_of asked permit granted e p = absurd cc
+
+  host : Host
+  host =
+      host_of call (ToEnterNamespace namespace)
+      (calls_are_granted nat_eq (looks_of nat_eq world) (overfills nat_eq fresh world task) task call
+      (ToEnterNamespace namespace) judged) refl refl
+
+  host_there : Among host.0 world.tasks
+  host_there =
+      (among-from_filter (λ (t : Task ℕ). not (is_member_task names t)) world.tasks host.0 host.1).0
+
+  namespace_of_others : is_own_namespace nat_eq world names namespace ≡ false
+  namespace_of_others =
+      ap (is_own_namespace nat_eq world names) (sym host.2)
+      ∙ namespace_outside world names (apart world fresh names name call task outsider called) host.0 host.1
+
+  -- its root
+  root_outside : (o : Option (Mount ℕ)) → root_mount nat_eq world namespace ≡ o
+      → IsOutside world names
+      (unwrap_or (option_map (λ mount. topmost nat_eq world.mounts (root_of mount)) o) task.root)
+  root_outside None e = old_outside world fresh names name call task outsider called task.root (inl refl)
+  root_outside (Some mount) e =
+      let there = among-from_filter (λ (m : Mount ℕ). holds_of (nat_eq namespace) m.namespace) world.mounts mount
+      (found_among (λ (m : Mount ℕ). not (is_some m.mount_point)) (mounts_of nat_eq world namespace) mount e) in
+      ground_of_others world names (apart world fresh names name call task outsider called) host.0 host.1 host_there
+      (topmost nat_eq world.mounts (root_of mount))
+      (topmost_ground world outsider.is host.0 host_there (root_of mount)
+      (inl (ap (λ (m : Mount ℕ). m.namespace) (found_itself world.mounts outsider.is.mounts.one_number mount there.0)
+      ∙ placed mount.namespace there.1 ∙ ap Some (sym host.2))))
+    where
+      placed : (o : Option ℕ) → holds_of (nat_eq namespace) o ≡ true → o ≡ Some namespace
+      placed None h = absurd (true≢false (sym h))
+      placed (Some n) h = ap Some (sym (eqb-true namespace n h))
+
+  abbrev joined : Task ℕ
+  joined = entered_at task namespace (unwrap_or (namespace_root nat_eq world namespace) task.root)
+
+  abbrev tasks_left : List (Task ℕ)
+  tasks_left = map (replaced_if_called joined) world.tasks
+
+  joined_or_other : (t : Task ℕ) → Among t (filter (λ (x : Task ℕ). not (is_member_task names x)) tasks_left)
+      → (t ≡ joined) ⊎ Among t (outsiders world names)
+  joined_or_other t m =
+      let out = among-from_filter (λ (x : Task ℕ). not (is_member_task names x)) tasks_left t m in
+      let at = among-from_map (replaced_if_called joined) world.tasks t out.0 in
+      by at.0 at.1 at.2 out.1 (same_name joined.name at.0.name) refl
+    where
+      by : (old : Task ℕ) → Among old world.tasks → t ≡ replaced_if_called joined old
+          → not (is_member_task names t) ≡ true → (b : Bool) → same_name joined.name old.name ≡ b
+          → (t ≡ joined) ⊎ Among t (outsiders world names)
+      by old there e out true f = inl (e ∙ ap (λ b. cond b joined old) f)
+      by old there e out false f =
+          let it : t ≡ old = e ∙ ap (λ b. cond b joined old) f in
+          inr (subst (λ x. Among x (outsiders world names)) (sym it)
+          (among-filter (λ (x : Task ℕ). not (is_member_task names x)) world.tasks old there
+          (ap (λ x. not (is_member_task names x)) (sym it) ∙ out)))
+
+  at_root : IsOutside world names joined.root
+  at_root = root_outside (root_mount nat_eq world namespace) refl
+
+  joined_outside : (location : Location ℕ) → Among location (locations_of joined) → IsOutside world names location
+  joined_outside location m =
+      ⊎_elim (λ root. subst (IsOutside world names) (sym root) at_root)
+      (λ rest. ⊎_elim (λ directory. subst (IsOutside world names) (sym directory) at_root)
+      (λ open_ones. old_outside world fresh names name call task outsider called location (inr (inr open_ones))) rest) m
+
+  join_leaves : LeavesApart world (settled nat_eq (apply nat_eq fresh world task (ToEnterNamespace namespace)).world) names
+      []
+  join_leaves =
+      ending_leaves_apart world names (apart world fresh names name call task outsider called) outsider.sealed_off fresh
+      outsider.serves task (task_there world fresh names name call task outsider called) tasks_left
+      (replaced_members world fresh names name call task outsider called joined refl)
+      (λ t m. ⊎_elim
+      (λ new. ap (λ (x : Task ℕ). is_own_namespace nat_eq world names x.namespace) new ∙ namespace_of_others)
+      (namespace_outside world names (apart world fresh names name call task outsider called) t) (joined_or_other t m))
+      (λ location m.
+      let of = among-from_flat_map locations_of (filter (λ (x : Task ℕ). not (is_member_task names x)) tasks_left)
+      location m in
+      ⊎_elim
+      (λ new. joined_outside location (subst (λ (x : Task ℕ). Among location (locations_of x)) new of.2))
+      (λ old. inl (location, among-flat_map locations_of (outsiders world names) of.0 location old of.2, refl))
+      (joined_or_other of.0 of.1))
+
+by_join : (world : World ℕ) (fresh : Fresh ℕ) (names : List TaskName) (name : TaskName) (call : Call)
+    (task : Task ℕ) → IsOutsidersCall world fresh names name call → task_called world name ≡ Some task
+    → (permit : Permit ℕ) → judge_in nat_eq fresh world task call ≡ Ok permit → enters_namespaces permit ≡ true
+    → LeavesApart world (settled nat_eq (apply nat_eq fresh world task permit).world) names
+    (filesystems_changed nat_eq world permit)
+by_join world fresh names name call task outsider called (ToEnterNamespace namespace) judged e =
+    join_leaves world fresh names name call task outsider called namespace judged
+by_join world fresh names name call task outsider called permit judged e = absurd (true≢false (sym e))
+
+pub joins_leave_a_sealed_set : LeaveASealedSet enters_namespaces
+joins_leave_a_sealed_set =
+    by_permit enters_namespaces (λ world fresh names name call task permit outsider called judged these.
+    by_join world fresh names name call task outsider called permit judged these)

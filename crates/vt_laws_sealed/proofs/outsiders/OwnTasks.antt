@@ -1,0 +1,342 @@
+-- Calls of others that set something of the task alone, or give it a child.
+use Rattle.std.proofs.Common.{◌≡◌, refl, sym, ap, subst, ◌∙◌, ◌⊎◌, inl, inr, ⊎_elim, ℕ, nat_eq, Bool, true, false, cond, true≢false, List, [], ◌∷◌, ◌++◌, ◌+◌, append-nil, Option, Some, None, Ok, filter, is_some, map, not, ◌&&◌, ◌||◌, arith}
+use Rattle.std.specs.List.{filter_map, list_all, list_any}
+use Rattle.std.proofs.lemmas.Bool.{and_from, and_parts, false_from_ne_true, not-true}
+use Rattle.std.proofs.lemmas.List.Elements.{filter-append}
+use Rattle.vt_spec.specs.Language.Calls.{Call, TaskName, same_name}
+use Rattle.vt_spec.specs.Language.Calls.Call.{Drop, Fork, Umask}
+use Rattle.vt_spec.specs.Lists.{Fresh, holds_of, is_among}
+use Rattle.vt_spec.specs.Machine.Apply.{apply, filesystems_changed}
+use Rattle.vt_spec.specs.Machine.Judge.{judge_in}
+use Rattle.vt_spec.specs.Machine.Looks.{looks_of}
+use Rattle.vt_spec.specs.Machine.Mounts.{Location, Mount}
+use Rattle.vt_spec.specs.Machine.Tasks.{child_name, child_of}
+use Rattle.vt_spec.specs.Machine.Outcomes.{Outcome, after}
+use Rattle.vt_spec.specs.Machine.Permits.{Permit}
+use Rattle.vt_spec.specs.Machine.Permits.Permit.{ToFork, ToSetCredentials, ToSetUmask}
+use Rattle.vt_spec.specs.Machine.Policy.{call_outcome}
+use Rattle.vt_spec.specs.Machine.Sealed.{is_member_task, is_own_mount, locations, members, no_outsider_on, other_mounts, outsiders, share_events}
+use Rattle.vt_spec.specs.Machine.Settled.{settled}
+use Rattle.vt_spec.specs.Machine.World.{Namespace, Task, World, locations_of, mount_at, mount_numbered, replaced_if_called, task_called}
+use Rattle.vt_spec.proofs.Found.{found_among}
+use Rattle.vt_spec.proofs.Lists.{Among, among-append, among-filter, among-flat_map, among-from_filter, among-from_flat_map, among-from_map, among_from_list_all, any_among, contains_from_among, list_all_from_among, map_same, none_among, none_from_among}
+use Rattle.vt_spec.proofs.Options.{some_from_is_some}
+use Rattle.vt_spec.proofs.Worlds.{name-replaced_if_called, same_task_name}
+use Rattle.vt_laws_letting_go.proofs.Lists.{filter-map}
+use Rattle.vt_laws_rules.proofs.judged.CallsJudged.{call_is_judged_then_applied}
+use Rattle.vt_laws_rules.proofs.given.GivenPermits.{permits_are_for_their_calls}
+use Rattle.vt_laws_rules.specs.Given.{IsFor}
+use Rattle.vt_laws_overlay_permits.specs.Asked.{change_asked}
+use Rattle.vt_laws_worlds.proofs.worlds.CallsKept.{name_found}
+use Rattle.vt_laws_later_calls.proofs.ends.EndedBy.{other_calls_keep_all}
+use Rattle.vt_laws_later_calls.specs.Ends.{sets_type, takes_uses}
+use Rattle.vt_laws_later_calls.specs.Whiteouts.{replaced_as, replaced_if}
+use Rattle.vt_laws_part.proofs.part.PartOfPart.{keep}
+use Rattle.vt_laws_part.specs.Seals.{IsApart}
+use Rattle.vt_laws_part.proofs.seals.ByPart.{apart_if_sealed}
+use Rattle.vt_laws_sealed.specs.Outsiders.{IsOutsidersCall, LeaveASealedSet, sets_own_task}
+use Rattle.vt_laws_sealed.proofs.outsiders.Staying.{LeavesApart, by_permit, free_from}
+
+-- The sweep takes nothing at the end of a call that takes no use away and asks for no change.
+pub nothing_is_swept : (world : World ℕ) (fresh : Fresh ℕ) (names : List TaskName) (name : TaskName) (call : Call)
+    (task : Task ℕ) (permit : Permit ℕ) → IsOutsidersCall world fresh names name call
+    → task_called world name ≡ Some task → judge_in nat_eq fresh world task call ≡ Ok permit
+    → takes_uses call ≡ false → sets_type call ≡ false → change_asked fresh world permit ≡ None
+    → settled nat_eq (apply nat_eq fresh world task permit).world ≡ (apply nat_eq fresh world task permit).world
+nothing_is_swept world fresh names name call task permit outsider called judged only no_type none =
+    let left : (call_outcome nat_eq fresh world task call).world ≡ (apply nat_eq fresh world task permit).world =
+    ap (λ (o : Outcome ℕ). o.world) (call_is_judged_then_applied fresh world task call
+    ∙ ap (λ j. after world j (apply nat_eq fresh world task)) judged) in
+    subst (λ w. settled nat_eq w ≡ w) left
+    (other_calls_keep_all world fresh task call outsider.is outsider.serves
+    (ap (task_called world) (sym (name_found world name task called)) ∙ called) only no_type
+    (ap (replaced_as fresh world) judged ∙ ap (replaced_if world) none))
+
+-- the caller is one of the others
+pub caller_outside : (world : World ℕ) (fresh : Fresh ℕ) (names : List TaskName) (name : TaskName) (call : Call)
+    (task : Task ℕ) → IsOutsidersCall world fresh names name call → task_called world name ≡ Some task
+    → Among task (outsiders world names)
+caller_outside world fresh names name call task outsider called =
+    among-filter (λ (t : Task ℕ). not (is_member_task names t)) world.tasks task
+    (found_among (λ (t : Task ℕ). same_name name t.name) world.tasks task called)
+    (ap not (ap (λ n. is_among same_name n names) (sym (name_found world name task called)) ∙ outsider.outside))
+
+-- a location is on a mount on which one of the others was, or on a mount of another namespace
+abbrev pub IsOutside : World ℕ → List TaskName → Location ℕ → Type 0
+IsOutside world names location =
+    ((old : Location ℕ) × Among old (locations (outsiders world names)) × (location.mount ≡ old.mount))
+    ⊎ Among (mount_at nat_eq world location) (other_mounts nat_eq world names)
+
+-- so are those of the caller
+pub callers_outside : (world : World ℕ) (fresh : Fresh ℕ) (names : List TaskName) (name : TaskName) (call : Call)
+    (task : Task ℕ) → IsOutsidersCall world fresh names name call → task_called world name ≡ Some task
+    → (location : Location ℕ) → Among location (locations_of task) → IsOutside world names location
+callers_outside world fresh names name call task outsider called location m =
+    inl (
+      location,
+      among-flat_map locations_of (outsiders world names) task location
+          (caller_outside world fresh names name call task outsider called) m,
+      refl,
+    )
+
+-- Other tasks, with the members as they were: each task of others is where one of others was
+module _ (world : World ℕ) (names : List TaskName) (apart : IsApart world names) (tasks : List (Task ℕ))
+    (same : filter (is_member_task names) tasks ≡ members world names)
+    (from : (task : Task ℕ) → Among task tasks → is_member_task names task ≡ false
+    → (old : Task ℕ) × Among old (outsiders world names) × (task.namespace ≡ old.namespace)
+    × ((location : Location ℕ) → Among location (locations_of task) → IsOutside world names location)) where
+  abbrev left : World ℕ
+  left = record world { tasks = tasks }
+
+  -- so are the locations of others
+  out_there : (location : Location ℕ) → Among location (locations (outsiders left names))
+      → IsOutside world names location
+  out_there location m =
+      let of = among-from_flat_map locations_of (outsiders left names) location m in
+      let out = among-from_filter (λ (t : Task ℕ). not (is_member_task names t)) tasks of.0 of.1 in
+      (from of.0 out.0 (not-true (is_member_task names of.0) out.1)).3 location of.2
+
+  abbrev own_by : List (Task ℕ) → ℕ → Bool
+  own_by some namespace = list_any (λ (task : Task ℕ). nat_eq namespace task.namespace) some
+
+  abbrev others_by : List (Task ℕ) → List (Mount ℕ)
+  others_by some =
+      filter (λ (mount : Mount ℕ). holds_of (λ namespace. not (own_by some namespace)) mount.namespace) world.mounts
+
+  fewer : (number : ℕ) → no_outsider_on nat_eq world names number ≡ true
+      → no_outsider_on nat_eq left names number ≡ true
+  fewer number alone =
+      let parts = and_parts (not (list_any (λ (mount : Mount ℕ). nat_eq number mount.filesystem)
+      (other_mounts nat_eq world names)))
+      (not (list_any (λ location. nat_eq number (mount_at nat_eq world location).filesystem)
+      (locations (outsiders world names)))) alone in
+      and_from (not (list_any (λ (mount : Mount ℕ). nat_eq number mount.filesystem) (other_mounts nat_eq left names)))
+      (not (list_any (λ location. nat_eq number (mount_at nat_eq left location).filesystem)
+      (locations (outsiders left names))))
+      (ap (λ some. not (list_any (λ (mount : Mount ℕ). nat_eq number mount.filesystem) (others_by some))) same ∙ parts.0)
+      (ap not (none_from_among (λ location. nat_eq number (mount_at nat_eq world location).filesystem)
+      (locations (outsiders left names))
+      (λ location m. ⊎_elim
+      (λ old. ap (λ n. nat_eq number (mount_numbered nat_eq world n).filesystem) old.2
+      ∙ none_among (λ place. nat_eq number (mount_at nat_eq world place).filesystem)
+      (locations (outsiders world names)) (not-true _ parts.1) old.0 old.1)
+      (none_among (λ (mount : Mount ℕ). nat_eq number mount.filesystem) (other_mounts nat_eq world names)
+      (not-true _ parts.0) (mount_at nat_eq world location))
+      (out_there location m))))
+
+  other_not_own : (mount : Mount ℕ) → Among mount (other_mounts nat_eq world names)
+      → not (is_own_mount nat_eq world names mount) ≡ true
+  other_not_own mount m =
+      by mount.namespace (among-from_filter (λ (x : Mount ℕ). holds_of (λ n. not (own_by (members world names) n))
+      x.namespace) world.mounts mount m).1
+    where
+      by : (o : Option ℕ) → holds_of (λ n. not (own_by (members world names) n)) o ≡ true
+          → not (holds_of (own_by (members world names)) o) ≡ true
+      by None h = refl
+      by (Some n) h = h
+
+  pub tasks_leave_apart : LeavesApart world left names []
+  tasks_leave_apart = record {
+    sees = record {
+      tasks = same;
+      mounts = ap (λ some. filter_map (keep world names some) world.mounts) same;
+      masters = λ group e. refl;
+      direct = λ number m. refl;
+      filesystems = refl;
+      namespaces = ap (λ some. filter (λ (n : Namespace ℕ). own_by some n.number) world.namespaces) same;
+    };
+    others = record {
+      tasks = ap (λ some. list_all (λ (task : Task ℕ). not (own_by some task.namespace)) (outsiders left names)) same
+          ∙ list_all_from_among (λ (task : Task ℕ). not (own_by (members world names) task.namespace))
+          (outsiders left names)
+          (λ task m.
+          let out = among-from_filter (λ (t : Task ℕ). not (is_member_task names t)) tasks task m in
+          let was = from task out.0 (not-true (is_member_task names task) out.1) in
+          ap (λ n. not (own_by (members world names) n)) was.2
+          ∙ among_from_list_all (λ (t : Task ℕ). not (own_by (members world names) t.namespace)) (outsiders world names)
+          apart.tasks was.0 was.1);
+      events = ap (λ some. list_all (λ own. list_all (λ other. not (share_events nat_eq world own other)) (others_by some))
+          (filter (λ (mount : Mount ℕ). holds_of (own_by some) mount.namespace) world.mounts)) same
+          ∙ apart.events;
+      locations =
+          ap (λ some. list_all (λ location. not (holds_of (own_by some) (mount_at nat_eq world location).namespace))
+          (locations (outsiders left names))) same
+          ∙ list_all_from_among (λ location. not (is_own_mount nat_eq world names (mount_at nat_eq world location)))
+          (locations (outsiders left names))
+          (λ location m. ⊎_elim
+          (λ old. ap (λ n. not (is_own_mount nat_eq world names (mount_numbered nat_eq world n))) old.2
+          ∙ among_from_list_all (λ place. not (is_own_mount nat_eq world names (mount_at nat_eq world place)))
+          (locations (outsiders world names)) apart.locations old.0 old.1)
+          (other_not_own (mount_at nat_eq world location)) (out_there location m));
+      free = free_from world left names refl (λ number of alone. fewer number alone);
+    };
+    unraised = λ number m. refl;
+  }
+
+-- One task of others is replaced by one of its name, in its namespace and at its locations
+module _ (world : World ℕ) (fresh : Fresh ℕ) (names : List TaskName) (name : TaskName) (call : Call) (task : Task ℕ)
+    (outsider : IsOutsidersCall world fresh names name call) (called : task_called world name ≡ Some task)
+    (new : Task ℕ) (same_called : new.name ≡ task.name) where
+  abbrev replaced : List (Task ℕ)
+  replaced = map (replaced_if_called new) world.tasks
+
+  not_member : (other : Task ℕ) → same_name new.name other.name ≡ true → is_member_task names other ≡ false
+  not_member other e =
+      ap (λ n. is_among same_name n names)
+      (sym (same_task_name new.name other.name e) ∙ same_called ∙ sym (name_found world name task called))
+      ∙ outsider.outside
+
+  pub replaced_members : filter (is_member_task names) replaced ≡ members world names
+  replaced_members =
+      filter-map (is_member_task names) (replaced_if_called new) world.tasks
+      (λ other. ap (λ n. is_among same_name n names) (name-replaced_if_called new other))
+      ∙ map_same (replaced_if_called new) (members world names)
+      (λ other m. by other (among-from_filter (is_member_task names) world.tasks other m).1
+      (same_name new.name other.name) refl)
+    where
+      by : (other : Task ℕ) → is_member_task names other ≡ true → (b : Bool) → same_name new.name other.name ≡ b
+          → cond b new other ≡ other
+      by other member true e = absurd (true≢false (sym member ∙ not_member other e))
+      by other member false e = refl
+
+  module _ (same_place : new.namespace ≡ task.namespace)
+      (no_more : (location : Location ℕ) → Among location (locations_of new) → IsOutside world names location) where
+    pub replaced_from : (other : Task ℕ) → Among other replaced → is_member_task names other ≡ false
+        → (old : Task ℕ) × Among old (outsiders world names) × (other.namespace ≡ old.namespace)
+        × ((location : Location ℕ) → Among location (locations_of other) → IsOutside world names location)
+    replaced_from other m outside =
+        let at = among-from_map (replaced_if_called new) world.tasks other m in
+        by at.0 at.1 at.2 (same_name new.name at.0.name) refl
+      where
+        by : (old : Task ℕ) → Among old world.tasks → other ≡ replaced_if_called new old → (b : Bool)
+            → same_name new.name old.name ≡ b
+            → (was : Task ℕ) × Among was (outsiders world names) × (other.namespace ≡ was.namespace)
+            × ((location : Location ℕ) → Among location (locations_of other) → IsOutside world names location)
+        by old there e true f =
+            let it : other ≡ new = e ∙ ap (λ b. cond b new old) f in (
+              task,
+              caller_outside world fresh names name call task outsider called,
+              ap (λ (t : Task ℕ). t.namespace) it ∙ same_place,
+              λ location at. no_more location (subst (λ (t : Task ℕ). Among location (locations_of t)) it at),
+            )
+        by old there e false f =
+            let it : other ≡ old = e ∙ ap (λ b. cond b new old) f in
+            let among = among-filter (λ (t : Task ℕ). not (is_member_task names t)) world.tasks old there
+            (ap not (ap (is_member_task names) (sym it) ∙ outside)) in (
+              old,
+              among,
+              ap (λ (t : Task ℕ). t.namespace) it,
+              λ location at. inl (
+                location,
+                among-flat_map locations_of (outsiders world names) old location among
+                    (subst (λ (t : Task ℕ). Among location (locations_of t)) it at),
+                refl,
+              ),
+            )
+
+    pub replacing_leaves_apart : LeavesApart world (record world { tasks = replaced }) names []
+    replacing_leaves_apart =
+        tasks_leave_apart world names (apart_if_sealed world names outsider.is outsider.sealed_off) replaced
+        replaced_members replaced_from
+
+-- A child of one of others is none of the set's
+module _ (world : World ℕ) (fresh : Fresh ℕ) (names : List TaskName) (name : TaskName) (call : Call) (task : Task ℕ)
+    (outsider : IsOutsidersCall world fresh names name call) (called : task_called world name ≡ Some task) where
+  child_outside : is_among same_name (child_name task) names ≡ false
+  child_outside =
+      false_from_ne_true (is_among same_name (child_name task) names) (λ h.
+      let member = any_among (same_name (child_name task)) names h in
+      let found = some_from_is_some (task_called world member.0)
+      (among_from_list_all (λ n. is_some (task_called world n)) names outsider.there member.0 member.1) in
+      let its_name : found.0.name ≡ child_name task =
+      sym (name_found world member.0 found.0 found.1) ∙ sym (same_task_name (child_name task) member.0 member.2) in
+      let counted = outsider.is.tasks.forks_counted task found.0 (task.forks + 1) []
+      (contains_from_among world.tasks task
+      (found_among (λ (t : Task ℕ). same_name name t.name) world.tasks task called))
+      (contains_from_among world.tasks found.0
+      (found_among (λ (t : Task ℕ). same_name member.0 t.name) world.tasks found.0 found.1))
+      its_name in
+      omega (arith, counted))
+
+  abbrev parent : Task ℕ
+  parent = record task { forks = task.forks + 1 }
+
+  module _ (child : Task ℕ) (named : child.name ≡ child_name task) (same_place : child.namespace ≡ task.namespace)
+      (no_more : (location : Location ℕ) → Among location (locations_of child) → IsOutside world names location)
+    where
+      abbrev forked : List (Task ℕ)
+      forked = map (replaced_if_called parent) world.tasks ++ child ∷ []
+
+      child_is_none : is_member_task names child ≡ false
+      child_is_none = ap (λ n. is_among same_name n names) named ∙ child_outside
+
+      forked_members : filter (is_member_task names) forked ≡ members world names
+      forked_members =
+          filter-append (is_member_task names) (map (replaced_if_called parent) world.tasks) (child ∷ [])
+          ∙ ap (λ b. filter (is_member_task names) (map (replaced_if_called parent) world.tasks) ++ cond b (child ∷ []) [])
+          child_is_none
+          ∙ append-nil (filter (is_member_task names) (map (replaced_if_called parent) world.tasks))
+          ∙ replaced_members world fresh names name call task outsider called parent refl
+
+      forked_from : (other : Task ℕ) → Among other forked → is_member_task names other ≡ false
+          → (old : Task ℕ) × Among old (outsiders world names) × (other.namespace ≡ old.namespace)
+          × ((location : Location ℕ) → Among location (locations_of other) → IsOutside world names location)
+      forked_from other m outside =
+          ⊎_elim
+          (λ old. replaced_from world fresh names name call task outsider called parent refl refl
+          (callers_outside world fresh names name call task outsider called) other old outside)
+          (λ new. ⊎_elim
+          (λ it. (
+            task,
+            caller_outside world fresh names name call task outsider called,
+            ap (λ (t : Task ℕ). t.namespace) it ∙ same_place,
+            λ location at. no_more location (subst (λ (t : Task ℕ). Among location (locations_of t)) it at),
+          ))
+          (λ none. absurd none) new)
+          (among-append (map (replaced_if_called parent) world.tasks) (child ∷ []) other m)
+
+      pub forking_leaves_apart : LeavesApart world (record world { tasks = forked }) names []
+      forking_leaves_apart =
+          tasks_leave_apart world names (apart_if_sealed world names outsider.is outsider.sealed_off) forked
+          forked_members forked_from
+
+own_tasks_leave : (world : World ℕ) (fresh : Fresh ℕ) (names : List TaskName) (name : TaskName) (call : Call)
+    (task : Task ℕ) → IsOutsidersCall world fresh names name call → task_called world name ≡ Some task
+    → (permit : Permit ℕ) → judge_in nat_eq fresh world task call ≡ Ok permit → sets_own_task permit ≡ true
+    → LeavesApart world (settled nat_eq (apply nat_eq fresh world task permit).world) names
+    (filesystems_changed nat_eq world permit)
+own_tasks_leave world fresh names name call task outsider called permit judged these =
+    by permit judged (permits_are_for_their_calls fresh world task call permit judged) these
+  where
+    swept : (permit : Permit ℕ) → judge_in nat_eq fresh world task call ≡ Ok permit → (asked : Call) → call ≡ asked
+        → takes_uses asked ≡ false → sets_type asked ≡ false → change_asked fresh world permit ≡ None
+        → LeavesApart world (apply nat_eq fresh world task permit).world names []
+        → LeavesApart world (settled nat_eq (apply nat_eq fresh world task permit).world) names []
+    swept permit judged asked e only no_type none leaves =
+        subst (λ w. LeavesApart world w names [])
+        (sym (nothing_is_swept world fresh names name call task permit outsider called judged
+        (ap takes_uses e ∙ only) (ap sets_type e ∙ no_type) none)) leaves
+
+    by : (permit : Permit ℕ) → judge_in nat_eq fresh world task call ≡ Ok permit
+        → IsFor (looks_of nat_eq world) task call permit → sets_own_task permit ≡ true
+        → LeavesApart world (settled nat_eq (apply nat_eq fresh world task permit).world) names
+        (filesystems_changed nat_eq world permit)
+    by (ToSetUmask umask) judged for e =
+        swept (ToSetUmask umask) judged (Umask for.0) for.1 refl refl refl
+        (replacing_leaves_apart world fresh names name call task outsider called (record task { umask = umask })
+        refl refl (callers_outside world fresh names name call task outsider called))
+    by (ToSetCredentials credentials) judged for e =
+        swept (ToSetCredentials credentials) judged (Drop for.0) for.1 refl refl refl
+        (replacing_leaves_apart world fresh names name call task outsider called (record task { credentials = credentials })
+        refl refl (callers_outside world fresh names name call task outsider called))
+    by (ToFork credentials) judged for e =
+        swept (ToFork credentials) judged (Fork for.0) for.1 refl refl refl
+        (forking_leaves_apart world fresh names name call task outsider called (child_of task credentials) refl refl
+        (λ location m. callers_outside world fresh names name call task outsider called location
+        (⊎_elim inl (λ rest. inr (⊎_elim inl (λ none. absurd none) rest)) m)))
+    by permit judged for e = absurd (true≢false (sym e))
+
+pub own_tasks_leave_a_sealed_set : LeaveASealedSet sets_own_task
+own_tasks_leave_a_sealed_set =
+    by_permit sets_own_task (λ world fresh names name call task permit outsider called judged these.
+    own_tasks_leave world fresh names name call task outsider called permit judged these)

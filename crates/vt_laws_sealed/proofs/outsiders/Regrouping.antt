@@ -1,0 +1,297 @@
+-- Groups of others that lose their last members, and what mounts of others become.
+use Rattle.std.proofs.Common.{◌≡◌, refl, sym, ap, subst, ◌∙◌, ◌⊎◌, inl, inr, ⊎_elim, ℕ, nat_eq, Bool, true, false, cond, true≢false, List, [], ◌∷◌, Option, Some, None, filter, is_some, length, map, not, ◌&&◌, ◌||◌, eq-eqb}
+use Rattle.std.specs.List.{list_any}
+use Rattle.std.proofs.lemmas.Bool.{and_parts}
+use Rattle.std.proofs.lemmas.Option.{same_Some}
+use Rattle.vt_spec.specs.Language.Calls.{TaskName}
+use Rattle.vt_spec.specs.Lists.{Fresh, holds_of}
+use Rattle.vt_spec.specs.Machine.Invariants.{is_nowhere_or_attached, is_private}
+use Rattle.vt_spec.specs.Machine.Mounts.{Mount, Propagation, group_of, source_of}
+use Rattle.vt_spec.specs.Machine.Mounts.Propagation.{Private, Shared, Slave, Unbindable}
+use Rattle.vt_spec.specs.Machine.Receives.{groups_up, has_members, heir, inherited, inheriting, is_member_of, regrouped_by, slave_of_heir}
+use Rattle.vt_spec.specs.Machine.Run.{Serves}
+use Rattle.vt_spec.specs.Machine.Sealed.{is_own_mount, master_of, members, other_mounts, own_mounts, shares_no_events}
+use Rattle.vt_spec.specs.Machine.World.{Namespace, Task, World}
+use Rattle.vt_spec.proofs.Found.{find-chain_start, found_among}
+use Rattle.vt_spec.proofs.Lists.{Among, among-from_filter, among-map, among_from_list_all, any_among, any_from_among, is_among_numbers, map_same, map_twice}
+use Rattle.vt_spec.proofs.Options.{none_is_some}
+use Rattle.vt_laws_mounts.proofs.mounts.Receivers.{along_chain}
+use Rattle.vt_laws_part.specs.Seals.{IsApart}
+use Rattle.vt_laws_part.proofs.groups.ReceiversAlike.{member_group}
+use Rattle.vt_laws_part.proofs.part.Observed.{own_mounts_same}
+use Rattle.vt_laws_part.proofs.part.PartOfPart.{keep}
+use Rattle.vt_laws_sealed.proofs.outsiders.ChangedWorlds.{OthersMove, changing_leaves_apart, others_from, sees}
+use Rattle.vt_laws_sealed.proofs.outsiders.OtherMounts.{Foreign, HearsGroup, events_stay_apart, member_of_heard, other_hears_foreign}
+use Rattle.vt_laws_sealed.proofs.outsiders.Reshaping.{IsReshaped, reshaping_keeps, reshaping_kept}
+use Rattle.vt_laws_sealed.proofs.outsiders.Staying.{LeavesApart}
+
+-- what is reshaped twice is reshaped
+reshaped_twice : (old middle new : Mount ℕ) → IsReshaped old middle → IsReshaped middle new → IsReshaped old new
+reshaped_twice old middle new one two = (
+  two.0,
+  two.1,
+  two.2,
+  two.3 ∙ ap (λ (x : Mount ℕ). record x { namespace = two.0; mount_point = two.1; propagation = two.2 }) one.3,
+  ⊎_elim
+      (λ same. ⊎_elim (λ kept. inl (same ∙ ap (λ (x : Mount ℕ). x.namespace) one.3 ∙ kept))
+      (λ none. inr (same ∙ ap (λ (x : Mount ℕ). x.namespace) one.3 ∙ none)) one.4)
+      inr two.4,
+)
+
+module _ (world : World ℕ) (names : List TaskName) (apart : IsApart world names) (fresh : Fresh ℕ)
+    (serves : Serves nat_eq world fresh) where
+  -- a type that only groups of others are in
+  abbrev pub IsOfOthers : Propagation ℕ → Type 0
+  IsOfOthers kind =
+      ((number : ℕ) → group_of kind ≡ Some number → Foreign world names apart fresh serves number)
+      × ((number : ℕ) → kind ≡ Slave number → Foreign world names apart fresh serves number)
+
+  pub of_nobody : IsOfOthers Private
+  of_nobody = (λ number e. none_is_some number e, λ number e. none_is_some number (ap source_of e))
+
+  pub old_type : (other : Mount ℕ) → Among other (other_mounts nat_eq world names) → IsOfOthers other.propagation
+  old_type other m = (
+    λ number e. other_hears_foreign world names apart fresh serves other m number (inl e),
+    λ number e. other_hears_foreign world names apart fresh serves other m number (inr (ap (master_of world) e)),
+  )
+
+-- A change of mounts of others, after which groups without members are gone
+module _ (world : World ℕ) (names : List TaskName) (apart : IsApart world names) (fresh : Fresh ℕ)
+    (serves : Serves nat_eq world fresh) (change : Mount ℕ → Mount ℕ)
+    (shape : (mount : Mount ℕ) → IsReshaped mount (change mount))
+    (own_same : (own : Mount ℕ) → Among own (own_mounts nat_eq world names) → change own ≡ own)
+    (nowhere_same : (mount : Mount ℕ) → Among mount world.mounts → mount.namespace ≡ None → change mount ≡ mount)
+    (kinds : (other : Mount ℕ) → Among other (other_mounts nat_eq world names)
+    → IsOfOthers world names apart fresh serves (change other).propagation)
+    (middle_master : ℕ → Option ℕ)
+    (middle_above : (number above : ℕ) → Foreign world names apart fresh serves number
+    → middle_master number ≡ Some above → Foreign world names apart fresh serves above)
+    (own_middle : (number : ℕ) → list_any (is_member_of nat_eq number) (own_mounts nat_eq world names) ≡ true
+    → middle_master number ≡ world.master number)
+    (tasks : List (Task ℕ)) (namespaces : List (Namespace ℕ)) (moved : OthersMove world names tasks namespaces)
+    (lost : Bool) where
+  abbrev IsForeign : ℕ → Type 0
+  IsForeign = Foreign world names apart fresh serves
+
+  abbrev pub middle : World ℕ
+  middle = record world {
+    mounts = map change world.mounts;
+    master = middle_master;
+    namespaces = namespaces;
+    tasks = tasks;
+  }
+
+  -- a group that a mount of theirs hears has a member of theirs, also after the change
+  members_stay : (own : Mount ℕ) → Among own (own_mounts nat_eq world names) → (number : ℕ)
+      → HearsGroup world names apart fresh serves world own.propagation number
+      → has_members nat_eq middle.mounts number ≡ true
+  members_stay own m number how =
+      let member = member_of_heard world names apart fresh serves own m number how in
+      any_from_among (is_member_of nat_eq number) middle.mounts member.0
+      (subst (λ x. Among x middle.mounts) (own_same member.0 member.1)
+      (among-map change world.mounts member.0
+      (among-from_filter (is_own_mount nat_eq world names) world.mounts member.0 member.1).0)) member.2
+
+  heir_stays : (own : Mount ℕ) → Among own (own_mounts nat_eq world names) → (number : ℕ)
+      → HearsGroup world names apart fresh serves world own.propagation number
+      → heir nat_eq middle (Some number) ≡ Some number
+  heir_stays own m number how =
+      find-chain_start (has_members nat_eq middle.mounts) middle.master (length middle.mounts) number
+      (members_stay own m number how)
+
+  heir_foreign : (number found : ℕ) → IsForeign number → heir nat_eq middle (Some number) ≡ Some found
+      → IsForeign found
+  heir_foreign number found foreign e =
+      along_chain middle.master IsForeign (λ above lower up lower_foreign. middle_above lower above lower_foreign up)
+      (length middle.mounts) number found foreign
+      (is_among_numbers (groups_up middle number) found
+      (found_among (has_members nat_eq middle.mounts) (groups_up middle number) found e))
+
+  inherited_foreign : (kind : Propagation ℕ) → IsOfOthers world names apart fresh serves kind → IsOfOthers world names apart fresh serves (inherited nat_eq middle kind)
+  inherited_foreign (Shared g) is = is
+  inherited_foreign (Slave g) is = by (heir nat_eq middle (Some g)) refl
+    where
+      by : (o : Option ℕ) → heir nat_eq middle (Some g) ≡ o → IsOfOthers world names apart fresh serves (slave_of_heir o)
+      by None e = (λ number f. none_is_some number f, λ number f. none_is_some number (ap source_of f))
+      by (Some found) e = (
+        λ number f. none_is_some number f,
+        λ number f. subst IsForeign (same_Some found number (ap source_of f))
+            (heir_foreign g found (is.1 g refl) e),
+      )
+  inherited_foreign Private is = is
+  inherited_foreign Unbindable is = is
+
+  abbrev regroup : Mount ℕ → Mount ℕ
+  regroup mount = cond lost (inheriting nat_eq middle mount) mount
+
+  abbrev pub all_changed : Mount ℕ → Mount ℕ
+  all_changed mount = regroup (change mount)
+
+  abbrev pub after_all : World ℕ
+  after_all = regrouped_by nat_eq lost middle
+
+  pub mounts_are : after_all.mounts ≡ map all_changed world.mounts
+  mounts_are = by lost ∙ map_twice regroup change world.mounts
+    where
+      by : (b : Bool) → (regrouped_by nat_eq b middle).mounts
+          ≡ map (λ (mount : Mount ℕ). cond b (inheriting nat_eq middle mount) mount) middle.mounts
+      by true = refl
+      by false = sym (map_same (λ (mount : Mount ℕ). mount) middle.mounts (λ mount m. refl))
+
+  regroup_shape : (mount : Mount ℕ) → IsReshaped mount (regroup mount)
+  regroup_shape mount = by lost
+    where
+      by : (b : Bool) → IsReshaped mount (cond b (inheriting nat_eq middle mount) mount)
+      by true = (mount.namespace, mount.mount_point, inherited nat_eq middle mount.propagation, refl, inl refl)
+      by false = (mount.namespace, mount.mount_point, mount.propagation, refl, inl refl)
+
+  pub all_shape : (mount : Mount ℕ) → IsReshaped mount (all_changed mount)
+  all_shape mount =
+      reshaped_twice mount (change mount) (all_changed mount) (shape mount) (regroup_shape (change mount))
+
+  -- a mount of theirs stays
+  own_type_stays : (own : Mount ℕ) → Among own (own_mounts nat_eq world names)
+      → inherited nat_eq middle own.propagation ≡ own.propagation
+  own_type_stays own m = by own.propagation refl
+    where
+      by : (kind : Propagation ℕ) → own.propagation ≡ kind → inherited nat_eq middle kind ≡ kind
+      by (Shared g) e = refl
+      by (Slave g) e = ap slave_of_heir (heir_stays own m g (inr (ap (master_of world) e)))
+      by Private e = refl
+      by Unbindable e = refl
+
+  regroup_stays : (mount : Mount ℕ) → inherited nat_eq middle mount.propagation ≡ mount.propagation
+      → regroup mount ≡ mount
+  regroup_stays mount e = by lost
+    where
+      by : (b : Bool) → cond b (inheriting nat_eq middle mount) mount ≡ mount
+      by true = ap (λ kind. record mount { propagation = kind }) e
+      by false = refl
+
+  pub own_stays : (own : Mount ℕ) → Among own (own_mounts nat_eq world names) → all_changed own ≡ own
+  own_stays own m =
+      ap regroup (own_same own m) ∙ regroup_stays own (own_type_stays own m)
+
+  nowhere_stays : (mount : Mount ℕ) → Among mount world.mounts → mount.namespace ≡ None → all_changed mount ≡ mount
+  nowhere_stays mount there none =
+      ap regroup (nowhere_same mount there none)
+      ∙ regroup_stays mount (by mount.propagation (and_parts (not (is_some mount.mount_point))
+      (is_private mount.propagation)
+      (sym (ap (λ o. is_some o || (not (is_some mount.mount_point) && is_private mount.propagation)) none)
+      ∙ among_from_list_all is_nowhere_or_attached world.mounts apart.is.mounts.nowhere mount there)).1)
+    where
+      by : (kind : Propagation ℕ) → is_private kind ≡ true → inherited nat_eq middle kind ≡ kind
+      by (Shared g) h = refl
+      by (Slave g) h = absurd (true≢false (sym h))
+      by Private h = refl
+      by Unbindable h = refl
+
+  -- masters of groups of theirs
+  own_master_stays : (number : ℕ) → list_any (is_member_of nat_eq number) (own_mounts nat_eq world names) ≡ true
+      → after_all.master number ≡ world.master number
+  own_master_stays number h =
+      let own = any_among (is_member_of nat_eq number) (own_mounts nat_eq world names) h in
+      let is_in = member_group number own.0 own.2 in
+      let same : middle.master number ≡ world.master number = own_middle number h in
+      by lost same (above own.0 own.1 is_in (world.master number) refl)
+    where
+      above : (own : Mount ℕ) → Among own (own_mounts nat_eq world names) → group_of own.propagation ≡ Some number
+          → (o : Option ℕ) → world.master number ≡ o → heir nat_eq middle o ≡ o
+      above own m is_in None e = refl
+      above own m is_in (Some upper) e = heir_stays own m upper (inr (of own.propagation is_in ∙ e))
+        where
+          of : (kind : Propagation ℕ) → group_of kind ≡ Some number → master_of world kind ≡ world.master number
+          of (Shared g) f = ap world.master (same_Some g number f)
+          of (Slave g) f = none_is_some number f
+          of Private f = none_is_some number f
+          of Unbindable f = none_is_some number f
+
+      by : (b : Bool) → middle.master number ≡ world.master number
+          → heir nat_eq middle (world.master number) ≡ world.master number
+          → (regrouped_by nat_eq b middle).master number ≡ world.master number
+      by true same up = ap (heir nat_eq middle) same ∙ up
+      by false same up = same
+
+  after_above : (number above : ℕ) → IsForeign number → after_all.master number ≡ Some above → IsForeign above
+  after_above number above foreign = by lost
+    where
+      up : (o : Option ℕ) → middle.master number ≡ o → heir nat_eq middle o ≡ Some above → IsForeign above
+      up None e f = none_is_some above f
+      up (Some upper) e f = heir_foreign upper above (middle_above number upper foreign e) f
+
+      by : (b : Bool) → (regrouped_by nat_eq b middle).master number ≡ Some above → IsForeign above
+      by true e = up (middle.master number) refl e
+      by false e = middle_above number above foreign e
+
+  -- the sweep may take masters, but not those of groups of theirs
+  module _ (master : ℕ → Option ℕ)
+      (taken : (number : ℕ) → (master number ≡ after_all.master number) ⊎ (master number ≡ None))
+      (theirs_stay : (number : ℕ) → list_any (is_member_of nat_eq number) (own_mounts nat_eq world names) ≡ true
+      → master number ≡ after_all.master number) where
+    abbrev left : World ℕ
+    left = record world {
+      mounts = map all_changed world.mounts;
+      master = master;
+      namespaces = namespaces;
+      tasks = tasks;
+    }
+
+    own_masters : (number : ℕ) → list_any (is_member_of nat_eq number) (own_mounts nat_eq world names) ≡ true
+        → master number ≡ world.master number
+    own_masters number h = theirs_stay number h ∙ own_master_stays number h
+
+    left_above : (number above : ℕ) → IsForeign number → master number ≡ Some above → IsForeign above
+    left_above number above foreign e =
+        ⊎_elim (λ same. after_above number above foreign (sym same ∙ e)) (λ none. none_is_some above (sym none ∙ e))
+        (taken number)
+
+    heard_foreign : (kind : Propagation ℕ) → IsOfOthers world names apart fresh serves kind → (number : ℕ)
+        → HearsGroup world names apart fresh serves left kind number → IsForeign number
+    heard_foreign (Shared g) is number how = ⊎_elim (is.0 number) (λ e. left_above g number (is.0 g refl) e) how
+    heard_foreign (Slave g) is number how =
+        ⊎_elim (λ e. none_is_some number e) (λ e. subst IsForeign (same_Some g number e) (is.1 g refl)) how
+    heard_foreign Private is number how = ⊎_elim (λ e. none_is_some number e) (λ e. none_is_some number e) how
+    heard_foreign Unbindable is number how = ⊎_elim (λ e. none_is_some number e) (λ e. none_is_some number e) how
+
+    changed_foreign : (other : Mount ℕ) → Among other (other_mounts nat_eq world names)
+        → IsOfOthers world names apart fresh serves (all_changed other).propagation
+    changed_foreign other m = by lost
+      where
+        by : (b : Bool) → IsOfOthers world names apart fresh serves
+            (cond b (inheriting nat_eq middle (change other)) (change other)).propagation
+        by true = inherited_foreign (change other).propagation (kinds other m)
+        by false = kinds other m
+
+    own_kinds : (own : Mount ℕ) → Among own (own_mounts nat_eq world names)
+        → master_of left own.propagation ≡ master_of world own.propagation
+    own_kinds own m = by own.propagation refl
+      where
+        by : (kind : Propagation ℕ) → own.propagation ≡ kind → master_of left kind ≡ master_of world kind
+        by (Shared g) e =
+            own_masters g (any_from_among (is_member_of nat_eq g) (own_mounts nat_eq world names) own m
+            (ap (λ kind. holds_of (nat_eq g) (group_of kind)) e ∙ eq-eqb g g refl))
+        by (Slave g) e = refl
+        by Private e = refl
+        by Unbindable e = refl
+
+    kept_same : (mount : Mount ℕ) → Among mount world.mounts
+        → keep world names (members world names) (all_changed mount) ≡ keep world names (members world names) mount
+    kept_same = reshaping_kept world names apart all_changed all_shape own_stays nowhere_stays
+
+    events : shares_no_events nat_eq left names ≡ true
+    events =
+        events_stay_apart world names apart fresh serves left
+        (own_mounts_same world left names
+        (sees world names apart all_changed (reshaping_keeps all_changed all_shape) kept_same master tasks namespaces moved
+        own_masters)) own_kinds
+        (λ other m number how.
+        let from = others_from world names apart all_changed (reshaping_keeps all_changed all_shape) kept_same master tasks
+        namespaces moved other m in
+        heard_foreign (all_changed from.0).propagation (changed_foreign from.0 from.1) number
+        (subst (λ kind. HearsGroup world names apart fresh serves left kind number)
+        (ap (λ (x : Mount ℕ). x.propagation) from.2) how))
+
+    pub regrouping_leaves_apart : LeavesApart world left names []
+    regrouping_leaves_apart =
+        changing_leaves_apart world names apart all_changed (reshaping_keeps all_changed all_shape) kept_same master tasks
+        namespaces moved own_masters events

@@ -1,0 +1,69 @@
+-- Mounts of others with other mount points and types, in their namespaces or in none: the part shows the same of them.
+use Rattle.std.proofs.Common.{◌≡◌, refl, sym, ap, ◌∙◌, ◌⊎◌, inl, inr, ⊎_elim, ℕ, nat_eq, Bool, true, false, cond, List, Option, Some, None, ◌||◌}
+use Rattle.vt_spec.specs.Language.Calls.{TaskName}
+use Rattle.vt_spec.specs.Lists.{holds_of, when}
+use Rattle.vt_spec.specs.Machine.Mounts.{Location, Mount, Propagation}
+use Rattle.vt_spec.specs.Machine.Sealed.{is_at, is_own_mount, is_own_namespace, locations, members, own_mounts, roots_and_directories, seen_by_descriptor}
+use Rattle.vt_spec.specs.Machine.World.{World}
+use Rattle.vt_spec.proofs.Lists.{Among, among-filter}
+use Rattle.vt_laws_part.specs.Seals.{IsApart}
+use Rattle.vt_laws_part.proofs.part.PartOfPart.{is_own, keep}
+use Rattle.vt_laws_sealed.proofs.outsiders.ChangedWorlds.{KeepsOrDetaches}
+use Rattle.vt_laws_sealed.proofs.outsiders.OtherMounts.{not_own, not_stood_on}
+
+-- a mount with another mount point and type, in its namespace or in none
+abbrev pub IsReshaped : Mount ℕ → Mount ℕ → Type 0
+IsReshaped old new =
+    (namespace : Option ℕ) × (point : Option (Location ℕ)) × (kind : Propagation ℕ)
+    × (new ≡ record old { namespace = namespace; mount_point = point; propagation = kind })
+    × ((namespace ≡ old.namespace) ⊎ (namespace ≡ None))
+
+pub reshaping_keeps : (change : Mount ℕ → Mount ℕ) → ((mount : Mount ℕ) → IsReshaped mount (change mount))
+    → KeepsOrDetaches change
+reshaping_keeps change shape = record {
+  number = λ mount. ap (λ (x : Mount ℕ). x.number) (shape mount).3;
+  filesystem = λ mount. ap (λ (x : Mount ℕ). x.filesystem) (shape mount).3;
+  namespace = λ mount. ⊎_elim (λ same. inl (ap (λ (x : Mount ℕ). x.namespace) (shape mount).3 ∙ same))
+      (λ none. inr (ap (λ (x : Mount ℕ). x.namespace) (shape mount).3 ∙ none)) (shape mount).4;
+}
+
+-- the part has the same of a mount of others
+pub reshaping_kept : (world : World ℕ) (names : List TaskName) → IsApart world names → (change : Mount ℕ → Mount ℕ)
+    → ((mount : Mount ℕ) → IsReshaped mount (change mount))
+    → ((own : Mount ℕ) → Among own (own_mounts nat_eq world names) → change own ≡ own)
+    → ((mount : Mount ℕ) → Among mount world.mounts → mount.namespace ≡ None → change mount ≡ mount)
+    → (mount : Mount ℕ) → Among mount world.mounts
+    → keep world names (members world names) (change mount) ≡ keep world names (members world names) mount
+reshaping_kept world names apart change shape own_same nowhere_same mount there = by mount.namespace refl
+  where
+    by : (o : Option ℕ) → mount.namespace ≡ o
+        → keep world names (members world names) (change mount) ≡ keep world names (members world names) mount
+    by None e = ap (keep world names (members world names)) (nowhere_same mount there e)
+    by (Some n) e = which (is_own_namespace nat_eq world names n) refl
+      where
+        which : (b : Bool) → is_own_namespace nat_eq world names n ≡ b
+            → keep world names (members world names) (change mount) ≡ keep world names (members world names) mount
+        which true own =
+            ap (keep world names (members world names)) (own_same mount
+            (among-filter (is_own_mount nat_eq world names) world.mounts mount there
+            (ap (holds_of (is_own_namespace nat_eq world names)) e ∙ own)))
+        which false other =
+            let shaped = shape mount in
+            let no_place = not_stood_on world names apart n other mount there e in
+            let no : (is_own world names (members world names) mount
+            || is_at nat_eq (roots_and_directories (members world names)) mount) ≡ false =
+            ap (λ b. b || is_at nat_eq (roots_and_directories (members world names)) mount)
+            (not_own world names apart n other mount there e) ∙ no_place in
+            let no_later : (holds_of (is_own_namespace nat_eq world names) shaped.0
+            || is_at nat_eq (roots_and_directories (members world names)) mount) ≡ false =
+            ap (λ b. b || is_at nat_eq (roots_and_directories (members world names)) mount)
+            (⊎_elim (λ same. ap (holds_of (is_own_namespace nat_eq world names)) (same ∙ e) ∙ other)
+            (ap (holds_of (is_own_namespace nat_eq world names))) shaped.4) ∙ no_place in
+            ap (keep world names (members world names)) shaped.3
+            ∙ ap (λ b. cond b (Some (record mount {
+              namespace = shaped.0;
+              mount_point = shaped.1;
+              propagation = shaped.2;
+            })) (when (is_at nat_eq (locations (members world names)) mount) (seen_by_descriptor mount))) no_later
+            ∙ sym (ap (λ b. cond b (Some mount)
+            (when (is_at nat_eq (locations (members world names)) mount) (seen_by_descriptor mount))) no)

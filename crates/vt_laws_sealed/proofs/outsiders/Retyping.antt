@@ -1,0 +1,600 @@
+-- Types of mounts of others that are set: mount(2) with MS_SHARED, MS_SLAVE, MS_PRIVATE or MS_UNBINDABLE.
+use Rattle.std.proofs.Common.{◌≡◌, refl, sym, ap, subst, ◌∙◌, ◌⊎◌, inl, inr, ⊎_elim, ℕ, zero, suc, nat_eq, Bool, true, false, cond, true≢false, List, [], ◌∷◌, Option, Some, None, Ok, filter, is_some, length, map, not, ◌&&◌, ◌||◌, eq-eqb, eqb-true}
+use Rattle.std.specs.List.{list_any}
+use Rattle.std.proofs.lemmas.Bool.{and_parts, false_from_ne_true, or_left}
+use Rattle.std.proofs.lemmas.Option.{same_Some}
+use Rattle.vt_spec.specs.Language.Calls.{Call, TaskName, TypeWord}
+use Rattle.vt_spec.specs.Language.Calls.Call.{SetType}
+use Rattle.vt_spec.specs.Language.Calls.TypeWord.{ToPrivate, ToShared, ToSlave, ToUnbindable}
+use Rattle.vt_spec.specs.Lists.{Fresh, holds_of, when}
+use Rattle.vt_spec.specs.Machine.Apply.{apply, filesystems_changed}
+use Rattle.vt_spec.specs.Machine.Invariants.{is_nowhere_or_attached, is_private}
+use Rattle.vt_spec.specs.Machine.Judge.{judge_in}
+use Rattle.vt_spec.specs.Machine.Mounts.{Mount, Propagation, children, group_of, index_of, numbers_by, source_of, tree_from}
+use Rattle.vt_spec.specs.Machine.Mounts.Propagation.{Private, Shared, Slave, Unbindable}
+use Rattle.vt_spec.specs.Machine.Outcomes.{after}
+use Rattle.vt_spec.specs.Machine.Permits.{Permit}
+use Rattle.vt_spec.specs.Machine.Permits.Permit.{ToSetType}
+use Rattle.vt_spec.specs.Machine.Policy.{call_outcome}
+use Rattle.vt_spec.specs.Machine.Receives.{groups_up, has_members, heir, inherited, inheriting, is_member_of, lost_a_group, regrouped_by, slave_of_heir}
+use Rattle.vt_spec.specs.Machine.Run.{Serves}
+use Rattle.vt_spec.specs.Machine.Sealed.{is_at, is_own_mount, is_own_namespace, locations, master_of, members, other_mounts, own_mounts, roots_and_directories, seen_by_descriptor, shares_no_events}
+use Rattle.vt_spec.specs.Machine.Settled.{mount_lives, settled}
+use Rattle.vt_spec.specs.Machine.Types.{master_after, named_mounts, retyped_mount, type_after, with_master, with_new_groups}
+use Rattle.vt_spec.specs.Machine.World.{Task, World, mount_numbered, task_called}
+use Rattle.vt_spec.proofs.Found.{find-chain_start, found_among}
+use Rattle.vt_spec.proofs.Lists.{Among, among-filter, among-from_filter, among-from_flat_map, among-from_map, among-map, among_from_list_all, any_among, any_from_among, is_among_numbers, map_same, map_twice}
+use Rattle.vt_spec.proofs.Options.{none_is_some}
+use Rattle.vt_spec.proofs.Worlds.{found_or_none}
+use Rattle.vt_laws_trees.specs.Trees.Calls.{mounts_overlay}
+use Rattle.vt_laws_mounts.proofs.mounts.MountsReplaced.{found_itself}
+use Rattle.vt_laws_mounts.proofs.mounts.Receivers.{along_chain}
+use Rattle.vt_laws_rules.proofs.given.GivenPermits.{permits_are_for_their_calls}
+use Rattle.vt_laws_worlds.proofs.worlds.CallsKept.{name_found}
+use Rattle.vt_laws_worlds.proofs.worlds.FitPermitsNamed.{all_permits_fit}
+use Rattle.vt_laws_later_calls.proofs.ends.OtherCalls.{all_types_leave_all_but_masters}
+use Rattle.vt_laws_later_calls.specs.Ends.{KeepsAllButMasters}
+use Rattle.vt_laws_part.specs.Seals.{IsApart}
+use Rattle.vt_laws_part.proofs.groups.ReceiversAlike.{member_group}
+use Rattle.vt_laws_part.proofs.part.Observed.{own_mounts_same}
+use Rattle.vt_laws_part.proofs.part.PartOfPart.{is_own, keep}
+use Rattle.vt_laws_part.proofs.seals.ByPart.{apart_if_sealed}
+use Rattle.vt_laws_sealed.specs.Outsiders.{IsOutsidersCall, LeaveASealedSet, sets_types}
+use Rattle.vt_laws_sealed.proofs.outsiders.Changing.{KeepsPlaces, changing_leaves_apart, others_changed, sees}
+use Rattle.vt_laws_sealed.proofs.outsiders.OtherMounts.{Foreign, HearsGroup, IsIn, child_in, events_stay_apart, foreign_above, is_other, member_not_new, member_of_heard, namespace_outside, not_own, not_stood_on, other_hears_foreign}
+use Rattle.vt_laws_sealed.proofs.outsiders.OwnTasks.{caller_outside}
+use Rattle.vt_laws_sealed.proofs.outsiders.Staying.{LeavesApart, by_permit}
+
+-- the masters after a change of types: as they were, or of a group that is made for a mount that is named
+new_masters : (group : ℕ → ℕ) (number : ℕ) (named : List (Mount ℕ)) (master : ℕ → Option ℕ)
+    → (with_new_groups nat_eq group master named number ≡ master number)
+    ⊎ ((mount : Mount ℕ) × Among mount named × (number ≡ group mount.number)
+    × (with_new_groups nat_eq group master named number ≡ master_after mount.propagation))
+new_masters group number [] master = inl refl
+new_masters group number (mount ∷ rest) master =
+    ⊎_elim (λ same. by (nat_eq number (group mount.number)) refl same)
+    (λ made. inr (made.0, inr made.1, made.2, made.3))
+    (new_masters group number rest (with_master nat_eq master (group mount.number) (master_after mount.propagation)))
+  where
+    by : (b : Bool) → nat_eq number (group mount.number) ≡ b
+        → with_new_groups nat_eq group (with_master nat_eq master (group mount.number) (master_after mount.propagation)) rest
+        number ≡ cond (nat_eq number (group mount.number)) (master_after mount.propagation) (master number)
+        → (with_new_groups nat_eq group master (mount ∷ rest) number ≡ master number)
+        ⊎ ((one : Mount ℕ) × Among one (mount ∷ rest) × (number ≡ group one.number)
+        × (with_new_groups nat_eq group master (mount ∷ rest) number ≡ master_after one.propagation))
+    by true e same =
+        inr (
+          mount,
+          inl refl,
+          eqb-true number (group mount.number) e,
+          same ∙ ap (λ b. cond b (master_after mount.propagation) (master number)) e,
+        )
+    by false e same = inl (same ∙ ap (λ b. cond b (master_after mount.propagation) (master number)) e)
+
+module _ (world : World ℕ) (names : List TaskName) (apart : IsApart world names) (fresh : Fresh ℕ)
+    (serves : Serves nat_eq world fresh) (namespace : ℕ) (outside : is_own_namespace nat_eq world names namespace ≡ false)
+    (group : ℕ → ℕ) (new_group : (number : ℕ) → (k : ℕ) × (group number ≡ fresh k)) (word : TypeWord)
+    (named : List (Mount ℕ)) (named_in : (mount : Mount ℕ) → Among mount named → IsIn world namespace mount) where
+  -- types are set, and groups are as they were
+  abbrev middle : World ℕ
+  middle = record world {
+    mounts = map (retyped_mount nat_eq group word named) world.mounts;
+    master = with_new_groups nat_eq group world.master named;
+  }
+
+  abbrev IsForeign : ℕ → Type 0
+  IsForeign = Foreign world names apart fresh serves
+
+  -- a type that only groups of others are in
+  abbrev IsOfOthers : Propagation ℕ → Type 0
+  IsOfOthers kind =
+      ((number : ℕ) → group_of kind ≡ Some number → IsForeign number)
+      × ((number : ℕ) → kind ≡ Slave number → IsForeign number)
+
+  abbrev is_named : Mount ℕ → Bool
+  is_named mount = list_any (λ (other : Mount ℕ). nat_eq mount.number other.number) named
+
+  abbrev retype : Mount ℕ → Mount ℕ
+  retype mount = retyped_mount nat_eq group word named mount
+
+  -- what is not in the namespace is not named
+  not_named : (mount : Mount ℕ) → Among mount world.mounts → (mount.namespace ≡ Some namespace → ⊥)
+      → is_named mount ≡ false
+  not_named mount there elsewhere =
+      false_from_ne_true (is_named mount) (λ h.
+      let at = any_among (λ (other : Mount ℕ). nat_eq mount.number other.number) named h in
+      let in_it = named_in at.0 at.1 in
+      elsewhere (ap (λ (x : Mount ℕ). x.namespace)
+      (sym (found_itself world.mounts apart.is.mounts.one_number mount there)
+      ∙ ap (mount_numbered nat_eq world) (eqb-true mount.number at.0.number at.2)
+      ∙ found_itself world.mounts apart.is.mounts.one_number at.0 in_it.0) ∙ in_it.1))
+
+  own_not_named : (own : Mount ℕ) → Among own (own_mounts nat_eq world names) → is_named own ≡ false
+  own_not_named own m =
+      let at = among-from_filter (is_own_mount nat_eq world names) world.mounts own m in
+      not_named own at.0 (λ e. true≢false (sym at.1 ∙ ap (holds_of (is_own_namespace nat_eq world names)) e ∙ outside))
+
+  stays : (mount : Mount ℕ) → is_named mount ≡ false → retype mount ≡ mount
+  stays mount e =
+      ap (λ b. cond b (record mount { propagation = type_after (group mount.number) word mount.propagation }) mount) e
+
+  -- a group that a mount of theirs hears has a member of theirs, also when types are set
+  members_stay : (own : Mount ℕ) → Among own (own_mounts nat_eq world names) → (number : ℕ)
+      → HearsGroup world names apart fresh serves world own.propagation number
+      → has_members nat_eq middle.mounts number ≡ true
+  members_stay own m number how =
+      let member = member_of_heard world names apart fresh serves own m number how in
+      any_from_among (is_member_of nat_eq number) middle.mounts member.0
+      (subst (λ x. Among x middle.mounts) (stays member.0 (own_not_named member.0 member.1))
+      (among-map retype world.mounts member.0
+      (among-from_filter (is_own_mount nat_eq world names) world.mounts member.0 member.1).0)) member.2
+
+  heir_stays : (own : Mount ℕ) → Among own (own_mounts nat_eq world names) → (number : ℕ)
+      → HearsGroup world names apart fresh serves world own.propagation number
+      → heir nat_eq middle (Some number) ≡ Some number
+  heir_stays own m number how =
+      find-chain_start (has_members nat_eq middle.mounts) middle.master (length middle.mounts) number
+      (members_stay own m number how)
+
+  -- Groups of others
+  old_foreign : (other : Mount ℕ) → Among other (other_mounts nat_eq world names) → (number : ℕ)
+      → HearsGroup world names apart fresh serves world other.propagation number → IsForeign number
+  old_foreign = other_hears_foreign world names apart fresh serves
+
+  named_other : (mount : Mount ℕ) → Among mount named → Among mount (other_mounts nat_eq world names)
+  named_other mount m =
+      let at = named_in mount m in
+      is_other world names apart namespace outside mount at.0 at.1
+
+  middle_above : (number above : ℕ) → IsForeign number → middle.master number ≡ Some above → IsForeign above
+  middle_above number above foreign e =
+      ⊎_elim
+      (λ same. foreign_above world names apart fresh serves number above foreign (sym same ∙ e))
+      (λ made. after made.0 (named_other made.0 made.1) made.0.propagation refl (sym made.3 ∙ e))
+      (new_masters group number named world.master)
+    where
+      after : (mount : Mount ℕ) → Among mount (other_mounts nat_eq world names) → (kind : Propagation ℕ)
+          → mount.propagation ≡ kind → master_after kind ≡ Some above → IsForeign above
+      after mount m (Shared g) k h = none_is_some above h
+      after mount m (Slave g) k h = old_foreign mount m above (inr (ap (master_of world) k ∙ h))
+      after mount m Private k h = none_is_some above h
+      after mount m Unbindable k h = none_is_some above h
+
+  heir_foreign : (number found : ℕ) → IsForeign number → heir nat_eq middle (Some number) ≡ Some found
+      → IsForeign found
+  heir_foreign number found foreign e =
+      along_chain middle.master IsForeign (λ above lower up lower_foreign. middle_above lower above lower_foreign up)
+      (length middle.mounts) number found foreign
+      (is_among_numbers (groups_up middle number) found
+      (found_among (has_members nat_eq middle.mounts) (groups_up middle number) found e))
+
+  -- the type of a mount of others, once types are set
+  retyped_foreign : (other : Mount ℕ) → Among other (other_mounts nat_eq world names)
+      → IsOfOthers (retype other).propagation
+  retyped_foreign other m = by (is_named other)
+    where
+      old : IsOfOthers other.propagation
+      old = (
+        λ number e. old_foreign other m number (inl e),
+        λ number e. old_foreign other m number (inr (ap (master_of world) e)),
+      )
+
+      made : (number : ℕ) → group other.number ≡ number → IsForeign number
+      made number e = let new = new_group other.number in inr (new.0, sym e ∙ new.1)
+
+      none : IsOfOthers Private
+      none = (λ number e. none_is_some number e, λ number e. none_is_some number (ap source_of e))
+
+      unbindable : IsOfOthers Unbindable
+      unbindable = (λ number e. none_is_some number e, λ number e. none_is_some number (ap source_of e))
+
+      shared_new : IsOfOthers (Shared (group other.number))
+      shared_new = (
+        λ number e. made number (same_Some (group other.number) number e),
+        λ number e. none_is_some (group other.number) (sym (ap group_of e)),
+      )
+
+      typed : (word : TypeWord) (kind : Propagation ℕ) → other.propagation ≡ kind
+          → IsOfOthers (type_after (group other.number) word kind)
+      typed ToShared (Shared g) k = subst IsOfOthers k old
+      typed ToShared (Slave g) k = shared_new
+      typed ToShared Private k = shared_new
+      typed ToShared Unbindable k = shared_new
+      typed ToSlave (Shared g) k = (
+        λ number e. none_is_some number e,
+        λ number e. old_foreign other m number (inl (ap group_of k ∙ ap source_of e)),
+      )
+      typed ToSlave (Slave g) k = subst IsOfOthers k old
+      typed ToSlave Private k = none
+      typed ToSlave Unbindable k = unbindable
+      typed ToPrivate kind k = none
+      typed ToUnbindable kind k = unbindable
+
+      by : (b : Bool) → IsOfOthers
+          (cond b (record other { propagation = type_after (group other.number) word other.propagation }) other).propagation
+      by true = typed word other.propagation refl
+      by false = old
+
+  -- and once their slaves have other masters
+  inherited_foreign : (kind : Propagation ℕ) → IsOfOthers kind → IsOfOthers (inherited nat_eq middle kind)
+  inherited_foreign (Shared g) is = is
+  inherited_foreign (Slave g) is = by (heir nat_eq middle (Some g)) refl
+    where
+      by : (o : Option ℕ) → heir nat_eq middle (Some g) ≡ o → IsOfOthers (slave_of_heir o)
+      by None e = (λ number f. none_is_some number f, λ number f. none_is_some number (ap source_of f))
+      by (Some found) e = (
+        λ number f. none_is_some number f,
+        λ number f. subst IsForeign (same_Some found number (ap source_of f))
+            (heir_foreign g found (is.1 g refl) e),
+      )
+  inherited_foreign Private is = is
+  inherited_foreign Unbindable is = is
+
+  -- All of it, where some group lost its last member, or none did
+  module _ (lost : Bool) where
+    abbrev regroup : Mount ℕ → Mount ℕ
+    regroup mount = cond lost (inheriting nat_eq middle mount) mount
+
+    abbrev change : Mount ℕ → Mount ℕ
+    change mount = regroup (retype mount)
+
+    abbrev after_all : World ℕ
+    after_all = regrouped_by nat_eq lost middle
+
+    mounts_are : after_all.mounts ≡ map change world.mounts
+    mounts_are =
+        by lost ∙ map_twice regroup retype world.mounts
+      where
+        by : (b : Bool) → (regrouped_by nat_eq b middle).mounts
+            ≡ map (λ (mount : Mount ℕ). cond b (inheriting nat_eq middle mount) mount) middle.mounts
+        by true = refl
+        by false = sym (map_same (λ (mount : Mount ℕ). mount) middle.mounts (λ mount m. refl))
+
+    -- only the type changes
+    retyped_type : (mount : Mount ℕ) → (kind : Propagation ℕ) × (retype mount ≡ record mount { propagation = kind })
+    retyped_type mount = by (is_named mount)
+      where
+        by : (b : Bool) → (kind : Propagation ℕ)
+            × (cond b (record mount { propagation = type_after (group mount.number) word mount.propagation }) mount
+            ≡ record mount { propagation = kind })
+        by true = (type_after (group mount.number) word mount.propagation, refl)
+        by false = (mount.propagation, refl)
+
+    regrouped_type : (mount : Mount ℕ) → (kind : Propagation ℕ) × (regroup mount ≡ record mount { propagation = kind })
+    regrouped_type mount = by lost
+      where
+        by : (b : Bool) → (kind : Propagation ℕ)
+            × (cond b (inheriting nat_eq middle mount) mount ≡ record mount { propagation = kind })
+        by true = (inherited nat_eq middle mount.propagation, refl)
+        by false = (mount.propagation, refl)
+
+    changed_type : (mount : Mount ℕ) → (kind : Propagation ℕ) × (change mount ≡ record mount { propagation = kind })
+    changed_type mount =
+        let one = retyped_type mount in
+        let two = regrouped_type (retype mount) in
+        (two.0, two.1 ∙ ap (λ (x : Mount ℕ). record x { propagation = two.0 }) one.1)
+
+    keeps : KeepsPlaces change
+    keeps = record {
+      number = λ mount. ap (λ (x : Mount ℕ). x.number) (changed_type mount).1;
+      namespace = λ mount. ap (λ (x : Mount ℕ). x.namespace) (changed_type mount).1;
+      filesystem = λ mount. ap (λ (x : Mount ℕ). x.filesystem) (changed_type mount).1;
+    }
+
+    -- a mount of theirs stays
+    own_type_stays : (own : Mount ℕ) → Among own (own_mounts nat_eq world names)
+        → inherited nat_eq middle own.propagation ≡ own.propagation
+    own_type_stays own m = by own.propagation refl
+      where
+        by : (kind : Propagation ℕ) → own.propagation ≡ kind → inherited nat_eq middle kind ≡ kind
+        by (Shared g) e = refl
+        by (Slave g) e = ap slave_of_heir (heir_stays own m g (inr (ap (master_of world) e)))
+        by Private e = refl
+        by Unbindable e = refl
+
+    regroup_stays : (mount : Mount ℕ) → inherited nat_eq middle mount.propagation ≡ mount.propagation
+        → regroup mount ≡ mount
+    regroup_stays mount e = by lost
+      where
+        by : (b : Bool) → cond b (inheriting nat_eq middle mount) mount ≡ mount
+        by true = ap (λ kind. record mount { propagation = kind }) e
+        by false = refl
+
+    own_stays : (own : Mount ℕ) → Among own (own_mounts nat_eq world names) → change own ≡ own
+    own_stays own m =
+        ap regroup (stays own (own_not_named own m)) ∙ regroup_stays own (own_type_stays own m)
+
+    nowhere_stays : (mount : Mount ℕ) → Among mount world.mounts → mount.namespace ≡ None → change mount ≡ mount
+    nowhere_stays mount there none =
+        ap regroup (stays mount (not_named mount there (λ e. none_is_some namespace (sym none ∙ e))))
+        ∙ regroup_stays mount (by mount.propagation (and_parts (not (is_some mount.mount_point))
+        (is_private mount.propagation)
+        (sym (ap (λ o. is_some o || (not (is_some mount.mount_point) && is_private mount.propagation)) none)
+        ∙ among_from_list_all is_nowhere_or_attached world.mounts apart.is.mounts.nowhere mount there)).1)
+      where
+        by : (kind : Propagation ℕ) → is_private kind ≡ true → inherited nat_eq middle kind ≡ kind
+        by (Shared g) h = refl
+        by (Slave g) h = absurd (true≢false (sym h))
+        by Private h = refl
+        by Unbindable h = refl
+
+    kept_same : (mount : Mount ℕ) → Among mount world.mounts
+        → keep world names (members world names) (change mount) ≡ keep world names (members world names) mount
+    kept_same mount there = by mount.namespace refl
+      where
+        by : (o : Option ℕ) → mount.namespace ≡ o
+            → keep world names (members world names) (change mount) ≡ keep world names (members world names) mount
+        by None e = ap (keep world names (members world names)) (nowhere_stays mount there e)
+        by (Some n) e = which (is_own_namespace nat_eq world names n) refl
+          where
+            which : (b : Bool) → is_own_namespace nat_eq world names n ≡ b
+                → keep world names (members world names) (change mount) ≡ keep world names (members world names) mount
+            which true own =
+                ap (keep world names (members world names)) (own_stays mount
+                (among-filter (is_own_mount nat_eq world names) world.mounts mount there
+                (ap (holds_of (is_own_namespace nat_eq world names)) e ∙ own)))
+            which false other =
+                let no : (is_own world names (members world names) mount
+                || is_at nat_eq (roots_and_directories (members world names)) mount) ≡ false =
+                ap (λ b. b || is_at nat_eq (roots_and_directories (members world names)) mount)
+                (not_own world names apart n other mount there e)
+                ∙ not_stood_on world names apart n other mount there e in
+                let changed = changed_type mount in
+                ap (keep world names (members world names)) changed.1
+                ∙ ap (λ b. cond b (Some (record mount { propagation = changed.0 }))
+                (when (is_at nat_eq (locations (members world names)) mount) (seen_by_descriptor mount))) no
+                ∙ sym (ap (λ b. cond b (Some mount)
+                (when (is_at nat_eq (locations (members world names)) mount) (seen_by_descriptor mount))) no)
+
+    -- masters of groups of theirs
+    own_master_stays : (number : ℕ) → list_any (is_member_of nat_eq number) (own_mounts nat_eq world names) ≡ true
+        → after_all.master number ≡ world.master number
+    own_master_stays number h =
+        let own = any_among (is_member_of nat_eq number) (own_mounts nat_eq world names) h in
+        let there = (among-from_filter (is_own_mount nat_eq world names) world.mounts own.0 own.1).0 in
+        let is_in = member_group number own.0 own.2 in
+        let same : middle.master number ≡ world.master number =
+        ⊎_elim (λ e. e)
+        (λ made. let new = new_group made.0.number in
+        absurd (member_not_new world fresh serves own.0 number new.0 there is_in (made.2 ∙ new.1)))
+        (new_masters group number named world.master) in
+        by lost same (above own.0 own.1 is_in (world.master number) refl)
+      where
+        above : (own : Mount ℕ) → Among own (own_mounts nat_eq world names) → group_of own.propagation ≡ Some number
+            → (o : Option ℕ) → world.master number ≡ o → heir nat_eq middle o ≡ o
+        above own m is_in None e = refl
+        above own m is_in (Some upper) e = heir_stays own m upper (inr (of own.propagation is_in ∙ e))
+          where
+            of : (kind : Propagation ℕ) → group_of kind ≡ Some number → master_of world kind ≡ world.master number
+            of (Shared g) f = ap world.master (same_Some g number f)
+            of (Slave g) f = none_is_some number f
+            of Private f = none_is_some number f
+            of Unbindable f = none_is_some number f
+
+        by : (b : Bool) → middle.master number ≡ world.master number
+            → heir nat_eq middle (world.master number) ≡ world.master number
+            → (regrouped_by nat_eq b middle).master number ≡ world.master number
+        by true same up = ap (heir nat_eq middle) same ∙ up
+        by false same up = same
+
+    after_above : (number above : ℕ) → IsForeign number → after_all.master number ≡ Some above → IsForeign above
+    after_above number above foreign = by lost
+      where
+        up : (o : Option ℕ) → middle.master number ≡ o → heir nat_eq middle o ≡ Some above → IsForeign above
+        up None e f = none_is_some above f
+        up (Some upper) e f = heir_foreign upper above (middle_above number upper foreign e) f
+
+        by : (b : Bool) → (regrouped_by nat_eq b middle).master number ≡ Some above → IsForeign above
+        by true e = up (middle.master number) refl e
+        by false e = middle_above number above foreign e
+
+    -- the sweep may take masters, but not those of groups of theirs
+    module _ (master : ℕ → Option ℕ)
+        (taken : (number : ℕ) → (master number ≡ after_all.master number) ⊎ (master number ≡ None))
+        (theirs_stay : (number : ℕ) → list_any (is_member_of nat_eq number) (own_mounts nat_eq world names) ≡ true
+        → master number ≡ after_all.master number) where
+      abbrev left : World ℕ
+      left = record world { mounts = map change world.mounts; master = master }
+
+      own_masters : (number : ℕ) → list_any (is_member_of nat_eq number) (own_mounts nat_eq world names) ≡ true
+          → master number ≡ world.master number
+      own_masters number h = theirs_stay number h ∙ own_master_stays number h
+
+      left_above : (number above : ℕ) → IsForeign number → master number ≡ Some above → IsForeign above
+      left_above number above foreign e =
+          ⊎_elim (λ same. after_above number above foreign (sym same ∙ e)) (λ none. none_is_some above (sym none ∙ e))
+          (taken number)
+
+      heard_foreign : (kind : Propagation ℕ) → IsOfOthers kind → (number : ℕ)
+          → HearsGroup world names apart fresh serves left kind number → IsForeign number
+      heard_foreign (Shared g) is number how = ⊎_elim (is.0 number) (λ e. left_above g number (is.0 g refl) e) how
+      heard_foreign (Slave g) is number how =
+          ⊎_elim (λ e. none_is_some number e) (λ e. subst IsForeign (same_Some g number e) (is.1 g refl)) how
+      heard_foreign Private is number how = ⊎_elim (λ e. none_is_some number e) (λ e. none_is_some number e) how
+      heard_foreign Unbindable is number how = ⊎_elim (λ e. none_is_some number e) (λ e. none_is_some number e) how
+
+      changed_foreign : (other : Mount ℕ) → Among other (other_mounts nat_eq world names)
+          → IsOfOthers (change other).propagation
+      changed_foreign other m = by lost
+        where
+          by : (b : Bool)
+              → IsOfOthers (cond b (inheriting nat_eq middle (retype other)) (retype other)).propagation
+          by true = inherited_foreign (retype other).propagation (retyped_foreign other m)
+          by false = retyped_foreign other m
+
+      own_kinds : (own : Mount ℕ) → Among own (own_mounts nat_eq world names)
+          → master_of left own.propagation ≡ master_of world own.propagation
+      own_kinds own m = by own.propagation refl
+        where
+          by : (kind : Propagation ℕ) → own.propagation ≡ kind → master_of left kind ≡ master_of world kind
+          by (Shared g) e =
+              own_masters g (any_from_among (is_member_of nat_eq g) (own_mounts nat_eq world names) own m
+              (ap (λ kind. holds_of (nat_eq g) (group_of kind)) e ∙ eq-eqb g g refl))
+          by (Slave g) e = refl
+          by Private e = refl
+          by Unbindable e = refl
+
+      events : shares_no_events nat_eq left names ≡ true
+      events =
+          events_stay_apart world names apart fresh serves left
+          (own_mounts_same world left names (sees world names apart change keeps kept_same master own_masters)) own_kinds
+          (λ other m number how.
+          let from = among-from_map change (other_mounts nat_eq world names) other
+          (subst (Among other) (others_changed world names apart change keeps kept_same master) m) in
+          heard_foreign (change from.0).propagation (changed_foreign from.0 from.1) number
+          (subst (λ kind. HearsGroup world names apart fresh serves left kind number)
+          (ap (λ (x : Mount ℕ). x.propagation) from.2) how))
+
+      pub retyping_leaves_apart : LeavesApart world left names []
+      retyping_leaves_apart =
+          changing_leaves_apart world names apart change keeps kept_same master own_masters events
+
+-- what a change of types names is in the namespace
+tree_in : (world : World ℕ) (names : List TaskName) (apart : IsApart world names) (namespace depth : ℕ)
+    (mount : Mount ℕ) → IsIn world namespace mount → (x : Mount ℕ) → Among x (tree_from nat_eq depth world.mounts mount)
+    → IsIn world namespace x
+tree_in world names apart namespace zero mount is x m =
+    ⊎_elim (λ e. subst (IsIn world namespace) (sym e) is) (λ none. absurd none) m
+tree_in world names apart namespace (suc depth) mount is x m =
+    ⊎_elim (λ e. subst (IsIn world namespace) (sym e) is)
+    (λ later.
+    let from = among-from_flat_map (tree_from nat_eq depth world.mounts) (children nat_eq world.mounts mount.number) x
+    later in
+    tree_in world names apart namespace depth from.0 (child_in world names apart namespace mount is from.0 from.1) x from.2)
+    m
+
+named_are_in : (world : World ℕ) (names : List TaskName) (apart : IsApart world names) (namespace number : ℕ)
+    → (mount_numbered nat_eq world number).namespace ≡ Some namespace → (recursive : Bool) (mount : Mount ℕ)
+    → Among mount (named_mounts nat_eq world number recursive) → IsIn world namespace mount
+named_are_in world names apart namespace number placed recursive mount m = by recursive m
+  where
+    first : IsIn world namespace (mount_numbered nat_eq world number)
+    first = (
+      ⊎_elim (λ there. there) (λ none. none_is_some namespace (sym (ap (λ (x : Mount ℕ). x.namespace) none) ∙ placed))
+          (found_or_none world.mounts number),
+      placed,
+    )
+
+    by : (recursive : Bool) → Among mount (named_mounts nat_eq world number recursive) → IsIn world namespace mount
+    by true n =
+        tree_in world names apart namespace (length world.mounts) (mount_numbered nat_eq world number) first mount n
+    by false n = ⊎_elim (λ e. subst (IsIn world namespace) (sym e) first) (λ none. absurd none) n
+
+module _ (world : World ℕ) (fresh : Fresh ℕ) (names : List TaskName) (name : TaskName) (call : Call)
+    (task : Task ℕ) (outsider : IsOutsidersCall world fresh names name call) (called : task_called world name ≡ Some task)
+    (number : ℕ) (word : TypeWord) (recursive : Bool)
+    (judged : judge_in nat_eq fresh world task call ≡ Ok (ToSetType number word recursive)) where
+  apart_before : IsApart world names
+  apart_before = apart_if_sealed world names outsider.is outsider.sealed_off
+
+  for_type : (path : List ℕ) × (call ≡ SetType path word recursive)
+  for_type = permits_are_for_their_calls fresh world task call (ToSetType number word recursive) judged
+
+  called_so : task_called world task.name ≡ Some task
+  called_so = ap (task_called world) (sym (name_found world name task called)) ∙ called
+
+  placed : (mount_numbered nat_eq world number).namespace ≡ Some task.namespace
+  placed =
+      (all_permits_fit world fresh task call (ToSetType number word recursive) outsider.is outsider.serves called_so
+      (ap mounts_overlay for_type.1) judged).names
+
+  outside : is_own_namespace nat_eq world names task.namespace ≡ false
+  outside =
+      namespace_outside world names apart_before task (caller_outside world fresh names name call task outsider called)
+
+  abbrev its_named : List (Mount ℕ)
+  its_named = named_mounts nat_eq world number recursive
+
+  abbrev its_group : ℕ → ℕ
+  its_group = numbers_by nat_eq fresh its_named
+
+  its_new : (n : ℕ) → (k : ℕ) × (its_group n ≡ fresh k)
+  its_new n = (index_of nat_eq its_named n, refl)
+
+  its_named_in : (mount : Mount ℕ) → Among mount its_named → IsIn world task.namespace mount
+  its_named_in = named_are_in world names apart_before task.namespace number placed recursive
+
+  abbrev halfway : World ℕ
+  halfway = record world {
+    mounts = map (retyped_mount nat_eq its_group word its_named) world.mounts;
+    master = with_new_groups nat_eq its_group world.master its_named;
+  }
+
+  abbrev has_lost : Bool
+  has_lost = list_any (lost_a_group nat_eq halfway) halfway.mounts
+
+  abbrev done : World ℕ
+  done = (apply nat_eq fresh world task (ToSetType number word recursive)).world
+
+  abbrev last_master : ℕ → Option ℕ
+  last_master = (settled nat_eq done).master
+
+  abbrev changes : Mount ℕ → Mount ℕ
+  changes = change world names apart_before fresh outsider.serves task.namespace outside its_group its_new word its_named
+      its_named_in has_lost
+
+  done_mounts : done.mounts ≡ map changes world.mounts
+  done_mounts =
+      mounts_are world names apart_before fresh outsider.serves task.namespace outside its_group its_new word its_named
+      its_named_in has_lost
+
+  swept : settled nat_eq done ≡ record world { mounts = map changes world.mounts; master = last_master }
+  swept =
+      subst KeepsAllButMasters
+      (ap (λ c. (call_outcome nat_eq fresh world task c).world) (sym for_type.1)
+      ∙ ap (λ j. (after world j (apply nat_eq fresh world task)).world) judged)
+      (all_types_leave_all_but_masters world fresh task for_type.0 word recursive outsider.is outsider.serves called_so)
+      ∙ tail has_lost
+      ∙ ap (λ ms. record world { mounts = ms; master = last_master }) done_mounts
+    where
+      tail : (b : Bool) → record (regrouped_by nat_eq b halfway) { master = last_master }
+          ≡ record world { mounts = (regrouped_by nat_eq b halfway).mounts; master = last_master }
+      tail true = refl
+      tail false = refl
+
+  taken_or_not : (n : ℕ) → (last_master n ≡ done.master n) ⊎ (last_master n ≡ None)
+  taken_or_not n = by (has_members nat_eq (filter (mount_lives nat_eq done) done.mounts) n)
+    where
+      by : (b : Bool) → (cond b (done.master n) None ≡ done.master n) ⊎ (cond b (done.master n) None ≡ None)
+      by true = inl refl
+      by false = inr refl
+
+  theirs_stay_there : (n : ℕ) → list_any (is_member_of nat_eq n) (own_mounts nat_eq world names) ≡ true
+      → last_master n ≡ done.master n
+  theirs_stay_there n h =
+      let own = any_among (is_member_of nat_eq n) (own_mounts nat_eq world names) h in
+      let at = among-from_filter (is_own_mount nat_eq world names) world.mounts own.0 own.1 in
+      ap (λ b. cond b (done.master n) None)
+      (any_from_among (is_member_of nat_eq n) (filter (mount_lives nat_eq done) done.mounts) own.0
+      (among-filter (mount_lives nat_eq done) done.mounts own.0
+      (subst (Among own.0) (sym done_mounts)
+      (subst (λ x. Among x (map changes world.mounts))
+      (own_stays world names apart_before fresh outsider.serves task.namespace outside its_group its_new word its_named
+      its_named_in has_lost own.0 own.1)
+      (among-map changes world.mounts own.0 at.0)))
+      (or_left (is_some own.0.namespace) _ (lives own.0.namespace at.1)))
+      own.2)
+    where
+      lives : (o : Option ℕ) → holds_of (is_own_namespace nat_eq world names) o ≡ true → is_some o ≡ true
+      lives None f = f
+      lives (Some x) f = refl
+
+  type_leaves : LeavesApart world (settled nat_eq done) names []
+  type_leaves =
+      subst (λ w. LeavesApart world w names []) (sym swept)
+      (retyping_leaves_apart world names apart_before fresh outsider.serves task.namespace outside its_group its_new word
+      its_named its_named_in has_lost last_master taken_or_not theirs_stay_there)
+
+by_type : (world : World ℕ) (fresh : Fresh ℕ) (names : List TaskName) (name : TaskName) (call : Call)
+    (task : Task ℕ) → IsOutsidersCall world fresh names name call → task_called world name ≡ Some task
+    → (permit : Permit ℕ) → judge_in nat_eq fresh world task call ≡ Ok permit → sets_types permit ≡ true
+    → LeavesApart world (settled nat_eq (apply nat_eq fresh world task permit).world) names
+    (filesystems_changed nat_eq world permit)
+by_type world fresh names name call task outsider called (ToSetType number word recursive) judged e =
+    type_leaves world fresh names name call task outsider called number word recursive judged
+by_type world fresh names name call task outsider called permit judged e = absurd (true≢false (sym e))
+
+pub types_leave_a_sealed_set : LeaveASealedSet sets_types
+types_leave_a_sealed_set =
+    by_permit sets_types (λ world fresh names name call task permit outsider called judged these.
+    by_type world fresh names name call task outsider called permit judged these)

@@ -1,0 +1,209 @@
+-- Where a task of others gets: to mounts of its namespace, or where it stands.
+use Rattle.std.proofs.Common.{◌≡◌, refl, sym, ap, subst, ◌∙◌, ◌⊎◌, inl, inr, ⊎_elim, ℕ, nat_eq, Bool, true, false, cond, true≢false, List, [], ◌∷◌, Option, Some, None, Ok, Err, Result, is_some, length, not, ◌&&◌, ◌||◌, eqb-true}
+use Rattle.std.specs.Prelude.{ok_or, option_map, option_to_list}
+use Rattle.std.specs.List.{list_all}
+use Rattle.std.proofs.lemmas.Bool.{and_parts}
+use Rattle.std.proofs.lemmas.Option.{same_Some}
+use Rattle.vt_spec.specs.declared.errors.Deny.{Deny}
+use Rattle.vt_spec.specs.declared.errors.Rule.TheVariants.{W6, W8}
+use Rattle.vt_spec.specs.Errors.{denial, unless}
+use Rattle.vt_spec.specs.Lists.{last_or}
+use Rattle.vt_spec.specs.Machine.Invariants.{IsWorld, Stands, is_directory_seen_in, is_nowhere_or_attached, is_private, stands_on_directories}
+use Rattle.vt_spec.specs.Machine.Looks.{looks_of}
+use Rattle.vt_spec.specs.Machine.Mounts.{Location, Mount, child_at, root_of, same_location, stands_at, topmost}
+use Rattle.vt_spec.specs.Machine.Walking.{LastWord, entry_location, hop, hops, is_lost, is_top, last_word, parent_location, start_of, stepped, up_from}
+use Rattle.vt_spec.specs.Machine.Walking.LastWord.{Dot, DotDot, Named, NoWord}
+use Rattle.vt_spec.specs.Machine.World.{Task, World, is_directory_at, mount_at, mount_numbered}
+use Rattle.vt_spec.specs.PathText.{is_absolute, words}
+use Rattle.vt_spec.proofs.Found.{found_among, found_passes}
+use Rattle.vt_spec.proofs.Lists.{Among, among_from_all, among_from_list_all}
+use Rattle.vt_spec.proofs.Options.{none_is_some}
+use Rattle.vt_spec.proofs.Worlds.{found_or_none, number-mount_in}
+use Rattle.vt_laws_trees.proofs.trees.TreesEntered.{chain_ends}
+use Rattle.vt_laws_mounts.proofs.mounts.MountsPlaces.{stands_there}
+use Rattle.vt_laws_mounts.proofs.mounts.MountsReplaced.{found_itself}
+use Rattle.vt_laws_worlds.proofs.worlds.Reached.{namespace_below}
+use Rattle.vt_laws_calls.specs.Searched.{IsSearchedTo, Way}
+use Rattle.vt_laws_calls.specs.Searched.Way.{arrives, follows, goes_on}
+
+module _ (world : World ℕ) (is : IsWorld nat_eq world) (task : Task ℕ) (there : Among task world.tasks) where
+  -- a mount of the task's namespace, or a detached one that its root or working directory is on
+  abbrev pub IsGround : ℕ → Type 0
+  IsGround number =
+      ((mount_numbered nat_eq world number).namespace ≡ Some task.namespace)
+      ⊎ (((mount_numbered nat_eq world number).namespace ≡ None)
+      × ((number ≡ task.root.mount) ⊎ (number ≡ task.directory.mount)))
+
+  abbrev OnGround : Location ℕ → Type 0
+  OnGround location = IsGround location.mount
+
+  seen : (location : Location ℕ) → is_directory_seen_in nat_eq world task.namespace location ≡ true
+      → ((mount_at nat_eq world location).namespace ≡ Some task.namespace)
+      ⊎ ((mount_at nat_eq world location).namespace ≡ None)
+  seen location h =
+      by (mount_at nat_eq world location).namespace refl
+      (and_parts (is_directory_at nat_eq world location)
+      (list_all (nat_eq task.namespace) (option_to_list (mount_at nat_eq world location).namespace)) h).1
+    where
+      by : (o : Option ℕ) → (mount_at nat_eq world location).namespace ≡ o
+          → list_all (nat_eq task.namespace) (option_to_list o) ≡ true
+          → ((mount_at nat_eq world location).namespace ≡ Some task.namespace)
+          ⊎ ((mount_at nat_eq world location).namespace ≡ None)
+      by None e h = inr e
+      by (Some n) e h =
+          inl (e ∙ ap Some (sym (eqb-true task.namespace n (and_parts (nat_eq task.namespace n) true h).0)))
+
+  stood : (is_directory_seen_in nat_eq world task.namespace task.root ≡ true)
+      × (is_directory_seen_in nat_eq world task.namespace task.directory ≡ true)
+  stood =
+      and_parts (is_directory_seen_in nat_eq world task.namespace task.root)
+      (is_directory_seen_in nat_eq world task.namespace task.directory)
+      (among_from_list_all (stands_on_directories nat_eq world) world.tasks is.tasks.directories task there)
+
+  root_ground : OnGround task.root
+  root_ground = ⊎_elim inl (λ none. inr (none, inl refl)) (seen task.root stood.0)
+
+  pub directory_ground : OnGround task.directory
+  directory_ground = ⊎_elim inl (λ none. inr (none, inr refl)) (seen task.directory stood.1)
+
+  pub start_ground : (directory : Location ℕ) (text : List ℕ) → OnGround directory → OnGround (start_of task directory text)
+  start_ground directory text ground = by (is_absolute text)
+    where
+      by : (b : Bool) → OnGround (cond b task.root directory)
+      by true = root_ground
+      by false = ground
+
+  -- what is in no namespace has no mount point
+  pub nowhere_unplaced : (mount : Mount ℕ) → Among mount world.mounts → mount.namespace ≡ None → (point : Location ℕ)
+      → mount.mount_point ≡ Some point → ⊥
+  nowhere_unplaced mount m none point e =
+      true≢false
+      (sym (and_parts (not (is_some mount.mount_point)) (is_private mount.propagation)
+      (sym (ap (λ o. is_some o || (not (is_some mount.mount_point) && is_private mount.propagation)) none)
+      ∙ among_from_list_all is_nowhere_or_attached world.mounts is.mounts.nowhere mount m)).0
+      ∙ ap (λ o. not (is_some o)) e)
+
+  -- a child is on the same ground
+  child_ground : (a b : Location ℕ) → OnGround a → option_map root_of (child_at nat_eq world.mounts a) ≡ Some b
+      → OnGround b
+  child_ground a b ground e = by (child_at nat_eq world.mounts a) refl e
+    where
+      by : (o : Option (Mount ℕ)) → child_at nat_eq world.mounts a ≡ o → option_map root_of o ≡ Some b → OnGround b
+      by None f h = none_is_some b h
+      by (Some child) f h =
+          let m = found_among (stands_at nat_eq a) world.mounts child f in
+          let itself = found_itself world.mounts is.mounts.one_number child m in
+          let point = stands_there a child (found_passes (stands_at nat_eq a) world.mounts child f) in
+          let same = namespace_below world child.number a
+          (among_from_all (λ (x : Mount ℕ). Stands nat_eq world x.number) world.mounts is.mounts.standing child m)
+          (ap (λ (x : Mount ℕ). x.mount_point) itself ∙ point) in
+          subst OnGround (same_Some (root_of child) b h)
+          (⊎_elim (λ own. inl (same ∙ own))
+          (λ none. absurd (nowhere_unplaced child m
+          (ap (λ (x : Mount ℕ). x.namespace) (sym itself) ∙ same ∙ none.0) a point)) ground)
+
+  pub topmost_ground : (location : Location ℕ) → OnGround location → OnGround (topmost nat_eq world.mounts location)
+  topmost_ground location ground =
+      chain_ends OnGround (λ here. option_map root_of (child_at nat_eq world.mounts here)) child_ground
+      (length world.mounts) location location ground
+
+  -- so is a parent
+  parent_ground : (number : ℕ) (point : Location ℕ) → IsGround number
+      → (mount_numbered nat_eq world number).mount_point ≡ Some point → OnGround point
+  parent_ground number point ground e =
+      ⊎_elim
+      (λ own.
+      let m = found number own in
+      inl (sym (namespace_below world number point
+      (subst (Stands nat_eq world) (number-mount_in world.mounts number)
+      (among_from_all (λ (x : Mount ℕ). Stands nat_eq world x.number) world.mounts is.mounts.standing
+      (mount_numbered nat_eq world number) m)) e) ∙ own))
+      (λ none. ⊎_elim
+      (λ m. absurd (nowhere_unplaced (mount_numbered nat_eq world number) m none.0 point e))
+      (λ missing. none_is_some point (sym (ap (λ (x : Mount ℕ). x.mount_point) missing) ∙ e))
+      (found_or_none world.mounts number))
+      ground
+    where
+      found : (number : ℕ) → (mount_numbered nat_eq world number).namespace ≡ Some task.namespace
+          → Among (mount_numbered nat_eq world number) world.mounts
+      found number own =
+          ⊎_elim (λ m. m)
+          (λ missing. none_is_some task.namespace (sym (ap (λ (x : Mount ℕ). x.namespace) missing) ∙ own))
+          (found_or_none world.mounts number)
+
+  hop_ground : (a b : Location ℕ) → OnGround a → hop nat_eq (looks_of nat_eq world) task a ≡ Some b → OnGround b
+  hop_ground a b ground e =
+      by (same_location nat_eq a task.root) (nat_eq a.node (mount_at nat_eq world a).root) e
+    where
+      by : (p q : Bool) → cond p None (cond q (mount_at nat_eq world a).mount_point None) ≡ Some b → OnGround b
+      by true q h = none_is_some b h
+      by false true h = parent_ground a.mount b ground h
+      by false false h = none_is_some b h
+
+  up_ground : (top next : Location ℕ) → OnGround top → up_from nat_eq (looks_of nat_eq world) task top ≡ Ok next
+      → OnGround next
+  up_ground top next ground e =
+      by (is_top nat_eq (looks_of nat_eq world) task top) (is_lost nat_eq (looks_of nat_eq world) top) e
+    where
+      above : Location ℕ
+      above = topmost nat_eq world.mounts (parent_location nat_eq (looks_of nat_eq world) top)
+
+      same : (a b : Location ℕ) → OnGround a → Path (Result (Location ℕ) Deny) (Ok a) (Ok b) → OnGround b
+      same a b on h = let e : a ≡ b = cc in subst OnGround e on
+
+      by : (p q : Bool)
+          → cond p (Ok top) (unless ((q, W8) ∷ []) (Ok (topmost nat_eq world.mounts
+          (parent_location nat_eq (looks_of nat_eq world) top)))) ≡ Ok next → OnGround next
+      by true q h = same top next ground h
+      by false true h = refused h
+        where
+          refused : Path (Result (Location ℕ) Deny) (Err (denial W8)) (Ok next) → OnGround next
+          refused k = absurd cc
+      by false false h =
+          same (topmost nat_eq world.mounts (parent_location nat_eq (looks_of nat_eq world) top)) next
+          (topmost_ground (parent_location nat_eq (looks_of nat_eq world) top) ground) h
+
+  pub step_ground : (here next : Location ℕ) (word : LastWord) → OnGround here
+      → stepped nat_eq (looks_of nat_eq world) task here word ≡ Ok next → OnGround next
+  step_ground here next NoWord ground e = let same : here ≡ next = cc in subst OnGround same ground
+  step_ground here next Dot ground e = let same : here ≡ next = cc in subst OnGround same ground
+  step_ground here next DotDot ground e =
+      up_ground (last_or here (hops nat_eq (looks_of nat_eq world) task here)) next
+      (chain_ends OnGround (hop nat_eq (looks_of nat_eq world) task) hop_ground (length world.mounts) here here ground) e
+  step_ground here next (Named name) ground e =
+      by (entry_location nat_eq (looks_of nat_eq world) here name) refl e
+    where
+      by : (o : Option (Location ℕ)) → entry_location nat_eq (looks_of nat_eq world) here name ≡ o
+          → ok_or (option_map (topmost nat_eq world.mounts) o) (denial W6) ≡ Ok next → OnGround next
+      by None f h = refused h
+        where
+          refused : Path (Result (Location ℕ) Deny) (Err (denial W6)) (Ok next) → OnGround next
+          refused k = absurd cc
+      by (Some entry) f h = reached h
+        where
+          on_mount : (o : Option ℕ) → option_map (λ object. record { mount = here.mount; node = object }) o ≡ Some entry
+              → OnGround entry
+          on_mount None g = none_is_some entry g
+          on_mount (Some object) g =
+              subst OnGround (same_Some (record { mount = here.mount; node = object }) entry g) ground
+
+          reached : Path (Result (Location ℕ) Deny) (Ok (topmost nat_eq world.mounts entry)) (Ok next) → OnGround next
+          reached k =
+              let same : topmost nat_eq world.mounts entry ≡ next = cc in
+              subst OnGround same (topmost_ground entry (on_mount _ f))
+
+  -- the end of a way
+  pub way_ground : (here end : Location ℕ) (path_words : List (List ℕ)) (passed : List (Location ℕ))
+      → Way world task here path_words passed end → OnGround here → OnGround end
+  way_ground here end path_words passed (arrives at) ground = ground
+  way_ground here end path_words passed (goes_on at next last word rest walked e plain way) ground =
+      way_ground next last rest walked way (step_ground at next (last_word word) ground e)
+  way_ground here end path_words passed (follows at link inside last word text rest in_text walked e linked text_way way)
+      ground =
+      way_ground inside last rest walked way
+      (way_ground (start_of task at text) inside (words text) in_text text_way (start_ground at text ground))
+
+  pub searched_ground : (path : List ℕ) (end : Location ℕ) → IsSearchedTo world task path end → OnGround end
+  searched_ground path end searched =
+      way_ground (start_of task task.directory path) end (words path) searched.passed searched.way
+      (start_ground task.directory path directory_ground)

@@ -1,0 +1,170 @@
+-- A call of a task outside a sealed set leaves it sealed, if the set sees the same and others stay outside.
+use Rattle.std.proofs.Common.{◌≡◌, refl, sym, ap, subst, ◌∙◌, ◌⊎◌, inl, inr, ⊎_elim, ℕ, nat_eq, Bool, true, false, List, Some, Result, Ok, Err, map, not, ◌||◌}
+use Rattle.std.specs.List.{list_all, list_any}
+use Rattle.std.proofs.lemmas.Bool.{and_from, and_parts, or_cases, or_left, or_right}
+use Rattle.vt_spec.specs.declared.errors.Deny.{Deny}
+use Rattle.vt_spec.specs.Language.Answers.{Answer}
+use Rattle.vt_spec.specs.Language.Calls.{Call, TaskName}
+use Rattle.vt_spec.specs.Lists.{Fresh, is_among}
+use Rattle.vt_spec.specs.Machine.Apply.{apply, filesystems_changed}
+use Rattle.vt_spec.specs.Machine.Invariants.{IsWorld}
+use Rattle.vt_spec.specs.Machine.Judge.{judge_in}
+use Rattle.vt_spec.specs.Machine.Locked.{overlays}
+use Rattle.vt_spec.specs.Machine.Permits.{Permit}
+use Rattle.vt_spec.specs.Machine.Policy.{numbers_raised, only_looks, policy}
+use Rattle.vt_spec.specs.Machine.Sealed.{holds_all_tasks, no_outsider_on, no_outsider_on_mounts, shares_no_events, used_alone, used_filesystems}
+use Rattle.vt_spec.specs.Machine.Settled.{has_layer_on, settled}
+use Rattle.vt_spec.specs.Machine.World.{Filesystem, Task, World, is_overlay, task_called}
+use Rattle.vt_spec.proofs.Lists.{Among, among-from_filter, among-map, among_from_contains, among_from_list_all, is_among_numbers, list_all_from_among}
+use Rattle.vt_laws_rules.proofs.denials.Unchanged.{look_changes_nothing}
+use Rattle.vt_laws_rules.proofs.rules.OwnRules.{denial_changes_nothing}
+use Rattle.vt_laws_overlay_permits.proofs.worlds.EveryCall.{every_call_keeps_worlds}
+use Rattle.vt_laws_later_calls.proofs.Granted.{permitted}
+use Rattle.vt_laws_part.specs.Parts.{SeesTheSame}
+use Rattle.vt_laws_part.specs.Seals.{IsApart}
+use Rattle.vt_laws_part.proofs.part.Observed.{part_same, used_same}
+use Rattle.vt_laws_part.proofs.seals.ByPart.{apart_if_sealed, fewer_footholds_seal_too}
+use Rattle.vt_laws_sealed.specs.Outsiders.{IsOutsidersCall, LeaveASealedSet, LeavesItSealed}
+use Rattle.vt_laws_sealed.proofs.outsiders.Raising.{events_raised, on_mounts_raised, sees_raised, tasks_raised, used_alone_raised}
+
+-- a filesystem of the world, or one that the set uses
+abbrev pub IsOfTheWorld : World ℕ → List TaskName → ℕ → Type 0
+IsOfTheWorld world names number =
+    (is_among nat_eq number (map (λ (filesystem : Filesystem ℕ). filesystem.number) world.filesystems) ≡ true)
+    ⊎ Among number (used_filesystems nat_eq world names)
+
+-- what a call leaves before change numbers are raised: others are where they were, or elsewhere, but not where the set is
+pub record OthersStayOut (world left : World ℕ) (names : List TaskName) : Type 0 where
+  pub tasks : holds_all_tasks nat_eq left names ≡ true
+  pub events : shares_no_events nat_eq left names ≡ true
+  pub locations : no_outsider_on_mounts nat_eq left names ≡ true
+  pub free : (number : ℕ) → IsOfTheWorld world names number → used_alone nat_eq world names number ≡ true
+      → used_alone nat_eq left names number ≡ true
+
+-- the whole of it: the set sees the same, others stay outside, and no filesystem of the set is raised
+pub record LeavesApart (world left : World ℕ) (names : List TaskName) (changed : List ℕ) : Type 0 where
+  pub sees : SeesTheSame world left names
+  pub others : OthersStayOut world left names
+  pub unraised : (number : ℕ) → Among number (used_filesystems nat_eq world names)
+      → list_any (λ n. nat_eq n number) changed ≡ false
+
+-- what leaves the world leaves the set
+pub leaves_itself : (world later : World ℕ) (fresh : Fresh ℕ) (names : List TaskName) (name : TaskName) (call : Call)
+    → IsOutsidersCall world fresh names name call → later ≡ world → LeavesItSealed world later names
+leaves_itself world later fresh names name call outsider same =
+    subst (λ w. LeavesItSealed world w names) (sym same) (record {
+      sealed_off = outsider.sealed_off;
+      part = refl;
+      no_more = λ filesystem m alone. alone;
+    })
+
+module _ (world : World ℕ) (fresh : Fresh ℕ) (names : List TaskName) (name : TaskName) (call : Call)
+    (outsider : IsOutsidersCall world fresh names name call) where
+  apart : IsApart world names
+  apart = apart_if_sealed world names outsider.is outsider.sealed_off
+
+  module _ (left : World ℕ) (changed : List ℕ)
+      (policy_left : (policy nat_eq fresh world name call).world ≡ numbers_raised nat_eq world name changed left)
+      (leaves : LeavesApart world left names changed) where
+    abbrev later : World ℕ
+    later = numbers_raised nat_eq world name changed left
+
+    later_sees : SeesTheSame world later names
+    later_sees =
+        sees_raised world left names name changed outsider.outside leaves.sees outsider.is.mounts apart.events
+        leaves.unraised
+
+    later_is : IsWorld nat_eq later
+    later_is =
+        subst (IsWorld nat_eq) policy_left
+        (every_call_keeps_worlds world fresh name call outsider.is outsider.serves outsider.few_groups)
+
+    later_apart : IsApart later names
+    later_apart = record {
+      is = later_is;
+      tasks = tasks_raised world left names name changed outsider.outside ∙ leaves.others.tasks;
+      events = events_raised world left names name changed outsider.outside ∙ leaves.others.events;
+      locations = on_mounts_raised world left names name changed outsider.outside ∙ leaves.others.locations;
+    }
+
+    later_free : (number : ℕ) → IsOfTheWorld world names number → used_alone nat_eq world names number ≡ true
+        → used_alone nat_eq later names number ≡ true
+    later_free number of alone =
+        used_alone_raised world left names name changed outsider.outside number ∙ leaves.others.free number of alone
+
+    later_leaves : LeavesItSealed world later names
+    later_leaves = record {
+      sealed_off =
+          fewer_footholds_seal_too later world names later_apart outsider.is (part_same world later names later_sees)
+          (λ number m. later_free number
+          (inr (subst (Among number) (used_same world later names later_sees)
+          (among_from_contains (used_filesystems nat_eq later names) number m))))
+          outsider.sealed_off;
+      part = part_same world later names later_sees;
+      no_more = λ filesystem m. later_free filesystem.number
+          (inl (is_among_numbers (map (λ (f : Filesystem ℕ). f.number) world.filesystems) filesystem.number
+          (among-map (λ (f : Filesystem ℕ). f.number) world.filesystems filesystem
+          (among_from_contains world.filesystems filesystem m))));
+    }
+
+    pub leaves_it_sealed : LeavesItSealed world (policy nat_eq fresh world name call).world names
+    leaves_it_sealed = subst (λ w. LeavesItSealed world w names) (sym policy_left) later_leaves
+
+-- by the permit of the call, if it is granted
+pub by_permit : (these : Permit ℕ → Bool)
+    → ((world : World ℕ) (fresh : Fresh ℕ) (names : List TaskName) (name : TaskName) (call : Call) (task : Task ℕ)
+    (permit : Permit ℕ) → IsOutsidersCall world fresh names name call → task_called world name ≡ Some task
+    → judge_in nat_eq fresh world task call ≡ Ok permit → these permit ≡ true
+    → LeavesApart world (settled nat_eq (apply nat_eq fresh world task permit).world) names
+    (filesystems_changed nat_eq world permit))
+    → LeaveASealedSet these
+by_permit these leaves world fresh names name call outsider given =
+    by (policy nat_eq fresh world name call).answer refl
+  where
+    granted : (answer : Answer) → (policy nat_eq fresh world name call).answer ≡ Ok answer → (b : Bool)
+        → only_looks call ≡ b → LeavesItSealed world (policy nat_eq fresh world name call).world names
+    granted answer e true looks =
+        leaves_itself world (policy nat_eq fresh world name call).world fresh names name call outsider
+        (look_changes_nothing fresh world name call looks)
+    granted answer e false changes =
+        let did = permitted world fresh name call answer changes e in
+        leaves_it_sealed world fresh names name call outsider
+        (settled nat_eq (apply nat_eq fresh world did.task did.permit).world)
+        (filesystems_changed nat_eq world did.permit) did.left
+        (leaves world fresh names name call did.task did.permit outsider did.called did.judged
+        (given did.task did.permit did.called did.judged))
+
+    by : (answer : Result Answer Deny) → (policy nat_eq fresh world name call).answer ≡ answer
+        → LeavesItSealed world (policy nat_eq fresh world name call).world names
+    by (Err deny) e =
+        leaves_itself world (policy nat_eq fresh world name call).world fresh names name call outsider
+        (denial_changes_nothing fresh world name call deny e)
+    by (Ok answer) e = granted answer e (only_looks call) refl
+
+-- others have no foothold on a filesystem where none of them is, with the overlays that there were
+pub free_from : (world left : World ℕ) (names : List TaskName) → overlays left ≡ overlays world
+    → ((number : ℕ) → IsOfTheWorld world names number → no_outsider_on nat_eq world names number ≡ true
+    → no_outsider_on nat_eq left names number ≡ true)
+    → (number : ℕ) → IsOfTheWorld world names number → used_alone nat_eq world names number ≡ true
+    → used_alone nat_eq left names number ≡ true
+free_from world left names same fewer number of alone =
+    let parts = and_parts (no_outsider_on nat_eq world names number) (list_all (free_in world) (overlays world)) alone in
+    and_from (no_outsider_on nat_eq left names number) (list_all (free_in left) (overlays left))
+    (fewer number of parts.0)
+    (ap (list_all (free_in left)) same
+    ∙ list_all_from_among (free_in left) (overlays world) (λ merged m.
+    ⊎_elim (or_left (not (has_layer_on nat_eq number merged)) (no_outsider_on nat_eq left names merged.number))
+    (λ e. or_right (not (has_layer_on nat_eq number merged)) (no_outsider_on nat_eq left names merged.number)
+    (fewer merged.number (of_the_world merged m) e))
+    (or_cases (not (has_layer_on nat_eq number merged)) (no_outsider_on nat_eq world names merged.number)
+    (among_from_list_all (free_in world) (overlays world) parts.1 merged m))))
+  where
+    free_in : World ℕ → Filesystem ℕ → Bool
+    free_in in_world merged =
+        not (has_layer_on nat_eq number merged) || no_outsider_on nat_eq in_world names merged.number
+
+    of_the_world : (merged : Filesystem ℕ) → Among merged (overlays world) → IsOfTheWorld world names merged.number
+    of_the_world merged m =
+        inl (is_among_numbers (map (λ (f : Filesystem ℕ). f.number) world.filesystems) merged.number
+        (among-map (λ (f : Filesystem ℕ). f.number) world.filesystems merged
+        (among-from_filter is_overlay world.filesystems merged m).0))

@@ -1,0 +1,203 @@
+-- Mounts of others that are taken away: what is left for the set.
+use Rattle.std.proofs.Common.{◌≡◌, refl, sym, ap, subst, ◌∙◌, ◌⊎◌, inl, inr, ⊎_elim, ℕ, nat_eq, Bool, true, false, cond, true≢false, List, [], Option, Some, None, Ok, filter, length, map, not, ◌&&◌, eq-eqb, eqb-true}
+use Rattle.std.specs.Prelude.{option_map}
+use Rattle.std.specs.List.{list_any}
+use Rattle.std.proofs.lemmas.Option.{same_Some}
+use Rattle.std.proofs.lemmas.Bool.{false_from_ne_true}
+use Rattle.vt_spec.specs.Language.Calls.{TaskName}
+use Rattle.vt_spec.specs.Lists.{Fresh, holds_of}
+use Rattle.vt_spec.specs.Machine.Detach.{taken_away, after_going, is_going, mount_point_left, mount_point_of_parent}
+use Rattle.vt_spec.specs.Machine.Invariants.{Stands}
+use Rattle.vt_spec.specs.Machine.Mounts.{Location, Mount, detached}
+use Rattle.vt_spec.specs.Machine.Mounts.Propagation.{Private}
+use Rattle.vt_spec.specs.Machine.Receives.{lost_a_group, regrouped_by}
+use Rattle.vt_spec.specs.Machine.Run.{Serves}
+use Rattle.vt_spec.specs.Machine.Sealed.{is_own_mount, is_own_namespace, other_mounts, own_mounts, sealed}
+use Rattle.vt_spec.specs.Machine.Settled.{settled}
+use Rattle.vt_spec.specs.Machine.World.{Namespace, Task, World, mount_at, mount_numbered, with_mounts}
+use Rattle.vt_spec.proofs.Lists.{Among, among-from_filter, among_from_all, pair-map}
+use Rattle.vt_spec.proofs.Options.{none_is_some}
+use Rattle.vt_laws_trees.proofs.trees.TreesEntered.{chain_ends}
+use Rattle.vt_laws_mounts.specs.Mounts.Invariants.{OneNumberEach}
+use Rattle.vt_laws_mounts.proofs.mounts.MountsReplaced.{found_itself}
+use Rattle.vt_laws_worlds.proofs.worlds.Reached.{namespace_below}
+use Rattle.vt_laws_part.specs.Seals.{IsApart}
+use Rattle.vt_laws_sealed.proofs.outsiders.ChangedWorlds.{OthersMove}
+use Rattle.vt_laws_sealed.proofs.outsiders.OtherMounts.{foreign_above}
+use Rattle.vt_laws_sealed.proofs.outsiders.Regrouping.{IsOfOthers, after_all, all_changed, all_shape, mounts_are, of_nobody, old_type, regrouping_leaves_apart}
+use Rattle.vt_laws_sealed.proofs.outsiders.Reshaping.{IsReshaped, reshaping_keeps}
+use Rattle.vt_laws_sealed.proofs.outsiders.Standing.{nowhere_unplaced}
+use Rattle.vt_laws_sealed.proofs.outsiders.Staying.{LeavesApart}
+use Rattle.vt_laws_sealed.proofs.outsiders.Sweeping.{sweeping_leaves_apart}
+
+-- Mounts of others go, and others may be elsewhere. Each mount that goes is in a namespace of others.
+module _ (world : World ℕ) (names : List TaskName) (apart : IsApart world names) (sealed_off : sealed nat_eq world names ≡ true)
+    (fresh : Fresh ℕ) (serves : Serves nat_eq world fresh) (task : Task ℕ) (there : Among task world.tasks)
+    (tasks : List (Task ℕ)) (namespaces : List (Namespace ℕ)) (moved : OthersMove world names tasks namespaces)
+    (gone : List ℕ)
+    (others_go : (number : ℕ) → is_going nat_eq gone number ≡ true
+    → (namespace : ℕ) × ((mount_numbered nat_eq world number).namespace ≡ Some namespace)
+    × (is_own_namespace nat_eq world names namespace ≡ false)) where
+  abbrev before : World ℕ
+  before = record world { tasks = tasks }
+
+  abbrev is_own : ℕ → Bool
+  is_own = is_own_namespace nat_eq world names
+
+  abbrev goes : ℕ → Bool
+  goes = is_going nat_eq gone
+
+  itself : (mount : Mount ℕ) → Among mount world.mounts → mount_numbered nat_eq world mount.number ≡ mount
+  itself mount m = found_itself world.mounts apart.is.mounts.one_number mount m
+
+  own_not_going : (number namespace : ℕ) → (mount_numbered nat_eq world number).namespace ≡ Some namespace
+      → is_own namespace ≡ true → goes number ≡ false
+  own_not_going number namespace e own =
+      false_from_ne_true (goes number) (λ h.
+      let other = others_go number h in
+      true≢false (sym own ∙ ap is_own (same_Some namespace other.0 (sym e ∙ other.1)) ∙ other.2))
+
+  nowhere_not_going : (number : ℕ) → (mount_numbered nat_eq world number).namespace ≡ None → goes number ≡ false
+  nowhere_not_going number e =
+      false_from_ne_true (goes number) (λ h. let other = others_go number h in none_is_some other.0 (sym e ∙ other.1))
+
+  abbrev change : Mount ℕ → Mount ℕ
+  change = after_going nat_eq before gone
+
+  abbrev new_point : Location ℕ → Location ℕ
+  new_point = mount_point_left nat_eq before gone
+
+  shape : (mount : Mount ℕ) → IsReshaped mount (change mount)
+  shape mount = by (goes mount.number)
+    where
+      by : (b : Bool)
+          → IsReshaped mount (cond b (detached mount) (record mount {
+            mount_point = option_map new_point mount.mount_point;
+          }))
+      by true = (None, None, Private, refl, inr refl)
+      by false = (mount.namespace, option_map new_point mount.mount_point, mount.propagation, refl, inl refl)
+
+  point_stays : (point : Location ℕ) → goes point.mount ≡ false → new_point point ≡ point
+  point_stays point on =
+      chain_ends (λ (here : Location ℕ). here ≡ point) (mount_point_of_parent nat_eq before gone)
+      (λ here next e h. none_is_some next
+      (sym (ap (λ b. cond b (mount_at nat_eq before point).mount_point None) on)
+      ∙ ap (mount_point_of_parent nat_eq before gone) (sym e) ∙ h))
+      (length world.mounts) point point refl
+
+  stays : (mount : Mount ℕ) → goes mount.number ≡ false
+      → ((point : Location ℕ) → mount.mount_point ≡ Some point → goes point.mount ≡ false) → change mount ≡ mount
+  stays mount on parent =
+      ap (λ b. cond b (detached mount) (record mount { mount_point = option_map new_point mount.mount_point })) on
+      ∙ by mount.mount_point refl
+    where
+      by : (o : Option (Location ℕ)) → mount.mount_point ≡ o
+          → record mount { mount_point = option_map new_point mount.mount_point } ≡ mount
+      by None e =
+          ap (λ o. record mount { mount_point = option_map new_point o }) e
+          ∙ sym (ap (λ o. record mount { mount_point = o }) e)
+      by (Some point) e =
+          ap (λ o. record mount { mount_point = option_map new_point o }) e
+          ∙ ap (λ p. record mount { mount_point = Some p }) (point_stays point (parent point e))
+          ∙ sym (ap (λ o. record mount { mount_point = o }) e)
+
+  own_same : (own : Mount ℕ) → Among own (own_mounts nat_eq world names) → change own ≡ own
+  own_same own m =
+      let is = among-from_filter (is_own_mount nat_eq world names) world.mounts own m in
+      by own.namespace refl is.0 is.1
+    where
+      by : (o : Option ℕ) → own.namespace ≡ o → Among own world.mounts → holds_of is_own o ≡ true → change own ≡ own
+      by None e at h = absurd (true≢false (sym h))
+      by (Some namespace) e at h =
+          let placed : (mount_numbered nat_eq world own.number).namespace ≡ Some namespace =
+          ap (λ (x : Mount ℕ). x.namespace) (itself own at) ∙ e in
+          stays own (own_not_going own.number namespace placed h) (λ point p.
+          own_not_going point.mount namespace
+          (sym (namespace_below world own.number point
+          (among_from_all (λ (x : Mount ℕ). Stands nat_eq world x.number) world.mounts apart.is.mounts.standing own at)
+          (ap (λ (x : Mount ℕ). x.mount_point) (itself own at) ∙ p)) ∙ placed) h)
+
+  nowhere_same : (mount : Mount ℕ) → Among mount world.mounts → mount.namespace ≡ None → change mount ≡ mount
+  nowhere_same mount at none =
+      stays mount (nowhere_not_going mount.number (ap (λ (x : Mount ℕ). x.namespace) (itself mount at) ∙ none))
+      (λ point p. absurd (nowhere_unplaced world apart.is task there mount at none point p))
+
+  kinds : (other : Mount ℕ) → Among other (other_mounts nat_eq world names)
+      → IsOfOthers world names apart fresh serves (change other).propagation
+  kinds other m = by (goes other.number)
+    where
+      by : (b : Bool)
+          → IsOfOthers world names apart fresh serves (cond b (detached other) (record other {
+            mount_point = option_map new_point other.mount_point;
+          })).propagation
+      by true = of_nobody world names apart fresh serves
+      by false = old_type world names apart fresh serves other m
+
+  abbrev halfway : World ℕ
+  halfway = with_mounts before (map change world.mounts)
+
+  abbrev lost : Bool
+  lost = list_any (lost_a_group nat_eq halfway) halfway.mounts
+
+  abbrev regrouped_world : World ℕ
+  regrouped_world =
+      after_all world names apart fresh serves change shape own_same nowhere_same kinds world.master
+      (foreign_above world names apart fresh serves) (λ number h. refl) tasks namespaces moved lost
+
+  abbrev all_change : Mount ℕ → Mount ℕ
+  all_change =
+      all_changed world names apart fresh serves change shape own_same nowhere_same kinds world.master
+      (foreign_above world names apart fresh serves) (λ number h. refl) tasks namespaces moved lost
+
+  abbrev left : World ℕ
+  left = record world {
+    mounts = map all_change world.mounts;
+    master = regrouped_world.master;
+    namespaces = namespaces;
+    tasks = tasks;
+  }
+
+  world_left : record (taken_away nat_eq before gone) { namespaces = namespaces } ≡ left
+  world_left =
+      by lost
+      ∙ ap (λ ms. record world {
+        mounts = ms;
+        master = regrouped_world.master;
+        namespaces = namespaces;
+        tasks = tasks;
+      })
+      (mounts_are world names apart fresh serves change shape own_same nowhere_same kinds world.master
+      (foreign_above world names apart fresh serves) (λ number h. refl) tasks namespaces moved lost)
+    where
+      with_names : World ℕ
+      with_names = record halfway { namespaces = namespaces }
+
+      by : (b : Bool) → record (regrouped_by nat_eq b halfway) { namespaces = namespaces }
+          ≡ record world {
+            mounts = (regrouped_by nat_eq b with_names).mounts;
+            master = (regrouped_by nat_eq b with_names).master;
+            namespaces = namespaces;
+            tasks = tasks;
+          }
+      by true = refl
+      by false = refl
+
+  one_each : OneNumberEach left
+  one_each =
+      let keeps = reshaping_keeps all_change
+      (all_shape world names apart fresh serves change shape own_same nowhere_same kinds world.master
+      (foreign_above world names apart fresh serves) (λ number h. refl) tasks namespaces moved lost) in
+      pair-map (λ (a b : Mount ℕ). nat_eq a.number b.number) (λ (a b : Mount ℕ). nat_eq a.number b.number) all_change
+      world.mounts
+      (λ a b m n e. ap (λ k. nat_eq k (all_change b).number) (keeps.number a)
+      ∙ ap (nat_eq a.number) (keeps.number b) ∙ e)
+      apart.is.mounts.one_number
+
+  pub taking_leaves_apart : LeavesApart world
+      (settled nat_eq (record (taken_away nat_eq before gone) { namespaces = namespaces })) names []
+  taking_leaves_apart =
+      subst (λ w. LeavesApart world (settled nat_eq w) names []) (sym world_left)
+      (sweeping_leaves_apart world left names apart sealed_off refl one_each []
+      (regrouping_leaves_apart world names apart fresh serves change shape own_same nowhere_same kinds world.master
+      (foreign_above world names apart fresh serves) (λ number h. refl) tasks namespaces moved lost
+      regrouped_world.master (λ number. inl refl) (λ number h. refl)))

@@ -1,0 +1,232 @@
+-- Mounts of others that are unmounted, with those that an event takes away: umount(2).
+use Rattle.std.proofs.Common.{◌≡◌, refl, sym, ap, subst, ◌∙◌, ◌⊎◌, inl, inr, ⊎_elim, ℕ, nat_eq, Bool, true, false, cond, true≢false, List, [], ◌∷◌, Option, Some, None, Ok, map, eqb-true}
+use Rattle.std.specs.Prelude.{option_map, unwrap_or}
+use Rattle.std.specs.List.{filter_map, list_any}
+use Rattle.std.proofs.lemmas.Bool.{false_from_ne_true}
+use Rattle.vt_spec.specs.Language.Calls.{Call, TaskName, same_name}
+use Rattle.vt_spec.specs.Language.Calls.Call.{Umount}
+use Rattle.vt_spec.specs.Lists.{Fresh, holds_of, then_some, when}
+use Rattle.vt_spec.specs.Machine.Apply.{apply, filesystems_changed}
+use Rattle.vt_spec.specs.Machine.Attach.{receivers_of}
+use Rattle.vt_spec.specs.Machine.Detach.{after_going, going, going_at, going_from, goes_at, is_going, may_go, taken_away}
+use Rattle.vt_spec.specs.Machine.Invariants.{Stands}
+use Rattle.vt_spec.specs.Machine.Judge.{judge_in}
+use Rattle.vt_spec.specs.Machine.Mounts.{Location, Mount, child_at, group_of, is_shared, stands_at}
+use Rattle.vt_spec.specs.Machine.Permits.{Permit}
+use Rattle.vt_spec.specs.Machine.Permits.Permit.{ToUnmount}
+use Rattle.vt_spec.specs.Machine.Receives.{lost_a_group, receivers, receives, regrouped_by}
+use Rattle.vt_spec.specs.Machine.Sealed.{is_own_mount, is_own_namespace, other_mounts, own_mounts}
+use Rattle.vt_spec.specs.Machine.Settled.{settled}
+use Rattle.vt_spec.specs.Machine.World.{Task, World, mount_at, mount_numbered, task_called, with_mounts}
+use Rattle.vt_spec.proofs.Found.{found_among, found_passes}
+use Rattle.vt_spec.proofs.Lists.{Among, among-filter, among-from_filter, among-from_filter_map, among-from_map, among_from_all, among_numbers, contains_from_among}
+use Rattle.vt_spec.proofs.Options.{none_is_some}
+use Rattle.vt_spec.proofs.Worlds.{found_or_none, number-mount_in}
+use Rattle.vt_laws_trees.specs.Trees.Calls.{mounts_overlay}
+use Rattle.vt_laws_mounts.proofs.mounts.MountsPlaces.{stands_there}
+use Rattle.vt_laws_mounts.proofs.mounts.MountsReplaced.{found_itself}
+use Rattle.vt_laws_rules.proofs.given.GivenPermits.{permits_are_for_their_calls}
+use Rattle.vt_laws_worlds.proofs.worlds.CallsKept.{name_found}
+use Rattle.vt_laws_worlds.proofs.worlds.FitPermitsNamed.{all_permits_fit}
+use Rattle.vt_laws_worlds.proofs.worlds.Reached.{namespace_below}
+use Rattle.vt_laws_part.specs.Seals.{IsApart}
+use Rattle.vt_laws_part.proofs.groups.EventsApart.{no_event_of_others_reaches_them}
+use Rattle.vt_laws_part.proofs.seals.ByPart.{apart_if_sealed}
+use Rattle.vt_laws_sealed.specs.Outsiders.{IsOutsidersCall, LeaveASealedSet, unmounts}
+use Rattle.vt_laws_sealed.proofs.outsiders.ChangedWorlds.{others_rest}
+use Rattle.vt_laws_sealed.proofs.outsiders.OtherMounts.{is_other, namespace_outside}
+use Rattle.vt_laws_sealed.proofs.outsiders.OwnTasks.{caller_outside}
+use Rattle.vt_laws_sealed.proofs.outsiders.Standing.{nowhere_unplaced}
+use Rattle.vt_laws_sealed.proofs.outsiders.Staying.{LeavesApart, by_permit}
+use Rattle.vt_laws_sealed.proofs.outsiders.TakingAway.{taking_leaves_apart}
+
+-- The mounts that the unmount event of a mount of others takes away are of others.
+module _ (world : World ℕ) (names : List TaskName) (apart : IsApart world names) (task : Task ℕ)
+    (there : Among task world.tasks) (namespace : ℕ) (outside : is_own_namespace nat_eq world names namespace ≡ false)
+    (number : ℕ) (placed : (mount_numbered nat_eq world number).namespace ≡ Some namespace) where
+  abbrev IsOfOthersAt : ℕ → Type 0
+  IsOfOthersAt k =
+      (n : ℕ) × ((mount_numbered nat_eq world k).namespace ≡ Some n) × (is_own_namespace nat_eq world names n ≡ false)
+
+  abbrev unmounted_one : Mount ℕ
+  unmounted_one = mount_numbered nat_eq world number
+
+  its_own : (k : ℕ) → Among k (unmounted_one.number ∷ []) → IsOfOthersAt k
+  its_own k m =
+      ⊎_elim
+      (λ e. (
+        namespace,
+        ap (λ j. (mount_numbered nat_eq world j).namespace) (e ∙ number-mount_in world.mounts number) ∙ placed,
+        outside,
+      ))
+      (λ none. absurd none) m
+
+  -- the parent is one of others
+  module _ (point : Location ℕ) (at : unmounted_one.mount_point ≡ Some point) where
+    abbrev parent : Mount ℕ
+    parent = mount_at nat_eq world point
+
+    one_there : Among unmounted_one world.mounts
+    one_there =
+        ⊎_elim (λ m. m) (λ none. none_is_some namespace (sym (ap (λ (x : Mount ℕ). x.namespace) none) ∙ placed))
+        (found_or_none world.mounts number)
+
+    itself : (mount : Mount ℕ) → Among mount world.mounts → mount_numbered nat_eq world mount.number ≡ mount
+    itself mount m = found_itself world.mounts apart.is.mounts.one_number mount m
+
+    below : (mount : Mount ℕ) → Among mount world.mounts → (place : Location ℕ) → mount.mount_point ≡ Some place
+        → mount.namespace ≡ (mount_at nat_eq world place).namespace
+    below mount m place e =
+        ap (λ (x : Mount ℕ). x.namespace) (sym (itself mount m))
+        ∙ namespace_below world mount.number place
+        (among_from_all (λ (x : Mount ℕ). Stands nat_eq world x.number) world.mounts apart.is.mounts.standing mount m)
+        (ap (λ (x : Mount ℕ). x.mount_point) (itself mount m) ∙ e)
+
+    parent_placed : parent.namespace ≡ Some namespace
+    parent_placed = sym (below unmounted_one one_there point at) ∙ placed
+
+    parent_other : Among parent (other_mounts nat_eq world names)
+    parent_other =
+        is_other world names apart namespace outside parent
+        (⊎_elim (λ m. m)
+        (λ none. none_is_some namespace (sym (ap (λ (x : Mount ℕ). x.namespace) none) ∙ parent_placed))
+        (found_or_none world.mounts point.mount)) parent_placed
+
+    -- a receiver of its events is none of theirs
+    receiver_there : (receiver : Mount ℕ) → Among receiver (receivers_of nat_eq world parent)
+        → Among receiver world.mounts × ((n : ℕ) → receiver.namespace ≡ Some n
+        → is_own_namespace nat_eq world names n ≡ true → ⊥)
+    receiver_there receiver m = by (group_of parent.propagation) refl m
+      where
+        by : (o : Option ℕ) → group_of parent.propagation ≡ o
+            → Among receiver (unwrap_or (option_map (receivers nat_eq world) o) [])
+            → Among receiver world.mounts × ((n : ℕ) → receiver.namespace ≡ Some n
+            → is_own_namespace nat_eq world names n ≡ true → ⊥)
+        by None e m = absurd m
+        by (Some group) e m =
+            let out = among-from_filter (receives nat_eq world group) world.mounts receiver m in (
+              out.0,
+              λ n f own.
+                  true≢false (sym out.1
+                  ∙ no_event_of_others_reaches_them world names receiver parent group
+                  (record { mounts = apart.is.mounts; apart = apart.events })
+                  (contains_from_among (own_mounts nat_eq world names) receiver
+                  (among-filter (is_own_mount nat_eq world names) world.mounts receiver out.0
+                  (ap (holds_of (is_own_namespace nat_eq world names)) f ∙ own)))
+                  (contains_from_among (other_mounts nat_eq world names) parent parent_other) e),
+            )
+
+    child_gone : (receiver child : Mount ℕ) → goes_at nat_eq world point.node receiver ≡ Some child
+        → child_at nat_eq world.mounts (record { mount = receiver.number; node = point.node }) ≡ Some child
+    child_gone receiver child e =
+        by (child_at nat_eq world.mounts (record { mount = receiver.number; node = point.node })) e
+      where
+        may : (b : Bool) (x : Mount ℕ) → when b x ≡ Some child → Some x ≡ Some child
+        may true x h = h
+        may false x h = none_is_some child h
+
+        by : (o : Option (Mount ℕ)) → then_some o (λ x. when (may_go nat_eq world x) x) ≡ Some child → o ≡ Some child
+        by None h = none_is_some child h
+        by (Some x) h = may (may_go nat_eq world x) x h
+
+    its_receivers : (k : ℕ)
+        → Among k (map (λ (x : Mount ℕ). x.number) (filter_map (goes_at nat_eq world point.node)
+        (receivers_of nat_eq world parent))) → IsOfOthersAt k
+    its_receivers k m =
+        let child = among-from_map (λ (x : Mount ℕ). x.number) (filter_map (goes_at nat_eq world point.node)
+        (receivers_of nat_eq world parent)) k m in
+        let from = among-from_filter_map (goes_at nat_eq world point.node) (receivers_of nat_eq world parent) child.0
+        child.1 in
+        let receiver = receiver_there from.0 from.1 in
+        let place : Location ℕ = record { mount = from.0.number; node = point.node } in
+        let found = child_gone from.0 child.0 from.2 in
+        let child_there = found_among (stands_at nat_eq place) world.mounts child.0 found in
+        let stands = stands_there place child.0 (found_passes (stands_at nat_eq place) world.mounts child.0 found) in
+        let same : child.0.namespace ≡ from.0.namespace =
+        below child.0 child_there place stands ∙ ap (λ (x : Mount ℕ). x.namespace) (itself from.0 receiver.0) in
+        by child.0 child_there place stands child.0.namespace refl
+        (λ n e own. receiver.1 n (sym same ∙ e) own)
+        (ap (mount_numbered nat_eq world) child.2 ∙ itself child.0 child_there)
+      where
+        by : (child : Mount ℕ) → Among child world.mounts → (place : Location ℕ) → child.mount_point ≡ Some place
+            → (o : Option ℕ) → child.namespace ≡ o
+            → ((n : ℕ) → child.namespace ≡ Some n → is_own_namespace nat_eq world names n ≡ true → ⊥)
+            → mount_numbered nat_eq world k ≡ child → IsOfOthersAt k
+        by child m place stands None e no_own it =
+            absurd (nowhere_unplaced world apart.is task there child m e place stands)
+        by child m place stands (Some n) e no_own it = (
+          n,
+          ap (λ (x : Mount ℕ). x.namespace) it ∙ e,
+          false_from_ne_true (is_own_namespace nat_eq world names n) (no_own n e),
+        )
+
+  pub others_go : (k : ℕ) → is_going nat_eq (going nat_eq world unmounted_one) k ≡ true → IsOfOthersAt k
+  others_go k h =
+      by unmounted_one.mount_point refl (among_numbers (going nat_eq world unmounted_one) k h)
+    where
+      shared : (point : Location ℕ) → unmounted_one.mount_point ≡ Some point → (b : Bool)
+          → Among k (going_from nat_eq world unmounted_one point b) → IsOfOthersAt k
+      shared point at true m = its_receivers point at k m
+      shared point at false m = its_own k m
+
+      by : (o : Option (Location ℕ)) → unmounted_one.mount_point ≡ o
+          → Among k (going_at nat_eq world unmounted_one o) → IsOfOthersAt k
+      by None e m = its_own k m
+      by (Some point) e m = shared point e (is_shared (mount_at nat_eq world point).propagation) m
+
+module _ (world : World ℕ) (fresh : Fresh ℕ) (names : List TaskName) (name : TaskName) (call : Call)
+    (task : Task ℕ) (outsider : IsOutsidersCall world fresh names name call)
+    (called : task_called world name ≡ Some task) (number : ℕ)
+    (judged : judge_in nat_eq fresh world task call ≡ Ok (ToUnmount number)) where
+  set_apart : IsApart world names
+  set_apart = apart_if_sealed world names outsider.is outsider.sealed_off
+
+  for_umount : (path : List ℕ) × (call ≡ Umount path)
+  for_umount = permits_are_for_their_calls fresh world task call (ToUnmount number) judged
+
+  placed_in : (mount_numbered nat_eq world number).namespace ≡ Some task.namespace
+  placed_in =
+      (all_permits_fit world fresh task call (ToUnmount number) outsider.is outsider.serves
+      (ap (task_called world) (sym (name_found world name task called)) ∙ called)
+      (ap mounts_overlay for_umount.1) judged).names.0
+
+  abbrev gone : List ℕ
+  gone = going nat_eq world (mount_numbered nat_eq world number)
+
+  task_is_there : Among task world.tasks
+  task_is_there = found_among (λ (t : Task ℕ). same_name name t.name) world.tasks task called
+
+  same_world : record (taken_away nat_eq world gone) { namespaces = world.namespaces } ≡ taken_away nat_eq world gone
+  same_world =
+      by (list_any (lost_a_group nat_eq (with_mounts world (map (after_going nat_eq world gone) world.mounts)))
+      (map (after_going nat_eq world gone) world.mounts))
+    where
+      by : (b : Bool)
+          → record (regrouped_by nat_eq b (with_mounts world (map (after_going nat_eq world gone) world.mounts))) {
+            namespaces = world.namespaces;
+          } ≡ regrouped_by nat_eq b (with_mounts world (map (after_going nat_eq world gone) world.mounts))
+      by true = refl
+      by false = refl
+
+  unmount_leaves : LeavesApart world (settled nat_eq (apply nat_eq fresh world task (ToUnmount number)).world) names []
+  unmount_leaves =
+      subst (λ w. LeavesApart world (settled nat_eq w) names []) same_world
+      (taking_leaves_apart world names set_apart outsider.sealed_off fresh outsider.serves task task_is_there world.tasks
+      world.namespaces (others_rest world names set_apart) gone
+      (others_go world names set_apart task task_is_there task.namespace
+      (namespace_outside world names set_apart task (caller_outside world fresh names name call task outsider called))
+      number placed_in))
+
+by_unmount : (world : World ℕ) (fresh : Fresh ℕ) (names : List TaskName) (name : TaskName) (call : Call)
+    (task : Task ℕ) → IsOutsidersCall world fresh names name call → task_called world name ≡ Some task
+    → (permit : Permit ℕ) → judge_in nat_eq fresh world task call ≡ Ok permit → unmounts permit ≡ true
+    → LeavesApart world (settled nat_eq (apply nat_eq fresh world task permit).world) names
+    (filesystems_changed nat_eq world permit)
+by_unmount world fresh names name call task outsider called (ToUnmount number) judged e =
+    unmount_leaves world fresh names name call task outsider called number judged
+by_unmount world fresh names name call task outsider called permit judged e = absurd (true≢false (sym e))
+
+pub unmounts_leave_a_sealed_set : LeaveASealedSet unmounts
+unmounts_leave_a_sealed_set =
+    by_permit unmounts (λ world fresh names name call task permit outsider called judged these.
+    by_unmount world fresh names name call task outsider called permit judged these)

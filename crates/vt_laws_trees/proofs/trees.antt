@@ -1,0 +1,25 @@
+-- What the proofs of src/trees.rt use.
+pub mod ChangesByCalls
+pub mod ChangesByLinks
+pub mod ChangesByOthers
+pub mod ChangesByRemoving
+pub mod ChangesKeepTrees
+pub mod ChangesNames
+pub mod ChangesNodes
+pub mod ChangesOfCalls
+pub mod ChangesOfNames
+pub mod ChangesOfPlace
+pub mod ChangesOfSizes
+pub mod ChangesWithinSizes
+pub mod PlacesReached
+pub mod TreesAbove
+pub mod TreesEntered
+pub mod TreesForgotten
+pub mod TreesLimits
+pub mod TreesOfMounts
+pub mod TreesOfWorlds
+pub mod TreesReached
+pub mod TreesRearranged
+pub mod TreesSizes
+pub mod TreesTasks
+pub mod TreesWalked

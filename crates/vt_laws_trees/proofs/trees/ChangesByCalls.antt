@@ -1,0 +1,320 @@
+-- Every call but the mount of an overlay leaves a world of trees.
+use Rattle.std.proofs.Common.{eqb-true, ◌≡◌, refl, sym, ap, subst, ◌∙◌, true≢false, ℕ, nat_eq, eq-eqb, Bool, true, false, not, cond, List, [], ◌∷◌, ◌++◌, ◌||◌, Option, Some, None, is_some, ok_or, option_map, T, inl, inr, ◌*◌}
+use Rattle.std.specs.Prelude.{unwrap_or}
+use Rattle.std.specs.List.{All}
+use Rattle.std.proofs.lemmas.List.Elements.{All-append, All-cons, All-filter, All-map, All-nil, All-weaker}
+use Rattle.vt_spec.specs.declared.errors.Rule.TheVariants.{S2}
+use Rattle.vt_spec.specs.Errors.{denial, NoneFails}
+use Rattle.vt_spec.specs.Tree.{Node, is_directory_node, new_directory, parent_in, entries_in}
+use Rattle.vt_spec.specs.Language.Calls.{Call, TaskName, Access}
+use Rattle.vt_spec.specs.Machine.Filesystems.{filesystems_raised, with_change}
+use Rattle.vt_spec.specs.Lists.{Fresh, evens, odds}
+use Rattle.vt_spec.specs.Machine.Mounts.{Location, Mount, mount_in, no_mount, root_of}
+use Rattle.vt_spec.specs.Machine.NewMounts.{plain_filesystem}
+use Rattle.vt_spec.specs.Machine.Outcomes.{Outcome}
+use Rattle.vt_spec.specs.Machine.Policy.{call_outcome, finished_by}
+use Rattle.vt_spec.specs.Machine.Settled.{filesystem_lives, only_used, only_used_by, real_among, settled, used_in, without_dead_filesystems, without_dead_in, without_dead_mounts}
+use Rattle.vt_spec.specs.Machine.World.{Filesystem, Overlay, Task, World, first_mount, is_directory_at, is_overlay, new_plain, new_tree, no_filesystem, opening, root_attr, task_called, files_at, node_at}
+use Rattle.vt_spec.proofs.Nodes.{none_is_not}
+use Rattle.vt_spec.proofs.Trees.{is_tree-tree_of_root}
+use Rattle.vt_laws_trees.specs.Trees.{IsFileTree, IsProper}
+use Rattle.vt_laws_trees.specs.Trees.Calls.{AreNew, CallsKeepTrees, IsStanding, IsWorldOfTrees, OpeningHasTrees, mounts_overlay}
+use Rattle.vt_laws_trees.proofs.trees.ChangesByLinks.{may_link}
+use Rattle.vt_laws_trees.proofs.trees.ChangesByOthers.{files_stay}
+use Rattle.vt_laws_trees.proofs.trees.ChangesByRemoving.{may_move, old_removable}
+use Rattle.vt_laws_trees.proofs.trees.ChangesOfCalls.{place_is_free}
+use Rattle.vt_laws_trees.proofs.trees.TreesForgotten.{settling_keeps_trees}
+use Rattle.vt_laws_trees.proofs.trees.TreesOfWorlds.{numbered, raised_keeps_world, same_filesystems, change_keeps_world, new_at, taken_files}
+use Rattle.vt_laws_trees.proofs.trees.TreesWalked.{after_holds, IsFilePlace, IsNewPlace, at_end, place_is_file}
+use Rattle.vt_laws_rules.proofs.given.CallsGranted.{call_holds}
+use Rattle.vt_laws_rules.specs.Granted.{IsGranted, directory_made, symlink_made, whiteout_made}
+use Rattle.vt_laws_rules.specs.Granted.IsGranted.{changes_mark, changes_mode, changes_owner, creates, creates_exclusively, makes_directory, makes_hard_link, makes_symlink, makes_whiteout, mounts_overlayfs, mounts_tmpfs, opens, opens_existing, overwrites_file, removes_directory, renames, unlinks, writes_new_file, writes_part}
+use Rattle.vt_spec.proofs.NodeChanges.{entries_in-no_directory, nil_from_not_some}
+use Rattle.vt_spec.proofs.Tables.{with_new}
+use Rattle.vt_spec.proofs.Truths.{or_false_left}
+use Rattle.vt_spec.proofs.Walk.{new_name_rules}
+use Rattle.vt_spec.proofs.Worlds.{filesystems-taken_away, special_word}
+use Rattle.vt_spec.specs.Language.Changes.{Change}
+use Rattle.vt_spec.specs.Language.Changes.Change.{CopyUp, SetBytes, SetMark}
+use Rattle.vt_spec.specs.Laws.Trees.{IsNewIn}
+use Rattle.vt_spec.specs.Machine.Apply.{apply, overfills}
+use Rattle.vt_spec.specs.Machine.Descriptors.{is_copied_up, pwritten, with_copy}
+use Rattle.vt_spec.specs.Machine.Detach.{taken_away, without_replaced}
+use Rattle.vt_spec.specs.Machine.Judge.{open_new_permit}
+use Rattle.vt_spec.specs.Machine.Looks.{looks_of}
+use Rattle.vt_spec.specs.Machine.Permits.{Permit}
+use Rattle.vt_spec.specs.Machine.Permits.Permit.{ToMountPlain, ToOpen}
+use Rattle.vt_spec.specs.Machine.Rows.{file_mode, linking, making, new_file}
+use Rattle.vt_spec.specs.Machine.Rules.Removing.{moving, object_there, removing}
+use Rattle.vt_spec.specs.Machine.Walking.{Here, Place, is_directory_there, is_special, symlink_walk}
+use Rattle.vt_laws_trees.proofs.trees.PlacesReached.{file_is, new_is, new_leaf_is, old_is, old_leaf_is, rename_new_is}
+use Rattle.vt_laws_trees.proofs.trees.TreesEntered.{ends_link_walk}
+
+-- A new tree
+root_only : (root : ℕ) (k : ℕ) (b : Bool) → nat_eq k root ≡ b
+    → is_directory_node (cond b (Some (record { attr = root_attr; content = new_directory root })) None) ≡ true
+    → parent_in k (cond b (Some (record { attr = root_attr; content = new_directory root })) None) ≡ k
+root_only root k true e is = sym (eqb-true k root e)
+root_only root k false e is = refl
+
+pub new_tree_is : (root : ℕ) → IsFileTree (new_tree nat_eq root)
+new_tree_is root = record {
+  tree = is_tree-tree_of_root root root_attr;
+  numbers = λ k. listed (nat_eq k root);
+  own_parents = λ k is unnamed. root_only root k (nat_eq k root) refl is;
+}
+  where
+    listed : (b : Bool)
+        → (b || false) ≡ is_some {T = Node ℕ}
+        (cond b (Some (record { attr = root_attr; content = new_directory root })) None)
+    listed true = refl
+    listed false = refl
+
+-- a filesystem more
+pub more_filesystems : (world after_call : World ℕ) (filesystem : Filesystem ℕ)
+    → after_call.filesystems ≡ world.filesystems ++ (filesystem ∷ [])
+    → is_overlay filesystem ≡ false → IsFileTree filesystem.files → IsWorldOfTrees world → IsWorldOfTrees after_call
+more_filesystems world after_call filesystem same plain tree conditions = record {
+  plain = subst (All (λ f. is_overlay f ≡ false)) (sym same)
+      (All-append (λ f. is_overlay f ≡ false) world.filesystems (filesystem ∷ []) conditions.plain
+      (All-cons (λ f. is_overlay f ≡ false) filesystem [] plain (All-nil (λ f. is_overlay f ≡ false))));
+  trees = subst (All (λ f. IsFileTree f.files)) (sym same)
+      (All-append (λ f. IsFileTree f.files) world.filesystems (filesystem ∷ []) conditions.trees
+      (All-cons (λ f. IsFileTree f.files) filesystem [] tree (All-nil (λ f. IsFileTree f.files))));
+}
+
+-- What nothing uses goes
+used_plain : (world : World ℕ) (chosen : Bool) (filesystem : Filesystem ℕ) → is_overlay filesystem ≡ false
+    → is_overlay (only_used nat_eq world chosen filesystem) ≡ false
+used_plain world true filesystem plain = by _
+  where
+    mapped : (o : Option (Overlay ℕ)) → is_some o ≡ false
+        → is_some (option_map (real_among nat_eq (used_in nat_eq world filesystem)) o) ≡ false
+    mapped None e = refl
+    mapped (Some overlay) e = e
+
+    by : (b : Bool) → is_overlay (only_used_by nat_eq b (used_in nat_eq world filesystem) filesystem) ≡ false
+    by true = plain
+    by false = mapped filesystem.overlay plain
+used_plain world false filesystem plain = plain
+
+pub without_dead_plain : (chosen : Filesystem ℕ → Bool) (world : World ℕ)
+    → All (λ f. is_overlay f ≡ false) world.filesystems
+    → All (λ f. is_overlay f ≡ false) (without_dead_in nat_eq chosen world).filesystems
+without_dead_plain chosen world plain =
+    All-map (λ f. is_overlay f ≡ false) (λ f. only_used nat_eq world (chosen f) f) world.filesystems
+    (All-weaker (λ f. is_overlay f ≡ false) (λ f. is_overlay (only_used nat_eq world (chosen f) f) ≡ false)
+    (λ f is. used_plain world (chosen f) f is) world.filesystems plain)
+
+pub settled_keeps : (world : World ℕ) → IsWorldOfTrees world → IsWorldOfTrees (settled nat_eq world)
+settled_keeps world conditions =
+    let mounted_world = without_dead_mounts nat_eq world in
+    let living = without_dead_filesystems nat_eq mounted_world in
+    let plain_living : All (λ f. is_overlay f ≡ false) living.filesystems =
+    All-filter (filesystem_lives nat_eq mounted_world) (λ f. is_overlay f ≡ false) world.filesystems conditions.plain in
+    record {
+      plain =
+          without_dead_plain (λ f. not (is_overlay f)) (without_dead_in nat_eq is_overlay living)
+          (without_dead_plain is_overlay living plain_living);
+      trees = settling_keeps_trees world conditions.trees;
+    }
+
+-- each way in which a call is granted
+module _ (fresh : Fresh ℕ) (world : World ℕ) (task : Task ℕ) (conditions : IsWorldOfTrees world)
+    (standing : IsStanding world)
+    (new : AreNew fresh world) where
+  -- a new object under a free name
+  new_keeps : (place : Place ℕ) (node : Node ℕ) → IsNewIn place.parent.node node → IsFilePlace world place
+      → is_special place.last ≡ false → is_some place.object ≡ false
+      → NoneFails (new_name_rules nat_eq world place) → IsWorldOfTrees (with_new nat_eq fresh world place node)
+  new_keeps place node fits is plain missing passed =
+      change_keeps_world (odds fresh) world place.parent (making place (evens fresh 0) node) conditions
+      (λ trees. record {
+        name_is_free = place_is_free world place is plain missing passed trees;
+        number_is_new = new_at fresh world place.parent new (2 * 0);
+        fits = fits;
+      })
+
+  new_place_keeps : (place : Place ℕ) (node : Node ℕ) → IsNewIn place.parent.node node → IsNewPlace world task place
+      → is_special place.last ≡ false → is_some place.object ≡ false
+      → IsWorldOfTrees (with_new nat_eq fresh world place node)
+  new_place_keeps place node fits is plain missing =
+      new_keeps place node fits (place_is_file world place.parent place.last place.object is.0) plain missing is.1
+
+  -- a change after mounts were taken away
+  change_after_keeps : (gone : List ℕ) (location : Location ℕ) (change : Change ℕ)
+      → (IsFileTree (files_at nat_eq world location) → IsProper (files_at nat_eq world location).tree change)
+      → IsWorldOfTrees (with_change nat_eq fresh (taken_away nat_eq world gone) location change)
+  change_after_keeps gone location change proper =
+      change_keeps_world fresh (taken_away nat_eq world gone) location change
+      (same_filesystems (taken_away nat_eq world gone) world (filesystems-taken_away world gone) conditions)
+      (λ trees. subst (λ files. IsProper files.tree change) (sym (taken_files world gone location))
+      (proper (subst IsFileTree (taken_files world gone location) trees)))
+
+  replaced_after : (o : Option (Location ℕ)) (location : Location ℕ) (change : Change ℕ)
+      → (IsFileTree (files_at nat_eq world location) → IsProper (files_at nat_eq world location).tree change)
+      → IsWorldOfTrees (with_change nat_eq fresh (without_replaced nat_eq world o) location change)
+  replaced_after None location change proper = change_keeps_world fresh world location change conditions proper
+  replaced_after (Some new) location change proper = change_after_keeps _ location change proper
+
+  bytes_keep : (file : Location ℕ) (bytes : List ℕ)
+      → IsWorldOfTrees (with_change nat_eq fresh world file (SetBytes file.node bytes))
+  bytes_keep file bytes = change_keeps_world fresh world file (SetBytes file.node bytes) conditions (λ trees. tt)
+
+  written_keeps : (file : Location ℕ) (offset : ℕ) (bytes : List ℕ)
+      → IsWorldOfTrees (pwritten nat_eq fresh world file offset bytes)
+  written_keeps file offset [] = conditions
+  written_keeps file offset (byte ∷ bytes) = bytes_keep file _
+
+  -- open(2)
+  opened_keeps : (file : Location ℕ) (access : Access)
+      → IsWorldOfTrees (apply nat_eq fresh world task (ToOpen file access)).world
+  opened_keeps file access =
+      same_filesystems (apply nat_eq fresh world task (ToOpen file access)).world
+      (with_copy nat_eq (is_copied_up nat_eq world file access) fresh world file) refl
+      (by (is_copied_up nat_eq world file access))
+    where
+      by : (b : Bool) → IsWorldOfTrees (with_copy nat_eq b fresh world file)
+      by true = change_keeps_world fresh world file (CopyUp file.node) conditions (λ trees. tt)
+      by false = conditions
+
+  created_keeps : (place : Place ℕ) (access : Access) (mode : ℕ)
+      → IsWorldOfTrees (with_new nat_eq fresh world place (new_file task mode []))
+      → IsWorldOfTrees (apply nat_eq fresh world task (open_new_permit task place access mode)).world
+  created_keeps place access mode =
+      same_filesystems (apply nat_eq fresh world task (open_new_permit task place access mode)).world
+      (with_new nat_eq fresh world place (new_file task mode [])) refl
+
+  granted_keeps : (call : Call) (permit : Permit ℕ) → mounts_overlay call ≡ false
+      → IsGranted nat_eq (looks_of nat_eq world) (overfills nat_eq fresh world task) task call permit
+      → IsWorldOfTrees (apply nat_eq fresh world task permit).world
+  granted_keeps call permit other (overwrites_file path bytes place file end named there passed) =
+      bytes_keep file bytes
+  granted_keeps call permit other (writes_new_file path bytes place end named missing fits passed) =
+      let is = file_is world task path place end in
+      new_keeps place (new_file task file_mode bytes) (inr refl) is.0.0
+      (or_false_left (is_special place.last) place.slash named.0) (ap is_some missing) is.0.1
+  granted_keeps call permit other (makes_directory path mode place end passed) =
+      new_place_keeps place (directory_made task place mode) (inl refl) (new_is world task path place end).0 passed.0
+      passed.1.0
+  granted_keeps call permit other (makes_symlink text path place fits end passed) =
+      new_place_keeps place (symlink_made task text) (inr refl) (new_leaf_is world task path place end).0 passed.0
+      passed.1.0
+  granted_keeps call permit other (makes_whiteout path place end passed) =
+      new_place_keeps place (whiteout_made task) (inr refl) (new_leaf_is world task path place end).0 passed.0
+      passed.1.0
+  granted_keeps call permit other (makes_hard_link old new from place from_end end named passed) =
+      let there : is_some (node_at nat_eq world from.location) ≡ true =
+      at_end (λ (here : Here ℕ). is_some (node_at nat_eq world here.location) ≡ true)
+      (symlink_walk nat_eq (looks_of nat_eq world) task old) from
+      (ends_link_walk world (λ k default short. (conditions.trees k default short).tree) standing task old)
+      from_end in
+      change_keeps_world fresh world place.parent (linking from.location place) conditions
+      (may_link world task from.location place there (new_leaf_is world task new place end).0 named.0 passed)
+  granted_keeps call permit other (unlinks path place end named passed) =
+      let is = old_leaf_is world task path place end in
+      change_keeps_world fresh world place.parent (removing place (object_there place)) conditions (λ trees.
+      old_removable world place named.0 is.0 is.1
+      (entries_in-no_directory (node_at nat_eq world (object_there place)) passed.0))
+  granted_keeps call permit other (removes_directory path place end word passed) =
+      let is = old_is world task path place end in
+      change_after_keeps _ place.parent (removing place (object_there place)) (λ trees.
+      old_removable world place (special_word place.last word.0 word.1.0 word.1.1.0) is.0 is.1
+      (nil_from_not_some (entries_in (node_at nat_eq world (object_there place))) passed.1.0))
+  granted_keeps call permit other (renames old new from to names another passed) =
+      let is = old_leaf_is world task old from names.from_end in
+      let to_is = rename_new_is world task new (is_directory_there nat_eq (looks_of nat_eq world) from) to
+      names.to_end in
+      replaced_after to.object from.parent (moving from to (object_there from)) (λ trees.
+      may_move world task from to names.from_named.0 is.0 is.1 names.to_named.0 to_is.0.0 to_is.0.1 another passed
+      trees)
+  granted_keeps call permit other (changes_mode path mode here end passed) =
+      change_keeps_world fresh world here.location _ conditions (λ trees. tt)
+  granted_keeps call permit other (changes_owner path uid gid here end passed) =
+      change_keeps_world fresh world here.location _ conditions (λ trees. tt)
+  granted_keeps call permit other (changes_mark path mark here admin end passed) =
+      change_keeps_world fresh world here.location (SetMark here.location.node mark) conditions (λ trees. tt)
+  granted_keeps call permit other (opens path access here room end passed) = opened_keeps here.location access
+  granted_keeps call permit other (opens_existing path access mode place file room end named there passed) =
+      opened_keeps file access
+  granted_keeps call permit other (creates path access mode place room end named missing passed) =
+      let is = file_is world task path place end in
+      created_keeps place access mode (new_keeps place (new_file task mode []) (inr refl) is.0.0
+      (or_false_left (is_special place.last) place.slash named.0) (ap is_some missing) is.0.1)
+  granted_keeps call permit other (creates_exclusively path access mode place room end named passed) =
+      created_keeps place access mode (new_place_keeps place (new_file task mode []) (inr refl)
+      (new_is world task path place end).0 named.0 named.1.1.0)
+  granted_keeps call permit other (writes_part number offset bytes descriptor found passed) =
+      written_keeps descriptor.location offset bytes
+  granted_keeps call permit other (mounts_tmpfs path flags here admin end passed) =
+      more_filesystems world (apply nat_eq fresh world task (ToMountPlain here.location flags)).world
+      (plain_filesystem nat_eq fresh) refl refl (new_tree_is (evens fresh 1)) conditions
+  granted_keeps call permit other (mounts_overlayfs path words flags here layers admin end walked layered passed) =
+      absurd (true≢false other)
+  granted_keeps call permit other granted =
+      same_filesystems (apply nat_eq fresh world task permit).world world (files_stay fresh world task permit refl)
+      conditions
+
+  pub outcome_keeps : (call : Call) → mounts_overlay call ≡ false
+      → IsWorldOfTrees (call_outcome nat_eq fresh world task call).world
+  outcome_keeps call other =
+      call_holds IsWorldOfTrees fresh world task call conditions (λ permit granted.
+      granted_keeps call permit other granted)
+
+finished_keeps : (before : World ℕ) (name : TaskName) (changed : List ℕ) (outcome : Outcome ℕ) (b : Bool)
+    → IsWorldOfTrees outcome.world
+    → IsWorldOfTrees (finished_by nat_eq b before name changed outcome).world
+finished_keeps before name changed outcome true conditions = conditions
+finished_keeps before name changed outcome false conditions =
+    same_filesystems (finished_by nat_eq false before name changed outcome).world
+    (filesystems_raised nat_eq changed (settled nat_eq outcome.world)) refl
+    (raised_keeps_world changed (settled nat_eq outcome.world) (settled_keeps outcome.world conditions))
+
+pub calls_keep_trees : CallsKeepTrees
+calls_keep_trees world fresh name call conditions standing new other =
+    after_holds IsWorldOfTrees world (ok_or (task_called world name) (denial S2)) _ conditions (λ task found.
+    finished_keeps world name _ (call_outcome nat_eq fresh world task call) _
+    (outcome_keeps fresh world task conditions standing new call other))
+
+-- the opening world
+pub opening_has_trees : OpeningHasTrees
+opening_has_trees fresh = (
+  record {
+    plain = All-cons (λ f. is_overlay f ≡ false) (new_plain nat_eq (fresh 2) (fresh 3)) [] refl
+        (All-nil (λ f. is_overlay f ≡ false));
+    trees =
+        All-cons (λ f. IsFileTree f.files) (new_plain nat_eq (fresh 2) (fresh 3)) [] (new_tree_is (fresh 3))
+        (All-nil (λ f. IsFileTree f.files));
+  },
+  record {
+    roots = All-cons HasRoot (first_mount nat_eq fresh) [] root_there (All-nil HasRoot);
+    places = All-cons HasPlace (first_mount nat_eq fresh) [] (λ place e. none_is_not None place refl e)
+        (All-nil HasPlace);
+  },
+)
+  where
+    HasRoot : Mount ℕ → Type 0
+    HasRoot mount = is_directory_at nat_eq (opening nat_eq fresh) (root_of mount) ≡ true
+
+    HasPlace : Mount ℕ → Type 0
+    HasPlace mount = (place : Location ℕ) → mount.mount_point ≡ Some place
+        → is_directory_at nat_eq (opening nat_eq fresh) place ≡ true
+
+    the_mount : mount_in nat_eq (first_mount nat_eq fresh ∷ []) (fresh 0) ≡ first_mount nat_eq fresh
+    the_mount = ap (λ b. unwrap_or (cond b (Some (first_mount nat_eq fresh)) None) (no_mount (fresh 0)))
+        (eq-eqb (fresh 0) (fresh 0) refl)
+
+    the_filesystem : numbered (fresh 2) (new_plain nat_eq (fresh 2) (fresh 3) ∷ [])
+        ≡ new_plain nat_eq (fresh 2) (fresh 3)
+    the_filesystem =
+        ap (λ b. unwrap_or (cond b (Some (new_plain nat_eq (fresh 2) (fresh 3))) None) (no_filesystem (fresh 2)))
+        (eq-eqb (fresh 2) (fresh 2) refl)
+
+    root_there : is_directory_at nat_eq (opening nat_eq fresh) (record { mount = fresh 0; node = fresh 3 }) ≡ true
+    root_there =
+        ap (λ (m : Mount ℕ). is_directory_node
+        ((numbered m.filesystem (new_plain nat_eq (fresh 2) (fresh 3) ∷ [])).files.tree.node (fresh 3))) the_mount
+        ∙ ap (λ (f : Filesystem ℕ). is_directory_node (f.files.tree.node (fresh 3))) the_filesystem
+        ∙ ap (λ b. is_directory_node {N = ℕ}
+        (cond b (Some (record { attr = root_attr; content = new_directory (fresh 3) })) None))
+        (eq-eqb (fresh 3) (fresh 3) refl)

@@ -1,0 +1,33 @@
+-- What is linked is there, and is no directory.
+use Rattle.std.proofs.Common.{eqb-true, ◌≡◌, sym, ap, ◌∙◌, ℕ, nat_eq, true, false, is_some}
+use Rattle.vt_spec.specs.Errors.{NoneFails}
+use Rattle.vt_spec.specs.Tree.{is_directory_node}
+use Rattle.vt_spec.specs.Machine.Mounts.{Location}
+use Rattle.vt_spec.proofs.Tables.{hard_link_rules}
+use Rattle.vt_spec.specs.Machine.Rows.{linking}
+use Rattle.vt_spec.specs.Machine.Walking.{Place, is_special, name_of}
+use Rattle.vt_spec.specs.Machine.World.{Task, World, files_at, node_at}
+use Rattle.vt_laws_trees.specs.Trees.{IsFileTree, MayAddName}
+use Rattle.vt_laws_trees.proofs.trees.ChangesByRemoving.{shown}
+use Rattle.vt_laws_trees.proofs.trees.ChangesOfCalls.{place_is_free}
+use Rattle.vt_laws_trees.proofs.trees.TreesWalked.{IsNewPlace, not_true, place_is_file}
+use Rattle.vt_spec.specs.Machine.Invariants.{is_there}
+
+module _ (world : World ℕ) (task : Task ℕ) (old : Location ℕ) (place : Place ℕ)
+    (there : is_some (node_at nat_eq world old) ≡ true)
+    (is : IsNewPlace world task place) (plain : is_special place.last ≡ false)
+    (passed : NoneFails (hard_link_rules nat_eq world task old place (linking old place))) where
+  one_mount : old.mount ≡ place.parent.mount
+  one_mount = eqb-true old.mount place.parent.mount (not_true (nat_eq old.mount place.parent.mount) passed.1.1.1.1.1.0)
+
+  same_node : node_at nat_eq world old ≡ (files_at nat_eq world place.parent).tree.node old.node
+  same_node = ap (λ m. (shown world m).tree.node old.node) one_mount
+
+  pub may_link : IsFileTree (files_at nat_eq world place.parent)
+      → MayAddName (files_at nat_eq world place.parent).tree place.parent.node (name_of place.last) old.node
+  may_link trees = record {
+    name_is_free = place_is_free world place
+        (place_is_file world place.parent place.last place.object is.0) plain passed.0 is.1 trees;
+    is_there = ap is_some (sym same_node) ∙ there;
+    no_directory = ap is_directory_node (sym same_node) ∙ passed.1.0;
+  }

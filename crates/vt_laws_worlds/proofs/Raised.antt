@@ -1,0 +1,187 @@
+-- Change numbers: no invariant reads one.
+use Rattle.std.proofs.Common.{◌≡◌, refl, sym, ap, subst, ◌∙◌, ◌≤◌, ℕ, nat_eq, Bool, true, false, cond, List, [], ◌∷◌, ◌++◌, Some, find, map}
+use Rattle.std.specs.Prelude.{Option, is_some, nat_lt, length, option_to_list, unwrap_or, ◌&&◌}
+use Rattle.std.specs.List.{list_all, list_any}
+use Rattle.std.proofs.lemmas.List.Elements.{All-map, All-weaker}
+use Rattle.vt_spec.specs.Language.Limits.{most_mounts}
+use Rattle.vt_spec.specs.FileTree.{FileTree, is_kind_in}
+use Rattle.vt_spec.specs.Lists.{is_among}
+use Rattle.vt_spec.specs.Machine.Mounts.{Location, Mount}
+use Rattle.vt_spec.specs.Machine.World.{Descriptor, Filesystem, Namespace, Task, World, all_locations, filesystem_numbered, is_overlay, locations_of, mount_at, mounts_of, no_filesystem}
+use Rattle.vt_spec.specs.Language.Calls.{same_name}
+use Rattle.vt_spec.specs.Machine.Invariants.{ForksAreCounted, ListsNumbers, MountInvariants, NamespaceInvariants, Stands, TaskInvariants, TreeInvariants, has_one_root, is_fit_filesystem, is_listed, is_within_limits}
+use Rattle.vt_spec.specs.Tree.{Node, is_directory_node}
+use Rattle.vt_spec.specs.declared.attributes.Kind.TheVariants.{File}
+use Rattle.vt_spec.specs.TreeInvariant.{HasOwnParents, IsTree}
+use Rattle.vt_spec.proofs.Lists.{all-map, among-from_map, among_from_contains, contains_from_among, pair-map, map_twice}
+use Rattle.vt_laws_letting_go.proofs.Lists.{any-map, flat_map-map}
+use Rattle.vt_laws_worlds.specs.Worlds.Kept.{IsPlain, IsWorldButForUse, MountsShow}
+use Rattle.vt_spec.proofs.Worlds.{stands_alike}
+
+-- the trees by the numbers of their filesystems
+abbrev pub FilesBy : Type 0
+FilesBy = ℕ → FileTree ℕ
+
+abbrev pub files_by : World ℕ → FilesBy
+files_by world number = (filesystem_numbered nat_eq world number).files
+
+-- a world with other change numbers
+module _ (of_filesystem : Filesystem ℕ → ℕ) (of_namespace : Namespace ℕ → ℕ) (of_task : Task ℕ → ℕ) (change : ℕ)
+    (world : World ℕ) where
+  abbrev filesystem_counted : Filesystem ℕ → Filesystem ℕ
+  filesystem_counted filesystem = record filesystem { change = of_filesystem filesystem }
+
+  abbrev namespace_counted : Namespace ℕ → Namespace ℕ
+  namespace_counted namespace = record namespace { change = of_namespace namespace }
+
+  abbrev task_counted : Task ℕ → Task ℕ
+  task_counted task = record task { change = of_task task }
+
+  abbrev pub counted : World ℕ
+  counted = record world {
+    filesystems = map filesystem_counted world.filesystems;
+    namespaces = map namespace_counted world.namespaces;
+    tasks = map task_counted world.tasks;
+    change = change;
+  }
+
+  -- Lookups
+  files_in : (number : ℕ) (list : List (Filesystem ℕ))
+      → (unwrap_or (find (λ f. nat_eq number f.number) (map filesystem_counted list)) (no_filesystem number)).files
+      ≡ (unwrap_or (find (λ f. nat_eq number f.number) list) (no_filesystem number)).files
+  files_in number [] = refl
+  files_in number (filesystem ∷ list) = by (nat_eq number filesystem.number) (files_in number list)
+    where
+      by : (b : Bool)
+          → (unwrap_or (find (λ f. nat_eq number f.number) (map filesystem_counted list)) (no_filesystem number)).files
+          ≡ (unwrap_or (find (λ f. nat_eq number f.number) list) (no_filesystem number)).files
+          → (unwrap_or (cond b (Some (filesystem_counted filesystem))
+          (find (λ f. nat_eq number f.number) (map filesystem_counted list))) (no_filesystem number)).files
+          ≡ (unwrap_or (cond b (Some filesystem) (find (λ f. nat_eq number f.number) list))
+          (no_filesystem number)).files
+      by true later = refl
+      by false later = later
+
+  pub same_files : files_by counted ≡ files_by world
+  same_files = λ i number. files_in number world.filesystems i
+
+  same_listed : map (λ (namespace : Namespace ℕ). namespace.number) counted.namespaces
+      ≡ map (λ namespace. namespace.number) world.namespaces
+  same_listed = map_twice (λ (namespace : Namespace ℕ). namespace.number) namespace_counted world.namespaces
+
+  same_locations : all_locations counted ≡ all_locations world
+  same_locations = flat_map-map task_counted locations_of world.tasks (λ task. refl)
+
+  -- The invariants
+  plain_counted : IsPlain world → IsPlain counted
+  plain_counted plain = All-map (λ f. is_overlay f ≡ false) filesystem_counted world.filesystems plain
+
+  pub trees_counted : TreeInvariants nat_eq world → TreeInvariants nat_eq counted
+  trees_counted is = record {
+    trees = All-map (λ f. IsTree f.files.tree) filesystem_counted world.filesystems is.trees;
+    own_parents = All-map (λ f. HasOwnParents f.files.tree) filesystem_counted world.filesystems is.own_parents;
+    numbers = All-map (λ f. ListsNumbers nat_eq f.files) filesystem_counted world.filesystems is.numbers;
+    one_filesystem = pair-map (λ (a b : Filesystem ℕ). nat_eq a.number b.number)
+        (λ (a b : Filesystem ℕ). nat_eq a.number b.number)
+        filesystem_counted world.filesystems (λ a b m n e. e) is.one_filesystem;
+    fit_filesystems = all-map is_fit_filesystem filesystem_counted (λ f e. e) world.filesystems is.fit_filesystems;
+  }
+
+  pub mounts_counted : MountInvariants nat_eq world → MountInvariants nat_eq counted
+  mounts_counted is = record {
+    one_number = is.one_number;
+    one_child = is.one_child;
+    standing = All-weaker (λ (mount : Mount ℕ). Stands nat_eq world mount.number)
+        (λ mount. Stands nat_eq counted mount.number)
+        (λ mount stands. stands_alike world counted (λ number. refl) mount.number stands) world.mounts is.standing;
+    nowhere = is.nowhere;
+    groups = is.groups;
+  }
+
+  pub namespaces_counted : NamespaceInvariants nat_eq world → NamespaceInvariants nat_eq counted
+  namespaces_counted is = record {
+    one_namespace = pair-map (λ (a b : Namespace ℕ). nat_eq a.number b.number)
+        (λ (a b : Namespace ℕ). nat_eq a.number b.number)
+        namespace_counted world.namespaces (λ a b m n e. e) is.one_namespace;
+    mounts_listed = ap (λ numbers. list_all
+        (λ (mount : Mount ℕ). list_all (λ number. is_among nat_eq number numbers) (option_to_list mount.namespace))
+        world.mounts) same_listed
+        ∙ is.mounts_listed;
+    tasks_listed = ap (λ numbers. list_all
+        (λ (task : Task ℕ). is_among nat_eq task.namespace numbers) counted.tasks) same_listed
+        ∙ all-map (λ (task : Task ℕ). is_listed nat_eq world task.namespace) task_counted
+        (λ task e. e) world.tasks is.tasks_listed;
+    root_mounts = all-map (has_one_root nat_eq counted) namespace_counted
+        (λ namespace e. e) world.namespaces is.root_mounts;
+    namespaces_live = all-map (λ namespace. list_any
+        (λ (task : Task ℕ). nat_eq namespace.number task.namespace) counted.tasks) namespace_counted
+        (λ namespace e. any-map (λ (task : Task ℕ). nat_eq namespace.number task.namespace) task_counted world.tasks
+        (λ task. refl) ∙ e)
+        world.namespaces is.namespaces_live;
+    few_mounts = any-map (λ (namespace : Namespace ℕ). nat_lt most_mounts
+        (length (mounts_of nat_eq world namespace.number))) namespace_counted world.namespaces (λ namespace. refl)
+        ∙ is.few_mounts;
+  }
+
+  -- what is asked of a location, by the trees
+  abbrev node_by : FilesBy → Location ℕ → Option (Node ℕ)
+  node_by files location = (files (mount_at nat_eq world location).filesystem).tree.node location.node
+
+  abbrev is_located_by : FilesBy → Location ℕ → Bool
+  is_located_by files location =
+      is_among nat_eq location.mount (map (λ mount. mount.number) world.mounts) && is_some (node_by files location)
+
+  abbrev is_seen_by : FilesBy → ℕ → Location ℕ → Bool
+  is_seen_by files namespace location =
+      is_directory_node (node_by files location)
+      && list_all (nat_eq namespace) (option_to_list (mount_at nat_eq world location).namespace)
+
+  abbrev stands_by : FilesBy → Task ℕ → Bool
+  stands_by files task = is_seen_by files task.namespace task.root && is_seen_by files task.namespace task.directory
+
+  abbrev has_open_by : FilesBy → Task ℕ → Bool
+  has_open_by files task =
+      list_all (λ (descriptor : Descriptor ℕ). is_kind_in File (node_by files descriptor.location)) task.descriptors
+
+  abbrev has_root_by : FilesBy → Mount ℕ → Bool
+  has_root_by files mount =
+      is_directory_node ((files mount.filesystem).tree.node mount.root)
+      && list_all (λ place. is_directory_node (node_by files place)) (option_to_list mount.mount_point)
+
+  forks_counted : ForksAreCounted world → ForksAreCounted counted
+  forks_counted is task other number rest m n e =
+      let one = among-from_map task_counted world.tasks task
+      (among_from_contains (map task_counted world.tasks) task m) in
+      let two = among-from_map task_counted world.tasks other
+      (among_from_contains (map task_counted world.tasks) other n) in
+      subst (λ k. number ≤ k) (sym (ap (λ (t : Task ℕ). t.forks) one.2))
+      (is one.0 two.0 number rest (contains_from_among world.tasks one.0 one.1)
+      (contains_from_among world.tasks two.0 two.1)
+      (sym (ap (λ (t : Task ℕ). t.name) two.2) ∙ e ∙ ap (λ (t : Task ℕ). t.name ++ (number ∷ rest)) one.2))
+
+  pub tasks_counted : TaskInvariants nat_eq world → TaskInvariants nat_eq counted
+  tasks_counted is = record {
+    one_task = pair-map (λ (a b : Task ℕ). same_name a.name b.name) (λ (a b : Task ℕ). same_name a.name b.name)
+        task_counted world.tasks (λ a b m n e. e) is.one_task;
+    small_tasks = all-map is_within_limits task_counted (λ task e. e) world.tasks is.small_tasks;
+    forks_counted = forks_counted is.forks_counted;
+    locations_live = ap (λ files. list_all (is_located_by files) (all_locations counted)) same_files
+        ∙ ap (list_all (is_located_by (files_by world))) same_locations ∙ is.locations_live;
+    directories = ap (λ files. list_all (stands_by files) counted.tasks) same_files
+        ∙ all-map (stands_by (files_by world)) task_counted (λ task e. e) world.tasks is.directories;
+    open_files = ap (λ files. list_all (has_open_by files) counted.tasks) same_files
+        ∙ all-map (has_open_by (files_by world)) task_counted (λ task e. e) world.tasks is.open_files;
+  }
+
+  pub roots_counted : MountsShow world → MountsShow counted
+  roots_counted is = ap (λ files. list_all (has_root_by files) world.mounts) same_files ∙ is
+
+  pub unsettled_counted : IsWorldButForUse world → IsWorldButForUse counted
+  unsettled_counted is = record {
+    plain = plain_counted is.plain;
+    files = trees_counted is.files;
+    mounts = mounts_counted is.mounts;
+    namespaces = namespaces_counted is.namespaces;
+    tasks = tasks_counted is.tasks;
+    roots = roots_counted is.roots;
+  }

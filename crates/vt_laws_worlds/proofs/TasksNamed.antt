@@ -1,0 +1,287 @@
+-- Tasks keep names of their own: what a fork names is a new name, where tasks have counted their forks.
+use Rattle.std.proofs.Common.{◌≡◌, refl, sym, ap, subst, ◌∙◌, ◌⊎◌, inl, inr, ⊎_elim, ℕ, nat_eq, Bool, true, false, cond, true≢false, filter, not, List, [], ◌∷◌, ◌++◌, ◌+◌, ◌≤◌, ◌||◌, append_assoc, arith, is_some, map}
+use Rattle.std.specs.Prelude.{if◌then◌else◌}
+use Rattle.std.specs.List.{list_any}
+use Rattle.std.specs.Cmp.Lexicographic.{bytes_decides}
+use Rattle.std.proofs.lemmas.Bool.{or_parts}
+use Rattle.vt_spec.specs.Lists.{Fresh, any_pair, first_of_list, rest_of}
+use Rattle.vt_spec.specs.Machine.Mounts.{Mount}
+use Rattle.vt_spec.specs.Machine.Namespaces.{pivoted_location, pivoted_task}
+use Rattle.vt_spec.specs.Machine.Tasks.{child_name, child_of}
+use Rattle.vt_spec.specs.Machine.Invariants.{ForksAreCounted}
+use Rattle.vt_spec.specs.Machine.World.{Task, World, first_task, opening, replaced_if_called}
+use Rattle.vt_spec.specs.Language.Calls.{TaskName, same_name}
+use Rattle.vt_spec.specs.Rights.{Credentials}
+use Rattle.vt_spec.proofs.Lists.{Among, among-append, among-from_filter, among-from_map, among_from_contains, contains_from_among, none_among, none_from_among, pair-filter, pair-map}
+use Rattle.vt_spec.proofs.Worlds.{name-replaced_if_called, same_task_name}
+
+-- A name that is put together in two ways
+module _ where
+  abbrev head_or : ℕ → List ℕ → ℕ
+  head_or d [] = d
+  head_or d (a ∷ rest) = a
+
+  some_cons : (a : ℕ) (rest : List ℕ) → [] ≡ a ∷ rest → ⊥
+  some_cons a rest e = true≢false (ap (λ (l : List ℕ). is_some (first_of_list l)) (sym e))
+
+  none_append : (ys : List ℕ) (y : ℕ) (zs : List ℕ) → [] ≡ ys ++ (y ∷ zs) → ⊥
+  none_append [] y zs e = some_cons y zs e
+  none_append (u ∷ us) y zs e = some_cons u (us ++ (y ∷ zs)) e
+
+  pub two_ways : (xs : List ℕ) (x : ℕ) (ys : List ℕ) (y : ℕ) (zs : List ℕ) → xs ++ (x ∷ []) ≡ ys ++ (y ∷ zs)
+      → ((xs ≡ ys) × (x ≡ y)) ⊎ ((rest : List ℕ) × (xs ≡ ys ++ (y ∷ rest)))
+  two_ways [] x [] y zs e = inl (refl, ap (head_or x) e)
+  two_ways [] x (u ∷ us) y zs e = absurd (none_append us y zs (ap rest_of e))
+  two_ways (v ∷ vs) x [] y zs e = inr (vs, ap (λ h. h ∷ vs) (ap (head_or v) e))
+  two_ways (v ∷ vs) x (u ∷ us) y zs e =
+      let head : v ≡ u = ap (head_or v) e in
+      ⊎_elim (λ same. inl (ap (λ h. h ∷ vs) head ∙ ap (λ l. u ∷ l) same.0, same.1))
+      (λ longer. inr (longer.0, ap (λ h. h ∷ vs) head ∙ ap (λ l. u ∷ l) longer.1))
+      (two_ways vs x us y zs (ap rest_of e))
+
+  pub not_longer : (xs : List ℕ) (y : ℕ) (zs : List ℕ) → xs ≡ xs ++ (y ∷ zs) → ⊥
+  not_longer [] y zs e = some_cons y zs e
+  not_longer (x ∷ xs) y zs e = not_longer xs y zs (ap rest_of e)
+
+-- no two tasks have one name
+abbrev pub AreNamedApart : List (Task ℕ) → Type 0
+AreNamedApart tasks = any_pair (λ (a b : Task ℕ). same_name a.name b.name) tasks ≡ false
+
+mapped_apart : (f : Task ℕ → Task ℕ) → ((task : Task ℕ) → (f task).name ≡ task.name) → (tasks : List (Task ℕ))
+    → AreNamedApart tasks
+    → AreNamedApart (map f tasks)
+mapped_apart f names tasks e =
+    pair-map (λ (a b : Task ℕ). same_name a.name b.name) (λ (a b : Task ℕ). same_name a.name b.name) f tasks
+    (λ a b m n h. ap (λ x. same_name x (f b).name) (names a) ∙ ap (same_name a.name) (names b) ∙ h) e
+
+appended_apart : (tasks : List (Task ℕ)) (new : Task ℕ) → AreNamedApart tasks
+    → ((task : Task ℕ) → Among task tasks → same_name task.name new.name ≡ false) → AreNamedApart (tasks ++ (new ∷ []))
+appended_apart [] new e differ = refl
+appended_apart (first ∷ rest) new e differ = both (any_appended rest (first_part e))
+    (appended_apart rest new (second_part e) (λ t m. differ t (inr m)))
+  where
+    test : Task ℕ → Task ℕ → Bool
+    test a b = same_name a.name b.name
+
+    first_part : AreNamedApart (first ∷ rest) → list_any (λ (b : Task ℕ). same_name first.name b.name) rest ≡ false
+    first_part h = (or_parts (list_any (λ (b : Task ℕ). same_name first.name b.name) rest)
+        (any_pair (λ (a b : Task ℕ). same_name a.name b.name) rest) h).0
+
+    second_part : AreNamedApart (first ∷ rest) → AreNamedApart rest
+    second_part h = (or_parts (list_any (λ (b : Task ℕ). same_name first.name b.name) rest)
+        (any_pair (λ (a b : Task ℕ). same_name a.name b.name) rest) h).1
+
+    any_appended : (list : List (Task ℕ)) → list_any (λ (b : Task ℕ). same_name first.name b.name) list ≡ false
+        → list_any (λ (b : Task ℕ). same_name first.name b.name) (list ++ (new ∷ [])) ≡ false
+    any_appended list h =
+        none_from_among (λ (b : Task ℕ). same_name first.name b.name) (list ++ (new ∷ [])) (λ b m.
+        ⊎_elim (λ l. none_among (λ (x : Task ℕ). same_name first.name x.name) list h b l)
+        (λ r. ⊎_elim (λ same. ap (λ (x : Task ℕ). same_name first.name x.name) same ∙ differ first (inl refl))
+        (λ none. absurd none) r)
+        (among-append list (new ∷ []) b m))
+
+    both : list_any (λ (b : Task ℕ). same_name first.name b.name) (rest ++ (new ∷ [])) ≡ false
+        → AreNamedApart (rest ++ (new ∷ []))
+        → AreNamedApart (first ∷ (rest ++ (new ∷ [])))
+    both h k = ap (λ b. b || any_pair (λ (a b : Task ℕ). same_name a.name b.name) (rest ++ (new ∷ []))) h ∙ k
+
+-- Forks are counted, in a list of tasks
+abbrev AreCounted : List (Task ℕ) → Type 0
+AreCounted tasks =
+    (task other : Task ℕ) (number : ℕ) (rest : TaskName) → Among task tasks → Among other tasks
+    → other.name ≡ task.name ++ (number ∷ rest) → number ≤ task.forks
+
+pub counted_among : (world : World ℕ) → ForksAreCounted world → AreCounted world.tasks
+counted_among world counted task other number rest m n =
+    counted task other number rest (contains_from_among world.tasks task m) (contains_from_among world.tasks other n)
+
+pub counted_from : (world : World ℕ) → AreCounted world.tasks → ForksAreCounted world
+counted_from world counted task other number rest m n =
+    counted task other number rest (among_from_contains world.tasks task m) (among_from_contains world.tasks other n)
+
+-- each task has the name of one that was there, and has forked no less
+abbrev ComeFrom : List (Task ℕ) → List (Task ℕ) → Type 0
+ComeFrom before after =
+    (task : Task ℕ) → Among task after → (old : Task ℕ) × Among old before × (task.name ≡ old.name)
+    × (old.forks ≤ task.forks)
+
+counted_on : (before after : List (Task ℕ)) → ComeFrom before after → AreCounted before → AreCounted after
+counted_on before after come counted task other number rest m n e =
+    let one = come task m in
+    let two = come other n in
+    let small : number ≤ one.0.forks =
+    counted one.0 two.0 number rest one.1 two.1 (sym two.2 ∙ e ∙ ap (λ l. l ++ (number ∷ rest)) one.2) in
+    omega (arith, small, one.3)
+
+replaced_come : (new task : Task ℕ) (tasks : List (Task ℕ)) → Among task tasks → new.name ≡ task.name
+    → task.forks ≤ new.forks
+    → ComeFrom tasks (map (replaced_if_called new) tasks)
+replaced_come new task tasks there name forks other m =
+    let from = among-from_map (replaced_if_called new) tasks other m in
+    subst (λ (t : Task ℕ). (old : Task ℕ) × Among old tasks × (t.name ≡ old.name) × (old.forks ≤ t.forks)) (sym from.2)
+    (by from.0 from.1 (same_name new.name from.0.name))
+  where
+    by : (old : Task ℕ) → Among old tasks → (b : Bool)
+        → (o : Task ℕ) × Among o tasks × ((cond b new old).name ≡ o.name) × (o.forks ≤ (cond b new old).forks)
+    by old m true = (task, there, name, forks)
+    by old m false = (old, m, refl, omega arith)
+
+-- How the tasks go on: as they were, one changed, moved to the new root, without one, or with a child
+pub data GoOn (task : Task ℕ) (before : List (Task ℕ)) : List (Task ℕ) → Type 0 where
+  same_ones : (after : List (Task ℕ)) → after ≡ before → GoOn task before after
+  one_changed : (new : Task ℕ) (after : List (Task ℕ)) → new.name ≡ task.name → new.forks ≡ task.forks
+      → after ≡ map (replaced_if_called new) before → GoOn task before after
+  all_moved : (namespace : ℕ) (root new : Mount ℕ) (after : List (Task ℕ))
+      → after ≡ map (pivoted_task nat_eq namespace root new) before
+      → GoOn task before after
+  one_left : (after : List (Task ℕ)) → after ≡ filter
+      (λ (other : Task ℕ). not (same_name task.name other.name)) before → GoOn task before after
+  one_more : (credentials : Credentials) (after : List (Task ℕ))
+      → after ≡ map (replaced_if_called
+      (record task { forks = task.forks + 1 })) before ++ (child_of task credentials ∷ []) → GoOn task before after
+
+pivoted_keeps : (namespace : ℕ) (root new : Mount ℕ) (task : Task ℕ)
+    → ((pivoted_task nat_eq namespace root new task).name ≡ task.name)
+    × (task.forks ≤ (pivoted_task nat_eq namespace root new task).forks)
+pivoted_keeps namespace root new task =
+    by (record task {
+      root = pivoted_location nat_eq root new task.root;
+      directory = pivoted_location nat_eq root new
+          task.directory;
+    })
+    refl (omega arith) (nat_eq namespace task.namespace)
+  where
+    by : (moved : Task ℕ) → moved.name ≡ task.name → task.forks ≤ moved.forks → (b : Bool)
+        → ((if b then moved else task).name ≡ task.name) × (task.forks ≤ (if b then moved else task).forks)
+    by moved name forks true = (name, forks)
+    by moved name forks false = (refl, omega arith)
+
+module _ (task : Task ℕ) (before : List (Task ℕ)) (there : Among task before) (apart : AreNamedApart before)
+    (counted : AreCounted before) where
+  abbrev parent : Task ℕ
+  parent = record task { forks = task.forks + 1 }
+
+  -- no task has the child's name
+  child_is_new : (other : Task ℕ) → Among other before → same_name other.name (child_name task) ≡ false
+  child_is_new other m = by (same_name other.name (child_name task)) refl
+    where
+      too_many : task.forks + 1 ≤ task.forks → ⊥
+      too_many h = omega (arith, h)
+
+      by : (b : Bool) → same_name other.name (child_name task) ≡ b → b ≡ false
+      by false e = refl
+      by true e = absurd (too_many
+          (counted task other (task.forks + 1) [] there m (same_task_name other.name (child_name task) e)))
+
+  pub go_on_apart : (after : List (Task ℕ)) → GoOn task before after → AreNamedApart after
+  go_on_apart after (same_ones list e) = subst AreNamedApart (sym e) apart
+  go_on_apart after (one_changed new list name forks e) =
+      subst AreNamedApart (sym e) (mapped_apart (replaced_if_called new) (name-replaced_if_called new) before apart)
+  go_on_apart after (all_moved namespace root new list e) =
+      subst AreNamedApart (sym e)
+      (mapped_apart (pivoted_task nat_eq namespace root new)
+      (λ t. (pivoted_keeps namespace root new t).0) before apart)
+  go_on_apart after (one_left list e) =
+      subst AreNamedApart (sym e)
+      (pair-filter (λ (a b : Task ℕ). same_name a.name b.name)
+      (λ (other : Task ℕ). not (same_name task.name other.name)) before apart)
+  go_on_apart after (one_more credentials list e) =
+      subst AreNamedApart (sym e)
+      (appended_apart (map (replaced_if_called parent) before) (child_of task credentials)
+      (mapped_apart (replaced_if_called parent) (name-replaced_if_called parent) before apart)
+      (λ other m.
+      let from = among-from_map (replaced_if_called parent) before other m in
+      ap (λ (t : Task ℕ). same_name t.name (child_name task)) from.2
+      ∙ ap (λ n. same_name n (child_name task)) (name-replaced_if_called parent from.0)
+      ∙ child_is_new from.0 from.1))
+
+  -- a child's name begins with that of a task that was there
+  above_child : (other : Task ℕ) → Among other (map (replaced_if_called parent) before)
+      → (number : ℕ) (rest : TaskName)
+      → child_name task ≡ other.name ++ (number ∷ rest) → number ≤ other.forks
+  above_child other m number rest e =
+      let from = among-from_map (replaced_if_called parent) before other m in
+      subst (λ (t : Task ℕ). child_name task ≡ t.name ++ (number ∷ rest) → number ≤ t.forks) (sym from.2)
+      (by from.0 from.1 (same_name task.name from.0.name) refl) e
+    where
+      last_one : (a b : ℕ) → a ≡ b → b ≤ a
+      last_one a b h = omega (arith, h)
+
+      by : (old : Task ℕ) → Among old before → (b : Bool) → same_name task.name old.name ≡ b
+          → child_name task ≡ (cond b parent old).name ++ (number ∷ rest) → number ≤ (cond b parent old).forks
+      by old n true same h =
+          ⊎_elim (λ one. last_one (task.forks + 1) number one.1)
+          (λ longer. absurd (not_longer task.name number longer.0 longer.1))
+          (two_ways task.name (task.forks + 1) task.name number rest h)
+      by old n false differ h =
+          ⊎_elim (λ one. absurd (true≢false (sym ((bytes_decides task.name old.name).1 one.0) ∙ differ)))
+          (λ longer. counted old task number longer.0 n there longer.1)
+          (two_ways task.name (task.forks + 1) old.name number rest h)
+
+  pub go_on_counted : (after : List (Task ℕ)) → GoOn task before after → AreCounted after
+  go_on_counted after (same_ones list e) = subst AreCounted (sym e) counted
+  go_on_counted after (one_changed new list name forks e) =
+      subst AreCounted (sym e)
+      (counted_on before (map (replaced_if_called new) before)
+      (replaced_come new task before there name (omega (arith, forks))) counted)
+  go_on_counted after (all_moved namespace root new list e) =
+      subst AreCounted (sym e)
+      (counted_on before (map (pivoted_task nat_eq namespace root new) before) (λ other m.
+      let from = among-from_map (pivoted_task nat_eq namespace root new) before other m in
+      let kept = pivoted_keeps namespace root new from.0 in (
+        from.0,
+        from.1,
+        ap (λ (t : Task ℕ). t.name) from.2
+            ∙ kept.0,
+        subst (λ (t : Task ℕ). from.0.forks ≤ t.forks) (sym from.2) kept.1,
+      ))
+      counted)
+  go_on_counted after (one_left list e) =
+      subst AreCounted (sym e) (λ one other number rest m n.
+      counted one other number rest
+      (among-from_filter (λ (x : Task ℕ). not (same_name task.name x.name)) before one m).0
+      (among-from_filter (λ (x : Task ℕ). not (same_name task.name x.name)) before other n).0)
+  go_on_counted after (one_more credentials list e) =
+      subst AreCounted (sym e) (λ one other number rest m n h.
+      let old = map (replaced_if_called parent) before in
+      let child = child_of task credentials in
+      let come = counted_on before old (replaced_come parent task before there refl (omega arith)) counted in
+      ⊎_elim
+      (λ first. ⊎_elim
+      (λ second. come one other number rest first second h)
+      (λ second. ⊎_elim (λ is. above_child one first number rest (sym (ap (λ (t : Task ℕ). t.name) is) ∙ h))
+      (λ none. absurd none) second)
+      (among-append old (child ∷ []) other n))
+      (λ first. ⊎_elim
+      (λ is_child.
+      let name : other.name ≡ child_name task ++ (number ∷ rest) = h
+      ∙ ap (λ (t : Task ℕ). t.name ++ (number ∷ rest)) is_child in
+      ⊎_elim
+      (λ second. absurd (below_none other second number rest name))
+      (λ second. ⊎_elim (λ is. absurd
+      (not_longer (child_name task) number rest (sym (ap (λ (t : Task ℕ). t.name) is) ∙ name)))
+      (λ none. absurd none) second)
+      (among-append old (child ∷ []) other n))
+      (λ none. absurd none) first)
+      (among-append old (child ∷ []) one m))
+    where
+      too_many : task.forks + 1 ≤ task.forks → ⊥
+      too_many h = omega (arith, h)
+
+      -- nothing was named below the child
+      below_none : (other : Task ℕ) → Among other (map (replaced_if_called parent) before)
+          → (number : ℕ) (rest : TaskName)
+          → other.name ≡ child_name task ++ (number ∷ rest) → ⊥
+      below_none other m number rest h =
+          let from = among-from_map (replaced_if_called parent) before other m in
+          too_many (counted task from.0 (task.forks + 1) (number ∷ rest) there from.1
+          (sym (name-replaced_if_called parent from.0) ∙ ap (λ (t : Task ℕ). t.name) (sym from.2) ∙ h
+          ∙ append_assoc task.name ((task.forks + 1) ∷ []) (number ∷ rest)))
+
+pub opening_counts_forks : (fresh : Fresh ℕ) → ForksAreCounted (opening nat_eq fresh)
+opening_counts_forks fresh =
+    counted_from (opening nat_eq fresh) (λ task other number rest m n e.
+    ⊎_elim
+    (λ (one : other ≡ first_task nat_eq fresh). absurd
+    (none_append task.name number rest (ap (λ (t : Task ℕ). t.name) (sym one) ∙ e)))
+    (λ none. absurd none) n)

@@ -1,0 +1,85 @@
+-- Worlds with the same mounts and masters, as changes of files and of tasks leave them.
+use Rattle.std.proofs.Common.{◌≡◌, refl, ap, subst, ◌∙◌, sym, true, false, nat_eq, ℕ, Bool, List, None, Option, Some, [], ◌∷◌}
+use Rattle.vt_spec.specs.Language.Changes.{Change}
+use Rattle.vt_spec.specs.Language.Changes.Change.{CopyUp, SetBytes}
+use Rattle.vt_spec.specs.Machine.Filesystems.{filesystem_changed, overlay_changed, with_change}
+use Rattle.vt_spec.specs.Lists.{Fresh}
+use Rattle.vt_spec.specs.Machine.Mounts.{Location, Mount, mount_in}
+use Rattle.vt_spec.specs.Machine.Descriptors.{overwritten, pwritten, with_copy}
+use Rattle.vt_spec.specs.Machine.World.{Filesystem, Layer, Overlay, World, filesystem_at, node_at}
+use Rattle.vt_spec.specs.Machine.Invariants.{MountInvariants, Stands}
+use Rattle.vt_spec.specs.Machine.Invariants.Stands.{at_root, on_parent}
+use Rattle.vt_spec.specs.Tree.{bytes_in}
+use Rattle.vt_spec.proofs.Lists.{all_from_among, among_from_all}
+
+-- Standing is of the mounts alone.
+stands_alike : (a b : World ℕ) → a.mounts ≡ b.mounts → (number : ℕ) → Stands nat_eq a number → Stands nat_eq b number
+stands_alike a b same number (at_root it e) =
+    at_root it (ap (λ (mounts : List (Mount ℕ)). (mount_in nat_eq mounts it).mount_point) (sym same) ∙ e)
+stands_alike a b same number (on_parent it place e f stands) =
+    on_parent it place (ap (λ (mounts : List (Mount ℕ)). (mount_in nat_eq mounts it).mount_point) (sym same) ∙ e)
+    (ap (λ (mounts : List (Mount ℕ)). (mount_in nat_eq mounts it).namespace) (sym same) ∙ f
+    ∙ ap (λ (mounts : List (Mount ℕ)). (mount_in nat_eq mounts place.mount).namespace) same)
+    (stands_alike a b same place.mount stands)
+
+-- The invariants of mounts are of the mounts and of the masters of groups.
+pub same_mounts : (a b : World ℕ) → a.mounts ≡ b.mounts → a.master ≡ b.master → MountInvariants nat_eq a
+    → MountInvariants nat_eq b
+same_mounts a b mounts master kept =
+    subst (λ these. MountInvariants nat_eq (record b { mounts = these })) mounts
+    (subst (λ these. MountInvariants nat_eq (record b { mounts = a.mounts; master = these })) master start)
+  where
+    start : MountInvariants nat_eq (record b { mounts = a.mounts; master = a.master })
+    start =
+        let like : World ℕ = record b { mounts = a.mounts; master = a.master } in
+        record {
+          one_number = kept.one_number;
+          one_child = kept.one_child;
+          standing = all_from_among (λ (mount : Mount ℕ). Stands nat_eq like mount.number) a.mounts (λ mount m.
+              stands_alike a like refl mount.number
+              (among_from_all (λ (other : Mount ℕ). Stands nat_eq a other.number) a.mounts kept.standing mount m));
+          nowhere = kept.nowhere;
+          groups = kept.groups;
+        }
+
+-- All but files stays.
+pub record IsOfFiles (before after : World ℕ) : Type 0 where
+  pub mounts : after.mounts ≡ before.mounts
+  pub master : after.master ≡ before.master
+  pub namespaces : after.namespaces ≡ before.namespaces
+  pub tasks : after.tasks ≡ before.tasks
+
+pub itself_of_files : (world : World ℕ) → IsOfFiles world world
+itself_of_files world = record { mounts = refl; master = refl; namespaces = refl; tasks = refl }
+
+pub mounts_of_files : (before after : World ℕ) → IsOfFiles before after → MountInvariants nat_eq before
+    → MountInvariants nat_eq after
+mounts_of_files before after same kept = same_mounts before after (sym same.mounts) (sym same.master) kept
+
+module _ (fresh : Fresh ℕ) (world : World ℕ) where
+  pub change_of_files : (location : Location ℕ) (change : Change ℕ)
+      → IsOfFiles world (with_change nat_eq fresh world location change)
+  change_of_files location change =
+      by (filesystem_at nat_eq world location) (filesystem_at nat_eq world location).overlay
+    where
+      upper : (filesystem : Filesystem ℕ) (overlay : Overlay ℕ) (layer : Option (Layer ℕ))
+          → IsOfFiles world (overlay_changed nat_eq fresh world filesystem overlay layer change)
+      upper filesystem overlay None = itself_of_files world
+      upper filesystem overlay (Some layer) = record { mounts = refl; master = refl; namespaces = refl; tasks = refl }
+
+      by : (filesystem : Filesystem ℕ) (overlay : Option (Overlay ℕ))
+          → IsOfFiles world (filesystem_changed nat_eq fresh world filesystem overlay change)
+      by filesystem None = record { mounts = refl; master = refl; namespaces = refl; tasks = refl }
+      by filesystem (Some overlay) = upper filesystem overlay overlay.upper
+
+  pub copy_of_files : (copies : Bool) (file : Location ℕ)
+      → IsOfFiles world (with_copy nat_eq copies fresh world file)
+  copy_of_files true file = change_of_files file (CopyUp file.node)
+  copy_of_files false file = itself_of_files world
+
+  pub writing_of_files : (file : Location ℕ) (offset : ℕ) (bytes : List ℕ)
+      → IsOfFiles world (pwritten nat_eq fresh world file offset bytes)
+  writing_of_files file offset [] = itself_of_files world
+  writing_of_files file offset (byte ∷ bytes) =
+      change_of_files file (SetBytes file.node
+      (overwritten offset (byte ∷ bytes) (bytes_in (node_at nat_eq world file))))

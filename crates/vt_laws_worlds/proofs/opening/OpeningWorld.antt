@@ -1,0 +1,149 @@
+-- The opening world has the invariants.
+use Rattle.std.proofs.Common.{◌≡◌, refl, sym, ap, ◌∙◌, ℕ, nat_eq, eq-eqb, true, false, cond, [], ◌∷◌, ◌||◌, ◌&&◌, Some, None, filter, is_some}
+use Rattle.std.specs.Prelude.{length, nat_lt, option_to_list, unwrap_or, ◌==◌}
+use Rattle.std.specs.List.{list_all, list_any}
+use Rattle.std.proofs.lemmas.Bool.{and_from}
+use Rattle.std.proofs.lemmas.List.Elements.{All-cons, All-head, All-nil, All-weaker}
+use Rattle.vt_spec.specs.Language.Limits.{most_mounts}
+use Rattle.vt_spec.specs.Lists.{Fresh}
+use Rattle.vt_spec.specs.Machine.Mounts.{Mount, no_mount, root_of}
+use Rattle.vt_spec.specs.Machine.Settled.{has_layer_on, is_mounted}
+use Rattle.vt_spec.specs.Machine.World.{Filesystem, World, filesystem_numbered, first_mount, first_location, is_directory_at, mount_at, mount_numbered, new_plain, node_at, opening}
+use Rattle.vt_spec.specs.Machine.Invariants.{ListsNumbers, MountInvariants, NamespaceInvariants, Stands, TaskInvariants, TreeInvariants, is_root_mount}
+use Rattle.vt_spec.specs.Machine.Invariants.Stands.{at_root}
+use Rattle.vt_spec.specs.Tree.{is_directory_node}
+use Rattle.vt_spec.specs.TreeInvariant.{HasOwnParents, IsTree}
+use Rattle.vt_laws_letting_go.specs.InUse.{AllInUse, is_inode_used}
+use Rattle.vt_laws_letting_go.proofs.sweeps.InUse.{nothing_goes}
+use Rattle.vt_laws_letting_go.proofs.Lists.{or_first}
+use Rattle.vt_laws_trees.specs.Trees.{IsFileTree}
+use Rattle.vt_laws_trees.specs.Trees.Calls.{IsStanding, IsWorldOfTrees}
+use Rattle.vt_laws_trees.proofs.trees.ChangesByCalls.{opening_has_trees}
+use Rattle.vt_laws_trees.proofs.trees.ChangesWithinSizes.{opening_is_fit}
+use Rattle.vt_laws_trees.proofs.trees.TreesLimits.{opening_has_small_tasks}
+use Rattle.vt_laws_worlds.specs.Worlds.Calls.{OpeningIsAWorld}
+use Rattle.vt_laws_worlds.specs.Worlds.Kept.{MountsShow}
+use Rattle.vt_laws_worlds.proofs.TasksNamed.{opening_counts_forks}
+use Rattle.vt_laws_worlds.proofs.RaisedInUse.{world_of}
+use Rattle.vt_laws_mounts.proofs.GroupsLiving.{all_live}
+use Rattle.vt_spec.proofs.Nodes.{directory_is_there}
+
+module _ (fresh : Fresh ℕ) where
+  abbrev first_world : World ℕ
+  first_world = opening nat_eq fresh
+
+  abbrev the_mount : Mount ℕ
+  the_mount = first_mount nat_eq fresh
+
+  abbrev the_filesystem : Filesystem ℕ
+  the_filesystem = new_plain nat_eq (fresh 2) (fresh 3)
+
+  itself : (k : ℕ) → nat_eq (fresh k) (fresh k) ≡ true
+  itself k = eq-eqb (fresh k) (fresh k) refl
+
+  has_trees : IsWorldOfTrees first_world
+  has_trees = (opening_has_trees fresh).0
+
+  is_standing : IsStanding first_world
+  is_standing = (opening_has_trees fresh).1
+
+  found_mount : mount_numbered nat_eq first_world (fresh 0) ≡ the_mount
+  found_mount = ap (λ b. unwrap_or (cond b (Some the_mount) None) (no_mount (fresh 0))) (itself 0)
+
+  root_is_directory : is_directory_at nat_eq first_world (first_location nat_eq fresh) ≡ true
+  root_is_directory =
+      All-head (λ (mount : Mount ℕ). is_directory_at nat_eq first_world (root_of mount) ≡ true) the_mount []
+      is_standing.roots
+
+  trees : TreeInvariants nat_eq first_world
+  trees = record {
+    trees = All-weaker (λ (f : Filesystem ℕ). IsFileTree f.files) (λ f. IsTree f.files.tree)
+        (λ f is. is.tree) first_world.filesystems has_trees.trees;
+    own_parents = All-weaker (λ (f : Filesystem ℕ). IsFileTree f.files) (λ f. HasOwnParents f.files.tree)
+        (λ f is. is.own_parents) first_world.filesystems has_trees.trees;
+    numbers = All-weaker (λ (f : Filesystem ℕ). IsFileTree f.files) (λ f. ListsNumbers nat_eq f.files)
+        (λ f is. is.numbers) first_world.filesystems has_trees.trees;
+    one_filesystem = refl;
+    fit_filesystems = (opening_is_fit fresh).fit;
+  }
+
+  mounts : MountInvariants nat_eq first_world
+  mounts = record {
+    one_number = refl;
+    one_child = refl;
+    standing = All-cons (λ (mount : Mount ℕ). Stands nat_eq first_world mount.number) the_mount []
+        (at_root (fresh 0) (ap (λ (m : Mount ℕ). m.mount_point) found_mount))
+        (All-nil (λ (mount : Mount ℕ). Stands nat_eq first_world mount.number));
+    nowhere = refl;
+    groups = all_live first_world refl;
+  }
+
+  namespaces : NamespaceInvariants nat_eq first_world
+  namespaces = record {
+    one_namespace = refl;
+    mounts_listed = ap (λ b. ((b || false) && true) && true) (itself 1);
+    tasks_listed = ap (λ b. (b || false) && true) (itself 1);
+    root_mounts = ap (λ b. (length (filter (is_root_mount nat_eq) (cond b (the_mount ∷ []) [])) == 1) && true)
+        (itself 1);
+    namespaces_live = ap (λ b. (b || false) && true) (itself 1);
+    few_mounts = ap (λ b. nat_lt most_mounts (length (cond b (the_mount ∷ []) [])) || false) (itself 1);
+  }
+
+  located : (nat_eq (fresh 0) (fresh 0) || false) && is_some (node_at nat_eq first_world (first_location nat_eq fresh))
+      ≡ true
+  located =
+      and_from (nat_eq (fresh 0) (fresh 0)
+      || false) (is_some (node_at nat_eq first_world (first_location nat_eq fresh)))
+      (ap (λ b. b || false) (itself 0))
+      (directory_is_there (node_at nat_eq first_world (first_location nat_eq fresh)) root_is_directory)
+
+  seen : is_directory_at nat_eq first_world (first_location nat_eq fresh)
+      && list_all (nat_eq (fresh 1)) (option_to_list
+      (mount_at nat_eq first_world (first_location nat_eq fresh)).namespace) ≡ true
+  seen =
+      and_from (is_directory_at nat_eq first_world (first_location nat_eq fresh)) _ root_is_directory
+      (ap (λ (m : Mount ℕ). list_all (nat_eq (fresh 1)) (option_to_list m.namespace)) found_mount
+      ∙ ap (λ b. b && true) (itself 1))
+
+  tasks : TaskInvariants nat_eq first_world
+  tasks = record {
+    one_task = refl;
+    small_tasks = opening_has_small_tasks fresh;
+    forks_counted = opening_counts_forks fresh;
+    locations_live = ap (λ b. b && (b && true)) located;
+    directories = ap (λ b. (b && b) && true) seen;
+    open_files = refl;
+  }
+
+  roots : MountsShow first_world
+  roots =
+      ap (λ b. (b && true) && true)
+      (ap (λ (m : Mount ℕ). is_directory_node
+      ((filesystem_numbered nat_eq first_world m.filesystem).files.tree.node (fresh 3))) (sym found_mount)
+      ∙ root_is_directory)
+
+  in_use : AllInUse first_world
+  in_use = record {
+    mounts = refl;
+    filesystems = ap (λ b. ((b || false)
+        || list_any (λ merged. has_layer_on nat_eq (fresh 2) merged && is_mounted nat_eq first_world merged.number)
+        first_world.filesystems) && true) (itself 2);
+    inodes = All-cons (λ (f : Filesystem ℕ). list_all (is_inode_used first_world f) f.files.numbers ≡ true)
+        the_filesystem []
+        (ap (λ b. b && true) (or_first (nat_eq (fresh 3) (fresh 3)) _ (itself 3)))
+        (All-nil (λ (f : Filesystem ℕ). list_all (is_inode_used first_world f) f.files.numbers ≡ true));
+    groups = λ group none. refl;
+  }
+
+pub opening_is_a_world : OpeningIsAWorld
+opening_is_a_world fresh apart = (
+  world_of (opening nat_eq fresh) (record {
+    plain = (has_trees fresh).plain;
+    files = trees fresh;
+    mounts = mounts fresh;
+    namespaces = namespaces fresh;
+    tasks = tasks fresh;
+    roots = roots fresh;
+  }) (nothing_goes (opening nat_eq fresh) (in_use fresh)),
+  (has_trees fresh).plain,
+)

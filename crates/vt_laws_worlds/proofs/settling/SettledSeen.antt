@@ -1,0 +1,165 @@
+-- What is seen where tasks are, at the roots of mounts and at their places stays where what nothing uses goes.
+use Rattle.std.proofs.Common.{◌≡◌, refl, sym, ap, ◌∙◌, ℕ, nat_eq, eqb-true, eq-eqb, Bool, true, false, cond, not, List, [], ◌∷◌, ◌++◌, Some, find, map, filter, is_some, true≢false}
+use Rattle.std.specs.Prelude.{filter_map, unwrap_or}
+use Rattle.vt_spec.specs.Lists.{is_among}
+use Rattle.vt_spec.specs.Machine.Mounts.{Location, Mount, root_of}
+use Rattle.vt_spec.specs.Machine.Settled.{filesystem_lives, is_located, is_mounted, located_in, mount_lives, only_used, settled, without_dead_filesystems, without_dead_in, without_dead_mounts}
+use Rattle.vt_spec.specs.Machine.World.{Filesystem, World, all_locations, filesystem_numbered, is_overlay, mount_at, mount_numbered, no_filesystem, node_at}
+use Rattle.vt_spec.specs.Machine.Invariants.{is_nowhere_or_attached}
+use Rattle.vt_laws_letting_go.proofs.Lists.{Among, among-filter, among-map, any_passes, is_among_numbers, or_first, or_second, passes}
+use Rattle.vt_laws_letting_go.proofs.leaving.PlacesLeft.{found_in_filter, found_itself, nowhere_parts}
+use Rattle.vt_laws_trees.proofs.trees.TreesForgotten.{among_located, used_stays}
+use Rattle.vt_laws_worlds.specs.Worlds.Kept.{IsUnderWay}
+use Rattle.vt_spec.proofs.Worlds.{number-only_used}
+use Rattle.vt_spec.proofs.Lists.{map_twice}
+pub use Rattle.vt_spec.proofs.Worlds.{number-only_used as used_number}
+
+-- an inode of a filesystem by its number, where those of the number stay and keep it
+node_kept : (stays : Filesystem ℕ → Bool) (change : Filesystem ℕ → Filesystem ℕ)
+    → ((f : Filesystem ℕ) → (change f).number ≡ f.number) → (number object : ℕ) (list : List (Filesystem ℕ))
+    → ((f : Filesystem ℕ) → f.number ≡ number → stays f ≡ true)
+    → ((f : Filesystem ℕ) → f.number ≡ number → (change f).files.tree.node object ≡ f.files.tree.node object)
+    → (unwrap_or (find (λ f. nat_eq number f.number) (map change (filter stays list)))
+    (no_filesystem number)).files.tree.node object
+    ≡ (unwrap_or (find (λ f. nat_eq number f.number) list) (no_filesystem number)).files.tree.node object
+node_kept stays change same number object [] stay keep = refl
+node_kept stays change same number object (filesystem ∷ list) stay keep =
+    by (nat_eq number filesystem.number) refl (stays filesystem) refl
+    (node_kept stays change same number object list stay keep)
+  where
+    rest : List (Filesystem ℕ)
+    rest = map change (filter stays list)
+
+    with_first : (b : Bool) → nat_eq number filesystem.number ≡ b
+        → (unwrap_or (find (λ f. nat_eq number f.number) (change filesystem ∷ rest))
+        (no_filesystem number)).files.tree.node object
+        ≡ (unwrap_or (cond b (Some (change filesystem)) (find (λ f. nat_eq number f.number) rest))
+        (no_filesystem number)).files.tree.node object
+    with_first b e =
+        ap (λ c. (unwrap_or (cond c (Some (change filesystem)) (find (λ f. nat_eq number f.number) rest))
+        (no_filesystem number)).files.tree.node object)
+        (ap (nat_eq number) (same filesystem) ∙ e)
+
+    by : (b : Bool) → nat_eq number filesystem.number ≡ b → (c : Bool) → stays filesystem ≡ c
+        → (unwrap_or (find (λ f. nat_eq number f.number) rest) (no_filesystem number)).files.tree.node object
+        ≡ (unwrap_or (find (λ f. nat_eq number f.number) list) (no_filesystem number)).files.tree.node object
+        → (unwrap_or (find (λ f. nat_eq number f.number)
+        (map change (cond c (filesystem ∷ filter stays list) (filter stays list))))
+        (no_filesystem number)).files.tree.node object
+        ≡ (unwrap_or (cond b (Some filesystem) (find (λ f. nat_eq number f.number) list))
+        (no_filesystem number)).files.tree.node object
+    by true e true d later = with_first true e ∙ keep filesystem (sym (eqb-true number filesystem.number e))
+    by true e false d later = absurd
+        (true≢false (sym (stay filesystem (sym (eqb-true number filesystem.number e))) ∙ d))
+    by false e true d later = with_first false e ∙ later
+    by false e false d later = later
+
+located_kept : (world : World ℕ) (chosen : Bool) (filesystem : Filesystem ℕ) (object : ℕ)
+    → is_among nat_eq object (located_in nat_eq world filesystem.number) ≡ true
+    → (only_used nat_eq world chosen filesystem).files.tree.node object ≡ filesystem.files.tree.node object
+located_kept world true filesystem object is =
+    used_stays world filesystem object (among_located world filesystem object is)
+located_kept world false filesystem object is = refl
+
+module _ (world : World ℕ) (unsettled : IsUnderWay world) where
+  abbrev mounted : World ℕ
+  mounted = without_dead_mounts nat_eq world
+
+  abbrev living : World ℕ
+  living = without_dead_filesystems nat_eq mounted
+
+  abbrev first_round : World ℕ
+  first_round = without_dead_in nat_eq is_overlay living
+
+  abbrev pub settled_world : World ℕ
+  settled_world = settled nat_eq world
+
+  -- Mounts
+  pub itself : (mount : Mount ℕ) → Among mount world.mounts → mount_numbered nat_eq world mount.number ≡ mount
+  itself mount m = found_itself world.mounts unsettled.mounts.one_number mount m
+
+  -- a mount that lives is found as it was
+  pub found_still : (number : ℕ) → mount_lives nat_eq world (mount_numbered nat_eq world number) ≡ true
+      → mount_numbered nat_eq settled_world number ≡ mount_numbered nat_eq world number
+  found_still number lives =
+      found_in_filter (mount_lives nat_eq world) world.mounts number
+      (λ mount m e. ap (mount_lives nat_eq world) (sym (itself mount m) ∙ ap (mount_numbered nat_eq world) e) ∙ lives)
+
+  pub attached_lives : (mount : Mount ℕ) → is_some mount.namespace ≡ true → mount_lives nat_eq world mount ≡ true
+  attached_lives mount e = or_first (is_some mount.namespace) (is_located nat_eq world mount.number) e
+
+  pub located_lives : (location : Location ℕ) → Among location (all_locations world) → (mount : Mount ℕ)
+      → mount.number ≡ location.mount
+      → mount_lives nat_eq world mount ≡ true
+  located_lives location m mount e =
+      or_second (is_some mount.namespace) (is_located nat_eq world mount.number)
+      (any_passes (λ l. nat_eq mount.number l.mount) (all_locations world) location m
+      (eq-eqb mount.number location.mount e))
+
+  -- what has a place is in a namespace
+  pub placed_attached : (mount : Mount ℕ) → Among mount world.mounts → is_some mount.mount_point ≡ true
+      → is_some mount.namespace ≡ true
+  placed_attached mount m placed = by (is_some mount.namespace) refl
+    where
+      by : (b : Bool) → is_some mount.namespace ≡ b → is_some mount.namespace ≡ true
+      by true e = e
+      by false e =
+          absurd (true≢false (sym placed ∙ (nowhere_parts mount
+          (passes is_nowhere_or_attached world.mounts unsettled.mounts.nowhere mount m) e).0))
+
+  -- Locations
+  abbrev pub used_locations : List (Location ℕ)
+  used_locations = all_locations world ++ map root_of mounted.mounts
+      ++ filter_map (λ mount. mount.mount_point) mounted.mounts
+
+  -- an inode stays where something is at it
+  node_stays : (number object : ℕ) → is_mounted nat_eq mounted number ≡ true
+      → is_among nat_eq object (located_in nat_eq mounted number) ≡ true
+      → (filesystem_numbered nat_eq settled_world number).files.tree.node object
+      ≡ (filesystem_numbered nat_eq world number).files.tree.node object
+  node_stays number object shown located =
+      ap (λ filesystems. (unwrap_or (find (λ f. nat_eq number f.number) filesystems)
+      (no_filesystem number)).files.tree.node object)
+      (map_twice second first living.filesystems)
+      ∙ node_kept (filesystem_lives nat_eq mounted) (λ f. second (first f))
+      (λ f. number-only_used first_round (not (is_overlay (first f))) (first f)
+      ∙ number-only_used living (is_overlay f) f)
+      number object world.filesystems
+      (λ f e. or_first (is_mounted nat_eq mounted f.number) _ (ap (is_mounted nat_eq mounted) e ∙ shown))
+      (λ f e.
+      located_kept first_round (not (is_overlay (first f))) (first f) object
+      (ap (λ n. is_among nat_eq object (located_in nat_eq mounted n)) (number-only_used living (is_overlay f) f ∙ e)
+      ∙ located)
+      ∙ located_kept living (is_overlay f) f object
+      (ap (λ n. is_among nat_eq object (located_in nat_eq mounted n)) e ∙ located))
+    where
+      first : Filesystem ℕ → Filesystem ℕ
+      first f = only_used nat_eq living (is_overlay f) f
+
+      second : Filesystem ℕ → Filesystem ℕ
+      second f = only_used nat_eq first_round (not (is_overlay f)) f
+
+  -- so what is seen at a location that is used stays, where its mount lives
+  pub seen_stays : (location : Location ℕ) → Among location used_locations
+      → Among (mount_at nat_eq world location) world.mounts
+      → mount_lives nat_eq world (mount_at nat_eq world location) ≡ true
+      → node_at nat_eq settled_world location ≡ node_at nat_eq world location
+  seen_stays location used there lives =
+      ap (λ (m : Mount ℕ). (filesystem_numbered nat_eq settled_world m.filesystem).files.tree.node location.node)
+      (found_still location.mount lives)
+      ∙ node_stays shown location.node is_shown
+      (is_among_numbers location.node (located_in nat_eq mounted shown)
+      (among-map (λ l. l.node) (filter (λ l. nat_eq shown (mount_at nat_eq mounted l).filesystem) used_locations)
+      location
+      (among-filter (λ l. nat_eq shown (mount_at nat_eq mounted l).filesystem) used_locations location used
+      (eq-eqb shown (mount_at nat_eq mounted location).filesystem
+      (ap (λ (m : Mount ℕ). m.filesystem) (sym (found_still location.mount lives)))))))
+    where
+      shown : ℕ
+      shown = (mount_at nat_eq world location).filesystem
+
+      is_shown : is_mounted nat_eq mounted shown ≡ true
+      is_shown =
+          any_passes (λ (m : Mount ℕ). nat_eq shown m.filesystem) mounted.mounts (mount_at nat_eq world location)
+          (among-filter (mount_lives nat_eq world) world.mounts (mount_at nat_eq world location) there lives)
+          (eq-eqb shown shown refl)

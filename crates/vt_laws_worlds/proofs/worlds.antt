@@ -1,0 +1,25 @@
+-- What the proofs of src/worlds.rt use.
+pub mod CallsKept
+pub mod FewMounts
+pub mod FewMountsLeft
+pub mod FitPermits
+pub mod FitPermitsNamed
+pub mod PermitsFilesystems
+pub mod PermitsNamed
+pub mod PermitsPlaced
+pub mod PermitsSeen
+pub mod PermitsShow
+pub mod Placed
+pub mod Reached
+pub mod ReachedPlaces
+pub mod ReachedWalks
+pub mod Roots
+pub mod ScriptsKept
+pub mod Seen
+pub mod SeenMerges
+pub mod SeenMounts
+pub mod SeenTrees
+pub mod Shows
+pub mod ShowsAttached
+pub mod ShowsGrafts
+pub mod WordsFew

@@ -1,0 +1,174 @@
+-- Where no namespace gets mounts, none has too many.
+use Rattle.std.proofs.Common.{◌≡◌, refl, sym, ap, subst, ◌∙◌, true≢false, arith, inl, inr, ⊎_elim, ◌⊎◌, ℕ, nat_eq, nat_lt, Bool, true, false, cond, List, [], ◌∷◌, ◌≤◌, filter, map, length, Option, Some, None, option_map}
+use Rattle.std.specs.List.{list_any}
+use Rattle.std.proofs.lemmas.Bool.{le-ltb, ltb-false}
+use Rattle.vt_spec.specs.Machine.Attach.{has_too_many}
+use Rattle.vt_spec.specs.Language.Limits.{most_mounts}
+use Rattle.vt_spec.specs.Language.Changes.{Change}
+use Rattle.vt_spec.specs.Machine.Detach.{after_going, deepest_first, is_going, lazily_unmounted, mount_point_left, taken_away, unmounted, unmounted_if_there}
+use Rattle.vt_spec.specs.Machine.Filesystems.{filesystem_changed, overlay_changed, with_change}
+use Rattle.vt_spec.specs.Lists.{Fresh, folded, holds_of}
+use Rattle.vt_spec.specs.Machine.Mounts.{Location, Mount, detached, mount_tree}
+use Rattle.vt_spec.specs.Machine.Namespaces.{has_tasks, is_in_ended, namespaces_ended}
+use Rattle.vt_spec.specs.Machine.Receives.{inheriting, lost_a_group, regrouped, regrouped_by}
+use Rattle.vt_spec.specs.Machine.World.{Filesystem, Layer, Namespace, Overlay, World, filesystem_at, mount_numbered, with_mounts}
+use Rattle.vt_spec.proofs.Lists.{Among, among-from_filter, none_among, none_from_among}
+use Rattle.vt_laws_mounts.specs.Mounts.Ending.{count_in, is_in}
+
+abbrev pub NoMore : List (Mount ℕ) → List (Mount ℕ) → Type 0
+NoMore after before = (number : ℕ) → count_in after number ≤ count_in before number
+
+-- a mount stays in its namespace, or is in none
+abbrev pub StaysOrLeaves : (Mount ℕ → Mount ℕ) → Mount ℕ → Type 0
+StaysOrLeaves f mount = ((f mount).namespace ≡ mount.namespace) ⊎ ((f mount).namespace ≡ None)
+
+pub mapped_no_more : (f : Mount ℕ → Mount ℕ) (mounts : List (Mount ℕ))
+    → ((mount : Mount ℕ) → Among mount mounts → StaysOrLeaves f mount) → NoMore (map f mounts) mounts
+mapped_no_more f [] h number = omega arith
+mapped_no_more f (first ∷ rest) h number =
+    by (is_in number (f first)) (is_in number first) still (mapped_no_more f rest (λ mount m. h mount (inr m)) number)
+  where
+    still : is_in number (f first) ≡ true → is_in number first ≡ true
+    still is =
+        ⊎_elim (λ same. ap (holds_of (nat_eq number)) (sym same) ∙ is)
+        (λ none. absurd (true≢false (sym is ∙ ap (holds_of (nat_eq number)) none))) (h first (inl refl))
+
+    by : (b c : Bool) → (b ≡ true → c ≡ true) → count_in (map f rest) number ≤ count_in rest number
+        → length (cond b (f first ∷ filter (is_in number) (map f rest)) (filter (is_in number) (map f rest)))
+        ≤ length (cond c (first ∷ filter (is_in number) rest) (filter (is_in number) rest))
+    by true true imp le = omega (arith, le)
+    by true false imp le = absurd (true≢false (sym (imp refl)))
+    by false true imp le = omega (arith, le)
+    by false false imp le = le
+
+pub filtered_no_more : (test : Mount ℕ → Bool) (mounts : List (Mount ℕ)) → length (filter test mounts) ≤ length mounts
+filtered_no_more test [] = omega arith
+filtered_no_more test (first ∷ rest) = by (test first) (filtered_no_more test rest)
+  where
+    by : (b : Bool) → length (filter test rest) ≤ length rest
+        → length (cond b (first ∷ filter test rest) (filter test rest)) ≤ length (first ∷ rest)
+    by true le = omega (arith, le)
+    by false le = omega (arith, le)
+
+pub none_counted : (mounts : List (Mount ℕ)) (number : ℕ) → ((mount : Mount ℕ) → Among mount mounts
+    → is_in number mount ≡ false)
+    → count_in mounts number ≡ 0
+none_counted [] number h = refl
+none_counted (first ∷ rest) number h =
+    ap (λ b. length (cond b (first ∷ filter (is_in number) rest) (filter (is_in number) rest))) (h first (inl refl))
+    ∙ none_counted rest number (λ mount m. h mount (inr m))
+
+-- what is no more than enough is no more than that
+pub not_too_many : (a b : ℕ) → a ≤ b → nat_lt most_mounts b ≡ false → nat_lt most_mounts a ≡ false
+not_too_many a b le few = le-ltb most_mounts a (below (ltb-false most_mounts b few))
+  where
+    below : b ≤ most_mounts → a ≤ most_mounts
+    below few = omega (arith, le, few)
+
+pub few_of : (world : World ℕ) → has_too_many nat_eq world ≡ false → (namespace : Namespace ℕ)
+    → Among namespace world.namespaces
+    → nat_lt most_mounts (count_in world.mounts namespace.number) ≡ false
+few_of world few namespace m =
+    none_among (λ (n : Namespace ℕ). nat_lt most_mounts (count_in world.mounts n.number)) world.namespaces few
+    namespace m
+
+pub few_after : (world after : World ℕ) → NoMore after.mounts world.mounts
+    → ((namespace : Namespace ℕ) → Among namespace after.namespaces → Among namespace world.namespaces)
+    → has_too_many nat_eq world ≡ false → has_too_many nat_eq after ≡ false
+few_after world after no_more within few =
+    none_from_among (λ (n : Namespace ℕ). nat_lt most_mounts (count_in after.mounts n.number)) after.namespaces
+    (λ namespace m.
+    not_too_many (count_in after.mounts namespace.number) (count_in world.mounts namespace.number)
+    (no_more namespace.number)
+    (few_of world few namespace (within namespace m)))
+
+-- a world with the same namespaces, none of which has more mounts
+abbrev pub Shrinks : World ℕ → World ℕ → Type 0
+Shrinks after before = NoMore after.mounts before.mounts × (after.namespaces ≡ before.namespaces)
+
+pub shrinks_few : (world after : World ℕ) → Shrinks after world → has_too_many nat_eq world ≡ false
+    → has_too_many nat_eq after ≡ false
+shrinks_few world after shrinks few =
+    few_after world after shrinks.0 (λ namespace m. subst (Among namespace) shrinks.1 m) few
+
+pub shrinks_itself : (world : World ℕ) → Shrinks world world
+shrinks_itself world = (λ number. omega arith, refl)
+
+pub shrinks_then : (a b c : World ℕ) → Shrinks c b → Shrinks b a → Shrinks c a
+shrinks_then a b c later first =
+    (λ number. below number (later.0 number) (first.0 number), later.1 ∙ first.1)
+  where
+    below : (number : ℕ) → count_in c.mounts number ≤ count_in b.mounts number → count_in b.mounts number
+        ≤ count_in a.mounts number
+        → count_in c.mounts number ≤ count_in a.mounts number
+    below number x y = omega (arith, x, y)
+
+-- A change of a filesystem
+pub change_shrinks : (fresh : Fresh ℕ) (world : World ℕ) (location : Location ℕ) (change : Change ℕ)
+    → Shrinks (with_change nat_eq fresh world location change) world
+change_shrinks fresh world location change =
+    by (filesystem_at nat_eq world location) (filesystem_at nat_eq world location).overlay
+  where
+    upper : (filesystem : Filesystem ℕ) (overlay : Overlay ℕ) (layer : Option (Layer ℕ))
+        → Shrinks (overlay_changed nat_eq fresh world filesystem overlay layer change) world
+    upper filesystem overlay None = shrinks_itself world
+    upper filesystem overlay (Some layer) = (λ number. omega arith, refl)
+
+    by : (filesystem : Filesystem ℕ) (overlay : Option (Overlay ℕ))
+        → Shrinks (filesystem_changed nat_eq fresh world filesystem overlay change) world
+    by filesystem None = (λ number. omega arith, refl)
+    by filesystem (Some overlay) = upper filesystem overlay overlay.upper
+
+-- Mounts that go, or hear of other groups
+pub regrouped_shrinks : (world : World ℕ) → Shrinks (regrouped nat_eq world) world
+regrouped_shrinks world = by (list_any (lost_a_group nat_eq world) world.mounts)
+  where
+    by : (b : Bool) → Shrinks (regrouped_by nat_eq b world) world
+    by true = (mapped_no_more (inheriting nat_eq world) world.mounts (λ mount m. inl refl), refl)
+    by false = shrinks_itself world
+
+gone_stays : (world : World ℕ) (gone : List ℕ) (mount : Mount ℕ) → StaysOrLeaves (after_going nat_eq world gone) mount
+gone_stays world gone mount = by (is_going nat_eq gone mount.number)
+  where
+    by : (b : Bool)
+        → ((cond b (detached mount) (record mount {
+          mount_point = option_map
+              (mount_point_left nat_eq world gone) mount.mount_point;
+        })).namespace ≡ mount.namespace)
+        ⊎ ((cond b (detached mount) (record mount {
+          mount_point = option_map
+              (mount_point_left nat_eq world gone) mount.mount_point;
+        })).namespace ≡ None)
+    by true = inr refl
+    by false = inl refl
+
+pub taken_shrinks : (world : World ℕ) (gone : List ℕ) → Shrinks (taken_away nat_eq world gone) world
+taken_shrinks world gone =
+    let left : World ℕ = with_mounts world (map (after_going nat_eq world gone) world.mounts) in
+    shrinks_then world left (taken_away nat_eq world gone) (regrouped_shrinks left)
+    (mapped_no_more (after_going nat_eq world gone) world.mounts (λ mount m. gone_stays world gone mount), refl)
+
+lazily_folded : (mounts : List (Mount ℕ)) (world : World ℕ) → Shrinks (folded
+    (unmounted_if_there nat_eq) world mounts) world
+lazily_folded [] world = shrinks_itself world
+lazily_folded (mount ∷ mounts) world =
+    shrinks_then world (unmounted_if_there nat_eq world mount) (folded (unmounted_if_there nat_eq)
+    (unmounted_if_there nat_eq world mount) mounts)
+    (lazily_folded mounts (unmounted_if_there nat_eq world mount)) (by _)
+  where
+    by : (b : Bool) → Shrinks (cond b (unmounted nat_eq world mount.number) world) world
+    by true = taken_shrinks world _
+    by false = shrinks_itself world
+
+pub lazily_shrinks : (world : World ℕ) (number : ℕ) → Shrinks (lazily_unmounted nat_eq world number) world
+lazily_shrinks world number =
+    lazily_folded (deepest_first nat_eq world (mount_tree nat_eq world.mounts (mount_numbered nat_eq world number)))
+    world
+
+-- Namespaces that end
+pub ended_few : (world : World ℕ) → has_too_many nat_eq world ≡ false → has_too_many nat_eq
+    (namespaces_ended nat_eq world) ≡ false
+ended_few world few =
+    few_after world (namespaces_ended nat_eq world)
+    (taken_shrinks world (map (λ (mount : Mount ℕ). mount.number) (filter (is_in_ended nat_eq world) world.mounts))).0
+    (λ namespace m. (among-from_filter (has_tasks nat_eq world) world.namespaces namespace m).0) few

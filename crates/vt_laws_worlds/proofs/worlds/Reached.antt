@@ -1,0 +1,256 @@
+-- Where one step of a walk leads: to what is there, on a mount of the task's namespace or on one that is in none.
+use Rattle.std.proofs.Common.{◌≡◌, refl, sym, ap, subst, ◌∙◌, true≢false, ⊎_elim, ℕ, nat_eq, Bool, true, false, not, cond, List, [], ◌∷◌, ◌&&◌, ◌||◌, length, Option, Some, None, is_some, option_map, ok_or, Ok, Err, Result}
+use Rattle.std.specs.Prelude.{option_to_list}
+use Rattle.std.specs.List.{list_all}
+use Rattle.std.proofs.lemmas.Bool.{and_from}
+use Rattle.std.proofs.lemmas.Option.{same_Some}
+use Rattle.vt_spec.specs.declared.attributes.Kind.TheVariants.{File, White}
+use Rattle.vt_spec.specs.declared.errors.Deny.{Deny}
+use Rattle.vt_spec.specs.declared.errors.Rule.TheVariants.{W6, W8}
+use Rattle.vt_spec.specs.Errors.{denial, unless}
+use Rattle.vt_spec.specs.Tree.{Content, Node, entries_in, entry_named, is_directory_node}
+use Rattle.vt_spec.specs.Tree.Content.{Directory, Regular, Symlink, Whiteout}
+use Rattle.vt_spec.specs.FileTree.{is_kind_in, symlink_text}
+use Rattle.vt_spec.specs.Lists.{is_among, last_or}
+use Rattle.vt_spec.specs.Machine.Mounts.{Location, Mount, child_at, root_of, same_location, stands_at, topmost}
+use Rattle.vt_spec.specs.Machine.Walking.{LastWord}
+use Rattle.vt_spec.proofs.Walk.{entry_location, hop, hops, is_lost, is_top, parent_location, stepped, up_from}
+use Rattle.vt_spec.specs.Machine.Walking.LastWord.{Dot, DotDot, Named, NoWord}
+use Rattle.vt_spec.specs.Machine.World.{Task, World, files_at, is_directory_at, mount_at, mount_numbered, node_at}
+use Rattle.vt_spec.specs.Machine.Invariants.{IsWorld, Stands, is_nowhere_or_attached, is_private}
+use Rattle.vt_spec.specs.Machine.Invariants.Stands.{at_root, on_parent}
+use Rattle.vt_spec.proofs.Lists.{Among, among_from_all, among_from_list_all}
+use Rattle.vt_spec.proofs.Nodes.{directory_used, none_is_not}
+use Rattle.vt_laws_mounts.specs.Mounts.Attaching.{numbers_of}
+use Rattle.vt_laws_mounts.proofs.mounts.MountsFound.{found_in, placed_among}
+use Rattle.vt_laws_mounts.proofs.mounts.MountsNumbered.{is_one_of}
+use Rattle.vt_laws_mounts.proofs.mounts.MountsPlaces.{stands_there}
+use Rattle.vt_laws_mounts.proofs.mounts.MountsReplaced.{found_itself}
+use Rattle.vt_laws_trees.proofs.trees.TreesEntered.{chain_ends, directory_in_tree}
+use Rattle.vt_laws_trees.proofs.trees.TreesOfMounts.{worlds_are_standing}
+use Rattle.vt_laws_trees.proofs.trees.TreesWalked.{ok_same}
+use Rattle.vt_laws_worlds.specs.Worlds.Permits.{IsReached, IsReachedDirectory}
+use Rattle.vt_spec.proofs.Worlds.{number-mount_in, found_or_none}
+
+-- a directory is no link
+pub directory_no_link : (o : Option (Node ℕ)) → is_directory_node o ≡ true → symlink_text o ≡ None
+directory_no_link None is = refl
+directory_no_link (Some node) is = by node.content is
+  where
+    by : (content : Content ℕ) → is_directory_node (Some (record { attr = node.attr; content = content })) ≡ true
+        → symlink_text (Some (record { attr = node.attr; content = content })) ≡ None
+    by (Directory parent entries opaque) e = refl
+    by (Regular bytes) e = refl
+    by (Symlink text) e = absurd (true≢false (sym e))
+    by Whiteout e = refl
+
+-- what is there, and is no directory, whiteout or link, is a regular file
+pub others_are_files : (o : Option (Node ℕ)) → is_some o ≡ true → symlink_text o ≡ None → is_directory_node o ≡ false
+    → is_kind_in White o ≡ false → is_kind_in File o ≡ true
+others_are_files None there no_link no_directory no_whiteout = absurd (true≢false (sym there))
+others_are_files (Some node) there no_link no_directory no_whiteout = by node.content no_link no_directory no_whiteout
+  where
+    by : (content : Content ℕ) → symlink_text (Some (record { attr = node.attr; content = content })) ≡ None
+        → is_directory_node (Some (record { attr = node.attr; content = content })) ≡ false
+        → is_kind_in White (Some (record { attr = node.attr; content = content })) ≡ false
+        → is_kind_in File (Some (record { attr = node.attr; content = content })) ≡ true
+    by (Directory parent entries opaque) e f g = absurd (true≢false f)
+    by (Regular bytes) e f g = refl
+    by (Symlink text) e f g = absurd (true≢false (ap is_some e))
+    by Whiteout e f g = absurd (true≢false g)
+
+-- a mount that stands at a place is in the namespace of the mount below
+pub namespace_below : (world : World ℕ) (number : ℕ) (place : Location ℕ) → Stands nat_eq world number
+    → (mount_numbered nat_eq world number).mount_point ≡ Some place
+    → (mount_numbered nat_eq world number).namespace ≡ (mount_numbered nat_eq world place.mount).namespace
+namespace_below world number place (at_root it e) f = none_is_not _ place e f
+namespace_below world number place (on_parent it on e same stands) f =
+    same ∙ ap (λ (p : Location ℕ). (mount_numbered nat_eq world p.mount).namespace) (same_Some on place (sym e ∙ f))
+
+module _ (world : World ℕ) (whole : IsWorld nat_eq world) (task : Task ℕ) where
+  -- a mount of the task's namespace, or one that is in none
+  abbrev pub IsOn : ℕ → Type 0
+  IsOn number =
+      (is_among nat_eq number (numbers_of world.mounts) ≡ true)
+      × (list_all (nat_eq task.namespace) (option_to_list (mount_numbered nat_eq world number).namespace) ≡ true)
+
+  abbrev pub IsThere : Location ℕ → Type 0
+  IsThere location = is_some (node_at nat_eq world location) ≡ true
+
+  abbrev pub IsDirectory : Location ℕ → Type 0
+  IsDirectory location = is_directory_at nat_eq world location ≡ true
+
+  abbrev pub IsNoLink : Location ℕ → Type 0
+  IsNoLink location = symlink_text (node_at nat_eq world location) ≡ None
+
+  -- what a step leads to, and where a walk through links ends
+  abbrev pub IsFound : Location ℕ → Type 0
+  IsFound location = IsOn location.mount × IsThere location
+
+  abbrev pub IsFoundDirectory : Location ℕ → Type 0
+  IsFoundDirectory location = IsOn location.mount × IsDirectory location
+
+  abbrev pub IsEnd : Location ℕ → Type 0
+  IsEnd location = IsFound location × IsNoLink location
+
+  pub directory_there : (location : Location ℕ) → IsDirectory location → IsThere location
+  directory_there location is = directory_used (files_at nat_eq world location).tree location.node is
+
+  pub directory_found : (location : Location ℕ) → IsFoundDirectory location → IsFound location
+  directory_found location is = (is.0, directory_there location is.1)
+
+  pub directory_end : (location : Location ℕ) → IsFoundDirectory location → IsEnd location
+  directory_end location is = (directory_found location is, directory_no_link (node_at nat_eq world location) is.1)
+
+  pub is_reached : (location : Location ℕ) → IsFound location → IsReached world task location
+  is_reached location is =
+      record { there = and_from _ _ is.0.0 is.1; seen = is.0.1 }
+
+  pub is_reached_directory : (location : Location ℕ) → IsFound location → IsDirectory location
+      → IsReachedDirectory world task location
+  is_reached_directory location is directory = record { reached = is_reached location is; directory = directory }
+
+  -- a mount over a place
+  child_found : (a b : Location ℕ) → IsOn a.mount → option_map root_of (child_at nat_eq world.mounts a) ≡ Some b
+      → IsFoundDirectory b
+  child_found a b on e = by (child_at nat_eq world.mounts a) refl e
+    where
+      by : (o : Option (Mount ℕ)) → child_at nat_eq world.mounts a ≡ o → option_map root_of o ≡ Some b
+          → IsFoundDirectory b
+      by None is h = none_is_not None b refl h
+      by (Some mount) is h =
+          let found : Among mount world.mounts × (stands_at nat_eq a mount ≡ true) =
+          found_in (stands_at nat_eq a) world.mounts mount is in
+          let itself = found_itself world.mounts whole.mounts.one_number mount found.0 in
+          let below = namespace_below world mount.number a
+          (among_from_all (λ (m : Mount ℕ). Stands nat_eq world m.number) world.mounts whole.mounts.standing mount
+          found.0)
+          (ap (λ (m : Mount ℕ). m.mount_point) itself ∙ stands_there a mount found.1) in
+          subst IsFoundDirectory (same_Some (root_of mount) b h) (
+            (
+              is_one_of world.mounts mount found.0,
+              ap (λ o. list_all (nat_eq task.namespace) (option_to_list o)) below ∙ on.1,
+            ),
+            among_from_all (λ m. is_directory_at nat_eq world (root_of m) ≡ true) world.mounts
+                (worlds_are_standing world whole).roots mount found.0,
+          )
+
+  pub topmost_found : (location : Location ℕ) → IsFound location → IsFound (topmost nat_eq world.mounts location)
+  topmost_found location is =
+      chain_ends IsFound (λ here. option_map root_of (child_at nat_eq world.mounts here))
+      (λ a b found e. directory_found b (child_found a b found.0 e)) (length world.mounts) location location is
+
+  pub topmost_end : (location : Location ℕ) → IsEnd location → IsEnd (topmost nat_eq world.mounts location)
+  topmost_end location is =
+      chain_ends IsEnd (λ here. option_map root_of (child_at nat_eq world.mounts here))
+      (λ a b end e. directory_end b (child_found a b end.0.0 e)) (length world.mounts) location location is
+
+  pub topmost_directory : (location : Location ℕ) → IsFoundDirectory location
+      → IsFoundDirectory (topmost nat_eq world.mounts location)
+  topmost_directory location is =
+      chain_ends IsFoundDirectory (λ here. option_map root_of (child_at nat_eq world.mounts here))
+      (λ a b found e. child_found a b found.0 e) (length world.mounts) location location is
+
+  -- mounts outside every namespace stand nowhere
+  nowhere_unplaced : (mount : Mount ℕ) → Among mount world.mounts → (place : Location ℕ)
+      → mount.mount_point ≡ Some place
+      → mount.namespace ≡ None → ⊥
+  nowhere_unplaced mount m place e none =
+      true≢false
+      (sym (among_from_list_all is_nowhere_or_attached world.mounts whole.mounts.nowhere mount m)
+      ∙ ap (λ n. is_some n || (not (is_some mount.mount_point) && is_private mount.propagation)) none
+      ∙ ap (λ q. not (is_some q) && is_private mount.propagation) e)
+
+  -- the place of a mount
+  pub place_found : (number : ℕ) (place : Location ℕ) → IsOn number → (mount_numbered nat_eq world
+      number).mount_point ≡ Some place
+      → IsFoundDirectory place
+  place_found number place on e =
+      let mount = mount_numbered nat_eq world number in
+      let there : Among mount world.mounts = placed_among world.mounts number place e in
+      let same : mount.number ≡ number = number-mount_in world.mounts number in
+      let below : mount.namespace ≡ (mount_numbered nat_eq world place.mount).namespace =
+      namespace_below world number place
+      (subst (Stands nat_eq world) same
+      (among_from_all (λ (m : Mount ℕ). Stands nat_eq world m.number) world.mounts whole.mounts.standing mount
+      there)) e in (
+        (
+          ⊎_elim
+              (λ found. subst (λ n. is_among nat_eq n (numbers_of world.mounts) ≡ true)
+              (number-mount_in world.mounts place.mount)
+              (is_one_of world.mounts (mount_numbered nat_eq world place.mount) found))
+              (λ none. absurd (nowhere_unplaced mount there place e (below ∙ ap (λ (m : Mount ℕ). m.namespace) none)))
+              (found_or_none world.mounts place.mount),
+          ap (λ o. list_all (nat_eq task.namespace) (option_to_list o)) (sym below) ∙ on.1,
+        ),
+        among_from_all (λ (m : Mount ℕ). (at : Location ℕ) → m.mount_point ≡ Some at
+            → is_directory_at nat_eq world at ≡ true) world.mounts
+            (worlds_are_standing world whole).places mount there place e,
+      )
+
+  hop_found : (a b : Location ℕ) → IsFoundDirectory a → hop nat_eq world task a ≡ Some b → IsFoundDirectory b
+  hop_found a b is e = by (same_location nat_eq a task.root) (nat_eq a.node (mount_at nat_eq world a).root) e
+    where
+      by : (p q : Bool) → cond p None (cond q (mount_at nat_eq world a).mount_point None) ≡ Some b → IsFoundDirectory b
+      by true q h = none_is_not None b refl h
+      by false true h = place_found a.mount b is.0 h
+      by false false h = none_is_not None b refl h
+
+  parent_found : (location : Location ℕ) → IsFoundDirectory location
+      → IsFoundDirectory (parent_location nat_eq world location)
+  parent_found location is =
+      (is.0, (directory_in_tree world whole.files.trees location is.1).parent_directory location.node is.1)
+
+  no_denial : (deny : Deny) (a : Location ℕ) → Err deny ≡ Ok a → ⊥
+  no_denial deny a e = true≢false (sym (ap is_answer e))
+    where
+      is_answer : Result (Location ℕ) Deny → Bool
+      is_answer (Ok l) = true
+      is_answer (Err d) = false
+
+  up_found : (location reached : Location ℕ) → IsFoundDirectory location
+      → up_from nat_eq world task location ≡ Ok reached
+      → IsFound reached
+  up_found location reached is e = by (is_top nat_eq world task location) (is_lost nat_eq world location) e
+    where
+      by : (p q : Bool)
+          → cond p (Ok location) (unless ((q, W8) ∷ []) (Ok (topmost nat_eq world.mounts
+          (parent_location nat_eq world location)))) ≡ Ok reached
+          → IsFound reached
+      by true q h = subst IsFound (ok_same location reached (Ok location) refl h) (directory_found location is)
+      by false true h = absurd (no_denial (denial W8) reached h)
+      by false false h =
+          subst IsFound (ok_same (topmost nat_eq world.mounts (parent_location nat_eq world location)) reached _ refl h)
+          (topmost_found (parent_location nat_eq world location)
+          (directory_found (parent_location nat_eq world location) (parent_found location is)))
+
+  pub entry_found : (here : Location ℕ) (name : List ℕ) (object : Location ℕ) → IsFoundDirectory here
+      → entry_location nat_eq world here name ≡ Some object → IsFound object
+  entry_found here name object is e = by (entry_named name (entries_in (node_at nat_eq world here))) refl e
+    where
+      by : (o : Option ℕ) → entry_named name (entries_in (node_at nat_eq world here)) ≡ o
+          → option_map (λ number. record { mount = here.mount; node = number }) o ≡ Some object → IsFound object
+      by None f h = none_is_not None object refl h
+      by (Some number) f h =
+          subst IsFound (same_Some _ object h) (
+            is.0,
+            (directory_in_tree world whole.files.trees here is.1).alive
+                here.node name number f,
+          )
+
+  -- one word
+  pub step_found : (here : Location ℕ) (word : LastWord) (reached : Location ℕ) → IsFoundDirectory here
+      → stepped nat_eq world task here word ≡ Ok reached → IsFound reached
+  step_found here NoWord reached is e = subst IsFound (ok_same here reached (Ok here) refl e) (directory_found here is)
+  step_found here Dot reached is e = subst IsFound (ok_same here reached (Ok here) refl e) (directory_found here is)
+  step_found here DotDot reached is e =
+      up_found (last_or here (hops nat_eq world task here)) reached
+      (chain_ends IsFoundDirectory (hop nat_eq world task) hop_found (length world.mounts) here here is) e
+  step_found here (Named name) reached is e = by (entry_location nat_eq world here name) refl e
+    where
+      by : (o : Option (Location ℕ)) → entry_location nat_eq world here name ≡ o
+          → ok_or (option_map (topmost nat_eq world.mounts) o) (denial W6) ≡ Ok reached → IsFound reached
+      by None f h = absurd (no_denial (denial W6) reached h)
+      by (Some object) f h =
+          subst IsFound (ok_same (topmost nat_eq world.mounts object) reached _ refl h)
+          (topmost_found object (entry_found here name object is f))

@@ -1,0 +1,183 @@
+-- What a change of a world keeps of what is seen: mounts stay and show what they showed, in their namespace or in
+-- none, and
+-- inodes stay and keep their kind.
+use Rattle.std.proofs.Common.{◌≡◌, refl, sym, ap, subst, ◌∙◌, ℕ, nat_eq, Bool, true, ◌&&◌, Option, Some, None, is_some}
+use Rattle.std.specs.Prelude.{option_to_list}
+use Rattle.std.specs.List.{list_all}
+use Rattle.std.proofs.lemmas.Bool.{and_parts}
+use Rattle.vt_spec.specs.declared.attributes.Kind.{Kind}
+use Rattle.vt_spec.specs.declared.attributes.Kind.TheVariants.{File}
+use Rattle.vt_spec.specs.FileTree.{is_kind, is_kind_in}
+use Rattle.vt_spec.specs.Lists.{holds_of, is_among}
+use Rattle.vt_spec.specs.Machine.Mounts.{Location, Mount, mount_in}
+use Rattle.vt_spec.specs.Machine.World.{World, is_directory_at, mount_at, mount_numbered, node_at}
+use Rattle.vt_spec.specs.Machine.Invariants.{is_located_well, is_there}
+use Rattle.vt_spec.specs.Rights.{is_directory}
+use Rattle.vt_spec.specs.Tree.{Node, is_directory_node, kind_of}
+use Rattle.vt_laws_mounts.specs.Mounts.Attaching.{is_mount, numbers_of}
+use Rattle.vt_laws_trees.specs.Trees.Settling.{inode_in}
+
+abbrev pub kind_seen : Option (Node ℕ) → Option Kind
+kind_seen None = None
+kind_seen (Some node) = Some (kind_of node.content)
+
+-- an inode that is there stays, and keeps its kind
+abbrev pub KeepsKind : Option (Node ℕ) → Option (Node ℕ) → Type 0
+KeepsKind before after = (test : Kind → Bool) → holds_of test (kind_seen before) ≡ true
+    → holds_of test (kind_seen after) ≡ true
+
+-- the namespace is this one, or none
+abbrev pub is_in : ℕ → Mount ℕ → Bool
+is_in own mount = list_all (nat_eq own) (option_to_list mount.namespace)
+
+-- a mount shows what it showed, and is in its namespace or in none
+pub record KeepsView (before later : Mount ℕ) : Type 0 where
+  pub filesystem : later.filesystem ≡ before.filesystem
+  pub root : later.root ≡ before.root
+  pub namespace : (own : ℕ) → is_in own before ≡ true → is_in own later ≡ true
+
+pub record KeepsWhatIsSeen (before after : World ℕ) : Type 0 where
+  pub listed : (number : ℕ) → is_mount before number ≡ true → is_mount after number ≡ true
+  pub views : (number : ℕ) → is_mount before number ≡ true
+      → KeepsView (mount_numbered nat_eq before number) (mount_numbered nat_eq after number)
+  pub nodes : (filesystem number : ℕ) → KeepsKind (inode_in before filesystem number) (inode_in after filesystem number)
+
+-- Tests of an inode are tests of its kind
+pub there_is : (o : Option (Node ℕ)) → is_some o ≡ holds_of (λ (kind : Kind). true) (kind_seen o)
+there_is None = refl
+there_is (Some node) = refl
+
+pub directory_is : (o : Option (Node ℕ)) → is_directory_node o ≡ holds_of is_directory (kind_seen o)
+directory_is None = refl
+directory_is (Some node) = refl
+
+pub kind_is : (kind : Kind) (o : Option (Node ℕ)) → is_kind_in kind o ≡ holds_of (is_kind kind) (kind_seen o)
+kind_is kind None = refl
+kind_is kind (Some node) = refl
+
+module _ (before after : Option (Node ℕ)) (kept : KeepsKind before after) where
+  pub there_kept : is_some before ≡ true → is_some after ≡ true
+  there_kept e = there_is after ∙ kept (λ (kind : Kind). true) (sym (there_is before) ∙ e)
+
+  pub directory_kept : is_directory_node before ≡ true → is_directory_node after ≡ true
+  directory_kept e = directory_is after ∙ kept is_directory (sym (directory_is before) ∙ e)
+
+  pub kind_kept : (kind : Kind) → is_kind_in kind before ≡ true → is_kind_in kind after ≡ true
+  kind_kept kind e = kind_is kind after ∙ kept (is_kind kind) (sym (kind_is kind before) ∙ e)
+
+pub same_kind : (before after : Option (Node ℕ)) → kind_seen after ≡ kind_seen before → KeepsKind before after
+same_kind before after same test e = ap (holds_of test) same ∙ e
+
+-- One change after another
+pub same_view : (mount : Mount ℕ) → KeepsView mount mount
+same_view mount = record { filesystem = refl; root = refl; namespace = λ own e. e }
+
+pub views_on : (a b c : Mount ℕ) → KeepsView a b → KeepsView b c → KeepsView a c
+views_on a b c r s =
+    record {
+      filesystem = s.filesystem ∙ r.filesystem;
+      root = s.root ∙ r.root;
+      namespace = λ own e. s.namespace own (r.namespace own e);
+    }
+
+pub same_seen : (world : World ℕ) → KeepsWhatIsSeen world world
+same_seen world =
+    record {
+      listed = λ number is. is;
+      views = λ number is. same_view (mount_numbered nat_eq world number);
+      nodes = λ filesystem number test e. e;
+    }
+
+pub seen_on : (a b c : World ℕ) → KeepsWhatIsSeen a b → KeepsWhatIsSeen b c → KeepsWhatIsSeen a c
+seen_on a b c r s =
+    record {
+      listed = λ number is. s.listed number (r.listed number is);
+      views = λ number is.
+          views_on (mount_numbered nat_eq a number) (mount_numbered nat_eq b number) (mount_numbered nat_eq c number)
+          (r.views number is) (s.views number (r.listed number is));
+      nodes = λ filesystem number test e. s.nodes filesystem number test (r.nodes filesystem number test e);
+    }
+
+-- a world with the mounts and filesystems of another
+pub seen_alike : (before after : World ℕ) → after.mounts ≡ before.mounts → after.filesystems ≡ before.filesystems
+    → KeepsWhatIsSeen before after
+seen_alike before after mounts filesystems =
+    record {
+      listed = λ number is. ap (λ ms. is_among nat_eq number (numbers_of ms)) mounts ∙ is;
+      views = λ number is.
+          subst (λ ms. KeepsView (mount_numbered nat_eq before number) (mount_in nat_eq ms number)) (sym mounts)
+          (same_view (mount_numbered nat_eq before number));
+      nodes = λ filesystem number.
+          same_nodes before after filesystems filesystem number;
+    }
+  where
+    same_nodes : (a b : World ℕ) → b.filesystems ≡ a.filesystems → (filesystem number : ℕ)
+        → KeepsKind (inode_in a filesystem number) (inode_in b filesystem number)
+    same_nodes a b same filesystem number =
+        same_kind (inode_in a filesystem number) (inode_in b filesystem number)
+        (ap (λ list. kind_seen (inode_in (record a { filesystems = list }) filesystem number)) same)
+
+-- mounts changed, and filesystems as they were
+pub seen_by_mounts : (before after : World ℕ) → after.filesystems ≡ before.filesystems
+    → ((number : ℕ) → is_mount before number ≡ true → is_mount after number ≡ true)
+    → ((number : ℕ) → is_mount before number ≡ true
+    → KeepsView (mount_numbered nat_eq before number) (mount_numbered nat_eq after number))
+    → KeepsWhatIsSeen before after
+seen_by_mounts before after same listed views =
+    record {
+      listed = listed;
+      views = views;
+      nodes = λ filesystem number.
+          same_kind (inode_in before filesystem number) (inode_in after filesystem number)
+          (ap (λ list. kind_seen (inode_in (record before { filesystems = list }) filesystem number)) same);
+    }
+
+-- filesystems changed, and mounts as they were
+pub seen_by_nodes : (before after : World ℕ) → after.mounts ≡ before.mounts
+    → ((filesystem number : ℕ) → KeepsKind (inode_in before filesystem number) (inode_in after filesystem number))
+    → KeepsWhatIsSeen before after
+seen_by_nodes before after same nodes =
+    record {
+      listed = λ number is. ap (λ ms. is_among nat_eq number (numbers_of ms)) same ∙ is;
+      views = λ number is.
+          subst (λ ms. KeepsView (mount_numbered nat_eq before number) (mount_in nat_eq ms number)) (sym same)
+          (same_view (mount_numbered nat_eq before number));
+      nodes = nodes;
+    }
+
+-- Locations
+module _ (before after : World ℕ) (seen : KeepsWhatIsSeen before after) where
+  same_filesystem : (location : Location ℕ) → is_mount before location.mount ≡ true
+      → (mount_at nat_eq after location).filesystem ≡ (mount_at nat_eq before location).filesystem
+  same_filesystem location is = (seen.views location.mount is).filesystem
+
+  pub node_kept : (location : Location ℕ) → is_mount before location.mount ≡ true
+      → KeepsKind (node_at nat_eq before location) (node_at nat_eq after location)
+  node_kept location is test e =
+      ap (λ f. holds_of test (kind_seen (inode_in after f location.node))) (same_filesystem location is)
+      ∙ seen.nodes (mount_at nat_eq before location).filesystem location.node test e
+
+  pub mount_of_located : (location : Location ℕ) → is_located_well nat_eq before location ≡ true
+      → is_mount before location.mount ≡ true
+  mount_of_located location e =
+      (and_parts (is_mount before location.mount)
+      (is_there nat_eq before (mount_at nat_eq before location).filesystem location.node) e).0
+
+  pub located_after : (location : Location ℕ) → is_located_well nat_eq before location ≡ true
+      → is_located_well nat_eq after location ≡ true
+  located_after location e =
+      let is = mount_of_located location e in
+      let there = (and_parts (is_mount before location.mount) (is_some (node_at nat_eq before location)) e).1 in
+      ap (λ b. b && is_some (node_at nat_eq after location)) (seen.listed location.mount is)
+      ∙ there_kept (node_at nat_eq before location) (node_at nat_eq after location) (node_kept location is) there
+
+  pub directory_after : (location : Location ℕ) → is_mount before location.mount ≡ true
+      → is_directory_at nat_eq before location ≡ true → is_directory_at nat_eq after location ≡ true
+  directory_after location is =
+      directory_kept (node_at nat_eq before location) (node_at nat_eq after location) (node_kept location is)
+
+  pub file_after : (location : Location ℕ) → is_mount before location.mount ≡ true
+      → is_kind_in File (node_at nat_eq before location) ≡ true
+      → is_kind_in File (node_at nat_eq after location) ≡ true
+  file_after location is =
+      kind_kept (node_at nat_eq before location) (node_at nat_eq after location) (node_kept location is) File

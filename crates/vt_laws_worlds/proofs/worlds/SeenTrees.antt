@@ -1,0 +1,317 @@
+-- A change of a tree keeps each inode that is there, and its kind; so do changes of filesystems in a world without
+-- overlays.
+use Rattle.std.proofs.Common.{◌≡◌, refl, sym, ap, subst, ◌∙◌, ◌⊎◌, inl, inr, ⊎_elim, ℕ, nat_eq, eqb-true, eq-eqb, Bool, true, false, cond, true≢false, find, flat_map, List, [], ◌∷◌, ◌++◌, Option, Some, None, map}
+use Rattle.std.specs.Prelude.{All, unwrap_or, ⊤}
+use Rattle.vt_spec.specs.declared.attributes.Attr.{Attr}
+use Rattle.vt_spec.specs.Language.Changes.{Change, changed, content_with_mark, content_with_parent, node_with_attr, node_with_mark, node_with_parent, node_without_entry, with_inode, with_name, without_entry, without_name, without_parent}
+use Rattle.vt_spec.specs.Language.Changes.Change.{AddName, CopyUp, Make, Move, Remove, SetAttr, SetBytes, SetMark}
+use Rattle.vt_spec.specs.FileTree.{FileTree}
+use Rattle.vt_spec.specs.Machine.Filesystems.{filesystem_changed, with_change, with_files}
+use Rattle.vt_spec.specs.Lists.{Fresh, holds_of, is_among}
+use Rattle.vt_spec.specs.Machine.Mounts.{Location}
+use Rattle.vt_spec.specs.Machine.Run.{Serves, numbers_in_use, used_by_filesystem, used_by_mount}
+use Rattle.vt_spec.specs.Machine.World.{Filesystem, World, filesystem_at, is_overlay, mount_at, no_filesystem, replaced_if_numbered, with_filesystem}
+use Rattle.vt_spec.specs.Machine.Invariants.{ListsNumbers}
+use Rattle.vt_spec.specs.Tree.{Content, Node, entries_in, entries_of, entry_named, kind_of, node_with_bytes, node_with_entry, with_bytes, with_entries, with_entry}
+use Rattle.vt_spec.specs.Tree.Content.{Directory, Regular, Symlink, Whiteout}
+use Rattle.vt_spec.proofs.Lists.{Among, all_from_among, among-append_left, among-append_right, among-flat_map, among_from_all, among_numbers, none_among}
+use Rattle.vt_laws_trees.proofs.trees.ChangesNodes.{part_stays}
+use Rattle.vt_laws_trees.proofs.trees.TreesOfWorlds.{number_numbered, numbered, numbered_anyhow}
+use Rattle.vt_laws_worlds.specs.Worlds.Kept.{IsPlain}
+use Rattle.vt_laws_worlds.proofs.worlds.Seen.{KeepsKind, KeepsWhatIsSeen, kind_seen, same_kind, seen_by_nodes}
+use Rattle.vt_spec.proofs.Options.{none_from_not_some}
+use Rattle.vt_spec.proofs.Worlds.{number-replaced_if_numbered}
+use Rattle.vt_laws_trees.specs.Trees.Settling.{inode_in}
+
+-- Changes of an inode
+pub kind-with_entries : (content : Content ℕ) (entries : List (List ℕ × ℕ))
+    → kind_of (with_entries content entries) ≡ kind_of content
+kind-with_entries (Directory parent old opaque) entries = refl
+kind-with_entries (Regular bytes) entries = refl
+kind-with_entries (Symlink text) entries = refl
+kind-with_entries Whiteout entries = refl
+
+kind-with_entry : (name : List ℕ) (number : ℕ) (o : Option (Node ℕ))
+    → kind_seen (node_with_entry name number o) ≡ kind_seen o
+kind-with_entry name number None = refl
+kind-with_entry name number (Some node) = ap Some
+    (kind-with_entries node.content (with_entry name number (entries_of node.content)))
+
+kind-without_entry : (name : List ℕ) (o : Option (Node ℕ)) → kind_seen (node_without_entry name o) ≡ kind_seen o
+kind-without_entry name None = refl
+kind-without_entry name (Some node) =
+    ap Some (kind-with_entries node.content (without_entry name (entries_of node.content)))
+
+pub kind-with_bytes : (bytes : List ℕ) (o : Option (Node ℕ)) → kind_seen (node_with_bytes bytes o) ≡ kind_seen o
+kind-with_bytes bytes None = refl
+kind-with_bytes bytes (Some node) = by node.content
+  where
+    by : (content : Content ℕ) → Some (kind_of (with_bytes content bytes)) ≡ Some (kind_of content)
+    by (Directory parent old opaque) = refl
+    by (Regular old) = refl
+    by (Symlink text) = refl
+    by Whiteout = refl
+
+pub kind-with_attr : (attr : Attr) (o : Option (Node ℕ)) → kind_seen (node_with_attr attr o) ≡ kind_seen o
+kind-with_attr attr None = refl
+kind-with_attr attr (Some node) = refl
+
+pub kind-with_mark : (opaque : Bool) (o : Option (Node ℕ)) → kind_seen (node_with_mark opaque o) ≡ kind_seen o
+kind-with_mark opaque None = refl
+kind-with_mark opaque (Some node) = by node.content
+  where
+    by : (content : Content ℕ) → Some (kind_of (content_with_mark opaque content)) ≡ Some (kind_of content)
+    by (Directory parent old mark) = refl
+    by (Regular old) = refl
+    by (Symlink text) = refl
+    by Whiteout = refl
+
+pub kind-with_parent : (parent : ℕ) (o : Option (Node ℕ)) → kind_seen (node_with_parent parent o) ≡ kind_seen o
+kind-with_parent parent None = refl
+kind-with_parent parent (Some node) = by node.content
+  where
+    by : (content : Content ℕ) → Some (kind_of (content_with_parent parent content)) ≡ Some (kind_of content)
+    by (Directory other old mark) = refl
+    by (Regular old) = refl
+    by (Symlink text) = refl
+    by Whiteout = refl
+
+-- Changes of a tree
+abbrev pub SameKinds : FileTree ℕ → FileTree ℕ → Type 0
+SameKinds before after = (k : ℕ) → kind_seen (after.tree.node k) ≡ kind_seen (before.tree.node k)
+
+pub kinds-with_name : (files : FileTree ℕ) (directory : ℕ) (name : List ℕ) (number : ℕ)
+    → SameKinds files (with_name nat_eq files directory name number)
+kinds-with_name files directory name number =
+    part_stays files directory (node_with_entry name number) kind_seen (kind-with_entry name number)
+
+pub kinds-without_name : (files : FileTree ℕ) (directory : ℕ) (name : List ℕ)
+    → SameKinds files (without_name nat_eq files directory name)
+kinds-without_name files directory name =
+    part_stays files directory (node_without_entry name) kind_seen (kind-without_entry name)
+
+pub kinds-without_parent : (files : FileTree ℕ) (object : Option ℕ)
+    → SameKinds files (without_parent nat_eq files object)
+kinds-without_parent files None k = refl
+kinds-without_parent files (Some object) k =
+    part_stays files object (node_with_parent object) kind_seen (kind-with_parent object) k
+
+-- a number that is made is a new one
+abbrev pub MakesNew : FileTree ℕ → Change ℕ → Type 0
+MakesNew files (Make directory name number node) = files.tree.node number ≡ None
+MakesNew files (AddName directory name object) = ⊤
+MakesNew files (Remove directory name object) = ⊤
+MakesNew files (Move from old to new object) = ⊤
+MakesNew files (SetBytes file bytes) = ⊤
+MakesNew files (SetAttr object attr) = ⊤
+MakesNew files (SetMark directory opaque) = ⊤
+MakesNew files (CopyUp object) = ⊤
+
+pub keeps-with_inode : (files : FileTree ℕ) (number : ℕ) (node : Node ℕ) → files.tree.node number ≡ None
+    → (k : ℕ) → KeepsKind (files.tree.node k) ((with_inode nat_eq files number node).tree.node k)
+keeps-with_inode files number node none k test e = by (nat_eq k number) refl
+  where
+    by : (b : Bool) → nat_eq k number ≡ b → holds_of test (kind_seen (cond b (Some node) (files.tree.node k))) ≡ true
+    by true same =
+        absurd (true≢false (sym e ∙ ap (λ n. holds_of test (kind_seen (files.tree.node n))) (eqb-true k number same)
+        ∙ ap (λ o. holds_of test (kind_seen o)) none))
+    by false other = e
+
+pub changes_keep_kinds : (files : FileTree ℕ) (change : Change ℕ) → MakesNew files change
+    → (k : ℕ) → KeepsKind (files.tree.node k) ((changed nat_eq files change).tree.node k)
+changes_keep_kinds files (Make directory name number node) new k = λ test e.
+    ap (holds_of test) (kinds-with_name (with_inode nat_eq files number node) directory name number k)
+    ∙ keeps-with_inode files number node new k test e
+changes_keep_kinds files (AddName directory name object) new k =
+    same_kind (files.tree.node k) _ (kinds-with_name files directory name object k)
+changes_keep_kinds files (Remove directory name object) new k =
+    same_kind (files.tree.node k) _
+    (kinds-without_parent (without_name nat_eq files directory name) (Some object) k
+    ∙ kinds-without_name files directory name k)
+changes_keep_kinds files (Move from old to new_name object) new k =
+    let first = without_parent nat_eq files (entry_named new_name (entries_in (files.tree.node to))) in
+    let second = without_name nat_eq first from old in
+    let third = with_name nat_eq second to new_name object in
+    same_kind (files.tree.node k) _
+    (part_stays third object (node_with_parent to) kind_seen (kind-with_parent to) k
+    ∙ kinds-with_name second to new_name object k
+    ∙ kinds-without_name first from old k
+    ∙ kinds-without_parent files (entry_named new_name (entries_in (files.tree.node to))) k)
+changes_keep_kinds files (SetBytes file bytes) new k =
+    same_kind (files.tree.node k) _ (part_stays files file (node_with_bytes bytes) kind_seen (kind-with_bytes bytes) k)
+changes_keep_kinds files (SetAttr object attr) new k =
+    same_kind (files.tree.node k) _ (part_stays files object (node_with_attr attr) kind_seen (kind-with_attr attr) k)
+changes_keep_kinds files (SetMark directory opaque) new k =
+    same_kind (files.tree.node k) _
+    (part_stays files directory (node_with_mark opaque) kind_seen (kind-with_mark opaque) k)
+changes_keep_kinds files (CopyUp object) new k = λ test e. e
+
+-- the inode that is made
+pub made_kind : (files : FileTree ℕ) (directory : ℕ) (name : List ℕ) (number : ℕ) (node : Node ℕ)
+    → kind_seen ((changed nat_eq files (Make directory name number node)).tree.node number) ≡ Some
+    (kind_of node.content)
+made_kind files directory name number node =
+    kinds-with_name (with_inode nat_eq files number node) directory name number number
+    ∙ ap (λ b. kind_seen (cond b (Some node) (files.tree.node number))) (eq-eqb number number refl)
+
+-- A filesystem in the place of the one with its number
+module _ (new : Filesystem ℕ) where
+  abbrev replaced : List (Filesystem ℕ) → List (Filesystem ℕ)
+  replaced list = map (replaced_if_numbered nat_eq new) list
+
+  pub numbers-replaced : (list : List (Filesystem ℕ))
+      → map (λ (f : Filesystem ℕ). f.number) (replaced list) ≡ map (λ (f : Filesystem ℕ). f.number) list
+  numbers-replaced [] = refl
+  numbers-replaced (first ∷ rest) =
+      ap (λ n. n ∷ map (λ (f : Filesystem ℕ). f.number) (replaced rest)) (number-replaced_if_numbered new first)
+      ∙ ap (λ ns. first.number ∷ ns) (numbers-replaced rest)
+
+  pub found_other : (list : List (Filesystem ℕ)) (number : ℕ) → nat_eq new.number number ≡ false
+      → numbered number (replaced list) ≡ numbered number list
+  found_other [] number other = refl
+  found_other (first ∷ rest) number other =
+      ap (λ n. unwrap_or (cond (nat_eq number n) (Some (replaced_if_numbered nat_eq new first))
+      (find (λ f. nat_eq number f.number) (replaced rest))) (no_filesystem number))
+      (number-replaced_if_numbered new first)
+      ∙ by (nat_eq number first.number) refl (found_other rest number other)
+    where
+      by : (b : Bool) → nat_eq number first.number ≡ b → numbered number (replaced rest) ≡ numbered number rest
+          → unwrap_or (cond b (Some (replaced_if_numbered nat_eq new first))
+          (find (λ f. nat_eq number f.number) (replaced rest))) (no_filesystem number)
+          ≡ unwrap_or (cond b (Some first) (find (λ f. nat_eq number f.number) rest)) (no_filesystem number)
+      by true e later =
+          ap (λ b. cond b new first)
+          (ap (nat_eq new.number) (sym (eqb-true number first.number e)) ∙ other)
+      by false e later = later
+
+  -- it is found, or none was there
+  pub found_new : (list : List (Filesystem ℕ))
+      → (numbered new.number (replaced list) ≡ new)
+      ⊎ ((numbered new.number (replaced list) ≡ no_filesystem new.number)
+      × (numbered new.number list ≡ no_filesystem new.number))
+  found_new [] = inr (refl, refl)
+  found_new (first ∷ rest) = by (nat_eq new.number first.number) refl (found_new rest)
+    where
+      head : (f : Filesystem ℕ) (b : Bool) → nat_eq new.number f.number ≡ b → (list : List (Filesystem ℕ))
+          → numbered new.number (f ∷ list) ≡ unwrap_or
+          (cond b (Some f) (find (λ g. nat_eq new.number g.number) list)) (no_filesystem new.number)
+      head f b e list = ap
+          (λ c. unwrap_or (cond c (Some f) (find (λ g. nat_eq new.number g.number) list)) (no_filesystem new.number)) e
+
+      by : (b : Bool) → nat_eq new.number first.number ≡ b
+          → (numbered new.number (replaced rest) ≡ new)
+          ⊎ ((numbered new.number (replaced rest) ≡ no_filesystem new.number)
+          × (numbered new.number rest ≡ no_filesystem new.number))
+          → (numbered new.number (replaced (first ∷ rest)) ≡ new)
+          ⊎ ((numbered new.number (replaced (first ∷ rest)) ≡ no_filesystem new.number)
+          × (numbered new.number (first ∷ rest) ≡ no_filesystem new.number))
+      by true e later =
+          inl (ap (λ f. numbered new.number (f ∷ replaced rest)) (ap (λ b. cond b new first) e)
+          ∙ head new true (eq-eqb new.number new.number refl) (replaced rest))
+      by false e later =
+          let skip : numbered new.number (replaced (first ∷ rest)) ≡ numbered new.number (replaced rest) =
+          ap (λ f. numbered new.number (f ∷ replaced rest)) (ap (λ b. cond b new first) e)
+          ∙ head first false e (replaced rest) in
+          ⊎_elim (λ is. inl (skip ∙ is)) (λ none. inr (skip ∙ none.0, head first false e rest ∙ none.1)) later
+
+  pub replaced_keeps : (list : List (Filesystem ℕ))
+      → ((k : ℕ) → KeepsKind ((numbered new.number list).files.tree.node k) (new.files.tree.node k))
+      → (number k : ℕ) → KeepsKind ((numbered number list).files.tree.node k)
+      ((numbered number (replaced list)).files.tree.node k)
+  replaced_keeps list keeps number k test e = by (nat_eq new.number number) refl
+    where
+      itself : holds_of test (kind_seen ((numbered new.number list).files.tree.node k)) ≡ true
+          → holds_of test (kind_seen ((numbered new.number (replaced list)).files.tree.node k)) ≡ true
+      itself h =
+          ⊎_elim (λ is. ap (λ (f : Filesystem ℕ). holds_of test (kind_seen (f.files.tree.node k))) is ∙ keeps k test h)
+          (λ none. ap (λ (f : Filesystem ℕ). holds_of test (kind_seen (f.files.tree.node k))) (none.0 ∙ sym none.1)
+          ∙ h)
+          (found_new list)
+
+      by : (b : Bool) → nat_eq new.number number ≡ b
+          → holds_of test (kind_seen ((numbered number (replaced list)).files.tree.node k)) ≡ true
+      by true same =
+          let is : new.number ≡ number = eqb-true new.number number same in
+          ap (λ n. holds_of test (kind_seen ((numbered n (replaced list)).files.tree.node k))) (sym is)
+          ∙ itself (ap (λ n. holds_of test (kind_seen ((numbered n list).files.tree.node k))) is ∙ e)
+      by false other = ap (λ (f : Filesystem ℕ). holds_of test (kind_seen (f.files.tree.node k)))
+          (found_other list number other) ∙ e
+
+-- A change at a location
+module _ (fresh : Fresh ℕ) (world : World ℕ) (plain : IsPlain world) (location : Location ℕ)
+    (change : Change ℕ) where
+  abbrev old : Filesystem ℕ
+  old = filesystem_at nat_eq world location
+
+  abbrev pub changed_one : Filesystem ℕ
+  changed_one = with_files old (changed nat_eq old.files change)
+
+  pub change_of_plain : with_change nat_eq fresh world location change
+      ≡ with_filesystem nat_eq world changed_one
+  change_of_plain =
+      ap (λ o. filesystem_changed nat_eq fresh world old o change)
+      (none_from_not_some old.overlay
+      (numbered_anyhow (λ filesystem. is_overlay filesystem ≡ false)
+      (mount_at nat_eq world location).filesystem world.filesystems plain refl))
+
+  pub old_number : old.number ≡ (mount_at nat_eq world location).filesystem
+  old_number = number_numbered (mount_at nat_eq world location).filesystem world.filesystems
+
+  pub change_seen : MakesNew old.files change → KeepsWhatIsSeen world
+      (with_change nat_eq fresh world location change)
+  change_seen new =
+      subst (KeepsWhatIsSeen world) (sym change_of_plain)
+      (seen_by_nodes world (with_filesystem nat_eq world changed_one) refl
+      (replaced_keeps changed_one world.filesystems
+      (λ k. subst (λ n. KeepsKind ((numbered n world.filesystems).files.tree.node k) (changed_one.files.tree.node k))
+      (sym old_number)
+      (changes_keep_kinds old.files change new k))))
+
+  -- the mounts and tasks stay
+  pub change_mounts : (with_change nat_eq fresh world location change).mounts ≡ world.mounts
+  change_mounts = ap (λ (w : World ℕ). w.mounts) change_of_plain
+
+  pub change_tasks : (with_change nat_eq fresh world location change).tasks ≡ world.tasks
+  change_tasks = ap (λ (w : World ℕ). w.tasks) change_of_plain
+
+  pub change_filesystems : map (λ (f : Filesystem ℕ). f.number)
+      (with_change nat_eq fresh world location change).filesystems
+      ≡ map (λ (f : Filesystem ℕ). f.number) world.filesystems
+  change_filesystems =
+      ap (λ (w : World ℕ). map (λ (f : Filesystem ℕ). f.number) w.filesystems) change_of_plain
+      ∙ numbers-replaced changed_one world.filesystems
+
+-- A number that is handed in is that of no inode
+pub unused_number : (world : World ℕ) (fresh : Fresh ℕ) → Serves nat_eq world fresh → (k number : ℕ)
+    → Among number (numbers_in_use world) → nat_eq (fresh k) number ≡ false
+unused_number world fresh serves k number m = none_among (nat_eq (fresh k)) (numbers_in_use world)
+    (serves.unused k) number m
+
+pub unused_by_filesystem : (world : World ℕ) (fresh : Fresh ℕ) → Serves nat_eq world fresh → (k : ℕ)
+    → (filesystem : Filesystem ℕ) → Among filesystem world.filesystems → (number : ℕ)
+    → Among number (used_by_filesystem filesystem)
+    → nat_eq (fresh k) number ≡ false
+unused_by_filesystem world fresh serves k filesystem m number n =
+    let mounts = flat_map used_by_mount world.mounts in
+    let filesystems = flat_map used_by_filesystem world.filesystems in
+    unused_number world fresh serves k number
+    (among-append_left (mounts ++ filesystems) (map (λ namespace. namespace.number) world.namespaces) number
+    (among-append_right mounts filesystems number
+    (among-flat_map used_by_filesystem world.filesystems filesystem number m n)))
+
+pub unused_inode : (world : World ℕ) (fresh : Fresh ℕ) → Serves nat_eq world fresh
+    → All (λ filesystem. ListsNumbers nat_eq filesystem.files) world.filesystems
+    → (k filesystem : ℕ) → inode_in world filesystem (fresh k) ≡ None
+unused_inode world fresh serves lists k filesystem =
+    numbered_anyhow (λ (f : Filesystem ℕ). f.files.tree.node (fresh k) ≡ None) filesystem world.filesystems
+    (all_from_among (λ (f : Filesystem ℕ). f.files.tree.node (fresh k) ≡ None) world.filesystems (λ f m.
+    none_from_not_some (f.files.tree.node (fresh k))
+    (sym (among_from_all (λ (g : Filesystem ℕ). ListsNumbers nat_eq g.files) world.filesystems lists f m (fresh k))
+    ∙ by f m (is_among nat_eq (fresh k) f.files.numbers) refl))) refl
+  where
+    by : (f : Filesystem ℕ) → Among f world.filesystems → (b : Bool) → is_among nat_eq (fresh k) f.files.numbers ≡ b
+        → b ≡ false
+    by f m false e = refl
+    by f m true e =
+        sym (eq-eqb (fresh k) (fresh k) refl)
+        ∙ unused_by_filesystem world fresh serves k f m (fresh k) (inr (among_numbers f.files.numbers (fresh k) e))

@@ -1,0 +1,53 @@
+-- The lines of a text, one after the other, and how many of them are refused.
+use Rattle.std.proofs.Common.{◌≡◌, ◌≤◌, ◌<◌, ◌+◌, ◌==◌, ◌∷◌, ◌++◌, ◌∙◌, [], ℕ, List, length, Bool, true, false, cond, ap, arith, refl}
+use Rattle.std.proofs.lemmas.Grind.{common_steps}
+use Rattle.std.specs.List.{count_by}
+use Rattle.std.proofs.lemmas.List.Sums.{count_by-le-length, sum_by-cons}
+use Rattle.vt_spec.specs.Language.Script.{lines_of, with_line_byte}
+use Rattle.vt_script.specs.Progress.{HasNoNewline}
+use Rattle.vt_script.proofs.RunLemmas.{lines_of-newline, lines_of-last}
+use Rattle.vt_lines.specs.Refused.{is_refused, refused_in}
+
+-- no more lines than bytes
+one_more : (newline : Bool) (byte : ℕ) (lines : List (List ℕ))
+    → length (with_line_byte newline byte lines) ≤ length lines + 1
+one_more true byte lines = grind (arith, common_steps)
+one_more false byte [] = grind (arith, common_steps)
+one_more false byte (line ∷ lines) = grind (arith, common_steps)
+
+length-lines_of : (text : List ℕ) → length (lines_of text) ≤ length text
+length-lines_of [] = grind (arith, common_steps)
+length-lines_of (byte ∷ bytes) =
+    let more = one_more (byte == 10) byte (lines_of bytes) in
+    let rest = length-lines_of bytes in
+    omega arith
+
+pub refused_in-le : (text : List ℕ) → refused_in text ≤ length text
+unfolding refused_in
+refused_in-le text =
+    let lines = length-lines_of text in
+    let count = count_by-le-length is_refused (lines_of text) in
+    omega arith
+
+pub refused_in-line : (text line rest : List ℕ) → lines_of text ≡ line ∷ lines_of rest
+    → refused_in text ≡ cond (is_refused line) 1 0 + refused_in rest
+unfolding refused_in
+refused_in-line text line rest e =
+    ap (count_by is_refused) e ∙ sum_by-cons (λ line. cond (is_refused line) 1 0) line (lines_of rest)
+
+pub refused_in-end : refused_in [] ≡ 0
+unfolding refused_in
+refused_in-end = refl
+
+-- a text that is cut at its first newline
+pub lines_of-cut : (text line rest : List ℕ) → (text ≡ line ++ 10 ∷ rest) × HasNoNewline line
+    → lines_of text ≡ line ∷ lines_of rest
+lines_of-cut text line rest cut = rw cut.0 (lines_of-newline line rest cut.1)
+
+-- a text of one line
+pub lines_of-one : (text : List ℕ) → 0 < length text → HasNoNewline text → lines_of text ≡ text ∷ lines_of []
+lines_of-one [] some whole = absurd (omega arith)
+lines_of-one (byte ∷ line) some whole = lines_of-last byte line whole
+
+-- For `grind`: how many lines are refused, line by line.
+pub ruleset refused_lines = (refused_in-line, refused_in-le, refused_in-end)

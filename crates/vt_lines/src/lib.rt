@@ -1,0 +1,6 @@
+//! The lines of a script, before it is run: one after the other, and whether a run takes them.
+#![tactic(auto)]
+
+pub mod lines;
+pub mod proposal;
+pub mod reading;

@@ -1,0 +1,25 @@
+//! Whether a run takes a line, as the reader of lines decides.
+ghost use Rattle.std.specs.Prelude.{◌≡◌, IfOk, is_none, not};
+ghost use Rattle.vt_lines.specs.Refused.{is_refused};
+
+use std::alloc::{AllocError, Global};
+use vt_line::line::Line;
+use vt_spec::errors::Rule;
+
+/// A line as a run reads it, or nothing where a run refuses it by S1.
+pub fn reading(alloc: Global, line: &[u8]) -> Result<Option<Line>, AllocError>
+    ensures { IfOk result (λ read. is_none read ≡ is_refused line.now) }
+{
+    match Line::parse(alloc, line) {
+        Ok(line) => Ok(Some(line)),
+        Err(deny) if deny.rule == Rule::S1 => Ok(None),
+        Err(_) => Err(AllocError),
+    }
+}
+
+/// Whether a run takes the line.
+pub fn is_taken(alloc: Global, line: &[u8]) -> Result<bool, AllocError>
+    ensures { IfOk result (λ taken. not taken ≡ is_refused line.now) }
+{
+    Ok(reading(alloc, line)?.is_some())
+}

@@ -1,5 +1,0 @@
-use Rattle.vt_mount_laws.proofs.mounts.MountsPlaces.{stands_alone}
-use Rattle.vt_mount_laws.proofs.mounts.one_mount_stands_at_a_mount_point.Goals as goal
-
-pub returns : goal.returns
-returns c = stands_alone

@@ -1,5 +1,0 @@
-use Rattle.vt_mount_laws.proofs.namespaces.Topmost.{topmost_is_free}
-use Rattle.vt_mount_laws.proofs.namespaces.the_topmost_location_is_free.Goals as goal
-
-pub returns : goal.returns
-returns c = topmost_is_free

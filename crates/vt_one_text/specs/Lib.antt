@@ -1,4 +1,0 @@
-pub mod OneTree
-pub mod OneTreeNumbers
-pub mod OneTreeTexts
-pub mod SameTexts

@@ -1,5 +1,0 @@
--- What the proofs of src/sees.rt use.
-pub mod SeesFit
-pub mod SeesGiven
-pub mod SeesNames
-pub mod SeesTasks

@@ -1,0 +1,114 @@
+-- What the definitions see of the code's grants: each is one of their permits.
+use Rattle.std.specs.Prelude.{option_map, ℕ}
+use Rattle.vt_spec.specs.Language.Changes.Change.{AddName, Remove, SetAttr, SetBytes}
+use Rattle.vt_spec.specs.Machine.Tasks.{with_dropped}
+use Rattle.vt_spec.specs.Machine.Permits.{Permit}
+use Rattle.vt_spec.specs.Machine.Permits.Permit.{Allowed, ToBind, ToChange, ToClose, ToEnterNamespace, ToExit, ToFork, ToList, ToListMounts, ToMake, ToMountPlain, ToMove, ToOpen, ToOpenNew, ToRead, ToReadPart, ToRemoveDirectory, ToRename, ToSetCredentials, ToSetDirectory, ToSetFlags, ToSetRoot, ToSetType, ToSetUmask, ToStat, ToUnmount, ToUnmountLazily, ToUnshare, ToWritePart}
+use Rattle.vt_spec.specs.Machine.Renaming.{renamed_node}
+use Rattle.vt_spec.specs.Machine.World.{Task}
+use Rattle.vt_spec.specs.Tree.{Node}
+use Rattle.vt_cred.specs.Caps.{capability_bits}
+use Rattle.vt_cred.specs.MountFlags.{flags_of}
+use Rattle.vt_location.specs.Locations.{location_of, number_of}
+use Rattle.vt_location.specs.Numbers.{counted, exchanged}
+use Rattle.vt_location.specs.declared.locations.Location.{Location}
+use Rattle.vt_request.specs.Requests.{access_of, type_word_of}
+use Rattle.vt_permits.specs.declared.grant.Attachment.{Attachment}
+use Rattle.vt_permits.specs.declared.grant.Attachment.TheVariants as attachment
+use Rattle.vt_permits.specs.declared.grant.DescriptorGrant.{DescriptorGrant}
+use Rattle.vt_permits.specs.declared.grant.DescriptorGrant.TheVariants as descriptor
+use Rattle.vt_permits.specs.declared.grant.Grant.{Grant}
+use Rattle.vt_permits.specs.declared.grant.Grant.TheVariants as granted
+use Rattle.vt_permits.specs.declared.grant.LookGrant.{LookGrant}
+use Rattle.vt_permits.specs.declared.grant.LookGrant.TheVariants as look
+use Rattle.vt_permits.specs.declared.grant.MakeGrant.{MakeGrant}
+use Rattle.vt_permits.specs.declared.grant.MakeGrant.TheVariants as make
+use Rattle.vt_permits.specs.declared.grant.MountGrant.{MountGrant}
+use Rattle.vt_permits.specs.declared.grant.MountGrant.TheVariants as mount
+use Rattle.vt_permits.specs.declared.grant.RemoveGrant.{RemoveGrant}
+use Rattle.vt_permits.specs.declared.grant.RemoveGrant.TheVariants as remove
+use Rattle.vt_permits.specs.declared.grant.TaskGrant.{TaskGrant}
+use Rattle.vt_permits.specs.declared.grant.TaskGrant.TheVariants as task
+use Rattle.vt_permits.specs.declared.grant.WriteGrant.{WriteGrant}
+use Rattle.vt_permits.specs.declared.grant.WriteGrant.TheVariants as write
+
+-- an inode that is made in a directory, its parent by the number of an inode
+abbrev pub node_in : Location → Node ℕ → Node ℕ
+node_in directory node = renamed_node (exchanged directory.node.filesystem.count)
+    (exchanged directory.node.filesystem.count) node
+
+-- to look
+abbrev pub look_permit : LookGrant → Permit ℕ
+look_permit look.Nothing = Allowed
+look_permit (look.List directory) = ToList (location_of directory)
+look_permit (look.Stat object) = ToStat (location_of object)
+look_permit (look.Read file) = ToRead (location_of file)
+look_permit (look.ReadPart part) = ToReadPart (location_of part.file) part.offset part.size
+look_permit look.ListMounts = ToListMounts
+
+-- to make names
+abbrev pub make_permit : MakeGrant → Permit ℕ
+make_permit (make.Node new) =
+    ToMake (location_of new.directory) new.name.items (node_in new.directory new.node)
+make_permit (make.Link new) = ToChange (location_of new.directory)
+    (AddName (number_of new.directory.node) new.name.items (number_of new.object))
+
+-- to take names away
+abbrev pub remove_permit : RemoveGrant → Permit ℕ
+remove_permit (remove.Unlink gone) = ToChange (location_of gone.directory)
+    (Remove (number_of gone.directory.node) gone.name.items (number_of gone.object))
+remove_permit (remove.Directory gone) =
+    ToRemoveDirectory (location_of gone.parent) gone.name.items (location_of gone.directory)
+remove_permit (remove.Rename renamed) =
+    ToRename (location_of renamed.from) renamed.old.items (location_of renamed.to) renamed.new.items
+    (location_of renamed.object) (option_map location_of renamed.replaced)
+
+-- to change the content, the owner and the mode of files
+abbrev pub write_permit : WriteGrant → Permit ℕ
+write_permit (write.Content file bytes) = ToChange (location_of file) (SetBytes (number_of file.node) bytes.items)
+write_permit (write.Part part) = ToWritePart (location_of part.file) part.offset part.bytes.items
+write_permit (write.Attr object attr) = ToChange (location_of object) (SetAttr (number_of object.node) attr)
+
+-- to open and close files
+abbrev pub descriptor_permit : DescriptorGrant → Permit ℕ
+descriptor_permit (descriptor.Open file access) = ToOpen (location_of file) (access_of access)
+descriptor_permit (descriptor.OpenNew new) = ToOpenNew (location_of new.directory) new.name.items
+    (node_in new.directory new.node) (access_of new.access)
+descriptor_permit (descriptor.Close number) = ToClose number
+
+-- to change this task
+abbrev pub task_permit : Task ℕ → TaskGrant → Permit ℕ
+task_permit who (task.SetDirectory directory) = ToSetDirectory (location_of directory)
+task_permit who (task.SetRoot root) = ToSetRoot (location_of root)
+task_permit who (task.SetUmask umask) = ToSetUmask umask
+task_permit who (task.DropCaps caps) = ToSetCredentials (with_dropped who.credentials (capability_bits caps))
+task_permit who (task.Fork cred) = ToFork cred
+task_permit who task.Exit = ToExit
+task_permit who task.Unshare = ToUnshare
+task_permit who (task.EnterNamespace namespace) = ToEnterNamespace (counted namespace.count)
+
+-- to attach mounts
+abbrev pub attachment_permit : Attachment → Permit ℕ
+attachment_permit (attachment.Plain destination flags) = ToMountPlain (location_of destination) (flags_of flags)
+attachment_permit (attachment.Bind bind) =
+    ToBind (location_of bind.source) (location_of bind.destination) bind.recursive
+attachment_permit (attachment.Move mount destination) = ToMove (counted mount.count) (location_of destination)
+
+-- to change mounts
+abbrev pub mount_permit : MountGrant → Permit ℕ
+mount_permit (mount.Attach attached) = attachment_permit attached
+mount_permit (mount.Unmount id) = ToUnmount (counted id.count)
+mount_permit (mount.UnmountLazily id) = ToUnmountLazily (counted id.count)
+mount_permit (mount.SetFlags id flags) = ToSetFlags (counted id.count) (flags_of flags)
+mount_permit (mount.SetType change) =
+    ToSetType (counted change.mount.count) (type_word_of change.word) change.recursive
+
+-- what a task is granted
+abbrev pub permit_of : Task ℕ → Grant → Permit ℕ
+permit_of who (granted.Look grant) = look_permit grant
+permit_of who (granted.Make grant) = make_permit grant
+permit_of who (granted.Remove grant) = remove_permit grant
+permit_of who (granted.Write grant) = write_permit grant
+permit_of who (granted.Descriptor grant) = descriptor_permit grant
+permit_of who (granted.Task grant) = task_permit who grant
+permit_of who (granted.Mount grant) = mount_permit grant

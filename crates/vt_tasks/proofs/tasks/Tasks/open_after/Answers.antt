@@ -1,0 +1,63 @@
+use Rattle.std.proofs.Common.{ap, arith, sym, refl, ◌∙◌, option_map}
+use Rattle.std.specs.Option.{option_copied_mut}
+use Rattle.vt_spec.specs.Machine.Descriptors.{free_number}
+use Rattle.vt_tasks.specs.TaskValue.{task_of}
+use Rattle.vt_tasks.specs.TasksValue.{called, changed_called, tasks_of, with_open}
+use Rattle.vt_tasks.proofs.KeptTasks.{called-absent, called-found, written-change, written-fit, written-same}
+use Rattle.vt_tasks.proofs.TasksLemmas.{granted-so, granted-there, ok-equal, on-err, opened-in_order, opened-under, there-mut}
+use Rattle.vt_tasks.proofs.tasks.Tasks.open_after.Goals as goal
+use Rattle.vt_spec.proofs.Options.{OnOk_then}
+
+pub unwrap-task-requires : goal.unwrap-task-requires
+unwrap-task-requires g c =
+    let map = c.self.inside.by_name in
+    there-mut c.get_mut.result
+    (λ none. granted-there _ _ c.requires.may
+    ((λ i. called (sym c.numbers.ensures.value i) (sym c.self.view_is i))
+    ∙ called-absent c.numbers.result.now map map c.self.invariant (sym c.get_mut.ensures.value ∙ none)))
+
+pub insert_after-requires-clause-few : goal.insert_after-requires-clause-few
+insert_after-requires-clause-few g c =
+    let map = c.self.inside.by_name in
+    granted-so _ _ (task_of c.unwrap-task.result.now) c.requires.may
+    ((λ i. called (sym c.numbers.ensures.value i) (sym c.self.view_is i))
+    ∙ called-found c.numbers.result.now map map c.self.invariant c.unwrap-task.result.now
+    (sym c.get_mut.ensures.value ∙ ap option_copied_mut c.unwrap-task.ensures))
+
+pub invariant_of-self : goal.invariant_of-self
+invariant_of-self g c =
+    written-fit c.numbers.result.now c.self.inside.by_name _ c.self.invariant c.unwrap-task.result.now _
+    (sym c.get_mut.ensures.value ∙ ap option_copied_mut c.unwrap-task.ensures) refl refl c.get_mut.ensures.unique
+    (c.get_mut.follows.holds _) (omega arith)
+    (opened-in_order c.insert_after.result c.args.opened _ _ c.insert_after.ensures.number c.insert_after.ensures.ok c.insert_after.ensures.err)
+
+pub returns-clause-number : goal.returns-clause-number
+returns-clause-number g c =
+    let map = c.self.inside.by_name in
+    let found = called-found c.numbers.result.now map map c.self.invariant c.unwrap-task.result.now
+    (sym c.get_mut.ensures.value ∙ ap option_copied_mut c.unwrap-task.ensures) in
+    ok-equal c.insert_after.result _ _
+    (sym (ap (option_map free_number) ((λ i. called (sym c.numbers.ensures.value i) (sym c.self.view_is i)) ∙ found)))
+    c.insert_after.ensures.number
+
+pub returns-clause-ok : goal.returns-clause-ok
+returns-clause-ok g c =
+    OnOk_then c.insert_after.result
+    (λ is.
+    written-change c.numbers.result.now c.self.inside.by_name _ c.self.invariant
+    (with_open c.args.opened) c.unwrap-task.result.now _
+    (sym c.get_mut.ensures.value ∙ ap option_copied_mut c.unwrap-task.ensures) refl refl c.get_mut.ensures.unique
+    (c.get_mut.follows.holds _)
+    (λ i. record (task_of c.unwrap-task.result.now) { descriptors = is i })
+    ∙ (λ i. changed_called (c.numbers.ensures.value i) (with_open c.args.opened) (c.self.view_is i)))
+    (opened-under c.insert_after.result c.args.opened _ _ _ c.insert_after.ensures.number c.insert_after.ensures.ok)
+
+pub returns-clause-err : goal.returns-clause-err
+returns-clause-err g c =
+    on-err c.insert_after.result
+    (λ same.
+    ap tasks_of (written-same c.numbers.result.now c.self.inside.by_name _ c.self.invariant c.unwrap-task.result.now _
+    (λ i. record c.unwrap-task.result.now { descriptors = same i })
+    (sym c.get_mut.ensures.value ∙ ap option_copied_mut c.unwrap-task.ensures) (c.get_mut.follows.holds _))
+    ∙ c.self.view_is)
+    c.insert_after.ensures.err

@@ -1,0 +1,237 @@
+//! Files of scripts, each line beside its answer.
+//!
+//! `== NAME` begins a script, on a new world. `LINE => ANSWER` is a line and its answer, `LINE =>` one that has none, `LINE`
+//! one that is answered `ok`, and `=> MORE` a further line of the answer above. A comment and a line of spaces have no
+//! answer. What stands before the first name is a script too.
+use std::alloc::{AllocError, AllocFailed, Global};
+use std::collections::BTreeMap;
+use std::mem;
+use thiserror::Error;
+use vt_io::line::LONGEST_LINE;
+use vt_lines::lines::first_line;
+
+/// An answer that is wanted, or a further line of one.
+#[derive(Clone, Copy)]
+pub struct Wanted<'a> {
+    /// The number of the line in its script, from 1.
+    pub number: u64,
+    pub text: &'a [u8],
+}
+
+/// A script with what it wants. Lines of the file that are none of the script are empty lines of it.
+#[derive(Drop)]
+pub struct Script<'a> {
+    pub name: &'a [u8],
+    /// How many lines of the file come before its first.
+    pub before: u64,
+    pub text: Vec<u8>,
+    /// What is wanted, in the order of the lines.
+    pub wanted: Vec<Wanted<'a>>,
+}
+
+/// Why a file is none of scripts, with the number of the line.
+#[derive(Debug, Drop, Error)]
+pub enum SuiteFault {
+    #[error("line {line}: a script of this name stands in line {first} too; give it another name")]
+    SameName { line: u64, first: u64 },
+    #[error("line {line}: there is no answer above that goes on here; write `LINE => ANSWER` first")]
+    NothingAbove { line: u64 },
+    #[error("line {line}: a script has a name; write `== NAME`")]
+    NoName { line: u64 },
+    #[error("no memory is left; test fewer files at a time")]
+    Memory,
+}
+
+impl From<AllocError> for SuiteFault {
+    fn from(_error: AllocError) -> SuiteFault {
+        SuiteFault::Memory
+    }
+}
+
+impl<T: Drop> From<AllocFailed<T>> for SuiteFault {
+    fn from(_error: AllocFailed<T>) -> SuiteFault {
+        SuiteFault::Memory
+    }
+}
+
+/// What a line of a file is.
+#[derive(Clone, Copy)]
+pub enum Entry<'a> {
+    /// The name of a new script.
+    Name(&'a [u8]),
+    /// A further line of the answer above.
+    More(&'a [u8]),
+    /// A line of a script, and its answer if it has one.
+    Line(&'a [u8], Option<&'a [u8]>),
+}
+
+// Whether a line is a comment or of spaces alone, and not too long to be one.
+fn is_silent(line: &[u8]) -> bool {
+    let first = line.iter().find(|byte| **byte != b' ');
+    line.len() <= LONGEST_LINE && first.is_none_or(|byte| *byte == b'#')
+}
+
+// A text without the spaces around it.
+fn trimmed(text: &[u8]) -> &[u8] {
+    let is_word = |byte: &u8| *byte != b' ';
+    let first = text.iter().position(is_word).unwrap_or(text.len());
+    let spaces = text.iter().rev().take_while(|byte| **byte == b' ').count();
+    text.get(first..text.len().saturating_sub(spaces))
+        .unwrap_or_default()
+}
+
+// Where the first mark ` =>` of a line begins that a space follows, or the line's end.
+fn mark_in(line: &[u8]) -> Option<usize> {
+    for (place, window) in line.windows(3).enumerate() {
+        let is_whole = line
+            .get(place.saturating_add(3))
+            .is_none_or(|byte| *byte == b' ');
+        if window == b" =>".as_slice() && is_whole {
+            return Some(place);
+        }
+    }
+    None
+}
+
+// A line of a script with its answer.
+fn line_entry(line: &[u8]) -> Entry<'_> {
+    if is_silent(line) {
+        return Entry::Line(line, None);
+    }
+    let Some(mark) = mark_in(line) else {
+        return Entry::Line(line, Some(b"ok"));
+    };
+    let call = line.get(..mark).unwrap_or_default();
+    let answer = trimmed(line.get(mark.saturating_add(3)..).unwrap_or_default());
+    Entry::Line(call, (!answer.is_empty()).then_some(answer))
+}
+
+/// What a line of a file is.
+pub fn entry_of(line: &[u8]) -> Entry<'_> {
+    if line == b"==".as_slice() {
+        return Entry::Name(b"");
+    }
+    if let Some(name) = line.strip_prefix(b"== ") {
+        return Entry::Name(trimmed(name));
+    }
+    match line.strip_prefix(b"=> ") {
+        Some(more) => Entry::More(trimmed(more)),
+        None => line_entry(line),
+    }
+}
+
+impl<'a> Script<'a> {
+    fn new(alloc: Global, name: &'a [u8], before: u64) -> Self {
+        Script {
+            name,
+            before,
+            text: Vec::new(alloc),
+            wanted: Vec::new(alloc),
+        }
+    }
+
+    // Goes on with the script by a line of the file, which is line `number` of the script.
+    fn say(
+        &mut self,
+        number: u64,
+        call: &[u8],
+        answer: Option<&'a [u8]>,
+    ) -> Result<(), AllocError> {
+        self.text.extend_from_slice(call)?;
+        self.text.push(b'\n')?;
+        if let Some(text) = answer {
+            self.wanted.push(Wanted { number, text })?;
+        }
+        Ok(())
+    }
+
+    // Goes on with the answer above by a further line.
+    fn say_more(&mut self, text: &'a [u8]) -> Result<bool, AllocError> {
+        let Some(last) = self.wanted.last() else {
+            return Ok(false);
+        };
+        let number = last.number;
+        self.text.push(b'\n')?;
+        self.wanted.push(Wanted { number, text })?;
+        Ok(true)
+    }
+
+    // Whether it has neither a name nor a line.
+    fn is_nothing(&self) -> bool {
+        self.name.is_empty() && self.wanted.is_empty()
+    }
+}
+
+// The scripts of a file, as far as it is read.
+#[derive(Drop)]
+struct Reading<'a> {
+    done: Vec<Script<'a>>,
+    script: Script<'a>,
+    names: BTreeMap<Vec<u8>, u64>,
+}
+
+impl<'a> Reading<'a> {
+    fn new(alloc: Global) -> Self {
+        Reading {
+            done: Vec::new(alloc),
+            script: Script::new(alloc, b"", 0),
+            names: BTreeMap::new(alloc),
+        }
+    }
+
+    // Begins a script.
+    fn begin(&mut self, alloc: Global, line: u64, name: &'a [u8]) -> Result<(), SuiteFault> {
+        if name.is_empty() {
+            return Err(SuiteFault::NoName { line });
+        }
+        if let Some(first) = self.names.get(name) {
+            return Err(SuiteFault::SameName {
+                line,
+                first: *first,
+            });
+        }
+        self.names.insert(name.to_vec(alloc)?, line)?;
+        self.end(Script::new(alloc, name, line))
+    }
+
+    // Ends a script, where another begins.
+    fn end(&mut self, next: Script<'a>) -> Result<(), SuiteFault> {
+        let script = mem::replace(&mut self.script, next);
+        if !script.is_nothing() {
+            self.done.push(script)?;
+        }
+        Ok(())
+    }
+
+    // Goes on by a line of the file.
+    fn take(&mut self, alloc: Global, line: u64, text: &'a [u8]) -> Result<(), SuiteFault> {
+        match entry_of(text) {
+            Entry::Name(name) => self.begin(alloc, line, name),
+            Entry::More(more) => {
+                if self.script.say_more(more)? {
+                    Ok(())
+                } else {
+                    Err(SuiteFault::NothingAbove { line })
+                }
+            }
+            Entry::Line(call, answer) => {
+                let number = line.saturating_sub(self.script.before);
+                Ok(self.script.say(number, call, answer)?)
+            }
+        }
+    }
+}
+
+/// The scripts of a file.
+pub fn scripts(alloc: Global, file: &[u8]) -> Result<Vec<Script<'_>>, SuiteFault> {
+    let mut reading = Reading::new(alloc);
+    let mut rest = file;
+    let mut number: u64 = 0;
+    while let Some((line, after)) = first_line(rest) {
+        number = number.saturating_add(1);
+        reading.take(alloc, number, line)?;
+        rest = after;
+    }
+    reading.end(Script::new(alloc, b"", 0))?;
+    Ok(reading.done)
+}

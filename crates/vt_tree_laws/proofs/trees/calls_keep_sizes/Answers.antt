@@ -1,8 +1,0 @@
-use Rattle.vt_tree_laws.proofs.trees.ChangesWithinSizes
-use Rattle.vt_tree_laws.proofs.trees.calls_keep_sizes.Goals as goal
-
-pub returns-clause-opening : goal.returns-clause-opening
-returns-clause-opening c = ChangesWithinSizes.opening_is_fit
-
-pub returns-clause-calls : goal.returns-clause-calls
-returns-clause-calls c = ChangesWithinSizes.calls_keep_sizes

@@ -1,0 +1,52 @@
+-- What holds of each world of the code: the invariants of a world, and that what is kept beside it, groups and counts,
+-- is what the definitions say.
+use Rattle.std.specs.Prelude.{All, Bool, List, None, [], false, nat_eq, ℕ, ◌&&◌, ◌+◌, ◌∷◌, ◌≡◌}
+use Rattle.vt_spec.specs.Machine.World.{Descriptor, Task, World}
+use Rattle.vt_spec.specs.Machine.Invariants.{IsWorld}
+use Rattle.vt_laws_counts.specs.Counted.{IsCounted}
+use Rattle.vt_fs.specs.FilesystemsValue.{FilesystemEntry, filesystem_seen, inodes_seen}
+use Rattle.vt_group.specs.Grouping.{Has}
+use Rattle.vt_laws_rules.specs.Numbers.{KeepsTo}
+use Rattle.vt_laws_letting_go.specs.Counts.{mount_uses, mounts_showing, times}
+use Rattle.vt_location.specs.Numbers.{counted, is_inode_of}
+use Rattle.vt_mount.specs.MountsValue.{MountEntry}
+use Rattle.vt_laws_runs.specs.Handed.{is_counted_before}
+use Rattle.vt_world.specs.WorldValue.{NamespaceEntry, WorldValue, world_of}
+
+-- the descriptors of a task that are open for writing on a mount
+abbrev pub writes_on : ℕ → Descriptor ℕ → Bool
+writes_on mount descriptor = descriptor.writes && nat_eq mount descriptor.location.mount
+
+abbrev pub writes_of_task : ℕ → Task ℕ → ℕ
+writes_of_task mount task = times (writes_on mount) task.descriptors
+
+abbrev pub writes_of : ℕ → List (Task ℕ) → ℕ
+writes_of mount [] = 0
+writes_of mount (task ∷ rest) = writes_of_task mount task + writes_of mount rest
+
+-- a mount counts the roots, working directories and descriptors on it
+pub record CountsItsUses (world : World ℕ) (entry : MountEntry) : Type 0 where
+  pub uses : entry.uses ≡ mount_uses world entry.mount.number
+  pub writers : entry.writers ≡ writes_of entry.mount.number world.tasks
+
+-- a filesystem counts the mounts that show it, and its inodes their uses
+pub record CountsItsMounts (world : World ℕ) (entry : FilesystemEntry) : Type 0 where
+  pub mounts : entry.mounts ≡ mounts_showing world (counted entry.count)
+  pub inodes : IsCounted world (filesystem_seen entry) (inodes_seen entry)
+
+-- the number of each inode is one that its filesystem gives to a slot
+abbrev pub HasOwnInodes : FilesystemEntry → Type 0
+HasOwnInodes entry = (number : ℕ) → is_inode_of entry.count number ≡ false → (inodes_seen entry).inode number ≡ None
+
+-- a namespace counts its tasks
+pub record CountsWhatIsInIt (world : World ℕ) (entry : NamespaceEntry) : Type 0 where
+  pub tasks : entry.tasks ≡ times (λ task. nat_eq (counted entry.count) task.namespace) world.tasks
+
+pub record IsHeld (value : WorldValue) : Type 0 where
+  pub in_world : IsWorld nat_eq (world_of value)
+  pub groups : Has (world_of value) value.groups
+  pub given : KeepsTo (is_counted_before value.next) (world_of value)
+  pub mounts : All (CountsItsUses (world_of value)) value.mounts
+  pub filesystems : All (CountsItsMounts (world_of value)) value.filesystems
+  pub own_inodes : All HasOwnInodes value.filesystems
+  pub namespaces : All (CountsWhatIsInIt (world_of value)) value.namespaces

@@ -1,0 +1,2 @@
+pub mod WorldValue
+pub mod Held

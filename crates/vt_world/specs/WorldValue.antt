@@ -1,0 +1,47 @@
+-- What contracts see of the code's world, and what the definitions see of it.
+use Rattle.std.specs.Prelude.{List, Option, find, map, nat_eq, ℕ}
+use Rattle.vt_spec.specs.Machine.World as meant
+use Rattle.vt_fs.specs.FilesystemsValue.{Filesystems, filesystems_seen}
+use Rattle.vt_group.specs.Grouping.{Grouping, master_in}
+use Rattle.vt_location.specs.Numbers.{counted}
+use Rattle.vt_location.specs.declared.numbers.NamespaceId.{NamespaceId}
+use Rattle.vt_mount.specs.MountsValue.{MountEntry, mounts_in}
+use Rattle.vt_world.specs.declared.namespaces.Namespace.{Namespace}
+
+-- a namespace: its count, and how many tasks are in it
+pub record NamespaceEntry : Type 0 where
+  pub count : ℕ
+  pub tasks : ℕ
+
+-- `next` is what is counted next: all mounts, filesystems and namespaces have lower counts
+pub record WorldValue : Type 0 where
+  pub mounts : List MountEntry
+  pub groups : Grouping
+  pub filesystems : Filesystems
+  pub namespaces : List NamespaceEntry
+  pub tasks : List (meant.Task ℕ)
+  pub next : ℕ
+
+abbrev pub namespace_of : NamespaceEntry → meant.Namespace ℕ
+namespace_of entry = record { number = counted entry.count; change = 0 }
+
+-- the world: change numbers are aside
+abbrev pub world_of : WorldValue → meant.World ℕ
+world_of value = record {
+  mounts = mounts_in value.mounts;
+  master = master_in value.groups;
+  filesystems = filesystems_seen value.filesystems;
+  namespaces = map namespace_of value.namespaces;
+  tasks = value.tasks;
+  change = 0;
+}
+
+abbrev pub namespace_counted : WorldValue → ℕ → Option NamespaceEntry
+namespace_counted value count = find (λ entry. nat_eq count entry.count) value.namespaces
+
+-- the namespaces as they are kept
+abbrev pub entry_of : NamespaceId × Namespace → NamespaceEntry
+entry_of kept = record { count = kept.0.count; tasks = kept.1.tasks }
+
+abbrev pub entries_of : List (NamespaceId × Namespace) → List NamespaceEntry
+entries_of kept = map entry_of kept

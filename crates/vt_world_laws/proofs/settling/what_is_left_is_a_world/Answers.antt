@@ -1,5 +1,0 @@
-use Rattle.vt_world_laws.proofs.settling.SettledTasks.{settling_leaves_a_world}
-use Rattle.vt_world_laws.proofs.settling.what_is_left_is_a_world.Goals as goal
-
-pub returns : goal.returns
-returns c = settling_leaves_a_world
