@@ -1,6 +1,7 @@
 //! The cases of a file: scripts, each beside the text that is written for it.
 //!
-//! `== NAME` begins a case. Its script follows, up to a line `--`, and then the text.
+//! `== NAME` begins a case. Its script follows, up to a line `--`, and then the text. `\x0d` at the end of a line of the
+//! script is a carriage return, which tools that copy files may take away.
 use anyhow::{Result, bail};
 use std::alloc::{AllocError, Global};
 use std::fs;
@@ -17,13 +18,19 @@ struct Case {
 }
 
 impl Case {
-    fn new(alloc: Global, name: &str) -> Result<Self, AllocError> {
-        Ok(Case {
-            name: name.to_string(alloc)?,
+    // Its first line is its name.
+    fn read(alloc: Global, text: &str) -> Result<Self, AllocError> {
+        let mut lines = text.split('\n');
+        let mut case = Case {
+            name: lines.next().unwrap_or_default().to_string(alloc)?,
             script: String::new(alloc),
             wanted: String::new(alloc),
             in_text: false,
-        })
+        };
+        for line in lines {
+            case.say(line)?;
+        }
+        Ok(case)
     }
 
     // Goes on with the case by a line of the file.
@@ -32,13 +39,20 @@ impl Case {
             self.in_text = true;
             return Ok(());
         }
-        let part = if self.in_text {
-            &mut self.wanted
-        } else {
-            &mut self.script
-        };
-        part.push_str(line)?;
-        part.push('\n')
+        if self.in_text {
+            self.wanted.push_str(line)?;
+            return self.wanted.push('\n');
+        }
+        match line.strip_suffix("\\x0d") {
+            Some(text) => {
+                self.script.push_str(text)?;
+                self.script.push_str("\r\n")
+            }
+            None => {
+                self.script.push_str(line)?;
+                self.script.push('\n')
+            }
+        }
     }
 
     // An error if another text is written.
@@ -63,17 +77,13 @@ impl Case {
 pub fn check<R: Files + AllocGlobal>(rt: &R, name: &str, options: Options) -> Result<u64> {
     let alloc = rt.alloc();
     let file = fs::read_to_string(rt, name)?;
+    let Some(cases) = file.as_str().trim_end().strip_prefix("== ") else {
+        bail!("{name}: no case begins it");
+    };
     let mut count: u64 = 0;
-    let mut case = Case::new(alloc, "the lines before the first name")?;
-    for line in file.as_str().trim_end().split('\n') {
-        if let Some(name) = line.strip_prefix("== ") {
-            case.check(alloc, options)?;
-            case = Case::new(alloc, name)?;
-            count = count.saturating_add(1);
-        } else {
-            case.say(line)?;
-        }
+    for text in cases.split("\n== ") {
+        Case::read(alloc, text)?.check(alloc, options)?;
+        count = count.saturating_add(1);
     }
-    case.check(alloc, options)?;
     Ok(count)
 }
