@@ -2,6 +2,8 @@
 ghost use Rattle.std.specs.Prelude.{◌≡◌};
 ghost use Rattle.vt_spec.specs.Errors.{number_of, errno_name, rule_name, errno_of, denial};
 
+use std::alloc::AllocError;
+
 /// An error number, by its name in errno(3).
 #[derive(Clone, Copy, Debug, PartialEq, Eq, Hash)]
 pub enum Errno {
@@ -252,4 +254,15 @@ impl Rule {
 pub struct Deny {
     pub errno: Errno,
     pub rule: Rule,
+}
+
+/// S5 (ENOMEM): an allocation failed.
+impl From<AllocError> for Deny {
+    ghost use Rattle.vt_spec.specs.declared.errors.Rule.TheVariants.{S5};
+
+    ghost from_gives = { λ _ deny. deny ≡ denial S5 };
+
+    fn from(_refused: AllocError) -> Deny {
+        Rule::S5.denial()
+    }
 }

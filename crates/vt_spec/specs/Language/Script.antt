@@ -528,6 +528,20 @@ propagation = record {
   directs = λ name. bytes_eq name (codes "peers");
 }
 
+-- the names of the calls that make what hides lower layers: overlayfs, the kernel's document, "whiteouts and opaque
+-- directories"
+abbrev pub marking_call_names : List (List ℕ)
+marking_call_names = codes "whiteout" ∷ codes "opaque" ∷ []
+
+-- the calls of `propagation`, and those that make whiteouts and opaque directories
+abbrev pub marks : Grammar
+marks = record {
+  version = One;
+  knows = λ name. list_any (bytes_eq name) (file_call_names ++ mounting_call_names ++ marking_call_names);
+  has = needs_no_layers;
+  directs = λ name. bytes_eq name (codes "peers");
+}
+
 -- the whole language
 abbrev pub whole : Version → Grammar
 whole version = record { version = version; knows = λ name. true; has = λ call. true; directs = λ name. true }
