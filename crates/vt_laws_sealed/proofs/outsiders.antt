@@ -8,11 +8,15 @@ pub mod CutTrees
 pub mod Ending
 pub mod Entering
 pub mod Filesystems
+pub mod FilesystemsSwept
 pub mod FlagsSet
+pub mod InodesSwept
+pub mod InodesUsed
 pub mod Joining
 pub mod Masters
 pub mod Opening
 pub mod OtherMounts
+pub mod OthersSwept
 pub mod OwnTasks
 pub mod Pivoting
 pub mod Raising
@@ -20,6 +24,7 @@ pub mod Refusals
 pub mod Regrouping
 pub mod Reshaping
 pub mod Retyping
+pub mod SeenLater
 pub mod Standing
 pub mod Staying
 pub mod Sweeping

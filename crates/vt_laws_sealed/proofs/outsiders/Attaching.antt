@@ -136,7 +136,8 @@ module _ (world : World ℕ) (names : List TaskName) (apart : IsApart world name
 
   new_image : (group origin : ℕ) → (k : ℕ) × (new.image group origin ≡ fresh k)
   new_image group origin =
-      supplied (2 * index_in_rows (length mounts) (index_of_group nat_eq parts group) (index_of nat_eq mounts origin) + 1)
+      supplied (2 * index_in_rows (length mounts) (index_of_group nat_eq parts group)
+      (index_of nat_eq mounts origin) + 1)
 
   -- an origin hears groups of others alone
   origin_hears : (origin : Mount ℕ) → Among origin mounts → (kind : Propagation ℕ) → origin.propagation ≡ kind
@@ -390,7 +391,8 @@ module _ (world : World ℕ) (names : List TaskName) (apart : IsApart world name
       by None f = none_is_some group f
       by (Some found) f =
           subst IsForeign
-          (same_Some (image nat_eq new destination (twig_of new (group_of destination.propagation) origin) found) group f)
+          (same_Some (image nat_eq new destination (twig_of new (group_of destination.propagation) origin) found) group
+          f)
           (image_foreign found origin m)
 
   -- a master of an origin
@@ -471,7 +473,8 @@ module _ (world : World ℕ) (names : List TaskName) (apart : IsApart world name
 
   made_foreign : (entry : ℕ × Option ℕ) → Among entry (all_groups_made nat_eq base new tree parts) → IsMade entry
   made_foreign entry m =
-      let part = among-from_flat_map (λ p. filter_map (group_made nat_eq base new tree parts p) tree.twigs) parts entry m in
+      let part = among-from_flat_map (λ p. filter_map (group_made nat_eq base new tree parts p) tree.twigs) parts entry
+      m in
       let twig = among-from_filter_map (group_made nat_eq base new tree parts part.0) tree.twigs entry part.2 in
       let origin = among-from_map (twig_of new (group_of destination.propagation)) mounts twig.0 twig.1 in
       by part.0 origin.0 origin.1 (is_destination nat_eq tree part.0.number)
@@ -577,7 +580,8 @@ module _ (world : World ℕ) (names : List TaskName) (apart : IsApart world name
       by None kind e group how = old group how
       by (Some g) kind e group how =
           on g kind e group
-          (subst (λ x. HearsGroup world names apart fresh serves left (type_on_shared (new.image g origin.number) x) group)
+          (subst (λ x. HearsGroup world names apart fresh serves left
+          (type_on_shared (new.image g origin.number) x) group)
           e how)
 
   copy_foreign : (mount : Mount ℕ) → IsCopy mount → (group : ℕ)
@@ -587,10 +591,12 @@ module _ (world : World ℕ) (names : List TaskName) (apart : IsApart world name
       (subst (λ (m : Mount ℕ). HearsGroup world names apart fresh serves left m.propagation group) copy.4 how)
     where
       elsewhere : (kind : Propagation ℕ) → HearsGroup world names apart fresh serves left
-          (copy_type nat_eq base new parts destination (twig_of new (group_of destination.propagation) copy.2) kind) group
+          (copy_type nat_eq base new parts destination (twig_of new (group_of destination.propagation) copy.2) kind)
+          group
           → IsForeign group
       elsewhere (Shared g) h =
-          heard_foreign (Shared (image nat_eq new destination (twig_of new (group_of destination.propagation) copy.2) g))
+          heard_foreign (Shared (image nat_eq new destination
+          (twig_of new (group_of destination.propagation) copy.2) g))
           (λ x e. subst IsForeign (same_Some (image nat_eq new destination
           (twig_of new (group_of destination.propagation) copy.2) g) x e) (image_foreign g copy.2 copy.3))
           (λ x e. none_is_some (image nat_eq new destination (twig_of new (group_of destination.propagation) copy.2) g)
@@ -620,7 +626,8 @@ module _ (world : World ℕ) (names : List TaskName) (apart : IsApart world name
   others_from : (other : Mount ℕ) → Among other (other_mounts nat_eq left names)
       → ((old : Mount ℕ) × Among old (other_mounts nat_eq world names) × (other ≡ pushed old)) ⊎ IsCopy other
   others_from other m =
-      let out = among-from_filter (λ (x : Mount ℕ). holds_of (λ n. not (is_own_namespace nat_eq world names n)) x.namespace)
+      let out = among-from_filter (λ (x : Mount ℕ). holds_of
+      (λ n. not (is_own_namespace nat_eq world names n)) x.namespace)
       left.mounts other m in
       ⊎_elim
       (λ old. let from = among-from_map pushed world.mounts other old in
@@ -666,7 +673,8 @@ module _ (world : World ℕ) (names : List TaskName) (apart : IsApart world name
       (λ other m group how. ⊎_elim
       (λ old. old_foreign old.0 old.1 group
       (subst (λ kind. HearsGroup world names apart fresh serves left kind group)
-      (ap (λ (x : Mount ℕ). x.propagation) old.2 ∙ pushed_value (λ (x : Mount ℕ). x.propagation) (λ x at. refl) old.0) how))
+      (ap (λ (x : Mount ℕ). x.propagation) old.2 ∙ pushed_value (λ (x : Mount ℕ). x.propagation) (λ x at. refl) old.0)
+      how))
       (λ copy. copy_foreign other copy group how)
       (others_from other m))
 

@@ -50,7 +50,8 @@ module _ (world : World ℕ) (names : List TaskName) (apart : IsApart world name
       tree_in fuel from.0 (bindable_in mount is from.0 from.1) x from.2) m
 
   -- each mount that a bind copies is one of others
-  module _ (fresh : Fresh ℕ) (source : Location ℕ) (placed : (mount_at nat_eq world source).namespace ≡ Some namespace) where
+  module _ (fresh : Fresh ℕ) (source : Location ℕ)
+      (placed : (mount_at nat_eq world source).namespace ≡ Some namespace) where
     source_in : IsIn world namespace (mount_at nat_eq world source)
     source_in = (
       ⊎_elim (λ m. m) (λ none. none_is_some namespace (sym (ap (λ (m : Mount ℕ). m.namespace) none) ∙ placed))
@@ -140,7 +141,8 @@ plain_leaves world fresh names name call task outsider called place flags judged
     (ap takes_uses for.1) (ap sets_type for.1) refl))
     (attaching_leaves_apart world names apart fresh outsider.serves (world.filesystems ++ added ∷ [])
     (larger_sees world names apart fresh outsider.serves added 0 refl refl)
-    (larger_overlays world names apart fresh outsider.serves added 0 refl refl) (odds fresh) (λ k. (2 * k + 1, refl)) place
+    (larger_overlays world names apart fresh outsider.serves added 0 refl refl) (odds fresh)
+    (λ k. (2 * k + 1, refl)) place
     task.namespace outside named.own (new_mount added.number added.files.tree.root flags ∷ [])
     (λ origin m. ⊎_elim
     (λ e. inr (ap (λ (x : Mount ℕ). x.propagation) e, 0, ap (λ (x : Mount ℕ). x.filesystem) e))

@@ -79,7 +79,8 @@ module _ (world : World ℕ) (names : List TaskName) (apart : IsApart world name
           (keeps.namespace mount)
 
   -- what is found at a number
-  found_in : {B : Type 0} (value : Mount ℕ → B) → ((mount : Mount ℕ) → value (change mount) ≡ value mount) → (number : ℕ)
+  found_in : {B : Type 0} (value : Mount ℕ → B) → ((mount : Mount ℕ) → value (change mount) ≡ value mount)
+      → (number : ℕ)
       → (list : List (Mount ℕ)) → value (mount_in nat_eq (map change list) number) ≡ value (mount_in nat_eq list number)
   found_in value same number [] = refl
   found_in {B} value same number (mount ∷ rest) =
@@ -145,7 +146,8 @@ module _ (world : World ℕ) (names : List TaskName) (apart : IsApart world name
       (other_mounts nat_eq world names)))
       (not (list_any (λ location. nat_eq number (mount_at nat_eq world location).filesystem)
       (locations (outsiders world names)))) alone in
-      let none_shows = none_among (λ (mount : Mount ℕ). nat_eq number mount.filesystem) (other_mounts nat_eq world names)
+      let none_shows = none_among (λ (mount : Mount ℕ). nat_eq number mount.filesystem)
+      (other_mounts nat_eq world names)
       (not-true _ parts.0) in
       and_from (not (list_any (λ (mount : Mount ℕ). nat_eq number mount.filesystem) (other_mounts nat_eq left names)))
       (not (list_any (λ location. nat_eq number (mount_at nat_eq left location).filesystem) (locations those_outside)))
@@ -172,7 +174,8 @@ module _ (world : World ℕ) (names : List TaskName) (apart : IsApart world name
     masters = own_masters;
     direct = λ number m. refl;
     filesystems = refl;
-    namespaces = ap (λ some. filter (λ (n : Namespace ℕ). own_by some n.number) namespaces) moved.members ∙ moved.listed;
+    namespaces =
+        ap (λ some. filter (λ (n : Namespace ℕ). own_by some n.number) namespaces) moved.members ∙ moved.listed;
   }
 
   pub changing_leaves_apart : ((group : ℕ) → list_any (is_member_of nat_eq group) (own_mounts nat_eq world names) ≡ true

@@ -42,12 +42,14 @@ module _ (world : World ℕ) (names : List TaskName) (apart : IsApart world name
 
   pub others_changed : other_mounts nat_eq left names ≡ map change (other_mounts nat_eq world names)
   others_changed =
-      filter-map (λ (mount : Mount ℕ). holds_of (λ n. not (is_own_namespace nat_eq world names n)) mount.namespace) change
+      filter-map (λ (mount : Mount ℕ). holds_of (λ n. not (is_own_namespace nat_eq world names n)) mount.namespace)
+      change
       world.mounts
       (λ mount. ap (holds_of (λ n. not (is_own_namespace nat_eq world names n))) (keeps.namespace mount))
 
   -- what is found is changed alike
-  found_in : {B : Type 0} (value : Mount ℕ → B) → ((mount : Mount ℕ) → value (change mount) ≡ value mount) → (number : ℕ)
+  found_in : {B : Type 0} (value : Mount ℕ → B) → ((mount : Mount ℕ) → value (change mount) ≡ value mount)
+      → (number : ℕ)
       → (list : List (Mount ℕ)) → value (mount_in nat_eq (map change list) number) ≡ value (mount_in nat_eq list number)
   found_in value same number [] = refl
   found_in {B} value same number (mount ∷ rest) =
@@ -118,7 +120,8 @@ module _ (world : World ℕ) (names : List TaskName) (apart : IsApart world name
       tasks = apart.tasks;
       events = events;
       locations =
-          all_same (λ location. not (holds_of (is_own_namespace nat_eq world names) (mount_at nat_eq left location).namespace))
+          all_same (λ location. not (holds_of (is_own_namespace nat_eq world names)
+          (mount_at nat_eq left location).namespace))
           (λ location. not (holds_of (is_own_namespace nat_eq world names) (mount_at nat_eq world location).namespace))
           (λ location. ap (λ o. not (holds_of (is_own_namespace nat_eq world names) o)) (placed_at location))
           (locations (outsiders world names))

@@ -25,7 +25,8 @@ close_leaves : (world : World ℕ) (fresh : Fresh ℕ) (names : List TaskName) (
     (filesystems_changed nat_eq world permit)
 close_leaves world fresh names name call task outsider called (ToClose number) judged e =
     sweeping_leaves_apart world (apply nat_eq fresh world task (ToClose number)).world names
-    (apart_if_sealed world names outsider.is outsider.sealed_off) outsider.sealed_off refl outsider.is.mounts.one_number []
+    (apart_if_sealed world names outsider.is outsider.sealed_off) outsider.sealed_off refl
+    outsider.is.mounts.one_number []
     (replacing_leaves_apart world fresh names name call task outsider called (without_descriptor task number) refl refl
     (λ location m. callers_outside world fresh names name call task outsider called location
     (⊎_elim inl (λ rest. inr (⊎_elim inl (λ open_ones. inr (left_open location open_ones)) rest)) m)))
@@ -34,7 +35,8 @@ close_leaves world fresh names name call task outsider called (ToClose number) j
         → Among location (map (λ (d : Descriptor ℕ). d.location) (without_descriptor task number).descriptors)
         → Among location (map (λ (d : Descriptor ℕ). d.location) task.descriptors)
     left_open location m =
-        let from = among-from_map (λ (d : Descriptor ℕ). d.location) (without_descriptor task number).descriptors location
+        let from = among-from_map (λ (d : Descriptor ℕ). d.location)
+        (without_descriptor task number).descriptors location
         m in
         subst (λ l. Among l (map (λ (d : Descriptor ℕ). d.location) task.descriptors)) (sym from.2)
         (among-map (λ (d : Descriptor ℕ). d.location) task.descriptors from.0

@@ -125,7 +125,8 @@ module _ (used : List ℕ) (files : FileTree ℕ) (holds : HoldsTree used files)
     → (is_among nat_eq layer.directory used ≡ true) × IsDirectory files.tree layer.directory) where
   abbrev lies_in : FileTree ℕ → ℕ → Bool
   lies_in tree object =
-      list_any (λ (layer : Layer ℕ). nat_eq number layer.filesystem && is_under nat_eq tree layer.directory object) lowers
+      list_any (λ (layer : Layer ℕ). nat_eq number layer.filesystem && is_under nat_eq tree layer.directory object)
+      lowers
 
   lies_used : (object : ℕ) → lies_in files object ≡ true → is_among nat_eq object used ≡ true
   lies_used object h =

@@ -32,7 +32,8 @@ use Rattle.vt_laws_sealed.proofs.outsiders.Staying.{LeavesApart, by_permit}
 use Rattle.vt_laws_sealed.proofs.outsiders.TakingAway.{taking_leaves_apart}
 
 -- Other tasks, with the members as they were; then the namespaces without tasks end
-module _ (world : World ℕ) (names : List TaskName) (apart : IsApart world names) (sealed_off : sealed nat_eq world names ≡ true)
+module _ (world : World ℕ) (names : List TaskName) (apart : IsApart world names)
+    (sealed_off : sealed nat_eq world names ≡ true)
     (fresh : Fresh ℕ) (serves : Serves nat_eq world fresh) (task : Task ℕ) (there : Among task world.tasks)
     (tasks : List (Task ℕ)) (same : filter (is_member_task names) tasks ≡ members world names)
     (outside : (t : Task ℕ) → Among t (filter (λ (x : Task ℕ). not (is_member_task names x)) tasks)
@@ -52,7 +53,8 @@ module _ (world : World ℕ) (names : List TaskName) (apart : IsApart world name
       world.namespaces
 
   -- a namespace of theirs has tasks
-  own_has_tasks : (number : ℕ) → is_own number ≡ true → list_any (λ (t : Task ℕ). nat_eq number t.namespace) tasks ≡ true
+  own_has_tasks : (number : ℕ) → is_own number ≡ true
+      → list_any (λ (t : Task ℕ). nat_eq number t.namespace) tasks ≡ true
   own_has_tasks number own =
       let member = any_among (λ (t : Task ℕ). nat_eq number t.namespace) (members world names) own in
       any_from_among (λ (t : Task ℕ). nat_eq number t.namespace) tasks member.0
@@ -127,7 +129,8 @@ module _ (world : World ℕ) (names : List TaskName) (apart : IsApart world name
 
   pub ending_leaves_apart : LeavesApart world (settled nat_eq (namespaces_ended nat_eq before)) names []
   ending_leaves_apart =
-      taking_leaves_apart world names apart sealed_off fresh serves task there tasks namespaces_left moved gone others_go
+      taking_leaves_apart world names apart sealed_off fresh serves task there tasks namespaces_left moved gone
+      others_go
 
 -- _exit(2)
 module _ (world : World ℕ) (fresh : Fresh ℕ) (names : List TaskName) (name : TaskName) (call : Call)
@@ -160,7 +163,8 @@ module _ (world : World ℕ) (fresh : Fresh ℕ) (names : List TaskName) (name :
       (found_among (λ (t : Task ℕ). same_name name t.name) world.tasks task called) others members_there
       (λ t m. namespace_outside world names set_apart t (out_before t m))
       (λ location m.
-      let of = among-from_flat_map locations_of (filter (λ (x : Task ℕ). not (is_member_task names x)) others) location m in
+      let of = among-from_flat_map locations_of
+      (filter (λ (x : Task ℕ). not (is_member_task names x)) others) location m in
       inl (
         location,
         among-flat_map locations_of (outsiders world names) of.0 location (out_before of.0 of.1) of.2,

@@ -51,7 +51,8 @@ module _ (world : World ℕ) (names : List TaskName) (apart : IsApart world name
           by false h later = later h
 
   -- a mount shows a filesystem that is there, and so does the mount of a location
-  directly_there : (number : ℕ) → Among number (used_directly nat_eq world names) → is_among nat_eq number numbers ≡ true
+  directly_there : (number : ℕ) → Among number (used_directly nat_eq world names)
+      → is_among nat_eq number numbers ≡ true
   directly_there number m =
       ⊎_elim
       (λ shown.
@@ -112,7 +113,8 @@ module _ (world : World ℕ) (names : List TaskName) (apart : IsApart world name
           → is_among nat_eq layer.filesystem numbers ≡ true
       by None e m = absurd m
       by (Some merged) e m =
-          layer_there merged (found_among (λ (f : Filesystem ℕ). nat_eq number f.number) world.filesystems merged e) layer
+          layer_there merged (found_among (λ (f : Filesystem ℕ). nat_eq number f.number) world.filesystems merged e)
+          layer
           (up merged.overlay m)
 
   lower_there : (layer : Layer ℕ) → Among layer (own_lowers nat_eq world names)
@@ -122,7 +124,8 @@ module _ (world : World ℕ) (names : List TaskName) (apart : IsApart world name
       (λ n. of_overlay [] (λ (overlay : Overlay ℕ). overlay.lowers) (filesystem_numbered nat_eq world n))
       (used_directly nat_eq world names) layer m in
       found_layer_there from.0 (λ (overlay : Overlay ℕ). overlay.lowers)
-      (λ overlay l n. among-append_right (option_to_list overlay.upper ++ option_to_list overlay.work) overlay.lowers l n)
+      (λ overlay l n. among-append_right (option_to_list overlay.upper ++ option_to_list overlay.work) overlay.lowers l
+      n)
       layer from.2
 
   -- each filesystem that they use
@@ -135,11 +138,13 @@ module _ (world : World ℕ) (names : List TaskName) (apart : IsApart world name
       (used_directly nat_eq world names) number layered in
       changed (filesystem_numbered nat_eq world from.0) number from.2
       (λ layer n. found_layer_there from.0 (λ overlay. option_to_list overlay.upper ++ option_to_list overlay.work)
-      (λ overlay l h. among-append_left (option_to_list overlay.upper ++ option_to_list overlay.work) overlay.lowers l h)
+      (λ overlay l h. among-append_left (option_to_list overlay.upper ++ option_to_list overlay.work) overlay.lowers l
+      h)
       layer n))
       (among-append (used_directly nat_eq world names) _ number
       (among-from_each_once (used_directly nat_eq world names
-      ++ flat_map (λ n. change_layers (filesystem_numbered nat_eq world n)) (used_directly nat_eq world names)) number m))
+      ++ flat_map (λ n. change_layers (filesystem_numbered nat_eq world n)) (used_directly nat_eq world names)) number
+      m))
     where
       changed : (merged : Filesystem ℕ) (number : ℕ) → Among number (change_layers merged)
           → ((layer : Layer ℕ) → Among layer (of_overlay []
@@ -171,7 +176,8 @@ module _ (world : World ℕ) (names : List TaskName) (apart : IsApart world name
         let at = among-from_map (λ (f : Filesystem ℕ). f.number) world.filesystems number
         (among_numbers numbers number there) in
         true≢false
-        (sym (is_among_left number (flat_map used_by_mount world.mounts ++ flat_map used_by_filesystem world.filesystems)
+        (sym (is_among_left number (flat_map used_by_mount world.mounts
+        ++ flat_map used_by_filesystem world.filesystems)
         (map (λ (namespace : Namespace ℕ). namespace.number) world.namespaces)
         (is_among_right number (flat_map used_by_mount world.mounts) (flat_map used_by_filesystem world.filesystems)
         (is_among_numbers (flat_map used_by_filesystem world.filesystems) number
@@ -196,8 +202,10 @@ module _ (world : World ℕ) (names : List TaskName) (apart : IsApart world name
           → filesystem_numbered nat_eq larger number ≡ filesystem_numbered nat_eq world number
       found_still number = search world.filesystems
         where
-          search : (list : List (Filesystem ℕ)) → is_among nat_eq number (map (λ (f : Filesystem ℕ). f.number) list) ≡ true
-              → unwrap_or (find (λ (f : Filesystem ℕ). nat_eq number f.number) (list ++ added ∷ [])) (no_filesystem number)
+          search : (list : List (Filesystem ℕ))
+              → is_among nat_eq number (map (λ (f : Filesystem ℕ). f.number) list) ≡ true
+              → unwrap_or (find (λ (f : Filesystem ℕ). nat_eq number f.number) (list ++ added ∷ []))
+              (no_filesystem number)
               ≡ unwrap_or (find (λ (f : Filesystem ℕ). nat_eq number f.number) list) (no_filesystem number)
           search [] h = absurd (true≢false (sym h))
           search (f ∷ rest) h = by (nat_eq number f.number) h (search rest)
@@ -207,7 +215,8 @@ module _ (world : World ℕ) (names : List TaskName) (apart : IsApart world name
                   → unwrap_or (find (λ (x : Filesystem ℕ). nat_eq number x.number) (rest ++ added ∷ []))
                   (no_filesystem number)
                   ≡ unwrap_or (find (λ (x : Filesystem ℕ). nat_eq number x.number) rest) (no_filesystem number))
-                  → unwrap_or (cond b (Some f) (find (λ (x : Filesystem ℕ). nat_eq number x.number) (rest ++ added ∷ [])))
+                  → unwrap_or (cond b (Some f)
+                  (find (λ (x : Filesystem ℕ). nat_eq number x.number) (rest ++ added ∷ [])))
                   (no_filesystem number)
                   ≡ unwrap_or (cond b (Some f) (find (λ (x : Filesystem ℕ). nat_eq number x.number) rest))
                   (no_filesystem number)
@@ -228,7 +237,8 @@ module _ (world : World ℕ) (names : List TaskName) (apart : IsApart world name
 
       none_shown : shown_of larger used lowers added ≡ None
       none_shown =
-          ap (λ b. cond b (Some added) (when (list_any (λ (layer : Layer ℕ). nat_eq added.number layer.filesystem) lowers)
+          ap (λ b. cond b (Some added) (when (list_any
+          (λ (layer : Layer ℕ). nat_eq added.number layer.filesystem) lowers)
           (lower_part (filesystem_numbered nat_eq larger added.number) added))) added_unused
           ∙ ap (λ b. when b (lower_part (filesystem_numbered nat_eq larger added.number) added)) added_no_layer
         where

@@ -64,8 +64,10 @@ module _ (world : World ℕ) (number : ℕ) (flags : MountFlags) where
       by false = refl
 
 module _ (world : World ℕ) (fresh : Fresh ℕ) (names : List TaskName) (name : TaskName) (call : Call)
-    (task : Task ℕ) (outsider : IsOutsidersCall world fresh names name call) (called : task_called world name ≡ Some task)
-    (number : ℕ) (flags : MountFlags) (judged : judge_in nat_eq fresh world task call ≡ Ok (ToSetFlags number flags)) where
+    (task : Task ℕ) (outsider : IsOutsidersCall world fresh names name call)
+    (called : task_called world name ≡ Some task)
+    (number : ℕ) (flags : MountFlags) (judged : judge_in nat_eq fresh world task call ≡ Ok (ToSetFlags number flags))
+    where
   apart_before : IsApart world names
   apart_before = apart_if_sealed world names outsider.is outsider.sealed_off
 

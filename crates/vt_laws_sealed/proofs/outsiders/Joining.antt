@@ -123,7 +123,8 @@ module _ (world : World ℕ) (fresh : Fresh ℕ) (names : List TaskName) (name :
       (λ rest. ⊎_elim (λ directory. subst (IsOutside world names) (sym directory) at_root)
       (λ open_ones. old_outside world fresh names name call task outsider called location (inr (inr open_ones))) rest) m
 
-  join_leaves : LeavesApart world (settled nat_eq (apply nat_eq fresh world task (ToEnterNamespace namespace)).world) names
+  join_leaves : LeavesApart world (settled nat_eq (apply nat_eq fresh world task (ToEnterNamespace namespace)).world)
+      names
       []
   join_leaves =
       ending_leaves_apart world names (apart world fresh names name call task outsider called) outsider.sealed_off fresh

@@ -81,7 +81,8 @@ module _ (before later : World ℕ) (names : List TaskName) (sees : SeesTheSame 
       let lives : Lives (has_members nat_eq before.mounts) before.master source =
       among_from_all (HasLivingGroups nat_eq before) before.mounts is.groups own
       (among-from_filter (is_own_mount nat_eq before names) before.mounts own m).0 source e in
-      let member = own_member before names is apart source (own, m, start_hears before source own.propagation e) lives in
+      let member = own_member before names is apart source
+      (own, m, start_hears before source own.propagation e) lives in
       sees.masters source
       (any_from_among (is_member_of nat_eq source) (own_mounts nat_eq before names) member.0 member.1 member.2)
 

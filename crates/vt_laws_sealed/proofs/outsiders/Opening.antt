@@ -67,7 +67,8 @@ module _ (world : World ℕ) (is : IsWorld nat_eq world) (task : Task ℕ) (ther
   abbrev pub IsFileGround : Place ℕ → Type 0
   IsFileGround place = (file : Location ℕ) → place.object ≡ Some file → OnGround file
 
-  front_ground : (start here : Location ℕ) (front : List (List ℕ)) → OnGround start → IsFront world task start front here
+  front_ground : (start here : Location ℕ) (front : List (List ℕ)) → OnGround start
+      → IsFront world task start front here
       → OnGround here
   front_ground start here [] ground e = subst OnGround (sym e) ground
   front_ground start here (word ∷ front) ground before =
@@ -85,7 +86,8 @@ module _ (world : World ℕ) (is : IsWorld nat_eq world) (task : Task ℕ) (ther
           → and_then r (λ parent. Ok (Some parent)) ≡ Ok o → OnGround file
       by (Ok parent) g h =
           let same : Some parent ≡ o = cc in
-          subst OnGround (same_Some parent file (same ∙ f)) (step_ground world is task there here parent DotDot ground g)
+          subst OnGround (same_Some parent file (same ∙ f))
+          (step_ground world is task there here parent DotDot ground g)
       by (Err deny) g h = absurd cc
   object_ground here (Named name) o ground e file f =
       let same : entry_location nat_eq world here name ≡ o = cc in on_mount _ (same ∙ f)

@@ -32,14 +32,16 @@ module _ (world : World ℕ) (names : List TaskName) (apart : IsApart world name
 
   pub is_other : Among mount (other_mounts nat_eq world names)
   is_other =
-      among-filter (λ (m : Mount ℕ). holds_of (λ n. not (is_own_namespace nat_eq world names n)) m.namespace) world.mounts
+      among-filter (λ (m : Mount ℕ). holds_of (λ n. not (is_own_namespace nat_eq world names n)) m.namespace)
+      world.mounts
       mount there
       (ap (holds_of (λ n. not (is_own_namespace nat_eq world names n))) placed ∙ ap not outside)
 
   pub not_stood_on : is_at nat_eq (roots_and_directories (members world names)) mount ≡ false
   not_stood_on =
       false_from_ne_true (is_at nat_eq (roots_and_directories (members world names)) mount) (λ h.
-      let at = any_among (λ (l : Location ℕ). nat_eq l.mount mount.number) (roots_and_directories (members world names)) h in
+      let at = any_among (λ (l : Location ℕ). nat_eq l.mount mount.number)
+      (roots_and_directories (members world names)) h in
       let of = among-from_flat_map (λ (t : Task ℕ). t.root ∷ t.directory ∷ []) (members world names) at.0 at.1 in
       let both = and_parts (is_directory_seen_in nat_eq world of.0.namespace of.0.root)
       (is_directory_seen_in nat_eq world of.0.namespace of.0.directory)
@@ -63,7 +65,8 @@ module _ (world : World ℕ) (names : List TaskName) (apart : IsApart world name
           sym (ap (λ (m : Mount ℕ). list_all (nat_eq member.namespace) (option_to_list m.namespace)) it
           ∙ ap (λ o. list_all (nat_eq member.namespace) (option_to_list o)) placed)
           ∙ (and_parts (is_directory_at nat_eq world location)
-          (list_all (nat_eq member.namespace) (option_to_list (mount_at nat_eq world location).namespace)) directory).1 in
+          (list_all (nat_eq member.namespace) (option_to_list (mount_at nat_eq world location).namespace)) directory).1
+          in
           true≢false
           (sym (any_from_among (λ (t : Task ℕ). nat_eq namespace t.namespace) (members world names) member m
           (eq-eqb namespace member.namespace
@@ -92,7 +95,8 @@ child_in world names apart namespace parent is child m =
     by (Some point) e h there =
         sym (ap (λ (x : Mount ℕ). x.namespace) (itself child there))
         ∙ namespace_below world child.number point
-        (among_from_all (λ (x : Mount ℕ). Stands nat_eq world x.number) world.mounts apart.is.mounts.standing child there)
+        (among_from_all (λ (x : Mount ℕ). Stands nat_eq world x.number) world.mounts apart.is.mounts.standing child
+        there)
         (ap (λ (x : Mount ℕ). x.mount_point) (itself child there) ∙ e)
         ∙ ap (λ n. (mount_numbered nat_eq world n).namespace) (sym (eqb-true parent.number point.mount h))
         ∙ ap (λ (x : Mount ℕ). x.namespace) (itself parent is.0)
@@ -183,7 +187,8 @@ module _ (world : World ℕ) (names : List TaskName) (apart : IsApart world name
       inl (
         (other, m, how),
         hears_living other
-            (among-from_filter (λ (mount : Mount ℕ). holds_of (λ n. not (is_own_namespace nat_eq world names n)) mount.namespace)
+            (among-from_filter (λ (mount : Mount ℕ). holds_of
+            (λ n. not (is_own_namespace nat_eq world names n)) mount.namespace)
             world.mounts other m).0 group how,
       )
 
@@ -231,7 +236,8 @@ module _ (world : World ℕ) (names : List TaskName) (apart : IsApart world name
       → HearsGroup left other.propagation group → Foreign group)
       → shares_no_events nat_eq left names ≡ true
   events_stay_apart left same masters others =
-      ap (list_all (λ own. list_all (λ other. not (share_events nat_eq left own other)) (other_mounts nat_eq left names))) same
+      ap (list_all (λ own. list_all (λ other. not (share_events nat_eq left own other))
+      (other_mounts nat_eq left names))) same
       ∙ list_all_from_among
       (λ own. list_all (λ other. not (share_events nat_eq left own other)) (other_mounts nat_eq left names))
       (own_mounts nat_eq world names)

@@ -113,7 +113,8 @@ module _ (world : World ℕ) (names : List TaskName) (apart : IsApart world name
       and_from (not (list_any (λ (mount : Mount ℕ). nat_eq number mount.filesystem) (other_mounts nat_eq left names)))
       (not (list_any (λ location. nat_eq number (mount_at nat_eq left location).filesystem)
       (locations (outsiders left names))))
-      (ap (λ some. not (list_any (λ (mount : Mount ℕ). nat_eq number mount.filesystem) (others_by some))) same ∙ parts.0)
+      (ap (λ some. not (list_any (λ (mount : Mount ℕ). nat_eq number mount.filesystem) (others_by some))) same
+      ∙ parts.0)
       (ap not (none_from_among (λ location. nat_eq number (mount_at nat_eq world location).filesystem)
       (locations (outsiders left names))
       (λ location m. ⊎_elim
@@ -155,7 +156,8 @@ module _ (world : World ℕ) (names : List TaskName) (apart : IsApart world name
           ap (λ n. not (own_by (members world names) n)) was.2
           ∙ among_from_list_all (λ (t : Task ℕ). not (own_by (members world names) t.namespace)) (outsiders world names)
           apart.tasks was.0 was.1);
-      events = ap (λ some. list_all (λ own. list_all (λ other. not (share_events nat_eq world own other)) (others_by some))
+      events =
+          ap (λ some. list_all (λ own. list_all (λ other. not (share_events nat_eq world own other)) (others_by some))
           (filter (λ (mount : Mount ℕ). holds_of (own_by some) mount.namespace) world.mounts)) same
           ∙ apart.events;
       locations =
@@ -273,7 +275,8 @@ module _ (world : World ℕ) (fresh : Fresh ℕ) (names : List TaskName) (name :
       forked_members : filter (is_member_task names) forked ≡ members world names
       forked_members =
           filter-append (is_member_task names) (map (replaced_if_called parent) world.tasks) (child ∷ [])
-          ∙ ap (λ b. filter (is_member_task names) (map (replaced_if_called parent) world.tasks) ++ cond b (child ∷ []) [])
+          ∙ ap (λ b. filter (is_member_task names) (map (replaced_if_called parent) world.tasks) ++ cond b
+          (child ∷ []) [])
           child_is_none
           ∙ append-nil (filter (is_member_task names) (map (replaced_if_called parent) world.tasks))
           ∙ replaced_members world fresh names name call task outsider called parent refl
@@ -327,7 +330,8 @@ own_tasks_leave world fresh names name call task outsider called permit judged t
         refl refl (callers_outside world fresh names name call task outsider called))
     by (ToSetCredentials credentials) judged for e =
         swept (ToSetCredentials credentials) judged (Drop for.0) for.1 refl refl refl
-        (replacing_leaves_apart world fresh names name call task outsider called (record task { credentials = credentials })
+        (replacing_leaves_apart world fresh names name call task outsider called
+        (record task { credentials = credentials })
         refl refl (callers_outside world fresh names name call task outsider called))
     by (ToFork credentials) judged for e =
         swept (ToFork credentials) judged (Fork for.0) for.1 refl refl refl

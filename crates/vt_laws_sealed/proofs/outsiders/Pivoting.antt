@@ -89,7 +89,8 @@ module _ (world : World ℕ) (fresh : Fresh ℕ) (names : List TaskName) (name :
   keeps = reshaping_keeps change shape
 
   same_mount : (number : ℕ) (mount : Mount ℕ) → Among mount world.mounts
-      → nat_eq mount.number (mount_numbered nat_eq world number).number ≡ true → mount ≡ mount_numbered nat_eq world number
+      → nat_eq mount.number (mount_numbered nat_eq world number).number ≡ true
+      → mount ≡ mount_numbered nat_eq world number
   same_mount number mount there e =
       sym (found_itself world.mounts outsider.is.mounts.one_number mount there)
       ∙ ap (mount_numbered nat_eq world)
@@ -107,7 +108,8 @@ module _ (world : World ℕ) (fresh : Fresh ℕ) (names : List TaskName) (name :
       by true e q f =
           absurd (elsewhere (ap (λ (x : Mount ℕ). x.namespace) (same_mount new mount there e) ∙ fits.own))
       by false e true f =
-          absurd (elsewhere (ap (λ (x : Mount ℕ). x.namespace) (same_mount task.root.mount mount there f) ∙ fits.own_root))
+          absurd (elsewhere (ap (λ (x : Mount ℕ). x.namespace) (same_mount task.root.mount mount there f)
+          ∙ fits.own_root))
       by false e false f = refl
 
   own_same : (own : Mount ℕ) → Among own (own_mounts nat_eq world names) → change own ≡ own
@@ -165,7 +167,8 @@ module _ (world : World ℕ) (fresh : Fresh ℕ) (names : List TaskName) (name :
           }) t ≡ t
       by true e =
           absurd (true≢false
-          (sym (any_from_among (λ (x : Task ℕ). nat_eq task.namespace x.namespace) (members world names) t m e) ∙ outside))
+          (sym (any_from_among (λ (x : Task ℕ). nat_eq task.namespace x.namespace) (members world names) t m e)
+          ∙ outside))
       by false e = refl
 
   was : (t : Task ℕ) → Among t those → (old : Task ℕ) × Among old (outsiders world names) × (t ≡ move old)
@@ -242,7 +245,8 @@ module _ (world : World ℕ) (fresh : Fresh ℕ) (names : List TaskName) (name :
   }
 
   abbrev pivoted_world : World ℕ
-  pivoted_world = left world names set_apart change keeps kept_same world.master (map move world.tasks) world.namespaces moved
+  pivoted_world =
+      left world names set_apart change keeps kept_same world.master (map move world.tasks) world.namespaces moved
 
   -- events go by types alone
   abbrev share_by : Propagation ℕ → Propagation ℕ → Bool

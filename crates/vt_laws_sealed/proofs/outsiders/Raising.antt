@@ -83,7 +83,8 @@ module _ (before left : World ℕ) (names : List TaskName) (name : TaskName) (ch
 
   outsiders_locations : locations (outsiders later names) ≡ locations (outsiders left names)
   outsiders_locations =
-      ap (flat_map locations_of) outsiders_raised ∙ flat_map-map raise locations_of (outsiders left names) locations_kept
+      ap (flat_map locations_of) outsiders_raised ∙ flat_map-map raise locations_of
+      (outsiders left names) locations_kept
 
   -- by members and by locations of others
   abbrev own_by : List (Task ℕ) → ℕ → Bool
@@ -153,12 +154,14 @@ module _ (before left : World ℕ) (names : List TaskName) (name : TaskName) (ch
       same : (merged : Filesystem ℕ) → free_later (raise_in merged) ≡ free_left merged
       same merged =
           ap (λ b. not b || no_outsider_on nat_eq later names (raise_in merged).number) (layered_kept filesystem merged)
-          ∙ ap (λ n. not (has_layer_on nat_eq filesystem merged) || no_outsider_on nat_eq later names n) (number_kept merged)
+          ∙ ap (λ n. not (has_layer_on nat_eq filesystem merged) || no_outsider_on nat_eq later names n)
+          (number_kept merged)
           ∙ ap (λ b. not (has_layer_on nat_eq filesystem merged) || b) (no_outsider_raised merged.number)
 
   pub tasks_raised : holds_all_tasks nat_eq later names ≡ holds_all_tasks nat_eq left names
   tasks_raised =
-      ap (λ tasks. list_all (λ (task : Task ℕ). not (own_by tasks task.namespace)) (outsiders later names)) members_raised
+      ap (λ tasks. list_all (λ (task : Task ℕ). not (own_by tasks task.namespace)) (outsiders later names))
+      members_raised
       ∙ ap (list_all (λ (task : Task ℕ). not (own_by (members left names) task.namespace))) outsiders_raised
       ∙ all-map_same (λ (task : Task ℕ). not (own_by (members left names) task.namespace))
       (λ (task : Task ℕ). not (own_by (members left names) task.namespace)) raise (outsiders left names)

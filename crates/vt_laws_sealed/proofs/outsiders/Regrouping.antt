@@ -107,11 +107,13 @@ module _ (world : World ℕ) (names : List TaskName) (apart : IsApart world name
       (is_among_numbers (groups_up middle number) found
       (found_among (has_members nat_eq middle.mounts) (groups_up middle number) found e))
 
-  inherited_foreign : (kind : Propagation ℕ) → IsOfOthers world names apart fresh serves kind → IsOfOthers world names apart fresh serves (inherited nat_eq middle kind)
+  inherited_foreign : (kind : Propagation ℕ) → IsOfOthers world names apart fresh serves kind
+      → IsOfOthers world names apart fresh serves (inherited nat_eq middle kind)
   inherited_foreign (Shared g) is = is
   inherited_foreign (Slave g) is = by (heir nat_eq middle (Some g)) refl
     where
-      by : (o : Option ℕ) → heir nat_eq middle (Some g) ≡ o → IsOfOthers world names apart fresh serves (slave_of_heir o)
+      by : (o : Option ℕ) → heir nat_eq middle (Some g) ≡ o
+          → IsOfOthers world names apart fresh serves (slave_of_heir o)
       by None e = (λ number f. none_is_some number f, λ number f. none_is_some number (ap source_of f))
       by (Some found) e = (
         λ number f. none_is_some number f,
@@ -282,10 +284,12 @@ module _ (world : World ℕ) (names : List TaskName) (apart : IsApart world name
     events =
         events_stay_apart world names apart fresh serves left
         (own_mounts_same world left names
-        (sees world names apart all_changed (reshaping_keeps all_changed all_shape) kept_same master tasks namespaces moved
+        (sees world names apart all_changed (reshaping_keeps all_changed all_shape) kept_same master tasks namespaces
+        moved
         own_masters)) own_kinds
         (λ other m number how.
-        let from = others_from world names apart all_changed (reshaping_keeps all_changed all_shape) kept_same master tasks
+        let from = others_from world names apart all_changed
+        (reshaping_keeps all_changed all_shape) kept_same master tasks
         namespaces moved other m in
         heard_foreign (all_changed from.0).propagation (changed_foreign from.0 from.1) number
         (subst (λ kind. HearsGroup world names apart fresh serves left kind number)
@@ -293,5 +297,6 @@ module _ (world : World ℕ) (names : List TaskName) (apart : IsApart world name
 
     pub regrouping_leaves_apart : LeavesApart world left names []
     regrouping_leaves_apart =
-        changing_leaves_apart world names apart all_changed (reshaping_keeps all_changed all_shape) kept_same master tasks
+        changing_leaves_apart world names apart all_changed
+        (reshaping_keeps all_changed all_shape) kept_same master tasks
         namespaces moved own_masters events

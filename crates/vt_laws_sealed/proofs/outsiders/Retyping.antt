@@ -57,7 +57,8 @@ new_masters group number (mount ∷ rest) master =
     (new_masters group number rest (with_master nat_eq master (group mount.number) (master_after mount.propagation)))
   where
     by : (b : Bool) → nat_eq number (group mount.number) ≡ b
-        → with_new_groups nat_eq group (with_master nat_eq master (group mount.number) (master_after mount.propagation)) rest
+        → with_new_groups nat_eq group (with_master nat_eq master (group mount.number)
+        (master_after mount.propagation)) rest
         number ≡ cond (nat_eq number (group mount.number)) (master_after mount.propagation) (master number)
         → (with_new_groups nat_eq group master (mount ∷ rest) number ≡ master number)
         ⊎ ((one : Mount ℕ) × Among one (mount ∷ rest) × (number ≡ group one.number)
@@ -72,7 +73,8 @@ new_masters group number (mount ∷ rest) master =
     by false e same = inl (same ∙ ap (λ b. cond b (master_after mount.propagation) (master number)) e)
 
 module _ (world : World ℕ) (names : List TaskName) (apart : IsApart world names) (fresh : Fresh ℕ)
-    (serves : Serves nat_eq world fresh) (namespace : ℕ) (outside : is_own_namespace nat_eq world names namespace ≡ false)
+    (serves : Serves nat_eq world fresh) (namespace : ℕ)
+    (outside : is_own_namespace nat_eq world names namespace ≡ false)
     (group : ℕ → ℕ) (new_group : (number : ℕ) → (k : ℕ) × (group number ≡ fresh k)) (word : TypeWord)
     (named : List (Mount ℕ)) (named_in : (mount : Mount ℕ) → Among mount named → IsIn world namespace mount) where
   -- types are set, and groups are as they were
@@ -211,7 +213,8 @@ module _ (world : World ℕ) (names : List TaskName) (apart : IsApart world name
       typed ToUnbindable kind k = unbindable
 
       by : (b : Bool) → IsOfOthers
-          (cond b (record other { propagation = type_after (group other.number) word other.propagation }) other).propagation
+          (cond b (record other { propagation = type_after (group other.number) word other.propagation })
+          other).propagation
       by true = typed word other.propagation refl
       by false = old
 
@@ -437,7 +440,8 @@ module _ (world : World ℕ) (names : List TaskName) (apart : IsApart world name
       events : shares_no_events nat_eq left names ≡ true
       events =
           events_stay_apart world names apart fresh serves left
-          (own_mounts_same world left names (sees world names apart change keeps kept_same master own_masters)) own_kinds
+          (own_mounts_same world left names (sees world names apart change keeps kept_same master own_masters))
+          own_kinds
           (λ other m number how.
           let from = among-from_map change (other_mounts nat_eq world names) other
           (subst (Among other) (others_changed world names apart change keeps kept_same master) m) in
@@ -460,7 +464,8 @@ tree_in world names apart namespace (suc depth) mount is x m =
     (λ later.
     let from = among-from_flat_map (tree_from nat_eq depth world.mounts) (children nat_eq world.mounts mount.number) x
     later in
-    tree_in world names apart namespace depth from.0 (child_in world names apart namespace mount is from.0 from.1) x from.2)
+    tree_in world names apart namespace depth from.0
+    (child_in world names apart namespace mount is from.0 from.1) x from.2)
     m
 
 named_are_in : (world : World ℕ) (names : List TaskName) (apart : IsApart world names) (namespace number : ℕ)
@@ -481,7 +486,8 @@ named_are_in world names apart namespace number placed recursive mount m = by re
     by false n = ⊎_elim (λ e. subst (IsIn world namespace) (sym e) first) (λ none. absurd none) n
 
 module _ (world : World ℕ) (fresh : Fresh ℕ) (names : List TaskName) (name : TaskName) (call : Call)
-    (task : Task ℕ) (outsider : IsOutsidersCall world fresh names name call) (called : task_called world name ≡ Some task)
+    (task : Task ℕ) (outsider : IsOutsidersCall world fresh names name call)
+    (called : task_called world name ≡ Some task)
     (number : ℕ) (word : TypeWord) (recursive : Bool)
     (judged : judge_in nat_eq fresh world task call ≡ Ok (ToSetType number word recursive)) where
   apart_before : IsApart world names
@@ -530,7 +536,8 @@ module _ (world : World ℕ) (fresh : Fresh ℕ) (names : List TaskName) (name :
   last_master = (settled nat_eq done).master
 
   abbrev changes : Mount ℕ → Mount ℕ
-  changes = change world names apart_before fresh outsider.serves task.namespace outside its_group its_new word its_named
+  changes =
+      change world names apart_before fresh outsider.serves task.namespace outside its_group its_new word its_named
       its_named_in has_lost
 
   done_mounts : done.mounts ≡ map changes world.mounts
@@ -582,7 +589,8 @@ module _ (world : World ℕ) (fresh : Fresh ℕ) (names : List TaskName) (name :
   type_leaves : LeavesApart world (settled nat_eq done) names []
   type_leaves =
       subst (λ w. LeavesApart world w names []) (sym swept)
-      (retyping_leaves_apart world names apart_before fresh outsider.serves task.namespace outside its_group its_new word
+      (retyping_leaves_apart world names apart_before fresh outsider.serves task.namespace outside its_group its_new
+      word
       its_named its_named_in has_lost last_master taken_or_not theirs_stay_there)
 
 by_type : (world : World ℕ) (fresh : Fresh ℕ) (names : List TaskName) (name : TaskName) (call : Call)

@@ -66,7 +66,8 @@ module _ (world : World ℕ) (is : IsWorld nat_eq world) (task : Task ℕ) (ther
   pub directory_ground : OnGround task.directory
   directory_ground = ⊎_elim inl (λ none. inr (none, inr refl)) (seen task.directory stood.1)
 
-  pub start_ground : (directory : Location ℕ) (text : List ℕ) → OnGround directory → OnGround (start_of task directory text)
+  pub start_ground : (directory : Location ℕ) (text : List ℕ) → OnGround directory
+      → OnGround (start_of task directory text)
   start_ground directory text ground = by (is_absolute text)
     where
       by : (b : Bool) → OnGround (cond b task.root directory)
@@ -169,7 +170,8 @@ module _ (world : World ℕ) (is : IsWorld nat_eq world) (task : Task ℕ) (ther
   step_ground here next Dot ground e = let same : here ≡ next = cc in subst OnGround same ground
   step_ground here next DotDot ground e =
       up_ground (last_or here (hops nat_eq (looks_of nat_eq world) task here)) next
-      (chain_ends OnGround (hop nat_eq (looks_of nat_eq world) task) hop_ground (length world.mounts) here here ground) e
+      (chain_ends OnGround (hop nat_eq (looks_of nat_eq world) task) hop_ground (length world.mounts) here here ground)
+      e
   step_ground here next (Named name) ground e =
       by (entry_location nat_eq (looks_of nat_eq world) here name) refl e
     where
@@ -198,7 +200,8 @@ module _ (world : World ℕ) (is : IsWorld nat_eq world) (task : Task ℕ) (ther
   way_ground here end path_words passed (arrives at) ground = ground
   way_ground here end path_words passed (goes_on at next last word rest walked e plain way) ground =
       way_ground next last rest walked way (step_ground at next (last_word word) ground e)
-  way_ground here end path_words passed (follows at link inside last word text rest in_text walked e linked text_way way)
+  way_ground here end path_words passed (follows at link inside last word text rest in_text walked e linked text_way
+      way)
       ground =
       way_ground inside last rest walked way
       (way_ground (start_of task at text) inside (words text) in_text text_way (start_ground at text ground))

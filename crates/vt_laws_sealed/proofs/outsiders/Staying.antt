@@ -33,7 +33,8 @@ IsOfTheWorld world names number =
     (is_among nat_eq number (map (λ (filesystem : Filesystem ℕ). filesystem.number) world.filesystems) ≡ true)
     ⊎ Among number (used_filesystems nat_eq world names)
 
--- what a call leaves before change numbers are raised: others are where they were, or elsewhere, but not where the set is
+-- what a call leaves before change numbers are raised: others are where they were, or elsewhere, but not where the set
+-- is
 pub record OthersStayOut (world left : World ℕ) (names : List TaskName) : Type 0 where
   pub tasks : holds_all_tasks nat_eq left names ≡ true
   pub events : shares_no_events nat_eq left names ≡ true
@@ -148,7 +149,8 @@ pub free_from : (world left : World ℕ) (names : List TaskName) → overlays le
     → (number : ℕ) → IsOfTheWorld world names number → used_alone nat_eq world names number ≡ true
     → used_alone nat_eq left names number ≡ true
 free_from world left names same fewer number of alone =
-    let parts = and_parts (no_outsider_on nat_eq world names number) (list_all (free_in world) (overlays world)) alone in
+    let parts = and_parts (no_outsider_on nat_eq world names number)
+    (list_all (free_in world) (overlays world)) alone in
     and_from (no_outsider_on nat_eq left names number) (list_all (free_in left) (overlays left))
     (fewer number of parts.0)
     (ap (list_all (free_in left)) same

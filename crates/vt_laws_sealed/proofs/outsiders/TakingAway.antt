@@ -31,7 +31,8 @@ use Rattle.vt_laws_sealed.proofs.outsiders.Staying.{LeavesApart}
 use Rattle.vt_laws_sealed.proofs.outsiders.Sweeping.{sweeping_leaves_apart}
 
 -- Mounts of others go, and others may be elsewhere. Each mount that goes is in a namespace of others.
-module _ (world : World ℕ) (names : List TaskName) (apart : IsApart world names) (sealed_off : sealed nat_eq world names ≡ true)
+module _ (world : World ℕ) (names : List TaskName) (apart : IsApart world names)
+    (sealed_off : sealed nat_eq world names ≡ true)
     (fresh : Fresh ℕ) (serves : Serves nat_eq world fresh) (task : Task ℕ) (there : Among task world.tasks)
     (tasks : List (Task ℕ)) (namespaces : List (Namespace ℕ)) (moved : OthersMove world names tasks namespaces)
     (gone : List ℕ)

@@ -211,7 +211,8 @@ module _ (world : World ℕ) (fresh : Fresh ℕ) (names : List TaskName) (name :
   unmount_leaves : LeavesApart world (settled nat_eq (apply nat_eq fresh world task (ToUnmount number)).world) names []
   unmount_leaves =
       subst (λ w. LeavesApart world (settled nat_eq w) names []) same_world
-      (taking_leaves_apart world names set_apart outsider.sealed_off fresh outsider.serves task task_is_there world.tasks
+      (taking_leaves_apart world names set_apart outsider.sealed_off fresh outsider.serves task task_is_there
+      world.tasks
       world.namespaces (others_rest world names set_apart) gone
       (others_go world names set_apart task task_is_there task.namespace
       (namespace_outside world names set_apart task (caller_outside world fresh names name call task outsider called))

@@ -1,0 +1,217 @@
+-- What a set of tasks sees is there, where it sees the same: mounts, filesystems and lower layers.
+use Rattle.std.proofs.Common.{◌≡◌, refl, sym, ap, subst, ◌∙◌, ◌⊎◌, ⊎_elim, ℕ, nat_eq, Bool, true, false, cond, true≢false, List, [], ◌++◌, Option, Some, None, filter, find, flat_map, map, ◌&&◌, ◌||◌, eqb-true}
+use Rattle.std.specs.Prelude.{option_to_list, unwrap_or}
+use Rattle.std.specs.List.{filter_map, list_any}
+use Rattle.vt_spec.specs.FileTree.{FileTree, is_under}
+use Rattle.vt_spec.specs.Language.Calls.{TaskName}
+use Rattle.std.proofs.lemmas.Option.{same_Some}
+use Rattle.vt_spec.specs.Lists.{is_among, when}
+use Rattle.vt_spec.specs.Machine.Locked.{of_overlay, overlay_or}
+use Rattle.vt_spec.specs.Machine.Mounts.{Mount}
+use Rattle.vt_spec.specs.Machine.Sealed.{change_layers, is_at, is_own_mount, locations, members, own_lowers, own_mounts, part_of, roots_and_directories, seen_by_descriptor, used_directly, used_filesystems}
+use Rattle.vt_spec.specs.Machine.Settled.{only_among}
+use Rattle.vt_spec.specs.Machine.World.{Filesystem, Layer, Overlay, Task, World, filesystem_numbered, layers_of, no_filesystem}
+use Rattle.vt_spec.proofs.Found.{found_among, found_passes}
+use Rattle.vt_spec.proofs.Lists.{Among, among-append_left, among-append_right, among-filter_map, among-from_filter, among-from_filter_map, among-from_flat_map, among-from_map}
+use Rattle.vt_spec.proofs.Options.{none_is_some}
+use Rattle.vt_laws_part.specs.Parts.{SeesTheSame, shown_of}
+use Rattle.vt_laws_part.proofs.part.Observed.{own_mounts_same}
+use Rattle.vt_laws_part.proofs.part.PartOfPart.{is_own, keep, kept_how, used_directly_used}
+
+-- A filesystem that is used is whole in a part, and so it is there where the part is the same.
+module _ (used : List ℕ) (lowers : List (Layer ℕ)) where
+  abbrev pub lowered_by : FileTree ℕ → Filesystem ℕ → Filesystem ℕ
+  lowered_by files x = record x {
+    files = only_among nat_eq
+        (filter (λ object. list_any (λ (layer : Layer ℕ). nat_eq x.number layer.filesystem
+        && is_under nat_eq files layer.directory object) lowers) x.files.numbers) x.files;
+    change = 0;
+  }
+
+  pub shown_is : (a : World ℕ) (y x : Filesystem ℕ) → is_among nat_eq x.number used ≡ true
+      → shown_of a used lowers y ≡ Some x → y ≡ x
+  shown_is a y x is e =
+      by (is_among nat_eq y.number used) refl
+      (list_any (λ (layer : Layer ℕ). nat_eq y.number layer.filesystem) lowers) e
+    where
+      by : (b : Bool) → is_among nat_eq y.number used ≡ b → (c : Bool)
+          → cond b (Some y) (when c (lowered_by (filesystem_numbered nat_eq a y.number).files y)) ≡ Some x → y ≡ x
+      by true f c h = same_Some y x h
+      by false f true h =
+          absurd (true≢false (sym is
+          ∙ ap (λ (z : Filesystem ℕ). is_among nat_eq z.number used)
+          (sym (same_Some (lowered_by (filesystem_numbered nat_eq a y.number).files y) x h)) ∙ f))
+      by false f false h = none_is_some x h
+
+  pub used_across : (a b : World ℕ)
+      → filter_map (shown_of a used lowers) a.filesystems ≡ filter_map (shown_of b used lowers) b.filesystems
+      → (x : Filesystem ℕ) → Among x a.filesystems → is_among nat_eq x.number used ≡ true → Among x b.filesystems
+  used_across a b same x m is =
+      let shown : shown_of a used lowers x ≡ Some x =
+      ap (λ c. cond c (Some x) (when (list_any (λ (layer : Layer ℕ). nat_eq x.number layer.filesystem) lowers)
+      (lowered_by (filesystem_numbered nat_eq a x.number).files x))) is in
+      let from = among-from_filter_map (shown_of b used lowers) b.filesystems x
+      (subst (Among x) same (among-filter_map (shown_of a used lowers) a.filesystems x x m shown)) in
+      subst (λ z. Among z b.filesystems) (shown_is b from.0 x is from.2) from.1
+
+-- a mount at a location of theirs is in the part, whole or as a descriptor shows it
+pub shown_at : (world : World ℕ) (names : List TaskName) (mount : Mount ℕ)
+    → is_at nat_eq (locations (members world names)) mount ≡ true
+    → (shown : Mount ℕ) × (keep world names (members world names) mount ≡ Some shown)
+shown_at world names mount at =
+    either (is_own world names (members world names) mount
+    || is_at nat_eq (roots_and_directories (members world names)) mount)
+  where
+    either : (b : Bool) → (shown : Mount ℕ) × (cond b (Some mount)
+        (when (is_at nat_eq (locations (members world names)) mount) (seen_by_descriptor mount)) ≡ Some shown)
+    either true = (mount, refl)
+    either false = (seen_by_descriptor mount, ap (λ b. when b (seen_by_descriptor mount)) at)
+
+-- an upper or work layer of theirs is one of an overlay that is there
+pub changed_of : (world : World ℕ) (names : List TaskName) (number : ℕ)
+    → Among number (flat_map (λ n. change_layers (filesystem_numbered nat_eq world n))
+    (used_directly nat_eq world names))
+    → (merged : Filesystem ℕ) × Among merged world.filesystems × Among merged.number (used_directly nat_eq world names)
+    × (layer : Layer ℕ) × Among layer (of_overlay [] layers_of merged) × (number ≡ layer.filesystem)
+changed_of world names number m =
+    let from = among-from_flat_map (λ n. change_layers (filesystem_numbered nat_eq world n))
+    (used_directly nat_eq world names) number m in
+    by from.0 from.1 (find (λ (f : Filesystem ℕ). nat_eq from.0 f.number) world.filesystems) refl from.2
+  where
+    up : (o : Option (Overlay ℕ))
+        → Among number (overlay_or [] (λ overlay. map (λ (layer : Layer ℕ). layer.filesystem)
+        (option_to_list overlay.upper ++ option_to_list overlay.work)) o)
+        → (layer : Layer ℕ) × Among layer (overlay_or [] layers_of o) × (number ≡ layer.filesystem)
+    up None h = absurd h
+    up (Some overlay) h =
+        let layer = among-from_map (λ (layer : Layer ℕ). layer.filesystem)
+        (option_to_list overlay.upper ++ option_to_list overlay.work) number h in (
+          layer.0,
+          among-append_left (option_to_list overlay.upper ++ option_to_list overlay.work) overlay.lowers layer.0
+              layer.1,
+          layer.2,
+        )
+
+    by : (k : ℕ) → Among k (used_directly nat_eq world names) → (o : Option (Filesystem ℕ))
+        → find (λ (f : Filesystem ℕ). nat_eq k f.number) world.filesystems ≡ o
+        → Among number (change_layers (unwrap_or
+        (find (λ (f : Filesystem ℕ). nat_eq k f.number) world.filesystems) (no_filesystem k)))
+        → (merged : Filesystem ℕ) × Among merged world.filesystems
+        × Among merged.number (used_directly nat_eq world names)
+        × (layer : Layer ℕ) × Among layer (of_overlay [] layers_of merged) × (number ≡ layer.filesystem)
+    by k direct None e h = absurd (subst (λ o. Among number (change_layers (unwrap_or o (no_filesystem k)))) e h)
+    by k direct (Some merged) e h =
+        let layer = up merged.overlay
+        (subst (λ o. Among number (change_layers (unwrap_or o (no_filesystem k)))) e h) in (
+          merged,
+          found_among (λ (f : Filesystem ℕ). nat_eq k f.number) world.filesystems merged e,
+          subst (λ n. Among n (used_directly nat_eq world names))
+              (eqb-true k merged.number
+              (found_passes (λ (f : Filesystem ℕ). nat_eq k f.number) world.filesystems merged e)) direct,
+          layer.0,
+          layer.1,
+          layer.2,
+        )
+
+-- What a set sees that is there: each mount that the part has, and each filesystem that the set uses.
+module _ (world later : World ℕ) (names : List TaskName) (sees : SeesTheSame world later names) where
+  abbrev theirs : List (Task ℕ)
+  theirs = members world names
+
+  kept_later : (mount shown : Mount ℕ) → Among mount world.mounts → keep world names theirs mount ≡ Some shown
+      → (there : Mount ℕ) × Among there later.mounts × (keep world names theirs there ≡ Some shown)
+  kept_later mount shown m e =
+      let among : Among shown (part_of nat_eq later names).mounts =
+      subst (Among shown) (sym sees.mounts) (among-filter_map (keep world names theirs) world.mounts mount shown m e) in
+      let from = among-from_filter_map (keep later names (members later names)) later.mounts shown among in
+      (from.0, from.1, ap (λ tasks. keep world names tasks from.0) (sym sees.tasks) ∙ from.2)
+
+  shown_number : (mount shown : Mount ℕ) → keep world names theirs mount ≡ Some shown
+      → (shown.number ≡ mount.number) × (shown.filesystem ≡ mount.filesystem) × (shown.root ≡ mount.root)
+  shown_number mount shown e =
+      ⊎_elim
+      (λ same. (
+        ap (λ (x : Mount ℕ). x.number) (sym same),
+        ap (λ (x : Mount ℕ). x.filesystem) (sym same),
+        ap (λ (x : Mount ℕ). x.root) (sym same),
+      ))
+      (λ stub. (
+        ap (λ (x : Mount ℕ). x.number) (sym stub.0),
+        ap (λ (x : Mount ℕ). x.filesystem) (sym stub.0),
+        ap (λ (x : Mount ℕ). x.root) (sym stub.0),
+      ))
+      (kept_how world names theirs mount shown e)
+
+  -- a mount that the part has is there, with number, filesystem and root
+  pub there_later : (mount shown : Mount ℕ) → Among mount world.mounts → keep world names theirs mount ≡ Some shown
+      → (there : Mount ℕ) × Among there later.mounts × (there.number ≡ mount.number)
+      × (there.filesystem ≡ mount.filesystem) × (there.root ≡ mount.root)
+      × (keep later names (members later names) there ≡ Some shown)
+  there_later mount shown m e =
+      let found = kept_later mount shown m e in
+      let one = shown_number mount shown e in
+      let two = shown_number found.0 shown found.2 in (
+        found.0,
+        found.1,
+        sym two.0 ∙ one.0,
+        sym two.1 ∙ one.1,
+        sym two.2 ∙ one.2,
+        ap (λ tasks. keep world names tasks found.0) sees.tasks ∙ found.2,
+      )
+
+  pub own_later : (mount : Mount ℕ) → Among mount (own_mounts nat_eq world names) → Among mount later.mounts
+  own_later mount m =
+      (among-from_filter (is_own_mount nat_eq later names) later.mounts mount
+      (subst (Among mount) (sym (own_mounts_same world later names sees)) m)).0
+
+  -- a filesystem that they use is there, and was
+  pub used_later : (x : Filesystem ℕ) → Among x world.filesystems
+      → is_among nat_eq x.number (used_filesystems nat_eq world names) ≡ true → Among x later.filesystems
+  used_later =
+      used_across (used_filesystems nat_eq world names) (own_lowers nat_eq world names) world later
+      (sym sees.filesystems)
+
+  pub used_was : (x : Filesystem ℕ) → Among x later.filesystems
+      → is_among nat_eq x.number (used_filesystems nat_eq world names) ≡ true → Among x world.filesystems
+  used_was =
+      used_across (used_filesystems nat_eq world names) (own_lowers nat_eq world names) later world sees.filesystems
+
+  -- a lower layer of theirs is one of an overlay that is there
+  pub lower_of : (layer : Layer ℕ) → Among layer (own_lowers nat_eq world names)
+      → (merged : Filesystem ℕ) × Among merged world.filesystems
+      × (is_among nat_eq merged.number (used_filesystems nat_eq world names) ≡ true)
+      × Among layer (of_overlay [] layers_of merged) × Among merged.number (used_directly nat_eq world names)
+  lower_of layer m =
+      let from = among-from_flat_map
+      (λ n. of_overlay [] (λ (overlay : Overlay ℕ). overlay.lowers) (filesystem_numbered nat_eq world n))
+      (used_directly nat_eq world names) layer m in
+      by from.0 from.1 (find (λ (f : Filesystem ℕ). nat_eq from.0 f.number) world.filesystems) refl from.2
+    where
+      up : (o : Option (Overlay ℕ)) → Among layer (overlay_or [] (λ (overlay : Overlay ℕ). overlay.lowers) o)
+          → Among layer (overlay_or [] layers_of o)
+      up None h = h
+      up (Some overlay) h =
+          among-append_right (option_to_list overlay.upper ++ option_to_list overlay.work) overlay.lowers layer h
+
+      by : (number : ℕ) → Among number (used_directly nat_eq world names) → (o : Option (Filesystem ℕ))
+          → find (λ (f : Filesystem ℕ). nat_eq number f.number) world.filesystems ≡ o
+          → Among layer (of_overlay [] (λ (overlay : Overlay ℕ). overlay.lowers) (unwrap_or
+          (find (λ (f : Filesystem ℕ). nat_eq number f.number) world.filesystems) (no_filesystem number)))
+          → (merged : Filesystem ℕ) × Among merged world.filesystems
+          × (is_among nat_eq merged.number (used_filesystems nat_eq world names) ≡ true)
+          × Among layer (of_overlay [] layers_of merged) × Among merged.number (used_directly nat_eq world names)
+      by number direct None e h =
+          absurd (subst (λ o. Among layer (of_overlay [] (λ (overlay : Overlay ℕ). overlay.lowers)
+          (unwrap_or o (no_filesystem number)))) e h)
+      by number direct (Some merged) e h =
+          let same : number ≡ merged.number =
+          eqb-true number merged.number
+          (found_passes (λ (f : Filesystem ℕ). nat_eq number f.number) world.filesystems merged e) in (
+            merged,
+            found_among (λ (f : Filesystem ℕ). nat_eq number f.number) world.filesystems merged e,
+            used_directly_used world names merged.number
+                (subst (λ n. Among n (used_directly nat_eq world names)) same direct),
+            up merged.overlay (subst (λ o. Among layer (of_overlay [] (λ (overlay : Overlay ℕ). overlay.lowers)
+                (unwrap_or o (no_filesystem number)))) e h),
+            subst (λ n. Among n (used_directly nat_eq world names)) same direct,
+          )
