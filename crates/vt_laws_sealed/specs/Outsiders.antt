@@ -8,7 +8,7 @@ use Rattle.vt_spec.specs.Lists.{Fresh, is_among}
 use Rattle.vt_spec.specs.Machine.Invariants.{IsWorld}
 use Rattle.vt_spec.specs.Machine.Judge.{judge_in}
 use Rattle.vt_spec.specs.Machine.Permits.{Permit}
-use Rattle.vt_spec.specs.Machine.Permits.Permit.{Allowed, ToBind, ToClose, ToEnterNamespace, ToExit, ToFork, ToList, ToListMounts, ToMountPlain, ToOpen, ToPivot, ToRead, ToReadPart, ToSetCredentials, ToSetDirectory, ToSetFlags, ToSetRoot, ToSetType, ToSetUmask, ToStat, ToUnmount}
+use Rattle.vt_spec.specs.Machine.Permits.Permit.{Allowed, ToBind, ToChange, ToClose, ToEnterNamespace, ToExit, ToFork, ToList, ToListMounts, ToMake, ToMountOverlay, ToMountPlain, ToOpen, ToOpenNew, ToPivot, ToRead, ToReadPart, ToRemoveDirectory, ToRename, ToSetCredentials, ToSetDirectory, ToSetFlags, ToSetRoot, ToSetType, ToSetUmask, ToStat, ToUnmount, ToWritePart}
 use Rattle.vt_spec.specs.Machine.Policy.{policy}
 use Rattle.vt_spec.specs.Machine.Run.{Serves}
 use Rattle.vt_spec.specs.Machine.Sealed.{part_of, sealed, used_alone}
@@ -84,6 +84,11 @@ abbrev pub mounts_plain : Permit ℕ → Bool
 mounts_plain (ToMountPlain destination flags) = true
 mounts_plain permit = false
 
+-- an overlay is mounted: mount(2) of an overlay
+abbrev pub mounts_overlays : Permit ℕ → Bool
+mounts_overlays (ToMountOverlay destination overlay flags) = true
+mounts_overlays permit = false
+
 -- types of mounts are set: mount(2) with MS_SHARED, MS_SLAVE, MS_PRIVATE or MS_UNBINDABLE, and with MS_REC
 abbrev pub sets_types : Permit ℕ → Bool
 sets_types (ToSetType mount word recursive) = true
@@ -104,6 +109,22 @@ enters permit = false
 abbrev pub opens_to_read : Permit ℕ → Bool
 opens_to_read (ToOpen file access) = not (opens_for_writing access)
 opens_to_read permit = false
+
+-- files and directories are changed, made, opened and written to: chmod(2), mkdir(2), link(2), unlink(2), open(2),
+-- write(2), pwrite(2)
+abbrev pub changes_files : Permit ℕ → Bool
+changes_files (ToChange location change) = true
+changes_files (ToMake directory name node) = true
+changes_files (ToOpen file access) = true
+changes_files (ToOpenNew directory name node access) = true
+changes_files (ToWritePart file offset bytes) = true
+changes_files permit = false
+
+-- a directory is removed, or a file or directory renamed: rmdir(2), rename(2)
+abbrev pub removes_files : Permit ℕ → Bool
+removes_files (ToRemoveDirectory parent name directory) = true
+removes_files (ToRename from old to new object replaced) = true
+removes_files permit = false
 
 -- another mount becomes the root mount: pivot_root(2)
 abbrev pub pivots : Permit ℕ → Bool

@@ -1,5 +1,5 @@
 //! Calls of tasks outside a sealed set, by the permit that they are given.
-ghost use Rattle.vt_laws_sealed.specs.Outsiders.{LeaveASealedSet, RefusedCallsLeaveASealedSet, binds, changes_nothing, closes, ends_task, enters, enters_namespaces, mounts_plain, opens_to_read, pivots, sets_flags, sets_own_task, sets_types, unmounts};
+ghost use Rattle.vt_laws_sealed.specs.Outsiders.{LeaveASealedSet, RefusedCallsLeaveASealedSet, binds, changes_files, changes_nothing, closes, ends_task, enters, enters_namespaces, mounts_overlays, mounts_plain, opens_to_read, pivots, removes_files, sets_flags, sets_own_task, sets_types, unmounts};
 
 /// In a world with all invariants, with overlays or without, where a set of tasks is sealed off, a call of a task
 /// outside it leaves it sealed off and its part as it was, and gives others no mount, location or layer on a filesystem
@@ -16,11 +16,12 @@ pub fn outsiders_leave_a_sealed_set()
     ensures flags { LeaveASealedSet sets_flags }
 {}
 
-/// So it is of mount(2) with MS_BIND, with MS_REC or without (`binds`), and of a tmpfs (`new_mounts`), whichever mounts
-/// receive a copy: none of theirs does.
+/// So it is of mount(2) with MS_BIND, with MS_REC or without (`binds`), of a tmpfs (`new_mounts`), and of an overlay
+/// (`overlays`), whose layers are where others are. Whichever mounts receive a copy: none of theirs does.
 pub fn outsiders_mount_beside_a_sealed_set()
     ensures binds { LeaveASealedSet binds }
     ensures new_mounts { LeaveASealedSet mounts_plain }
+    ensures overlays { LeaveASealedSet mounts_overlays }
 {}
 
 /// So it is of mount(2) with MS_SHARED, MS_SLAVE, MS_PRIVATE or MS_UNBINDABLE, with MS_REC or without: the groups of the
@@ -53,4 +54,13 @@ pub fn outsiders_leave_namespaces_beside_a_sealed_set()
 /// So it is of umount(2): what the unmount event takes away at receivers is none of the set's.
 pub fn outsiders_unmount_beside_a_sealed_set()
     ensures { LeaveASealedSet unmounts }
+{}
+
+/// So it is of what changes files and directories: chmod(2), chown(2), mkdir(2), symlink(2), mknod(2), link(2), unlink(2),
+/// open(2) with any access, write(2) and pwrite(2), on plain filesystems and through overlays. Others reach nothing that
+/// the set uses, but for what is locked under a lower layer (`changes`). So it is of rmdir(2) and rename(2), with which
+/// mounts go that stand on what is removed, in whatever namespace: none of theirs does (`removals`).
+pub fn outsiders_change_files_beside_a_sealed_set()
+    ensures changes { LeaveASealedSet changes_files }
+    ensures removals { LeaveASealedSet removes_files }
 {}

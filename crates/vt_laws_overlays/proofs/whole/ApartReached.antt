@@ -72,8 +72,7 @@ module _ (fresh : Fresh ℕ) (world : World ℕ) (location : Location ℕ) (chan
     (merge_of nat_eq world (filesystem_at nat_eq world location) overlay upper) change)
     (layer : Layer ℕ)
     (other : ApartLater.IsOther fresh world location change overlay upper conditions is has distinct none asked layer)
-    (same : layer.filesystem ≡ upper.filesystem)
-    (layer_reached : IsReached (filesystem_numbered nat_eq world upper.filesystem).files.tree layer.directory) where
+    (same : layer.filesystem ≡ upper.filesystem) where
   abbrev number : ℕ
   number = ApartLater.number fresh world location change overlay upper conditions is has distinct none asked
 
@@ -98,163 +97,175 @@ module _ (fresh : Fresh ℕ) (world : World ℕ) (location : Location ℕ) (chan
       subst (λ n. IsDirectory (filesystem_numbered nat_eq world n).files.tree layer.directory) same
       (and_true_right _ _ plain)
 
-  there : is_some (before.upper.tree.node layer.directory) ≡ true
-  there = directory_used before.upper.tree layer.directory directory
-
   was_tree : IsTree before.upper.tree
   was_tree = layer_tree world conditions upper upper_plain
 
-  -- it lies under itself, and so not under the upper layer
-  lies_itself : ApartLater.Lies fresh world location change overlay upper conditions is has distinct none asked layer
-      upper.filesystem layer.directory
-  lies_itself =
-      ApartLater.lies_first fresh world location change overlay upper conditions is has distinct none asked layer
-      upper.filesystem layer.directory
-      (ApartLater.led_lies fresh world location change overlay upper conditions is has distinct none asked layer plain
-      upper.filesystem layer.directory (sym same)
-      ([], refl))
+  -- An inode that lies under it does not lie under the upper layer.
+  module _ (inode : ℕ) (there : is_some (before.upper.tree.node inode) ≡ true)
+      (lies : ApartLater.Lies fresh world location change overlay upper conditions is has distinct none asked layer
+      upper.filesystem inode) where
+    not_led : ¬ (ApartLater.LedIn fresh world location change overlay upper conditions is has distinct none asked world
+        upper inode)
+    not_led way =
+        ApartLater.clash fresh world location change overlay upper conditions is has distinct none asked layer other
+        upper.filesystem inode there
+        (ApartLater.lies_first fresh world location change overlay upper conditions is has distinct none asked upper
+        upper.filesystem inode
+        (ApartLater.led_lies fresh world location change overlay upper conditions is has distinct none asked upper
+        upper_plain upper.filesystem inode refl way))
+        lies
 
-  not_led : ¬ (ApartLater.LedIn fresh world location change overlay upper conditions is has distinct none asked world
-      upper layer.directory)
-  not_led way =
-      ApartLater.clash fresh world location change overlay upper conditions is has distinct none asked layer other
-      upper.filesystem layer.directory there
-      (ApartLater.lies_first fresh world location change overlay upper conditions is has distinct none asked upper
-      upper.filesystem layer.directory
-      (ApartLater.led_lies fresh world location change overlay upper conditions is has distinct none asked upper
-      upper_plain upper.filesystem layer.directory refl way))
-      lies_itself
+    -- it is no object of the overlay, and is no new inode
+    apart : (n : ℕ) → upper_object (overlay.real n) ≢ Some inode
+    apart n e = by (overlay.real n) refl e
+      where
+        by : (o : Option (Real ℕ)) → overlay.real n ≡ o → upper_object o ≡ Some inode → ⊥
+        by None r f = none_is_some inode f
+        by (Some (Upper object)) r f =
+            ApartLater.clash fresh world location change overlay upper conditions is has distinct none asked layer other
+            upper.filesystem inode there
+            (object_counts world conditions number overlay is upper has inode
+            (n, r ∙ ap (λ o. Some (Upper o)) (same_Some object inode f)))
+            lies
+        by (Some (Lower depth path)) r f = none_is_some inode f
 
-  -- the upper layer's directory does not lie under it, so it is not the root
-  no_root : before.upper.tree.root ≢ layer.directory
-  no_root root =
-      ApartLater.clash fresh world location change overlay upper conditions is has distinct none asked layer other
-      upper.filesystem upper.directory
-      (ApartLater.directory_there fresh world location change overlay upper conditions is has distinct none asked upper
-      upper_plain)
-      (ApartLater.lies_first fresh world location change overlay upper conditions is has distinct none asked upper
-      upper.filesystem upper.directory
-      (ApartLater.upper_itself fresh world location change overlay upper conditions is has distinct none asked))
-      (ApartLater.lies_first fresh world location change overlay upper conditions is has distinct none asked layer
-      upper.filesystem upper.directory
-      (ApartLater.led_lies fresh world location change overlay upper conditions is has distinct none asked layer plain
-      upper.filesystem upper.directory (sym same) (
-        upper_reached.0,
-        subst (λ n. led (filesystem_numbered nat_eq world n).files.tree layer.directory upper_reached.0
-            ≡ Some upper.directory) (sym same)
-            (subst (λ d. led before.upper.tree d upper_reached.0 ≡ Some upper.directory) root upper_reached.1),
-      )))
-    where
-      upper_reached : IsReached before.upper.tree upper.directory
-      upper_reached = conditions.overlays.uppers_reached number overlay upper is has
+    new : (k : ℕ) → inode ≢ fresh k
+    new k e = true≢false (sym there ∙ ap (λ n. is_some (before.upper.tree.node n)) e
+        ∙ ap is_some (none upper.filesystem k))
 
-  -- it is no object of the overlay, and is no new inode
-  apart : (n : ℕ) → upper_object (overlay.real n) ≢ Some layer.directory
-  apart n e = by (overlay.real n) refl e
-    where
-      by : (o : Option (Real ℕ)) → overlay.real n ≡ o → upper_object o ≡ Some layer.directory → ⊥
-      by None r f = none_is_some layer.directory f
-      by (Some (Upper object)) r f =
-          ApartLater.clash fresh world location change overlay upper conditions is has distinct none asked layer other
-          upper.filesystem layer.directory there
-          (object_counts world conditions number overlay is upper has layer.directory
-          (n, r ∙ ap (λ o. Some (Upper o)) (same_Some object layer.directory f)))
-          lies_itself
-      by (Some (Lower depth path)) r f = none_is_some layer.directory f
+    -- Where a move puts what it moves
+    module _ (f : ℕ) (old : List ℕ) (t : ℕ) (to : List ℕ) (o : ℕ) (moves : Move f old t to o ≡ change) where
+      abbrev two : Merge ℕ
+      two = both_copied fresh stack before f old t to o
 
-  new : (k : ℕ) → layer.directory ≢ fresh k
-  new k e = true≢false (sym there ∙ ap (λ n. is_some (before.upper.tree.node n)) e
-      ∙ ap is_some (none upper.filesystem k))
+      is_asked : IsAskedWell stack before (Move f old t to o)
+      is_asked = subst (IsAskedWell stack before) (sym moves) asked
 
-  -- Where a move puts what it moves
-  module _ (f : ℕ) (old : List ℕ) (t : ℕ) (to : List ℕ) (o : ℕ) (moves : Move f old t to o ≡ change) where
-    abbrev two : Merge ℕ
-    two = both_copied fresh stack before f old t to o
+      IsPlaced : ℕ → Type 0
+      IsPlaced object = ((path : List (List ℕ)) × (led before.upper.tree upper.directory path ≡ Some object))
+          ⊎ IsNewBy fresh object
 
-    is_asked : IsAskedWell stack before (Move f old t to o)
-    is_asked = subst (IsAskedWell stack before) (sym moves) asked
+      module _ (told : (d : ℕ) (w : List ℕ) (y : ℕ) → entry_at two.upper.tree d w ≡ Some y
+          → (entry_at before.upper.tree d w ≡ Some y) ⊎ IsNewBy fresh y) where
+        placed_on : (object : ℕ) (name : List ℕ) (next : ℕ) → IsPlaced object
+            → entry_at two.upper.tree object name ≡ Some next → IsPlaced next
+        unfolding IsPlaced
+        placed_on object name next placed e =
+            ⊎_elim
+            (λ was. ⊎_elim (λ way. inl (
+              way.0
+                  ++ name ∷ [],
+              led-append before.upper.tree upper.directory way.0 name object next way.1 was,
+            ))
+            (λ fresh_one. absurd (true≢false (sym (has_entries before.upper.tree object name next was)
+            ∙ ap (λ n. is_directory_node (before.upper.tree.node n)) fresh_one.1
+            ∙ ap is_directory_node (none upper.filesystem fresh_one.0)))) placed)
+            inr (told object name next e)
 
-    IsPlaced : ℕ → Type 0
-    IsPlaced object = ((path : List (List ℕ)) × (led before.upper.tree upper.directory path ≡ Some object))
-        ⊎ IsNewBy fresh object
+        placed_along : (path : List (List ℕ)) (from object : ℕ) → IsPlaced from
+            → led two.upper.tree from path ≡ Some object → IsPlaced object
+        placed_along [] from object placed e = subst IsPlaced (same_Some from object e) placed
+        placed_along (name ∷ path) from object placed e =
+            let step = Rattle.vt_spec.proofs.Trees.found (λ next. led two.upper.tree next path)
+            (entry_at two.upper.tree from name) object e in
+            placed_along path step.0 object (placed_on from name step.0 placed step.1) step.2
 
-    module _ (told : (d : ℕ) (w : List ℕ) (y : ℕ) → entry_at two.upper.tree d w ≡ Some y
-        → (entry_at before.upper.tree d w ≡ Some y) ⊎ IsNewBy fresh y) where
-      placed_on : (object : ℕ) (name : List ℕ) (next : ℕ) → IsPlaced object
-          → entry_at two.upper.tree object name ≡ Some next → IsPlaced next
+      -- not in its place
+      not_there : entry_at two.upper.tree (upper_of two t) to ≢ Some inode
       unfolding IsPlaced
-      placed_on object name next placed e =
-          ⊎_elim
-          (λ was. ⊎_elim (λ way. inl (
-            way.0
-                ++ name ∷ [],
-            led-append before.upper.tree upper.directory way.0 name object next way.1 was,
-          ))
-          (λ fresh_one. absurd (true≢false (sym (has_entries before.upper.tree object name next was)
-          ∙ ap (λ n. is_directory_node (before.upper.tree.node n)) fresh_one.1
-          ∙ ap is_directory_node (none upper.filesystem fresh_one.0)))) placed)
-          inr (told object name next e)
+      not_there e =
+          let ready = twice fresh stack before
+          (ApartLater.whole fresh world location change overlay upper conditions is has distinct none asked) distinct
+          (none upper.filesystem) f old t to o is_asked.0 in
+          let way = ready.may.reached in
+          ⊎_elim not_led (λ fresh_one. new fresh_one.0 fresh_one.1)
+          (placed_along ready.names (way.0 ++ to ∷ []) upper.directory inode (inl ([], refl))
+          (led-append two.upper.tree upper.directory way.0 to (upper_of two t) inode
+          (up_there stack two ready.whole t (upper_of two t) (upper_real two t ready.to) way.0 way.1) e))
 
-      placed_along : (path : List (List ℕ)) (from object : ℕ) → IsPlaced from
-          → led two.upper.tree from path ≡ Some object → IsPlaced object
-      placed_along [] from object placed e = subst IsPlaced (same_Some from object e) placed
-      placed_along (name ∷ path) from object placed e =
-          let step = Rattle.vt_spec.proofs.Trees.found (λ next. led two.upper.tree next path)
-          (entry_at two.upper.tree from name) object e in
-          placed_along path step.0 object (placed_on from name step.0 placed step.1) step.2
+      spared : (m : Merge ℕ) → two ≡ m
+          → Rattle.vt_spec.specs.Tree.entry_named to
+          (entries_in ((without_contents nat_eq m.upper (upper_directory_named m t to)).tree.node
+          (upper_of m t))) ≢ Some inode
+      spared m copied e =
+          ⊎_elim (λ entry. not_there (ap (λ (x : Merge ℕ). entry_at x.upper.tree (upper_of x t) to) copied ∙ entry))
+          (λ nothing. nothing)
+          (told_emptied (λ y. ⊥) m.upper (upper_directory_named m t to) (upper_of m t) to inode e)
 
-    -- not in its place
-    not_there : entry_at two.upper.tree (upper_of two t) to ≢ Some layer.directory
-    unfolding IsPlaced
-    not_there e =
-        let ready = twice fresh stack before
-        (ApartLater.whole fresh world location change overlay upper conditions is has distinct none asked) distinct
-        (none upper.filesystem) f old t to o is_asked.0 in
-        let way = ready.may.reached in
-        ⊎_elim not_led (λ fresh_one. new fresh_one.0 fresh_one.1)
-        (placed_along ready.names (way.0 ++ to ∷ []) upper.directory layer.directory (inl ([], refl))
-        (led-append two.upper.tree upper.directory way.0 to (upper_of two t) layer.directory
-        (up_there stack two ready.whole t (upper_of two t) (upper_real two t ready.to) way.0 way.1) e))
+    -- so nothing of its inode changes
+    pub inode_stays : merge.upper.tree.node inode ≡ before.upper.tree.node inode
+    inode_stays =
+        changes_keep_so before.files (overlay_tree world conditions number overlay is)
+        (overlay_numbers world conditions number overlay is)
+        inode (before.upper.tree.node inode) fresh new stack overlay.real before.upper
+        (record { here = refl; apart = apart; root = root_is_upper world conditions number overlay is upper has })
+        (λ x. x ≡ before.upper.tree.node inode) (λ x e. e) change
+        (λ f old t to o moves moved_real moved_upper copied fine from_up to_up object_up.
+        moved_leaves before.files (overlay_tree world conditions number overlay is)
+        (overlay_numbers world conditions number overlay is)
+        inode (before.upper.tree.node inode) (odds (odds fresh))
+        (λ k. new (2 * (2 * k + 1) + 1)) stack moved_real moved_upper fine
+        f old t to o from_up to_up object_up
+        (spared f old t to o moves (record { files = before.files; real = moved_real; upper = moved_upper }) copied))
+        (WholeLater.spoken stack before change (overlay_tree world conditions number overlay is) asked)
+        (from_too world conditions number overlay is upper has)
 
-    spared : (m : Merge ℕ) → two ≡ m
-        → Rattle.vt_spec.specs.Tree.entry_named to
-        (entries_in ((without_contents nat_eq m.upper (upper_directory_named m t to)).tree.node
-        (upper_of m t))) ≢ Some layer.directory
-    spared m copied e =
-        ⊎_elim (λ entry. not_there (ap (λ (x : Merge ℕ). entry_at x.upper.tree (upper_of x t) to) copied ∙ entry))
-        (λ nothing. nothing)
-        (told_emptied (λ y. ⊥) m.upper (upper_directory_named m t to) (upper_of m t) to layer.directory e)
-
-  -- so nothing of its inode changes
-  inode_stays : merge.upper.tree.node layer.directory ≡ before.upper.tree.node layer.directory
-  inode_stays =
-      changes_keep_so before.files (overlay_tree world conditions number overlay is)
-      (overlay_numbers world conditions number overlay is)
-      layer.directory (before.upper.tree.node layer.directory) fresh new stack overlay.real before.upper
-      (record { here = refl; apart = apart; root = root_is_upper world conditions number overlay is upper has })
-      (λ x. x ≡ before.upper.tree.node layer.directory) (λ x e. e) change
-      (λ f old t to o moves moved_real moved_upper copied fine from_up to_up object_up.
-      moved_leaves before.files (overlay_tree world conditions number overlay is)
-      (overlay_numbers world conditions number overlay is)
-      layer.directory (before.upper.tree.node layer.directory) (odds (odds fresh))
-      (λ k. new (2 * (2 * k + 1) + 1)) stack moved_real moved_upper fine
-      f old t to o from_up to_up object_up
-      (spared f old t to o moves (record { files = before.files; real = moved_real; upper = moved_upper }) copied))
-      (WholeLater.spoken stack before change (overlay_tree world conditions number overlay is) asked)
-      (from_too world conditions number overlay is upper has)
-
-  pub still_reached : IsReached merge.upper.tree layer.directory
-  still_reached =
-      let goes = ApartLater.goes fresh world location change overlay upper conditions is has distinct none asked in
-      ⊎_elim (λ root. absurd (no_root root))
-      (λ named. stays_named before.upper merge.upper was_tree goes.good.tree
-      (goes.own_parents own) layer.directory directory inode_stays named)
-      (reached_named before.upper.tree layer.directory layer_reached)
+  -- The directory of the layer
+  module _ (layer_reached : IsReached (filesystem_numbered nat_eq world upper.filesystem).files.tree layer.directory)
     where
-      own : HasOwnParents before.upper.tree
-      own =
-          ⊎_elim (λ parents. parents)
-          (λ missing. absurd (true≢false
-          (sym there ∙ ap (λ (x : Filesystem ℕ). is_some (x.files.tree.node layer.directory)) missing.0)))
-          (numbered_all (λ (x : Filesystem ℕ). HasOwnParents x.files.tree) upper.filesystem world.filesystems
-          conditions.files.own_parents)
+      there_itself : is_some (before.upper.tree.node layer.directory) ≡ true
+      there_itself = directory_used before.upper.tree layer.directory directory
+
+      -- it lies under itself
+      lies_itself : ApartLater.Lies fresh world location change overlay upper conditions is has distinct none asked
+          layer
+          upper.filesystem layer.directory
+      lies_itself =
+          ApartLater.lies_first fresh world location change overlay upper conditions is has distinct none asked layer
+          upper.filesystem layer.directory
+          (ApartLater.led_lies fresh world location change overlay upper conditions is has distinct none asked layer
+          plain
+          upper.filesystem layer.directory (sym same)
+          ([], refl))
+
+      -- the upper layer's directory does not lie under it, so it is not the root
+      no_root : before.upper.tree.root ≢ layer.directory
+      no_root root =
+          ApartLater.clash fresh world location change overlay upper conditions is has distinct none asked layer other
+          upper.filesystem upper.directory
+          (ApartLater.directory_there fresh world location change overlay upper conditions is has distinct none asked
+          upper
+          upper_plain)
+          (ApartLater.lies_first fresh world location change overlay upper conditions is has distinct none asked upper
+          upper.filesystem upper.directory
+          (ApartLater.upper_itself fresh world location change overlay upper conditions is has distinct none asked))
+          (ApartLater.lies_first fresh world location change overlay upper conditions is has distinct none asked layer
+          upper.filesystem upper.directory
+          (ApartLater.led_lies fresh world location change overlay upper conditions is has distinct none asked layer
+          plain
+          upper.filesystem upper.directory (sym same) (
+            upper_reached.0,
+            subst (λ n. led (filesystem_numbered nat_eq world n).files.tree layer.directory upper_reached.0
+                ≡ Some upper.directory) (sym same)
+                (subst (λ d. led before.upper.tree d upper_reached.0 ≡ Some upper.directory) root upper_reached.1),
+          )))
+        where
+          upper_reached : IsReached before.upper.tree upper.directory
+          upper_reached = conditions.overlays.uppers_reached number overlay upper is has
+
+      pub still_reached : IsReached merge.upper.tree layer.directory
+      still_reached =
+          let goes = ApartLater.goes fresh world location change overlay upper conditions is has distinct none asked in
+          ⊎_elim (λ root. absurd (no_root root))
+          (λ named. stays_named before.upper merge.upper was_tree goes.good.tree
+          (goes.own_parents own) layer.directory directory
+          (inode_stays layer.directory there_itself lies_itself) named)
+          (reached_named before.upper.tree layer.directory layer_reached)
+        where
+          own : HasOwnParents before.upper.tree
+          own =
+              ⊎_elim (λ parents. parents)
+              (λ missing. absurd (true≢false
+              (sym there_itself ∙ ap (λ (x : Filesystem ℕ). is_some (x.files.tree.node layer.directory)) missing.0)))
+              (numbered_all (λ (x : Filesystem ℕ). HasOwnParents x.files.tree) upper.filesystem world.filesystems
+              conditions.files.own_parents)

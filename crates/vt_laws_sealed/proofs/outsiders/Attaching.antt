@@ -15,6 +15,7 @@ use Rattle.vt_spec.specs.Machine.Mounts.Propagation.{Private, Shared, Slave, Unb
 use Rattle.vt_spec.specs.Machine.Receives.{groups_up, has_members, is_member_of, receivers, receives, slave_of_heir}
 use Rattle.vt_spec.specs.Machine.Run.{Serves}
 use Rattle.vt_spec.specs.Machine.Sealed.{is_at, is_member_task, is_own_mount, is_own_namespace, locations, master_of, members, no_outsider_on, other_mounts, outsiders, own_mounts, roots_and_directories, seen_by_descriptor, shares_no_events}
+use Rattle.vt_spec.specs.Machine.Settled.{has_layer_on}
 use Rattle.vt_spec.specs.Machine.Types.{master_after}
 use Rattle.vt_spec.specs.Machine.World.{Filesystem, Task, World, all_locations, locations_of, mount_at}
 use Rattle.vt_spec.proofs.Found.{found_among, found_passes}
@@ -32,7 +33,7 @@ use Rattle.vt_laws_part.proofs.part.Observed.{own_mounts_same}
 use Rattle.vt_laws_part.proofs.part.PartOfPart.{is_own, keep}
 use Rattle.vt_laws_sealed.proofs.outsiders.Filesystems.{not_of_the_world}
 use Rattle.vt_laws_sealed.proofs.outsiders.OtherMounts.{Foreign, HearsGroup, events_stay_apart, foreign_above, is_other, located_there, member_not_new, not_own, not_stood_on, number_not_new, other_hears_foreign}
-use Rattle.vt_laws_sealed.proofs.outsiders.Staying.{IsOfTheWorld, LeavesApart, free_from}
+use Rattle.vt_laws_sealed.proofs.outsiders.Staying.{IsOfTheWorld, LeavesApart, free_with}
 
 -- a list of which nothing is kept
 none_kept : {A B : Type 0} (k : A → Option B) (xs : List A) → ((x : A) → Among x xs → k x ≡ None)
@@ -96,7 +97,10 @@ OriginOf world fresh names origin =
 module _ (world : World ℕ) (names : List TaskName) (apart : IsApart world names) (fresh : Fresh ℕ)
     (serves : Serves nat_eq world fresh) (filesystems : List (Filesystem ℕ))
     (sees_base : SeesTheSame world (record world { filesystems = filesystems }) names)
-    (same_overlays : overlays (record world { filesystems = filesystems }) ≡ overlays world)
+    (more : List (Filesystem ℕ))
+    (grown : overlays (record world { filesystems = filesystems }) ≡ overlays world ++ more)
+    (none_there : (merged : Filesystem ℕ) → Among merged more → (number : ℕ)
+    → no_outsider_on nat_eq world names number ≡ true → has_layer_on nat_eq number merged ≡ false)
     (supply : Fresh ℕ) (supplied : (k : ℕ) → (j : ℕ) × (supply k ≡ fresh j)) (place : Location ℕ) (namespace : ℕ)
     (outside : is_own_namespace nat_eq world names namespace ≡ false)
     (placed : (mount_at nat_eq world place).namespace ≡ Some namespace) (mounts : List (Mount ℕ))
@@ -761,7 +765,7 @@ module _ (world : World ℕ) (names : List TaskName) (apart : IsApart world name
           (found_left (λ (x : Mount ℕ). x.namespace) (λ x at. refl) location (of_outsiders location m))
           ∙ among_from_list_all (λ place. not (is_own_mount nat_eq world names (mount_at nat_eq world place)))
           (locations (outsiders world names)) apart.locations location m);
-      free = free_from world left names same_overlays fewer;
+      free = free_with world left names more grown fewer none_there;
     };
     unraised = λ number m. refl;
   }

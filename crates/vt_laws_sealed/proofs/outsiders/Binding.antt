@@ -1,10 +1,11 @@
 -- Binds and new mounts of others: mount(2) with MS_BIND, and with MS_REC, and of a tmpfs.
-use Rattle.std.proofs.Common.{◌≡◌, refl, sym, ap, subst, ◌∙◌, inl, inr, ⊎_elim, ℕ, zero, suc, nat_eq, Bool, true, false, true≢false, List, [], ◌∷◌, ◌++◌, ◌*◌, ◌+◌, Some, Ok, filter, length, not}
+use Rattle.std.proofs.Common.{◌≡◌, refl, sym, ap, subst, ◌∙◌, inl, inr, ⊎_elim, ℕ, zero, suc, nat_eq, Bool, true, false, true≢false, List, [], ◌∷◌, ◌++◌, append-nil, ◌*◌, ◌+◌, Some, Ok, filter, length, not}
 use Rattle.vt_spec.specs.Language.Calls.{Call, MountFlags, TaskName}
 use Rattle.vt_spec.specs.Lists.{Fresh, odds}
 use Rattle.vt_spec.specs.Machine.Apply.{apply, filesystems_changed}
 use Rattle.vt_spec.specs.Machine.Attach.{bind_tree, bindable_children, bindable_tree, bound, stands_under}
 use Rattle.vt_spec.specs.Machine.Judge.{judge_in}
+use Rattle.vt_spec.specs.Machine.Locked.{overlays}
 use Rattle.vt_spec.specs.Machine.Mounts.{Location, Mount, children, is_unbindable}
 use Rattle.vt_spec.specs.Machine.NewMounts.{new_mount, plain_filesystem}
 use Rattle.vt_spec.specs.Machine.Permits.{Permit}
@@ -103,8 +104,9 @@ bind_leaves world fresh names name call task outsider called source place recurs
     (sym (nothing_is_swept world fresh names name call task (ToBind source place recursive) outsider called judged
     (ap takes_uses for.2) (ap sets_type for.2) refl))
     (attaching_leaves_apart world names apart fresh outsider.serves world.filesystems
-    (leaves_apart_itself world fresh names name call outsider).sees refl fresh (λ k. (k, refl)) place task.namespace
-    outside named.2.own (bind_tree nat_eq world source recursive)
+    (leaves_apart_itself world fresh names name call outsider).sees [] (sym (append-nil (overlays world)))
+    (λ merged m number free. absurd m) fresh (λ k. (k, refl)) place task.namespace outside named.2.own
+    (bind_tree nat_eq world source recursive)
     (bind_origins world names apart task.namespace outside fresh source named.1 recursive))
 
 by_bind : (world : World ℕ) (fresh : Fresh ℕ) (names : List TaskName) (name : TaskName) (call : Call)
@@ -140,8 +142,9 @@ plain_leaves world fresh names name call task outsider called place flags judged
     (sym (nothing_is_swept world fresh names name call task (ToMountPlain place flags) outsider called judged
     (ap takes_uses for.1) (ap sets_type for.1) refl))
     (attaching_leaves_apart world names apart fresh outsider.serves (world.filesystems ++ added ∷ [])
-    (larger_sees world names apart fresh outsider.serves added 0 refl refl)
-    (larger_overlays world names apart fresh outsider.serves added 0 refl refl) (odds fresh)
+    (larger_sees world names apart fresh outsider.serves added 0 refl) []
+    (larger_overlays world names apart fresh outsider.serves added 0 refl refl ∙ sym (append-nil (overlays world)))
+    (λ merged m number free. absurd m) (odds fresh)
     (λ k. (2 * k + 1, refl)) place
     task.namespace outside named.own (new_mount added.number added.files.tree.root flags ∷ [])
     (λ origin m. ⊎_elim

@@ -1,5 +1,5 @@
 -- Descriptors of others that are closed: close(2).
-use Rattle.std.proofs.Common.{◌≡◌, refl, sym, ap, subst, ◌∙◌, inl, inr, ⊎_elim, ℕ, nat_eq, Bool, true, false, true≢false, List, [], ◌∷◌, Ok, Some, filter, map, not}
+use Rattle.std.proofs.Common.{◌≡◌, refl, sym, subst, inl, inr, ⊎_elim, ℕ, nat_eq, true, true≢false, List, [], Ok, Some, map, not}
 use Rattle.std.specs.Prelude.{◌==◌}
 use Rattle.vt_spec.specs.Language.Calls.{Call, TaskName}
 use Rattle.vt_spec.specs.Lists.{Fresh}

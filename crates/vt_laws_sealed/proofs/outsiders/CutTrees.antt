@@ -1,5 +1,5 @@
 -- What lies under a directory of a tree lies there, too, once what nothing uses is gone.
-use Rattle.std.proofs.Common.{◌≡◌, refl, sym, ap, subst, ◌∙◌, inl, inr, ⊎_elim, ℕ, nat_eq, Bool, true, false, cond, true≢false, List, [], ◌∷◌, Option, Some, None, filter, is_some, not, ◌&&◌, ◌||◌, eqb-true}
+use Rattle.std.proofs.Common.{◌≡◌, refl, sym, ap, ◌∙◌, inl, inr, ℕ, nat_eq, Bool, true, false, cond, true≢false, List, [], ◌∷◌, Option, Some, None, filter, ◌&&◌, ◌||◌}
 use Rattle.std.specs.Prelude.{option_and_then}
 use Rattle.std.specs.List.{list_any}
 use Rattle.std.proofs.lemmas.Bool.{and_parts}
@@ -99,6 +99,20 @@ module _ (used : List ℕ) (files : FileTree ℕ) (holds : HoldsTree used files)
         (λ h. let way = under_led files conditions.tree top object h in
         led_under cut cut_is.tree top cut_is.numbers directory_kept object (way.0, led_kept way.0 top object way.1))
 
+-- tests that agree
+pub any_alike : (p q : Layer ℕ → Bool) (list : List (Layer ℕ)) → ((x : Layer ℕ) → Among x list → p x ≡ q x)
+    → list_any p list ≡ list_any q list
+any_alike p q [] same = refl
+any_alike p q (x ∷ rest) same =
+    ap (λ b. b || list_any p rest) (same x (inl refl))
+    ∙ ap (λ b. q x || b) (any_alike p q rest (λ y m. same y (inr m)))
+
+pub filter_same : (p q : ℕ → Bool) (xs : List ℕ) → ((x : ℕ) → p x ≡ q x) → filter p xs ≡ filter q xs
+filter_same p q [] same = refl
+filter_same p q (x ∷ xs) same =
+    ap (λ b. cond b (x ∷ filter p xs) (filter p xs)) (same x)
+    ∙ ap (λ l. cond (q x) (x ∷ l) l) (filter_same p q xs same)
+
 -- of two lists of which one has all of the other, the other is left
 filter_within : (p : ℕ → Bool) (used : List ℕ) (xs : List ℕ)
     → ((x : ℕ) → Among x xs → p x ≡ true → is_among nat_eq x used ≡ true)
@@ -136,13 +150,6 @@ module _ (used : List ℕ) (files : FileTree ℕ) (holds : HoldsTree used files)
       let top = tops at.0 at.1 both.0 in
       under_used used files holds conditions at.0.directory top.0 top.1 object both.1
 
-  any_alike : (p q : Layer ℕ → Bool) (list : List (Layer ℕ)) → ((x : Layer ℕ) → Among x list → p x ≡ q x)
-      → list_any p list ≡ list_any q list
-  any_alike p q [] same = refl
-  any_alike p q (x ∷ rest) same =
-      ap (λ b. b || list_any p rest) (same x (inl refl))
-      ∙ ap (λ b. q x || b) (any_alike p q rest (λ y m. same y (inr m)))
-
   lies_same : (object : ℕ) → lies_in (only_among nat_eq used files) object ≡ lies_in files object
   lies_same object =
       any_alike
@@ -157,12 +164,6 @@ module _ (used : List ℕ) (files : FileTree ℕ) (holds : HoldsTree used files)
       by layer m true e =
           let top = tops layer m e in under_same used files holds conditions layer.directory top.0 top.1 object
       by layer m false e = refl
-
-  filter_same : (p q : ℕ → Bool) (xs : List ℕ) → ((x : ℕ) → p x ≡ q x) → filter p xs ≡ filter q xs
-  filter_same p q [] same = refl
-  filter_same p q (x ∷ xs) same =
-      ap (λ b. cond b (x ∷ filter p xs) (filter p xs)) (same x)
-      ∙ ap (λ l. cond (q x) (x ∷ l) l) (filter_same p q xs same)
 
   abbrev chosen : List ℕ
   chosen = filter (lies_in files) files.numbers

@@ -1,5 +1,5 @@
 -- Namespaces of others that end with their last tasks: _exit(2).
-use Rattle.std.proofs.Common.{◌≡◌, refl, sym, ap, subst, ◌∙◌, ◌⊎◌, inl, inr, ⊎_elim, ℕ, nat_eq, Bool, true, false, cond, true≢false, List, [], Option, Some, None, Ok, filter, length, map, not, ◌&&◌, eq-eqb, eqb-true}
+use Rattle.std.proofs.Common.{◌≡◌, refl, sym, ap, subst, ◌∙◌, inl, ℕ, nat_eq, Bool, true, false, true≢false, List, [], Option, Some, None, Ok, filter, map, not, ◌&&◌, eqb-true}
 use Rattle.std.specs.List.{list_any}
 use Rattle.std.proofs.lemmas.Bool.{and_from, false_from_ne_true, not-false}
 use Rattle.vt_spec.specs.Language.Calls.{Call, TaskName, same_name}

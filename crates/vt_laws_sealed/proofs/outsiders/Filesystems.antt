@@ -1,5 +1,5 @@
 -- Filesystems that a set of tasks uses are there, and a new one is none of them.
-use Rattle.std.proofs.Common.{◌≡◌, refl, sym, ap, subst, ◌∙◌, ◌⊎◌, inl, inr, ⊎_elim, ℕ, nat_eq, Bool, true, false, cond, true≢false, List, [], ◌∷◌, ◌++◌, append-nil, Option, Some, None, filter, find, flat_map, is_some, map, not, ◌&&◌, ◌||◌, eq-eqb, eqb-true}
+use Rattle.std.proofs.Common.{◌≡◌, refl, sym, ap, subst, ◌∙◌, inl, ⊎_elim, ℕ, nat_eq, Bool, true, false, cond, true≢false, List, [], ◌∷◌, ◌++◌, append-nil, Option, Some, None, filter, find, flat_map, is_some, map, not, ◌&&◌, ◌||◌, eqb-true}
 use Rattle.std.specs.Prelude.{option_to_list, unwrap_or}
 use Rattle.std.specs.List.{cons_option, filter_map, list_all, list_any}
 use Rattle.std.proofs.lemmas.Bool.{and_parts, false_from_ne_true}
@@ -188,7 +188,7 @@ module _ (world : World ℕ) (names : List TaskName) (apart : IsApart world name
     not_of_the_world number k of e = there_not_new number k (of_the_world_there number of) e
 
     -- With a new filesystem the set sees the same.
-    module _ (added : Filesystem ℕ) (k : ℕ) (numbered : added.number ≡ fresh k) (plain : is_overlay added ≡ false) where
+    module _ (added : Filesystem ℕ) (k : ℕ) (numbered : added.number ≡ fresh k) where
       abbrev larger : World ℕ
       larger = record world { filesystems = world.filesystems ++ added ∷ [] }
 
@@ -273,8 +273,13 @@ module _ (world : World ℕ) (names : List TaskName) (apart : IsApart world name
         namespaces = refl;
       }
 
-      pub larger_overlays : overlays larger ≡ overlays world
-      larger_overlays =
+      pub larger_overlays : is_overlay added ≡ false → overlays larger ≡ overlays world
+      larger_overlays plain =
           filter-append is_overlay world.filesystems (added ∷ [])
           ∙ ap (λ b. filter is_overlay world.filesystems ++ cond b (added ∷ []) []) plain
           ∙ append-nil (filter is_overlay world.filesystems)
+
+      pub larger_with_overlay : is_overlay added ≡ true → overlays larger ≡ overlays world ++ added ∷ []
+      larger_with_overlay merged =
+          filter-append is_overlay world.filesystems (added ∷ [])
+          ∙ ap (λ b. filter is_overlay world.filesystems ++ cond b (added ∷ []) []) merged

@@ -1,5 +1,5 @@
 -- The sweeps of mounts, groups and filesystems take nothing that a sealed set sees.
-use Rattle.std.proofs.Common.{◌≡◌, refl, sym, ap, ◌∙◌, ◌⊎◌, inl, inr, ⊎_elim, ℕ, nat_eq, Bool, true, false, cond, true≢false, List, [], ◌∷◌, ◌++◌, Option, Some, None, filter, find, flat_map, map, not, ◌&&◌, ◌||◌, eq-eqb, eqb-true}
+use Rattle.std.proofs.Common.{◌≡◌, refl, sym, ap, ◌∙◌, inl, inr, ⊎_elim, ℕ, nat_eq, Bool, true, false, cond, true≢false, List, [], ◌∷◌, ◌++◌, Option, Some, None, filter, find, flat_map, map, ◌&&◌, ◌||◌, eq-eqb, eqb-true}
 use Rattle.std.specs.Prelude.{unwrap_or}
 use Rattle.std.specs.List.{cons_option, filter_map, list_any}
 use Rattle.std.proofs.lemmas.Bool.{and_from, false_from_ne_true, or_left, or_right}
@@ -17,7 +17,7 @@ use Rattle.vt_laws_part.specs.Parts.{SeesTheSame, shown_of}
 use Rattle.vt_laws_part.specs.Seals.{IsApart}
 use Rattle.vt_laws_part.proofs.Kept.{among-from_each_once}
 use Rattle.vt_laws_part.proofs.part.DeadMounts.{mounts_kept}
-use Rattle.vt_laws_part.proofs.part.PartOfPart.{located, used_directly_used}
+use Rattle.vt_laws_part.proofs.part.PartOfPart.{used_directly_used}
 use Rattle.vt_laws_sealed.proofs.outsiders.OtherMounts.{located_there}
 use Rattle.vt_laws_sealed.proofs.outsiders.SeenLater.{lowered_by, shown_at, changed_of, there_later, own_later, used_later, lower_of}
 

@@ -67,99 +67,101 @@ module _ (world : World ℕ) (fresh : Fresh ℕ) (names : List TaskName) (name :
     (task : Task ℕ) (outsider : IsOutsidersCall world fresh names name call)
     (called : task_called world name ≡ Some task)
     (number : ℕ) (flags : MountFlags) (judged : judge_in nat_eq fresh world task call ≡ Ok (ToSetFlags number flags))
-    where
-  apart_before : IsApart world names
-  apart_before = apart_if_sealed world names outsider.is outsider.sealed_off
+  where
+    apart_before : IsApart world names
+    apart_before = apart_if_sealed world names outsider.is outsider.sealed_off
 
-  for_remount : (path : List ℕ) × (call ≡ Remount path flags)
-  for_remount = permits_are_for_their_calls fresh world task call (ToSetFlags number flags) judged
+    for_remount : (path : List ℕ) × (call ≡ Remount path flags)
+    for_remount = permits_are_for_their_calls fresh world task call (ToSetFlags number flags) judged
 
-  abbrev old : Mount ℕ
-  old = mount_numbered nat_eq world number
+    abbrev old : Mount ℕ
+    old = mount_numbered nat_eq world number
 
-  placed : old.namespace ≡ Some task.namespace
-  placed =
-      (all_permits_fit world fresh task call (ToSetFlags number flags) outsider.is outsider.serves
-      (ap (task_called world) (sym (name_found world name task called)) ∙ called)
-      (ap mounts_overlay for_remount.1) judged).names
+    placed : old.namespace ≡ Some task.namespace
+    placed =
+        (all_permits_fit world fresh task call (ToSetFlags number flags) outsider.is outsider.serves
+        (ap (task_called world) (sym (name_found world name task called)) ∙ called)
+        (ap mounts_overlay for_remount.1) judged).names
 
-  -- a mount of that number is the one
-  is_old : (mount : Mount ℕ) → Among mount world.mounts → nat_eq number mount.number ≡ true → old ≡ mount
-  is_old mount m e =
-      ap (mount_numbered nat_eq world) (eqb-true number mount.number e)
-      ∙ found_itself world.mounts outsider.is.mounts.one_number mount m
+    -- a mount of that number is the one
+    is_old : (mount : Mount ℕ) → Among mount world.mounts → nat_eq number mount.number ≡ true → old ≡ mount
+    is_old mount m e =
+        ap (mount_numbered nat_eq world) (eqb-true number mount.number e)
+        ∙ found_itself world.mounts outsider.is.mounts.one_number mount m
 
-  same_set : (mount : Mount ℕ) → Among mount world.mounts
-      → replaced_if_same nat_eq (record old { flags = flags }) mount ≡ set world number flags mount
-  same_set mount m =
-      ap (λ n. cond (nat_eq n mount.number) (record old { flags = flags }) mount) (number-mount_in world.mounts number)
-      ∙ by (nat_eq number mount.number) refl
-    where
-      by : (b : Bool) → nat_eq number mount.number ≡ b
-          → cond b (record old { flags = flags }) mount ≡ cond b (record mount { flags = flags }) mount
-      by true e = ap (λ (x : Mount ℕ). record x { flags = flags }) (is_old mount m e)
-      by false e = refl
+    same_set : (mount : Mount ℕ) → Among mount world.mounts
+        → replaced_if_same nat_eq (record old { flags = flags }) mount ≡ set world number flags mount
+    same_set mount m =
+        ap (λ n. cond (nat_eq n mount.number) (record old { flags = flags }) mount)
+        (number-mount_in world.mounts number)
+        ∙ by (nat_eq number mount.number) refl
+      where
+        by : (b : Bool) → nat_eq number mount.number ≡ b
+            → cond b (record old { flags = flags }) mount ≡ cond b (record mount { flags = flags }) mount
+        by true e = ap (λ (x : Mount ℕ). record x { flags = flags }) (is_old mount m e)
+        by false e = refl
 
-  -- what the part has of it is without flags
-  kept_same : (mount : Mount ℕ) → Among mount world.mounts
-      → keep world names (members world names) (set world number flags mount)
-      ≡ keep world names (members world names) mount
-  kept_same mount m = by (nat_eq number mount.number) refl
-    where
-      by : (b : Bool) → nat_eq number mount.number ≡ b
-          → keep world names (members world names) (cond b (record mount { flags = flags }) mount)
-          ≡ keep world names (members world names) mount
-      by true e =
-          let at : mount.namespace ≡ Some task.namespace =
-          ap (λ (x : Mount ℕ). x.namespace) (sym (is_old mount m e)) ∙ placed in
-          let outside = namespace_outside world names apart_before task
-          (caller_outside world fresh names name call task outsider called) in
-          let no : (is_own world names (members world names) mount
-          || is_at nat_eq (roots_and_directories (members world names)) mount) ≡ false =
-          ap (λ b. b || is_at nat_eq (roots_and_directories (members world names)) mount)
-          (not_own world names apart_before task.namespace outside mount m at)
-          ∙ not_stood_on world names apart_before task.namespace outside mount m at in
-          ap (λ b. cond b (Some (record mount { flags = flags }))
-          (when (is_at nat_eq (locations (members world names)) mount) (seen_by_descriptor mount))) no
-          ∙ sym (ap (λ b. cond b (Some mount)
-          (when (is_at nat_eq (locations (members world names)) mount) (seen_by_descriptor mount))) no)
-      by false e = refl
+    -- what the part has of it is without flags
+    kept_same : (mount : Mount ℕ) → Among mount world.mounts
+        → keep world names (members world names) (set world number flags mount)
+        ≡ keep world names (members world names) mount
+    kept_same mount m = by (nat_eq number mount.number) refl
+      where
+        by : (b : Bool) → nat_eq number mount.number ≡ b
+            → keep world names (members world names) (cond b (record mount { flags = flags }) mount)
+            ≡ keep world names (members world names) mount
+        by true e =
+            let at : mount.namespace ≡ Some task.namespace =
+            ap (λ (x : Mount ℕ). x.namespace) (sym (is_old mount m e)) ∙ placed in
+            let outside = namespace_outside world names apart_before task
+            (caller_outside world fresh names name call task outsider called) in
+            let no : (is_own world names (members world names) mount
+            || is_at nat_eq (roots_and_directories (members world names)) mount) ≡ false =
+            ap (λ b. b || is_at nat_eq (roots_and_directories (members world names)) mount)
+            (not_own world names apart_before task.namespace outside mount m at)
+            ∙ not_stood_on world names apart_before task.namespace outside mount m at in
+            ap (λ b. cond b (Some (record mount { flags = flags }))
+            (when (is_at nat_eq (locations (members world names)) mount) (seen_by_descriptor mount))) no
+            ∙ sym (ap (λ b. cond b (Some mount)
+            (when (is_at nat_eq (locations (members world names)) mount) (seen_by_descriptor mount))) no)
+        by false e = refl
 
-  -- events go by types alone
-  abbrev share_by : Propagation ℕ → Propagation ℕ → Bool
-  share_by a b =
-      share_events nat_eq world (record (no_mount 0) { propagation = a }) (record (no_mount 0) { propagation = b })
+    -- events go by types alone
+    abbrev share_by : Propagation ℕ → Propagation ℕ → Bool
+    share_by a b =
+        share_events nat_eq world (record (no_mount 0) { propagation = a }) (record (no_mount 0) { propagation = b })
 
-  events_same : shares_no_events nat_eq (with_mounts world (map (set world number flags) world.mounts)) names
-      ≡ shares_no_events nat_eq world names
-  events_same =
-      let change : Mount ℕ → Mount ℕ = set world number flags in
-      let keeps = set_keeps world number flags in
-      let theirs = own_changed world names apart_before change keeps kept_same world.master in
-      let others = others_changed world names apart_before change keeps kept_same world.master in
-      ap (λ owns. list_all (λ own. list_all (λ other. not (share_events nat_eq world own other))
-      (other_mounts nat_eq (with_mounts world (map change world.mounts)) names)) owns) theirs
-      ∙ ap (λ list. list_all (λ own. list_all (λ other. not (share_events nat_eq world own other)) list)
-      (map change (own_mounts nat_eq world names))) others
-      ∙ all-map_same (λ own. list_all (λ other. not (share_events nat_eq world own other))
-      (map change (other_mounts nat_eq world names)))
-      (λ own. list_all (λ other. not (share_events nat_eq world own other)) (other_mounts nat_eq world names)) change
-      (own_mounts nat_eq world names)
-      (λ own. all-map_same (λ other. not (share_events nat_eq world (change own) other))
-      (λ other. not (share_events nat_eq world own other)) change (other_mounts nat_eq world names)
-      (λ other. ap not (ap (λ kind. share_by kind (change other).propagation) (type_kept world number flags own)
-      ∙ ap (share_by own.propagation) (type_kept world number flags other))))
+    events_same : shares_no_events nat_eq (with_mounts world (map (set world number flags) world.mounts)) names
+        ≡ shares_no_events nat_eq world names
+    events_same =
+        let change : Mount ℕ → Mount ℕ = set world number flags in
+        let keeps = set_keeps world number flags in
+        let theirs = own_changed world names apart_before change keeps kept_same world.master in
+        let others = others_changed world names apart_before change keeps kept_same world.master in
+        ap (λ owns. list_all (λ own. list_all (λ other. not (share_events nat_eq world own other))
+        (other_mounts nat_eq (with_mounts world (map change world.mounts)) names)) owns) theirs
+        ∙ ap (λ list. list_all (λ own. list_all (λ other. not (share_events nat_eq world own other)) list)
+        (map change (own_mounts nat_eq world names))) others
+        ∙ all-map_same (λ own. list_all (λ other. not (share_events nat_eq world own other))
+        (map change (other_mounts nat_eq world names)))
+        (λ own. list_all (λ other. not (share_events nat_eq world own other)) (other_mounts nat_eq world names)) change
+        (own_mounts nat_eq world names)
+        (λ own. all-map_same (λ other. not (share_events nat_eq world (change own) other))
+        (λ other. not (share_events nat_eq world own other)) change (other_mounts nat_eq world names)
+        (λ other. ap not (ap (λ kind. share_by kind (change other).propagation) (type_kept world number flags own)
+        ∙ ap (share_by own.propagation) (type_kept world number flags other))))
 
-  flags_leave : LeavesApart world
-      (settled nat_eq (apply nat_eq fresh world task (ToSetFlags number flags)).world) names []
-  flags_leave =
-      subst (λ w. LeavesApart world w names [])
-      (sym (nothing_is_swept world fresh names name call task (ToSetFlags number flags) outsider called judged
-      (ap takes_uses for_remount.1) (ap sets_type for_remount.1) refl
-      ∙ ap (with_mounts world) (map_alike (replaced_if_same nat_eq (record old { flags = flags }))
-      (set world number flags) world.mounts same_set)))
-      (changing_leaves_apart world names apart_before (set world number flags) (set_keeps world number flags) kept_same
-      world.master (λ group e. refl) (events_same ∙ apart_before.events))
+    flags_leave : LeavesApart world
+        (settled nat_eq (apply nat_eq fresh world task (ToSetFlags number flags)).world) names []
+    flags_leave =
+        subst (λ w. LeavesApart world w names [])
+        (sym (nothing_is_swept world fresh names name call task (ToSetFlags number flags) outsider called judged
+        (ap takes_uses for_remount.1) (ap sets_type for_remount.1) refl
+        ∙ ap (with_mounts world) (map_alike (replaced_if_same nat_eq (record old { flags = flags }))
+        (set world number flags) world.mounts same_set)))
+        (changing_leaves_apart world names apart_before (set world number flags) (set_keeps world number flags)
+        kept_same
+        world.master (λ group e. refl) (events_same ∙ apart_before.events))
 
 by_flags : (world : World ℕ) (fresh : Fresh ℕ) (names : List TaskName) (name : TaskName) (call : Call)
     (task : Task ℕ) → IsOutsidersCall world fresh names name call → task_called world name ≡ Some task

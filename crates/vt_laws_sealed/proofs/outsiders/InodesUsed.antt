@@ -1,5 +1,5 @@
 -- The inodes of a filesystem that a sealed set uses are in use, where the set sees the same.
-use Rattle.std.proofs.Common.{◌≡◌, refl, sym, ap, subst, ◌∙◌, ◌⊎◌, inl, inr, ⊎_elim, ℕ, nat_eq, Bool, true, false, cond, true≢false, List, [], ◌++◌, Option, Some, None, filter, flat_map, is_some, map, not, ◌&&◌, ◌||◌, eq-eqb, eqb-true}
+use Rattle.std.proofs.Common.{◌≡◌, refl, sym, ap, subst, ◌∙◌, inl, inr, ⊎_elim, ℕ, nat_eq, Bool, true, false, cond, true≢false, List, [], ◌++◌, Option, Some, None, filter, flat_map, is_some, map, not, ◌&&◌, ◌||◌, eq-eqb, eqb-true}
 use Rattle.std.specs.Prelude.{option_to_list}
 use Rattle.std.specs.List.{filter_map, list_all, list_any}
 use Rattle.std.proofs.lemmas.Bool.{and_parts, not-true, or_cases, or_left}
@@ -22,7 +22,6 @@ use Rattle.vt_laws_part.specs.Parts.{SeesTheSame}
 use Rattle.vt_laws_part.specs.Seals.{IsApart}
 use Rattle.vt_laws_part.proofs.part.PartOfPart.{is_own, keep, kept_whole, located}
 use Rattle.vt_laws_part.proofs.seals.ByPart.{overlay_without_others, used_are_free}
-use Rattle.vt_laws_sealed.proofs.outsiders.OtherMounts.{located_there}
 use Rattle.vt_laws_sealed.proofs.outsiders.SeenLater.{shown_at, there_later, own_later, used_later}
 
 -- what is in one of three or four lists

@@ -1,5 +1,5 @@
 -- Files that others open to read: open(2) with O_RDONLY.
-use Rattle.std.proofs.Common.{◌≡◌, refl, sym, ap, subst, ◌∙◌, ◌⊎◌, inl, inr, ⊎_elim, ℕ, zero, suc, ◌+◌, nat_eq, nat_lt, Bool, true, false, cond, ◌||◌, true≢false, List, [], ◌∷◌, map, Option, Some, None, Ok, Err, Result, reverse}
+use Rattle.std.proofs.Common.{◌≡◌, refl, sym, subst, ◌∙◌, ◌⊎◌, inl, inr, ⊎_elim, ℕ, zero, suc, ◌+◌, nat_eq, nat_lt, Bool, true, false, cond, ◌||◌, true≢false, List, [], ◌∷◌, map, Option, Some, None, Ok, Err, Result, reverse}
 use Rattle.std.specs.Prelude.{option_map}
 use Rattle.std.proofs.lemmas.Option.{same_Some}
 use Rattle.vt_spec.specs.declared.errors.Deny.{Deny}
@@ -19,7 +19,7 @@ use Rattle.vt_spec.specs.Machine.Permits.Permit.{ToOpen}
 use Rattle.vt_spec.specs.Machine.Settled.{settled}
 use Rattle.vt_spec.specs.Machine.Walking.{Here, LastWord, Place, Stop, final_word, path_text, start_of, symlink_of, then_walk, walk_start, walk_unless}
 use Rattle.vt_spec.specs.Machine.Walking.LastWord.{Dot, DotDot, Named, NoWord}
-use Rattle.vt_spec.specs.Machine.World.{Descriptor, Task, World, task_called}
+use Rattle.vt_spec.specs.Machine.World.{Descriptor, Task, World, task_called, with_task}
 use Rattle.vt_spec.specs.PathText.{ends_in_slash, words}
 use Rattle.vt_spec.proofs.Lists.{Among}
 use Rattle.vt_spec.proofs.Options.{none_is_some}
@@ -34,7 +34,7 @@ use Rattle.vt_laws_calls.proofs.ways.WaysSearched.{IsNamedAt, placed_step}
 use Rattle.vt_laws_calls.proofs.ways.WaysWalked.{path_text_same}
 use Rattle.vt_laws_sealed.specs.Outsiders.{IsOutsidersCall, LeaveASealedSet, opens_to_read}
 use Rattle.vt_laws_sealed.proofs.outsiders.Entering.{apart, ground_outside, old_outside, task_there}
-use Rattle.vt_laws_sealed.proofs.outsiders.OwnTasks.{replacing_leaves_apart}
+use Rattle.vt_laws_sealed.proofs.outsiders.OwnTasks.{IsOutside, replacing_leaves_apart}
 use Rattle.vt_laws_sealed.proofs.outsiders.Standing.{IsGround, directory_ground, searched_ground, start_ground, step_ground, topmost_ground, way_ground}
 use Rattle.vt_laws_sealed.proofs.outsiders.Staying.{LeavesApart, by_permit}
 use Rattle.vt_laws_sealed.proofs.outsiders.Sweeping.{sweeping_leaves_apart}
@@ -177,24 +177,35 @@ module _ (world : World ℕ) (fresh : Fresh ℕ) (names : List TaskName) (name :
       (file_walk_ground world outsider.is task there path) walk found is_there)
   file_reached asked permit granted file access e = absurd cc
 
-  reading_leaves : (file : Location ℕ) → judge_in nat_eq fresh world task call ≡ Ok (ToOpen file ReadOnly)
-      → LeavesApart world (settled nat_eq (apply nat_eq fresh world task (ToOpen file ReadOnly)).world) names []
-  reading_leaves file judged =
-      sweeping_leaves_apart world (apply nat_eq fresh world task (ToOpen file ReadOnly)).world names
-      (apart world fresh names name call task outsider called) outsider.sealed_off refl outsider.is.mounts.one_number []
-      (replacing_leaves_apart world fresh names name call task outsider called (with_descriptor task file ReadOnly)
+  -- a descriptor on it
+  pub descriptor_leaves : (file : Location ℕ) (access : Access) → IsOutside world names file
+      → LeavesApart world (with_task world (with_descriptor task file access)) names []
+  descriptor_leaves file access outside =
+      replacing_leaves_apart world fresh names name call task outsider called (with_descriptor task file access)
       refl refl
       (λ location m. ⊎_elim
       (λ root. old_outside world fresh names name call task outsider called location (inl root))
       (λ rest. ⊎_elim
       (λ directory. old_outside world fresh names name call task outsider called location (inr (inl directory)))
       (λ open_ones. ⊎_elim
-      (λ new. ground_outside world fresh names name call task outsider called location
-      (subst OnGroundHere (sym new) (file_reached call (ToOpen file ReadOnly)
-      (calls_are_granted nat_eq (looks_of nat_eq world) (overfills nat_eq fresh world task) task call
-      (ToOpen file ReadOnly) judged) file ReadOnly refl)))
+      (λ new. subst (IsOutside world names) (sym new) outside)
       (λ old. old_outside world fresh names name call task outsider called location (inr (inr old)))
-      (inserted_at _ task.descriptors location open_ones)) rest) m))
+      (inserted_at _ task.descriptors location open_ones)) rest) m)
+
+  pub open_outside : (file : Location ℕ) (access : Access)
+      → judge_in nat_eq fresh world task call ≡ Ok (ToOpen file access) → IsOutside world names file
+  open_outside file access judged =
+      ground_outside world fresh names name call task outsider called file
+      (file_reached call (ToOpen file access)
+      (calls_are_granted nat_eq (looks_of nat_eq world) (overfills nat_eq fresh world task) task call
+      (ToOpen file access) judged) file access refl)
+
+  reading_leaves : (file : Location ℕ) → judge_in nat_eq fresh world task call ≡ Ok (ToOpen file ReadOnly)
+      → LeavesApart world (settled nat_eq (apply nat_eq fresh world task (ToOpen file ReadOnly)).world) names []
+  reading_leaves file judged =
+      sweeping_leaves_apart world (apply nat_eq fresh world task (ToOpen file ReadOnly)).world names
+      (apart world fresh names name call task outsider called) outsider.sealed_off refl outsider.is.mounts.one_number []
+      (descriptor_leaves file ReadOnly (open_outside file ReadOnly judged))
 
 by_open : (world : World ℕ) (fresh : Fresh ℕ) (names : List TaskName) (name : TaskName) (call : Call)
     (task : Task ℕ) → IsOutsidersCall world fresh names name call → task_called world name ≡ Some task

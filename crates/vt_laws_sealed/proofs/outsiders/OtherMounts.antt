@@ -1,12 +1,12 @@
 -- Mounts of others, and the groups that they hear.
-use Rattle.std.proofs.Common.{◌≡◌, refl, sym, ap, subst, ◌∙◌, ◌⊎◌, inl, inr, ⊎_elim, ℕ, nat_eq, Bool, true, false, true≢false, List, [], ◌∷◌, ◌++◌, Option, Some, None, is_some, flat_map, map, not, ◌&&◌, ◌||◌, eq-eqb, eqb-true}
+use Rattle.std.proofs.Common.{◌≡◌, refl, sym, ap, subst, ◌∙◌, ◌⊎◌, inl, inr, ⊎_elim, ℕ, zero, suc, nat_eq, true, false, true≢false, List, [], ◌∷◌, ◌++◌, Option, Some, None, flat_map, map, not, ◌&&◌, eq-eqb, eqb-true}
 use Rattle.std.specs.Prelude.{option_to_list}
 use Rattle.std.specs.List.{list_all}
 use Rattle.std.proofs.lemmas.Bool.{and_parts, false_from_ne_true, not-true, or_cases}
 use Rattle.vt_spec.specs.Language.Calls.{TaskName}
 use Rattle.vt_spec.specs.Lists.{Fresh, holds_of, is_among}
 use Rattle.vt_spec.specs.Machine.Invariants.{HasLivingGroups, Stands, is_directory_seen_in, is_located_well, is_there, stands_on_directories}
-use Rattle.vt_spec.specs.Machine.Mounts.{Location, Mount, Propagation, children, group_of, source_of, stands_on}
+use Rattle.vt_spec.specs.Machine.Mounts.{Location, Mount, Propagation, children, group_of, source_of, stands_on, tree_from}
 use Rattle.vt_spec.specs.Machine.Mounts.Propagation.{Private, Shared, Slave, Unbindable}
 use Rattle.vt_spec.specs.Machine.Receives.{has_members, is_member_of}
 use Rattle.vt_spec.specs.Machine.Run.{Serves, numbers_in_use, used_by_filesystem, used_by_mount}
@@ -101,6 +101,21 @@ child_in world names apart namespace parent is child m =
         ∙ ap (λ n. (mount_numbered nat_eq world n).namespace) (sym (eqb-true parent.number point.mount h))
         ∙ ap (λ (x : Mount ℕ). x.namespace) (itself parent is.0)
         ∙ is.1
+
+-- so is what stands on it
+pub tree_in : (world : World ℕ) (names : List TaskName) (apart : IsApart world names) (namespace depth : ℕ)
+    (mount : Mount ℕ) → IsIn world namespace mount → (x : Mount ℕ) → Among x (tree_from nat_eq depth world.mounts mount)
+    → IsIn world namespace x
+tree_in world names apart namespace zero mount is x m =
+    ⊎_elim (λ e. subst (IsIn world namespace) (sym e) is) (λ none. absurd none) m
+tree_in world names apart namespace (suc depth) mount is x m =
+    ⊎_elim (λ e. subst (IsIn world namespace) (sym e) is)
+    (λ later.
+    let from = among-from_flat_map (tree_from nat_eq depth world.mounts) (children nat_eq world.mounts mount.number) x
+    later in
+    tree_in world names apart namespace depth from.0
+    (child_in world names apart namespace mount is from.0 from.1) x from.2)
+    m
 
 -- the mount of a location that a task uses is there
 pub located_there : (world : World ℕ) (names : List TaskName) (apart : IsApart world names) (location : Location ℕ)

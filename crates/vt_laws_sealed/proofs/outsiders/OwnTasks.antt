@@ -1,5 +1,5 @@
 -- Calls of others that set something of the task alone, or give it a child.
-use Rattle.std.proofs.Common.{◌≡◌, refl, sym, ap, subst, ◌∙◌, ◌⊎◌, inl, inr, ⊎_elim, ℕ, nat_eq, Bool, true, false, cond, true≢false, List, [], ◌∷◌, ◌++◌, ◌+◌, append-nil, Option, Some, None, Ok, filter, is_some, map, not, ◌&&◌, ◌||◌, arith}
+use Rattle.std.proofs.Common.{◌≡◌, refl, sym, ap, subst, ◌∙◌, ◌⊎◌, inl, inr, ⊎_elim, ℕ, nat_eq, Bool, true, false, cond, true≢false, List, [], ◌∷◌, ◌++◌, ◌+◌, append-nil, Option, Some, None, Ok, filter, is_some, map, not, arith}
 use Rattle.std.specs.List.{filter_map, list_all, list_any}
 use Rattle.std.proofs.lemmas.Bool.{and_from, and_parts, false_from_ne_true, not-true}
 use Rattle.std.proofs.lemmas.List.Elements.{filter-append}

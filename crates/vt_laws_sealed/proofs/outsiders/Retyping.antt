@@ -1,5 +1,5 @@
 -- Types of mounts of others that are set: mount(2) with MS_SHARED, MS_SLAVE, MS_PRIVATE or MS_UNBINDABLE.
-use Rattle.std.proofs.Common.{◌≡◌, refl, sym, ap, subst, ◌∙◌, ◌⊎◌, inl, inr, ⊎_elim, ℕ, zero, suc, nat_eq, Bool, true, false, cond, true≢false, List, [], ◌∷◌, Option, Some, None, Ok, filter, is_some, length, map, not, ◌&&◌, ◌||◌, eq-eqb, eqb-true}
+use Rattle.std.proofs.Common.{◌≡◌, refl, sym, ap, subst, ◌∙◌, ◌⊎◌, inl, inr, ⊎_elim, ℕ, nat_eq, Bool, true, false, cond, true≢false, List, [], ◌∷◌, Option, Some, None, Ok, filter, is_some, length, map, not, ◌&&◌, ◌||◌, eq-eqb, eqb-true}
 use Rattle.std.specs.List.{list_any}
 use Rattle.std.proofs.lemmas.Bool.{and_parts, false_from_ne_true, or_left}
 use Rattle.std.proofs.lemmas.Option.{same_Some}
@@ -10,7 +10,7 @@ use Rattle.vt_spec.specs.Lists.{Fresh, holds_of, when}
 use Rattle.vt_spec.specs.Machine.Apply.{apply, filesystems_changed}
 use Rattle.vt_spec.specs.Machine.Invariants.{is_nowhere_or_attached, is_private}
 use Rattle.vt_spec.specs.Machine.Judge.{judge_in}
-use Rattle.vt_spec.specs.Machine.Mounts.{Mount, Propagation, children, group_of, index_of, numbers_by, source_of, tree_from}
+use Rattle.vt_spec.specs.Machine.Mounts.{Mount, Propagation, group_of, index_of, numbers_by, source_of}
 use Rattle.vt_spec.specs.Machine.Mounts.Propagation.{Private, Shared, Slave, Unbindable}
 use Rattle.vt_spec.specs.Machine.Outcomes.{after}
 use Rattle.vt_spec.specs.Machine.Permits.{Permit}
@@ -23,7 +23,7 @@ use Rattle.vt_spec.specs.Machine.Settled.{mount_lives, settled}
 use Rattle.vt_spec.specs.Machine.Types.{master_after, named_mounts, retyped_mount, type_after, with_master, with_new_groups}
 use Rattle.vt_spec.specs.Machine.World.{Task, World, mount_numbered, task_called}
 use Rattle.vt_spec.proofs.Found.{find-chain_start, found_among}
-use Rattle.vt_spec.proofs.Lists.{Among, among-filter, among-from_filter, among-from_flat_map, among-from_map, among-map, among_from_list_all, any_among, any_from_among, is_among_numbers, map_same, map_twice}
+use Rattle.vt_spec.proofs.Lists.{Among, among-filter, among-from_filter, among-from_map, among-map, among_from_list_all, any_among, any_from_among, is_among_numbers, map_same, map_twice}
 use Rattle.vt_spec.proofs.Options.{none_is_some}
 use Rattle.vt_spec.proofs.Worlds.{found_or_none}
 use Rattle.vt_laws_trees.specs.Trees.Calls.{mounts_overlay}
@@ -41,7 +41,7 @@ use Rattle.vt_laws_part.proofs.part.PartOfPart.{is_own, keep}
 use Rattle.vt_laws_part.proofs.seals.ByPart.{apart_if_sealed}
 use Rattle.vt_laws_sealed.specs.Outsiders.{IsOutsidersCall, LeaveASealedSet, sets_types}
 use Rattle.vt_laws_sealed.proofs.outsiders.Changing.{KeepsPlaces, changing_leaves_apart, others_changed, sees}
-use Rattle.vt_laws_sealed.proofs.outsiders.OtherMounts.{Foreign, HearsGroup, IsIn, child_in, events_stay_apart, foreign_above, is_other, member_not_new, member_of_heard, namespace_outside, not_own, not_stood_on, other_hears_foreign}
+use Rattle.vt_laws_sealed.proofs.outsiders.OtherMounts.{Foreign, HearsGroup, IsIn, tree_in, events_stay_apart, foreign_above, is_other, member_not_new, member_of_heard, namespace_outside, not_own, not_stood_on, other_hears_foreign}
 use Rattle.vt_laws_sealed.proofs.outsiders.OwnTasks.{caller_outside}
 use Rattle.vt_laws_sealed.proofs.outsiders.Staying.{LeavesApart, by_permit}
 
@@ -454,20 +454,6 @@ module _ (world : World ℕ) (names : List TaskName) (apart : IsApart world name
           changing_leaves_apart world names apart change keeps kept_same master own_masters events
 
 -- what a change of types names is in the namespace
-tree_in : (world : World ℕ) (names : List TaskName) (apart : IsApart world names) (namespace depth : ℕ)
-    (mount : Mount ℕ) → IsIn world namespace mount → (x : Mount ℕ) → Among x (tree_from nat_eq depth world.mounts mount)
-    → IsIn world namespace x
-tree_in world names apart namespace zero mount is x m =
-    ⊎_elim (λ e. subst (IsIn world namespace) (sym e) is) (λ none. absurd none) m
-tree_in world names apart namespace (suc depth) mount is x m =
-    ⊎_elim (λ e. subst (IsIn world namespace) (sym e) is)
-    (λ later.
-    let from = among-from_flat_map (tree_from nat_eq depth world.mounts) (children nat_eq world.mounts mount.number) x
-    later in
-    tree_in world names apart namespace depth from.0
-    (child_in world names apart namespace mount is from.0 from.1) x from.2)
-    m
-
 named_are_in : (world : World ℕ) (names : List TaskName) (apart : IsApart world names) (namespace number : ℕ)
     → (mount_numbered nat_eq world number).namespace ≡ Some namespace → (recursive : Bool) (mount : Mount ℕ)
     → Among mount (named_mounts nat_eq world number recursive) → IsIn world namespace mount

@@ -1,5 +1,5 @@
 -- A call of a task outside a sealed set leaves it sealed, if the set sees the same and others stay outside.
-use Rattle.std.proofs.Common.{◌≡◌, refl, sym, ap, subst, ◌∙◌, ◌⊎◌, inl, inr, ⊎_elim, ℕ, nat_eq, Bool, true, false, List, Some, Result, Ok, Err, map, not, ◌||◌}
+use Rattle.std.proofs.Common.{◌≡◌, refl, sym, ap, subst, ◌∙◌, ◌⊎◌, inl, inr, ⊎_elim, ℕ, nat_eq, Bool, true, false, List, [], ◌++◌, append-nil, Some, Result, Ok, Err, map, not, ◌||◌}
 use Rattle.std.specs.List.{list_all, list_any}
 use Rattle.std.proofs.lemmas.Bool.{and_from, and_parts, or_cases, or_left, or_right}
 use Rattle.vt_spec.specs.declared.errors.Deny.{Deny}
@@ -15,7 +15,7 @@ use Rattle.vt_spec.specs.Machine.Policy.{numbers_raised, only_looks, policy}
 use Rattle.vt_spec.specs.Machine.Sealed.{holds_all_tasks, no_outsider_on, no_outsider_on_mounts, shares_no_events, used_alone, used_filesystems}
 use Rattle.vt_spec.specs.Machine.Settled.{has_layer_on, settled}
 use Rattle.vt_spec.specs.Machine.World.{Filesystem, Task, World, is_overlay, task_called}
-use Rattle.vt_spec.proofs.Lists.{Among, among-from_filter, among-map, among_from_contains, among_from_list_all, is_among_numbers, list_all_from_among}
+use Rattle.vt_spec.proofs.Lists.{Among, among-append, among-from_filter, among-map, among_from_contains, among_from_list_all, is_among_numbers, list_all_from_among}
 use Rattle.vt_laws_rules.proofs.denials.Unchanged.{look_changes_nothing}
 use Rattle.vt_laws_rules.proofs.rules.OwnRules.{denial_changes_nothing}
 use Rattle.vt_laws_overlay_permits.proofs.worlds.EveryCall.{every_call_keeps_worlds}
@@ -142,24 +142,31 @@ by_permit these leaves world fresh names name call outsider given =
         (denial_changes_nothing fresh world name call deny e)
     by (Ok answer) e = granted answer e (only_looks call) refl
 
--- others have no foothold on a filesystem where none of them is, with the overlays that there were
-pub free_from : (world left : World ℕ) (names : List TaskName) → overlays left ≡ overlays world
+-- others have no foothold on a filesystem where none of them is, with the overlays that there were, and more that have no
+-- layer on it
+pub free_with : (world left : World ℕ) (names : List TaskName) (more : List (Filesystem ℕ))
+    → overlays left ≡ overlays world ++ more
     → ((number : ℕ) → IsOfTheWorld world names number → no_outsider_on nat_eq world names number ≡ true
     → no_outsider_on nat_eq left names number ≡ true)
+    → ((merged : Filesystem ℕ) → Among merged more → (number : ℕ)
+    → no_outsider_on nat_eq world names number ≡ true → has_layer_on nat_eq number merged ≡ false)
     → (number : ℕ) → IsOfTheWorld world names number → used_alone nat_eq world names number ≡ true
     → used_alone nat_eq left names number ≡ true
-free_from world left names same fewer number of alone =
+free_with world left names more grown fewer none number of alone =
     let parts = and_parts (no_outsider_on nat_eq world names number)
     (list_all (free_in world) (overlays world)) alone in
     and_from (no_outsider_on nat_eq left names number) (list_all (free_in left) (overlays left))
     (fewer number of parts.0)
-    (ap (list_all (free_in left)) same
-    ∙ list_all_from_among (free_in left) (overlays world) (λ merged m.
-    ⊎_elim (or_left (not (has_layer_on nat_eq number merged)) (no_outsider_on nat_eq left names merged.number))
+    (list_all_from_among (free_in left) (overlays left) (λ merged m.
+    ⊎_elim
+    (λ old. ⊎_elim (or_left (not (has_layer_on nat_eq number merged)) (no_outsider_on nat_eq left names merged.number))
     (λ e. or_right (not (has_layer_on nat_eq number merged)) (no_outsider_on nat_eq left names merged.number)
-    (fewer merged.number (of_the_world merged m) e))
+    (fewer merged.number (of_the_world merged old) e))
     (or_cases (not (has_layer_on nat_eq number merged)) (no_outsider_on nat_eq world names merged.number)
-    (among_from_list_all (free_in world) (overlays world) parts.1 merged m))))
+    (among_from_list_all (free_in world) (overlays world) parts.1 merged old)))
+    (λ new. or_left (not (has_layer_on nat_eq number merged)) (no_outsider_on nat_eq left names merged.number)
+    (ap not (none merged new number parts.0)))
+    (among-append (overlays world) more merged (subst (Among merged) grown m))))
   where
     free_in : World ℕ → Filesystem ℕ → Bool
     free_in in_world merged =
@@ -170,3 +177,11 @@ free_from world left names same fewer number of alone =
         inl (is_among_numbers (map (λ (f : Filesystem ℕ). f.number) world.filesystems) merged.number
         (among-map (λ (f : Filesystem ℕ). f.number) world.filesystems merged
         (among-from_filter is_overlay world.filesystems merged m).0))
+
+pub free_from : (world left : World ℕ) (names : List TaskName) → overlays left ≡ overlays world
+    → ((number : ℕ) → IsOfTheWorld world names number → no_outsider_on nat_eq world names number ≡ true
+    → no_outsider_on nat_eq left names number ≡ true)
+    → (number : ℕ) → IsOfTheWorld world names number → used_alone nat_eq world names number ≡ true
+    → used_alone nat_eq left names number ≡ true
+free_from world left names same fewer =
+    free_with world left names [] (same ∙ sym (append-nil (overlays world))) fewer (λ merged m number free. absurd m)

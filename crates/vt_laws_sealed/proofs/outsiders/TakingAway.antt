@@ -1,5 +1,5 @@
 -- Mounts of others that are taken away: what is left for the set.
-use Rattle.std.proofs.Common.{◌≡◌, refl, sym, ap, subst, ◌∙◌, ◌⊎◌, inl, inr, ⊎_elim, ℕ, nat_eq, Bool, true, false, cond, true≢false, List, [], Option, Some, None, Ok, filter, length, map, not, ◌&&◌, eq-eqb, eqb-true}
+use Rattle.std.proofs.Common.{◌≡◌, refl, sym, ap, subst, ◌∙◌, inl, inr, ℕ, nat_eq, Bool, true, false, cond, true≢false, List, [], Option, Some, None, length, map}
 use Rattle.std.specs.Prelude.{option_map}
 use Rattle.std.specs.List.{list_any}
 use Rattle.std.proofs.lemmas.Option.{same_Some}
@@ -29,6 +29,20 @@ use Rattle.vt_laws_sealed.proofs.outsiders.Reshaping.{IsReshaped, reshaping_keep
 use Rattle.vt_laws_sealed.proofs.outsiders.Standing.{nowhere_unplaced}
 use Rattle.vt_laws_sealed.proofs.outsiders.Staying.{LeavesApart}
 use Rattle.vt_laws_sealed.proofs.outsiders.Sweeping.{sweeping_leaves_apart}
+
+-- namespaces stay where mounts are taken away
+pub namespaces_taken_away : (world : World ℕ) (gone : List ℕ)
+    → record (taken_away nat_eq world gone) { namespaces = world.namespaces } ≡ taken_away nat_eq world gone
+namespaces_taken_away world gone =
+    by (list_any (lost_a_group nat_eq (with_mounts world (map (after_going nat_eq world gone) world.mounts)))
+    (map (after_going nat_eq world gone) world.mounts))
+  where
+    by : (b : Bool)
+        → record (regrouped_by nat_eq b (with_mounts world (map (after_going nat_eq world gone) world.mounts))) {
+          namespaces = world.namespaces;
+        } ≡ regrouped_by nat_eq b (with_mounts world (map (after_going nat_eq world gone) world.mounts))
+    by true = refl
+    by false = refl
 
 -- Mounts of others go, and others may be elsewhere. Each mount that goes is in a namespace of others.
 module _ (world : World ℕ) (names : List TaskName) (apart : IsApart world names)
@@ -194,11 +208,20 @@ module _ (world : World ℕ) (names : List TaskName) (apart : IsApart world name
       ∙ ap (nat_eq a.number) (keeps.number b) ∙ e)
       apart.is.mounts.one_number
 
-  pub taking_leaves_apart : LeavesApart world
-      (settled nat_eq (record (taken_away nat_eq before gone) { namespaces = namespaces })) names []
+  abbrev taken : World ℕ
+  taken = record (taken_away nat_eq before gone) { namespaces = namespaces }
+
+  left_leaves_apart : LeavesApart world left names []
+  left_leaves_apart =
+      regrouping_leaves_apart world names apart fresh serves change shape own_same nowhere_same kinds world.master
+      (foreign_above world names apart fresh serves) (λ number h. refl) tasks namespaces moved lost
+      regrouped_world.master (λ number. inl refl) (λ number h. refl)
+
+  -- before the sweep, and after it
+  pub taken_leaves_apart : LeavesApart world taken names []
+  taken_leaves_apart = subst (λ w. LeavesApart world w names []) (sym world_left) left_leaves_apart
+
+  pub taking_leaves_apart : LeavesApart world (settled nat_eq taken) names []
   taking_leaves_apart =
       subst (λ w. LeavesApart world (settled nat_eq w) names []) (sym world_left)
-      (sweeping_leaves_apart world left names apart sealed_off refl one_each []
-      (regrouping_leaves_apart world names apart fresh serves change shape own_same nowhere_same kinds world.master
-      (foreign_above world names apart fresh serves) (λ number h. refl) tasks namespaces moved lost
-      regrouped_world.master (λ number. inl refl) (λ number h. refl)))
+      (sweeping_leaves_apart world left names apart sealed_off refl one_each [] left_leaves_apart)

@@ -1,23 +1,23 @@
 -- Mounts of others that are unmounted, with those that an event takes away: umount(2).
-use Rattle.std.proofs.Common.{◌≡◌, refl, sym, ap, subst, ◌∙◌, ◌⊎◌, inl, inr, ⊎_elim, ℕ, nat_eq, Bool, true, false, cond, true≢false, List, [], ◌∷◌, Option, Some, None, Ok, map, eqb-true}
+use Rattle.std.proofs.Common.{◌≡◌, refl, sym, ap, subst, ◌∙◌, ⊎_elim, ℕ, nat_eq, Bool, true, false, true≢false, List, [], ◌∷◌, Option, Some, None, Ok, map}
 use Rattle.std.specs.Prelude.{option_map, unwrap_or}
-use Rattle.std.specs.List.{filter_map, list_any}
+use Rattle.std.specs.List.{filter_map}
 use Rattle.std.proofs.lemmas.Bool.{false_from_ne_true}
 use Rattle.vt_spec.specs.Language.Calls.{Call, TaskName, same_name}
 use Rattle.vt_spec.specs.Language.Calls.Call.{Umount}
 use Rattle.vt_spec.specs.Lists.{Fresh, holds_of, then_some, when}
 use Rattle.vt_spec.specs.Machine.Apply.{apply, filesystems_changed}
 use Rattle.vt_spec.specs.Machine.Attach.{receivers_of}
-use Rattle.vt_spec.specs.Machine.Detach.{after_going, going, going_at, going_from, goes_at, is_going, may_go, taken_away}
+use Rattle.vt_spec.specs.Machine.Detach.{going, going_at, going_from, goes_at, is_going, may_go}
 use Rattle.vt_spec.specs.Machine.Invariants.{Stands}
 use Rattle.vt_spec.specs.Machine.Judge.{judge_in}
 use Rattle.vt_spec.specs.Machine.Mounts.{Location, Mount, child_at, group_of, is_shared, stands_at}
 use Rattle.vt_spec.specs.Machine.Permits.{Permit}
 use Rattle.vt_spec.specs.Machine.Permits.Permit.{ToUnmount}
-use Rattle.vt_spec.specs.Machine.Receives.{lost_a_group, receivers, receives, regrouped_by}
+use Rattle.vt_spec.specs.Machine.Receives.{receivers, receives}
 use Rattle.vt_spec.specs.Machine.Sealed.{is_own_mount, is_own_namespace, other_mounts, own_mounts}
 use Rattle.vt_spec.specs.Machine.Settled.{settled}
-use Rattle.vt_spec.specs.Machine.World.{Task, World, mount_at, mount_numbered, task_called, with_mounts}
+use Rattle.vt_spec.specs.Machine.World.{Task, World, mount_at, mount_numbered, task_called}
 use Rattle.vt_spec.proofs.Found.{found_among, found_passes}
 use Rattle.vt_spec.proofs.Lists.{Among, among-filter, among-from_filter, among-from_filter_map, among-from_map, among_from_all, among_numbers, contains_from_among}
 use Rattle.vt_spec.proofs.Options.{none_is_some}
@@ -38,7 +38,7 @@ use Rattle.vt_laws_sealed.proofs.outsiders.OtherMounts.{is_other, namespace_outs
 use Rattle.vt_laws_sealed.proofs.outsiders.OwnTasks.{caller_outside}
 use Rattle.vt_laws_sealed.proofs.outsiders.Standing.{nowhere_unplaced}
 use Rattle.vt_laws_sealed.proofs.outsiders.Staying.{LeavesApart, by_permit}
-use Rattle.vt_laws_sealed.proofs.outsiders.TakingAway.{taking_leaves_apart}
+use Rattle.vt_laws_sealed.proofs.outsiders.TakingAway.{namespaces_taken_away, taking_leaves_apart}
 
 -- The mounts that the unmount event of a mount of others takes away are of others.
 module _ (world : World ℕ) (names : List TaskName) (apart : IsApart world names) (task : Task ℕ)
@@ -196,21 +196,10 @@ module _ (world : World ℕ) (fresh : Fresh ℕ) (names : List TaskName) (name :
   task_is_there : Among task world.tasks
   task_is_there = found_among (λ (t : Task ℕ). same_name name t.name) world.tasks task called
 
-  same_world : record (taken_away nat_eq world gone) { namespaces = world.namespaces } ≡ taken_away nat_eq world gone
-  same_world =
-      by (list_any (lost_a_group nat_eq (with_mounts world (map (after_going nat_eq world gone) world.mounts)))
-      (map (after_going nat_eq world gone) world.mounts))
-    where
-      by : (b : Bool)
-          → record (regrouped_by nat_eq b (with_mounts world (map (after_going nat_eq world gone) world.mounts))) {
-            namespaces = world.namespaces;
-          } ≡ regrouped_by nat_eq b (with_mounts world (map (after_going nat_eq world gone) world.mounts))
-      by true = refl
-      by false = refl
-
   unmount_leaves : LeavesApart world (settled nat_eq (apply nat_eq fresh world task (ToUnmount number)).world) names []
   unmount_leaves =
-      subst (λ w. LeavesApart world (settled nat_eq w) names []) same_world
+      subst (λ w. LeavesApart world (settled nat_eq w) names [])
+      (namespaces_taken_away world gone)
       (taking_leaves_apart world names set_apart outsider.sealed_off fresh outsider.serves task task_is_there
       world.tasks
       world.namespaces (others_rest world names set_apart) gone

@@ -1,0 +1,199 @@
+-- Where others change something: on mounts of their namespaces, where they stand, or where they have a file open.
+use Rattle.std.proofs.Common.{◌≡◌, sym, ap, subst, ◌∙◌, inr, ℕ, nat_eq, Bool, true, false, List, [], ◌∷◌, Option, Some, Ok, is_some}
+use Rattle.std.specs.Prelude.{⊤, ◌==◌}
+use Rattle.std.proofs.lemmas.Option.{same_Some}
+use Rattle.vt_spec.specs.Language.Calls.{Call, TaskName}
+use Rattle.vt_spec.specs.Language.Changes.{Change}
+use Rattle.vt_spec.specs.Language.Changes.Change.{CopyUp, SetMark}
+use Rattle.vt_spec.specs.Lists.{Fresh, when}
+use Rattle.vt_spec.specs.Machine.Apply.{overfills}
+use Rattle.vt_spec.specs.Machine.Descriptors.{is_copied_up}
+use Rattle.vt_spec.specs.Machine.Invariants.{IsWorld}
+use Rattle.vt_spec.specs.Machine.Looks.{looks_of}
+use Rattle.vt_spec.specs.Machine.Mounts.{Location}
+use Rattle.vt_spec.specs.Machine.Permits.{Permit}
+use Rattle.vt_spec.specs.Machine.Walking.{Here, LastWord, Place, directory_walk, file_walk, object_walk}
+use Rattle.vt_spec.specs.Machine.World.{Descriptor, Task, World, files_at, task_called}
+use Rattle.vt_spec.specs.PathText.{words}
+use Rattle.vt_spec.proofs.Found.{found_among}
+use Rattle.vt_spec.proofs.Given.{descriptor_found}
+use Rattle.vt_spec.proofs.Lists.{Among, among-map}
+use Rattle.vt_spec.proofs.Nodes.{directory_used}
+use Rattle.vt_spec.proofs.Options.{none_is_some}
+use Rattle.vt_laws_rules.specs.Granted.{IsGranted}
+use Rattle.vt_laws_rules.specs.Granted.IsGranted.{changes_mark, changes_mode, changes_owner, creates, creates_exclusively, makes_directory, makes_hard_link, makes_symlink, makes_whiteout, opens, opens_existing, overwrites_file, removes_directory, renames, unlinks, writes_new_file, writes_part}
+use Rattle.vt_laws_trees.proofs.trees.TreesWalked.{at_end}
+use Rattle.vt_laws_calls.specs.Inodes.{written_if_some}
+use Rattle.vt_laws_calls.specs.Searched.{IsSearchedToFile, IsSearchedToName, WayToFile, WayToName}
+use Rattle.vt_laws_calls.specs.Searched.WayToFile.{file_in, through_symlink}
+use Rattle.vt_laws_calls.specs.Searched.WayToName.{name_in, no_name}
+use Rattle.vt_laws_calls.proofs.ways.WaysEnds.{directory_ways_are_searched, object_ways_are_searched}
+use Rattle.vt_laws_calls.proofs.ways.WaysFiles.{file_ways_are_searched}
+use Rattle.vt_laws_calls.proofs.ways.WaysNamed.{new_leaf_ways_are_searched, new_name_ways_are_searched, old_leaf_ways_are_searched, old_name_ways_are_searched}
+use Rattle.vt_laws_worlds.proofs.worlds.CallsKept.{name_found}
+use Rattle.vt_laws_worlds.proofs.worlds.ReachedPlaces.{HereDirectory}
+use Rattle.vt_laws_worlds.proofs.worlds.ReachedWalks.{directory_walk_end}
+use Rattle.vt_laws_overlay_permits.specs.Asked.{change_asked}
+use Rattle.vt_laws_sealed.specs.Outsiders.{IsOutsidersCall}
+use Rattle.vt_laws_sealed.proofs.outsiders.Entering.{ground_outside, old_outside, task_there}
+use Rattle.vt_laws_sealed.proofs.outsiders.Opening.{IsFileGround, file_walk_ground}
+use Rattle.vt_laws_sealed.proofs.outsiders.OwnTasks.{IsOutside}
+use Rattle.vt_laws_sealed.proofs.outsiders.Standing.{IsGround, directory_ground, searched_ground, start_ground, way_ground}
+
+-- what is marked is there
+abbrev pub MarksWhatIsThere : World ℕ → Location ℕ → Change ℕ → Type 0
+MarksWhatIsThere world location (SetMark directory opaque) =
+    is_some ((files_at nat_eq world location).tree.node directory) ≡ true
+MarksWhatIsThere world location change = ⊤
+
+-- The directory of a name
+module _ (world : World ℕ) (is : IsWorld nat_eq world) (task : Task ℕ)
+    (there : Among task world.tasks) where
+  abbrev OnGround : Location ℕ → Type 0
+  OnGround location = IsGround world is task there location.mount
+
+  name_ground : (start directory : Location ℕ) (path_words : List (List ℕ)) (passed : List (Location ℕ))
+      (last : LastWord) → WayToName world task start path_words passed directory last → OnGround start
+      → OnGround directory
+  name_ground start directory path_words passed last (no_name here) ground = ground
+  name_ground start directory path_words passed last (name_in from at prefix word before way) ground =
+      way_ground world is task there from at prefix before way ground
+
+  file_way_ground : (start directory : Location ℕ) (path_words : List (List ℕ)) (passed : List (Location ℕ))
+      → WayToFile world task start path_words passed directory → OnGround start → OnGround directory
+  file_way_ground start directory path_words passed
+      (file_in from at path last object before way named plain) ground =
+      name_ground from at path before last way ground
+  file_way_ground start directory path_words passed
+      (through_symlink from at end path last object text before in_text way named linked rest) ground =
+      file_way_ground _ end (words text) in_text rest
+      (start_ground world is task there at text (name_ground from at path before last way ground))
+
+  pub named_ground : (path : List ℕ) (directory : Location ℕ) (last : LastWord)
+      → IsSearchedToName world task path directory last → OnGround directory
+  named_ground path directory last searched =
+      name_ground _ directory (words path) searched.passed last searched.way
+      (start_ground world is task there task.directory path (directory_ground world is task there))
+
+  pub file_ground : (path : List ℕ) (directory : Location ℕ) → IsSearchedToFile world task path directory
+      → OnGround directory
+  file_ground path directory searched =
+      file_way_ground _ directory (words path) searched.passed searched.way
+      (start_ground world is task there task.directory path (directory_ground world is task there))
+
+module _ (world : World ℕ) (fresh : Fresh ℕ) (names : List TaskName) (name : TaskName) (call : Call)
+    (task : Task ℕ) (outsider : IsOutsidersCall world fresh names name call)
+    (called : task_called world name ≡ Some task) where
+  abbrev there : Among task world.tasks
+  there = task_there world fresh names name call task outsider called
+
+  -- a change where others are
+  abbrev pub IsTheirs : Location ℕ × Change ℕ → Type 0
+  IsTheirs made = IsOutside world names made.0 × MarksWhatIsThere world made.0 made.1
+
+  abbrev AreTheirs : Option (Location ℕ × Change ℕ) → Type 0
+  AreTheirs asked = (made : Location ℕ × Change ℕ) → asked ≡ Some made → IsTheirs made
+
+  at : (location : Location ℕ) → IsGround world outsider.is task there location.mount
+      → IsOutside world names location
+  at = ground_outside world fresh names name call task outsider called
+
+  of : (location : Location ℕ) (change : Change ℕ) → IsTheirs (location, change) → AreTheirs (Some (location, change))
+  of location change is made e = subst IsTheirs (same_Some (location, change) made e) is
+
+  object_at : (path : List ℕ) (here : Here ℕ)
+      → object_walk nat_eq (looks_of nat_eq world) task path
+      ≡ Ok here → IsOutside world names here.location
+  object_at path here walk =
+      at here.location (searched_ground world outsider.is task there path here.location
+      (object_ways_are_searched world task path here walk))
+
+  named_at : (path : List ℕ) (directory : Location ℕ) (last : LastWord)
+      → IsSearchedToName world task path directory last → IsOutside world names directory
+  named_at path directory last searched =
+      at directory (named_ground world outsider.is task there path directory last searched)
+
+  file_at : (path : List ℕ) (place : Place ℕ)
+      → file_walk nat_eq (looks_of nat_eq world) task path ≡ Ok place
+      → IsOutside world names place.parent
+  file_at path place walk =
+      at place.parent (file_ground world outsider.is task there path place.parent
+      (file_ways_are_searched world task path place walk))
+
+  found_at : (path : List ℕ) (place : Place ℕ) (file : Location ℕ)
+      → file_walk nat_eq (looks_of nat_eq world) task path ≡ Ok place
+      → place.object ≡ Some file → IsOutside world names file
+  found_at path place file walk is_there =
+      at file (at_end (IsFileGround world outsider.is task there) (file_walk nat_eq (looks_of nat_eq world) task path)
+      place (file_walk_ground world outsider.is task there path) walk file is_there)
+
+  opened : (file : Location ℕ) → IsOutside world names file → (copied : Bool)
+      → AreTheirs (when copied (file, CopyUp file.node))
+  opened file outside true = of file (CopyUp file.node) (outside, tt)
+  opened file outside false = λ made e. none_is_some made e
+
+  written : (file : Location ℕ) → IsOutside world names file → (offset : ℕ) (bytes : List ℕ)
+      → AreTheirs (written_if_some world file offset bytes)
+  written file outside offset [] = λ made e. none_is_some made e
+  written file outside offset (byte ∷ bytes) = of file _ (outside, tt)
+
+  pub granted_theirs : (asked : Call) (permit : Permit ℕ)
+      → IsGranted nat_eq (looks_of nat_eq world) (overfills nat_eq fresh world task) task asked permit
+      → AreTheirs (change_asked fresh world permit)
+  granted_theirs asked permit (overwrites_file path bytes place file walk named is_there passed) =
+      of file _ (found_at path place file walk is_there, tt)
+  granted_theirs asked permit (writes_new_file path bytes place walk named missing fits passed) =
+      of place.parent _ (file_at path place walk, tt)
+  granted_theirs asked permit (makes_directory path mode place walk passed) =
+      of place.parent _
+      (named_at path place.parent place.last (new_name_ways_are_searched world task path place walk), tt)
+  granted_theirs asked permit (makes_symlink text path place fits walk passed) =
+      of place.parent _
+      (named_at path place.parent place.last (new_leaf_ways_are_searched world task path place walk), tt)
+  granted_theirs asked permit (makes_whiteout path place walk passed) =
+      of place.parent _
+      (named_at path place.parent place.last (new_leaf_ways_are_searched world task path place walk), tt)
+  granted_theirs asked permit (makes_hard_link old new from place from_walk walk named passed) =
+      of place.parent _
+      (named_at new place.parent place.last (new_leaf_ways_are_searched world task new place walk), tt)
+  granted_theirs asked permit (unlinks path place walk named passed) =
+      of place.parent _
+      (named_at path place.parent place.last (old_leaf_ways_are_searched world task path place walk), tt)
+  granted_theirs asked permit (removes_directory path place walk word passed) =
+      of place.parent _
+      (named_at path place.parent place.last (old_name_ways_are_searched world task path place walk), tt)
+  granted_theirs asked permit (renames old new from to both two passed) =
+      of from.parent _
+      (named_at old from.parent from.last (old_leaf_ways_are_searched world task old from both.from_end), tt)
+  granted_theirs asked permit (changes_mode path mode here walk passed) =
+      of here.location _ (object_at path here walk, tt)
+  granted_theirs asked permit (changes_owner path uid gid here walk passed) =
+      of here.location _ (object_at path here walk, tt)
+  granted_theirs asked permit (changes_mark path mark here admin walk passed) =
+      of here.location (SetMark here.location.node mark) (
+        at here.location (searched_ground world outsider.is task there path here.location
+            (directory_ways_are_searched world task path here walk)),
+        directory_used (files_at nat_eq world here.location).tree here.location.node
+            (at_end (HereDirectory world outsider.is task itself)
+            (directory_walk nat_eq (looks_of nat_eq world) task path)
+            here (directory_walk_end world outsider.is task itself path) walk).1,
+      )
+    where
+      itself : task_called world task.name ≡ Some task
+      itself = ap (task_called world) (sym (name_found world name task called)) ∙ called
+  granted_theirs asked permit (opens path access here few walk passed) =
+      opened here.location (object_at path here walk) (is_copied_up nat_eq world here.location access)
+  granted_theirs asked permit (opens_existing path access mode place file few walk named is_there passed) =
+      opened file (found_at path place file walk is_there) (is_copied_up nat_eq world file access)
+  granted_theirs asked permit (creates path access mode place few walk named missing passed) =
+      of place.parent _ (file_at path place walk, tt)
+  granted_theirs asked permit (creates_exclusively path access mode place few walk named passed) =
+      of place.parent _
+      (named_at path place.parent place.last (new_name_ways_are_searched world task path place walk), tt)
+  granted_theirs asked permit (writes_part number offset bytes descriptor found passed) =
+      written descriptor.location
+      (old_outside world fresh names name call task outsider called descriptor.location
+      (inr (inr (among-map (λ (d : Descriptor ℕ). d.location) task.descriptors descriptor
+      (found_among (λ (d : Descriptor ℕ). number == d.number) task.descriptors descriptor
+      (descriptor_found task number (λ d. d.writes) descriptor found).0))))) offset bytes
+  granted_theirs asked permit granted = λ made e. none_is_some made e

@@ -1,0 +1,210 @@
+-- Files that others change, make and write to: chmod(2), mkdir(2), link(2), unlink(2), open(2), write(2), pwrite(2).
+use Rattle.std.proofs.Common.{◌≡◌, refl, sym, ap, subst, ◌∙◌, ℕ, nat_eq, Bool, true, false, true≢false, List, [], ◌∷◌, Some, Ok}
+use Rattle.vt_spec.specs.Language.Calls.{Access, Call, TaskName}
+use Rattle.vt_spec.specs.Language.Changes.{Change}
+use Rattle.vt_spec.specs.Language.Changes.Change.{CopyUp, Make, SetBytes}
+use Rattle.vt_spec.specs.Lists.{Fresh, evens, odds, when}
+use Rattle.vt_spec.specs.Machine.Apply.{apply, changed_if, filesystems_changed, overfills}
+use Rattle.vt_spec.specs.Machine.Descriptors.{is_copied_up, overwritten, with_copy, with_descriptor}
+use Rattle.vt_spec.specs.Machine.Filesystems.{changed_at, with_change}
+use Rattle.vt_spec.specs.Machine.Invariants.{MountInvariants, OverlayInvariants, TreeInvariants}
+use Rattle.vt_spec.specs.Machine.Judge.{judge_in}
+use Rattle.vt_spec.specs.Machine.Looks.{looks_of}
+use Rattle.vt_spec.specs.Machine.Mounts.{Location}
+use Rattle.vt_spec.specs.Machine.Outcomes.{Outcome, after}
+use Rattle.vt_spec.specs.Machine.Permits.{Permit}
+use Rattle.vt_spec.specs.Machine.Permits.Permit.{ToChange, ToMake, ToOpen, ToOpenNew, ToWritePart}
+use Rattle.vt_spec.specs.Machine.Policy.{call_outcome}
+use Rattle.vt_spec.specs.Machine.Settled.{settled}
+use Rattle.vt_spec.specs.Machine.World.{Task, World, node_at, task_called, with_task}
+use Rattle.vt_spec.specs.Tree.{Node, bytes_in}
+use Rattle.vt_spec.proofs.Options.{none_is_some}
+use Rattle.vt_laws_rules.proofs.given.Inversion.{calls_are_granted}
+use Rattle.vt_laws_rules.proofs.judged.CallsJudged.{call_is_judged_then_applied}
+use Rattle.vt_laws_rules.specs.Granted.{IsGranted}
+use Rattle.vt_laws_rules.specs.Granted.IsGranted.{mounts_overlayfs}
+use Rattle.vt_laws_trees.specs.Trees.Calls.{mounts_overlay}
+use Rattle.vt_laws_layers.proofs.layers.LowersWorld.{the_rest_stays}
+use Rattle.vt_laws_mounts.specs.Mounts.Invariants.{OneNumberEach}
+use Rattle.vt_laws_worlds.proofs.worlds.CallsKept.{name_found}
+use Rattle.vt_laws_overlay_permits.specs.Asked.{change_asked}
+use Rattle.vt_laws_overlay_permits.proofs.kept.KeptOverlays.{permits_make_their_change}
+use Rattle.vt_laws_overlay_permits.proofs.worlds.EveryCall.{overlays_kept, under}
+use Rattle.vt_laws_part.proofs.seals.ByPart.{apart_if_sealed}
+use Rattle.vt_laws_sealed.specs.Outsiders.{IsOutsidersCall, LeaveASealedSet, changes_files}
+use Rattle.vt_laws_sealed.proofs.outsiders.ChangesGround.{granted_theirs}
+use Rattle.vt_laws_sealed.proofs.outsiders.FilesOfCalls.{changed_files_leave}
+use Rattle.vt_laws_sealed.proofs.outsiders.Opening.{descriptor_leaves, open_outside}
+use Rattle.vt_laws_sealed.proofs.outsiders.Refusals.{leaves_apart_itself}
+use Rattle.vt_laws_sealed.proofs.outsiders.Staying.{LeavesApart, by_permit}
+use Rattle.vt_laws_sealed.proofs.outsiders.Sweeping.{sweep_leaves_apart, sweeping_leaves_apart}
+
+-- a call that is granted a change mounts no overlay
+pub changes_mount_no_overlay : (world : World ℕ) (fresh : Fresh ℕ) (task : Task ℕ) (asked : Call) (permit : Permit ℕ)
+    → IsGranted nat_eq (looks_of nat_eq world) (overfills nat_eq fresh world task) task asked permit
+    → (made : Location ℕ × Change ℕ) → change_asked fresh world permit ≡ Some made → mounts_overlay asked ≡ false
+changes_mount_no_overlay world fresh task asked permit
+    (mounts_overlayfs path words flags here layers admin end walked layered passed) made e = none_is_some made e
+changes_mount_no_overlay world fresh task asked permit granted made e = refl
+
+module _ (world : World ℕ) (fresh : Fresh ℕ) (names : List TaskName) (name : TaskName) (call : Call)
+    (task : Task ℕ) (outsider : IsOutsidersCall world fresh names name call)
+    (called : task_called world name ≡ Some task) (permit : Permit ℕ)
+    (judged : judge_in nat_eq fresh world task call ≡ Ok permit) where
+  granted : IsGranted nat_eq (looks_of nat_eq world) (overfills nat_eq fresh world task) task call permit
+  granted = calls_are_granted nat_eq (looks_of nat_eq world) (overfills nat_eq fresh world task) task call permit judged
+
+  -- The sweep after a call that mounts no overlay
+  pub call_swept : mounts_overlay call ≡ false → (changed : List ℕ)
+      → LeavesApart world (apply nat_eq fresh world task permit).world names changed
+      → LeavesApart world (settled nat_eq (apply nat_eq fresh world task permit).world) names changed
+  call_swept other changed leaves =
+      let itself = ap (task_called world) (sym (name_found world name task called)) ∙ called in
+      let left : (call_outcome nat_eq fresh world task call).world ≡ (apply nat_eq fresh world task permit).world =
+      ap (λ (o : Outcome ℕ). o.world) (call_is_judged_then_applied fresh world task call
+      ∙ ap (λ j. after world j (apply nat_eq fresh world task)) judged) in
+      let way = under world fresh task call permit outsider.is outsider.serves itself other outsider.few_groups judged
+      in
+      sweep_leaves_apart world (apply nat_eq fresh world task permit).world names
+      (apart_if_sealed world names outsider.is outsider.sealed_off) outsider.sealed_off
+      (subst (TreeInvariants nat_eq) left way.files)
+      (subst (OverlayInvariants nat_eq) left
+      (overlays_kept world fresh task call permit outsider.is outsider.serves itself other outsider.few_groups judged))
+      (subst (MountInvariants nat_eq) left way.mounts).one_number changed leaves
+
+  -- A change, where others were moved before in a world of the same filesystems
+  pub change_leaves : (location : Location ℕ) (change : Change ℕ)
+      → change_asked fresh world permit ≡ Some (location, change) → (base : World ℕ)
+      → base.filesystems ≡ world.filesystems
+      → (apply nat_eq fresh world task permit).world
+      ≡ record base { filesystems = (apply nat_eq fresh world task permit).world.filesystems }
+      → filesystems_changed nat_eq world permit ≡ changed_at nat_eq world location
+      → LeavesApart world base names []
+      → LeavesApart world (settled nat_eq (apply nat_eq fresh world task permit).world) names
+      (filesystems_changed nat_eq world permit)
+  change_leaves location change asks base same left raised leaves =
+      call_swept (changes_mount_no_overlay world fresh task call permit granted (location, change) asks)
+      (filesystems_changed nat_eq world permit)
+      (subst (LeavesApart world (apply nat_eq fresh world task permit).world names) (sym raised)
+      (changed_files_leave world fresh names name call task outsider called permit judged location change asks base
+      (apply nat_eq fresh world task permit).world same
+      (left ∙ ap (λ list. record base { filesystems = list })
+      (permits_make_their_change world fresh task permit location change asks)) leaves))
+
+  -- where the world stays but for its filesystems
+  pub change_alone : (location : Location ℕ) (change : Change ℕ)
+      → change_asked fresh world permit ≡ Some (location, change)
+      → (apply nat_eq fresh world task permit).world
+      ≡ record world { filesystems = (apply nat_eq fresh world task permit).world.filesystems }
+      → filesystems_changed nat_eq world permit ≡ changed_at nat_eq world location
+      → LeavesApart world (settled nat_eq (apply nat_eq fresh world task permit).world) names
+      (filesystems_changed nat_eq world permit)
+  change_alone location change asks left raised =
+      change_leaves location change asks world refl left raised
+      (leaves_apart_itself world fresh names name call outsider)
+
+-- A descriptor on a file of others
+module _ (world : World ℕ) (fresh : Fresh ℕ) (names : List TaskName) (name : TaskName) (call : Call)
+    (task : Task ℕ) (outsider : IsOutsidersCall world fresh names name call)
+    (called : task_called world name ≡ Some task) where
+  -- the world before the change
+  abbrev with_open : Location ℕ → Access → World ℕ
+  with_open file access = with_task world (with_descriptor task file access)
+
+  -- what is left beside filesystems
+  opened_beside : (changed : World ℕ) → changed ≡ record world { filesystems = changed.filesystems }
+      → (file : Location ℕ) (access : Access)
+      → with_task changed (with_descriptor task file access)
+      ≡ record (with_open file access) { filesystems = changed.filesystems }
+  opened_beside changed same file access = ap (λ w. with_task w (with_descriptor task file access)) same
+
+  open_leaves : (file : Location ℕ) (access : Access) → judge_in nat_eq fresh world task call ≡ Ok (ToOpen file access)
+      → LeavesApart world (settled nat_eq (apply nat_eq fresh world task (ToOpen file access)).world) names
+      (filesystems_changed nat_eq world (ToOpen file access))
+  open_leaves file access judged = by (is_copied_up nat_eq world file access) refl
+    where
+      leaves : LeavesApart world (with_open file access) names []
+      leaves =
+          descriptor_leaves world fresh names name call task outsider called file access
+          (open_outside world fresh names name call task outsider called file access judged)
+
+      left : World ℕ
+      left = (apply nat_eq fresh world task (ToOpen file access)).world
+
+      beside : left ≡ record (with_open file access) { filesystems = left.filesystems }
+      beside =
+          opened_beside (with_copy nat_eq (is_copied_up nat_eq world file access) fresh world file)
+          (copied (is_copied_up nat_eq world file access)) file access
+        where
+          copied : (b : Bool) → with_copy nat_eq b fresh world file
+              ≡ record world { filesystems = (with_copy nat_eq b fresh world file).filesystems }
+          copied true = the_rest_stays fresh world file (CopyUp file.node)
+          copied false = refl
+
+      by : (b : Bool) → is_copied_up nat_eq world file access ≡ b
+          → LeavesApart world (settled nat_eq left) names (filesystems_changed nat_eq world (ToOpen file access))
+      by true e =
+          change_leaves world fresh names name call task outsider called (ToOpen file access) judged file
+          (CopyUp file.node) (ap (λ b. when b (file, CopyUp file.node)) e) (with_open file access) refl beside
+          (ap (λ b. changed_if nat_eq b world file) e) leaves
+      by false e =
+          subst (LeavesApart world (settled nat_eq left) names)
+          (sym (ap (λ b. changed_if nat_eq b world file) e))
+          (sweeping_leaves_apart world left names (apart_if_sealed world names outsider.is outsider.sealed_off)
+          outsider.sealed_off (ap (λ b. (with_copy nat_eq b fresh world file).filesystems) e)
+          (subst OneNumberEach (sym not_copied) outsider.is.mounts.one_number) []
+          (subst (λ w. LeavesApart world w names []) (sym not_copied) leaves))
+        where
+          not_copied : left ≡ with_open file access
+          not_copied =
+              ap (λ b. with_task (with_copy nat_eq b fresh world file) (with_descriptor task file access)) e
+
+  new_leaves : (directory : Location ℕ) (new_name : List ℕ) (node : Node ℕ) (access : Access)
+      → judge_in nat_eq fresh world task call ≡ Ok (ToOpenNew directory new_name node access)
+      → LeavesApart world (settled nat_eq (apply nat_eq fresh world task
+      (ToOpenNew directory new_name node access)).world) names (changed_at nat_eq world directory)
+  new_leaves directory new_name node access judged =
+      let file : Location ℕ = record { mount = directory.mount; node = evens fresh 0 } in
+      let permit = ToOpenNew directory new_name node access in
+      let theirs = granted_theirs world fresh names name call task outsider called call permit
+      (calls_are_granted nat_eq (looks_of nat_eq world) (overfills nat_eq fresh world task) task call permit judged)
+      (directory, Make directory.node new_name (evens fresh 0) node) refl in
+      change_leaves world fresh names name call task outsider called permit judged directory
+      (Make directory.node new_name (evens fresh 0) node) refl (with_open file access) refl
+      (opened_beside (with_change nat_eq (odds fresh) world directory
+      (Make directory.node new_name (evens fresh 0) node))
+      (the_rest_stays (odds fresh) world directory (Make directory.node new_name (evens fresh 0) node)) file access)
+      refl
+      (descriptor_leaves world fresh names name call task outsider called file access theirs.0)
+
+-- By the permit
+files_leave : (world : World ℕ) (fresh : Fresh ℕ) (names : List TaskName) (name : TaskName) (call : Call)
+    (task : Task ℕ) → IsOutsidersCall world fresh names name call → task_called world name ≡ Some task
+    → (permit : Permit ℕ) → judge_in nat_eq fresh world task call ≡ Ok permit → changes_files permit ≡ true
+    → LeavesApart world (settled nat_eq (apply nat_eq fresh world task permit).world) names
+    (filesystems_changed nat_eq world permit)
+files_leave world fresh names name call task outsider called (ToChange location change) judged e =
+    change_alone world fresh names name call task outsider called (ToChange location change) judged location change refl
+    (the_rest_stays fresh world location change) refl
+files_leave world fresh names name call task outsider called (ToMake directory new_name node) judged e =
+    change_alone world fresh names name call task outsider called (ToMake directory new_name node) judged directory
+    (Make directory.node new_name (evens fresh 0) node) refl
+    (the_rest_stays (odds fresh) world directory (Make directory.node new_name (evens fresh 0) node)) refl
+files_leave world fresh names name call task outsider called (ToOpen file access) judged e =
+    open_leaves world fresh names name call task outsider called file access judged
+files_leave world fresh names name call task outsider called (ToOpenNew directory new_name node access) judged e =
+    new_leaves world fresh names name call task outsider called directory new_name node access judged
+files_leave world fresh names name call task outsider called (ToWritePart file offset []) judged e =
+    subst (λ w. LeavesApart world w names []) (sym outsider.is.nothing_unused)
+    (leaves_apart_itself world fresh names name call outsider)
+files_leave world fresh names name call task outsider called (ToWritePart file offset (byte ∷ bytes)) judged e =
+    change_alone world fresh names name call task outsider called (ToWritePart file offset (byte ∷ bytes)) judged file
+    (SetBytes file.node (overwritten offset (byte ∷ bytes) (bytes_in (node_at nat_eq world file)))) refl
+    (the_rest_stays fresh world file
+    (SetBytes file.node (overwritten offset (byte ∷ bytes) (bytes_in (node_at nat_eq world file))))) refl
+files_leave world fresh names name call task outsider called permit judged e = absurd (true≢false (sym e))
+
+pub files_leave_a_sealed_set : LeaveASealedSet changes_files
+files_leave_a_sealed_set =
+    by_permit changes_files (λ world fresh names name call task permit outsider called judged these.
+    files_leave world fresh names name call task outsider called permit judged these)

@@ -1,0 +1,379 @@
+-- What others change of filesystems is nothing that a sealed set uses, and nothing of its lower layers.
+use Rattle.std.proofs.Common.{◌≡◌, ◌≢◌, refl, sym, ap, subst, ◌∙◌, inl, inr, ⊎_elim, ℕ, nat_eq, Bool, true, false, cond, true≢false, List, [], ◌∷◌, Option, Some, None, is_some, map, eqb-true, ne_eqb}
+use Rattle.std.specs.Prelude.{⊤, option_map}
+use Rattle.std.specs.List.{list_any}
+use Rattle.std.proofs.lemmas.Bool.{false_from_ne_true}
+use Rattle.vt_spec.specs.FileTree.{FileTree}
+use Rattle.vt_spec.specs.Language.Calls.{TaskName}
+use Rattle.vt_spec.specs.Language.Changes.{Change, changed, node_with_attr, node_with_mark, node_with_parent, node_without_entry, with_inode, with_name, without_name, without_parent}
+use Rattle.vt_spec.specs.Language.Changes.Change.{AddName, CopyUp, Make, Move, Remove, SetAttr, SetBytes, SetMark}
+use Rattle.vt_spec.specs.Lists.{is_among}
+use Rattle.vt_spec.specs.Machine.CopyUp.{Merge}
+use Rattle.vt_spec.specs.Machine.Filesystems.{with_files}
+use Rattle.vt_spec.specs.Machine.Locked.{overlay_or}
+use Rattle.vt_spec.specs.Machine.Mounts.{Location}
+use Rattle.vt_spec.specs.Machine.Sealed.{own_lowers, used_filesystems}
+use Rattle.vt_spec.specs.Machine.Settled.{has_layer_on}
+use Rattle.vt_spec.specs.Machine.World.{Filesystem, Layer, Overlay, World, files_at, filesystem_numbered, is_overlay, layers_of, replaced_if_numbered}
+use Rattle.vt_spec.specs.Tree.{entries_in, entry_named, node_with_bytes, node_with_entry}
+use Rattle.vt_spec.proofs.Lists.{Among, map_twice}
+use Rattle.vt_spec.proofs.Nodes.{directory_used}
+use Rattle.vt_laws_letting_go.proofs.sweeps.OfWorlds.{found_filesystem}
+use Rattle.vt_laws_layers.proofs.layers.LowersKept.{kept_elsewhere}
+use Rattle.vt_laws_layers.proofs.layers.LowersWorld.{number_of_filesystem}
+use Rattle.vt_laws_layers.proofs.layers.UpperLine.{has_entries}
+use Rattle.vt_laws_overlay_permits.specs.Asked.{AsksWell}
+use Rattle.vt_laws_overlay_permits.specs.Unlocked.{SparesInode}
+use Rattle.vt_laws_part.specs.Seals.{IsApart}
+use Rattle.vt_laws_sealed.proofs.outsiders.ChangesGround.{MarksWhatIsThere}
+use Rattle.vt_laws_sealed.proofs.outsiders.FilesStep.{IsFilesStep}
+use Rattle.vt_laws_sealed.proofs.outsiders.LowersChanged.{KeepsBelow, lower_part_stays}
+use Rattle.vt_laws_sealed.proofs.outsiders.NumbersGrown.{numbers_made}
+use Rattle.vt_laws_sealed.proofs.outsiders.SeenLater.{lowered_by}
+
+-- the inode to which a change of a plain tree writes first
+abbrev pub written_to : Change ℕ → ℕ
+written_to (Make directory name number node) = directory
+written_to (AddName directory name object) = directory
+written_to (Remove directory name object) = directory
+written_to (Move from old to new object) = from
+written_to (SetBytes file bytes) = file
+written_to (SetAttr object attr) = object
+written_to (SetMark directory opaque) = directory
+written_to (CopyUp object) = object
+
+-- it is there
+pub written_there : (world : World ℕ) (location : Location ℕ) (change : Change ℕ) → AsksWell world location change
+    → MarksWhatIsThere world location change
+    → is_some ((files_at nat_eq world location).tree.node (written_to change)) ≡ true
+written_there world location (Make directory name number node) asked marked =
+    directory_used (files_at nat_eq world location).tree directory asked.0.name_is_free.in_directory
+written_there world location (AddName directory name object) asked marked =
+    directory_used (files_at nat_eq world location).tree directory asked.name_is_free.in_directory
+written_there world location (Remove directory name object) asked marked =
+    directory_used (files_at nat_eq world location).tree directory
+    (has_entries (files_at nat_eq world location).tree directory name object asked.named)
+written_there world location (Move from old to new object) asked marked =
+    directory_used (files_at nat_eq world location).tree from
+    (has_entries (files_at nat_eq world location).tree from old object asked.0.named)
+written_there world location (SetBytes file bytes) asked marked = asked
+written_there world location (SetAttr object attr) asked marked = asked
+written_there world location (SetMark directory opaque) asked marked = marked
+written_there world location (CopyUp object) asked marked = asked
+
+-- it is not spared, but for what is copied up
+abbrev pub IsCopy : Change ℕ → Type 0
+IsCopy (CopyUp object) = ⊤
+IsCopy change = ⊥
+
+pub written_not_spared : (files : FileTree ℕ) (change : Change ℕ) → SparesInode files change (written_to change)
+    → IsCopy change
+written_not_spared files (Make directory name number node) spares = spares refl
+written_not_spared files (AddName directory name object) spares = spares refl
+written_not_spared files (Remove directory name object) spares = spares.0 refl
+written_not_spared files (Move from old to new object) spares = spares.0 refl
+written_not_spared files (SetBytes file bytes) spares = spares refl
+written_not_spared files (SetAttr object attr) spares = spares refl
+written_not_spared files (SetMark directory opaque) spares = spares refl
+written_not_spared files (CopyUp object) spares = tt
+
+-- what a plain change makes was not there
+pub made_was_not_there : (world : World ℕ) (location : Location ℕ) (change : Change ℕ)
+    → AsksWell world location change → (object : ℕ) → Among object (numbers_made change)
+    → (files_at nat_eq world location).tree.node object ≡ None
+made_was_not_there world location (Make directory name number node) asked object m =
+    ⊎_elim (λ e. ap (files_at nat_eq world location).tree.node e ∙ asked.0.number_is_new) (λ none. absurd none) m
+made_was_not_there world location (AddName directory name object) asked made m = absurd m
+made_was_not_there world location (Remove directory name object) asked made m = absurd m
+made_was_not_there world location (Move from old to new object) asked made m = absurd m
+made_was_not_there world location (SetBytes file bytes) asked made m = absurd m
+made_was_not_there world location (SetAttr object attr) asked made m = absurd m
+made_was_not_there world location (SetMark directory opaque) asked made m = absurd m
+made_was_not_there world location (CopyUp object) asked made m = absurd m
+
+-- a plain change leaves what it spares, if that is not what it makes
+pub spared_stays : (files : FileTree ℕ) (change : Change ℕ) (inode : ℕ) → SparesInode files change inode
+    → (Among inode (numbers_made change) → ⊥)
+    → (changed nat_eq files change).tree.node inode ≡ files.tree.node inode
+spared_stays files (Make directory name number node) inode spares old =
+    kept_elsewhere (with_inode nat_eq files number node) directory (node_with_entry name number) inode
+    (ne_eqb inode directory spares)
+    ∙ ap (λ b. cond b (Some node) (files.tree.node inode)) (ne_eqb inode number (λ e. old (inl e)))
+spared_stays files (AddName directory name object) inode spares old =
+    kept_elsewhere files directory (node_with_entry name object) inode (ne_eqb inode directory spares)
+spared_stays files (Remove directory name object) inode spares old =
+    kept_elsewhere (without_name nat_eq files directory name) object (node_with_parent object) inode
+    (ne_eqb inode object spares.1)
+    ∙ kept_elsewhere files directory (node_without_entry name) inode (ne_eqb inode directory spares.0)
+spared_stays files (Move from name to new object) inode spares old =
+    let freed = without_parent nat_eq files (entry_named new (entries_in (files.tree.node to))) in
+    let left = without_name nat_eq freed from name in
+    kept_elsewhere (with_name nat_eq left to new object) object (node_with_parent to) inode
+    (ne_eqb inode object spares.2)
+    ∙ kept_elsewhere left to (node_with_entry new object) inode (ne_eqb inode to spares.1)
+    ∙ kept_elsewhere freed from (node_without_entry name) inode (ne_eqb inode from spares.0)
+    ∙ replaced_stays (entry_named new (entries_in (files.tree.node to))) spares.3
+  where
+    replaced_stays : (o : Option ℕ) → o ≢ Some inode
+        → (without_parent nat_eq files o).tree.node inode ≡ files.tree.node inode
+    replaced_stays None differs = refl
+    replaced_stays (Some replaced) differs =
+        kept_elsewhere files replaced (node_with_parent replaced) inode
+        (ne_eqb inode replaced (λ same. differs (ap Some (sym same))))
+spared_stays files (SetBytes file bytes) inode spares old =
+    kept_elsewhere files file (node_with_bytes bytes) inode (ne_eqb inode file spares)
+spared_stays files (SetAttr object attr) inode spares old =
+    kept_elsewhere files object (node_with_attr attr) inode (ne_eqb inode object spares)
+spared_stays files (SetMark directory opaque) inode spares old =
+    kept_elsewhere files directory (node_with_mark opaque) inode (ne_eqb inode directory spares)
+spared_stays files (CopyUp object) inode spares old = refl
+
+-- A filesystem that is replaced
+abbrev rewritten : ℕ → FileTree ℕ → Filesystem ℕ → Filesystem ℕ
+rewritten number files x = cond (nat_eq number x.number) (record x { files = files }) x
+
+abbrev with_real_objects : Merge ℕ → Overlay ℕ → Overlay ℕ
+with_real_objects merge overlay = record overlay { real = merge.real }
+
+abbrev remerged : ℕ → Merge ℕ → Filesystem ℕ → Filesystem ℕ
+remerged number merge x =
+    cond (nat_eq number x.number)
+    (record x { files = merge.files; overlay = option_map (with_real_objects merge) x.overlay }) x
+
+-- with its number, its layers, and what is an overlay
+rewritten_number : (number : ℕ) (files : FileTree ℕ) (x : Filesystem ℕ) → (rewritten number files x).number ≡ x.number
+rewritten_number number files x = by (nat_eq number x.number)
+  where
+    by : (b : Bool) → (cond b (record x { files = files }) x).number ≡ x.number
+    by true = refl
+    by false = refl
+
+rewritten_overlay : (number : ℕ) (files : FileTree ℕ) (x : Filesystem ℕ)
+    → (rewritten number files x).overlay ≡ x.overlay
+rewritten_overlay number files x = by (nat_eq number x.number)
+  where
+    by : (b : Bool) → (cond b (record x { files = files }) x).overlay ≡ x.overlay
+    by true = refl
+    by false = refl
+
+remerged_number : (number : ℕ) (merge : Merge ℕ) (x : Filesystem ℕ) → (remerged number merge x).number ≡ x.number
+remerged_number number merge x = by (nat_eq number x.number)
+  where
+    by : (b : Bool) → (cond b (record x {
+      files = merge.files;
+      overlay = option_map (with_real_objects merge) x.overlay;
+    }) x).number ≡ x.number
+    by true = refl
+    by false = refl
+
+remerged_overlay : (number : ℕ) (merge : Merge ℕ) (x : Filesystem ℕ)
+    → is_overlay (remerged number merge x) ≡ is_overlay x
+remerged_overlay number merge x = by (nat_eq number x.number)
+  where
+    of : (o : Option (Overlay ℕ)) → is_some (option_map (with_real_objects merge) o) ≡ is_some o
+    of None = refl
+    of (Some overlay) = refl
+
+    by : (b : Bool) → is_overlay (cond b (record x {
+      files = merge.files;
+      overlay = option_map (with_real_objects merge) x.overlay;
+    }) x) ≡ is_overlay x
+    by true = of x.overlay
+    by false = refl
+
+remerged_layers : (layer number : ℕ) (merge : Merge ℕ) (x : Filesystem ℕ)
+    → has_layer_on nat_eq layer (remerged number merge x) ≡ has_layer_on nat_eq layer x
+remerged_layers layer number merge x = by (nat_eq number x.number)
+  where
+    on : Option (Overlay ℕ) → Bool
+    on o = overlay_or false (λ overlay. list_any (λ l. nat_eq layer l.filesystem) (layers_of overlay)) o
+
+    of : (o : Option (Overlay ℕ)) → on (option_map (with_real_objects merge) o) ≡ on o
+    of None = refl
+    of (Some overlay) = refl
+
+    by : (b : Bool) → has_layer_on nat_eq layer (cond b (record x {
+      files = merge.files;
+      overlay = option_map (with_real_objects merge) x.overlay;
+    }) x) ≡ has_layer_on nat_eq layer x
+    by true = of x.overlay
+    by false = refl
+
+-- lists that are changed alike
+map_alike : {A B : Type 0} (f g : A → B) (xs : List A) → ((x : A) → Among x xs → f x ≡ g x) → map f xs ≡ map g xs
+map_alike f g [] same = refl
+map_alike f g (x ∷ xs) same =
+    ap (λ y. y ∷ map f xs) (same x (inl refl)) ∙ ap (λ ys. g x ∷ ys) (map_alike f g xs (λ y m. same y (inr m)))
+
+module _ (world : World ℕ) (names : List TaskName) (apart : IsApart world names) where
+  found : (x : Filesystem ℕ) → Among x world.filesystems → (number : ℕ) → nat_eq number x.number ≡ true
+      → filesystem_numbered nat_eq world number ≡ x
+  found x m number e =
+      ap (filesystem_numbered nat_eq world) (eqb-true number x.number e)
+      ∙ found_filesystem world.filesystems apart.is.files.one_filesystem x m
+
+  -- a filesystem put in the place of another one is that one with other files
+  pub replaced_is_rewritten : (number : ℕ) (files : FileTree ℕ)
+      → map (replaced_if_numbered nat_eq (with_files (filesystem_numbered nat_eq world number) files)) world.filesystems
+      ≡ map (rewritten number files) world.filesystems
+  replaced_is_rewritten number files =
+      map_alike (replaced_if_numbered nat_eq (with_files (filesystem_numbered nat_eq world number) files))
+      (rewritten number files) world.filesystems (λ x m.
+      ap (λ n. cond (nat_eq n x.number) (with_files (filesystem_numbered nat_eq world number) files) x)
+      (number_of_filesystem world number)
+      ∙ by x m (nat_eq number x.number) refl)
+    where
+      by : (x : Filesystem ℕ) → Among x world.filesystems → (b : Bool) → nat_eq number x.number ≡ b
+          → cond b (with_files (filesystem_numbered nat_eq world number) files) x ≡ cond b
+          (record x { files = files }) x
+      by x m true e = ap (λ (f : Filesystem ℕ). record f { files = files }) (found x m number e)
+      by x m false e = refl
+
+  pub replaced_is_remerged : (number upper : ℕ) (overlay : Overlay ℕ) (merge : Merge ℕ) → upper ≢ number
+      → (filesystem_numbered nat_eq world number).overlay ≡ Some overlay
+      → map (replaced_if_numbered nat_eq (with_files (filesystem_numbered nat_eq world upper) merge.upper))
+      (map (replaced_if_numbered nat_eq (record (filesystem_numbered nat_eq world number) {
+        files = merge.files;
+        overlay = Some (with_real_objects merge overlay);
+      })) world.filesystems)
+      ≡ map (λ x. rewritten upper merge.upper (remerged number merge x)) world.filesystems
+  replaced_is_remerged number upper overlay merge elsewhere is =
+      map_twice (replaced_if_numbered nat_eq (with_files (filesystem_numbered nat_eq world upper) merge.upper))
+      (replaced_if_numbered nat_eq new) world.filesystems
+      ∙ map_alike
+      (λ x. replaced_if_numbered nat_eq (with_files (filesystem_numbered nat_eq world upper) merge.upper)
+      (replaced_if_numbered nat_eq new x)) (λ x. rewritten upper merge.upper (remerged number merge x))
+      world.filesystems (λ x m.
+      ap (replaced_if_numbered nat_eq (with_files (filesystem_numbered nat_eq world upper) merge.upper))
+      (ap (λ n. cond (nat_eq n x.number) new x) (number_of_filesystem world number)
+      ∙ merged x m (nat_eq number x.number) refl)
+      ∙ ap (λ n. cond (nat_eq n (remerged number merge x).number)
+      (with_files (filesystem_numbered nat_eq world upper) merge.upper) (remerged number merge x))
+      (number_of_filesystem world upper)
+      ∙ above x m (nat_eq upper (remerged number merge x).number) refl)
+    where
+      new : Filesystem ℕ
+      new = record (filesystem_numbered nat_eq world number) {
+        files = merge.files;
+        overlay = Some (with_real_objects merge overlay);
+      }
+
+      merged : (x : Filesystem ℕ) → Among x world.filesystems → (b : Bool) → nat_eq number x.number ≡ b
+          → cond b new x ≡ cond b (record x {
+            files = merge.files;
+            overlay = option_map (with_real_objects merge) x.overlay;
+          }) x
+      merged x m true e =
+          ap (λ (f : Filesystem ℕ). record f { files = merge.files; overlay = Some (with_real_objects merge overlay) })
+          (found x m number e)
+          ∙ ap (λ o. record x { files = merge.files; overlay = option_map (with_real_objects merge) o })
+          (sym is ∙ ap (λ (f : Filesystem ℕ). f.overlay) (found x m number e))
+      merged x m false e = refl
+
+      other_there : (x : Filesystem ℕ) → nat_eq upper x.number ≡ true → remerged number merge x ≡ x
+      other_there x e =
+          ap (λ b. cond b (record x {
+            files = merge.files;
+            overlay = option_map (with_real_objects merge) x.overlay;
+          }) x)
+          (false_from_ne_true (nat_eq number x.number) (λ f.
+          elsewhere (eqb-true upper x.number e ∙ sym (eqb-true number x.number f))))
+
+      above : (x : Filesystem ℕ) → Among x world.filesystems → (b : Bool)
+          → nat_eq upper (remerged number merge x).number ≡ b
+          → cond b (with_files (filesystem_numbered nat_eq world upper) merge.upper) (remerged number merge x)
+          ≡ cond b (record (remerged number merge x) { files = merge.upper }) (remerged number merge x)
+      above x m true e =
+          let at : nat_eq upper x.number ≡ true = ap (nat_eq upper) (sym (remerged_number number merge x)) ∙ e in
+          ap (λ (f : Filesystem ℕ). record f { files = merge.upper }) (found x m upper at ∙ sym (other_there x at))
+      above x m false e = refl
+
+  abbrev is_used : ℕ → Bool
+  is_used number = is_among nat_eq number (used_filesystems nat_eq world names)
+
+  abbrev has_lower : ℕ → Bool
+  has_lower number = list_any (λ (layer : Layer ℕ). nat_eq number layer.filesystem) (own_lowers nat_eq world names)
+
+  unused_differs : (number : ℕ) → is_used number ≡ false → (x : Filesystem ℕ) → is_used x.number ≡ true
+      → nat_eq number x.number ≡ false
+  unused_differs number unused x used =
+      false_from_ne_true (nat_eq number x.number) (λ e.
+      true≢false (sym used ∙ ap is_used (sym (eqb-true number x.number e)) ∙ unused))
+
+  -- what the part has of a tree that keeps what lies under their layers
+  lowered_stays : (number : ℕ) (files : FileTree ℕ)
+      → KeepsBelow (filesystem_numbered nat_eq world number).files files number (own_lowers nat_eq world names)
+      → (x : Filesystem ℕ) → Among x world.filesystems
+      → lowered_by (used_filesystems nat_eq world names) (own_lowers nat_eq world names)
+      (rewritten number files x).files (rewritten number files x)
+      ≡ lowered_by (used_filesystems nat_eq world names) (own_lowers nat_eq world names) x.files x
+  lowered_stays number files keeps x m = by (nat_eq number x.number) refl
+    where
+      lowered : Filesystem ℕ → Filesystem ℕ
+      lowered y =
+          lowered_by (used_filesystems nat_eq world names) (own_lowers nat_eq world names) y.files y
+
+      by : (b : Bool) → nat_eq number x.number ≡ b → lowered (cond b (record x { files = files }) x) ≡ lowered x
+      by true e =
+          ap (λ (f : FileTree ℕ). record x { files = f; change = 0 })
+          (lower_part_stays x.files files x.number (own_lowers nat_eq world names)
+          (subst (λ n. KeepsBelow x.files files n (own_lowers nat_eq world names)) (eqb-true number x.number e)
+          (subst (λ (f : Filesystem ℕ). KeepsBelow f.files files number (own_lowers nat_eq world names))
+          (found x m number e) keeps)))
+      by false e = refl
+
+  -- A change of a plain tree
+  pub plain_step : (number : ℕ) (files : FileTree ℕ) → is_used number ≡ false
+      → (has_lower number ≡ true
+      → KeepsBelow (filesystem_numbered nat_eq world number).files files number (own_lowers nat_eq world names))
+      → IsFilesStep world names (rewritten number files)
+  plain_step number files unused keeps = record {
+    number = rewritten_number number files;
+    overlay = λ x. ap is_some (rewritten_overlay number files x);
+    layers = λ layer x. ap (overlay_or false (λ overlay. list_any (λ l. nat_eq layer l.filesystem) (layers_of overlay)))
+        (rewritten_overlay number files x);
+    used = λ x m used. ap (λ b. cond b (record x { files = files }) x) (unused_differs number unused x used);
+    lower = λ x m lower. by x m lower (nat_eq number x.number) refl;
+  }
+    where
+      lowered : Filesystem ℕ → Filesystem ℕ
+      lowered y =
+          lowered_by (used_filesystems nat_eq world names) (own_lowers nat_eq world names) y.files y
+
+      by : (x : Filesystem ℕ) → Among x world.filesystems → has_lower x.number ≡ true → (b : Bool)
+          → nat_eq number x.number ≡ b → lowered (rewritten number files x) ≡ lowered x
+      by x m lower true e =
+          lowered_stays number files (keeps (ap has_lower (eqb-true number x.number e) ∙ lower)) x m
+      by x m lower false e = ap lowered (ap (λ b. cond b (record x { files = files }) x) e)
+
+  -- and of an overlay, with its upper layer
+  pub merged_step : (number upper : ℕ) (merge : Merge ℕ) → is_used number ≡ false → is_used upper ≡ false
+      → has_lower number ≡ false
+      → (has_lower upper ≡ true
+      → KeepsBelow (filesystem_numbered nat_eq world upper).files merge.upper upper (own_lowers nat_eq world names))
+      → IsFilesStep world names (λ x. rewritten upper merge.upper (remerged number merge x))
+  merged_step number upper merge unused unused_upper no_lower keeps = record {
+    number = λ x. above.number (remerged number merge x) ∙ remerged_number number merge x;
+    overlay = λ x. above.overlay (remerged number merge x) ∙ remerged_overlay number merge x;
+    layers = λ layer x. above.layers layer (remerged number merge x) ∙ remerged_layers layer number merge x;
+    used = λ x m used. ap (rewritten upper merge.upper) (stays x (unused_differs number unused x used))
+        ∙ above.used x m used;
+    lower = λ x m lower.
+        ap (λ y. lowered (rewritten upper merge.upper y)) (stays x (false_from_ne_true (nat_eq number x.number) (λ e.
+        true≢false (sym lower ∙ ap has_lower (sym (eqb-true number x.number e)) ∙ no_lower))))
+        ∙ above.lower x m lower;
+  }
+    where
+      above : IsFilesStep world names (rewritten upper merge.upper)
+      above = plain_step upper merge.upper unused_upper keeps
+
+      lowered : Filesystem ℕ → Filesystem ℕ
+      lowered y =
+          lowered_by (used_filesystems nat_eq world names) (own_lowers nat_eq world names) y.files y
+
+      stays : (x : Filesystem ℕ) → nat_eq number x.number ≡ false → remerged number merge x ≡ x
+      stays x e =
+          ap (λ b. cond b (record x {
+            files = merge.files;
+            overlay = option_map (with_real_objects merge) x.overlay;
+          }) x) e

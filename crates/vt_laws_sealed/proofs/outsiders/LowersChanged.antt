@@ -1,0 +1,151 @@
+-- What lies under directories of a tree that is changed elsewhere: a part of the tree has the same of it.
+use Rattle.std.proofs.Common.{◌≡◌, refl, sym, ap, ◌∙◌, inl, inr, ℕ, nat_eq, Bool, true, false, cond, true≢false, List, [], ◌∷◌, ◌++◌, Option, Some, None, filter, is_some, ◌&&◌}
+use Rattle.std.specs.List.{list_any}
+use Rattle.std.proofs.lemmas.Bool.{and_parts, false_from_ne_true}
+use Rattle.vt_spec.specs.FileTree.{FileTree, is_under}
+use Rattle.vt_spec.specs.Lists.{is_among}
+use Rattle.vt_spec.specs.Machine.Settled.{only_among}
+use Rattle.vt_spec.specs.Machine.World.{Layer}
+use Rattle.vt_spec.specs.Tree.{Node, entries_in, entry_named, is_directory_node}
+use Rattle.vt_spec.specs.TreeInvariant.{IsDirectory, led}
+use Rattle.vt_spec.proofs.Lists.{Among, among-from_filter, among_numbers, any_among}
+use Rattle.vt_spec.proofs.Nodes.{directory_used}
+use Rattle.vt_spec.proofs.Truths.{same_truth}
+use Rattle.vt_laws_trees.specs.Trees.{IsFileTree}
+use Rattle.vt_laws_layers.proofs.layers.ShownDirectories.{led_is_there}
+use Rattle.vt_laws_layers.proofs.views.Stay.{led_where}
+use Rattle.vt_laws_overlays.proofs.whole.ApartPaths.{led_under, under_led}
+use Rattle.vt_laws_sealed.proofs.outsiders.CutTrees.{any_alike, filter_same}
+
+-- what is put before a list, and does not pass
+filter_without : (p : ℕ → Bool) (more xs : List ℕ) → ((x : ℕ) → Among x more → p x ≡ false)
+    → filter p (more ++ xs) ≡ filter p xs
+filter_without p [] xs none = refl
+filter_without p (x ∷ more) xs none =
+    ap (λ b. cond b (x ∷ filter p (more ++ xs)) (filter p (more ++ xs))) (none x (inl refl))
+    ∙ filter_without p more xs (λ y m. none y (inr m))
+
+-- A tree that has its numbers behind new ones, and keeps what lies under the layers
+pub record KeepsBelow (old new : FileTree ℕ) (number : ℕ) (lowers : List (Layer ℕ)) : Type 0 where
+  pub was : IsFileTree old
+  pub is : IsFileTree new
+  pub root : new.tree.root ≡ old.tree.root
+  pub more : List ℕ
+  pub numbers : new.numbers ≡ more ++ old.numbers
+  pub none : (object : ℕ) → Among object more → old.tree.node object ≡ None
+  pub tops : (layer : Layer ℕ) → Among layer lowers → nat_eq number layer.filesystem ≡ true
+      → IsDirectory old.tree layer.directory
+  pub stays : (layer : Layer ℕ) → Among layer lowers → nat_eq number layer.filesystem ≡ true → (object : ℕ)
+      → is_under nat_eq old layer.directory object ≡ true → is_some (old.tree.node object) ≡ true
+      → new.tree.node object ≡ old.tree.node object
+
+module _ (old new : FileTree ℕ) (number : ℕ) (lowers : List (Layer ℕ)) (keeps : KeepsBelow old new number lowers) where
+  -- Under one of the layers
+  module _ (layer : Layer ℕ) (m : Among layer lowers) (at : nat_eq number layer.filesystem ≡ true) where
+    abbrev top : ℕ
+    top = layer.directory
+
+    top_directory : IsDirectory old.tree top
+    top_directory = keeps.tops layer m at
+
+    led_under_it : (path : List (List ℕ)) (object : ℕ) → led old.tree top path ≡ Some object
+        → is_under nat_eq old top object ≡ true
+    led_under_it path object e =
+        led_under old keeps.was.tree top keeps.was.numbers top_directory object (path, e)
+
+    led_there : (path : List (List ℕ)) (object : ℕ) → led old.tree top path ≡ Some object
+        → is_some (old.tree.node object) ≡ true
+    led_there path object e =
+        led_is_there (record { tree = old.tree; directory = top }) keeps.was.tree top_directory path object e
+
+    pub under_there : (object : ℕ) → is_under nat_eq old top object ≡ true → is_some (old.tree.node object) ≡ true
+    under_there object h =
+        let way = under_led old keeps.was.tree top object h in led_there way.0 object way.1
+
+    leads : (path : List (List ℕ)) → led new.tree top path ≡ led old.tree top path
+    leads path =
+        led_where old.tree new.tree path top (λ way inode e word.
+        ap (λ (node : Option (Node ℕ)). entry_named word (entries_in node))
+        (keeps.stays layer m at inode (led_under_it way inode e) (led_there way inode e)))
+
+    still_directory : IsDirectory new.tree top
+    still_directory =
+        ap is_directory_node
+        (keeps.stays layer m at top (led_under_it [] top refl) (directory_used old.tree top top_directory))
+        ∙ top_directory
+
+    pub under_same : (object : ℕ) → is_under nat_eq new top object ≡ is_under nat_eq old top object
+    under_same object =
+        same_truth (is_under nat_eq new top object) (is_under nat_eq old top object)
+        (λ h. let way = under_led new keeps.is.tree top object h in
+        led_under_it way.0 object (sym (leads way.0) ∙ way.1))
+        (λ h. let way = under_led old keeps.was.tree top object h in
+        led_under new keeps.is.tree top keeps.is.numbers still_directory object (way.0, leads way.0 ∙ way.1))
+
+  abbrev lies_in : FileTree ℕ → ℕ → Bool
+  lies_in tree object =
+      list_any (λ (layer : Layer ℕ). nat_eq number layer.filesystem && is_under nat_eq tree layer.directory object)
+      lowers
+
+  lies_same : (object : ℕ) → lies_in new object ≡ lies_in old object
+  lies_same object =
+      any_alike
+      (λ (layer : Layer ℕ). nat_eq number layer.filesystem && is_under nat_eq new layer.directory object)
+      (λ (layer : Layer ℕ). nat_eq number layer.filesystem && is_under nat_eq old layer.directory object) lowers
+      (λ layer m. by layer m (nat_eq number layer.filesystem) refl)
+    where
+      by : (layer : Layer ℕ) → Among layer lowers → (b : Bool) → nat_eq number layer.filesystem ≡ b
+          → (b && is_under nat_eq new layer.directory object) ≡ (b && is_under nat_eq old layer.directory object)
+      by layer m true e = under_same layer m e object
+      by layer m false e = refl
+
+  lying : (object : ℕ) → lies_in old object ≡ true
+      → (is_some (old.tree.node object) ≡ true) × (new.tree.node object ≡ old.tree.node object)
+  lying object h =
+      let at = any_among (λ (layer : Layer ℕ). nat_eq number layer.filesystem
+      && is_under nat_eq old layer.directory object) lowers h in
+      let both = and_parts (nat_eq number at.0.filesystem) (is_under nat_eq old at.0.directory object) at.2 in
+      let there = under_there at.0 at.1 both.0 object both.1 in
+      (there, keeps.stays at.0 at.1 both.0 object both.1 there)
+
+  new_lies_nowhere : (object : ℕ) → Among object keeps.more → lies_in old object ≡ false
+  new_lies_nowhere object m =
+      false_from_ne_true (lies_in old object) (λ h.
+      true≢false (sym (lying object h).0 ∙ ap is_some (keeps.none object m)))
+
+  abbrev chosen : List ℕ
+  chosen = filter (lies_in old) old.numbers
+
+  chosen_lies : (object : ℕ) → is_among nat_eq object chosen ≡ true → lies_in old object ≡ true
+  chosen_lies object h = (among-from_filter (lies_in old) old.numbers object (among_numbers chosen object h)).1
+
+  numbers_same : filter (lies_in new) new.numbers ≡ chosen
+  numbers_same =
+      ap (filter (lies_in new)) keeps.numbers
+      ∙ filter_same (lies_in new) (lies_in old) (keeps.more ++ old.numbers) lies_same
+      ∙ filter_without (lies_in old) keeps.more old.numbers new_lies_nowhere
+
+  node_same : (object : ℕ) → cond (is_among nat_eq object chosen) (new.tree.node object) None
+      ≡ cond (is_among nat_eq object chosen) (old.tree.node object) None
+  node_same object = by (is_among nat_eq object chosen) refl
+    where
+      by : (b : Bool) → is_among nat_eq object chosen ≡ b
+          → cond b (new.tree.node object) None ≡ cond b (old.tree.node object) None
+      by true e = (lying object (chosen_lies object e)).1
+      by false e = refl
+
+  pub lower_part_stays : only_among nat_eq (filter (lies_in new) new.numbers) new ≡ only_among nat_eq chosen old
+  lower_part_stays =
+      ap (λ list. only_among nat_eq list new) numbers_same
+      ∙ (λ i. record {
+        tree = record { root = keeps.root i; node = λ object. node_same object i };
+        numbers = chosen_same i;
+      })
+    where
+      chosen_same : filter (λ object. is_among nat_eq object chosen) new.numbers
+          ≡ filter (λ object. is_among nat_eq object chosen) old.numbers
+      chosen_same =
+          ap (filter (λ object. is_among nat_eq object chosen)) keeps.numbers
+          ∙ filter_without (λ object. is_among nat_eq object chosen) keeps.more old.numbers (λ object m.
+          false_from_ne_true (is_among nat_eq object chosen) (λ h.
+          true≢false (sym (chosen_lies object h) ∙ new_lies_nowhere object m)))

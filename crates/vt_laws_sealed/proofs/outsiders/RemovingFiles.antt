@@ -1,0 +1,331 @@
+-- Directories that others remove, and files and directories that they rename: rmdir(2), rename(2). Mounts on what goes
+-- are of others, in whatever namespace.
+use Rattle.std.proofs.Common.{◌≡◌, refl, sym, ap, subst, ◌∙◌, ⊎_elim, ℕ, nat_eq, true, false, true≢false, List, [], Option, Some, None, Ok, flat_map, length, map, ◌&&◌, eqb-true}
+use Rattle.std.specs.Prelude.{option_map, option_to_list}
+use Rattle.std.specs.List.{list_any}
+use Rattle.std.proofs.lemmas.Bool.{and_parts, false_from_ne_true}
+use Rattle.std.proofs.lemmas.Option.{same_Some}
+use Rattle.vt_spec.specs.Language.Calls.{Call, TaskName}
+use Rattle.vt_spec.specs.Language.Changes.{Change}
+use Rattle.vt_spec.specs.Language.Changes.Change.{Move, Remove}
+use Rattle.vt_spec.specs.Lists.{Fresh, holds_of, is_among, then_some}
+use Rattle.vt_spec.specs.Machine.Apply.{apply, filesystems_changed, overfills}
+use Rattle.vt_spec.specs.Machine.Detach.{is_going, is_point, mounts_on, points_of, upper_points, without_mounts_on}
+use Rattle.vt_spec.specs.Machine.Filesystems.{changed_at, numbers_of_change, numbers_over, with_change}
+use Rattle.vt_spec.specs.Machine.Invariants.{Stands}
+use Rattle.vt_spec.specs.Machine.Judge.{judge_in}
+use Rattle.vt_spec.specs.Machine.Locked.{overlay_or}
+use Rattle.vt_spec.specs.Machine.Looks.{looks_of}
+use Rattle.vt_spec.specs.Machine.Mounts.{Location, Mount, mount_tree}
+use Rattle.vt_spec.specs.Machine.Permits.{Permit}
+use Rattle.vt_spec.specs.Machine.Permits.Permit.{ToRemoveDirectory, ToRename}
+use Rattle.vt_spec.specs.Machine.Rules.Removing.{object_there}
+use Rattle.vt_spec.specs.Machine.Run.{Serves}
+use Rattle.vt_spec.specs.Machine.Sealed.{is_own_mount, is_own_namespace, own_mounts, sealed, used_filesystems}
+use Rattle.vt_spec.specs.Machine.Settled.{settled}
+use Rattle.vt_spec.specs.Machine.Walking.{is_directory_there, name_of}
+use Rattle.vt_spec.specs.Machine.World.{Filesystem, Layer, Overlay, Task, World, files_at, filesystem_at, filesystem_numbered, mount_at, mount_numbered, task_called, upper_object}
+use Rattle.vt_spec.specs.TreeInvariant.{entry_at}
+use Rattle.vt_spec.proofs.Lists.{Among, among-append_left, among-filter, among-from_filter, among-from_flat_map, among-from_map, among-map, among_from_all, among_numbers, any_among, any_from_among}
+use Rattle.vt_spec.proofs.Options.{none_is_some}
+use Rattle.vt_spec.proofs.Worlds.{found_or_none, special_word}
+use Rattle.vt_laws_rules.proofs.given.Inversion.{calls_are_granted}
+use Rattle.vt_laws_rules.specs.Granted.{IsGranted}
+use Rattle.vt_laws_rules.specs.Granted.IsGranted.{removes_directory, renames}
+use Rattle.vt_laws_trees.proofs.trees.PlacesReached.{old_is, rename_new_is}
+use Rattle.vt_laws_trees.proofs.trees.TreesWalked.{not_true, place_named}
+use Rattle.vt_laws_mounts.proofs.mounts.MountsReplaced.{found_itself}
+use Rattle.vt_laws_layers.proofs.layers.LowersMounts.{same_filesystems_without, same_mounted_without}
+use Rattle.vt_laws_layers.proofs.layers.LowersWorld.{number_of_filesystem, the_rest_stays}
+use Rattle.vt_laws_worlds.proofs.worlds.Reached.{namespace_below}
+use Rattle.vt_laws_permits.proofs.sees.SeesNames.{old_mount}
+use Rattle.vt_laws_overlay_permits.specs.Asked.{change_asked}
+use Rattle.vt_laws_part.specs.Seals.{IsApart}
+use Rattle.vt_laws_part.proofs.part.PartOfPart.{used_directly_used}
+use Rattle.vt_laws_part.proofs.seals.ByPart.{apart_if_sealed}
+use Rattle.vt_laws_sealed.specs.Outsiders.{IsOutsidersCall, LeaveASealedSet, removes_files}
+use Rattle.vt_laws_sealed.proofs.outsiders.ChangedWorlds.{others_rest}
+use Rattle.vt_laws_sealed.proofs.outsiders.ChangingFiles.{change_leaves, change_alone}
+use Rattle.vt_laws_sealed.proofs.outsiders.Entering.{task_there}
+use Rattle.vt_laws_sealed.proofs.outsiders.FilesOfCalls.{changed_is_unused, upper_is_unused}
+use Rattle.vt_laws_sealed.proofs.outsiders.OtherMounts.{tree_in}
+use Rattle.vt_laws_sealed.proofs.outsiders.Standing.{nowhere_unplaced}
+use Rattle.vt_laws_sealed.proofs.outsiders.Staying.{LeavesApart, by_permit}
+use Rattle.vt_laws_sealed.proofs.outsiders.TakingAway.{namespaces_taken_away, taken_leaves_apart}
+
+-- what a change at a location changes depends on filesystems alone
+changed_at_same : (a b : World ℕ) (location : Location ℕ) → a.filesystems ≡ b.filesystems
+    → (mount_at nat_eq a location).filesystem ≡ (mount_at nat_eq b location).filesystem
+    → changed_at nat_eq a location ≡ changed_at nat_eq b location
+changed_at_same a b location same mounted =
+    ap (numbers_in a) mounted
+    ∙ ap (λ list. numbers_in (record a { filesystems = list }) (mount_at nat_eq b location).filesystem) same
+    ∙ by (filesystem_numbered nat_eq b (mount_at nat_eq b location).filesystem).overlay
+  where
+    numbers_in : World ℕ → ℕ → List ℕ
+    numbers_in w n =
+        numbers_of_change nat_eq w (filesystem_numbered nat_eq w n) (filesystem_numbered nat_eq w n).overlay
+
+    there : Filesystem ℕ
+    there = filesystem_numbered nat_eq b (mount_at nat_eq b location).filesystem
+
+    over : (o : Option (Layer ℕ))
+        → numbers_over nat_eq (record a { filesystems = b.filesystems }) there o
+        ≡ numbers_over nat_eq b there o
+    over None = refl
+    over (Some upper) = refl
+
+    by : (o : Option (Overlay ℕ))
+        → numbers_of_change nat_eq (record a { filesystems = b.filesystems }) there o
+        ≡ numbers_of_change nat_eq b there o
+    by None = refl
+    by (Some overlay) = over overlay.upper
+
+-- Mounts on a directory in a filesystem that the set does not use
+module _ (world : World ℕ) (names : List TaskName) (apart : IsApart world names) (task : Task ℕ)
+    (there : Among task world.tasks) (directory : Location ℕ)
+    (unused : (n : ℕ) → list_any (λ (point : ℕ × ℕ). nat_eq n point.0) (points_of nat_eq world directory) ≡ true
+    → is_among nat_eq n (used_filesystems nat_eq world names) ≡ false) where
+  abbrev IsOfOthersAt : Mount ℕ → Type 0
+  IsOfOthersAt mount =
+      (n : ℕ) × (mount.namespace ≡ Some n) × (is_own_namespace nat_eq world names n ≡ false)
+
+  itself : (mount : Mount ℕ) → Among mount world.mounts → mount_numbered nat_eq world mount.number ≡ mount
+  itself mount m = found_itself world.mounts apart.is.mounts.one_number mount m
+
+  -- the mount that such a mount stands on shows a filesystem that is not theirs
+  parent_not_own : (mount : Mount ℕ) → Among mount world.mounts → (point : Location ℕ)
+      → mount.mount_point ≡ Some point
+      → is_among nat_eq (mount_at nat_eq world point).filesystem (used_filesystems nat_eq world names) ≡ false
+      → IsOfOthersAt mount
+  parent_not_own mount m point stands not_theirs = by mount.namespace refl
+    where
+      by : (o : Option ℕ) → mount.namespace ≡ o → IsOfOthersAt mount
+      by None e = absurd (nowhere_unplaced world apart.is task there mount m e point stands)
+      by (Some n) e = (
+        n,
+        e,
+        false_from_ne_true (is_own_namespace nat_eq world names n) (λ own.
+            let placed : (mount_at nat_eq world point).namespace ≡ Some n =
+            sym (namespace_below world mount.number point
+            (among_from_all (λ (x : Mount ℕ). Stands nat_eq world x.number) world.mounts apart.is.mounts.standing mount
+            m)
+            (ap (λ (x : Mount ℕ). x.mount_point) (itself mount m) ∙ stands))
+            ∙ ap (λ (x : Mount ℕ). x.namespace) (itself mount m) ∙ e in
+            let parent : Among (mount_at nat_eq world point) (own_mounts nat_eq world names) =
+            among-filter (is_own_mount nat_eq world names) world.mounts (mount_at nat_eq world point)
+            (⊎_elim (λ k. k)
+            (λ none. none_is_some n (sym (ap (λ (x : Mount ℕ). x.namespace) none) ∙ placed))
+            (found_or_none world.mounts point.mount))
+            (ap (holds_of (is_own_namespace nat_eq world names)) placed ∙ own) in
+            true≢false (sym (used_directly_used world names (mount_at nat_eq world point).filesystem
+            (among-append_left (map (λ (x : Mount ℕ). x.filesystem) (own_mounts nat_eq world names)) _
+            (mount_at nat_eq world point).filesystem
+            (among-map (λ (x : Mount ℕ). x.filesystem) (own_mounts nat_eq world names) (mount_at nat_eq world point)
+            parent))) ∙ not_theirs)),
+      )
+
+  mount_on_other : (mount : Mount ℕ) → Among mount (mounts_on nat_eq world directory) → IsOfOthersAt mount
+  mount_on_other mount m =
+      let from = among-from_filter (λ (x : Mount ℕ). list_any (λ (point : ℕ × ℕ).
+      is_point nat_eq world point.0 point.1 x) (points_of nat_eq world directory)) world.mounts mount m in
+      let at = any_among (λ (point : ℕ × ℕ). is_point nat_eq world point.0 point.1 mount)
+      (points_of nat_eq world directory) from.1 in
+      by from.0 at.0 at.1 mount.mount_point refl at.2
+    where
+      by : Among mount world.mounts → (at : ℕ × ℕ) → Among at (points_of nat_eq world directory)
+          → (o : Option (Location ℕ)) → mount.mount_point ≡ o
+          → holds_of (λ (point : Location ℕ). nat_eq point.node at.1
+          && nat_eq (mount_at nat_eq world point).filesystem at.0) o ≡ true → IsOfOthersAt mount
+      by k at among None e h = absurd (true≢false (sym h))
+      by k at among (Some point) e h =
+          parent_not_own mount k point e
+          (unused (mount_at nat_eq world point).filesystem
+          (any_from_among
+          (λ (p : ℕ × ℕ). nat_eq (mount_at nat_eq world point).filesystem p.0)
+          (points_of nat_eq world directory) at among
+          (and_parts (nat_eq point.node at.1) (nat_eq (mount_at nat_eq world point).filesystem at.0) h).1))
+
+  abbrev gone : List ℕ
+  gone =
+      map (λ (mount : Mount ℕ). mount.number)
+      (flat_map (mount_tree nat_eq world.mounts) (mounts_on nat_eq world directory))
+
+  others_go : (k : ℕ) → is_going nat_eq gone k ≡ true
+      → (n : ℕ) × ((mount_numbered nat_eq world k).namespace ≡ Some n) × (is_own_namespace nat_eq world names n ≡ false)
+  others_go k h =
+      let from = among-from_map (λ (mount : Mount ℕ). mount.number)
+      (flat_map (mount_tree nat_eq world.mounts) (mounts_on nat_eq world directory)) k (among_numbers gone k h) in
+      let top = among-from_flat_map (mount_tree nat_eq world.mounts) (mounts_on nat_eq world directory) from.0 from.1 in
+      let other = mount_on_other top.0 top.1 in
+      let top_there = (among-from_filter (λ (x : Mount ℕ). list_any (λ (point : ℕ × ℕ).
+      is_point nat_eq world point.0 point.1 x) (points_of nat_eq world directory)) world.mounts top.0 top.1).0 in
+      let is_in = tree_in world names apart other.0 (length world.mounts) top.0 (top_there, other.1) from.0 top.2 in (
+        other.0,
+        ap (λ j. (mount_numbered nat_eq world j).namespace) from.2
+            ∙ ap (λ (x : Mount ℕ). x.namespace) (itself from.0 is_in.0) ∙ is_in.1,
+        other.2,
+      )
+
+  pub unmounting_leaves_apart : (fresh : Fresh ℕ) → Serves nat_eq world fresh
+      → sealed nat_eq world names ≡ true
+      → LeavesApart world (without_mounts_on nat_eq world directory) names []
+  unmounting_leaves_apart fresh serves sealed_off =
+      subst (λ w. LeavesApart world w names [])
+      (namespaces_taken_away world gone)
+      (taken_leaves_apart world names apart sealed_off fresh serves task there world.tasks world.namespaces
+      (others_rest world names apart) gone others_go)
+
+module _ (world : World ℕ) (fresh : Fresh ℕ) (names : List TaskName) (name : TaskName) (call : Call)
+    (task : Task ℕ) (outsider : IsOutsidersCall world fresh names name call)
+    (called : task_called world name ≡ Some task) where
+  set_apart : IsApart world names
+  set_apart = apart_if_sealed world names outsider.is outsider.sealed_off
+
+  -- what is removed or replaced is in the filesystem of its directory
+  abbrev InOneFilesystem : Location ℕ → Location ℕ → Type 0
+  InOneFilesystem a b = (mount_at nat_eq world a).filesystem ≡ (mount_at nat_eq world b).filesystem
+
+  one_mount : (a b : Location ℕ) → a.mount ≡ b.mount → InOneFilesystem a b
+  one_mount a b e = ap (λ n. (mount_numbered nat_eq world n).filesystem) e
+
+  removed_in : (asked : Call) (permit : Permit ℕ)
+      → IsGranted nat_eq (looks_of nat_eq world) (overfills nat_eq fresh world task) task asked permit
+      → (parent : Location ℕ) (entry : List ℕ) (directory : Location ℕ)
+      → permit ≡ ToRemoveDirectory parent entry directory → InOneFilesystem directory parent
+  removed_in asked permit (removes_directory path place walk word passed) parent entry directory e =
+      let same_directory : object_there place ≡ directory = cc in
+      let same_parent : place.parent ≡ parent = cc in
+      one_mount directory parent
+      (ap (λ (l : Location ℕ). l.mount) (sym same_directory)
+      ∙ old_mount world task place (special_word place.last word.0 word.1.0 word.1.1.0)
+      (old_is world task path place walk)
+      ∙ ap (λ (l : Location ℕ). l.mount) same_parent)
+  removed_in asked permit granted parent entry directory e = absurd cc
+
+  replaced_in : (asked : Call) (permit : Permit ℕ)
+      → IsGranted nat_eq (looks_of nat_eq world) (overfills nat_eq fresh world task) task asked permit
+      → (from : Location ℕ) (old : List ℕ) (to : Location ℕ) (new : List ℕ) (object replaced : Location ℕ)
+      → permit ≡ ToRename from old to new object (Some replaced) → InOneFilesystem replaced from
+  replaced_in asked permit (renames path other from_place to_place both two passed) from old to new object replaced e =
+      let same_from : from_place.parent ≡ from = cc in
+      let same_object : to_place.object ≡ Some replaced = cc in
+      let to_is = rename_new_is world task other (is_directory_there nat_eq (looks_of nat_eq world) from_place)
+      to_place both.to_end in
+      let together = eqb-true from_place.parent.mount to_place.parent.mount
+      (not_true (nat_eq from_place.parent.mount to_place.parent.mount) passed.1.1.1.1.1.1.1.1.0) in
+      one_mount replaced from
+      (on_mount (entry_at (files_at nat_eq world to_place.parent).tree
+      to_place.parent.node (name_of to_place.last))
+      (sym (place_named world to_place.parent to_place.last to_place.object both.to_named.0 to_is.0.0).1 ∙ same_object)
+      ∙ sym together ∙ ap (λ (l : Location ℕ). l.mount) same_from)
+    where
+      on_mount : (o : Option ℕ)
+          → option_map (λ n. record { mount = to_place.parent.mount; node = n }) o ≡ Some replaced
+          → replaced.mount ≡ to_place.parent.mount
+      on_mount None f = none_is_some replaced f
+      on_mount (Some n) f =
+          ap (λ (l : Location ℕ). l.mount)
+          (sym (same_Some (record { mount = to_place.parent.mount; node = n }) replaced f))
+  replaced_in asked permit granted from old to new object replaced e = absurd cc
+
+  -- So mounts on it are of others.
+  module _ (permit : Permit ℕ) (judged : judge_in nat_eq fresh world task call ≡ Ok permit) (location : Location ℕ)
+      (change : Change ℕ) (asks : change_asked fresh world permit ≡ Some (location, change))
+      (directory : Location ℕ) (at : InOneFilesystem directory location) where
+    abbrev there : Filesystem ℕ
+    there = filesystem_at nat_eq world location
+
+    same_there : filesystem_at nat_eq world directory ≡ there
+    same_there = ap (filesystem_numbered nat_eq world) at
+
+    points_unused : (n : ℕ)
+        → list_any (λ (point : ℕ × ℕ). nat_eq n point.0) (points_of nat_eq world directory) ≡ true
+        → is_among nat_eq n (used_filesystems nat_eq world names) ≡ false
+    points_unused n h =
+        let found = any_among (λ (point : ℕ × ℕ). nat_eq n point.0) (points_of nat_eq world directory) h in
+        ap (λ k. is_among nat_eq k (used_filesystems nat_eq world names)) (eqb-true n found.0.0 found.2)
+        ∙ ⊎_elim
+        (λ own. ap (λ (p : ℕ × ℕ). is_among nat_eq p.0 (used_filesystems nat_eq world names)) own
+        ∙ ap (λ k. is_among nat_eq k (used_filesystems nat_eq world names))
+        (number_of_filesystem world
+        (mount_at nat_eq world directory).filesystem ∙ at)
+        ∙ changed_is_unused world fresh names name call task outsider called permit judged location change asks)
+        (λ upper. over (filesystem_at nat_eq world directory).overlay refl found.0 upper) found.1
+      where
+        over : (o : Option (Overlay ℕ)) → (filesystem_at nat_eq world directory).overlay ≡ o → (point : ℕ × ℕ)
+            → Among point (overlay_or []
+            (λ overlay. upper_points world (filesystem_at nat_eq world directory) overlay directory.node) o)
+            → is_among nat_eq point.0 (used_filesystems nat_eq world names) ≡ false
+        over None e point m = absurd m
+        over (Some overlay) e point m = layered overlay.upper refl m
+          where
+            real : (layer : Layer ℕ) (object : Option ℕ) → overlay.upper ≡ Some layer
+                → Among point (option_to_list (option_map (λ k. (layer.filesystem, k)) object))
+                → is_among nat_eq point.0 (used_filesystems nat_eq world names) ≡ false
+            real layer None has k = absurd k
+            real layer (Some object) has k =
+                ⊎_elim
+                (λ same. ap (λ (p : ℕ × ℕ). is_among nat_eq p.0 (used_filesystems nat_eq world names)) same
+                ∙ upper_is_unused world fresh names name call task outsider called permit judged location change asks
+                overlay (ap (λ (f : Filesystem ℕ). f.overlay) (sym same_there) ∙ e) layer has)
+                (λ none. absurd none) k
+
+            layered : (o : Option (Layer ℕ)) → overlay.upper ≡ o
+                → Among point (option_to_list (then_some o (λ layer. option_map (λ k. (layer.filesystem, k))
+                (upper_object (overlay.real directory.node)))))
+                → is_among nat_eq point.0 (used_filesystems nat_eq world names) ≡ false
+            layered None has k = absurd k
+            layered (Some layer) has k = real layer (upper_object (overlay.real directory.node)) has k
+
+    mounts_leave : LeavesApart world (without_mounts_on nat_eq world directory) names []
+    mounts_leave =
+        unmounting_leaves_apart world names set_apart task
+        (task_there world fresh names name call task outsider called) directory points_unused fresh outsider.serves
+        outsider.sealed_off
+
+    -- and then the change is made
+    pub removal_leaves : (apply nat_eq fresh world task permit).world
+        ≡ with_change nat_eq fresh (without_mounts_on nat_eq world directory) location change
+        → filesystems_changed nat_eq world permit
+        ≡ changed_at nat_eq (without_mounts_on nat_eq world directory) location
+        → LeavesApart world (settled nat_eq (apply nat_eq fresh world task permit).world) names
+        (filesystems_changed nat_eq world permit)
+    removal_leaves left raised =
+        change_leaves world fresh names name call task outsider called permit judged location change asks
+        (without_mounts_on nat_eq world directory) (same_filesystems_without world directory)
+        (left ∙ the_rest_stays fresh (without_mounts_on nat_eq world directory) location change
+        ∙ ap (λ (w : World ℕ). record (without_mounts_on nat_eq world directory) { filesystems = w.filesystems })
+        (sym left))
+        (raised ∙ changed_at_same (without_mounts_on nat_eq world directory) world location
+        (same_filesystems_without world directory) (same_mounted_without world directory location))
+        mounts_leave
+
+by_removal : (world : World ℕ) (fresh : Fresh ℕ) (names : List TaskName) (name : TaskName) (call : Call)
+    (task : Task ℕ) → IsOutsidersCall world fresh names name call → task_called world name ≡ Some task
+    → (permit : Permit ℕ) → judge_in nat_eq fresh world task call ≡ Ok permit → removes_files permit ≡ true
+    → LeavesApart world (settled nat_eq (apply nat_eq fresh world task permit).world) names
+    (filesystems_changed nat_eq world permit)
+by_removal world fresh names name call task outsider called (ToRemoveDirectory parent entry directory) judged e =
+    removal_leaves world fresh names name call task outsider called (ToRemoveDirectory parent entry directory) judged
+    parent (Remove parent.node entry directory.node) refl directory
+    (removed_in world fresh names name call task outsider called call (ToRemoveDirectory parent entry directory)
+    (calls_are_granted nat_eq (looks_of nat_eq world) (overfills nat_eq fresh world task) task call
+    (ToRemoveDirectory parent entry directory) judged) parent entry directory refl) refl refl
+by_removal world fresh names name call task outsider called (ToRename from old to new object None) judged e =
+    change_alone world fresh names name call task outsider called (ToRename from old to new object None) judged from
+    (Move from.node old to.node new object.node) refl
+    (the_rest_stays fresh world from (Move from.node old to.node new object.node)) refl
+by_removal world fresh names name call task outsider called (ToRename from old to new object (Some replaced)) judged
+    e =
+    removal_leaves world fresh names name call task outsider called (ToRename from old to new object (Some replaced))
+    judged from (Move from.node old to.node new object.node) refl replaced
+    (replaced_in world fresh names name call task outsider called call (ToRename from old to new object (Some replaced))
+    (calls_are_granted nat_eq (looks_of nat_eq world) (overfills nat_eq fresh world task) task call
+    (ToRename from old to new object (Some replaced)) judged) from old to new object replaced refl) refl refl
+by_removal world fresh names name call task outsider called permit judged e = absurd (true≢false (sym e))
+
+pub removals_leave_a_sealed_set : LeaveASealedSet removes_files
+removals_leave_a_sealed_set =
+    by_permit removes_files (λ world fresh names name call task permit outsider called judged these.
+    by_removal world fresh names name call task outsider called permit judged these)
