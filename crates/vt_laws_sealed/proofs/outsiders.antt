@@ -19,6 +19,7 @@ pub mod FlagsSet
 pub mod InodesSwept
 pub mod InodesUsed
 pub mod Joining
+pub mod Lazily
 pub mod LowersChanged
 pub mod Masters
 pub mod NumbersGrown
@@ -36,7 +37,10 @@ pub mod Reshaping
 pub mod Retyping
 pub mod SeenLater
 pub mod Standing
+pub mod StandingApart
 pub mod Staying
+pub mod Steps
 pub mod Sweeping
 pub mod TakingAway
 pub mod Unmounting
+pub mod Unsharing

@@ -8,7 +8,7 @@ use Rattle.vt_spec.specs.Lists.{Fresh, is_among}
 use Rattle.vt_spec.specs.Machine.Invariants.{IsWorld}
 use Rattle.vt_spec.specs.Machine.Judge.{judge_in}
 use Rattle.vt_spec.specs.Machine.Permits.{Permit}
-use Rattle.vt_spec.specs.Machine.Permits.Permit.{Allowed, ToBind, ToChange, ToClose, ToEnterNamespace, ToExit, ToFork, ToList, ToListMounts, ToMake, ToMountOverlay, ToMountPlain, ToOpen, ToOpenNew, ToPivot, ToRead, ToReadPart, ToRemoveDirectory, ToRename, ToSetCredentials, ToSetDirectory, ToSetFlags, ToSetRoot, ToSetType, ToSetUmask, ToStat, ToUnmount, ToWritePart}
+use Rattle.vt_spec.specs.Machine.Permits.Permit.{Allowed, ToBind, ToChange, ToClose, ToEnterNamespace, ToExit, ToFork, ToList, ToListMounts, ToMake, ToMountOverlay, ToMountPlain, ToOpen, ToOpenNew, ToPivot, ToRead, ToReadPart, ToRemoveDirectory, ToRename, ToSetCredentials, ToSetDirectory, ToSetFlags, ToSetRoot, ToSetType, ToSetUmask, ToStat, ToUnmount, ToUnmountLazily, ToUnshare, ToWritePart}
 use Rattle.vt_spec.specs.Machine.Policy.{policy}
 use Rattle.vt_spec.specs.Machine.Run.{Serves}
 use Rattle.vt_spec.specs.Machine.Sealed.{part_of, sealed, used_alone}
@@ -145,3 +145,13 @@ enters_namespaces permit = false
 abbrev pub unmounts : Permit ℕ → Bool
 unmounts (ToUnmount mount) = true
 unmounts permit = false
+
+-- a tree of mounts is unmounted at once: umount2(2) with MNT_DETACH
+abbrev pub unmounts_lazily : Permit ℕ → Bool
+unmounts_lazily (ToUnmountLazily mount) = true
+unmounts_lazily permit = false
+
+-- the task gets a namespace of its own: unshare(2) with CLONE_NEWNS
+abbrev pub unshares : Permit ℕ → Bool
+unshares ToUnshare = true
+unshares permit = false

@@ -1,5 +1,5 @@
 //! Calls of tasks outside a sealed set, by the permit that they are given.
-ghost use Rattle.vt_laws_sealed.specs.Outsiders.{LeaveASealedSet, RefusedCallsLeaveASealedSet, binds, changes_files, changes_nothing, closes, ends_task, enters, enters_namespaces, mounts_overlays, mounts_plain, opens_to_read, pivots, removes_files, sets_flags, sets_own_task, sets_types, unmounts};
+ghost use Rattle.vt_laws_sealed.specs.Outsiders.{LeaveASealedSet, RefusedCallsLeaveASealedSet, binds, changes_files, changes_nothing, closes, ends_task, enters, enters_namespaces, mounts_overlays, mounts_plain, opens_to_read, pivots, removes_files, sets_flags, sets_own_task, sets_types, unmounts, unmounts_lazily, unshares};
 
 /// In a world with all invariants, with overlays or without, where a set of tasks is sealed off, a call of a task
 /// outside it leaves it sealed off and its part as it was, and gives others no mount, location or layer on a filesystem
@@ -44,16 +44,20 @@ pub fn outsiders_pivot_beside_a_sealed_set()
     ensures { LeaveASealedSet pivots }
 {}
 
-/// So it is of _exit(2) (`exits`), and of setns(2) into a namespace of others (`joins`): with the last task of a namespace
-/// its mounts are detached, and peer groups without members end.
+/// So it is of _exit(2) (`exits`), of setns(2) into a namespace of others (`joins`), and of unshare(2) with CLONE_NEWNS
+/// (`unshares`), whose copies are peers and slaves of mounts of others alone: with the last task of a namespace its mounts
+/// are detached, and peer groups without members end.
 pub fn outsiders_leave_namespaces_beside_a_sealed_set()
     ensures exits { LeaveASealedSet ends_task }
     ensures joins { LeaveASealedSet enters_namespaces }
+    ensures unshares { LeaveASealedSet unshares }
 {}
 
-/// So it is of umount(2): what the unmount event takes away at receivers is none of the set's.
+/// So it is of umount(2) (`events`): what the unmount event takes away at receivers is none of the set's. So it is of
+/// umount2(2) with MNT_DETACH (`lazy`), with one event for each mount of the tree.
 pub fn outsiders_unmount_beside_a_sealed_set()
-    ensures { LeaveASealedSet unmounts }
+    ensures events { LeaveASealedSet unmounts }
+    ensures lazy { LeaveASealedSet unmounts_lazily }
 {}
 
 /// So it is of what changes files and directories: chmod(2), chown(2), mkdir(2), symlink(2), mknod(2), link(2), unlink(2),

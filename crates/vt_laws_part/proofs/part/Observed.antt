@@ -33,7 +33,7 @@ module _ (world later : World ℕ) (names : List TaskName) (same : SeesTheSame w
       ∙ ap (owned_by (members (part_of nat_eq world names) names)) same.mounts
       ∙ same_own world names
 
-  directly_same : used_directly nat_eq later names ≡ used_directly nat_eq world names
+  pub directly_same : used_directly nat_eq later names ≡ used_directly nat_eq world names
   directly_same =
       sym (same_directly later names)
       ∙ ap (λ tasks. directly_by tasks (part_of nat_eq later names).mounts) tasks_of_parts

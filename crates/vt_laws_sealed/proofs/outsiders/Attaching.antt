@@ -26,24 +26,26 @@ use Rattle.vt_laws_mounts.proofs.mounts.MountsPlaces.{stands_there}
 use Rattle.vt_laws_mounts.proofs.mounts.MountsReplaced.{found_itself}
 use Rattle.vt_laws_worlds.proofs.worlds.Reached.{namespace_below}
 use Rattle.vt_laws_part.specs.Parts.{SeesTheSame}
+use Rattle.vt_laws_layers.specs.Layers.ChangesUpper.{IsNewBy}
 use Rattle.vt_laws_part.specs.Seals.{IsApart}
 use Rattle.vt_laws_part.proofs.Kept.{filter_map_map, filter_map_same}
 use Rattle.vt_laws_part.proofs.groups.EventsApart.{no_event_of_others_reaches_them}
 use Rattle.vt_laws_part.proofs.part.Observed.{own_mounts_same}
 use Rattle.vt_laws_part.proofs.part.PartOfPart.{is_own, keep}
 use Rattle.vt_laws_sealed.proofs.outsiders.Filesystems.{not_of_the_world}
-use Rattle.vt_laws_sealed.proofs.outsiders.OtherMounts.{Foreign, HearsGroup, events_stay_apart, foreign_above, is_other, located_there, member_not_new, not_own, not_stood_on, number_not_new, other_hears_foreign}
+use Rattle.vt_laws_sealed.proofs.outsiders.OtherMounts.{Foreign, HearsGroup, events_stay_apart, foreign_above, is_other, located_there, member_not_new, not_own, not_stood_on, number_not_new, other_hears_foreign, standing_apart_with}
+use Rattle.vt_laws_sealed.proofs.outsiders.StandingApart.{StandsApart}
 use Rattle.vt_laws_sealed.proofs.outsiders.Staying.{IsOfTheWorld, LeavesApart, free_with}
 
 -- a list of which nothing is kept
-none_kept : {A B : Type 0} (k : A → Option B) (xs : List A) → ((x : A) → Among x xs → k x ≡ None)
+pub none_kept : {A B : Type 0} (k : A → Option B) (xs : List A) → ((x : A) → Among x xs → k x ≡ None)
     → filter_map k xs ≡ []
 none_kept k [] none = refl
 none_kept {A} {B} k (x ∷ xs) none =
     ap (λ o. cons_option o (filter_map k xs)) (none x (inl refl)) ∙ none_kept k xs (λ y m. none y (inr m))
 
 -- a mount that is in the first of two lists is found there
-found_first : (number : ℕ) (xs ys : List (Mount ℕ)) → (mount : Mount ℕ) → Among mount xs
+pub found_first : (number : ℕ) (xs ys : List (Mount ℕ)) → (mount : Mount ℕ) → Among mount xs
     → nat_eq number mount.number ≡ true → mount_in nat_eq (xs ++ ys) number ≡ mount_in nat_eq xs number
 found_first number [] ys mount m e = absurd m
 found_first number (x ∷ xs) ys mount m e =
@@ -105,6 +107,9 @@ module _ (world : World ℕ) (names : List TaskName) (apart : IsApart world name
     (outside : is_own_namespace nat_eq world names namespace ≡ false)
     (placed : (mount_at nat_eq world place).namespace ≡ Some namespace) (mounts : List (Mount ℕ))
     (origins : (origin : Mount ℕ) → Among origin mounts → OriginOf world fresh names origin) where
+  abbrev so_far : StandsApart world names (IsNewBy fresh)
+  so_far = standing_apart_with world names apart fresh serves
+
   -- the world, perhaps with a new filesystem
   abbrev base : World ℕ
   base = record world { filesystems = filesystems }
@@ -131,7 +136,7 @@ module _ (world : World ℕ) (names : List TaskName) (apart : IsApart world name
   kept = keep world names theirs
 
   abbrev IsForeign : ℕ → Type 0
-  IsForeign = Foreign world names apart fresh serves
+  IsForeign = Foreign world names so_far
 
   -- numbers of copies and of groups are new
   new_copy : (part origin : ℕ) → (k : ℕ) × (new.copy part origin ≡ fresh k)
@@ -145,13 +150,13 @@ module _ (world : World ℕ) (names : List TaskName) (apart : IsApart world name
 
   -- an origin hears groups of others alone
   origin_hears : (origin : Mount ℕ) → Among origin mounts → (kind : Propagation ℕ) → origin.propagation ≡ kind
-      → (group : ℕ) → HearsGroup world names apart fresh serves world kind group → IsForeign group
+      → (group : ℕ) → HearsGroup world names so_far world kind group → IsForeign group
   origin_hears origin m kind e group how =
       ⊎_elim
-      (λ other. other_hears_foreign world names apart fresh serves other.0 other.1 group
-      (subst (λ k. HearsGroup world names apart fresh serves world k group) (sym e ∙ other.2) how))
+      (λ other. other_hears_foreign world names so_far other.0 other.1 group
+      (subst (λ k. HearsGroup world names so_far world k group) (sym e ∙ other.2) how))
       (λ private. ⊎_elim (λ f. none_is_some group f) (λ f. none_is_some group f)
-      (subst (λ k. HearsGroup world names apart fresh serves world k group) (sym e ∙ private.0) how))
+      (subst (λ k. HearsGroup world names so_far world k group) (sym e ∙ private.0) how))
       (origins origin m)
 
   -- Each part is a mount of others.
@@ -162,7 +167,7 @@ module _ (world : World ℕ) (names : List TaskName) (apart : IsApart world name
       (found_or_none world.mounts place.mount)
 
   destination_other : Among destination (other_mounts nat_eq world names)
-  destination_other = is_other world names apart namespace outside destination destination_there placed
+  destination_other = is_other world names namespace outside destination destination_there placed
 
   receiver_other : (part : Mount ℕ)
       → Among part (filter (takes_part nat_eq base place) (receivers_of nat_eq base destination))
@@ -199,7 +204,7 @@ module _ (world : World ℕ) (names : List TaskName) (apart : IsApart world name
                   (among-filter (is_own_mount nat_eq world names) world.mounts part there
                   (ap (holds_of (is_own_namespace nat_eq world names)) f ∙ own)))
                   (contains_from_among (other_mounts nat_eq world names) destination destination_other) e))
-              which false other = is_other world names apart n other part there f
+              which false other = is_other world names n other part there f
 
   part_other : (part : Mount ℕ) → Among part parts → Among part (other_mounts nat_eq world names)
   part_other part m =
@@ -329,7 +334,7 @@ module _ (world : World ℕ) (names : List TaskName) (apart : IsApart world name
           ∙ at.1 in
           let no : (is_own world names theirs mount || is_at nat_eq (roots_and_directories theirs) mount) ≡ false =
           ap (λ b. b || is_at nat_eq (roots_and_directories theirs) mount)
-          (not_own world names apart at.0 at.2 mount m in_it)
+          (not_own world names at.0 at.2 mount m in_it)
           ∙ not_stood_on world names apart at.0 at.2 mount m in_it in
           ap (λ b. cond b (Some (pushed_onto nat_eq base new tree parts mount (Some part)))
           (when (is_at nat_eq (locations theirs) mount) (seen_by_descriptor mount))) no
@@ -526,14 +531,14 @@ module _ (world : World ℕ) (names : List TaskName) (apart : IsApart world name
   foreign_master : (group above : ℕ) → IsForeign group → left.master group ≡ Some above → IsForeign above
   foreign_master group above foreign e =
       ⊎_elim
-      (λ same. foreign_above world names apart fresh serves group above foreign (sym same ∙ e))
+      (λ same. foreign_above world names so_far group above foreign (sym same ∙ e))
       (λ set. (made_foreign set.0 set.1).1 above (sym set.2 ∙ e))
       (masters_from group (all_groups_made nat_eq base new tree parts) world.master)
 
   -- A type of which the group is one of others: then each group that it hears is.
   heard_foreign : (kind : Propagation ℕ) → ((group : ℕ) → group_of kind ≡ Some group → IsForeign group)
       → ((group : ℕ) → kind ≡ Slave group → IsForeign group)
-      → (group : ℕ) → HearsGroup world names apart fresh serves left kind group → IsForeign group
+      → (group : ℕ) → HearsGroup world names so_far left kind group → IsForeign group
   heard_foreign (Shared g) of_group of_slave group how =
       ⊎_elim (of_group group) (λ e. foreign_master g group (of_group g refl) e) how
   heard_foreign (Slave g) of_group of_slave group how =
@@ -545,56 +550,56 @@ module _ (world : World ℕ) (names : List TaskName) (apart : IsApart world name
 
   -- the type of a mount of others, as it was
   old_foreign : (other : Mount ℕ) → Among other (other_mounts nat_eq world names) → (group : ℕ)
-      → HearsGroup world names apart fresh serves left other.propagation group → IsForeign group
+      → HearsGroup world names so_far left other.propagation group → IsForeign group
   old_foreign other m =
       heard_foreign other.propagation
-      (λ group e. other_hears_foreign world names apart fresh serves other m group (inl e))
-      (λ group e. other_hears_foreign world names apart fresh serves other m group (inr (ap (master_of world) e)))
+      (λ group e. other_hears_foreign world names so_far other m group (inl e))
+      (λ group e. other_hears_foreign world names so_far other m group (inr (ap (master_of world) e)))
 
   -- the type of a copy
   twig_foreign : (origin : Mount ℕ) → Among origin mounts → (group : ℕ)
-      → HearsGroup world names apart fresh serves left
+      → HearsGroup world names so_far left
       (type_at new (group_of destination.propagation) origin) group → IsForeign group
   twig_foreign origin m = by (group_of destination.propagation) origin.propagation refl
     where
-      old : (group : ℕ) → HearsGroup world names apart fresh serves left origin.propagation group → IsForeign group
+      old : (group : ℕ) → HearsGroup world names so_far left origin.propagation group → IsForeign group
       old =
           heard_foreign origin.propagation
           (λ group e. origin_hears origin m origin.propagation refl group (inl e))
           (λ group e. origin_hears origin m origin.propagation refl group (inr (ap (master_of world) e)))
 
       shared : (number : ℕ) → (k : ℕ) × (number ≡ fresh k) → (group : ℕ)
-          → HearsGroup world names apart fresh serves left (Shared number) group → IsForeign group
+          → HearsGroup world names so_far left (Shared number) group → IsForeign group
       shared number new_one =
           heard_foreign (Shared number)
           (λ group e. inr (new_one.0, sym (same_Some number group e) ∙ new_one.1))
           (λ group e. none_is_some number (sym (ap group_of e)))
 
       on : (g : ℕ) (kind : Propagation ℕ) → origin.propagation ≡ kind → (group : ℕ)
-          → HearsGroup world names apart fresh serves left (type_on_shared (new.image g origin.number) kind) group
+          → HearsGroup world names so_far left (type_on_shared (new.image g origin.number) kind) group
           → IsForeign group
       on g (Shared h) e group how =
-          old group (subst (λ kind. HearsGroup world names apart fresh serves left kind group) (sym e) how)
+          old group (subst (λ kind. HearsGroup world names so_far left kind group) (sym e) how)
       on g (Slave h) e group how = shared (new.image g origin.number) (new_image g origin.number) group how
       on g Private e group how = shared (new.image g origin.number) (new_image g origin.number) group how
       on g Unbindable e group how = shared (new.image g origin.number) (new_image g origin.number) group how
 
       by : (o : Option ℕ) (kind : Propagation ℕ) → origin.propagation ≡ kind → (group : ℕ)
-          → HearsGroup world names apart fresh serves left (type_at new o origin) group → IsForeign group
+          → HearsGroup world names so_far left (type_at new o origin) group → IsForeign group
       by None kind e group how = old group how
       by (Some g) kind e group how =
           on g kind e group
-          (subst (λ x. HearsGroup world names apart fresh serves left
+          (subst (λ x. HearsGroup world names so_far left
           (type_on_shared (new.image g origin.number) x) group)
           e how)
 
   copy_foreign : (mount : Mount ℕ) → IsCopy mount → (group : ℕ)
-      → HearsGroup world names apart fresh serves left mount.propagation group → IsForeign group
+      → HearsGroup world names so_far left mount.propagation group → IsForeign group
   copy_foreign mount copy group how =
       by (is_destination nat_eq tree copy.0.number)
-      (subst (λ (m : Mount ℕ). HearsGroup world names apart fresh serves left m.propagation group) copy.4 how)
+      (subst (λ (m : Mount ℕ). HearsGroup world names so_far left m.propagation group) copy.4 how)
     where
-      elsewhere : (kind : Propagation ℕ) → HearsGroup world names apart fresh serves left
+      elsewhere : (kind : Propagation ℕ) → HearsGroup world names so_far left
           (copy_type nat_eq base new parts destination (twig_of new (group_of destination.propagation) copy.2) kind)
           group
           → IsForeign group
@@ -611,7 +616,7 @@ module _ (world : World ℕ) (names : List TaskName) (apart : IsApart world name
         where
           heir : (o : Option ℕ) → nearest_image nat_eq base new parts destination
               (twig_of new (group_of destination.propagation) copy.2) (Some g) ≡ o
-              → HearsGroup world names apart fresh serves left (slave_of_heir o) group → IsForeign group
+              → HearsGroup world names so_far left (slave_of_heir o) group → IsForeign group
           heir None e k = ⊎_elim (λ f. none_is_some group f) (λ f. none_is_some group f) k
           heir (Some x) e k =
               ⊎_elim (λ f. none_is_some group f)
@@ -619,7 +624,7 @@ module _ (world : World ℕ) (names : List TaskName) (apart : IsApart world name
       elsewhere Private h = ⊎_elim (λ f. none_is_some group f) (λ f. none_is_some group f) h
       elsewhere Unbindable h = ⊎_elim (λ f. none_is_some group f) (λ f. none_is_some group f) h
 
-      by : (b : Bool) → HearsGroup world names apart fresh serves left
+      by : (b : Bool) → HearsGroup world names so_far left
           (cond b (type_at new (group_of destination.propagation) copy.2)
           (copy_type nat_eq base new parts destination (twig_of new (group_of destination.propagation) copy.2)
           copy.0.propagation)) group → IsForeign group
@@ -673,10 +678,10 @@ module _ (world : World ℕ) (names : List TaskName) (apart : IsApart world name
 
   events : shares_no_events nat_eq left names ≡ true
   events =
-      events_stay_apart world names apart fresh serves left (own_mounts_same world left names sees) own_masters
+      events_stay_apart world names so_far left (own_mounts_same world left names sees) own_masters
       (λ other m group how. ⊎_elim
       (λ old. old_foreign old.0 old.1 group
-      (subst (λ kind. HearsGroup world names apart fresh serves left kind group)
+      (subst (λ kind. HearsGroup world names so_far left kind group)
       (ap (λ (x : Mount ℕ). x.propagation) old.2 ∙ pushed_value (λ (x : Mount ℕ). x.propagation) (λ x at. refl) old.0)
       how))
       (λ copy. copy_foreign other copy group how)

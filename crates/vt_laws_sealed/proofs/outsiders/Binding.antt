@@ -64,13 +64,13 @@ module _ (world : World ℕ) (names : List TaskName) (apart : IsApart world name
     of_bound origin e =
         inl (
           mount_at nat_eq world source,
-          is_other world names apart namespace outside (mount_at nat_eq world source) source_in.0 placed,
+          is_other world names namespace outside (mount_at nat_eq world source) source_in.0 placed,
           ap (λ (x : Mount ℕ). x.propagation) e,
           ap (λ (x : Mount ℕ). x.filesystem) e,
         )
 
     of_tree : (origin : Mount ℕ) → IsIn world namespace origin → OriginOf world fresh names origin
-    of_tree origin is = inl (origin, is_other world names apart namespace outside origin is.0 is.1, refl, refl)
+    of_tree origin is = inl (origin, is_other world names namespace outside origin is.0 is.1, refl, refl)
 
     pub bind_origins : (recursive : Bool) (origin : Mount ℕ) → Among origin (bind_tree nat_eq world source recursive)
         → OriginOf world fresh names origin

@@ -11,10 +11,10 @@ use Rattle.vt_spec.specs.Machine.Sealed.{is_member_task, is_own_namespace, locat
 use Rattle.vt_spec.specs.Machine.World.{Namespace, Task, World, mount_at, mount_numbered}
 use Rattle.vt_spec.proofs.Lists.{Among, among-filter, among-from_filter, among-from_map, among_from_list_all, list_all_from_among, none_among, none_from_among}
 use Rattle.vt_laws_part.specs.Parts.{SeesTheSame}
-use Rattle.vt_laws_part.specs.Seals.{IsApart}
 use Rattle.vt_laws_part.proofs.Kept.{filter_map_map, filter_map_same}
 use Rattle.vt_laws_part.proofs.part.PartOfPart.{keep}
 use Rattle.vt_laws_sealed.proofs.outsiders.OwnTasks.{IsOutside}
+use Rattle.vt_laws_sealed.proofs.outsiders.StandingApart.{StandsApart}
 use Rattle.vt_laws_sealed.proofs.outsiders.Staying.{LeavesApart, free_from}
 
 -- a change of mounts that keeps numbers and filesystems, and leaves each in its namespace or in none
@@ -35,7 +35,8 @@ pub record OthersMove (world : World ℕ) (names : List TaskName) (tasks : List 
   pub listed : filter (λ (n : Namespace ℕ). is_own_namespace nat_eq world names n.number) namespaces
       ≡ filter (λ (n : Namespace ℕ). is_own_namespace nat_eq world names n.number) world.namespaces
 
-module _ (world : World ℕ) (names : List TaskName) (apart : IsApart world names) (change : Mount ℕ → Mount ℕ)
+module _ (world : World ℕ) (names : List TaskName) {New : ℕ → Type 0} (apart : StandsApart world names New)
+    (change : Mount ℕ → Mount ℕ)
     (keeps : KeepsOrDetaches change)
     (kept_same : (mount : Mount ℕ) → Among mount world.mounts
     → keep world names (members world names) (change mount) ≡ keep world names (members world names) mount)
@@ -204,7 +205,7 @@ module _ (world : World ℕ) (names : List TaskName) (apart : IsApart world name
   }
 
 -- the world's own tasks and namespaces
-pub others_rest : (world : World ℕ) (names : List TaskName) → IsApart world names
+pub others_rest : (world : World ℕ) (names : List TaskName) {New : ℕ → Type 0} → StandsApart world names New
     → OthersMove world names world.tasks world.namespaces
 others_rest world names apart = record {
   members = refl;

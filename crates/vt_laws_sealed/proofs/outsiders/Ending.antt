@@ -26,15 +26,14 @@ use Rattle.vt_laws_part.specs.Seals.{IsApart}
 use Rattle.vt_laws_part.proofs.seals.ByPart.{apart_if_sealed}
 use Rattle.vt_laws_sealed.specs.Outsiders.{IsOutsidersCall, LeaveASealedSet, ends_task}
 use Rattle.vt_laws_sealed.proofs.outsiders.ChangedWorlds.{OthersMove}
-use Rattle.vt_laws_sealed.proofs.outsiders.OtherMounts.{namespace_outside}
+use Rattle.vt_laws_sealed.proofs.outsiders.OtherMounts.{namespace_outside, standing_apart}
 use Rattle.vt_laws_sealed.proofs.outsiders.OwnTasks.{IsOutside}
+use Rattle.vt_laws_sealed.proofs.outsiders.StandingApart.{StandsApart}
 use Rattle.vt_laws_sealed.proofs.outsiders.Staying.{LeavesApart, by_permit}
-use Rattle.vt_laws_sealed.proofs.outsiders.TakingAway.{taking_leaves_apart}
+use Rattle.vt_laws_sealed.proofs.outsiders.TakingAway.{filesystems_taken, taken_leaves_apart, taking_leaves_apart}
 
 -- Other tasks, with the members as they were; then the namespaces without tasks end
-module _ (world : World ℕ) (names : List TaskName) (apart : IsApart world names)
-    (sealed_off : sealed nat_eq world names ≡ true)
-    (fresh : Fresh ℕ) (serves : Serves nat_eq world fresh) (task : Task ℕ) (there : Among task world.tasks)
+module _ (world : World ℕ) (names : List TaskName) {New : ℕ → Type 0} (apart : StandsApart world names New)
     (tasks : List (Task ℕ)) (same : filter (is_member_task names) tasks ≡ members world names)
     (outside : (t : Task ℕ) → Among t (filter (λ (x : Task ℕ). not (is_member_task names x)) tasks)
     → is_own_namespace nat_eq world names t.namespace ≡ false)
@@ -69,18 +68,12 @@ module _ (world : World ℕ) (names : List TaskName) (apart : IsApart world name
 
   own_lives : (number : ℕ) → is_own number ≡ true → lives_on number ≡ true
   own_lives number own =
-      let member = any_among (λ (t : Task ℕ). nat_eq number t.namespace) (members world names) own in
-      let listed = listed_at member.0.namespace
-      (among_from_list_all (λ (t : Task ℕ). is_listed nat_eq world t.namespace) world.tasks
-      apart.is.namespaces.tasks_listed member.0
-      (among-from_filter (is_member_task names) world.tasks member.0 member.1).0) in
-      let found : nat_eq number listed.0.number ≡ true =
-      ap (λ k. nat_eq k listed.0.number) (eqb-true number member.0.namespace member.2) ∙ listed.2 in
+      let listed = listed_at number (apart.own_listed number own) in
       any_from_among
       (λ (namespace : Namespace ℕ). nat_eq number namespace.number && has_tasks nat_eq before namespace)
       world.namespaces listed.0 listed.1
-      (and_from (nat_eq number listed.0.number) (has_tasks nat_eq before listed.0) found
-      (own_has_tasks listed.0.number (ap is_own (sym (eqb-true number listed.0.number found)) ∙ own)))
+      (and_from (nat_eq number listed.0.number) (has_tasks nat_eq before listed.0) listed.2
+      (own_has_tasks listed.0.number (ap is_own (sym (eqb-true number listed.0.number listed.2)) ∙ own)))
 
   -- mounts that go
   abbrev ends : Mount ℕ → Bool
@@ -95,7 +88,7 @@ module _ (world : World ℕ) (names : List TaskName) (apart : IsApart world name
       (among_numbers gone number h) in
       let at = among-from_filter ends world.mounts from.0 from.1 in
       ap ends (ap (mount_numbered nat_eq world) from.2
-      ∙ found_itself world.mounts apart.is.mounts.one_number from.0 at.0) ∙ at.1
+      ∙ found_itself world.mounts apart.mounts.one_number from.0 at.0) ∙ at.1
 
   others_go : (number : ℕ) → is_going nat_eq gone number ≡ true
       → (namespace : ℕ) × ((mount_numbered nat_eq world number).namespace ≡ Some namespace)
@@ -127,10 +120,28 @@ module _ (world : World ℕ) (names : List TaskName) (apart : IsApart world name
         true≢false (sym (own_has_tasks n.number own) ∙ ended)));
   }
 
-  pub ending_leaves_apart : LeavesApart world (settled nat_eq (namespaces_ended nat_eq before)) names []
-  ending_leaves_apart =
-      taking_leaves_apart world names apart sealed_off fresh serves task there tasks namespaces_left moved gone
-      others_go
+  pub ended_leaves_apart : LeavesApart world (namespaces_ended nat_eq before) names []
+  ended_leaves_apart = taken_leaves_apart world names apart tasks namespaces_left moved gone others_go
+
+  pub filesystems_ended : (namespaces_ended nat_eq before).filesystems ≡ world.filesystems
+  filesystems_ended = filesystems_taken world names apart tasks namespaces_left moved gone others_go
+
+-- So it is after the sweep.
+pub ending_leaves_apart : (world : World ℕ) (names : List TaskName) → IsApart world names
+    → sealed nat_eq world names ≡ true → (tasks : List (Task ℕ))
+    → filter (is_member_task names) tasks ≡ members world names
+    → ((t : Task ℕ) → Among t (filter (λ (x : Task ℕ). not (is_member_task names x)) tasks)
+    → is_own_namespace nat_eq world names t.namespace ≡ false)
+    → ((location : Location ℕ)
+    → Among location (locations (filter (λ (x : Task ℕ). not (is_member_task names x)) tasks))
+    → IsOutside world names location)
+    → LeavesApart world (settled nat_eq (namespaces_ended nat_eq (record world { tasks = tasks }))) names []
+ending_leaves_apart world names apart sealed_off tasks same outside located =
+    let so_far = standing_apart world names apart in
+    taking_leaves_apart world names apart sealed_off tasks
+    (namespaces_left world names so_far tasks same outside located)
+    (moved world names so_far tasks same outside located) (gone world names so_far tasks same outside located)
+    (others_go world names so_far tasks same outside located)
 
 -- _exit(2)
 module _ (world : World ℕ) (fresh : Fresh ℕ) (names : List TaskName) (name : TaskName) (call : Call)
@@ -159,8 +170,7 @@ module _ (world : World ℕ) (fresh : Fresh ℕ) (names : List TaskName) (name :
 
   exit_leaves : LeavesApart world (settled nat_eq (apply nat_eq fresh world task ToExit).world) names []
   exit_leaves =
-      ending_leaves_apart world names set_apart outsider.sealed_off fresh outsider.serves task
-      (found_among (λ (t : Task ℕ). same_name name t.name) world.tasks task called) others members_there
+      ending_leaves_apart world names set_apart outsider.sealed_off others members_there
       (λ t m. namespace_outside world names set_apart t (out_before t m))
       (λ location m.
       let of = among-from_flat_map locations_of

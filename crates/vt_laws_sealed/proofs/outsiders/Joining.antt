@@ -127,8 +127,8 @@ module _ (world : World ℕ) (fresh : Fresh ℕ) (names : List TaskName) (name :
       names
       []
   join_leaves =
-      ending_leaves_apart world names (apart world fresh names name call task outsider called) outsider.sealed_off fresh
-      outsider.serves task (task_there world fresh names name call task outsider called) tasks_left
+      ending_leaves_apart world names (apart world fresh names name call task outsider called) outsider.sealed_off
+      tasks_left
       (replaced_members world fresh names name call task outsider called joined refl)
       (λ t m. ⊎_elim
       (λ new. ap (λ (x : Task ℕ). is_own_namespace nat_eq world names x.namespace) new ∙ namespace_of_others)

@@ -1,11 +1,11 @@
 -- Mounts of others, and the groups that they hear.
-use Rattle.std.proofs.Common.{◌≡◌, refl, sym, ap, subst, ◌∙◌, ◌⊎◌, inl, inr, ⊎_elim, ℕ, zero, suc, nat_eq, true, false, true≢false, List, [], ◌∷◌, ◌++◌, Option, Some, None, flat_map, map, not, ◌&&◌, eq-eqb, eqb-true}
+use Rattle.std.proofs.Common.{◌≡◌, refl, sym, ap, subst, ◌∙◌, ◌⊎◌, inl, inr, ⊎_elim, ℕ, zero, suc, nat_eq, true, false, true≢false, List, [], ◌∷◌, ◌++◌, Option, Some, None, flat_map, is_some, map, not, ◌&&◌, ◌||◌, eq-eqb, eqb-true}
 use Rattle.std.specs.Prelude.{option_to_list}
 use Rattle.std.specs.List.{list_all}
 use Rattle.std.proofs.lemmas.Bool.{and_parts, false_from_ne_true, not-true, or_cases}
 use Rattle.vt_spec.specs.Language.Calls.{TaskName}
 use Rattle.vt_spec.specs.Lists.{Fresh, holds_of, is_among}
-use Rattle.vt_spec.specs.Machine.Invariants.{HasLivingGroups, Stands, is_directory_seen_in, is_located_well, is_there, stands_on_directories}
+use Rattle.vt_spec.specs.Machine.Invariants.{MountInvariants, is_listed, is_nowhere_or_attached, is_private, HasLivingGroups, Stands, is_directory_seen_in, is_located_well, is_there, stands_on_directories}
 use Rattle.vt_spec.specs.Machine.Mounts.{Location, Mount, Propagation, children, group_of, source_of, stands_on, tree_from}
 use Rattle.vt_spec.specs.Machine.Mounts.Propagation.{Private, Shared, Slave, Unbindable}
 use Rattle.vt_spec.specs.Machine.Receives.{has_members, is_member_of}
@@ -21,10 +21,12 @@ use Rattle.vt_laws_worlds.proofs.worlds.Reached.{namespace_below}
 use Rattle.vt_laws_part.proofs.groups.EventsApart.{above_lives, members_of, none_hears, sides}
 use Rattle.vt_laws_part.proofs.groups.ReceiversAlike.{Living, OtherLives, member_group, none_other, other_above, own_member}
 use Rattle.vt_laws_part.proofs.part.PartOfPart.{is_own}
+use Rattle.vt_laws_layers.specs.Layers.ChangesUpper.{IsNewBy}
 use Rattle.vt_laws_part.specs.Seals.{IsApart}
+use Rattle.vt_laws_sealed.proofs.outsiders.StandingApart.{NothingNew, StandsApart}
 
--- A mount of a namespace of others is not theirs, and no root or working directory of theirs is on it.
-module _ (world : World ℕ) (names : List TaskName) (apart : IsApart world names) (namespace : ℕ)
+-- A mount of a namespace of others is not theirs,
+module _ (world : World ℕ) (names : List TaskName) (namespace : ℕ)
     (outside : is_own_namespace nat_eq world names namespace ≡ false) (mount : Mount ℕ)
     (there : Among mount world.mounts) (placed : mount.namespace ≡ Some namespace) where
   pub not_own : is_own world names (members world names) mount ≡ false
@@ -37,6 +39,10 @@ module _ (world : World ℕ) (names : List TaskName) (apart : IsApart world name
       mount there
       (ap (holds_of (λ n. not (is_own_namespace nat_eq world names n))) placed ∙ ap not outside)
 
+-- and no root or working directory of theirs is on it.
+module _ (world : World ℕ) (names : List TaskName) (apart : IsApart world names) (namespace : ℕ)
+    (outside : is_own_namespace nat_eq world names namespace ≡ false) (mount : Mount ℕ)
+    (there : Among mount world.mounts) (placed : mount.namespace ≡ Some namespace) where
   pub not_stood_on : is_at nat_eq (roots_and_directories (members world names)) mount ≡ false
   not_stood_on =
       false_from_ne_true (is_at nat_eq (roots_and_directories (members world names)) mount) (λ h.
@@ -167,31 +173,77 @@ module _ (world : World ℕ) (fresh : Fresh ℕ) (serves : Serves nat_eq world f
       source Private h = none_is_some group h
       source Unbindable h = none_is_some group h
 
+-- what is in no namespace has no mount point
+pub nowhere_unplaced : (world : World ℕ) → MountInvariants nat_eq world → (mount : Mount ℕ)
+    → Among mount world.mounts → mount.namespace ≡ None → (point : Location ℕ)
+    → mount.mount_point ≡ Some point → ⊥
+nowhere_unplaced world is mount m none point e =
+    true≢false
+    (sym (and_parts (not (is_some mount.mount_point)) (is_private mount.propagation)
+    (sym (ap (λ o. is_some o || (not (is_some mount.mount_point) && is_private mount.propagation)) none)
+    ∙ among_from_list_all is_nowhere_or_attached world.mounts is.nowhere mount m)).0
+    ∙ ap (λ o. not (is_some o)) e)
+
+-- So it is in a world before a call of others.
+pub standing_apart_of : (world : World ℕ) (names : List TaskName) → IsApart world names → (New : ℕ → Type 0)
+    → ((mount : Mount ℕ) (group : ℕ) → Among mount world.mounts
+    → group_of mount.propagation ≡ Some group → New group → ⊥)
+    → StandsApart world names New
+standing_apart_of world names apart New no_group = record {
+  mounts = apart.is.mounts;
+  tasks = apart.tasks;
+  events = apart.events;
+  locations = apart.locations;
+  not_stood = λ namespace outside mount there placed.
+      not_stood_on world names apart namespace outside mount there placed;
+  own_listed = λ number own.
+      let member = any_among (λ (t : Task ℕ). nat_eq number t.namespace) (members world names) own in
+      ap (is_listed nat_eq world) (eqb-true number member.0.namespace member.2)
+      ∙ among_from_list_all (λ (t : Task ℕ). is_listed nat_eq world t.namespace) world.tasks
+      apart.is.namespaces.tasks_listed member.0
+      (among-from_filter (is_member_task names) world.tasks member.0 member.1).0;
+  new_group = no_group;
+  new_master = λ group new. (all_in_use world apart.is).groups group
+      (false_from_ne_true (has_members nat_eq world.mounts group) (λ h.
+      let member = any_among (is_member_of nat_eq group) world.mounts h in
+      no_group member.0 group member.1 (member_group group member.0 member.2) new));
+}
+
+pub standing_apart : (world : World ℕ) (names : List TaskName) → IsApart world names
+    → StandsApart world names NothingNew
+standing_apart world names apart =
+    standing_apart_of world names apart NothingNew (λ mount group m is_in new. new)
+
+pub standing_apart_with : (world : World ℕ) (names : List TaskName) → IsApart world names → (fresh : Fresh ℕ)
+    → Serves nat_eq world fresh → StandsApart world names (IsNewBy fresh)
+standing_apart_with world names apart fresh serves =
+    standing_apart_of world names apart (IsNewBy fresh) (λ mount group m is_in new.
+    member_not_new world fresh serves mount group new.0 m is_in new.1)
+
 -- Groups of others: a mount of others hears it, or its number is new.
-module _ (world : World ℕ) (names : List TaskName) (apart : IsApart world names) (fresh : Fresh ℕ)
-    (serves : Serves nat_eq world fresh) where
+module _ (world : World ℕ) (names : List TaskName) {New : ℕ → Type 0} (apart : StandsApart world names New) where
   abbrev pub HearsGroup : World ℕ → Propagation ℕ → ℕ → Type 0
   HearsGroup in_world kind group = (group_of kind ≡ Some group) ⊎ (master_of in_world kind ≡ Some group)
 
   abbrev pub Foreign : ℕ → Type 0
   Foreign group =
-      OtherLives world names apart.is.mounts apart.events group ⊎ ((k : ℕ) × (group ≡ fresh k))
+      OtherLives world names apart.mounts apart.events group ⊎ New group
 
   -- a group that a mount hears lives
   hears_living : (mount : Mount ℕ) → Among mount world.mounts → (group : ℕ) → HearsGroup world mount.propagation group
-      → Living world names apart.is.mounts apart.events group
+      → Living world names apart.mounts apart.events group
   hears_living mount there group how = by mount.propagation refl how
     where
       of_source : (source : ℕ) → source_of mount.propagation ≡ Some source
-          → Living world names apart.is.mounts apart.events source
+          → Living world names apart.mounts apart.events source
       of_source source e =
-          among_from_all (HasLivingGroups nat_eq world) world.mounts apart.is.mounts.groups mount there source e
+          among_from_all (HasLivingGroups nat_eq world) world.mounts apart.mounts.groups mount there source e
 
       by : (kind : Propagation ℕ) → mount.propagation ≡ kind → HearsGroup world kind group
-          → Living world names apart.is.mounts apart.events group
+          → Living world names apart.mounts apart.events group
       by (Shared g) k h =
           ⊎_elim (λ e. of_source group (ap source_of k ∙ e))
-          (λ e. above_lives world names apart.is.mounts apart.events group g e (of_source g (ap source_of k))) h
+          (λ e. above_lives world names apart.mounts apart.events group g e (of_source g (ap source_of k))) h
       by (Slave g) k h = ⊎_elim (λ e. none_is_some group e) (λ e. of_source group (ap source_of k ∙ e)) h
       by Private k h = ⊎_elim (λ e. none_is_some group e) (λ e. none_is_some group e) h
       by Unbindable k h = ⊎_elim (λ e. none_is_some group e) (λ e. none_is_some group e) h
@@ -210,12 +262,8 @@ module _ (world : World ℕ) (names : List TaskName) (apart : IsApart world name
   -- the master of a group of others is one
   pub foreign_above : (group above : ℕ) → Foreign group → world.master group ≡ Some above → Foreign above
   foreign_above group above foreign e =
-      ⊎_elim (λ other. inl (other_above world names apart.is.mounts apart.events above group e other))
-      (λ new. none_is_some above (sym ((all_in_use world apart.is).groups group
-      (false_from_ne_true (has_members nat_eq world.mounts group) (λ h.
-      let member = any_among (is_member_of nat_eq group) world.mounts h in
-      member_not_new world fresh serves member.0 group new.0 member.1 (member_group group member.0 member.2) new.1)))
-      ∙ e)) foreign
+      ⊎_elim (λ other. inl (other_above world names apart.mounts apart.events above group e other))
+      (λ new. none_is_some above (sym (apart.new_master group new) ∙ e)) foreign
 
   -- no mount of theirs hears a group of others, or is a member of one
   pub not_heard : (own : Mount ℕ) → Among own (own_mounts nat_eq world names) → (group : ℕ) → Foreign group
@@ -224,14 +272,14 @@ module _ (world : World ℕ) (names : List TaskName) (apart : IsApart world name
       let there = (among-from_filter (is_own_mount nat_eq world names) world.mounts own m).0 in
       let lives = hears_living own there group how in
       let found = any_among (is_member_of nat_eq group) world.mounts
-      (members_of world names apart.is.mounts apart.events group lives) in
+      (members_of world names apart.mounts apart.events group lives) in
       let is_in = member_group group found.0 found.2 in
       ⊎_elim
       (λ other. ⊎_elim
-      (λ theirs. none_other world names apart.is.mounts apart.events group found.0 other.0 theirs found.2)
-      (λ outside. none_hears world names apart.is.mounts apart.events group found.0 (own, m, how) outside found.2)
-      (sides world names apart.is.mounts apart.events found.0 group found.1 is_in))
-      (λ new. member_not_new world fresh serves found.0 group new.0 found.1 is_in new.1)
+      (λ theirs. none_other world names apart.mounts apart.events group found.0 other.0 theirs found.2)
+      (λ outside. none_hears world names apart.mounts apart.events group found.0 (own, m, how) outside found.2)
+      (sides world names apart.mounts apart.events found.0 group found.1 is_in))
+      (λ new. apart.new_group found.0 group found.1 is_in new)
       foreign
 
   -- a group that a mount of theirs hears has a member of theirs
@@ -239,7 +287,7 @@ module _ (world : World ℕ) (names : List TaskName) (apart : IsApart world name
       → HearsGroup world own.propagation group
       → (member : Mount ℕ) × Among member (own_mounts nat_eq world names) × (is_member_of nat_eq group member ≡ true)
   member_of_heard own m group how =
-      own_member world names apart.is.mounts apart.events group (own, m, how)
+      own_member world names apart.mounts apart.events group (own, m, how)
       (hears_living own (among-from_filter (is_own_mount nat_eq world names) world.mounts own m).0 group how)
 
   -- so mounts share no events where others hear groups of others alone

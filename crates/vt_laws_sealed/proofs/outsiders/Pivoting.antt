@@ -30,9 +30,10 @@ use Rattle.vt_laws_part.proofs.part.PartOfPart.{keep}
 use Rattle.vt_laws_part.proofs.seals.ByPart.{apart_if_sealed}
 use Rattle.vt_laws_sealed.specs.Outsiders.{IsOutsidersCall, LeaveASealedSet, pivots}
 use Rattle.vt_laws_sealed.proofs.outsiders.ChangedWorlds.{KeepsOrDetaches, OthersMove, changing_leaves_apart, left, others_from, sees}
-use Rattle.vt_laws_sealed.proofs.outsiders.OtherMounts.{is_other, namespace_outside}
+use Rattle.vt_laws_sealed.proofs.outsiders.OtherMounts.{is_other, namespace_outside, standing_apart}
 use Rattle.vt_laws_sealed.proofs.outsiders.OwnTasks.{IsOutside, caller_outside}
 use Rattle.vt_laws_sealed.proofs.outsiders.Reshaping.{IsReshaped, reshaping_keeps, reshaping_kept}
+use Rattle.vt_laws_sealed.proofs.outsiders.StandingApart.{NothingNew, StandsApart}
 use Rattle.vt_laws_sealed.proofs.outsiders.Staying.{LeavesApart, by_permit}
 use Rattle.vt_laws_sealed.proofs.outsiders.Sweeping.{sweeping_leaves_apart}
 
@@ -42,6 +43,9 @@ module _ (world : World ℕ) (fresh : Fresh ℕ) (names : List TaskName) (name :
     (judged : judge_in nat_eq fresh world task call ≡ Ok (ToPivot new put)) where
   set_apart : IsApart world names
   set_apart = apart_if_sealed world names outsider.is outsider.sealed_off
+
+  abbrev so_far : StandsApart world names NothingNew
+  so_far = standing_apart world names set_apart
 
   for_pivot : (new_path : List ℕ) × (old_path : List ℕ) × (call ≡ PivotRoot new_path old_path)
   for_pivot = permits_are_for_their_calls fresh world task call (ToPivot new put) judged
@@ -123,7 +127,7 @@ module _ (world : World ℕ) (fresh : Fresh ℕ) (names : List TaskName) (name :
 
   kept_same : (mount : Mount ℕ) → Among mount world.mounts
       → keep world names (members world names) (change mount) ≡ keep world names (members world names) mount
-  kept_same = reshaping_kept world names set_apart change shape own_same nowhere_same
+  kept_same = reshaping_kept world names so_far change shape own_same nowhere_same
 
   -- Tasks
   abbrev move : Task ℕ → Task ℕ
@@ -183,7 +187,7 @@ module _ (world : World ℕ) (fresh : Fresh ℕ) (names : List TaskName) (name :
 
   new_root_other : Among new_root (other_mounts nat_eq world names)
   new_root_other =
-      is_other world names set_apart task.namespace outside new_root
+      is_other world names task.namespace outside new_root
       (⊎_elim (λ m. m) (λ none. none_is_some task.namespace (sym (ap (λ (x : Mount ℕ). x.namespace) none) ∙ fits.own))
       (found_or_none world.mounts new)) fits.own
 
@@ -246,7 +250,7 @@ module _ (world : World ℕ) (fresh : Fresh ℕ) (names : List TaskName) (name :
 
   abbrev pivoted_world : World ℕ
   pivoted_world =
-      left world names set_apart change keeps kept_same world.master (map move world.tasks) world.namespaces moved
+      left world names so_far change keeps kept_same world.master (map move world.tasks) world.namespaces moved
 
   -- events go by types alone
   abbrev share_by : Propagation ℕ → Propagation ℕ → Bool
@@ -258,14 +262,14 @@ module _ (world : World ℕ) (fresh : Fresh ℕ) (names : List TaskName) (name :
       ap (λ owns. list_all (λ own. list_all (λ other. not (share_events nat_eq pivoted_world own other))
       (other_mounts nat_eq pivoted_world names)) owns)
       (own_mounts_same world pivoted_world names
-      (sees world names set_apart change keeps kept_same world.master (map move world.tasks) world.namespaces moved
+      (sees world names so_far change keeps kept_same world.master (map move world.tasks) world.namespaces moved
       (λ group e. refl)))
       ∙ list_all_from_among (λ own. list_all (λ other. not (share_events nat_eq pivoted_world own other))
       (other_mounts nat_eq pivoted_world names)) (own_mounts nat_eq world names)
       (λ own m. list_all_from_among (λ other. not (share_events nat_eq pivoted_world own other))
       (other_mounts nat_eq pivoted_world names)
       (λ other n.
-      let from = others_from world names set_apart change keeps kept_same world.master (map move world.tasks)
+      let from = others_from world names so_far change keeps kept_same world.master (map move world.tasks)
       world.namespaces moved other n in
       ap (λ kind. not (share_by own.propagation kind))
       (ap (λ (x : Mount ℕ). x.propagation) from.2 ∙ type_kept from.0)
@@ -283,7 +287,7 @@ module _ (world : World ℕ) (fresh : Fresh ℕ) (names : List TaskName) (name :
   pivot_leaves : LeavesApart world (settled nat_eq (apply nat_eq fresh world task (ToPivot new put)).world) names []
   pivot_leaves =
       sweeping_leaves_apart world pivoted_world names set_apart outsider.sealed_off refl one_each []
-      (changing_leaves_apart world names set_apart change keeps kept_same world.master (map move world.tasks)
+      (changing_leaves_apart world names so_far change keeps kept_same world.master (map move world.tasks)
       world.namespaces moved (λ group e. refl) events)
 
 by_pivot : (world : World ℕ) (fresh : Fresh ℕ) (names : List TaskName) (name : TaskName) (call : Call)

@@ -4,25 +4,24 @@ use Rattle.std.specs.List.{list_any}
 use Rattle.std.proofs.lemmas.Bool.{and_parts}
 use Rattle.std.proofs.lemmas.Option.{same_Some}
 use Rattle.vt_spec.specs.Language.Calls.{TaskName}
-use Rattle.vt_spec.specs.Lists.{Fresh, holds_of}
+use Rattle.vt_spec.specs.Lists.{holds_of}
 use Rattle.vt_spec.specs.Machine.Invariants.{is_nowhere_or_attached, is_private}
 use Rattle.vt_spec.specs.Machine.Mounts.{Mount, Propagation, group_of, source_of}
 use Rattle.vt_spec.specs.Machine.Mounts.Propagation.{Private, Shared, Slave, Unbindable}
 use Rattle.vt_spec.specs.Machine.Receives.{groups_up, has_members, heir, inherited, inheriting, is_member_of, regrouped_by, slave_of_heir}
-use Rattle.vt_spec.specs.Machine.Run.{Serves}
 use Rattle.vt_spec.specs.Machine.Sealed.{is_own_mount, master_of, members, other_mounts, own_mounts, shares_no_events}
 use Rattle.vt_spec.specs.Machine.World.{Namespace, Task, World}
 use Rattle.vt_spec.proofs.Found.{find-chain_start, found_among}
 use Rattle.vt_spec.proofs.Lists.{Among, among-from_filter, among-map, among_from_list_all, any_among, any_from_among, is_among_numbers, map_same, map_twice}
 use Rattle.vt_spec.proofs.Options.{none_is_some}
 use Rattle.vt_laws_mounts.proofs.mounts.Receivers.{along_chain}
-use Rattle.vt_laws_part.specs.Seals.{IsApart}
 use Rattle.vt_laws_part.proofs.groups.ReceiversAlike.{member_group}
 use Rattle.vt_laws_part.proofs.part.Observed.{own_mounts_same}
 use Rattle.vt_laws_part.proofs.part.PartOfPart.{keep}
 use Rattle.vt_laws_sealed.proofs.outsiders.ChangedWorlds.{OthersMove, changing_leaves_apart, others_from, sees}
 use Rattle.vt_laws_sealed.proofs.outsiders.OtherMounts.{Foreign, HearsGroup, events_stay_apart, member_of_heard, other_hears_foreign}
 use Rattle.vt_laws_sealed.proofs.outsiders.Reshaping.{IsReshaped, reshaping_keeps, reshaping_kept}
+use Rattle.vt_laws_sealed.proofs.outsiders.StandingApart.{StandsApart}
 use Rattle.vt_laws_sealed.proofs.outsiders.Staying.{LeavesApart}
 
 -- what is reshaped twice is reshaped
@@ -38,40 +37,39 @@ reshaped_twice old middle new one two = (
       inr two.4,
 )
 
-module _ (world : World ℕ) (names : List TaskName) (apart : IsApart world names) (fresh : Fresh ℕ)
-    (serves : Serves nat_eq world fresh) where
+module _ (world : World ℕ) (names : List TaskName) {New : ℕ → Type 0} (apart : StandsApart world names New) where
   -- a type that only groups of others are in
   abbrev pub IsOfOthers : Propagation ℕ → Type 0
   IsOfOthers kind =
-      ((number : ℕ) → group_of kind ≡ Some number → Foreign world names apart fresh serves number)
-      × ((number : ℕ) → kind ≡ Slave number → Foreign world names apart fresh serves number)
+      ((number : ℕ) → group_of kind ≡ Some number → Foreign world names apart number)
+      × ((number : ℕ) → kind ≡ Slave number → Foreign world names apart number)
 
   pub of_nobody : IsOfOthers Private
   of_nobody = (λ number e. none_is_some number e, λ number e. none_is_some number (ap source_of e))
 
   pub old_type : (other : Mount ℕ) → Among other (other_mounts nat_eq world names) → IsOfOthers other.propagation
   old_type other m = (
-    λ number e. other_hears_foreign world names apart fresh serves other m number (inl e),
-    λ number e. other_hears_foreign world names apart fresh serves other m number (inr (ap (master_of world) e)),
+    λ number e. other_hears_foreign world names apart other m number (inl e),
+    λ number e. other_hears_foreign world names apart other m number (inr (ap (master_of world) e)),
   )
 
 -- A change of mounts of others, after which groups without members are gone
-module _ (world : World ℕ) (names : List TaskName) (apart : IsApart world names) (fresh : Fresh ℕ)
-    (serves : Serves nat_eq world fresh) (change : Mount ℕ → Mount ℕ)
+module _ (world : World ℕ) (names : List TaskName) {New : ℕ → Type 0} (apart : StandsApart world names New)
+    (change : Mount ℕ → Mount ℕ)
     (shape : (mount : Mount ℕ) → IsReshaped mount (change mount))
     (own_same : (own : Mount ℕ) → Among own (own_mounts nat_eq world names) → change own ≡ own)
     (nowhere_same : (mount : Mount ℕ) → Among mount world.mounts → mount.namespace ≡ None → change mount ≡ mount)
     (kinds : (other : Mount ℕ) → Among other (other_mounts nat_eq world names)
-    → IsOfOthers world names apart fresh serves (change other).propagation)
+    → IsOfOthers world names apart (change other).propagation)
     (middle_master : ℕ → Option ℕ)
-    (middle_above : (number above : ℕ) → Foreign world names apart fresh serves number
-    → middle_master number ≡ Some above → Foreign world names apart fresh serves above)
+    (middle_above : (number above : ℕ) → Foreign world names apart number
+    → middle_master number ≡ Some above → Foreign world names apart above)
     (own_middle : (number : ℕ) → list_any (is_member_of nat_eq number) (own_mounts nat_eq world names) ≡ true
     → middle_master number ≡ world.master number)
     (tasks : List (Task ℕ)) (namespaces : List (Namespace ℕ)) (moved : OthersMove world names tasks namespaces)
     (lost : Bool) where
   abbrev IsForeign : ℕ → Type 0
-  IsForeign = Foreign world names apart fresh serves
+  IsForeign = Foreign world names apart
 
   abbrev pub middle : World ℕ
   middle = record world {
@@ -83,17 +81,17 @@ module _ (world : World ℕ) (names : List TaskName) (apart : IsApart world name
 
   -- a group that a mount of theirs hears has a member of theirs, also after the change
   members_stay : (own : Mount ℕ) → Among own (own_mounts nat_eq world names) → (number : ℕ)
-      → HearsGroup world names apart fresh serves world own.propagation number
+      → HearsGroup world names apart world own.propagation number
       → has_members nat_eq middle.mounts number ≡ true
   members_stay own m number how =
-      let member = member_of_heard world names apart fresh serves own m number how in
+      let member = member_of_heard world names apart own m number how in
       any_from_among (is_member_of nat_eq number) middle.mounts member.0
       (subst (λ x. Among x middle.mounts) (own_same member.0 member.1)
       (among-map change world.mounts member.0
       (among-from_filter (is_own_mount nat_eq world names) world.mounts member.0 member.1).0)) member.2
 
   heir_stays : (own : Mount ℕ) → Among own (own_mounts nat_eq world names) → (number : ℕ)
-      → HearsGroup world names apart fresh serves world own.propagation number
+      → HearsGroup world names apart world own.propagation number
       → heir nat_eq middle (Some number) ≡ Some number
   heir_stays own m number how =
       find-chain_start (has_members nat_eq middle.mounts) middle.master (length middle.mounts) number
@@ -107,13 +105,13 @@ module _ (world : World ℕ) (names : List TaskName) (apart : IsApart world name
       (is_among_numbers (groups_up middle number) found
       (found_among (has_members nat_eq middle.mounts) (groups_up middle number) found e))
 
-  inherited_foreign : (kind : Propagation ℕ) → IsOfOthers world names apart fresh serves kind
-      → IsOfOthers world names apart fresh serves (inherited nat_eq middle kind)
+  inherited_foreign : (kind : Propagation ℕ) → IsOfOthers world names apart kind
+      → IsOfOthers world names apart (inherited nat_eq middle kind)
   inherited_foreign (Shared g) is = is
   inherited_foreign (Slave g) is = by (heir nat_eq middle (Some g)) refl
     where
       by : (o : Option ℕ) → heir nat_eq middle (Some g) ≡ o
-          → IsOfOthers world names apart fresh serves (slave_of_heir o)
+          → IsOfOthers world names apart (slave_of_heir o)
       by None e = (λ number f. none_is_some number f, λ number f. none_is_some number (ap source_of f))
       by (Some found) e = (
         λ number f. none_is_some number f,
@@ -180,7 +178,7 @@ module _ (world : World ℕ) (names : List TaskName) (apart : IsApart world name
       ∙ regroup_stays mount (by mount.propagation (and_parts (not (is_some mount.mount_point))
       (is_private mount.propagation)
       (sym (ap (λ o. is_some o || (not (is_some mount.mount_point) && is_private mount.propagation)) none)
-      ∙ among_from_list_all is_nowhere_or_attached world.mounts apart.is.mounts.nowhere mount there)).1)
+      ∙ among_from_list_all is_nowhere_or_attached world.mounts apart.mounts.nowhere mount there)).1)
     where
       by : (kind : Propagation ℕ) → is_private kind ≡ true → inherited nat_eq middle kind ≡ kind
       by (Shared g) h = refl
@@ -247,8 +245,8 @@ module _ (world : World ℕ) (names : List TaskName) (apart : IsApart world name
         ⊎_elim (λ same. after_above number above foreign (sym same ∙ e)) (λ none. none_is_some above (sym none ∙ e))
         (taken number)
 
-    heard_foreign : (kind : Propagation ℕ) → IsOfOthers world names apart fresh serves kind → (number : ℕ)
-        → HearsGroup world names apart fresh serves left kind number → IsForeign number
+    heard_foreign : (kind : Propagation ℕ) → IsOfOthers world names apart kind → (number : ℕ)
+        → HearsGroup world names apart left kind number → IsForeign number
     heard_foreign (Shared g) is number how = ⊎_elim (is.0 number) (λ e. left_above g number (is.0 g refl) e) how
     heard_foreign (Slave g) is number how =
         ⊎_elim (λ e. none_is_some number e) (λ e. subst IsForeign (same_Some g number e) (is.1 g refl)) how
@@ -256,10 +254,10 @@ module _ (world : World ℕ) (names : List TaskName) (apart : IsApart world name
     heard_foreign Unbindable is number how = ⊎_elim (λ e. none_is_some number e) (λ e. none_is_some number e) how
 
     changed_foreign : (other : Mount ℕ) → Among other (other_mounts nat_eq world names)
-        → IsOfOthers world names apart fresh serves (all_changed other).propagation
+        → IsOfOthers world names apart (all_changed other).propagation
     changed_foreign other m = by lost
       where
-        by : (b : Bool) → IsOfOthers world names apart fresh serves
+        by : (b : Bool) → IsOfOthers world names apart
             (cond b (inheriting nat_eq middle (change other)) (change other)).propagation
         by true = inherited_foreign (change other).propagation (kinds other m)
         by false = kinds other m
@@ -282,7 +280,7 @@ module _ (world : World ℕ) (names : List TaskName) (apart : IsApart world name
 
     events : shares_no_events nat_eq left names ≡ true
     events =
-        events_stay_apart world names apart fresh serves left
+        events_stay_apart world names apart left
         (own_mounts_same world left names
         (sees world names apart all_changed (reshaping_keeps all_changed all_shape) kept_same master tasks namespaces
         moved
@@ -292,7 +290,7 @@ module _ (world : World ℕ) (names : List TaskName) (apart : IsApart world name
         (reshaping_keeps all_changed all_shape) kept_same master tasks
         namespaces moved other m in
         heard_foreign (all_changed from.0).propagation (changed_foreign from.0 from.1) number
-        (subst (λ kind. HearsGroup world names apart fresh serves left kind number)
+        (subst (λ kind. HearsGroup world names apart left kind number)
         (ap (λ (x : Mount ℕ). x.propagation) from.2) how))
 
     pub regrouping_leaves_apart : LeavesApart world left names []

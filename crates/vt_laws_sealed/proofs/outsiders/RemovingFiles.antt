@@ -48,8 +48,7 @@ use Rattle.vt_laws_sealed.proofs.outsiders.ChangedWorlds.{others_rest}
 use Rattle.vt_laws_sealed.proofs.outsiders.ChangingFiles.{change_leaves, change_alone}
 use Rattle.vt_laws_sealed.proofs.outsiders.Entering.{task_there}
 use Rattle.vt_laws_sealed.proofs.outsiders.FilesOfCalls.{changed_is_unused, upper_is_unused}
-use Rattle.vt_laws_sealed.proofs.outsiders.OtherMounts.{tree_in}
-use Rattle.vt_laws_sealed.proofs.outsiders.Standing.{nowhere_unplaced}
+use Rattle.vt_laws_sealed.proofs.outsiders.OtherMounts.{nowhere_unplaced, standing_apart, tree_in}
 use Rattle.vt_laws_sealed.proofs.outsiders.Staying.{LeavesApart, by_permit}
 use Rattle.vt_laws_sealed.proofs.outsiders.TakingAway.{namespaces_taken_away, taken_leaves_apart}
 
@@ -82,8 +81,7 @@ changed_at_same a b location same mounted =
     by (Some overlay) = over overlay.upper
 
 -- Mounts on a directory in a filesystem that the set does not use
-module _ (world : World ℕ) (names : List TaskName) (apart : IsApart world names) (task : Task ℕ)
-    (there : Among task world.tasks) (directory : Location ℕ)
+module _ (world : World ℕ) (names : List TaskName) (apart : IsApart world names) (directory : Location ℕ)
     (unused : (n : ℕ) → list_any (λ (point : ℕ × ℕ). nat_eq n point.0) (points_of nat_eq world directory) ≡ true
     → is_among nat_eq n (used_filesystems nat_eq world names) ≡ false) where
   abbrev IsOfOthersAt : Mount ℕ → Type 0
@@ -101,7 +99,7 @@ module _ (world : World ℕ) (names : List TaskName) (apart : IsApart world name
   parent_not_own mount m point stands not_theirs = by mount.namespace refl
     where
       by : (o : Option ℕ) → mount.namespace ≡ o → IsOfOthersAt mount
-      by None e = absurd (nowhere_unplaced world apart.is task there mount m e point stands)
+      by None e = absurd (nowhere_unplaced world apart.is.mounts mount m e point stands)
       by (Some n) e = (
         n,
         e,
@@ -167,14 +165,12 @@ module _ (world : World ℕ) (names : List TaskName) (apart : IsApart world name
         other.2,
       )
 
-  pub unmounting_leaves_apart : (fresh : Fresh ℕ) → Serves nat_eq world fresh
-      → sealed nat_eq world names ≡ true
-      → LeavesApart world (without_mounts_on nat_eq world directory) names []
-  unmounting_leaves_apart fresh serves sealed_off =
-      subst (λ w. LeavesApart world w names [])
-      (namespaces_taken_away world gone)
-      (taken_leaves_apart world names apart sealed_off fresh serves task there world.tasks world.namespaces
-      (others_rest world names apart) gone others_go)
+  pub unmounting_leaves_apart : LeavesApart world (without_mounts_on nat_eq world directory) names []
+  unmounting_leaves_apart =
+      let so_far = standing_apart world names apart in
+      subst (λ w. LeavesApart world w names []) (namespaces_taken_away world gone)
+      (taken_leaves_apart world names so_far world.tasks world.namespaces (others_rest world names so_far) gone
+      others_go)
 
 module _ (world : World ℕ) (fresh : Fresh ℕ) (names : List TaskName) (name : TaskName) (call : Call)
     (task : Task ℕ) (outsider : IsOutsidersCall world fresh names name call)
@@ -279,10 +275,7 @@ module _ (world : World ℕ) (fresh : Fresh ℕ) (names : List TaskName) (name :
             layered (Some layer) has k = real layer (upper_object (overlay.real directory.node)) has k
 
     mounts_leave : LeavesApart world (without_mounts_on nat_eq world directory) names []
-    mounts_leave =
-        unmounting_leaves_apart world names set_apart task
-        (task_there world fresh names name call task outsider called) directory points_unused fresh outsider.serves
-        outsider.sealed_off
+    mounts_leave = unmounting_leaves_apart world names set_apart directory points_unused
 
     -- and then the change is made
     pub removal_leaves : (apply nat_eq fresh world task permit).world

@@ -6,10 +6,10 @@ use Rattle.vt_spec.specs.Machine.Mounts.{Location, Mount, Propagation}
 use Rattle.vt_spec.specs.Machine.Sealed.{is_at, is_own_mount, is_own_namespace, locations, members, own_mounts, roots_and_directories, seen_by_descriptor}
 use Rattle.vt_spec.specs.Machine.World.{World}
 use Rattle.vt_spec.proofs.Lists.{Among, among-filter}
-use Rattle.vt_laws_part.specs.Seals.{IsApart}
 use Rattle.vt_laws_part.proofs.part.PartOfPart.{is_own, keep}
 use Rattle.vt_laws_sealed.proofs.outsiders.ChangedWorlds.{KeepsOrDetaches}
-use Rattle.vt_laws_sealed.proofs.outsiders.OtherMounts.{not_own, not_stood_on}
+use Rattle.vt_laws_sealed.proofs.outsiders.OtherMounts.{not_own}
+use Rattle.vt_laws_sealed.proofs.outsiders.StandingApart.{StandsApart}
 
 -- a mount with another mount point and type, in its namespace or in none
 abbrev pub IsReshaped : Mount ℕ → Mount ℕ → Type 0
@@ -28,7 +28,8 @@ reshaping_keeps change shape = record {
 }
 
 -- the part has the same of a mount of others
-pub reshaping_kept : (world : World ℕ) (names : List TaskName) → IsApart world names → (change : Mount ℕ → Mount ℕ)
+pub reshaping_kept : (world : World ℕ) (names : List TaskName) {New : ℕ → Type 0} → StandsApart world names New
+    → (change : Mount ℕ → Mount ℕ)
     → ((mount : Mount ℕ) → IsReshaped mount (change mount))
     → ((own : Mount ℕ) → Among own (own_mounts nat_eq world names) → change own ≡ own)
     → ((mount : Mount ℕ) → Among mount world.mounts → mount.namespace ≡ None → change mount ≡ mount)
@@ -49,11 +50,11 @@ reshaping_kept world names apart change shape own_same nowhere_same mount there 
             (ap (holds_of (is_own_namespace nat_eq world names)) e ∙ own)))
         which false other =
             let shaped = shape mount in
-            let no_place = not_stood_on world names apart n other mount there e in
+            let no_place = apart.not_stood n other mount there e in
             let no : (is_own world names (members world names) mount
             || is_at nat_eq (roots_and_directories (members world names)) mount) ≡ false =
             ap (λ b. b || is_at nat_eq (roots_and_directories (members world names)) mount)
-            (not_own world names apart n other mount there e) ∙ no_place in
+            (not_own world names n other mount there e) ∙ no_place in
             let no_later : (holds_of (is_own_namespace nat_eq world names) shaped.0
             || is_at nat_eq (roots_and_directories (members world names)) mount) ≡ false =
             ap (λ b. b || is_at nat_eq (roots_and_directories (members world names)) mount)

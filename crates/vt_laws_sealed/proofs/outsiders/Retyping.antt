@@ -34,6 +34,7 @@ use Rattle.vt_laws_worlds.proofs.worlds.CallsKept.{name_found}
 use Rattle.vt_laws_worlds.proofs.worlds.FitPermitsNamed.{all_permits_fit}
 use Rattle.vt_laws_later_calls.proofs.ends.OtherCalls.{all_types_leave_all_but_masters}
 use Rattle.vt_laws_later_calls.specs.Ends.{KeepsAllButMasters}
+use Rattle.vt_laws_layers.specs.Layers.ChangesUpper.{IsNewBy}
 use Rattle.vt_laws_part.specs.Seals.{IsApart}
 use Rattle.vt_laws_part.proofs.groups.ReceiversAlike.{member_group}
 use Rattle.vt_laws_part.proofs.part.Observed.{own_mounts_same}
@@ -41,8 +42,9 @@ use Rattle.vt_laws_part.proofs.part.PartOfPart.{is_own, keep}
 use Rattle.vt_laws_part.proofs.seals.ByPart.{apart_if_sealed}
 use Rattle.vt_laws_sealed.specs.Outsiders.{IsOutsidersCall, LeaveASealedSet, sets_types}
 use Rattle.vt_laws_sealed.proofs.outsiders.Changing.{KeepsPlaces, changing_leaves_apart, others_changed, sees}
-use Rattle.vt_laws_sealed.proofs.outsiders.OtherMounts.{Foreign, HearsGroup, IsIn, tree_in, events_stay_apart, foreign_above, is_other, member_not_new, member_of_heard, namespace_outside, not_own, not_stood_on, other_hears_foreign}
+use Rattle.vt_laws_sealed.proofs.outsiders.OtherMounts.{Foreign, HearsGroup, IsIn, tree_in, events_stay_apart, foreign_above, is_other, member_not_new, member_of_heard, namespace_outside, not_own, not_stood_on, other_hears_foreign, standing_apart_with}
 use Rattle.vt_laws_sealed.proofs.outsiders.OwnTasks.{caller_outside}
+use Rattle.vt_laws_sealed.proofs.outsiders.StandingApart.{StandsApart}
 use Rattle.vt_laws_sealed.proofs.outsiders.Staying.{LeavesApart, by_permit}
 
 -- the masters after a change of types: as they were, or of a group that is made for a mount that is named
@@ -77,6 +79,9 @@ module _ (world : World ℕ) (names : List TaskName) (apart : IsApart world name
     (outside : is_own_namespace nat_eq world names namespace ≡ false)
     (group : ℕ → ℕ) (new_group : (number : ℕ) → (k : ℕ) × (group number ≡ fresh k)) (word : TypeWord)
     (named : List (Mount ℕ)) (named_in : (mount : Mount ℕ) → Among mount named → IsIn world namespace mount) where
+  abbrev so_far : StandsApart world names (IsNewBy fresh)
+  so_far = standing_apart_with world names apart fresh serves
+
   -- types are set, and groups are as they were
   abbrev middle : World ℕ
   middle = record world {
@@ -85,7 +90,7 @@ module _ (world : World ℕ) (names : List TaskName) (apart : IsApart world name
   }
 
   abbrev IsForeign : ℕ → Type 0
-  IsForeign = Foreign world names apart fresh serves
+  IsForeign = Foreign world names so_far
 
   -- a type that only groups of others are in
   abbrev IsOfOthers : Propagation ℕ → Type 0
@@ -122,17 +127,17 @@ module _ (world : World ℕ) (names : List TaskName) (apart : IsApart world name
 
   -- a group that a mount of theirs hears has a member of theirs, also when types are set
   members_stay : (own : Mount ℕ) → Among own (own_mounts nat_eq world names) → (number : ℕ)
-      → HearsGroup world names apart fresh serves world own.propagation number
+      → HearsGroup world names so_far world own.propagation number
       → has_members nat_eq middle.mounts number ≡ true
   members_stay own m number how =
-      let member = member_of_heard world names apart fresh serves own m number how in
+      let member = member_of_heard world names so_far own m number how in
       any_from_among (is_member_of nat_eq number) middle.mounts member.0
       (subst (λ x. Among x middle.mounts) (stays member.0 (own_not_named member.0 member.1))
       (among-map retype world.mounts member.0
       (among-from_filter (is_own_mount nat_eq world names) world.mounts member.0 member.1).0)) member.2
 
   heir_stays : (own : Mount ℕ) → Among own (own_mounts nat_eq world names) → (number : ℕ)
-      → HearsGroup world names apart fresh serves world own.propagation number
+      → HearsGroup world names so_far world own.propagation number
       → heir nat_eq middle (Some number) ≡ Some number
   heir_stays own m number how =
       find-chain_start (has_members nat_eq middle.mounts) middle.master (length middle.mounts) number
@@ -140,18 +145,18 @@ module _ (world : World ℕ) (names : List TaskName) (apart : IsApart world name
 
   -- Groups of others
   old_foreign : (other : Mount ℕ) → Among other (other_mounts nat_eq world names) → (number : ℕ)
-      → HearsGroup world names apart fresh serves world other.propagation number → IsForeign number
-  old_foreign = other_hears_foreign world names apart fresh serves
+      → HearsGroup world names so_far world other.propagation number → IsForeign number
+  old_foreign = other_hears_foreign world names so_far
 
   named_other : (mount : Mount ℕ) → Among mount named → Among mount (other_mounts nat_eq world names)
   named_other mount m =
       let at = named_in mount m in
-      is_other world names apart namespace outside mount at.0 at.1
+      is_other world names namespace outside mount at.0 at.1
 
   middle_above : (number above : ℕ) → IsForeign number → middle.master number ≡ Some above → IsForeign above
   middle_above number above foreign e =
       ⊎_elim
-      (λ same. foreign_above world names apart fresh serves number above foreign (sym same ∙ e))
+      (λ same. foreign_above world names so_far number above foreign (sym same ∙ e))
       (λ made. after made.0 (named_other made.0 made.1) made.0.propagation refl (sym made.3 ∙ e))
       (new_masters group number named world.master)
     where
@@ -340,7 +345,7 @@ module _ (world : World ℕ) (names : List TaskName) (apart : IsApart world name
                 let no : (is_own world names (members world names) mount
                 || is_at nat_eq (roots_and_directories (members world names)) mount) ≡ false =
                 ap (λ b. b || is_at nat_eq (roots_and_directories (members world names)) mount)
-                (not_own world names apart n other mount there e)
+                (not_own world names n other mount there e)
                 ∙ not_stood_on world names apart n other mount there e in
                 let changed = changed_type mount in
                 ap (keep world names (members world names)) changed.1
@@ -409,7 +414,7 @@ module _ (world : World ℕ) (names : List TaskName) (apart : IsApart world name
           (taken number)
 
       heard_foreign : (kind : Propagation ℕ) → IsOfOthers kind → (number : ℕ)
-          → HearsGroup world names apart fresh serves left kind number → IsForeign number
+          → HearsGroup world names so_far left kind number → IsForeign number
       heard_foreign (Shared g) is number how = ⊎_elim (is.0 number) (λ e. left_above g number (is.0 g refl) e) how
       heard_foreign (Slave g) is number how =
           ⊎_elim (λ e. none_is_some number e) (λ e. subst IsForeign (same_Some g number e) (is.1 g refl)) how
@@ -439,14 +444,14 @@ module _ (world : World ℕ) (names : List TaskName) (apart : IsApart world name
 
       events : shares_no_events nat_eq left names ≡ true
       events =
-          events_stay_apart world names apart fresh serves left
+          events_stay_apart world names so_far left
           (own_mounts_same world left names (sees world names apart change keeps kept_same master own_masters))
           own_kinds
           (λ other m number how.
           let from = among-from_map change (other_mounts nat_eq world names) other
           (subst (Among other) (others_changed world names apart change keeps kept_same master) m) in
           heard_foreign (change from.0).propagation (changed_foreign from.0 from.1) number
-          (subst (λ kind. HearsGroup world names apart fresh serves left kind number)
+          (subst (λ kind. HearsGroup world names so_far left kind number)
           (ap (λ (x : Mount ℕ). x.propagation) from.2) how))
 
       pub retyping_leaves_apart : LeavesApart world left names []

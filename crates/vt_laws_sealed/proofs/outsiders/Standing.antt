@@ -24,6 +24,7 @@ use Rattle.vt_laws_mounts.proofs.mounts.MountsPlaces.{stands_there}
 use Rattle.vt_laws_mounts.proofs.mounts.MountsReplaced.{found_itself}
 use Rattle.vt_laws_worlds.proofs.worlds.Reached.{namespace_below}
 use Rattle.vt_laws_calls.specs.Searched.{IsSearchedTo, Way}
+use Rattle.vt_laws_sealed.proofs.outsiders.OtherMounts.{nowhere_unplaced}
 use Rattle.vt_laws_calls.specs.Searched.Way.{arrives, follows, goes_on}
 
 module _ (world : World ℕ) (is : IsWorld nat_eq world) (task : Task ℕ) (there : Among task world.tasks) where
@@ -74,16 +75,6 @@ module _ (world : World ℕ) (is : IsWorld nat_eq world) (task : Task ℕ) (ther
       by true = root_ground
       by false = ground
 
-  -- what is in no namespace has no mount point
-  pub nowhere_unplaced : (mount : Mount ℕ) → Among mount world.mounts → mount.namespace ≡ None → (point : Location ℕ)
-      → mount.mount_point ≡ Some point → ⊥
-  nowhere_unplaced mount m none point e =
-      true≢false
-      (sym (and_parts (not (is_some mount.mount_point)) (is_private mount.propagation)
-      (sym (ap (λ o. is_some o || (not (is_some mount.mount_point) && is_private mount.propagation)) none)
-      ∙ among_from_list_all is_nowhere_or_attached world.mounts is.mounts.nowhere mount m)).0
-      ∙ ap (λ o. not (is_some o)) e)
-
   -- a child is on the same ground
   child_ground : (a b : Location ℕ) → OnGround a → option_map root_of (child_at nat_eq world.mounts a) ≡ Some b
       → OnGround b
@@ -100,7 +91,7 @@ module _ (world : World ℕ) (is : IsWorld nat_eq world) (task : Task ℕ) (ther
           (ap (λ (x : Mount ℕ). x.mount_point) itself ∙ point) in
           subst OnGround (same_Some (root_of child) b h)
           (⊎_elim (λ own. inl (same ∙ own))
-          (λ none. absurd (nowhere_unplaced child m
+          (λ none. absurd (nowhere_unplaced world is.mounts child m
           (ap (λ (x : Mount ℕ). x.namespace) (sym itself) ∙ same ∙ none.0) a point)) ground)
 
   pub topmost_ground : (location : Location ℕ) → OnGround location → OnGround (topmost nat_eq world.mounts location)
@@ -120,7 +111,7 @@ module _ (world : World ℕ) (is : IsWorld nat_eq world) (task : Task ℕ) (ther
       (among_from_all (λ (x : Mount ℕ). Stands nat_eq world x.number) world.mounts is.mounts.standing
       (mount_numbered nat_eq world number) m)) e) ∙ own))
       (λ none. ⊎_elim
-      (λ m. absurd (nowhere_unplaced (mount_numbered nat_eq world number) m none.0 point e))
+      (λ m. absurd (nowhere_unplaced world is.mounts (mount_numbered nat_eq world number) m none.0 point e))
       (λ missing. none_is_some point (sym (ap (λ (x : Mount ℕ). x.mount_point) missing) ∙ e))
       (found_or_none world.mounts number))
       ground

@@ -142,8 +142,8 @@ by_permit these leaves world fresh names name call outsider given =
         (denial_changes_nothing fresh world name call deny e)
     by (Ok answer) e = granted answer e (only_looks call) refl
 
--- others have no foothold on a filesystem where none of them is, with the overlays that there were, and more that have no
--- layer on it
+-- others have no foothold on a filesystem where none of them is, with the overlays that there were, and more that have
+-- no layer on it
 pub free_with : (world left : World ℕ) (names : List TaskName) (more : List (Filesystem ℕ))
     → overlays left ≡ overlays world ++ more
     → ((number : ℕ) → IsOfTheWorld world names number → no_outsider_on nat_eq world names number ≡ true

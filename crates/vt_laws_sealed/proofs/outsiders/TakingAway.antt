@@ -1,21 +1,20 @@
 -- Mounts of others that are taken away: what is left for the set.
-use Rattle.std.proofs.Common.{◌≡◌, refl, sym, ap, subst, ◌∙◌, inl, inr, ℕ, nat_eq, Bool, true, false, cond, true≢false, List, [], Option, Some, None, length, map}
+use Rattle.std.proofs.Common.{◌≡◌, refl, sym, ap, subst, ◌∙◌, ⊎_elim, inl, inr, ℕ, nat_eq, Bool, true, false, cond, true≢false, List, [], Option, Some, None, length, map}
 use Rattle.std.specs.Prelude.{option_map}
 use Rattle.std.specs.List.{list_any}
 use Rattle.std.proofs.lemmas.Option.{same_Some}
 use Rattle.std.proofs.lemmas.Bool.{false_from_ne_true}
 use Rattle.vt_spec.specs.Language.Calls.{TaskName}
-use Rattle.vt_spec.specs.Lists.{Fresh, holds_of}
+use Rattle.vt_spec.specs.Lists.{holds_of}
 use Rattle.vt_spec.specs.Machine.Detach.{taken_away, after_going, is_going, mount_point_left, mount_point_of_parent}
 use Rattle.vt_spec.specs.Machine.Invariants.{Stands}
 use Rattle.vt_spec.specs.Machine.Mounts.{Location, Mount, detached}
 use Rattle.vt_spec.specs.Machine.Mounts.Propagation.{Private}
 use Rattle.vt_spec.specs.Machine.Receives.{lost_a_group, regrouped_by}
-use Rattle.vt_spec.specs.Machine.Run.{Serves}
 use Rattle.vt_spec.specs.Machine.Sealed.{is_own_mount, is_own_namespace, other_mounts, own_mounts, sealed}
 use Rattle.vt_spec.specs.Machine.Settled.{settled}
 use Rattle.vt_spec.specs.Machine.World.{Namespace, Task, World, mount_at, mount_numbered, with_mounts}
-use Rattle.vt_spec.proofs.Lists.{Among, among-from_filter, among_from_all, pair-map}
+use Rattle.vt_spec.proofs.Lists.{Among, among-from_filter, among-from_map, among_from_all, pair-map}
 use Rattle.vt_spec.proofs.Options.{none_is_some}
 use Rattle.vt_laws_trees.proofs.trees.TreesEntered.{chain_ends}
 use Rattle.vt_laws_mounts.specs.Mounts.Invariants.{OneNumberEach}
@@ -23,10 +22,10 @@ use Rattle.vt_laws_mounts.proofs.mounts.MountsReplaced.{found_itself}
 use Rattle.vt_laws_worlds.proofs.worlds.Reached.{namespace_below}
 use Rattle.vt_laws_part.specs.Seals.{IsApart}
 use Rattle.vt_laws_sealed.proofs.outsiders.ChangedWorlds.{OthersMove}
-use Rattle.vt_laws_sealed.proofs.outsiders.OtherMounts.{foreign_above}
+use Rattle.vt_laws_sealed.proofs.outsiders.OtherMounts.{foreign_above, nowhere_unplaced, standing_apart}
 use Rattle.vt_laws_sealed.proofs.outsiders.Regrouping.{IsOfOthers, after_all, all_changed, all_shape, mounts_are, of_nobody, old_type, regrouping_leaves_apart}
 use Rattle.vt_laws_sealed.proofs.outsiders.Reshaping.{IsReshaped, reshaping_keeps}
-use Rattle.vt_laws_sealed.proofs.outsiders.Standing.{nowhere_unplaced}
+use Rattle.vt_laws_sealed.proofs.outsiders.StandingApart.{StandsApart}
 use Rattle.vt_laws_sealed.proofs.outsiders.Staying.{LeavesApart}
 use Rattle.vt_laws_sealed.proofs.outsiders.Sweeping.{sweeping_leaves_apart}
 
@@ -45,9 +44,7 @@ namespaces_taken_away world gone =
     by false = refl
 
 -- Mounts of others go, and others may be elsewhere. Each mount that goes is in a namespace of others.
-module _ (world : World ℕ) (names : List TaskName) (apart : IsApart world names)
-    (sealed_off : sealed nat_eq world names ≡ true)
-    (fresh : Fresh ℕ) (serves : Serves nat_eq world fresh) (task : Task ℕ) (there : Among task world.tasks)
+module _ (world : World ℕ) (names : List TaskName) {New : ℕ → Type 0} (apart : StandsApart world names New)
     (tasks : List (Task ℕ)) (namespaces : List (Namespace ℕ)) (moved : OthersMove world names tasks namespaces)
     (gone : List ℕ)
     (others_go : (number : ℕ) → is_going nat_eq gone number ≡ true
@@ -63,7 +60,7 @@ module _ (world : World ℕ) (names : List TaskName) (apart : IsApart world name
   goes = is_going nat_eq gone
 
   itself : (mount : Mount ℕ) → Among mount world.mounts → mount_numbered nat_eq world mount.number ≡ mount
-  itself mount m = found_itself world.mounts apart.is.mounts.one_number mount m
+  itself mount m = found_itself world.mounts apart.mounts.one_number mount m
 
   own_not_going : (number namespace : ℕ) → (mount_numbered nat_eq world number).namespace ≡ Some namespace
       → is_own namespace ≡ true → goes number ≡ false
@@ -129,24 +126,24 @@ module _ (world : World ℕ) (names : List TaskName) (apart : IsApart world name
           stays own (own_not_going own.number namespace placed h) (λ point p.
           own_not_going point.mount namespace
           (sym (namespace_below world own.number point
-          (among_from_all (λ (x : Mount ℕ). Stands nat_eq world x.number) world.mounts apart.is.mounts.standing own at)
+          (among_from_all (λ (x : Mount ℕ). Stands nat_eq world x.number) world.mounts apart.mounts.standing own at)
           (ap (λ (x : Mount ℕ). x.mount_point) (itself own at) ∙ p)) ∙ placed) h)
 
   nowhere_same : (mount : Mount ℕ) → Among mount world.mounts → mount.namespace ≡ None → change mount ≡ mount
   nowhere_same mount at none =
       stays mount (nowhere_not_going mount.number (ap (λ (x : Mount ℕ). x.namespace) (itself mount at) ∙ none))
-      (λ point p. absurd (nowhere_unplaced world apart.is task there mount at none point p))
+      (λ point p. absurd (nowhere_unplaced world apart.mounts mount at none point p))
 
   kinds : (other : Mount ℕ) → Among other (other_mounts nat_eq world names)
-      → IsOfOthers world names apart fresh serves (change other).propagation
+      → IsOfOthers world names apart (change other).propagation
   kinds other m = by (goes other.number)
     where
       by : (b : Bool)
-          → IsOfOthers world names apart fresh serves (cond b (detached other) (record other {
+          → IsOfOthers world names apart (cond b (detached other) (record other {
             mount_point = option_map new_point other.mount_point;
           })).propagation
-      by true = of_nobody world names apart fresh serves
-      by false = old_type world names apart fresh serves other m
+      by true = of_nobody world names apart
+      by false = old_type world names apart other m
 
   abbrev halfway : World ℕ
   halfway = with_mounts before (map change world.mounts)
@@ -156,13 +153,13 @@ module _ (world : World ℕ) (names : List TaskName) (apart : IsApart world name
 
   abbrev regrouped_world : World ℕ
   regrouped_world =
-      after_all world names apart fresh serves change shape own_same nowhere_same kinds world.master
-      (foreign_above world names apart fresh serves) (λ number h. refl) tasks namespaces moved lost
+      after_all world names apart change shape own_same nowhere_same kinds world.master
+      (foreign_above world names apart) (λ number h. refl) tasks namespaces moved lost
 
   abbrev all_change : Mount ℕ → Mount ℕ
   all_change =
-      all_changed world names apart fresh serves change shape own_same nowhere_same kinds world.master
-      (foreign_above world names apart fresh serves) (λ number h. refl) tasks namespaces moved lost
+      all_changed world names apart change shape own_same nowhere_same kinds world.master
+      (foreign_above world names apart) (λ number h. refl) tasks namespaces moved lost
 
   abbrev left : World ℕ
   left = record world {
@@ -181,8 +178,8 @@ module _ (world : World ℕ) (names : List TaskName) (apart : IsApart world name
         namespaces = namespaces;
         tasks = tasks;
       })
-      (mounts_are world names apart fresh serves change shape own_same nowhere_same kinds world.master
-      (foreign_above world names apart fresh serves) (λ number h. refl) tasks namespaces moved lost)
+      (mounts_are world names apart change shape own_same nowhere_same kinds world.master
+      (foreign_above world names apart) (λ number h. refl) tasks namespaces moved lost)
     where
       with_names : World ℕ
       with_names = record halfway { namespaces = namespaces }
@@ -200,28 +197,62 @@ module _ (world : World ℕ) (names : List TaskName) (apart : IsApart world name
   one_each : OneNumberEach left
   one_each =
       let keeps = reshaping_keeps all_change
-      (all_shape world names apart fresh serves change shape own_same nowhere_same kinds world.master
-      (foreign_above world names apart fresh serves) (λ number h. refl) tasks namespaces moved lost) in
+      (all_shape world names apart change shape own_same nowhere_same kinds world.master
+      (foreign_above world names apart) (λ number h. refl) tasks namespaces moved lost) in
       pair-map (λ (a b : Mount ℕ). nat_eq a.number b.number) (λ (a b : Mount ℕ). nat_eq a.number b.number) all_change
       world.mounts
       (λ a b m n e. ap (λ k. nat_eq k (all_change b).number) (keeps.number a)
       ∙ ap (nat_eq a.number) (keeps.number b) ∙ e)
-      apart.is.mounts.one_number
+      apart.mounts.one_number
 
-  abbrev taken : World ℕ
+  abbrev pub taken : World ℕ
   taken = record (taken_away nat_eq before gone) { namespaces = namespaces }
 
   left_leaves_apart : LeavesApart world left names []
   left_leaves_apart =
-      regrouping_leaves_apart world names apart fresh serves change shape own_same nowhere_same kinds world.master
-      (foreign_above world names apart fresh serves) (λ number h. refl) tasks namespaces moved lost
+      regrouping_leaves_apart world names apart change shape own_same nowhere_same kinds world.master
+      (foreign_above world names apart) (λ number h. refl) tasks namespaces moved lost
       regrouped_world.master (λ number. inl refl) (λ number h. refl)
 
-  -- before the sweep, and after it
   pub taken_leaves_apart : LeavesApart world taken names []
   taken_leaves_apart = subst (λ w. LeavesApart world w names []) (sym world_left) left_leaves_apart
 
-  pub taking_leaves_apart : LeavesApart world (settled nat_eq taken) names []
-  taking_leaves_apart =
-      subst (λ w. LeavesApart world (settled nat_eq w) names []) (sym world_left)
-      (sweeping_leaves_apart world left names apart sealed_off refl one_each [] left_leaves_apart)
+  pub one_taken : OneNumberEach taken
+  one_taken = subst OneNumberEach (sym world_left) one_each
+
+  pub filesystems_taken : taken.filesystems ≡ world.filesystems
+  filesystems_taken = ap (λ (w : World ℕ). w.filesystems) world_left
+
+  -- a mount that is in a namespace still was there
+  pub taken_from : (mount : Mount ℕ) → Among mount taken.mounts → (namespace : ℕ) → mount.namespace ≡ Some namespace
+      → (old : Mount ℕ) × Among old world.mounts × (old.number ≡ mount.number) × (old.namespace ≡ Some namespace)
+  taken_from mount m namespace e =
+      let from = among-from_map all_change world.mounts mount
+      (subst (λ (w : World ℕ). Among mount w.mounts) world_left m) in
+      let keeps = reshaping_keeps all_change
+      (all_shape world names apart change shape own_same nowhere_same kinds world.master
+      (foreign_above world names apart) (λ number h. refl) tasks namespaces moved lost) in (
+        from.0,
+        from.1,
+        sym (keeps.number from.0) ∙ sym (ap (λ (x : Mount ℕ). x.number) from.2),
+        ⊎_elim (λ same. sym same ∙ sym (ap (λ (x : Mount ℕ). x.namespace) from.2) ∙ e)
+            (λ none. none_is_some namespace (sym none ∙ sym (ap (λ (x : Mount ℕ). x.namespace) from.2) ∙ e))
+            (keeps.namespace from.0),
+      )
+
+-- So it is after the sweep.
+pub taking_leaves_apart : (world : World ℕ) (names : List TaskName) → IsApart world names
+    → sealed nat_eq world names ≡ true → (tasks : List (Task ℕ)) (namespaces : List (Namespace ℕ))
+    → OthersMove world names tasks namespaces → (gone : List ℕ)
+    → ((number : ℕ) → is_going nat_eq gone number ≡ true
+    → (namespace : ℕ) × ((mount_numbered nat_eq world number).namespace ≡ Some namespace)
+    × (is_own_namespace nat_eq world names namespace ≡ false))
+    → LeavesApart world
+    (settled nat_eq (record (taken_away nat_eq (record world { tasks = tasks }) gone) { namespaces = namespaces }))
+    names []
+taking_leaves_apart world names apart sealed_off tasks namespaces moved gone others_go =
+    let so_far = standing_apart world names apart in
+    sweeping_leaves_apart world (taken world names so_far tasks namespaces moved gone others_go) names apart sealed_off
+    (filesystems_taken world names so_far tasks namespaces moved gone others_go)
+    (one_taken world names so_far tasks namespaces moved gone others_go) []
+    (taken_leaves_apart world names so_far tasks namespaces moved gone others_go)

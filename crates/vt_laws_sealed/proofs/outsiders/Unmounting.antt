@@ -34,15 +34,15 @@ use Rattle.vt_laws_part.proofs.groups.EventsApart.{no_event_of_others_reaches_th
 use Rattle.vt_laws_part.proofs.seals.ByPart.{apart_if_sealed}
 use Rattle.vt_laws_sealed.specs.Outsiders.{IsOutsidersCall, LeaveASealedSet, unmounts}
 use Rattle.vt_laws_sealed.proofs.outsiders.ChangedWorlds.{others_rest}
-use Rattle.vt_laws_sealed.proofs.outsiders.OtherMounts.{is_other, namespace_outside}
+use Rattle.vt_laws_sealed.proofs.outsiders.OtherMounts.{is_other, namespace_outside, nowhere_unplaced, standing_apart}
 use Rattle.vt_laws_sealed.proofs.outsiders.OwnTasks.{caller_outside}
-use Rattle.vt_laws_sealed.proofs.outsiders.Standing.{nowhere_unplaced}
+use Rattle.vt_laws_sealed.proofs.outsiders.StandingApart.{NothingNew, StandsApart}
 use Rattle.vt_laws_sealed.proofs.outsiders.Staying.{LeavesApart, by_permit}
 use Rattle.vt_laws_sealed.proofs.outsiders.TakingAway.{namespaces_taken_away, taking_leaves_apart}
 
 -- The mounts that the unmount event of a mount of others takes away are of others.
-module _ (world : World ℕ) (names : List TaskName) (apart : IsApart world names) (task : Task ℕ)
-    (there : Among task world.tasks) (namespace : ℕ) (outside : is_own_namespace nat_eq world names namespace ≡ false)
+module _ (world : World ℕ) (names : List TaskName) {New : ℕ → Type 0} (apart : StandsApart world names New)
+    (namespace : ℕ) (outside : is_own_namespace nat_eq world names namespace ≡ false)
     (number : ℕ) (placed : (mount_numbered nat_eq world number).namespace ≡ Some namespace) where
   abbrev IsOfOthersAt : ℕ → Type 0
   IsOfOthersAt k =
@@ -72,14 +72,14 @@ module _ (world : World ℕ) (names : List TaskName) (apart : IsApart world name
         (found_or_none world.mounts number)
 
     itself : (mount : Mount ℕ) → Among mount world.mounts → mount_numbered nat_eq world mount.number ≡ mount
-    itself mount m = found_itself world.mounts apart.is.mounts.one_number mount m
+    itself mount m = found_itself world.mounts apart.mounts.one_number mount m
 
     below : (mount : Mount ℕ) → Among mount world.mounts → (place : Location ℕ) → mount.mount_point ≡ Some place
         → mount.namespace ≡ (mount_at nat_eq world place).namespace
     below mount m place e =
         ap (λ (x : Mount ℕ). x.namespace) (sym (itself mount m))
         ∙ namespace_below world mount.number place
-        (among_from_all (λ (x : Mount ℕ). Stands nat_eq world x.number) world.mounts apart.is.mounts.standing mount m)
+        (among_from_all (λ (x : Mount ℕ). Stands nat_eq world x.number) world.mounts apart.mounts.standing mount m)
         (ap (λ (x : Mount ℕ). x.mount_point) (itself mount m) ∙ e)
 
     parent_placed : parent.namespace ≡ Some namespace
@@ -87,7 +87,7 @@ module _ (world : World ℕ) (names : List TaskName) (apart : IsApart world name
 
     parent_other : Among parent (other_mounts nat_eq world names)
     parent_other =
-        is_other world names apart namespace outside parent
+        is_other world names namespace outside parent
         (⊎_elim (λ m. m)
         (λ none. none_is_some namespace (sym (ap (λ (x : Mount ℕ). x.namespace) none) ∙ parent_placed))
         (found_or_none world.mounts point.mount)) parent_placed
@@ -109,7 +109,7 @@ module _ (world : World ℕ) (names : List TaskName) (apart : IsApart world name
               λ n f own.
                   true≢false (sym out.1
                   ∙ no_event_of_others_reaches_them world names receiver parent group
-                  (record { mounts = apart.is.mounts; apart = apart.events })
+                  (record { mounts = apart.mounts; apart = apart.events })
                   (contains_from_among (own_mounts nat_eq world names) receiver
                   (among-filter (is_own_mount nat_eq world names) world.mounts receiver out.0
                   (ap (holds_of (is_own_namespace nat_eq world names)) f ∙ own)))
@@ -153,7 +153,7 @@ module _ (world : World ℕ) (names : List TaskName) (apart : IsApart world name
             → ((n : ℕ) → child.namespace ≡ Some n → is_own_namespace nat_eq world names n ≡ true → ⊥)
             → mount_numbered nat_eq world k ≡ child → IsOfOthersAt k
         by child m place stands None e no_own it =
-            absurd (nowhere_unplaced world apart.is task there child m e place stands)
+            absurd (nowhere_unplaced world apart.mounts child m e place stands)
         by child m place stands (Some n) e no_own it = (
           n,
           ap (λ (x : Mount ℕ). x.namespace) it ∙ e,
@@ -181,6 +181,9 @@ module _ (world : World ℕ) (fresh : Fresh ℕ) (names : List TaskName) (name :
   set_apart : IsApart world names
   set_apart = apart_if_sealed world names outsider.is outsider.sealed_off
 
+  abbrev so_far : StandsApart world names NothingNew
+  so_far = standing_apart world names set_apart
+
   for_umount : (path : List ℕ) × (call ≡ Umount path)
   for_umount = permits_are_for_their_calls fresh world task call (ToUnmount number) judged
 
@@ -193,17 +196,13 @@ module _ (world : World ℕ) (fresh : Fresh ℕ) (names : List TaskName) (name :
   abbrev gone : List ℕ
   gone = going nat_eq world (mount_numbered nat_eq world number)
 
-  task_is_there : Among task world.tasks
-  task_is_there = found_among (λ (t : Task ℕ). same_name name t.name) world.tasks task called
-
   unmount_leaves : LeavesApart world (settled nat_eq (apply nat_eq fresh world task (ToUnmount number)).world) names []
   unmount_leaves =
       subst (λ w. LeavesApart world (settled nat_eq w) names [])
       (namespaces_taken_away world gone)
-      (taking_leaves_apart world names set_apart outsider.sealed_off fresh outsider.serves task task_is_there
-      world.tasks
-      world.namespaces (others_rest world names set_apart) gone
-      (others_go world names set_apart task task_is_there task.namespace
+      (taking_leaves_apart world names set_apart outsider.sealed_off world.tasks world.namespaces
+      (others_rest world names so_far) gone
+      (others_go world names so_far task.namespace
       (namespace_outside world names set_apart task (caller_outside world fresh names name call task outsider called))
       number placed_in))
 

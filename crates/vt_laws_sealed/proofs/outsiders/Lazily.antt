@@ -1,0 +1,191 @@
+-- Trees of mounts of others that are unmounted at once: umount2(2) with MNT_DETACH.
+use Rattle.std.proofs.Common.{◌≡◌, refl, sym, ap, subst, ◌∙◌, ⊎_elim, inl, inr, ℕ, nat_eq, Bool, true, false, cond, true≢false, List, [], ◌∷◌, Option, Some, None, Ok, is_some, length, eqb-true}
+use Rattle.std.specs.List.{list_any}
+use Rattle.std.proofs.lemmas.Option.{same_Some}
+use Rattle.vt_spec.specs.Language.Calls.{Call, TaskName}
+use Rattle.vt_spec.specs.Language.Calls.Call.{Lazy}
+use Rattle.vt_spec.specs.Lists.{Fresh, folded}
+use Rattle.vt_spec.specs.Machine.Apply.{apply, filesystems_changed}
+use Rattle.vt_spec.specs.Machine.Detach.{going, is_going, lazily_unmounted, taken_away, unmounted, unmounted_if_there}
+use Rattle.vt_spec.specs.Machine.Invariants.{MountInvariants}
+use Rattle.vt_spec.specs.Machine.Judge.{judge_in}
+use Rattle.vt_spec.specs.Machine.Mounts.{Mount}
+use Rattle.vt_spec.specs.Machine.Permits.{Permit}
+use Rattle.vt_spec.specs.Machine.Permits.Permit.{ToUnmountLazily}
+use Rattle.vt_spec.specs.Machine.Sealed.{is_own_namespace}
+use Rattle.vt_spec.specs.Machine.Settled.{settled}
+use Rattle.vt_spec.specs.Machine.World.{Task, World, mount_numbered, task_called}
+use Rattle.vt_spec.proofs.Lists.{Among}
+use Rattle.vt_spec.proofs.Options.{none_is_some}
+use Rattle.vt_spec.proofs.Worlds.{found_or_none, number-mount_in}
+use Rattle.vt_laws_trees.specs.Trees.Calls.{mounts_overlay}
+use Rattle.vt_laws_rules.proofs.given.GivenPermits.{permits_are_for_their_calls}
+use Rattle.vt_laws_mounts.proofs.ends.EndingLazy.{IsUnderWay, begun, lazy_unmount_keeps_mounts, next}
+use Rattle.vt_laws_mounts.proofs.ends.EndingOrder.{from_tree, taken_in_turn}
+use Rattle.vt_laws_mounts.proofs.mounts.MountsReplaced.{found_itself}
+use Rattle.vt_laws_worlds.proofs.worlds.CallsKept.{name_found}
+use Rattle.vt_laws_worlds.proofs.worlds.FitPermitsNamed.{all_permits_fit}
+use Rattle.vt_laws_part.specs.Seals.{IsApart}
+use Rattle.vt_laws_part.proofs.seals.ByPart.{apart_if_sealed}
+use Rattle.vt_laws_sealed.specs.Outsiders.{IsOutsidersCall, LeaveASealedSet, unmounts_lazily}
+use Rattle.vt_laws_sealed.proofs.outsiders.ChangedWorlds.{OthersMove, others_rest}
+use Rattle.vt_laws_sealed.proofs.outsiders.OtherMounts.{namespace_outside, standing_apart, tree_in}
+use Rattle.vt_laws_sealed.proofs.outsiders.OwnTasks.{caller_outside}
+use Rattle.vt_laws_sealed.proofs.outsiders.Refusals.{leaves_apart_itself}
+use Rattle.vt_laws_sealed.proofs.outsiders.StandingApart.{NothingNew, StandsApart}
+use Rattle.vt_laws_sealed.proofs.outsiders.Staying.{LeavesApart, by_permit}
+use Rattle.vt_laws_sealed.proofs.outsiders.Steps.{leaves_on, standing_on}
+use Rattle.vt_laws_sealed.proofs.outsiders.Sweeping.{sweeping_leaves_apart}
+use Rattle.vt_laws_sealed.proofs.outsiders.TakingAway.{filesystems_taken, namespaces_taken_away, taken_from, taken_leaves_apart}
+use Rattle.vt_laws_sealed.proofs.outsiders.Unmounting.{others_go}
+
+module _ (world : World ℕ) (names : List TaskName) (apart : IsApart world names) (namespace : ℕ)
+    (outside : is_own_namespace nat_eq world names namespace ≡ false) (one : ℕ)
+    (placed : (mount_numbered nat_eq world one).namespace ≡ Some namespace) where
+  -- each mount that has an event is in the namespace
+  event_placed : (mount : Mount ℕ) → Among mount (taken_in_turn world one)
+      → (mount_numbered nat_eq world mount.number).namespace ≡ Some namespace
+  event_placed mount m =
+      let is_in = tree_in world names apart namespace (length world.mounts) (mount_numbered nat_eq world one) (
+        ⊎_elim (λ k. k)
+            (λ none. none_is_some namespace (sym (ap (λ (x : Mount ℕ). x.namespace) none) ∙ placed))
+            (found_or_none world.mounts one),
+        placed,
+      ) mount (from_tree world one mount m) in
+      ap (λ (x : Mount ℕ). x.namespace) (found_itself world.mounts apart.is.mounts.one_number mount is_in.0) ∙ is_in.1
+
+  -- a mount that is in a namespace still was in it
+  abbrev WasIn : World ℕ → Type 0
+  WasIn now =
+      (k n : ℕ) → (mount_numbered nat_eq now k).namespace ≡ Some n
+      → (mount_numbered nat_eq world k).namespace ≡ Some n
+
+  -- after some events
+  record HasGone (now : World ℕ) : Type 0 where
+    standing : StandsApart now names NothingNew
+    leaves : LeavesApart world now names []
+    same : now.filesystems ≡ world.filesystems
+    was_in : WasIn now
+
+  -- one event more
+  module _ (now : World ℕ) (gone_so_far : HasGone now) (number : ℕ)
+      (at : (mount_numbered nat_eq now number).namespace ≡ Some namespace)
+      (later_mounts : MountInvariants nat_eq (unmounted nat_eq now number)) where
+    abbrev gone : List ℕ
+    gone = going nat_eq now (mount_numbered nat_eq now number)
+
+    outside_now : is_own_namespace nat_eq now names namespace ≡ false
+    outside_now =
+        ap (list_any (λ (t : Task ℕ). nat_eq namespace t.namespace)) gone_so_far.leaves.sees.tasks ∙ outside
+
+    abbrev rest_now : OthersMove now names now.tasks now.namespaces
+    rest_now = others_rest now names gone_so_far.standing
+
+    abbrev others_now : (k : ℕ) → is_going nat_eq gone k ≡ true
+        → (n : ℕ) × ((mount_numbered nat_eq now k).namespace ≡ Some n)
+        × (is_own_namespace nat_eq now names n ≡ false)
+    others_now = others_go now names gone_so_far.standing namespace outside_now number at
+
+    abbrev later : World ℕ
+    later = unmounted nat_eq now number
+
+    step_leaves : LeavesApart now later names []
+    step_leaves =
+        subst (λ w. LeavesApart now w names []) (namespaces_taken_away now gone)
+        (taken_leaves_apart now names gone_so_far.standing now.tasks now.namespaces rest_now gone others_now)
+
+    from : (mount : Mount ℕ) → Among mount later.mounts → (n : ℕ) → mount.namespace ≡ Some n
+        → (old : Mount ℕ) × Among old now.mounts × (old.number ≡ mount.number) × (old.namespace ≡ Some n)
+    from mount m n e =
+        taken_from now names gone_so_far.standing now.tasks now.namespaces rest_now gone others_now mount
+        (subst (λ (w : World ℕ). Among mount w.mounts) (sym (namespaces_taken_away now gone)) m) n e
+
+    goes_on : HasGone later
+    goes_on = record {
+      standing = standing_on now later names gone_so_far.standing step_leaves later_mounts
+          (sym (ap (λ (w : World ℕ). w.namespaces) (namespaces_taken_away now gone))) from;
+      leaves = leaves_on world now later names gone_so_far.same gone_so_far.leaves step_leaves;
+      same = sym (ap (λ (w : World ℕ). w.filesystems) (namespaces_taken_away now gone))
+          ∙ filesystems_taken now names gone_so_far.standing now.tasks now.namespaces rest_now gone others_now
+          ∙ gone_so_far.same;
+      was_in = λ k n e.
+          ⊎_elim
+          (λ there.
+          let old = from (mount_numbered nat_eq later k) there n e in
+          gone_so_far.was_in k n
+          (ap (λ j. (mount_numbered nat_eq now j).namespace)
+          (sym (number-mount_in later.mounts k) ∙ sym old.2)
+          ∙ ap (λ (x : Mount ℕ). x.namespace)
+          (found_itself now.mounts gone_so_far.standing.mounts.one_number old.0 old.1) ∙ old.3))
+          (λ none. none_is_some n (sym (ap (λ (x : Mount ℕ). x.namespace) none) ∙ e))
+          (found_or_none later.mounts k);
+    }
+
+  -- all of them
+  all_go : (events : List (Mount ℕ)) (now : World ℕ) → IsUnderWay world apart.is.mounts one now events → HasGone now
+      → ((mount : Mount ℕ) → Among mount events → Among mount (taken_in_turn world one))
+      → HasGone (folded (unmounted_if_there nat_eq) now events)
+  all_go [] now way gone_so_far of = gone_so_far
+  all_go (mount ∷ events) now way gone_so_far of =
+      all_go events (unmounted_if_there nat_eq now mount) (next world apart.is.mounts one now mount events way)
+      (by (mount_numbered nat_eq now mount.number).namespace refl
+      (next world apart.is.mounts one now mount events way).kept)
+      (λ x m. of x (inr m))
+    where
+      event : Bool → World ℕ
+      event b = cond b (unmounted nat_eq now mount.number) now
+
+      by : (o : Option ℕ) → (mount_numbered nat_eq now mount.number).namespace ≡ o
+          → MountInvariants nat_eq
+          (event (is_some (mount_numbered nat_eq now mount.number).namespace))
+          → HasGone (event (is_some (mount_numbered nat_eq now mount.number).namespace))
+      by None e kept = subst (λ o. HasGone (event (is_some o))) (sym e) gone_so_far
+      by (Some n) e kept =
+          let same : n ≡ namespace =
+          same_Some n namespace (sym (gone_so_far.was_in mount.number n e) ∙ event_placed mount (of mount (inl refl)))
+          in
+          subst (λ o. HasGone (event (is_some o))) (sym e)
+          (goes_on now gone_so_far mount.number (e ∙ ap Some same)
+          (subst (λ o. MountInvariants nat_eq (event (is_some o))) e kept))
+
+  pub lazily_leaves : LeavesApart world world names []
+      → LeavesApart world (lazily_unmounted nat_eq world one) names []
+      × ((lazily_unmounted nat_eq world one).filesystems ≡ world.filesystems)
+  lazily_leaves itself =
+      let all = all_go (taken_in_turn world one) world (begun world apart.is.mounts one) (record {
+        standing = standing_apart world names apart;
+        leaves = itself;
+        same = refl;
+        was_in = λ k n e. e;
+      }) (λ mount m. m) in
+      (all.leaves, all.same)
+
+lazy_leaves : (world : World ℕ) (fresh : Fresh ℕ) (names : List TaskName) (name : TaskName) (call : Call)
+    (task : Task ℕ) → IsOutsidersCall world fresh names name call → task_called world name ≡ Some task
+    → (number : ℕ) → judge_in nat_eq fresh world task call ≡ Ok (ToUnmountLazily number)
+    → LeavesApart world (settled nat_eq (apply nat_eq fresh world task (ToUnmountLazily number)).world) names []
+lazy_leaves world fresh names name call task outsider called number judged =
+    let set_apart = apart_if_sealed world names outsider.is outsider.sealed_off in
+    let for = permits_are_for_their_calls fresh world task call (ToUnmountLazily number) judged in
+    let placed = (all_permits_fit world fresh task call (ToUnmountLazily number) outsider.is outsider.serves
+    (ap (task_called world) (sym (name_found world name task called)) ∙ called)
+    (ap mounts_overlay for.1) judged).names.0 in
+    let left = lazily_leaves world names set_apart task.namespace
+    (namespace_outside world names set_apart task (caller_outside world fresh names name call task outsider called))
+    number placed (leaves_apart_itself world fresh names name call outsider) in
+    sweeping_leaves_apart world (lazily_unmounted nat_eq world number) names set_apart outsider.sealed_off left.1
+    (lazy_unmount_keeps_mounts world number outsider.is.mounts).one_number [] left.0
+
+by_lazy : (world : World ℕ) (fresh : Fresh ℕ) (names : List TaskName) (name : TaskName) (call : Call)
+    (task : Task ℕ) → IsOutsidersCall world fresh names name call → task_called world name ≡ Some task
+    → (permit : Permit ℕ) → judge_in nat_eq fresh world task call ≡ Ok permit → unmounts_lazily permit ≡ true
+    → LeavesApart world (settled nat_eq (apply nat_eq fresh world task permit).world) names
+    (filesystems_changed nat_eq world permit)
+by_lazy world fresh names name call task outsider called (ToUnmountLazily number) judged e =
+    lazy_leaves world fresh names name call task outsider called number judged
+by_lazy world fresh names name call task outsider called permit judged e = absurd (true≢false (sym e))
+
+pub lazy_unmounts_leave_a_sealed_set : LeaveASealedSet unmounts_lazily
+lazy_unmounts_leave_a_sealed_set =
+    by_permit unmounts_lazily (λ world fresh names name call task permit outsider called judged these.
+    by_lazy world fresh names name call task outsider called permit judged these)

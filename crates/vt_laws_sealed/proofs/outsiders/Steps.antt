@@ -1,0 +1,91 @@
+-- Steps of a call of others, one after the other: what each leaves of a sealed set is left by all.
+use Rattle.std.proofs.Common.{◌≡◌, refl, sym, ap, subst, ◌∙◌, ⊎_elim, inl, inr, ℕ, nat_eq, true, false, List, [], Some, map}
+use Rattle.std.specs.Prelude.{Contains}
+use Rattle.std.specs.List.{filter_map, list_any}
+use Rattle.vt_spec.specs.Language.Calls.{TaskName}
+use Rattle.vt_spec.specs.Lists.{is_among}
+use Rattle.vt_spec.specs.Machine.Invariants.{MountInvariants, is_listed}
+use Rattle.vt_spec.specs.Machine.Mounts.{Location, Mount}
+use Rattle.vt_spec.specs.Machine.Receives.{is_member_of}
+use Rattle.vt_spec.specs.Machine.Sealed.{is_at, is_own_namespace, members, own_lowers, roots_and_directories, used_filesystems}
+use Rattle.vt_spec.specs.Machine.World.{Filesystem, Namespace, Task, World}
+use Rattle.vt_spec.proofs.Lists.{Among}
+use Rattle.vt_laws_part.specs.Parts.{SeesTheSame, shown_of}
+use Rattle.vt_laws_part.proofs.part.Observed.{directly_same, lowers_same, own_mounts_same, used_same}
+use Rattle.vt_laws_sealed.proofs.outsiders.StandingApart.{NothingNew, StandsApart}
+use Rattle.vt_laws_sealed.proofs.outsiders.Staying.{IsOfTheWorld, LeavesApart}
+
+pub sees_on : (world middle later : World ℕ) (names : List TaskName) → SeesTheSame world middle names
+    → SeesTheSame middle later names → SeesTheSame world later names
+sees_on world middle later names one two = record {
+  tasks = two.tasks ∙ one.tasks;
+  mounts = two.mounts ∙ one.mounts;
+  masters = λ group h.
+      two.masters group (ap (list_any (is_member_of nat_eq group)) (own_mounts_same world middle names one) ∙ h)
+      ∙ one.masters group h;
+  direct = λ number m.
+      two.direct number (subst (λ list. Contains list number) (sym (directly_same world middle names one)) m)
+      ∙ one.direct number m;
+  filesystems =
+      sym (ap (λ used. filter_map (shown_of later used (own_lowers nat_eq middle names)) later.filesystems)
+      (used_same world middle names one)
+      ∙ ap (λ lowers. filter_map (shown_of later (used_filesystems nat_eq world names) lowers) later.filesystems)
+      (lowers_same world middle names one))
+      ∙ two.filesystems
+      ∙ ap (λ used. filter_map (shown_of middle used (own_lowers nat_eq middle names)) middle.filesystems)
+      (used_same world middle names one)
+      ∙ ap (λ lowers. filter_map (shown_of middle (used_filesystems nat_eq world names) lowers) middle.filesystems)
+      (lowers_same world middle names one)
+      ∙ one.filesystems;
+  namespaces = two.namespaces ∙ one.namespaces;
+}
+
+-- where filesystems are as they were after the first one
+pub leaves_on : (world middle later : World ℕ) (names : List TaskName) → middle.filesystems ≡ world.filesystems
+    → LeavesApart world middle names [] → LeavesApart middle later names [] → LeavesApart world later names []
+leaves_on world middle later names same one two = record {
+  sees = sees_on world middle later names one.sees two.sees;
+  others = record {
+    tasks = two.others.tasks;
+    events = two.others.events;
+    locations = two.others.locations;
+    free = λ number of alone. two.others.free number (in_middle number of) (one.others.free number of alone);
+  };
+  unraised = λ number m. refl;
+}
+  where
+    in_middle : (number : ℕ) → IsOfTheWorld world names number → IsOfTheWorld middle names number
+    in_middle number of =
+        ⊎_elim
+        (λ there. inl (ap (λ list. is_among nat_eq number (map (λ (f : Filesystem ℕ). f.number) list)) same ∙ there))
+        (λ used. inr (subst (Among number) (sym (used_same world middle names one.sees)) used))
+        of
+
+-- others and the set stand apart after a step that leaves mounts of others where they were, or in no namespace
+pub standing_on : (world later : World ℕ) (names : List TaskName) → StandsApart world names NothingNew
+    → LeavesApart world later names [] → MountInvariants nat_eq later → later.namespaces ≡ world.namespaces
+    → ((mount : Mount ℕ) → Among mount later.mounts → (namespace : ℕ) → mount.namespace ≡ Some namespace
+    → (old : Mount ℕ) × Among old world.mounts × (old.number ≡ mount.number) × (old.namespace ≡ Some namespace))
+    → StandsApart later names NothingNew
+standing_on world later names standing leaves mounts same from = record {
+  mounts = mounts;
+  tasks = leaves.others.tasks;
+  events = leaves.others.events;
+  locations = leaves.others.locations;
+  not_stood = λ namespace outside mount there placed.
+      let old = from mount there namespace placed in
+      ap (λ tasks. list_any (λ (l : Location ℕ). nat_eq l.mount mount.number)
+      (roots_and_directories tasks)) leaves.sees.tasks
+      ∙ ap (λ n. list_any (λ (l : Location ℕ). nat_eq l.mount n)
+      (roots_and_directories (members world names))) (sym old.2)
+      ∙ standing.not_stood namespace (sym (own_by namespace) ∙ outside) old.0 old.1 old.3;
+  own_listed = λ number own.
+      ap (λ list. is_among nat_eq number (map (λ (n : Namespace ℕ). n.number) list))
+      same
+      ∙ standing.own_listed number (sym (own_by number) ∙ own);
+  new_group = λ mount group m is_in new. new;
+  new_master = λ group new. absurd new;
+}
+  where
+    own_by : (number : ℕ) → is_own_namespace nat_eq later names number ≡ is_own_namespace nat_eq world names number
+    own_by number = ap (list_any (λ (t : Task ℕ). nat_eq number t.namespace)) leaves.sees.tasks
