@@ -1,0 +1,9 @@
+pub mod Cuts
+pub mod EntriesSeen
+pub mod LayersLeft
+pub mod NamesFollowed
+pub mod NamesHad
+pub mod NamesSorted
+pub mod NamesTaken
+pub mod TreesLent
+pub mod UnderNames

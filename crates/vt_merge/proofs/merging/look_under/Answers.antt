@@ -1,0 +1,14 @@
+use Rattle.std.specs.Prelude.{option_copied}
+use Rattle.vt_merge.proofs.TreesLent.{nothing_found, object_found}
+use Rattle.vt_merge.proofs.merging.look_under.Goals as goal
+
+pub returns-in_default : goal.returns-in_default
+returns-in_default c = λ lower.
+    nothing_found c.args.trees.now c.args.top c.args.name.now (option_copied c.get-tree.result) c.get-tree.ensures
+    c.in_default.ensures.number lower
+
+pub returns : goal.returns
+returns c = λ lower.
+    object_found c.args.trees.now c.args.top c.args.name.now (option_copied c.get-tree.result) c.get-tree.ensures
+    c.in-Some.object c.in-Some.ensures.filesystem c.in-Some.ensures.number c.directory_at.result c.hides.result
+    c.directory_at.ensures c.hides.ensures lower

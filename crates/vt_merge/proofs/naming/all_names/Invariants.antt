@@ -1,0 +1,7 @@
+use Rattle.std.proofs.Common.{◌≡◌, ◌++◌, drop, map}
+use Rattle.vt_merge.specs.LayerValue.{names_had}
+use Rattle.vt_merge.proofs.naming.all_names.Given as goal
+
+abbrev pub invariant-loop-top : goal.invariant-loop-top
+invariant-loop-top l =
+    map (λ name. name.items) l.all.items ++ names_had l.trees (drop l.top-index l.merged) ≡ names_had l.trees l.merged

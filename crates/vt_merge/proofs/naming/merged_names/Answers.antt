@@ -1,0 +1,21 @@
+use Rattle.std.proofs.Common.{rules, Global, Vec, ◌≡◌, ◌∙◌, ◌∷◌, [], ap, is_some, map, sym, ℕ}
+use Rattle.std.proofs.lemmas.Fn.{filter_same}
+use Rattle.std.proofs.lemmas.List.Filters.{dedup_is}
+use Rattle.vt_laws_layers.specs.Layers.Directories.{shown_in}
+use Rattle.vt_merge.specs.LayerValue.{layers_of, names_had, placed_views}
+use Rattle.vt_merge.proofs.NamesSorted.{names_are}
+use Rattle.vt_merge.proofs.naming.merged_names.Goals as goal
+
+pub returns : goal.returns
+returns g c =
+    let trees = c.args.trees.now in
+    let merged = c.as_slice-directories.result.now in
+    names_are trees merged (layers_of trees c.args.layers.now) (g.W.Way.names c.args.path.now)
+    c.in_ok-names.names.items c.retain.new.self.items c.sort_unstable.new.self.items c.dedup.new.self.items
+    c.in_ok-names.ensures
+    (filter_same _ (λ (name : Vec ℕ Global). is_some (shown_in (placed_views trees merged) (name.items ∷ []))) _
+    (λ x b f' k. search rules) _ _ c.retain.ensures.filtered)
+    c.sort_unstable.ensures.permutation c.sort_unstable.ensures.sorted (dedup_is _ _ _ c.dedup.ensures.filtered)
+    (λ rest some.
+    ap (λ items. shown_in (placed_views trees items) rest) c.as_slice-directories.ensures.value
+    ∙ c.merged_dirs_at-merged.ensures rest some)

@@ -1,0 +1,37 @@
+//! Layers, and what they show.
+
+use vt_location::{FilesystemId, NodeRef};
+
+/// A layer of an overlay: a directory of a plain tree.
+#[derive(Clone, Copy, Debug, PartialEq, Eq)]
+pub struct LayerRef {
+    pub directory: NodeRef,
+}
+
+/// An object that is shown: the place of its layer, counted from the top, and its inode there.
+#[derive(Clone, Copy, Debug, PartialEq, Eq)]
+pub struct Real {
+    pub layer: usize,
+    pub inode: NodeRef,
+}
+
+/// A directory of one layer that is merged with those of other layers, and the place of its layer, counted from the
+/// top.
+#[derive(Clone, Copy, Debug, PartialEq, Eq)]
+pub struct MergedDirectory {
+    pub layer: usize,
+    pub directory: NodeRef,
+}
+
+// A list of them with room for more is filled up with this one.
+impl Default for MergedDirectory {
+    fn default() -> Self {
+        MergedDirectory {
+            layer: 0,
+            directory: NodeRef {
+                filesystem: FilesystemId::new(0),
+                slot: 0,
+            },
+        }
+    }
+}

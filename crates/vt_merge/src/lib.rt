@@ -1,0 +1,17 @@
+//! What the layers of an overlay show: the kernel's overlayfs document. Nothing is kept of it: it is looked up in the
+//! trees of the layers.
+#![tactic(auto)]
+
+mod entries;
+mod following;
+mod layers;
+mod merging;
+mod naming;
+mod showing;
+mod ways;
+
+pub use layers::{LayerRef, MergedDirectory, Real};
+pub use merging::{MOST_LAYERS, MergedDirectories, merged_dirs, merged_dirs_at};
+pub use naming::merged_names;
+pub use showing::{real_of, shown};
+pub use ways::{Names, Way};

@@ -1,0 +1,80 @@
+//! The names of merged directories.
+ghost use Rattle.std.specs.Prelude.{◌≡◌, ◌≤◌, ◌∷◌, [], IfOk, is_some, length, map};
+ghost use Rattle.vt_spec.specs.Machine.Layers.{names_shown};
+ghost use Rattle.vt_laws_layers.specs.Layers.Directories.{shown_in};
+ghost use Rattle.vt_spec.specs.Tree.{names_in};
+ghost use Rattle.vt_location.specs.Locations.{number_of};
+ghost use Rattle.vt_fs.specs.FilesystemsValue.{files_at};
+ghost use Rattle.vt_merge.specs.LayerValue.{layers_of, names_had, placed_views};
+
+use crate::entries::{entry, is_whiteout};
+use crate::layers::{LayerRef, MergedDirectory};
+use crate::merging::{MOST_LAYERS, merged_dirs_at};
+use crate::ways::Way;
+use std::alloc::{AllocError, Global};
+use vt_fs::Filesystems;
+use vt_location::NodeRef;
+
+/// The names that layers show in the directory at a path, each once, in the order of their bytes: readdir(3). What is no
+/// directory has none. It fails only if an allocation does.
+pub fn merged_names<W: Way>(
+    alloc: Global,
+    trees: &Filesystems,
+    layers: &[LayerRef],
+    path: &W,
+) -> Result<Vec<Vec<u8>>, AllocError>
+    requires { length layers.now ≤ MOST_LAYERS }
+    ensures { IfOk result (λ names. map (λ name. name.items) names.items
+        ≡ names_shown (layers_of trees.now layers.now) (W.names path.now)) }
+{
+    let merged = merged_dirs_at(trees, layers, path);
+    let directories = merged.as_slice();
+    let mut names = all_names(alloc, trees, directories)?;
+    names.retain(|name| shows(trees, directories, name.as_slice()));
+    names.sort_unstable();
+    names.dedup();
+    Ok(names)
+}
+
+// The names of all these directories, one directory after the other.
+fn all_names(
+    alloc: Global,
+    trees: &Filesystems,
+    merged: &[MergedDirectory],
+) -> Result<Vec<Vec<u8>>, AllocError>
+    ensures { IfOk result (λ names. map (λ name. name.items) names.items ≡ names_had trees.now merged.now) }
+{
+    let mut all = Vec::new(alloc);
+    for top in merged {
+        let mut names = names_of(alloc, trees, top.directory)?;
+        all.append(&mut names)?;
+    }
+    Ok(all)
+}
+
+// The names of a directory.
+fn names_of(
+    alloc: Global,
+    trees: &Filesystems,
+    directory: NodeRef,
+) -> Result<Vec<Vec<u8>>, AllocError>
+    ensures { IfOk result (λ names. map (λ name. name.items) names.items
+        ≡ names_in ((files_at trees.now directory.filesystem.count).tree.node (number_of directory))) }
+{
+    match trees.node(directory) {
+        Some(node) => node.names(alloc),
+        None => Ok(Vec::new(alloc)),
+    }
+}
+
+// Whether merged directories show something under a name.
+fn shows(trees: &Filesystems, merged: &[MergedDirectory], name: &[u8]) -> bool
+    ensures { result ≡ is_some (shown_in (placed_views trees.now merged.now) (name.now ∷ [])) }
+{
+    for top in merged {
+        if let Some(object) = entry(trees.get(top.directory.filesystem), top.directory, name) {
+            return !is_whiteout(trees, object);
+        }
+    }
+    false
+}

@@ -1,0 +1,34 @@
+//! Ways: paths as lists of names, however these are kept.
+ghost use Rattle.std.specs.Prelude.{◌≡◌, ◌<◌, ℕ, List, Some, length, map, slice_get};
+
+/// A path as a list of names. A look takes the names one after the other, so that no list of them has to be made.
+pub trait Way {
+    ghost names: { Self → List (List ℕ) };
+
+    /// How many names there are.
+    fn len(&self) -> usize
+        ensures { result ≡ length (names self.now) };
+
+    /// The name at an index.
+    fn name(&self, index: usize) -> &[u8]
+        requires { index < length (names self.now) }
+        ensures { slice_get (names self.now) index ≡ Some result.now };
+}
+
+/// Names that are kept as a slice.
+#[derive(Clone, Copy, Debug)]
+pub struct Names<'a> {
+    pub names: &'a [&'a [u8]],
+}
+
+impl<'a> Way for Names<'a> {
+    ghost names = { λ way. map (λ name. name.now) way.names.now };
+
+    fn len(&self) -> usize {
+        self.names.len()
+    }
+
+    fn name(&self, index: usize) -> &[u8] {
+        self.names[index]
+    }
+}
