@@ -1,4 +1,5 @@
 -- What stands in a list: tests over lists that are shortened or changed.
+use Rattle.std.proofs.lemmas.Grind.{common_steps}
 use Rattle.std.proofs.Common.{◌≡◌, refl, sym, ap, subst, ◌∙◌, inl, inr, ⊎_elim, ℕ, nat_eq, eqb-true, eq-eqb, Bool, true, false, cond, ◌||◌, ◌&&◌, List, [], ◌∷◌, filter, find, map, true≢false, flat_map, ◌++◌, is_some, unwrap_or, None, Option, arith, ◌+◌}
 use Rattle.std.specs.Prelude.{Some, nat_lt}
 use Rattle.std.specs.List.{list_any}
@@ -20,13 +21,7 @@ module _ {A : Type 0} where
   pub found_in : (test : A → Bool) (xs : List A) (found : A) → find test xs ≡ Some found
       → Among found xs × (test found ≡ true)
   found_in test [] found e = absurd (true≢false (sym (ap is_some e)))
-  found_in test (first ∷ rest) found e = by (test first) refl e (found_in test rest found)
-    where
-      by : (b : Bool) → test first ≡ b → cond b (Some first) (find test rest) ≡ Some found
-          → (find test rest ≡ Some found → Among found rest × (test found ≡ true))
-          → Among found (first ∷ rest) × (test found ≡ true)
-      by true f h later = let same : first ≡ found = same_Some first found h in (inl (sym same), ap test (sym same) ∙ f)
-      by false f h later = let t : Among found rest × (test found ≡ true) = later h in (inr t.0, t.1)
+  found_in test (first ∷ rest) found e = grind (arith, common_steps, found_in test rest found)
 
   -- where nothing passes nothing is found
   pub find_none : (test : A → Bool) (xs : List A) → ((x : A) → Among x xs → test x ≡ false) → find test xs ≡ None
@@ -66,15 +61,7 @@ module _ {A : Type 0} where
   pub filter_twice : (p q r : A → Bool) → ((x : A) → r x ≡ (q x && p x)) → (xs : List A)
       → filter p (filter q xs) ≡ filter r xs
   filter_twice p q r h [] = refl
-  filter_twice p q r h (y ∷ ys) = by (q y) refl (h y) (filter_twice p q r h ys)
-    where
-      by : (b : Bool) → q y ≡ b → r y ≡ (q y && p y) → filter p (filter q ys) ≡ filter r ys
-          → filter p (filter q (y ∷ ys)) ≡ filter r (y ∷ ys)
-      by true e f later =
-          ap (filter p) (filter_here q y ys e) ∙ ap (λ rest. cond (p y) (y ∷ rest) rest) later
-          ∙ ap (λ b. cond b (y ∷ filter r ys) (filter r ys)) (sym (f ∙ ap (λ b. b && p y) e))
-      by false e f later = ap (filter p) (filter_skip q y ys e) ∙ later
-          ∙ sym (filter_skip r y ys (f ∙ ap (λ b. b && p y) e))
+  filter_twice p q r h (y ∷ ys) = grind (arith, common_steps, h y, filter_twice p q r h ys)
 
   -- what does not pass is not missed
   pub any-filter : (t q : A → Bool) (xs : List A) → ((x : A) → Among x xs → q x ≡ false → t x ≡ false)
@@ -97,15 +84,7 @@ module _ {A B : Type 0} where
   pub filter-map : (p : B → Bool) {q : A → Bool} (f : A → B) (xs : List A) → ((x : A) → p (f x) ≡ q x)
       → filter p (map f xs) ≡ map f (filter q xs)
   filter-map p f [] h = refl
-  filter-map p {q = q} f (y ∷ ys) h =
-      ap (λ b. cond b (f y ∷ filter p (map f ys)) (filter p (map f ys))) (h y)
-      ∙ ap (λ rest. cond (q y) (f y ∷ rest) rest) (filter-map p f ys h)
-      ∙ by (q y)
-    where
-      by : (b : Bool) → cond b (f y ∷ map f (filter q ys)) (map f (filter q ys))
-          ≡ map f (cond b (y ∷ filter q ys) (filter q ys))
-      by true = refl
-      by false = refl
+  filter-map p {q = q} f (y ∷ ys) h = grind (arith, common_steps, h y, filter-map p f ys h)
 
   -- lists put together out of what does not change
   pub flat_map-step : (f : A → A) (g : A → List B) (xs : List A) → ((x : A) → Among x xs → g (f x) ≡ g x)
@@ -127,12 +106,7 @@ module _ {A B : Type 0} where
   pub flat_map-filter : (p : A → Bool) (g : A → List B) (xs : List A) → ((x : A) → p x ≡ false → g x ≡ [])
       → flat_map g (filter p xs) ≡ flat_map g xs
   flat_map-filter p g [] h = refl
-  flat_map-filter p g (y ∷ ys) h = by (p y) refl (flat_map-filter p g ys h)
-    where
-      by : (b : Bool) → p y ≡ b → flat_map g (filter p ys) ≡ flat_map g ys
-          → flat_map g (cond b (y ∷ filter p ys) (filter p ys)) ≡ g y ++ flat_map g ys
-      by true e later = ap (λ l. g y ++ l) later
-      by false e later = later ∙ ap (λ l. l ++ flat_map g ys) (sym (h y e))
+  flat_map-filter p g (y ∷ ys) h = grind (arith, common_steps, flat_map-filter p g ys h)
 
   pub flat_map_alike : (f g : A → List B) (xs : List A) → ((x : A) → Among x xs → f x ≡ g x)
       → flat_map f xs ≡ flat_map g xs
@@ -160,12 +134,7 @@ module _ {A : Type 0} where
   -- some pass just where their count is not zero
   pub any_counted : (test : A → Bool) (list : List A) → list_any test list ≡ nat_lt 0 (times test list)
   any_counted test [] = refl
-  any_counted test (a ∷ rest) = by (test a) (any_counted test rest)
-    where
-      by : (b : Bool) → list_any test rest ≡ nat_lt 0 (times test rest)
-          → (b || list_any test rest) ≡ nat_lt 0 (cond b 1 0 + times test rest)
-      by true e = one_more_is_some (times test rest)
-      by false e = e ∙ as_many_with_none (times test rest)
+  any_counted test (a ∷ rest) = grind (arith, common_steps, any_counted test rest, one_more_is_some, as_many_with_none)
 
   -- how many pass with one that stands between two parts of a list, and how many without it
   pub times_around : (test : A → Bool) (front back : List A) (a : A)

@@ -1,4 +1,6 @@
 -- A change after which the world is swept: a sweep before it as well makes no difference.
+use Rattle.std.proofs.Common.{arith}
+use Rattle.std.proofs.lemmas.Grind.{common_steps}
 use Rattle.std.proofs.Common.{◌≡◌, refl, sym, ap, subst, ◌∙◌, ⊎_elim, ℕ, nat_eq, Bool, true, false, cond, not, ◌||◌, ◌&&◌, List, [], ◌∷◌, filter, map, true≢false, flat_map, ◌++◌, Option, Some, None, option_map}
 use Rattle.std.specs.Prelude.{All, filter_map}
 use Rattle.std.specs.List.{list_all, list_any}
@@ -106,14 +108,7 @@ module _ (world : World ℕ) (once_mounts again_mounts : List (Mount ℕ)) (once
   same_master : (group : ℕ)
       → cond (has_members nat_eq (filter (mount_lives nat_eq again) again_mounts) group) (again_master group) None
       ≡ cond (has_members nat_eq last_mounts group) (once_master group) None
-  same_master group =
-      ap (λ mounts. cond (has_members nat_eq mounts group) (again_master group) None) same_mounts
-      ∙ by (has_members nat_eq last_mounts group) refl
-    where
-      by : (b : Bool) → has_members nat_eq last_mounts group ≡ b
-          → cond b (again_master group) None ≡ cond b (once_master group) None
-      by true e = same.master group e
-      by false e = refl
+  same_master group = grind (arith, common_steps)
 
   -- Filesystems
   abbrev first_living : World ℕ
@@ -350,17 +345,7 @@ module _ (world : World ℕ) (once_mounts again_mounts : List (Mount ℕ)) (once
       g (of_world g n)
 
   upper-swept : (number : ℕ) (g : Filesystem ℕ) → has_upper_in number (swept g) ≡ has_upper_in number g
-  upper-swept number g = second (not (is_overlay (after_first world g))) ∙ first (is_overlay g)
-    where
-      second : (b : Bool) → has_upper_in number (only_used nat_eq (without_dead_in nat_eq is_overlay first_living) b
-          (after_first world g)) ≡ has_upper_in number (after_first world g)
-      second true = upper-left (used_in nat_eq (without_dead_in nat_eq is_overlay first_living) (after_first world g))
-          (after_first world g) number _
-      second false = refl
-
-      first : (b : Bool) → has_upper_in number (only_used nat_eq first_living b g) ≡ has_upper_in number g
-      first true = upper-left (used_in nat_eq first_living g) g number _
-      first false = refl
+  upper-swept number g = grind (arith, common_steps, upper-left)
 
   overlay_alike : (f : Filesystem ℕ) → Among f once_living.filesystems → is_overlay f ≡ true
       → after_first again (swept f) ≡ after_first once f
@@ -514,14 +499,7 @@ module _ (world : World ℕ) (once_mounts again_mounts : List (Mount ℕ)) (once
 
   overlay_left_so : (f : Filesystem ℕ) → Among f once_living.filesystems → is_overlay f ≡ true
       → after_second again (after_first again (swept f)) ≡ after_second once (after_first once f)
-  overlay_left_so f m is =
-      ap (after_second again) (overlay_alike f m is)
-      ∙ second_leaves again (after_first once f) over
-      ∙ sym (second_leaves once (after_first once f) over)
-    where
-      over : is_overlay (after_first once f) ≡ true
-      over = ap (λ b. is_overlay (only_used nat_eq once_living b f)) is
-          ∙ overlay-left (used_in nat_eq once_living f) f _ ∙ is
+  overlay_left_so f m is = grind (arith, common_steps, overlay_alike f m is, second_leaves, overlay-left)
 
   same_swept : (settled nat_eq again).filesystems ≡ (settled nat_eq once).filesystems
   same_swept =
@@ -544,24 +522,4 @@ module _ (world : World ℕ) (once_mounts again_mounts : List (Mount ℕ)) (once
 -- A sweep leaves the same world where groups without members ended before it.
 pub settled_without_groups : (world : World ℕ) → settled nat_eq (without_dead_groups nat_eq world)
     ≡ settled nat_eq world
-settled_without_groups world = λ i. record (settled nat_eq world) { master = λ group. same group i }
-  where
-    living : List (Mount ℕ)
-    living = filter (mount_lives nat_eq world) world.mounts
-
-    same : (group : ℕ) → (settled nat_eq (without_dead_groups nat_eq world)).master group
-        ≡ (settled nat_eq world).master group
-    same group = by (has_members nat_eq living group) refl (has_members nat_eq world.mounts group) refl
-      where
-        by : (b : Bool) → has_members nat_eq living group ≡ b → (c : Bool) → has_members nat_eq world.mounts group ≡ c
-            → (settled nat_eq (without_dead_groups nat_eq world)).master group
-            ≡ (settled nat_eq world).master group
-        by true e true f = ap (λ c. if has_members nat_eq living group
-            then (if c then world.master group else None) else None) f
-        by true e false f =
-            absurd (true≢false (sym e
-            ∙ none-filter (is_member_of nat_eq group) (mount_lives nat_eq world) world.mounts f))
-        by false e c f =
-            ap (λ b. if b then (if has_members nat_eq world.mounts group then world.master group else None) else None)
-            e
-            ∙ sym (ap (λ b. if b then world.master group else None) e)
+settled_without_groups world = grind (arith, common_steps, true≢false, none-filter)

@@ -1,4 +1,6 @@
 -- Names of a tree, and inodes that are used no more.
+use Rattle.std.proofs.Common.{arith}
+use Rattle.std.proofs.lemmas.Grind.{common_steps}
 use Rattle.std.proofs.Common.{◌≡◌, ◌≢◌, refl, sym, ap, ◌∙◌, true≢false, ⊎_elim, ℕ, nat_eq, true, false, List, [], map, Option, Some, None, is_some}
 use Rattle.vt_spec.specs.Tree.{Content, Node, entries_in, entry_named, is_directory_node}
 use Rattle.vt_spec.specs.Tree.Content.{Directory, Regular, Symlink, Whiteout}
@@ -21,14 +23,7 @@ there_with_entry name number (Some node) e = refl
 -- what is no directory has no entries
 pub no_targets : (o : Option (Node ℕ)) → is_directory_node o ≡ false → targets_in o ≡ []
 no_targets None e = refl
-no_targets (Some node) e = by node.content e
-  where
-    by : (content : Content ℕ) → is_directory_node (Some (record { attr = node.attr; content = content })) ≡ false
-        → targets_in (Some (record { attr = node.attr; content = content })) ≡ []
-    by (Directory parent entries opaque) h = absurd (true≢false h)
-    by (Regular bytes) h = refl
-    by (Symlink text) h = refl
-    by Whiteout h = refl
+no_targets (Some node) e = grind (arith, common_steps, true≢false)
 
 -- the named ones are those that have a name
 pub named_among : (files : FileTree ℕ) → IsListedTree files → (number : ℕ) → HasName files.tree number

@@ -1,4 +1,5 @@
 -- How many mounts namespaces have once a tree is attached.
+use Rattle.std.proofs.lemmas.Grind.{common_steps}
 use Rattle.std.proofs.Common.{◌≡◌, ℕ, Bool, true, false, cond, ◌+◌, ◌*◌, ◌≤◌, ◌++◌, ◌||◌, List, [], ◌∷◌, map, filter, length, nat_eq, Option, None, Some, flat_map, suc, refl, sym, ap, ◌∙◌, arith, true≢false, inl, inr, append_assoc, eq-eqb}
 use Rattle.std.proofs.Common.{find as seek}
 use Rattle.std.specs.Prelude.{unwrap_or}
@@ -28,12 +29,7 @@ count-append one other namespace =
 -- of a first mount and the others
 pub count-cons : (mount : Mount ℕ) (mounts : List (Mount ℕ)) (namespace : ℕ)
     → count_in (mount ∷ mounts) namespace ≡ cond (is_in namespace mount) 1 0 + count_in mounts namespace
-count-cons mount mounts namespace = by (is_in namespace mount)
-  where
-    by : (b : Bool) → length (cond b (mount ∷ filter (is_in namespace) mounts) (filter (is_in namespace) mounts))
-        ≡ cond b 1 0 + count_in mounts namespace
-    by true = omega arith
-    by false = omega arith
+count-cons mount mounts namespace = grind (arith, common_steps)
 
 -- changes that leave mounts in the same namespaces
 pub count-map : {A : Type 0} (f g : A → Mount ℕ) → ((a : A) → (f a).namespace ≡ (g a).namespace)
@@ -49,19 +45,9 @@ count-map f g same (a ∷ list) namespace =
 pub count-alike : {A : Type 0} (f : A → Mount ℕ) (o : Option ℕ) → ((a : A) → (f a).namespace ≡ o)
     → (list : List A) (namespace : ℕ)
     → count_in (map f list) namespace ≡ cond (holds_of (nat_eq namespace) o) (length list) 0
-count-alike f o same [] namespace = by (holds_of (nat_eq namespace) o)
-  where
-    by : (b : Bool) → ◌≡◌ {A = ℕ} 0 (cond b 0 0)
-    by true = refl
-    by false = refl
+count-alike f o same [] namespace = grind (arith, common_steps)
 count-alike f o same (a ∷ list) namespace =
-    count-cons (f a) (map f list) namespace
-    ∙ (λ i. cond (holds_of (nat_eq namespace) (same a i)) 1 0 + count-alike f o same list namespace i)
-    ∙ by (holds_of (nat_eq namespace) o)
-  where
-    by : (b : Bool) → cond b 1 0 + cond b (length list) 0 ≡ cond b (suc (length list)) 0
-    by true = omega arith
-    by false = omega arith
+    grind (arith, common_steps, count-cons (f a) (map f list) namespace, same a, count-alike f o same list namespace)
 
 -- so many copies in the namespace of each part
 pub count-flat : (copies : Mount ℕ → List (Mount ℕ)) (k namespace : ℕ)
@@ -81,11 +67,7 @@ count-flat copies k namespace each (part ∷ parts) =
 pub count-inside : (list : List (Mount ℕ)) (o : Option ℕ) → ((mount : Mount ℕ) → Among mount list → mount.namespace ≡ o)
     → (namespace : ℕ)
     → count_in list namespace ≡ cond (holds_of (nat_eq namespace) o) (length list) 0
-count-inside [] o inside namespace = by (holds_of (nat_eq namespace) o)
-  where
-    by : (b : Bool) → ◌≡◌ {A = ℕ} 0 (cond b 0 0)
-    by true = refl
-    by false = refl
+count-inside [] o inside namespace = grind (arith, common_steps)
 count-inside (mount ∷ list) o inside namespace =
     count-cons mount list namespace
     ∙ (λ i. cond (holds_of (nat_eq namespace) (inside mount (inl refl) i)) 1 0 + count-inside list o
@@ -251,11 +233,7 @@ module _ (world : World ℕ) (place : Location ℕ) where
 
     -- a mount that is pushed up stays in its namespace
     pushed_stays : (mount : Mount ℕ) → (pushed_up nat_eq world new graft parts mount).namespace ≡ mount.namespace
-    pushed_stays mount = by (receiver_stood_on nat_eq graft parts mount)
-      where
-        by : (o : Option (Mount ℕ)) → (pushed_onto nat_eq world new graft parts mount o).namespace ≡ mount.namespace
-        by None = refl
-        by (Some part) = refl
+    pushed_stays mount = grind (arith, common_steps)
 
     -- so as many mounts are in it
     pushed_counted : (list : List (Mount ℕ)) (namespace : ℕ)

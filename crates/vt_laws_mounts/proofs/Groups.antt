@@ -1,4 +1,6 @@
 -- Groups that lose their last member.
+use Rattle.std.proofs.Common.{arith}
+use Rattle.std.proofs.lemmas.Grind.{common_steps}
 use Rattle.std.proofs.Common.{◌≡◌, refl, sym, ap, ◌∙◌, ℕ, zero, suc, nat_eq, Bool, true, false, cond, ◌||◌, List, [], ◌∷◌, length, map, Option, Some, None, find}
 use Rattle.std.specs.List.{list_any}
 use Rattle.std.proofs.lemmas.Bool.{or_parts, not-false}
@@ -55,14 +57,7 @@ module _ (world : World ℕ) where
 
   -- each mount inherits, also where nothing is lost
   pub mounts-regrouped : (regrouped nat_eq world).mounts ≡ map (inheriting nat_eq world) world.mounts
-  mounts-regrouped = by (list_any (lost_a_group nat_eq world) world.mounts) refl
-    where
-      by : (b : Bool) → list_any (lost_a_group nat_eq world) world.mounts ≡ b
-          → (regrouped_by nat_eq b world).mounts ≡ map (inheriting nat_eq world) world.mounts
-      by true e = refl
-      by false e =
-          sym (map_same (inheriting nat_eq world) world.mounts
-          (λ mount m. nothing_lost mount (none_among (lost_a_group nat_eq world) world.mounts e mount m)))
+  mounts-regrouped = grind (arith, common_steps, map_same, nothing_lost, none_among)
 
   -- the groups that have members stay the same
   pub members-regrouped : (group : ℕ)
@@ -73,20 +68,9 @@ module _ (world : World ℕ) where
   pub master-regrouped : (group above : ℕ) → world.master group ≡ Some above
       → has_members nat_eq world.mounts above ≡ true
       → (regrouped nat_eq world).master group ≡ Some above
-  master-regrouped group above e f = by (list_any (lost_a_group nat_eq world) world.mounts)
-    where
-      by : (b : Bool) → (regrouped_by nat_eq b world).master group ≡ Some above
-      by true = ap (heir nat_eq world) e
-          ∙ find-chain_start (has_members nat_eq world.mounts) world.master (length world.mounts) above f
-      by false = e
+  master-regrouped group above e f = grind (arith, common_steps, find-chain_start)
 
 -- a group without members and without a master has no heir
 pub no_heir : (world : World ℕ) (group : ℕ) → world.master group ≡ None → has_members nat_eq world.mounts group ≡ false
     → heir nat_eq world (Some group) ≡ None
-no_heir world group above none = by (length world.mounts)
-  where
-    by : (n : ℕ) → find (has_members nat_eq world.mounts) (chain n world.master group) ≡ None
-    by zero = ap (λ b. cond b (Some group) None) none
-    by (suc n) =
-        ap (find (has_members nat_eq world.mounts)) (chain_ends world.master n group above)
-        ∙ ap (λ b. cond b (Some group) None) none
+no_heir world group above none = grind (arith, common_steps, chain_ends)

@@ -1,4 +1,6 @@
 -- Groups live on through changes of mounts.
+use Rattle.std.proofs.Common.{arith}
+use Rattle.std.proofs.lemmas.Grind.{common_steps}
 use Rattle.std.proofs.Common.{◌≡◌, refl, sym, ap, subst, ◌∙◌, true, false, Bool, List, None, Option, Some, [], cond, eq-eqb, eqb-true, filter, find, is_some, length, map, not, true≢false, ℕ, ⊎_elim, ◌&&◌, ◌++◌, ◌||◌, ◌∷◌, nat_eq}
 use Rattle.std.proofs.Math.Bool.{and-false}
 use Rattle.std.specs.List.{list_any}
@@ -30,17 +32,7 @@ use Rattle.vt_spec.proofs.Worlds.{number-mount_in}
 pub found_passes : (p : ℕ → Bool) (xs : List ℕ) (x : ℕ) → find p xs ≡ Some x
     → (p x ≡ true) × (is_among nat_eq x xs ≡ true)
 found_passes p [] x e = absurd (true≢false (sym (ap is_some e)))
-found_passes p (y ∷ ys) x e = by (p y) refl (found_passes p ys x)
-  where
-    by : (b : Bool) → p y ≡ b → (find p ys ≡ Some x → (p x ≡ true) × (is_among nat_eq x ys ≡ true))
-        → (p x ≡ true) × (is_among nat_eq x (y ∷ ys) ≡ true)
-    by true f later =
-        let same : y ≡ x = same_Some y x (sym (ap (λ b. cond b (Some y) (find p ys)) f) ∙ e) in
-        (ap p (sym same) ∙ f, head_among x y ys (sym same))
-    by false f later =
-        let t : (p x ≡ true) × (is_among nat_eq x ys ≡ true) =
-        later (sym (ap (λ b. cond b (Some y) (find p ys)) f) ∙ e) in
-        (t.0, tail_among x y ys t.1)
+found_passes p (y ∷ ys) x e = grind (arith, common_steps, found_passes p ys x, head_among, tail_among)
 
 -- a group lives also where more groups count as having members
 pub lives_weaker : (p q : ℕ → Bool) (master : ℕ → Option ℕ) → ((group : ℕ) → p group ≡ true → q group ≡ true)
@@ -61,15 +53,7 @@ lives_end p master other same group (has_master it next has e later) =
 -- a member of a group is shared
 pub member_shared : (group : ℕ) (mount : Mount ℕ) → is_member_of nat_eq group mount ≡ true
     → mount.propagation ≡ Shared group
-member_shared group mount h = by mount.propagation refl h
-  where
-    by : (kind : Propagation ℕ) → mount.propagation ≡ kind → holds_of (nat_eq group) (group_of mount.propagation) ≡ true
-        → mount.propagation ≡ Shared group
-    by (Shared own) e t = e ∙ ap Shared
-        (sym (eqb-true group own (sym (ap (λ k. holds_of (nat_eq group) (group_of k)) e) ∙ t)))
-    by (Slave up) e t = absurd (true≢false (sym t ∙ ap (λ k. holds_of (nat_eq group) (group_of k)) e))
-    by Private e t = absurd (true≢false (sym t ∙ ap (λ k. holds_of (nat_eq group) (group_of k)) e))
-    by Unbindable e t = absurd (true≢false (sym t ∙ ap (λ k. holds_of (nat_eq group) (group_of k)) e))
+member_shared group mount h = grind (arith, common_steps, eqb-true, true≢false)
 
 -- and what is shared in a group is a member of it
 pub shared_member : (group : ℕ) (mount : Mount ℕ) → mount.propagation ≡ Shared group

@@ -1,4 +1,6 @@
 -- Groups live on through a change of type.
+use Rattle.std.proofs.Common.{arith}
+use Rattle.std.proofs.lemmas.Grind.{common_steps}
 use Rattle.std.proofs.Common.{◌≡◌, refl, sym, ap, subst, ◌∙◌, true, false, nat_eq, Bool, List, Option, Some, [], eq-eqb, eqb-true, inl, inr, is_some, true≢false, ⊎_elim, ◌∷◌, ◌⊎◌, ℕ, length}
 use Rattle.std.specs.List.{list_any}
 use Rattle.vt_spec.specs.Machine.Mounts.{Mount, Propagation, index_of, source_of}
@@ -127,26 +129,19 @@ module _ (world : World ℕ) (group : ℕ → ℕ) (word : TypeWord) (named : Li
       by x l Unbindable e is = at_top (group mount.number) (is ∙ ap master_after e)
 
   pub all_live : GroupsLive (next_world world group word named)
-  all_live = regrouped_live (between world group word named) (λ mount m source e.
-      let from = among-from_map (retype world group word named) world.mounts mount m in
-      by from.0 from.1 (list_any (λ (other : Mount ℕ). nat_eq from.0.number other.number) named) refl source
-      (sym (ap (λ x. source_of x.propagation) from.2) ∙ e))
-    where
-      by : (old : Mount ℕ) → Among old world.mounts → (b : Bool)
-          → list_any (λ (other : Mount ℕ). nat_eq old.number other.number) named ≡ b
-          → (source : ℕ) → source_of (retype world group word named old).propagation ≡ Some source
-          → EndsUp after_all source
-      by old m true e source f =
-          let chosen = any_among (λ (other : Mount ℕ). nat_eq old.number other.number) named e in
-          let same : old.number ≡ chosen.0.number = eqb-true old.number chosen.0.number chosen.2 in
-          ⊎_elim
-          (λ new. subst (EndsUp after_all) (ap group (sym same) ∙ sym new) (new_ends chosen.0 chosen.1))
-          (λ was. still_ends source (lives_in world live old m source was))
-          (source_taken (group old.number) word old.propagation source
-          (sym (ap (λ b. source_of (retyped_if world group word named old b).propagation) e) ∙ f))
-      by old m false e source f =
-          still_ends source (lives_in world live old m source
-          (sym (ap (λ b. source_of (retyped_if world group word named old b).propagation) e) ∙ f))
+  all_live =
+      grind (
+        arith,
+        common_steps,
+        regrouped_live,
+        among-from_map,
+        any_among,
+        eqb-true,
+        new_ends,
+        still_ends,
+        lives_in,
+        source_taken,
+      )
 
 -- numbers that are not in use have no members
 pub unused_members : (world : World ℕ) (number : ℕ) → is_among nat_eq number (numbers_in_use world) ≡ false
@@ -163,19 +158,8 @@ unused_members world number h = false_from_ne_true (has_members nat_eq world.mou
 named_sourced : (world : World ℕ) (number : ℕ) (recursive : Bool) (mount : Mount ℕ)
     → Among mount (named_mounts nat_eq world number recursive)
     → (source : ℕ) → source_of mount.propagation ≡ Some source → Among mount world.mounts
-named_sourced world number recursive mount m source e = by recursive m
-  where
-    itself : mount ≡ mount_numbered nat_eq world number → Among mount world.mounts
-    itself same =
-        ⊎_elim (λ there. subst (λ x. Among x world.mounts) (sym same) there)
-        (λ none. absurd (true≢false (sym (ap is_some e) ∙ ap (λ x. is_some (source_of x.propagation)) (same ∙ none))))
-        (found_or_none world.mounts number)
-
-    by : (b : Bool) → Among mount (named_mounts nat_eq world number b) → Among mount world.mounts
-    by true l =
-        ⊎_elim itself (λ there. there)
-        (tree_among (length world.mounts) world.mounts (mount_numbered nat_eq world number) mount l)
-    by false l = ⊎_elim itself (λ none. absurd none) l
+named_sourced world number recursive mount m source e =
+    grind (arith, common_steps, true≢false, found_or_none, tree_among)
 
 pub type_keeps_groups : TypeKeepsGroups
 type_keeps_groups world fresh number word recursive serves live =

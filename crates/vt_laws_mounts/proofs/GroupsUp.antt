@@ -35,20 +35,6 @@ module _ (master : ℕ → Option ℕ) where
   way_up n source group h =
       along_chain master (Up master source) (λ g lower e way. snoc source lower g way e) n source group (here source) h
 
-  ends_up : (n group : ℕ) → is_some (master (last_or group (chain n master group))) ≡ false → EndsUp master group
-  ends_up zero group e = at_top group (none_from_not_some (master group) e)
-  ends_up (suc n) group e = by (master group) refl (ends_up n)
-    where
-      by : (found : Option ℕ) → master group ≡ found
-          → ((next : ℕ) → is_some (master (last_or next (chain n master next))) ≡ false → EndsUp master next)
-          → EndsUp master group
-      by None f later = at_top group f
-      by (Some next) f later =
-          goes_up group next f
-          (later next
-          (sym (ap (λ g. is_some (master g)) (ap (last_or group) (chain_goes_on master n group next f)
-          ∙ last_of_chain master n next group)) ∙ e))
-
   module _ (members : ℕ → Bool) where
     pub lives_by_chain : (n group : ℕ) → list_all members (chain n master group) ≡ true
         → is_some (master (last_or group (chain n master group))) ≡ false → Lives members master group

@@ -1,4 +1,6 @@
 -- Change numbers: no invariant reads one.
+use Rattle.std.proofs.Common.{arith}
+use Rattle.std.proofs.lemmas.Grind.{common_steps}
 use Rattle.std.proofs.Common.{◌≡◌, refl, sym, ap, subst, ◌∙◌, ◌≤◌, ℕ, nat_eq, Bool, true, false, cond, List, [], ◌∷◌, ◌++◌, Some, find, map}
 use Rattle.std.specs.Prelude.{Option, is_some, nat_lt, length, option_to_list, unwrap_or, ◌&&◌}
 use Rattle.std.specs.List.{list_all, list_any}
@@ -50,17 +52,7 @@ module _ (of_filesystem : Filesystem ℕ → ℕ) (of_namespace : Namespace ℕ 
       → (unwrap_or (find (λ f. nat_eq number f.number) (map filesystem_counted list)) (no_filesystem number)).files
       ≡ (unwrap_or (find (λ f. nat_eq number f.number) list) (no_filesystem number)).files
   files_in number [] = refl
-  files_in number (filesystem ∷ list) = by (nat_eq number filesystem.number) (files_in number list)
-    where
-      by : (b : Bool)
-          → (unwrap_or (find (λ f. nat_eq number f.number) (map filesystem_counted list)) (no_filesystem number)).files
-          ≡ (unwrap_or (find (λ f. nat_eq number f.number) list) (no_filesystem number)).files
-          → (unwrap_or (cond b (Some (filesystem_counted filesystem))
-          (find (λ f. nat_eq number f.number) (map filesystem_counted list))) (no_filesystem number)).files
-          ≡ (unwrap_or (cond b (Some filesystem) (find (λ f. nat_eq number f.number) list))
-          (no_filesystem number)).files
-      by true later = refl
-      by false later = later
+  files_in number (filesystem ∷ list) = grind (arith, common_steps, files_in number list)
 
   pub same_files : files_by counted ≡ files_by world
   same_files = λ i number. files_in number world.filesystems i

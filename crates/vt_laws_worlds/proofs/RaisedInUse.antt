@@ -1,4 +1,6 @@
 -- What is in use does not go by change numbers, so raising them keeps all invariants.
+use Rattle.std.proofs.Common.{arith}
+use Rattle.std.proofs.lemmas.Grind.{common_steps}
 use Rattle.std.proofs.Common.{◌≡◌, refl, sym, ap, subst, ◌∙◌, ℕ, nat_eq, Bool, true, false, cond, List, [], ◌∷◌, ◌++◌, ◌||◌, ◌&&◌, map, is_some}
 use Rattle.std.specs.Prelude.{filter, filter_map}
 use Rattle.std.specs.List.{list_all, list_any}
@@ -114,12 +116,7 @@ module _ (changed : List ℕ) (world : World ℕ) where
 
   raised_filesystem_is : (filesystem : Filesystem ℕ) → raised_if_changed nat_eq changed filesystem
       ≡ record filesystem { change = number_if filesystem }
-  raised_filesystem_is filesystem = by (list_any (λ number. nat_eq number filesystem.number) changed)
-    where
-      by : (b : Bool) → cond b (record filesystem { change = raised filesystem.change }) filesystem
-          ≡ record filesystem { change = cond b (raised filesystem.change) filesystem.change }
-      by true = refl
-      by false = refl
+  raised_filesystem_is filesystem = grind (arith, common_steps)
 
   filesystems_raised_are : filesystems_raised nat_eq changed world
       ≡ counted number_if (λ namespace. namespace.change) (λ task. task.change) world.change world
@@ -150,20 +147,10 @@ module _ (before : World ℕ) (name : TaskName) (changed : List ℕ) (world : Wo
 
   raised_namespace_is : (namespace : Namespace ℕ) → raised_namespace nat_eq before world namespace
       ≡ record namespace { change = namespace_if namespace }
-  raised_namespace_is namespace = by (same_mounts_in nat_eq before world namespace.number)
-    where
-      by : (b : Bool) → cond b namespace (record namespace { change = raised namespace.change })
-          ≡ record namespace { change = cond b namespace.change (raised namespace.change) }
-      by true = refl
-      by false = refl
+  raised_namespace_is namespace = grind (arith, common_steps)
 
   raised_task_is : (task : Task ℕ) → raised_task name task ≡ record task { change = task_if task }
-  raised_task_is task = by (same_name name task.name)
-    where
-      by : (b : Bool) → cond b (record task { change = raised task.change }) task
-          ≡ record task { change = cond b (raised task.change) task.change }
-      by true = refl
-      by false = refl
+  raised_task_is task = grind (arith, common_steps)
 
   pub numbers_raised_are : numbers_raised nat_eq before name changed world
       ≡ counted (number_if changed world) namespace_if task_if (raised world.change) world

@@ -1,4 +1,5 @@
 -- Tasks keep names of their own: what a fork names is a new name, where tasks have counted their forks.
+use Rattle.std.proofs.lemmas.Grind.{common_steps}
 use Rattle.std.proofs.Common.{◌≡◌, refl, sym, ap, subst, ◌∙◌, ◌⊎◌, inl, inr, ⊎_elim, ℕ, nat_eq, Bool, true, false, cond, true≢false, filter, not, List, [], ◌∷◌, ◌++◌, ◌+◌, ◌≤◌, ◌||◌, append_assoc, arith, is_some, map}
 use Rattle.std.specs.Prelude.{if◌then◌else◌}
 use Rattle.std.specs.List.{list_any}
@@ -117,14 +118,7 @@ replaced_come : (new task : Task ℕ) (tasks : List (Task ℕ)) → Among task t
     → task.forks ≤ new.forks
     → ComeFrom tasks (map (replaced_if_called new) tasks)
 replaced_come new task tasks there name forks other m =
-    let from = among-from_map (replaced_if_called new) tasks other m in
-    subst (λ (t : Task ℕ). (old : Task ℕ) × Among old tasks × (t.name ≡ old.name) × (old.forks ≤ t.forks)) (sym from.2)
-    (by from.0 from.1 (same_name new.name from.0.name))
-  where
-    by : (old : Task ℕ) → Among old tasks → (b : Bool)
-        → (o : Task ℕ) × Among o tasks × ((cond b new old).name ≡ o.name) × (o.forks ≤ (cond b new old).forks)
-    by old m true = (task, there, name, forks)
-    by old m false = (old, m, refl, omega arith)
+    let from = among-from_map (replaced_if_called new) tasks other m in grind (arith, common_steps)
 
 -- How the tasks go on: as they were, one changed, moved to the new root, without one, or with a child
 pub data GoOn (task : Task ℕ) (before : List (Task ℕ)) : List (Task ℕ) → Type 0 where
@@ -143,18 +137,7 @@ pub data GoOn (task : Task ℕ) (before : List (Task ℕ)) : List (Task ℕ) →
 pivoted_keeps : (namespace : ℕ) (root new : Mount ℕ) (task : Task ℕ)
     → ((pivoted_task nat_eq namespace root new task).name ≡ task.name)
     × (task.forks ≤ (pivoted_task nat_eq namespace root new task).forks)
-pivoted_keeps namespace root new task =
-    by (record task {
-      root = pivoted_location nat_eq root new task.root;
-      directory = pivoted_location nat_eq root new
-          task.directory;
-    })
-    refl (omega arith) (nat_eq namespace task.namespace)
-  where
-    by : (moved : Task ℕ) → moved.name ≡ task.name → task.forks ≤ moved.forks → (b : Bool)
-        → ((if b then moved else task).name ≡ task.name) × (task.forks ≤ (if b then moved else task).forks)
-    by moved name forks true = (name, forks)
-    by moved name forks false = (refl, omega arith)
+pivoted_keeps namespace root new task = grind (arith, common_steps)
 
 module _ (task : Task ℕ) (before : List (Task ℕ)) (there : Among task before) (apart : AreNamedApart before)
     (counted : AreCounted before) where
@@ -163,15 +146,7 @@ module _ (task : Task ℕ) (before : List (Task ℕ)) (there : Among task before
 
   -- no task has the child's name
   child_is_new : (other : Task ℕ) → Among other before → same_name other.name (child_name task) ≡ false
-  child_is_new other m = by (same_name other.name (child_name task)) refl
-    where
-      too_many : task.forks + 1 ≤ task.forks → ⊥
-      too_many h = omega (arith, h)
-
-      by : (b : Bool) → same_name other.name (child_name task) ≡ b → b ≡ false
-      by false e = refl
-      by true e = absurd (too_many
-          (counted task other (task.forks + 1) [] there m (same_task_name other.name (child_name task) e)))
+  child_is_new other m = grind (arith, common_steps, same_task_name)
 
   pub go_on_apart : (after : List (Task ℕ)) → GoOn task before after → AreNamedApart after
   go_on_apart after (same_ones list e) = subst AreNamedApart (sym e) apart

@@ -1,4 +1,6 @@
 -- Upper and work directories still lie apart when an overlay is mounted that the rules on layers let be mounted.
+use Rattle.std.proofs.Common.{arith}
+use Rattle.std.proofs.lemmas.Grind.{common_steps}
 use Rattle.std.proofs.Common.{◌≡◌, ◌⊎◌, inl, inr, ⊎_elim, refl, sym, ap, subst, ◌∙◌, true≢false, ℕ, nat_eq, eqb-true, Bool, true, false, ◌&&◌, ◌||◌, List, [], ◌∷◌, ◌++◌, flat_map, map, Option, Some, None}
 use Rattle.std.specs.List.{list_all, list_any}
 use Rattle.std.specs.Prelude.{option_to_list}
@@ -61,83 +63,27 @@ module _ (world : World ℕ) where
 
   -- what lies under a layer is in its filesystem
   in_filesystem : (fs object : ℕ) (layer : Layer ℕ) → under fs object layer ≡ true → nat_eq fs layer.filesystem ≡ true
-  in_filesystem fs object layer e = by (lies_in_layer nat_eq world fs object layer) refl e
-    where
-      upper_in : (object_of : Bool) (o : Option (Layer ℕ))
-          → (holds_of (λ upper. lies_in_layer nat_eq world upper.filesystem upper.directory layer) o
-          && (holds_of (λ upper. nat_eq fs upper.filesystem) o && object_of)) ≡ true → nat_eq fs layer.filesystem ≡ true
-      upper_in object_of None e = absurd (true≢false (sym e))
-      upper_in object_of (Some upper) e =
-          ap (λ n. nat_eq n layer.filesystem)
-          (eqb-true fs upper.filesystem (and_true_left _ _
-          (and_true_right (lies_in_layer nat_eq world upper.filesystem upper.directory layer) _ e)))
-          ∙ and_true_left (nat_eq upper.filesystem layer.filesystem) _
-          (and_true_left (lies_in_layer nat_eq world upper.filesystem upper.directory layer) _ e)
-
-      counted : (merged : Filesystem ℕ) (o : Option (Overlay ℕ))
-          → overlay_or false (λ ov. holds_of
-          (λ upper. lies_in_layer nat_eq world upper.filesystem upper.directory layer) ov.upper
-          && is_object_of nat_eq fs object merged ov) o ≡ true → nat_eq fs layer.filesystem ≡ true
-      counted merged None e = absurd (true≢false (sym e))
-      counted merged (Some ov) e = upper_in _ ov.upper e
-
-      by : (b : Bool) → lies_in_layer nat_eq world fs object layer ≡ b
-          → (b || list_any (counts_in_layer nat_eq world fs object layer) (overlays world)) ≡ true
-          → nat_eq fs layer.filesystem ≡ true
-      by true l e = and_true_left (nat_eq fs layer.filesystem) _ l
-      by false l e = let found = any_found (counts_in_layer nat_eq world fs object layer) (overlays world) e in
-          counted found.0 found.0.overlay found.1
+  in_filesystem fs object layer e =
+      grind (arith, common_steps, true≢false, eqb-true, and_true_left, and_true_right, any_found)
 
   apart_from : (others : List (Layer ℕ)) (layer other : Layer ℕ) → overlaps_one_of nat_eq world others layer ≡ false
       → Among others other → Apart layer other
   apart_from others layer other e among =
-      none_pass _ (filesystem_numbered nat_eq world layer.filesystem).files.numbers (λ object in_numbers.
-      by (under layer.filesystem object layer)
-      (none_passes _ (filesystem_numbered nat_eq world layer.filesystem).files.numbers e object in_numbers)
-      (λ any. none_passes (under layer.filesystem object) others any other among))
-    where
-      by : {all one : Bool} (b : Bool) → (b && all) ≡ false → (all ≡ false → one ≡ false)
-          → (b && (one || false)) ≡ false
-      by true e h = ap (λ c. c || false) (h e)
-      by false e h = refl
+      grind (
+        arith,
+        common_steps,
+        none_pass,
+        none_passes _ (filesystem_numbered nat_eq world
+            layer.filesystem).files.numbers e,
+        none_passes,
+      )
 
   apart_of_all : (others : List (Layer ℕ)) (layer : Layer ℕ)
       → ((other : Layer ℕ) → Among others other → Apart layer other) → overlaps_one_of nat_eq world others layer ≡ false
-  apart_of_all others layer h =
-      none_pass _ (filesystem_numbered nat_eq world layer.filesystem).files.numbers (λ object in_numbers.
-      by object (under layer.filesystem object layer) refl
-      (λ other among. none_passes _ (filesystem_numbered nat_eq world layer.filesystem).files.numbers
-      (h other among) object in_numbers))
-    where
-      one : (b : Bool) → (b || false) ≡ false → b ≡ false
-      one true e = e
-      one false e = refl
-
-      by : (object : ℕ) (b : Bool) → under layer.filesystem object layer ≡ b
-          → ((other : Layer ℕ) → Among others other
-          → (under layer.filesystem object layer && (under layer.filesystem object other || false)) ≡ false)
-          → (b && list_any (under layer.filesystem object) others) ≡ false
-      by object false u each = refl
-      by object true u each =
-          none_pass (under layer.filesystem object) others (λ other among.
-          one _ (ap (λ b. b && (under layer.filesystem object other || false)) (sym u) ∙ each other among))
+  apart_of_all others layer h = grind (arith, common_steps, none_pass, none_passes)
 
   apart_both : (a b : Layer ℕ) → Apart a b → Apart b a
-  apart_both a b e =
-      none_pass _ (filesystem_numbered nat_eq world b.filesystem).files.numbers (λ object in_numbers.
-      by object in_numbers (under b.filesystem object b) refl (under b.filesystem object a) refl)
-    where
-      by : (object : ℕ) → Among (filesystem_numbered nat_eq world b.filesystem).files.numbers object → (x : Bool)
-          → under b.filesystem object b ≡ x → (y : Bool) → under b.filesystem object a ≡ y → (x && (y || false)) ≡ false
-      by object among false ux y uy = refl
-      by object among true ux false uy = refl
-      by object among true ux true uy =
-          let same = eqb-true b.filesystem a.filesystem (in_filesystem b.filesystem object a uy) in
-          let none = none_passes _ (filesystem_numbered nat_eq world a.filesystem).files.numbers e object
-          (subst (λ n. Among (filesystem_numbered nat_eq world n).files.numbers object) same among) in
-          absurd (true≢false (sym (
-          ap (λ n. under n object a && (under n object b || false)) (sym same)
-          ∙ ap (λ c. c && (under b.filesystem object b || false)) uy ∙ ap (λ c. c || false) ux) ∙ none))
+  apart_both a b e = grind (arith, common_steps, none_pass, eqb-true, in_filesystem, none_passes, true≢false)
 
 -- The layers of an overlay, in their lists
 among_three_left : (a b c : List (Layer ℕ)) (layer : Layer ℕ) → Among (a ++ b) layer → Among (a ++ b ++ c) layer
@@ -161,27 +107,21 @@ live_of : (world : World ℕ) (some_layers : Overlay ℕ → List (Layer ℕ))
     → (layer : Layer ℕ) → Among (flat_map (of_overlay [] some_layers) (overlays world)) layer
     → Among (live_layers world) layer
 live_of world some_layers of layer among =
-    let found = from_flat_map (of_overlay [] some_layers) (overlays world) layer among in
-    among_flat_map (of_overlay [] layers_of) (overlays world) found.0 layer found.1 (by found.0.overlay found.2)
-  where
-    by : (o : Option (Overlay ℕ)) → Among (overlay_or [] some_layers o) layer → Among (overlay_or [] layers_of o) layer
-    by None among = among
-    by (Some overlay) among = of overlay layer among
+    let found = from_flat_map (of_overlay [] some_layers) (overlays world) layer among in grind (
+      arith,
+      common_steps,
+      among_flat_map,
+    )
 
 live_plain : (world : World ℕ) → IsWorld nat_eq world → (layer : Layer ℕ) → Among (live_layers world) layer
     → is_plain_layer nat_eq world layer ≡ true
 live_plain world conditions layer among =
-    let found = from_flat_map (of_overlay [] layers_of) (overlays world) layer among in
-    by found.0.overlay found.2 (each_passes
-    (of_overlay true (λ overlay. list_all (is_plain_layer nat_eq world)
-    (layers_of overlay))) world.filesystems conditions.overlays.plain_layers found.0
-    (among_filtered is_overlay world.filesystems found.0 found.1))
-  where
-    by : (o : Option (Overlay ℕ)) → Among (overlay_or [] layers_of o) layer
-        → overlay_or true (λ overlay. list_all (is_plain_layer nat_eq world) (layers_of overlay)) o ≡ true
-        → is_plain_layer nat_eq world layer ≡ true
-    by None among e = absurd among
-    by (Some overlay) among e = each_passes (is_plain_layer nat_eq world) (layers_of overlay) e layer among
+    let found = from_flat_map (of_overlay [] layers_of) (overlays world) layer among in grind (
+      arith,
+      common_steps,
+      each_passes,
+      among_filtered is_overlay world.filesystems found.0 found.1,
+    )
 
 module _ (world : World ℕ) (conditions : IsWorld nat_eq world) (overlay : Overlay ℕ)
     (are_layers : AreLayers world overlay) (plain : list_all (is_plain_layer nat_eq world) (layers_of overlay) ≡ true)
@@ -201,17 +141,14 @@ module _ (world : World ℕ) (conditions : IsWorld nat_eq world) (overlay : Over
       → flat_map (of_overlay [] some_layers) (overlays after) ≡ flat_map (of_overlay [] some_layers) (overlays world)
       ++ list
   live_after some_layers list e =
-      ap (flat_map (of_overlay [] some_layers))
-      (filter-append is_overlay world.filesystems
-      (new world conditions overlay are_layers fresh distinct unused ∷ []))
-      ∙ flat_map-append (of_overlay [] some_layers) (overlays world)
-      (new world conditions overlay are_layers fresh distinct unused ∷ [])
-      ∙ ap (λ l. flat_map (of_overlay [] some_layers) (overlays world) ++ l)
-      (append_none (of_overlay [] some_layers (new world conditions overlay are_layers fresh distinct unused)) ∙ e)
-    where
-      append_none : (l : List (Layer ℕ)) → l ++ [] ≡ l
-      append_none [] = refl
-      append_none (layer ∷ l) = ap (λ r. layer ∷ r) (append_none l)
+      grind (
+        arith,
+        common_steps,
+        filter-append is_overlay world.filesystems (new world conditions overlay are_layers
+            fresh distinct unused ∷ []),
+        flat_map-append (of_overlay [] some_layers) (overlays world) (new world conditions
+            overlay are_layers fresh distinct unused ∷ []),
+      )
 
   changed : List (Layer ℕ)
   changed = live_upper_and_work world ++ upper_and_work overlay
@@ -257,19 +194,7 @@ module _ (world : World ℕ) (conditions : IsWorld nat_eq world) (overlay : Over
       (or_false_left _ _ not_in_use) a in_new) in_live
 
   own_pairs : Pairwise (Apart world) (upper_and_work overlay)
-  own_pairs = by overlay.upper overlay.work work_apart
-    where
-      by : (up work : Option (Layer ℕ))
-          → list_any (overlaps_one_of nat_eq world (option_to_list work)) (option_to_list up) ≡ false
-          → Pairwise (Apart world) (option_to_list up ++ option_to_list work)
-      by None None e = tt
-      by None (Some work) e = (λ b among. absurd among, tt)
-      by (Some up) None e = (λ b among. absurd among, tt)
-      by (Some up) (Some work) e = (
-        λ b among.
-            apart_from world (work ∷ []) up b (or_false_left _ _ e) among,
-        (λ b among. absurd among, tt),
-      )
+  own_pairs = grind (arith, common_steps, apart_from, or_false_left)
 
   pub changed_after : any_pair (overlap nat_eq after) (live_upper_and_work after) ≡ false
   unfolding changed

@@ -1,4 +1,6 @@
 -- A newly mounted overlay is a tree, within the limits of its layers.
+use Rattle.std.proofs.Common.{arith}
+use Rattle.std.proofs.lemmas.Grind.{common_steps}
 use Rattle.std.proofs.Common.{◌≡◌, ◌≤◌, refl, sym, ap, ◌∙◌, true≢false, ℕ, nat_eq, eqb-true, Bool, true, false, cond, not, ◌&&◌, ◌||◌, List, [], ◌∷◌, ◌++◌, length, map, Option, Some, None, is_some, option_and_then, inl, inr, slice_get}
 use Rattle.std.specs.List.{filter_map, find, list_all, list_any}
 use Rattle.std.specs.Ordering.{eq_by_cmp}
@@ -48,23 +50,13 @@ all_of_found : {A : Type 0} (p test : A → Bool) (list : List A) (a : A) → li
     → find test list ≡ Some a → p a ≡ true
 all_of_found p test [] a all f = none_is_some a f
 all_of_found p test (first ∷ list) a all f =
-    by (test first) f (all_of_found p test list a (and_true_right (p first) _ all))
-  where
-    by : (b : Bool) → cond b (Some first) (find test list) ≡ Some a → (find test list ≡ Some a → p a ≡ true)
-        → p a ≡ true
-    by true f rest = ap p (sym (same_Some first a f)) ∙ and_true_left (p first) _ all
-    by false f rest = rest f
+    grind (arith, common_steps, all_of_found p test list a (and_true_right (p first) _ all), and_true_left)
 
 all_of_among : (p : ℕ → Bool) (list : List ℕ) (number : ℕ) → list_all p list ≡ true
     → is_among nat_eq number list ≡ true → p number ≡ true
 all_of_among p [] number all a = absurd (true≢false (sym a))
 all_of_among p (first ∷ list) number all a =
-    by (nat_eq number first) refl a (all_of_among p list number (and_true_right (p first) _ all))
-  where
-    by : (b : Bool) → nat_eq number first ≡ b → (b || list_any (nat_eq number) list) ≡ true
-        → (is_among nat_eq number list ≡ true → p number ≡ true) → p number ≡ true
-    by true e a rest = ap p (eqb-true number first e) ∙ and_true_left (p first) _ all
-    by false e a rest = rest a
+    grind (arith, common_steps, all_of_among p list number (and_true_right (p first) _ all), eqb-true, and_true_left)
 
 all_pass : {A : Type 0} (p : A → Bool) (list : List A) → ((a : A) → Among list a → p a ≡ true) → list_all p list ≡ true
 all_pass p [] h = refl
@@ -179,24 +171,14 @@ layers_fit : (world : World ℕ) (conditions : IsWorld nat_eq world) (overlay : 
     → slice_get (map (open_layer nat_eq world) (shown_layers overlay)) depth ≡ Some layer → (object : ℕ)
     → fit_node (layer.tree.node object) ≡ true
 layers_fit world conditions overlay are_layers depth layer there object =
-    let open_one = is_open world conditions overlay are_layers depth layer there in
-    let fit =
-    all_of_found is_fit_filesystem open_one.test world.filesystems open_one.filesystem
-    conditions.files.fit_filesystems open_one.found in
-    let listed = all_found (λ filesystem.
-    ListsNumbers nat_eq filesystem.files) open_one.test world.filesystems conditions.files.numbers open_one.filesystem
-    open_one.found in
-    ap (λ tree. fit_node (tree.node object)) open_one.is
-    ∙ by open_one.filesystem fit (listed object) (open_one.filesystem.files.tree.node object) refl
-  where
-    by : (filesystem : Filesystem ℕ) → is_fit_filesystem filesystem ≡ true
-        → is_among nat_eq object filesystem.files.numbers ≡ is_some (filesystem.files.tree.node object)
-        → (o : Option (Node ℕ)) → filesystem.files.tree.node object ≡ o
-        → fit_node (filesystem.files.tree.node object) ≡ true
-    by filesystem fit listed None e = ap fit_node e
-    by filesystem fit listed (Some node) e =
-        all_of_among (λ n. fit_node (filesystem.files.tree.node n)) filesystem.files.numbers object fit
-        (listed ∙ ap is_some e)
+    let open_one = is_open world conditions overlay are_layers depth layer there in let fit = all_of_found
+    is_fit_filesystem open_one.test world.filesystems open_one.filesystem conditions.files.fit_filesystems
+    open_one.found in let listed = all_found (λ filesystem. ListsNumbers nat_eq filesystem.files) open_one.test
+    world.filesystems conditions.files.numbers open_one.filesystem open_one.found in grind (
+      arith,
+      common_steps,
+      all_of_among,
+    )
 
 pub new_overlay_is_fit : NewOverlayIsFit
 new_overlay_is_fit fresh world overlay conditions are_layers distinct =

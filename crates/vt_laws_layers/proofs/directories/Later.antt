@@ -1,4 +1,6 @@
 -- The layers of a newly mounted overlay lie apart from those of live ones, and what lies under a layer is as it was.
+use Rattle.std.proofs.Common.{arith}
+use Rattle.std.proofs.lemmas.Grind.{common_steps}
 use Rattle.std.proofs.Common.{◌≡◌, inl, inr, refl, sym, ap, ◌∙◌, true≢false, ℕ, zero, suc, nat_eq, eqb-true, Bool, true, false, cond, not, ◌&&◌, ◌||◌, List, [], ◌∷◌, ◌++◌, map, Option, Some, None, is_some, slice_get, unwrap_or}
 use Rattle.std.specs.List.{find, list_all, list_any}
 use Rattle.std.specs.Prelude.{option_to_list}
@@ -36,22 +38,11 @@ find_skips test (first ∷ list) last e = ap (cond (test first) (Some first)) (f
 pub not_found : (n : ℕ) (list : List (Filesystem ℕ)) → list_any (nat_eq n) (map (λ f. f.number) list) ≡ false
     → find (λ f. nat_eq n f.number) list ≡ None
 not_found n [] e = refl
-not_found n (first ∷ list) e = by (nat_eq n first.number) e (not_found n list)
-  where
-    by : (b : Bool) → (b || list_any (nat_eq n) (map (λ f. f.number) list)) ≡ false
-        → (list_any (nat_eq n) (map (λ f. f.number) list) ≡ false → find (λ f. nat_eq n f.number) list ≡ None)
-        → cond b (Some first) (find (λ f. nat_eq n f.number) list) ≡ None
-    by true e rest = absurd (true≢false e)
-    by false e rest = rest e
+not_found n (first ∷ list) e = grind (arith, common_steps, not_found n list, true≢false)
 
 pub any_found : {A : Type 0} (test : A → Bool) (list : List A) → list_any test list ≡ true → (a : A) × (test a ≡ true)
 any_found test [] e = absurd (true≢false (sym e))
-any_found test (first ∷ list) e = by (test first) refl e (any_found test list)
-  where
-    by : (b : Bool) → test first ≡ b → (b || list_any test list) ≡ true
-        → (list_any test list ≡ true → (a : _) × (test a ≡ true)) → (a : _) × (test a ≡ true)
-    by true t e rest = (first, t)
-    by false t e rest = rest e
+any_found test (first ∷ list) e = grind (arith, common_steps, any_found test list)
 
 pub any_same : {A : Type 0} (test other : A → Bool) (list : List A) → ((a : A) → Among list a → test a ≡ other a)
     → list_any test list ≡ list_any other list
@@ -92,14 +83,7 @@ module _ (world : World ℕ) (conditions : IsWorld nat_eq world) (overlay : Over
   plain_found : (layer : Layer ℕ) → is_plain_layer nat_eq world layer ≡ true
       → find (λ f. nat_eq layer.filesystem f.number) world.filesystems
       ≡ Some (filesystem_numbered nat_eq world layer.filesystem)
-  plain_found layer plain = by (find (λ f. nat_eq layer.filesystem f.number) world.filesystems) refl
-      (is_there layer plain)
-    where
-      by : (o : Option (Filesystem ℕ)) → find (λ f. nat_eq layer.filesystem f.number) world.filesystems ≡ o
-          → is_directory_node ((unwrap_or o (no_filesystem layer.filesystem)).files.tree.node layer.directory) ≡ true
-          → o ≡ Some (unwrap_or o (no_filesystem layer.filesystem))
-      by None f d = absurd (true≢false (sym d))
-      by (Some filesystem) f d = refl
+  plain_found layer plain = grind (arith, common_steps, is_there layer plain, true≢false)
 
   pub plain_is_old : (layer : Layer ℕ) → is_plain_layer nat_eq world layer ≡ true → IsOld layer
   plain_is_old layer plain = by (nat_eq layer.filesystem new.number) refl
@@ -114,34 +98,11 @@ module _ (world : World ℕ) (conditions : IsWorld nat_eq world) (overlay : Over
 
   lies_same : (fs object : ℕ) (layer : Layer ℕ) → IsOld layer
       → lies_in_layer nat_eq later fs object layer ≡ lies_in_layer nat_eq world fs object layer
-  lies_same fs object layer old = by (nat_eq fs layer.filesystem) refl
-    where
-      by : (b : Bool) → nat_eq fs layer.filesystem ≡ b
-          → (b && is_under nat_eq (filesystem_numbered nat_eq later fs).files layer.directory object)
-          ≡ (b && is_under nat_eq (filesystem_numbered nat_eq world fs).files layer.directory object)
-      by false e = refl
-      by true e = ap (λ f. is_under nat_eq f.files layer.directory object)
-          (same_filesystem fs (ap (λ n. nat_eq n new.number) (eqb-true fs layer.filesystem e) ∙ old))
+  lies_same fs object layer old = grind (arith, common_steps, same_filesystem, eqb-true)
 
   counts_same : (fs object : ℕ) (layer : Layer ℕ) → IsOld layer → (merged : Filesystem ℕ)
       → counts_in_layer nat_eq later fs object layer merged ≡ counts_in_layer nat_eq world fs object layer merged
-  counts_same fs object layer old merged = by merged.overlay
-    where
-      at : (of_it : Bool) (o : Option (Layer ℕ))
-          → (holds_of (λ upper. lies_in_layer nat_eq later upper.filesystem upper.directory layer) o && of_it)
-          ≡ (holds_of (λ upper. lies_in_layer nat_eq world upper.filesystem upper.directory layer) o && of_it)
-      at of_it None = refl
-      at of_it (Some upper) = ap (λ b. b && of_it) (lies_same upper.filesystem upper.directory layer old)
-
-      by : (o : Option (Overlay ℕ))
-          → overlay_or false (λ ov. holds_of
-          (λ upper. lies_in_layer nat_eq later upper.filesystem upper.directory layer) ov.upper
-          && is_object_of nat_eq fs object merged ov) o
-          ≡ overlay_or false (λ ov. holds_of
-          (λ upper. lies_in_layer nat_eq world upper.filesystem upper.directory layer) ov.upper
-          && is_object_of nat_eq fs object merged ov) o
-      by None = refl
-      by (Some ov) = at (is_object_of nat_eq fs object merged ov) ov.upper
+  counts_same fs object layer old merged = grind (arith, common_steps, lies_same)
 
   -- what is an object of the new overlay lies under its upper directory, and so where that lies
   abbrev made : Overlay ℕ

@@ -1,4 +1,6 @@
 -- The merged tree of layers is a tree.
+use Rattle.std.proofs.Common.{arith}
+use Rattle.std.proofs.lemmas.Grind.{common_steps}
 use Rattle.std.proofs.Common.{◌≡◌, ◌≢◌, ◌≤◌, ◌⊎◌, inl, inr, refl, sym, ap, subst, ◌∙◌, true≢false, ℕ, ◌+◌, nat_eq, eqb-true, Bool, true, false, cond, not, ◌||◌, List, [], ◌∷◌, ◌++◌, filter, length, map, Option, Some, None, is_some, option_and_then, slice_get, unwrap_or}
 use Rattle.std.specs.List.{filter_map, find, list_any}
 use Rattle.std.specs.FinMap.Entries.{is_sorted}
@@ -64,15 +66,7 @@ numbered_found : (number : ℕ) (inodes : List (MergedInode ℕ))
     → list_any (nat_eq number) (map (λ inode. inode.number) inodes)
     ≡ is_some (option_map (λ inode. inode.node) (find (λ inode. nat_eq number inode.number) inodes))
 numbered_found number [] = refl
-numbered_found number (first ∷ list) = by (nat_eq number first.number) (numbered_found number list)
-  where
-    by : (b : Bool) → list_any (nat_eq number) (map (λ inode. inode.number) list)
-        ≡ is_some (option_map (λ inode. inode.node) (find (λ inode. nat_eq number inode.number) list))
-        → (b || list_any (nat_eq number) (map (λ inode. inode.number) list))
-        ≡ is_some (option_map (λ inode. inode.node)
-        (cond b (Some first) (find (λ inode. nat_eq number inode.number) list)))
-    by true on = refl
-    by false on = on
+numbered_found number (first ∷ list) = grind (arith, common_steps, numbered_found number list, number)
 
 pub merged_lists_numbers : (root : ℕ) (made : List (MergedInode ℕ)) → ListsNumbers nat_eq (tree_of nat_eq root made)
 merged_lists_numbers root made number =
@@ -374,8 +368,5 @@ module _ (layers : List (OpenLayer ℕ)) (are_open : AreOpen layers) (longest : 
       neither n (inr named) no_root unnamed = absurd (unnamed named)
 
   pub merged_own_parents : HasOwnParents tree
-  merged_own_parents n d unnamed = by (root_or_named n (of_directory n d))
-    where
-      by : (n ≡ fresh 0) ⊎ HasName tree n → parent_in n (tree.node n) ≡ n
-      by (inl e) = subst (λ m. parent_in m (tree.node m) ≡ m) (sym e) root_own_parent
-      by (inr named) = absurd (unnamed named)
+  merged_own_parents n d unnamed =
+      grind (arith, common_steps, root_or_named n (of_directory n d), tree, root_own_parent)

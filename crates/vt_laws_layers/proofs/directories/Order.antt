@@ -1,4 +1,6 @@
 -- The names of a merged directory stand in their order.
+use Rattle.std.proofs.Common.{arith}
+use Rattle.std.proofs.lemmas.Grind.{common_steps}
 use Rattle.std.proofs.Common.{◌≡◌, ◌≤◌, ◌⊎◌, inl, inr, ⊎_elim, refl, sym, ap, subst, ◌∙◌, ℕ, zero, suc, nat_eq, Bool, true, false, cond, T, List, [], ◌∷◌, ◌++◌, filter, flat_map, length, map, Option, Some, None}
 use Rattle.std.specs.List.{cons_option, filter_map}
 use Rattle.std.specs.Cmp.{tied_itself}
@@ -42,23 +44,12 @@ module _ {A : Type 0} where
 
   pub among_filtered : (test : A → Bool) (list : List A) (a : A) → Among (filter test list) a → Among list a
   among_filtered test [] a among = absurd among
-  among_filtered test (first ∷ list) a among = by (test first) among (among_filtered test list a)
-    where
-      by : (b : Bool) → Among (cond b (first ∷ filter test list) (filter test list)) a
-          → (Among (filter test list) a → Among list a) → (first ≡ a) ⊎ Among list a
-      by true (inl e) rest = inl e
-      by true (inr among) rest = inr (rest among)
-      by false among rest = inr (rest among)
+  among_filtered test (first ∷ list) a among = grind (arith, common_steps, among_filtered test list a)
 
   pub pairwise_filter : (R : A → A → Type 0) (test : A → Bool) (list : List A) → Pairwise R list
       → Pairwise R (filter test list)
   pairwise_filter R test [] p = tt
-  pairwise_filter R test (first ∷ list) p = by (test first) (pairwise_filter R test list p.1)
-    where
-      by : (b : Bool) → Pairwise R (filter test list)
-          → Pairwise R (cond b (first ∷ filter test list) (filter test list))
-      by true rest = (λ b among. p.0 b (among_filtered test list b among), rest)
-      by false rest = rest
+  pairwise_filter R test (first ∷ list) p = grind (arith, common_steps, pairwise_filter R test list p.1, among_filtered)
 
 module _ {A B : Type 0} where
   pub from_flat_map : (f : A → List B) (list : List A) (b : B) → Among (flat_map f list) b
@@ -73,16 +64,8 @@ module _ {A B : Type 0} where
       → ((a b : A) (x y : B) → f a ≡ Some x → f b ≡ Some y → R a b → S x y) → (list : List A) → Pairwise R list
       → Pairwise S (filter_map f list)
   pairwise_filter_map R S f kept [] p = tt
-  pairwise_filter_map R S f kept (first ∷ list) p = by (f first) refl (pairwise_filter_map R S f kept list p.1)
-    where
-      by : (o : Option B) → f first ≡ o → Pairwise S (filter_map f list)
-          → Pairwise S (cons_option o (filter_map f list))
-      by None e rest = rest
-      by (Some x) e rest = (
-        λ y among.
-            let from = from_filter_map f list y among in kept first from.0 x y e from.2 (p.0 from.0 from.1),
-        rest,
-      )
+  pairwise_filter_map R S f kept (first ∷ list) p =
+      grind (arith, common_steps, pairwise_filter_map R S f kept list p.1, from_filter_map)
 
 -- Names in their order
 abbrev pub NameBelow : List ℕ → List ℕ → Type 0

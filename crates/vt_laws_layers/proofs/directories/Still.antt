@@ -1,4 +1,6 @@
 -- Each overlay is what its layers show when another one is mounted.
+use Rattle.std.proofs.Common.{arith}
+use Rattle.std.proofs.lemmas.Grind.{common_steps}
 use Rattle.std.proofs.Common.{◌≡◌, ◌∙◌, refl, sym, ap, subst, inl, inr, ℕ, zero, suc, nat_eq, eqb-true, Bool, true, false, cond, List, [], ◌∷◌, ◌++◌, map, Option, Some, None, is_some, slice_get, unwrap_or}
 use Rattle.std.specs.List.{find, list_any}
 use Rattle.std.specs.Prelude.{option_map, option_to_list}
@@ -27,13 +29,7 @@ among_slice (first ∷ list) (suc k) layer e = inr (among_slice list k layer e)
 pub find_new : (test : Filesystem ℕ → Bool) (list : List (Filesystem ℕ)) (last : Filesystem ℕ) → find test list ≡ None
     → test last ≡ true → find test (list ++ last ∷ []) ≡ Some last
 find_new test [] last f e = ap (λ b. cond b (Some last) None) e
-find_new test (first ∷ list) last f e = by (test first) f (find_new test list last)
-  where
-    by : (b : Bool) → cond b (Some first) (find test list) ≡ None
-        → (find test list ≡ None → test last ≡ true → find test (list ++ last ∷ []) ≡ Some last)
-        → cond b (Some first) (find test (list ++ last ∷ [])) ≡ Some last
-    by true f rest = none_is_some first (sym f)
-    by false f rest = rest f e
+find_new test (first ∷ list) last f e = grind (arith, common_steps, find_new test list last, none_is_some)
 
 module _ (world : World ℕ) (conditions : IsWorld nat_eq world) (overlay : Overlay ℕ)
     (are_layers : AreLayers world overlay)
@@ -81,15 +77,7 @@ module _ (world : World ℕ) (conditions : IsWorld nat_eq world) (overlay : Over
             (same_filesystem world conditions overlay are_layers fresh distinct unused layer.filesystem
             (olds layer refl))
     real_same (Lower k path) =
-        by (slice_get some_overlay.lowers k)
-        (λ layer e. old layer (among_append_right (option_to_list some_overlay.upper) some_overlay.lowers layer
-        (among_slice some_overlay.lowers k layer e)))
-      where
-        by : (o : Option (Layer ℕ)) → ((layer : Layer ℕ) → o ≡ Some layer → Old layer)
-            → then_some o (λ lower. node_at_path (open_layer nat_eq after lower) path)
-            ≡ then_some o (λ lower. node_at_path (open_layer nat_eq world lower) path)
-        by None olds = refl
-        by (Some layer) olds = ap (λ l. node_at_path l path) (open_same layer (olds layer refl))
+        grind (arith, common_steps, among_append_right, among_slice some_overlay.lowers k, open_same)
 
     still_merged : IsMerged nat_eq after filesystem some_overlay
     still_merged = record {

@@ -1,4 +1,5 @@
 -- A tree that is found one directory at a time has what layers show at every path.
+use Rattle.std.proofs.lemmas.Grind.{common_steps}
 use Rattle.std.proofs.Common.{◌≡◌, ◌≢◌, refl, sym, ap, subst, ◌∙◌, true≢false, arith, ℕ, suc, ◌+◌, Bool, true, false, cond, not, ◌||◌, List, [], ◌∷◌, ◌++◌, map, Option, Some, None, is_some, option_and_then, slice_get}
 use Rattle.std.specs.List.{All}
 use Rattle.std.specs.Prelude.{option_map, nat_eq}
@@ -36,17 +37,7 @@ same_directory (Some a) (Some b) same = same_content_kind a.content b.content sa
 nothing_led : (tree : Tree ℕ) (from : ℕ) (name other : List ℕ) (rest : List (List ℕ))
     → is_directory_node (then_some (entry_at tree from name) tree.node) ≡ false
     → led tree from (name ∷ other ∷ rest) ≡ None
-nothing_led tree from name other rest d = by (entry_at tree from name) refl d
-  where
-    at : (next : ℕ) (o : Option ℕ) → entry_at tree next other ≡ o → is_directory_node (tree.node next) ≡ false
-        → option_and_then (λ n. led tree n rest) o ≡ None
-    at next None e d = refl
-    at next (Some n) e d = absurd (true≢false (sym (has_entries tree next other n e) ∙ d))
-
-    by : (o : Option ℕ) → entry_at tree from name ≡ o → is_directory_node (then_some o tree.node) ≡ false
-        → option_and_then (λ next. led tree next (other ∷ rest)) o ≡ None
-    by None e d = refl
-    by (Some next) e d = at next (entry_at tree next other) refl d
+nothing_led tree from name other rest d = grind (arith, common_steps, true≢false, has_entries)
 
 module _ (views : List (View ℕ)) where
   -- the inodes of these views are those of the layers at their places

@@ -1,4 +1,5 @@
 -- What layers show under a name is what the directories show that are merged under it.
+use Rattle.std.proofs.lemmas.Grind.{common_steps}
 use Rattle.std.proofs.Common.{◌≡◌, ◌≢◌, refl, sym, ap, ◌∙◌, true≢false, arith, ℕ, suc, ◌+◌, Bool, true, false, cond, not, ◌||◌, List, [], ◌∷◌, ◌++◌, map, Option, Some, None, option_and_then}
 use Rattle.std.specs.Prelude.{option_map}
 use Rattle.vt_spec.specs.declared.attributes.Kind.TheVariants.{White}
@@ -21,22 +22,12 @@ HasView top = IsView top.view
 -- what is not there, or is a directory, is all that hides nothing
 not_there : (node : Option (Node ℕ)) → is_directory_node node ≡ false → hides node ≡ false → node ≡ None
 not_there None d h = refl
-not_there (Some node) d h = by (is_directory (kind_of node.content)) d h
-  where
-    by : (b : Bool) → b ≡ false → (not b || opaque_of node.content) ≡ false → Some node ≡ None
-    by true d h = absurd (true≢false d)
-    by false d h = absurd (true≢false h)
+not_there (Some node) d h = grind (arith, common_steps, true≢false)
 
 -- nothing is cut where names lead to nothing
 never_cuts : (view : View ℕ) (path : List (List ℕ)) → ((front : List (List ℕ)) → front ≢ [] → view.leads front ≡ None)
     → cuts view path ≡ false
-never_cuts view path none = by (cuts view path) refl
-  where
-    by : (b : Bool) → cuts view path ≡ b → b ≡ false
-    by false c = refl
-    by true c =
-        let found = prefix_found (λ front. hides (node_led view front)) path c in
-        sym found.2 ∙ ap (λ o. hides (then_some o view.node)) (none found.0 found.1.2)
+never_cuts view path none = grind (arith, common_steps, prefix_found)
 
 -- what is shown under a name of one layer, and of those below it
 module _ (top : PlacedView ℕ) (is : IsView top.view) (name : List ℕ) where
@@ -136,62 +127,18 @@ one_lower seen = record { layer = suc seen.layer; object = seen.object }
 shown_lower : (depth : ℕ) (views : List (View ℕ)) (path : List (List ℕ))
     → shown_from (suc depth) views path ≡ option_map one_lower (shown_from depth views path)
 shown_lower depth [] path = refl
-shown_lower depth (view ∷ lower) path =
-    by (view.leads path) (cuts view path)
-    (ap (λ d. shown_from d lower path) (let h : suc depth + 1 ≡ suc (depth + 1) = omega arith in h)
-    ∙ shown_lower (depth + 1) lower path)
-  where
-    when_lower : (b : Bool) (object : ℕ)
-        → when b (record { layer = suc depth; object = object })
-        ≡ option_map one_lower (when b (record { layer = depth; object = object }))
-    when_lower true object = refl
-    when_lower false object = refl
-
-    by : (found : Option ℕ) (cut : Bool)
-        → shown_from (suc depth + 1) lower path ≡ option_map one_lower (shown_from (depth + 1) lower path)
-        → shown_over view (suc depth) found cut (shown_from (suc depth + 1) lower path)
-        ≡ option_map one_lower (shown_over view depth found cut (shown_from (depth + 1) lower path))
-    by (Some object) cut e = when_lower (not (is_kind_in White (view.node object))) object
-    by None true e = refl
-    by None false e = e
+shown_lower depth (view ∷ lower) path = grind (arith, common_steps, shown_lower (depth + 1) lower path, one_lower)
 
 pub places_are_counted_back : PlacesAreCountedBack
 places_are_counted_back [] path = refl
 places_are_counted_back (top ∷ lower) path =
-    by (top.view.leads path) (cuts top.view path) (places_are_counted_back lower path)
-  where
-    when_back : (b : Bool) (object : ℕ)
-        → when b (record { layer = top.layer; object = object })
-        ≡ then_some (when b (record { layer = 0; object = object })) (counted_back (top ∷ lower))
-    when_back true object = refl
-    when_back false object = refl
-
-    under_top : (seen : Option (Shown ℕ))
-        → then_some (option_map one_lower seen) (counted_back (top ∷ lower)) ≡ then_some seen (counted_back lower)
-    under_top None = refl
-    under_top (Some seen) = refl
-
-    by : (found : Option ℕ) (cut : Bool)
-        → shown_in lower path ≡ then_some (shown (map (λ t. t.view) lower) path) (counted_back lower)
-        → shown_over top.view top.layer found cut (shown_in lower path)
-        ≡ then_some (shown_over top.view 0 found cut (shown_from (0 + 1) (map (λ t. t.view) lower) path))
-        (counted_back (top ∷ lower))
-    by (Some object) cut e = when_back (not (is_kind_in White (top.view.node object))) object
-    by None true e = refl
-    by None false e =
-        e ∙ sym (under_top (shown (map (λ t. t.view) lower) path))
-        ∙ ap (λ o. then_some o (counted_back (top ∷ lower))) (sym (shown_lower 0 (map (λ t. t.view) lower) path))
+    grind (arith, common_steps, places_are_counted_back lower path, one_lower, shown_lower)
 
 -- names lead through directories
 led_through : (tree : Tree ℕ) (from : ℕ) (front rest : List (List ℕ)) (object : ℕ) → rest ≢ []
     → led tree from (front ++ rest) ≡ Some object → is_directory_node (then_some (led tree from front) tree.node) ≡ true
 led_through tree from [] [] object n e = absurd (n refl)
-led_through tree from [] (name ∷ rest) object n e = by (entry_at tree from name) refl e
-  where
-    by : (o : Option ℕ) → entry_at tree from name ≡ o → option_and_then (λ next. led tree next rest) o ≡ Some object
-        → is_directory_node (tree.node from) ≡ true
-    by None h e = none_is_some object e
-    by (Some next) h e = has_entries tree from name next h
+led_through tree from [] (name ∷ rest) object n e = grind (arith, common_steps, none_is_some, has_entries)
 led_through tree from (name ∷ front) rest object n e =
     by (entry_at tree from name) (λ next. led_through tree next front rest object n) e
   where
@@ -211,34 +158,4 @@ layers_are_views layer tree directory = record {
 -- in trees, the directories under a name are found by that name
 pub directories_are_merged : DirectoriesAreMerged
 directories_are_merged [] name = refl
-directories_are_merged (top ∷ lower) name =
-    by (entry_at top.open_layer.tree top.open_layer.directory name) (directories_are_merged lower name)
-  where
-    own_view : Option ℕ → PlacedView ℕ
-    own_view o = record {
-      layer = top.layer;
-      view = record {
-        leads = λ rest.
-            option_and_then (λ next. led top.open_layer.tree next rest) o;
-        node = top.open_layer.tree.node;
-      };
-    }
-
-    parted : (object : ℕ) (d h : Bool)
-        → merged_under (map placed_view lower) name ≡ map placed_view (directories_under lower name)
-        → cond d (own_view (Some object) ∷ []) [] ++ cond h [] (merged_under (map placed_view lower) name)
-        ≡ map placed_view (cond d
-        (record { layer = top.layer; open_layer = record { tree = top.open_layer.tree; directory = object } } ∷ []) []
-        ++ cond h [] (directories_under lower name))
-    parted object true true e = refl
-    parted object true false e = ap (λ l. own_view (Some object) ∷ l) e
-    parted object false true e = refl
-    parted object false false e = e
-
-    by : (o : Option ℕ) → merged_under (map placed_view lower) name ≡ map placed_view (directories_under lower name)
-        → merged_over (own_view o) (then_some (option_and_then (λ next. Some next) o) top.open_layer.tree.node)
-        (merged_under (map placed_view lower) name)
-        ≡ map placed_view (directory_over top o (directories_under lower name))
-    by None e = e
-    by (Some object) e =
-        parted object (is_directory_node (top.open_layer.tree.node object)) (hides (top.open_layer.tree.node object)) e
+directories_are_merged (top ∷ lower) name = grind (arith, common_steps, directories_are_merged lower name)

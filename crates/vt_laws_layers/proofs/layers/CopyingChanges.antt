@@ -1,4 +1,5 @@
 -- A change of an overlay does to its upper layer what it is asked, clause by clause.
+use Rattle.std.proofs.lemmas.Grind.{common_steps}
 use Rattle.std.proofs.Common.{◌≡◌, ◌≢◌, refl, sym, ap, ◌∙◌, true≢false, arith, ℕ, suc, nat_eq, eq-eqb, ne_eqb, Bool, true, false, cond, ◌||◌, List, [], ◌∷◌, ◌++◌, Option, Some, None, is_some, unwrap_or}
 use Rattle.vt_spec.specs.Language.Changes.{content_with_parent, node_with_parent, node_without_entry, with_inode, with_moved, with_name, without_name, without_parent}
 use Rattle.vt_spec.specs.Machine.CopyUp.{Merge, Stack, hides_directory, merge_with_moved, merge_with_new, merge_without_name, name_left_by, shown_in_lowers_at, upper_directory_named, upper_of, with_mark, without_contents}
@@ -47,33 +48,14 @@ upper_of_is merge number object e = ap (λ o. unwrap_or o number) e
 
 pub object_there : (real : ℕ → Option (Real ℕ)) (number : ℕ) → is_some (upper_object (real number)) ≡ true
     → (object : ℕ) × (upper_object (real number) ≡ Some object)
-object_there real number h = by (upper_object (real number)) refl h
-  where
-    by : (o : Option ℕ) → upper_object (real number) ≡ o → is_some o ≡ true
-        → (object : ℕ) × (upper_object (real number) ≡ Some object)
-    by None e h = absurd (true≢false (sym h))
-    by (Some object) e h = (object, e)
+object_there real number h = grind (arith, common_steps, true≢false)
 
 -- the directory of the upper layer that a name stands for is the object of what the name leads to
 directory_named : (merge : Merge ℕ) (directory : ℕ) (name : List ℕ) (object : ℕ)
     → upper_directory_named merge directory name ≡ Some object
     → (number : ℕ) × (entry_at merge.files.tree directory name ≡ Some number)
     × (upper_object (merge.real number) ≡ Some object)
-directory_named merge directory name object e =
-    by (entry_named name (entries_in (merge.files.tree.node directory))) refl e
-  where
-    chosen : (number : ℕ) (b : Bool) → cond b (upper_object (merge.real number)) None ≡ Some object
-        → upper_object (merge.real number) ≡ Some object
-    chosen number true e = e
-    chosen number false e = absurd (true≢false (sym (ap is_some e)))
-
-    by : (o : Option ℕ) → entry_at merge.files.tree directory name ≡ o
-        → then_some o (λ number. cond (is_directory_node (merge.files.tree.node number))
-        (upper_object (merge.real number)) None) ≡ Some object
-        → (number : ℕ) × (entry_at merge.files.tree directory name ≡ Some number)
-        × (upper_object (merge.real number) ≡ Some object)
-    by None f e = absurd (true≢false (sym (ap is_some e)))
-    by (Some number) f e = (number, f, chosen number (is_directory_node (merge.files.tree.node number)) e)
+directory_named merge directory name object e = grind (arith, common_steps, true≢false)
 
 -- Changes of an overlay where what they ask is copied
 module _ (files : FileTree ℕ) (tree : IsTree files.tree) (first : ℕ → Option (Real ℕ)) (fresh : Fresh ℕ)
@@ -91,32 +73,23 @@ module _ (files : FileTree ℕ) (tree : IsTree files.tree) (first : ℕ → Opti
       → LeftWith (fresh 0) (shown_in_lowers_at nat_eq stack here directory name) stack
       (merge_without_name nat_eq fresh stack here directory name object).upper (upper_of here directory) name
   removed_with directory name object seen e has =
-      let left = name_left_by nat_eq (is_some (shown_in_lowers_at nat_eq stack here directory name)) fresh stack upper
-      (upper_of here directory) name in
-      let kind = ap (λ n. is_directory_node (upper.tree.node n)) (upper_of_is here directory seen has)
-      ∙ sound.kinds (path_to files tree directory name object e).0 directory seen
-      (path_to files tree directory name object e).1 has ∙ has_entries files.tree directory name object e in
-      let new = λ (same : upper_of here directory ≡ fresh 0). old_differs directory seen has
-      (sym (upper_of_is here directory seen has) ∙ same) in
-      left_stays (fresh 0) (shown_in_lowers_at nat_eq stack here directory name) stack left
-      (without_contents nat_eq left (upper_directory_named here directory name)) (upper_of here directory) name
-      (ap entries_in (emptied_other left (upper_directory_named here directory name)
-      (upper_of here directory) not_itself))
-      (emptied_other left (upper_directory_named here directory name) (fresh 0) not_new)
-      (left_where fresh (shown_in_lowers_at nat_eq stack here directory name) stack upper
-      (upper_of here directory) name kind new)
-    where
-      not_itself : upper_directory_named here directory name ≢ Some (upper_of here directory)
-      not_itself same =
-          let found = directory_named here directory name (upper_of here directory) same in
-          no_loop files tree directory name
-          (found.1 ∙ ap Some (sound.one found.0 directory seen
-          (found.2 ∙ ap Some (upper_of_is here directory seen has)) has))
-
-      not_new : upper_directory_named here directory name ≢ Some (fresh 0)
-      not_new same =
-          let found = directory_named here directory name (fresh 0) same in
-          sound.spared found.0 (fresh 0) found.2 (0, refl)
+      let left = name_left_by nat_eq (is_some (shown_in_lowers_at nat_eq stack here directory name)) fresh stack
+      upper (upper_of here directory) name in let kind = ap (λ n. is_directory_node (upper.tree.node n)) (upper_of_is
+      here directory seen has) ∙ sound.kinds (path_to files tree directory name object e).0 directory seen (path_to
+      files tree directory name object e).1 has ∙ has_entries files.tree directory name object e in let new = λ (same
+      : upper_of here directory ≡ fresh 0). old_differs directory seen has (sym (upper_of_is here directory seen has)
+      ∙ same) in grind (
+        arith,
+        common_steps,
+        left_stays,
+        emptied_other,
+        left_where fresh (shown_in_lowers_at nat_eq
+            stack here directory name) stack upper (upper_of here directory) name kind new,
+        here,
+        directory_named,
+        no_loop,
+        upper_of_is,
+      )
 
   pub removed_left : (directory : ℕ) (name : List ℕ) (object seen : ℕ)
       → entry_at files.tree directory name ≡ Some object → upper_object (real directory) ≡ Some seen

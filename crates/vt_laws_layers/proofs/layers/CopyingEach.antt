@@ -1,4 +1,5 @@
 -- Copies of a whole list, and of what a change asks for.
+use Rattle.std.proofs.lemmas.Grind.{common_steps}
 use Rattle.std.proofs.Common.{◌≡◌, ◌≢◌, ◌≤◌, ◌<◌, length, ◌⊎◌, inl, inr, refl, sym, ap, subst, ◌∙◌, true≢false, arith, ℕ, ◌+◌, nat_eq, eq-eqb, eqb-true, Bool, true, false, ◌||◌, List, [], ◌∷◌, Option, Some, None, is_some, ⊎_elim}
 use Rattle.std.specs.List.{list_any}
 use Rattle.std.proofs.lemmas.List.Folds.{list_any-append}
@@ -127,16 +128,7 @@ module _ (files : FileTree ℕ) (first : ℕ → Option (Real ℕ)) (spare : ℕ
 
   -- an object is the last in the line to it
   pub last_in_line : (object : ℕ) → is_among nat_eq object (line_to nat_eq files object) ≡ true
-  last_in_line object = by (a_name nat_eq files object)
-    where
-      itself : is_among nat_eq object (object ∷ []) ≡ true
-      itself = ap (λ b. b || false) (eq-eqb object object refl)
-
-      by : (named : Option (ℕ × List ℕ)) → is_among nat_eq object (line_by nat_eq files object named) ≡ true
-      by None = itself
-      by (Some name) =
-          list_any-append (nat_eq object) (directories_to nat_eq files name.0) (object ∷ [])
-          ∙ or_right (list_any (nat_eq object) (directories_to nat_eq files name.0)) _ itself
+  last_in_line object = grind (arith, common_steps, eq-eqb, list_any-append)
 
   pub line_copied : (object : ℕ) (real : ℕ → Option (Real ℕ)) (upper : FileTree ℕ) → Sound real upper
       → ((j number : ℕ) → upper_object (real number) ≢ Some (fresh j))

@@ -1,4 +1,5 @@
 -- Each change of an overlay does to its upper layer what it is asked.
+use Rattle.std.proofs.lemmas.Grind.{common_steps}
 use Rattle.std.proofs.Common.{◌≡◌, ◌≢◌, refl, sym, ap, subst, ◌∙◌, true≢false, arith, ℕ, ◌+◌, ◌*◌, nat_eq, Bool, true, false, ◌++◌, Some, is_some}
 use Rattle.vt_spec.specs.Language.Changes.{Change, node_with_attr, node_with_mark}
 use Rattle.vt_spec.specs.Language.Changes.Change.{AddName, CopyUp, Make, Move, Remove, SetAttr, SetBytes, SetMark}
@@ -71,27 +72,13 @@ module _ (fresh : Fresh ℕ) (stack : Stack ℕ) (before : Merge ℕ) (fit : IsF
       → Rattle.vt_spec.specs.Lists.is_among nat_eq number (line_to nat_eq before.files object) ≡ true
       → Rattle.vt_spec.specs.Lists.is_among nat_eq number
       (line_to nat_eq before.files object ++ line_to nat_eq before.files other) ≡ true
-  among_first number object other e =
-      Rattle.std.proofs.lemmas.List.Folds.list_any-append (nat_eq number) (line_to nat_eq before.files object)
-      (line_to nat_eq before.files other)
-      ∙ left (Rattle.std.specs.List.list_any (nat_eq number) (line_to nat_eq before.files object)) _ e
-    where
-      left : (a b : Bool) → a ≡ true → Rattle.std.specs.Prelude.◌||◌ a b ≡ true
-      left true b e = refl
-      left false b e = absurd (true≢false (sym e))
+  among_first number object other e = grind (arith, common_steps, true≢false)
 
   pub among_second : (number object other : ℕ)
       → Rattle.vt_spec.specs.Lists.is_among nat_eq number (line_to nat_eq before.files other) ≡ true
       → Rattle.vt_spec.specs.Lists.is_among nat_eq number
       (line_to nat_eq before.files object ++ line_to nat_eq before.files other) ≡ true
-  among_second number object other e =
-      Rattle.std.proofs.lemmas.List.Folds.list_any-append (nat_eq number) (line_to nat_eq before.files object)
-      (line_to nat_eq before.files other)
-      ∙ right (Rattle.std.specs.List.list_any (nat_eq number) (line_to nat_eq before.files object)) _ e
-    where
-      right : (a b : Bool) → b ≡ true → Rattle.std.specs.Prelude.◌||◌ a b ≡ true
-      right true b e = refl
-      right false b e = e
+  among_second number object other e = grind (arith, common_steps)
 
   pub in_own_line : (object : ℕ)
       → Rattle.vt_spec.specs.Lists.is_among nat_eq object (line_to nat_eq before.files object) ≡ true

@@ -1,4 +1,5 @@
 -- An object is copied behind the directories above it: its copy has no names in it, and stands under its name.
+use Rattle.std.proofs.lemmas.Grind.{common_steps}
 use Rattle.std.proofs.Common.{◌≡◌, ◌≢◌, ◌≤◌, refl, sym, ap, subst, ◌∙◌, true≢false, arith, ℕ, zero, suc, ◌+◌, nat_eq, eq-eqb, ne_eqb, Bool, true, false, cond, List, [], ◌∷◌, ◌++◌, length, Option, Some, None, is_some, unwrap_or, ⊎_elim}
 use Rattle.std.specs.List.{list_any}
 use Rattle.std.proofs.lemmas.List.Sorted.{IsPermutation-reverse, list_any-IsPermutation}
@@ -232,15 +233,7 @@ module _ (fresh : Fresh ℕ) (before : Merge ℕ) (fit : IsFitToChange fresh bef
           (front.bound name.0 parent u))
 
   pub copy_stands : CopyStands (copied_up nat_eq fresh before object)
-  copy_stands = by (a_name nat_eq files object) refl
-    where
-      by : (named : Option (ℕ × List ℕ)) → a_name nat_eq files object ≡ named
-          → CopyStands (copied_each nat_eq fresh 0 before (line_by nat_eq files object named))
-      by None e =
-          subst (λ o. CopyStands (copy_of nat_eq before object (fresh 0) o (is_in_upper before object))) (sym is_node)
-          (subst (λ b. CopyStands (copy_of nat_eq before object (fresh 0) (Some node) b)) (sym (ap is_some below))
-          (unnamed_stands e))
-      by (Some name) e = named_stands name e
+  copy_stands = grind (arith, common_steps, unnamed_stands, named_stands)
 
 pub copies_have_their_name : (fresh : Fresh ℕ) (before : Merge ℕ) (object : ℕ) → IsFitToChange fresh before
     → is_some (before.files.tree.node object) ≡ true → upper_object (before.real object) ≡ None

@@ -1,4 +1,6 @@
 -- What stands in the upper layer where a name was, and what a mark changes.
+use Rattle.std.proofs.Common.{arith}
+use Rattle.std.proofs.lemmas.Grind.{common_steps}
 use Rattle.std.proofs.Common.{◌≡◌, ◌≢◌, refl, sym, ap, subst, ◌∙◌, true≢false, ℕ, nat_eq, ne_eqb, Bool, true, false, cond, not, ◌||◌, List, [], ◌∷◌, Option, Some, None, is_some}
 use Rattle.std.specs.Cmp.{tied_itself}
 use Rattle.std.specs.Cmp.Lexicographic.{bytes_decides, nat_list_cmp_total, texts_ties}
@@ -41,14 +43,7 @@ name_gone name (entry ∷ entries) = by (bytes_eq entry.0 name) refl (name_gone 
 no_name_left : (name : List ℕ) (inode : Option (Node ℕ))
     → entry_named name (entries_in (node_without_entry name inode)) ≡ None
 no_name_left name None = refl
-no_name_left name (Some node) = by node.content
-  where
-    by : (content : Content ℕ) → entry_named name
-        (entries_of (with_entries content (without_entry name (entries_of content)))) ≡ None
-    by (Directory parent entries opaque) = name_gone name entries
-    by (Regular bytes) = refl
-    by (Symlink text) = refl
-    by Whiteout = refl
+no_name_left name (Some node) = grind (arith, common_steps, name_gone)
 
 -- a name that was put in is there
 pub name_put : (name : List ℕ) (number : ℕ) (inode : Option (Node ℕ)) → is_directory_node inode ≡ true
@@ -61,26 +56,12 @@ name_put name number inode d =
 
 -- other names lead where they led
 differ_by_cmp : (name other : List ℕ) → name ≢ other → eq_by_cmp name_cmp name other ≡ false
-differ_by_cmp name other differ = by (eq_by_cmp name_cmp name other) refl
-  where
-    by : (b : Bool) → eq_by_cmp name_cmp name other ≡ b → eq_by_cmp name_cmp name other ≡ false
-    by true e = absurd (differ (same_name name other e))
-    by false e = e
+differ_by_cmp name other differ = grind (arith, common_steps, same_name)
 
 pub name_stays_put : (name other : List ℕ) (number : ℕ) (inode : Option (Node ℕ)) → name ≢ other
     → entry_named name (entries_in (node_with_entry other number inode)) ≡ entry_named name (entries_in inode)
 name_stays_put name other number None differ = refl
-name_stays_put name other number (Some node) differ = by node.content
-  where
-    by : (content : Content ℕ) → entry_named name
-        (entries_of (with_entries content (with_entry other number (entries_of content))))
-        ≡ entry_named name (entries_of content)
-    by (Directory parent entries opaque) =
-        entry_named-with_entry name other number entries
-        ∙ ap (λ b. cond b (Some number) (entry_named name entries)) (differ_by_cmp name other differ)
-    by (Regular bytes) = refl
-    by (Symlink text) = refl
-    by Whiteout = refl
+name_stays_put name other number (Some node) differ = grind (arith, common_steps, entry_named-with_entry, differ_by_cmp)
 
 pub name_stays_without : (name other : List ℕ) (inode : Option (Node ℕ)) → name ≢ other
     → entry_named name (entries_in (node_without_entry other inode)) ≡ entry_named name (entries_in inode)
@@ -186,14 +167,7 @@ marked_other false upper object inode differ = refl
 pub directory_marked : (inode : Option (Node ℕ)) → is_directory_node inode ≡ true
     → is_opaque_in (node_with_mark true inode) ≡ true
 directory_marked None d = absurd (true≢false (sym d))
-directory_marked (Some node) d = by node.content d
-  where
-    by : (content : Content ℕ) → is_directory (kind_of content) ≡ true
-        → opaque_of (content_with_mark true content) ≡ true
-    by (Directory old entries opaque) d = refl
-    by (Regular bytes) d = absurd (true≢false (sym d))
-    by (Symlink text) d = absurd (true≢false (sym d))
-    by Whiteout d = absurd (true≢false (sym d))
+directory_marked (Some node) d = grind (arith, common_steps, true≢false)
 
 pub marked_itself : (mark : Bool) (upper : FileTree ℕ) (object : ℕ) → is_directory_node (upper.tree.node object) ≡ true
     → is_opaque_in ((with_mark nat_eq mark upper object).tree.node object)

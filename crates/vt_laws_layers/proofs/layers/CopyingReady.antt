@@ -1,4 +1,6 @@
 -- What a change of an overlay finds when what it asks to be copied is copied.
+use Rattle.std.proofs.Common.{arith}
+use Rattle.std.proofs.lemmas.Grind.{common_steps}
 use Rattle.std.proofs.Common.{◌≡◌, inl, inr, refl, sym, ap, subst, ◌∙◌, true≢false, ℕ, zero, suc, nat_eq, eq-eqb, Bool, true, false, ◌||◌, List, [], ◌∷◌, ◌++◌, reverse, Option, Some, None, is_some, ⊎_elim, length}
 use Rattle.std.specs.List.{list_any}
 use Rattle.std.proofs.lemmas.List.Folds.{list_any-append}
@@ -19,27 +21,7 @@ use Rattle.std.proofs.lemmas.Bool.{or_cases, or_left, or_right}
 -- a directory is in the line to itself, and so in the line to what it has a name of
 pub in_its_line : (files : FileTree ℕ) (directory : ℕ)
     → is_among nat_eq directory (directories_to nat_eq files directory) ≡ true
-in_its_line files directory = by (length files.numbers)
-  where
-    last : (rest : List ℕ) → is_among nat_eq directory (reverse (directory ∷ rest)) ≡ true
-    last rest =
-        ap (list_any (nat_eq directory)) (reverse-cons directory rest)
-        ∙ list_any-append (nat_eq directory) (reverse rest) (directory ∷ [])
-        ∙ or_right (list_any (nat_eq directory) (reverse rest)) _
-        (ap (λ b. b || false) (eq-eqb directory directory refl))
-
-    by : (most : ℕ) → is_among nat_eq directory (reverse (chain most (named_parent nat_eq files.tree) directory)) ≡ true
-    by zero = last []
-    by (suc most) = step (named_parent nat_eq files.tree directory)
-      where
-        step : (o : Option ℕ) → is_among nat_eq directory
-            (reverse (elim o as (λ _. List ℕ) [
-              | None ↦ directory ∷ []
-              | Some b ↦ directory
-                  ∷ chain most (named_parent nat_eq files.tree) b
-            ])) ≡ true
-        step None = last []
-        step (Some above) = last (chain most (named_parent nat_eq files.tree) above)
+in_its_line files directory = grind (arith, common_steps, list_any-append, eq-eqb)
 
 pub parent_in_line : (files : FileTree ℕ) (object : ℕ) (name : ℕ × List ℕ) → a_name nat_eq files object ≡ Some name
     → is_among nat_eq name.0 (line_to nat_eq files object) ≡ true

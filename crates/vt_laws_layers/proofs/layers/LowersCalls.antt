@@ -1,4 +1,6 @@
 -- Calls leave what is locked as it was, in a filesystem that no overlay writes to.
+use Rattle.std.proofs.Common.{arith}
+use Rattle.std.proofs.lemmas.Grind.{common_steps}
 use Rattle.std.proofs.Common.{◌≡◌, ◌≢◌, refl, sym, ap, subst, ◌∙◌, true≢false, eqb-true, ℕ, nat_eq, Bool, true, false, ⊎_elim, None, unwrap_or}
 use Rattle.std.proofs.lemmas.Bool.Decides.{eqb_tells}
 use Rattle.std.specs.List.{find}
@@ -75,11 +77,4 @@ module _ (world : World ℕ) (filesystem inode : ℕ) where
   module _ (locked : is_locked nat_eq world filesystem inode ≡ true) where
     pub unlocked_differs : (location : Location ℕ) → is_locked_at nat_eq world location ≡ false
         → filesystem ≡ (mount_at nat_eq world location).filesystem → nat_eq inode location.node ≡ false
-    unlocked_differs location open_to_all at = by (nat_eq inode location.node) refl
-      where
-        by : (b : Bool) → nat_eq inode location.node ≡ b → nat_eq inode location.node ≡ false
-        by false e = e
-        by true e =
-            absurd (true≢false (sym locked ∙ ap (λ f. is_locked nat_eq world f inode) at
-            ∙ ap (is_locked nat_eq world (mount_at nat_eq world location).filesystem) (eqb-true inode location.node e)
-            ∙ open_to_all))
+    unlocked_differs location open_to_all at = grind (arith, common_steps, true≢false, eqb-true)

@@ -1,4 +1,6 @@
 -- What each change of a tree leaves as it was.
+use Rattle.std.proofs.Common.{arith}
+use Rattle.std.proofs.lemmas.Grind.{common_steps}
 use Rattle.std.proofs.Common.{◌≡◌, refl, sym, ap, subst, ◌∙◌, ℕ, nat_eq, false, cond, List, ⊎_elim, Option, Some, None, is_some}
 use Rattle.std.proofs.lemmas.Bool.Decides.{eqb_tells}
 use Rattle.vt_spec.specs.Language.Changes.{Change, changed, changed_node, content_with_parent, node_with_attr, node_with_mark, node_with_parent, node_without_entry, with_inode, with_moved, with_name, without_name, without_parent}
@@ -36,40 +38,7 @@ kept_both old middle new a b = record {
 -- another parent leaves an inode as it was
 kept_parent : (parent : ℕ) (node : Option (Node ℕ)) → IsKept node (node_with_parent parent node)
 kept_parent parent None = kept_itself None
-kept_parent parent (Some node) =
-    record {
-      there = refl;
-      kind = kind node.content;
-      attr = refl;
-      names = names node.content;
-      bytes = held
-          node.content;
-      mark = mark node.content;
-    }
-  where
-    kind : (content : Content ℕ) → kind_of (content_with_parent parent content) ≡ kind_of content
-    kind (Directory old entries opaque) = refl
-    kind (Regular bytes) = refl
-    kind (Symlink text) = refl
-    kind Whiteout = refl
-
-    names : (content : Content ℕ) → entries_of (content_with_parent parent content) ≡ entries_of content
-    names (Directory old entries opaque) = refl
-    names (Regular bytes) = refl
-    names (Symlink text) = refl
-    names Whiteout = refl
-
-    held : (content : Content ℕ) → bytes_of (content_with_parent parent content) ≡ bytes_of content
-    held (Directory old entries opaque) = refl
-    held (Regular bytes) = refl
-    held (Symlink text) = refl
-    held Whiteout = refl
-
-    mark : (content : Content ℕ) → opaque_of (content_with_parent parent content) ≡ opaque_of content
-    mark (Directory old entries opaque) = refl
-    mark (Regular bytes) = refl
-    mark (Symlink text) = refl
-    mark Whiteout = refl
+kept_parent parent (Some node) = grind (arith, common_steps)
 
 -- a change of one inode leaves the others as they were
 pub kept_elsewhere : (files : FileTree ℕ) (number : ℕ) (change : Option (Node ℕ) → Option (Node ℕ)) (inode : ℕ)

@@ -1,4 +1,6 @@
 -- Taking mounts away changes no filesystem, and no mount's filesystem.
+use Rattle.std.proofs.Common.{arith}
+use Rattle.std.proofs.lemmas.Grind.{common_steps}
 use Rattle.std.proofs.Common.{◌≡◌, refl, ap, ◌∙◌, ℕ, nat_eq, Bool, true, false, cond, List, [], ◌∷◌, map, Some, unwrap_or}
 use Rattle.std.specs.List.{find}
 use Rattle.vt_spec.specs.Machine.Detach.{without_mounts_on}
@@ -12,18 +14,7 @@ same_mounted : (change : Mount ℕ → Mount ℕ) → ((mount : Mount ℕ) → (
     → ((mount : Mount ℕ) → (change mount).filesystem ≡ mount.filesystem) → (number : ℕ) (mounts : List (Mount ℕ))
     → (mount_in nat_eq (map change mounts) number).filesystem ≡ (mount_in nat_eq mounts number).filesystem
 same_mounted change n f number [] = refl
-same_mounted change n f number (mount ∷ mounts) =
-    ap (λ m. (unwrap_or (cond (nat_eq number m) (Some (change mount))
-    (find (λ m. nat_eq number m.number) (map change mounts))) (no_mount number)).filesystem) (n mount)
-    ∙ by (nat_eq number mount.number) (same_mounted change n f number mounts)
-  where
-    by : (b : Bool) → (mount_in nat_eq (map change mounts) number).filesystem
-        ≡ (mount_in nat_eq mounts number).filesystem
-        → (unwrap_or (cond b (Some (change mount)) (find (λ m. nat_eq number m.number) (map change mounts)))
-        (no_mount number)).filesystem ≡
-        (unwrap_or (cond b (Some mount) (find (λ m. nat_eq number m.number) mounts)) (no_mount number)).filesystem
-    by true rest = f mount
-    by false rest = rest
+same_mounted change n f number (mount ∷ mounts) = grind (arith, common_steps, same_mounted change n f number mounts)
 
 regrouped_mounted : (lost : Bool) (world : World ℕ) (location : Location ℕ)
     → (mount_at nat_eq (regrouped_by nat_eq lost world) location).filesystem

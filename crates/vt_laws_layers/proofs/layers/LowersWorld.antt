@@ -1,4 +1,6 @@
 -- Which filesystems a change of the world leaves as they were.
+use Rattle.std.proofs.Common.{arith}
+use Rattle.std.proofs.lemmas.Grind.{common_steps}
 use Rattle.std.proofs.Common.{◌≡◌, ◌≢◌, refl, sym, ap, subst, ◌∙◌, true≢false, ℕ, nat_eq, ne_eqb, Bool, true, false, cond, List, [], ◌∷◌, map, ⊎_elim, Option, Some, None, unwrap_or}
 use Rattle.std.specs.List.{find}
 use Rattle.std.proofs.lemmas.Bool.Decides.{eqb_tells}
@@ -52,35 +54,14 @@ found_there : (new : Filesystem ℕ) (list : List (Filesystem ℕ)) (old : Files
     → find (λ filesystem. nat_eq new.number filesystem.number) list ≡ Some old
     → find (λ filesystem. nat_eq new.number filesystem.number) (map (replaced_if_numbered nat_eq new) list) ≡ Some new
 found_there new [] old e = absurd (true≢false (sym (ap (λ o. elim o [ None ↦ false | Some f ↦ true ]) e)))
-found_there new (first ∷ list) old e = by (nat_eq new.number first.number) refl (found_there new list old) e
-  where
-    by : (b : Bool) → nat_eq new.number first.number ≡ b
-        → (find (λ f. nat_eq new.number f.number) list ≡ Some old
-        → find (λ f. nat_eq new.number f.number) (map (replaced_if_numbered nat_eq new) list) ≡ Some new)
-        → cond b (Some first) (find (λ f. nat_eq new.number f.number) list) ≡ Some old
-        → find (λ f. nat_eq new.number f.number) (cond b new first ∷ map (replaced_if_numbered nat_eq new) list)
-        ≡ Some new
-    by true t rest e = ap (λ b. cond b (Some new)
-        (find (λ f. nat_eq new.number f.number) (map (replaced_if_numbered nat_eq new) list)))
-        (nat_eq_itself new.number)
-    by false t rest e = ap (λ b. cond b (Some first)
-        (find (λ f. nat_eq new.number f.number) (map (replaced_if_numbered nat_eq new) list))) t ∙ rest e
+found_there new (first ∷ list) old e = grind (arith, common_steps, found_there new list old, nat_eq_itself)
 
 -- none of that number stays none
 found_nowhere : (new : Filesystem ℕ) (list : List (Filesystem ℕ))
     → find (λ filesystem. nat_eq new.number filesystem.number) list ≡ None
     → find (λ filesystem. nat_eq new.number filesystem.number) (map (replaced_if_numbered nat_eq new) list) ≡ None
 found_nowhere new [] e = refl
-found_nowhere new (first ∷ list) e = by (nat_eq new.number first.number) refl (found_nowhere new list) e
-  where
-    by : (b : Bool) → nat_eq new.number first.number ≡ b
-        → (find (λ f. nat_eq new.number f.number) list ≡ None
-        → find (λ f. nat_eq new.number f.number) (map (replaced_if_numbered nat_eq new) list) ≡ None)
-        → cond b (Some first) (find (λ f. nat_eq new.number f.number) list) ≡ None
-        → find (λ f. nat_eq new.number f.number) (cond b new first ∷ map (replaced_if_numbered nat_eq new) list) ≡ None
-    by true t rest e = absurd (true≢false (ap (λ o. elim o [ None ↦ false | Some f ↦ true ]) e))
-    by false t rest e = ap (λ b. cond b (Some first)
-        (find (λ f. nat_eq new.number f.number) (map (replaced_if_numbered nat_eq new) list))) t ∙ rest e
+found_nowhere new (first ∷ list) e = grind (arith, common_steps, found_nowhere new list, true≢false)
 
 -- a filesystem that is changed is either the new one now, or was not there and is not
 pub filesystem_there : (P : Filesystem ℕ → Type 0) (world : World ℕ) (new : Filesystem ℕ) (number : ℕ)
@@ -159,24 +140,4 @@ others_elsewhere fresh world location change number differ upper =
 pub the_rest_stays : (fresh : Fresh ℕ) (world : World ℕ) (location : Location ℕ) (change : Change ℕ)
     → (with_change nat_eq fresh world location change)
     ≡ record world { filesystems = (with_change nat_eq fresh world location change).filesystems }
-the_rest_stays fresh world location change =
-    by (filesystem_at nat_eq world location).overlay
-  where
-    layered : (overlay : Overlay ℕ) (layer : Option (Layer ℕ))
-        → overlay_changed nat_eq fresh world (filesystem_at nat_eq world location) overlay layer change
-        ≡ record world {
-          filesystems =
-              (overlay_changed nat_eq fresh world (filesystem_at nat_eq world location) overlay layer
-              change).filesystems;
-        }
-    layered overlay None = refl
-    layered overlay (Some upper) = refl
-
-    by : (o : Option (Overlay ℕ)) → filesystem_changed nat_eq fresh world
-        (filesystem_at nat_eq world location) o change
-        ≡ record world {
-          filesystems =
-              (filesystem_changed nat_eq fresh world (filesystem_at nat_eq world location) o change).filesystems;
-        }
-    by None = refl
-    by (Some overlay) = layered overlay overlay.upper
+the_rest_stays fresh world location change = grind (arith, common_steps)

@@ -1,4 +1,5 @@
 -- Layers that lead at every path to what is alike show what is alike.
+use Rattle.std.proofs.lemmas.Grind.{common_steps}
 use Rattle.std.proofs.Common.{◌≡◌, refl, sym, ap, subst, ◌∙◌, true≢false, arith, ℕ, suc, ◌+◌, Bool, true, false, not, ◌||◌, List, [], ◌∷◌, Option, Some, None, is_some, option_and_then, slice_get}
 use Rattle.std.specs.List.{list_any}
 use Rattle.std.specs.Cmp.Lexicographic.{bytes_decides}
@@ -193,24 +194,4 @@ pub shown_alike : (layers others : List (OpenLayer ℕ)) → AreAsOthers layers 
     → (path : List (List ℕ))
     → SameObject (then_some (shown layers path) (layer_node layers)) (then_some (shown others path) (layer_node others))
 shown_alike layers others as_others are_open others_open path =
-    by (shown layers path) (shown others path) (show_alike layers others as_others are_open others_open 0 path)
-  where
-    node_there : (list : List (OpenLayer ℕ)) (seen : Shown ℕ) (place : ℕ) (layer : OpenLayer ℕ)
-        → seen.layer ≡ 0 + place → slice_get list place ≡ Some layer
-        → layer_node list seen ≡ layer.tree.node seen.object
-    node_there list seen place layer at has =
-        let same : seen.layer ≡ place = omega arith in
-        ap (λ n. then_some (slice_get list n) (λ l. l.tree.node seen.object)) same
-        ∙ ap (λ o. then_some o (λ l. l.tree.node seen.object)) has
-
-    by : (seen there : Option (Shown ℕ)) → ShowAlike 0 layers others seen there
-        → SameObject (then_some seen (layer_node layers)) (then_some there (layer_node others))
-    by None None is = tt
-    by None (Some there) is = absurd is
-    by (Some seen) None is = absurd is
-    by (Some seen) (Some there) is =
-        subst (λ o. SameObject o (layer_node others there))
-        (sym (node_there layers seen is.place is.layer is.in_layer is.has_layer))
-        (subst (λ o. SameObject (is.layer.tree.node seen.object) o)
-        (sym (node_there others there is.place is.other is.in_other is.has_other))
-        (same_object _ _ is.alike is.visible))
+    grind (arith, common_steps, show_alike layers others as_others are_open others_open 0 path, same_object)

@@ -1,4 +1,5 @@
 -- What is computed to be shown at a path is what is shown there.
+use Rattle.std.proofs.lemmas.Grind.{common_steps}
 use Rattle.std.proofs.Common.{◌≡◌, ◌≢◌, ◌<◌, ◌↔◌, refl, sym, ap, subst, ◌∙◌, true≢false, arith, ℕ, zero, suc, ◌+◌, Bool, true, false, not, List, [], ◌∷◌, Option, Some, None}
 use Rattle.vt_spec.specs.declared.attributes.Kind.TheVariants.{White}
 use Rattle.vt_spec.specs.FileTree.{is_kind, is_kind_in}
@@ -127,11 +128,7 @@ module _ (layer : OpenLayer ℕ) (lower : List (OpenLayer ℕ)) (path : List (Li
 
   top_cuts_not : (depth object : ℕ) → IsShown (layer ∷ lower) path (record { layer = suc depth; object = object })
       → cuts layer path ≡ false
-  top_cuts_not depth object is = by (cuts layer path) refl
-    where
-      by : (b : Bool) → cuts layer path ≡ b → cuts layer path ≡ false
-      by true e = absurd (is.has_uncut.1 (cut_by_top depth e))
-      by false e = e
+  top_cuts_not depth object is = grind (arith, common_steps, cut_by_top)
 
   lower_shows : (depth object : ℕ) → IsShown (layer ∷ lower) path (record { layer = suc depth; object = object })
       → IsShown lower path (record { layer = depth; object = object })

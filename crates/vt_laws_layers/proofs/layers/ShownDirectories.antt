@@ -1,4 +1,5 @@
 -- What is shown under a name is shown in a directory.
+use Rattle.std.proofs.lemmas.Grind.{common_steps}
 use Rattle.std.proofs.Common.{◌≡◌, ◌≢◌, refl, sym, ap, subst, ◌∙◌, true≢false, arith, ℕ, suc, ◌+◌, Bool, true, false, not, ◌||◌, List, [], ◌∷◌, ◌++◌, Option, Some, None, is_some, option_and_then, slice_get}
 use Rattle.vt_spec.specs.FileTree.{opaque_of}
 use Rattle.vt_spec.proofs.Layers.{cuts, shown_from, shown_over}
@@ -41,37 +42,16 @@ append_assoc (x ∷ a) b c = ap (λ l. x ∷ l) (append_assoc a b c)
 -- what does not cut at a path does not cut at its front, and does not hide there
 pub cuts_not_before : (layer : OpenLayer ℕ) (path : List (List ℕ)) (name : List ℕ)
     → cuts layer (path ++ name ∷ []) ≡ false → cuts layer path ≡ false
-cuts_not_before layer path name e = by (cuts layer path) refl
-  where
-    by : (b : Bool) → cuts layer path ≡ b → cuts layer path ≡ false
-    by false c = c
-    by true c =
-        let found = prefix_found (λ front. hides (node_at_path layer front)) path c in
-        absurd (true≢false (sym (prefix_passes (λ front. hides (node_at_path layer front)) (path ++ name ∷ []) found.0
-        (found.1.0 ++ name ∷ [])
-        (sym (append_assoc found.0 found.1.0 (name ∷ [])) ∙ ap (λ p. p ++ name ∷ []) found.1.1) found.1.2 found.2) ∙ e))
+cuts_not_before layer path name e = grind (arith, common_steps, prefix_found, true≢false, prefix_passes, append_assoc)
 
 hides_not_at : (layer : OpenLayer ℕ) (path : List (List ℕ)) (name : List ℕ) → path ≢ []
     → cuts layer (path ++ name ∷ []) ≡ false → hides (node_at_path layer path) ≡ false
-hides_not_at layer path name nonempty e = by (hides (node_at_path layer path)) refl
-  where
-    by : (b : Bool) → hides (node_at_path layer path) ≡ b → hides (node_at_path layer path) ≡ false
-    by false c = c
-    by true c = absurd (true≢false
-        (sym (prefix_passes (λ front. hides (node_at_path layer front)) (path ++ name ∷ []) path
-        (name ∷ []) refl nonempty c) ∙ e))
+hides_not_at layer path name nonempty e = grind (arith, common_steps, true≢false, prefix_passes)
 
 -- what is there and does not hide is a directory
 open_directory : (node : Option (Node ℕ)) → is_some node ≡ true → hides node ≡ false → is_directory_node node ≡ true
 open_directory None s h = absurd (true≢false (sym s))
-open_directory (Some node) s h = by node.content h
-  where
-    by : (content : Content ℕ) → (not (is_directory (kind_of content)) || opaque_of content) ≡ false
-        → is_directory (kind_of content) ≡ true
-    by (Directory parent entries opaque) h = refl
-    by (Regular bytes) h = absurd (true≢false h)
-    by (Symlink text) h = absurd (true≢false h)
-    by Whiteout h = absurd (true≢false h)
+open_directory (Some node) s h = grind (arith, common_steps, true≢false)
 
 -- what names lead to is there
 pub led_is_there : (layer : OpenLayer ℕ) → IsTree layer.tree → IsDirectory layer.tree layer.directory
@@ -80,16 +60,8 @@ led_is_there layer tree d [] object e =
     subst (λ o. is_some (layer.tree.node o) ≡ true) (same_Some layer.directory object e)
     (Rattle.vt_spec.proofs.Nodes.directory_used layer.tree layer.directory d)
 led_is_there layer tree d (name ∷ rest) object e =
-    let last = last_of (name ∷ rest)
-    (λ h. true≢false (ap (λ l. elim l as (λ _. Bool) [ [] ↦ false | a ∷ b ↦ true ]) h)) in
-    by last.1 (led layer.tree layer.directory last.0)
-    (sym (last_name layer.tree layer.directory last.0 last.1) ∙ ap (led layer.tree layer.directory) last.2 ∙ e)
-  where
-    by : (name : List ℕ) (o : Option ℕ)
-        → option_and_then (λ directory. entry_at layer.tree directory name) o ≡ Some object
-        → is_some (layer.tree.node object) ≡ true
-    by name None e = none_is_some object e
-    by name (Some directory) e = tree.alive directory name object e
+    let last = last_of (name ∷ rest) (λ h. true≢false (ap (λ l. elim l as (λ _. Bool) [ [] ↦ false | a ∷ b ↦ true ])
+    h)) in grind (arith, common_steps, last_name layer.tree layer.directory last.0 last.1, none_is_some)
 
 -- a directory that is shown, from a depth on
 pub record ShowsDirectory (depth : ℕ) (layers : List (OpenLayer ℕ)) (path : List (List ℕ)) : Type 0 where

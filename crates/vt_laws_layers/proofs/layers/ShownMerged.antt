@@ -1,4 +1,5 @@
 -- A merged tree that is made of its layers has at each path what they show.
+use Rattle.std.proofs.lemmas.Grind.{common_steps}
 use Rattle.std.proofs.Common.{◌≡◌, ◌≢◌, ◌≤◌, ◌⊎◌, inl, inr, refl, sym, ap, ◌∙◌, true≢false, arith, ℕ, ◌+◌, nat_eq, eq-eqb, eqb-true, Bool, true, false, cond, not, ◌&&◌, List, [], ◌∷◌, ◌++◌, length, Option, Some, None, is_some, slice_get, unwrap_or}
 use Rattle.std.specs.List.{cons_option, filter_map}
 use Rattle.std.specs.Cmp.{tied_itself}
@@ -47,17 +48,14 @@ module _ (layers : List (OpenLayer ℕ)) (are_open : AreOpen layers) (longest : 
 
   pub in_layer : (object : Merged ℕ) → shown layers object.path ≡ Some object.seen → InLayer object
   in_layer object s =
-      let shows = (computed layers object.path object.seen).0 s in
-      let has = shows.has_uncut.0 in
-      let open_layer = are_open object.seen.layer has.0 has.1 in
-      by has.0 has.1 has.2 (has.0.tree.node object.seen.object) refl
-      (led_is_there has.0 open_layer.0 open_layer.1 object.path object.seen.object has.2)
-    where
-      by : (layer : OpenLayer ℕ) → slice_get layers object.seen.layer ≡ Some layer
-          → at_path layer object.path ≡ Some object.seen.object → (o : Option (Node ℕ))
-          → layer.tree.node object.seen.object ≡ o → is_some o ≡ true → InLayer object
-      by layer there at None e h = absurd (true≢false (sym h))
-      by layer there at (Some node) e h = record { layer = layer; there = there; at = at; node = node; is = e }
+      let shows = (computed layers object.path object.seen).0 s in let has = shows.has_uncut.0 in let open_layer =
+      are_open object.seen.layer has.0 has.1 in grind (
+        arith,
+        common_steps,
+        led_is_there has.0 open_layer.0
+            open_layer.1 object.path object.seen.object has.2,
+        true≢false,
+      )
 
   pub layer_node_of : (object : Merged ℕ) (found : InLayer object) → layer_node layers object.seen ≡ Some found.node
   layer_node_of object found = ap (λ o. then_some o (λ layer. layer.tree.node object.seen.object)) found.there
@@ -170,15 +168,15 @@ module _ (layers : List (OpenLayer ℕ)) (are_open : AreOpen layers) (longest : 
 
     entry_here : (object : Merged ℕ) → object.path ≡ path ++ name ∷ [] → entry object ≡ Some (name, number object)
     entry_here object e =
-        ap (λ b. when b (last_or [] object.path, number object)) (tested e)
-        ∙ ap (λ n. Some (n, number object)) (ap (last_or []) e ∙ last_of_longer path name [])
-      where
-        tested : object.path ≡ path ++ name ∷ []
-            → (not (is_root_path object.path) && same_path path (without_last object.path)) ≡ true
-        tested e =
-            ap (λ p. not (is_root_path p) && same_path path (without_last p)) e
-            ∙ ap (λ b. not b && same_path path (without_last (path ++ name ∷ []))) (root_of_longer path name)
-            ∙ ap (same_path path) (without_last_of_longer path name) ∙ path_itself path
+        grind (
+          arith,
+          common_steps,
+          number object,
+          last_of_longer path name [],
+          root_of_longer,
+          without_last_of_longer,
+          path_itself,
+        )
 
     pub entry_is_here : (object : Merged ℕ) (found : List ℕ × ℕ) → entry object ≡ Some found
         → (object.path ≡ path ++ found.0 ∷ []) × (found.1 ≡ number object)

@@ -1,4 +1,5 @@
 -- A newly mounted overlay is what its layers show.
+use Rattle.std.proofs.lemmas.Grind.{common_steps}
 use Rattle.std.proofs.Common.{◌≡◌, ◌≢◌, ◌≤◌, refl, sym, ap, subst, ◌∙◌, true≢false, arith, ℕ, zero, suc, ◌+◌, nat_eq, Bool, true, false, cond, not, List, [], ◌∷◌, ◌++◌, map, length, Option, Some, None, is_some, option_and_then, slice_get, unwrap_or}
 use Rattle.std.specs.List.{find, list_all, sum}
 use Rattle.std.specs.Prelude.{option_map, option_to_list}
@@ -38,17 +39,8 @@ in_sum : (test : Filesystem ℕ → Bool) (list : List (Filesystem ℕ)) (filesy
     → find test list ≡ Some filesystem → length filesystem.files.numbers ≤ sum (map (λ f. length f.files.numbers) list)
 in_sum test [] filesystem e = none_is_some filesystem e
 in_sum test (first ∷ list) filesystem e =
-    let added = sum_by-cons (λ n. n) (length first.files.numbers) (map (λ f. length f.files.numbers) list) in
-    by added (test first) e (in_sum test list filesystem)
-  where
-    by : sum (map (λ f. length f.files.numbers) (first ∷ list))
-        ≡ length first.files.numbers + sum (map (λ f. length f.files.numbers) list) → (b : Bool)
-        → cond b (Some first) (find test list) ≡ Some filesystem
-        → (find test list ≡ Some filesystem
-        → length filesystem.files.numbers ≤ sum (map (λ f. length f.files.numbers) list))
-        → length filesystem.files.numbers ≤ sum (map (λ f. length f.files.numbers) (first ∷ list))
-    by added true e rest = let same = ap (λ f. length f.files.numbers) (same_Some first filesystem e) in omega arith
-    by added false e rest = let more = rest e in omega arith
+    let added = sum_by-cons (λ n. n) (length first.files.numbers) (map (λ f. length f.files.numbers) list) in grind
+    (arith, common_steps, in_sum test list filesystem)
 
 -- each of a list that all pass passes
 all_pass_at : {A : Type 0} (test : A → Bool) (list : List A) → list_all test list ≡ true → (k : ℕ) (a : A)
@@ -179,29 +171,12 @@ module _ (world : World ℕ) (conditions : IsWorld nat_eq world) (overlay : Over
   in_lower : (layer : ℕ) (path : List (List ℕ))
       → then_some (slice_get (map (open_layer nat_eq world) overlay.lowers) layer) (λ lower. node_at_path lower path)
       ≡ then_some (slice_get overlay.lowers layer) (λ lower. node_at_path (open_layer nat_eq world lower) path)
-  in_lower layer path =
-      ap (λ o. then_some o (λ lower. node_at_path lower path))
-      (slice_get-map (open_layer nat_eq world) overlay.lowers layer)
-      ∙ by (slice_get overlay.lowers layer)
-    where
-      by : (o : Option (Layer ℕ)) → then_some (option_map (open_layer nat_eq world) o)
-          (λ lower. node_at_path lower path)
-          ≡ then_some o (λ lower. node_at_path (open_layer nat_eq world lower) path)
-      by None = refl
-      by (Some lower) = refl
+  in_lower layer path = grind (arith, common_steps, slice_get-map (open_layer nat_eq world) overlay.lowers layer)
 
   behind_is_real : (real : Option (Real ℕ))
       → then_some real (behind layers (is_some overlay.upper)) ≡ then_some real (real_node nat_eq world overlay)
   behind_is_real None = refl
-  behind_is_real (Some real) = by real overlay.upper
-    where
-      by : (real : Real ℕ) (upper : Option (Layer ℕ))
-          → behind (map (open_layer nat_eq world) (option_to_list upper ++ overlay.lowers)) (is_some upper) real
-          ≡ real_node nat_eq world (record overlay { upper = upper }) real
-      by (Upper object) None = refl
-      by (Upper object) (Some layer) = refl
-      by (Lower layer path) None = in_lower layer path
-      by (Lower layer path) (Some top) = in_lower layer path
+  behind_is_real (Some real) = grind (arith, common_steps, in_lower)
 
   module _ (fresh : Fresh ℕ) (distinct : (j k : ℕ) → fresh j ≡ fresh k → j ≡ k) where
     abbrev pub made : Overlay ℕ

@@ -1,4 +1,5 @@
 -- The names of a directory are those for which something is shown.
+use Rattle.std.proofs.lemmas.Grind.{common_steps}
 use Rattle.std.proofs.Common.{◌≡◌, ◌<◌, ◌↔◌, Contains, refl, sym, ap, ◌∙◌, true≢false, arith, ℕ, zero, suc, Bool, true, false, cond, ◌||◌, ◌&&◌, List, [], ◌∷◌, ◌++◌, map, filter, length, get_or, Option, Some, None, is_some, option_and_then, slice_get}
 use Rattle.std.proofs.Math.Bool.{or-true}
 use Rattle.std.specs.List.{list_any}
@@ -118,12 +119,7 @@ name_in_layer : (layer : OpenLayer ℕ) (path : List (List ℕ)) (name : List �
     → at_path layer (path ++ name ∷ []) ≡ Some object
     → is_some (entry_named name (entries_in (node_at_path layer path))) ≡ true
 name_in_layer layer path name object e =
-    by (at_path layer path) (sym (last_name layer.tree layer.directory path name) ∙ e)
-  where
-    by : (o : Option ℕ) → option_and_then (λ directory. entry_at layer.tree directory name) o ≡ Some object
-        → is_some (entry_named name (entries_in (then_some o layer.tree.node))) ≡ true
-    by None e = none_is_some object e
-    by (Some directory) e = ap is_some e
+    grind (arith, common_steps, last_name layer.tree layer.directory path name, none_is_some)
 
 -- what is shown has a name that some layer has
 shown_is_named : (layers : List (OpenLayer ℕ)) (path : List (List ℕ)) (name : List ℕ) (seen : Shown ℕ)

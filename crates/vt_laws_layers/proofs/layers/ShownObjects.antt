@@ -1,4 +1,5 @@
 -- The objects of a merged tree are all that is shown.
+use Rattle.std.proofs.lemmas.Grind.{common_steps}
 use Rattle.std.proofs.Common.{◌≡◌, ◌<◌, ◌≤◌, ◌⊎◌, inl, inr, refl, sym, ap, subst, ◌∙◌, true≢false, arith, ℕ, zero, suc, ◌+◌, nat_eq, eq-eqb, eqb-true, Bool, true, false, cond, ◌&&◌, List, [], ◌∷◌, ◌++◌, length, get_or, Option, Some, None, is_some, slice_get, ⊎_elim}
 use Rattle.std.specs.List.{cons_option, filter_map, find, flat_map}
 use Rattle.std.specs.Prelude.{option_map}
@@ -161,27 +162,20 @@ module _ (layers : List (OpenLayer ℕ)) (are_open : AreOpen layers) where
       → is_some (shown layers path) ≡ true
   shown_before path [] seen e = ap is_some (ap (shown layers) (sym (append-nil path)) ∙ e)
   shown_before path (name ∷ rest) seen e =
-      by (shown layers (path ++ name ∷ [])) refl
-      (shown_before (path ++ name ∷ []) rest seen (ap (shown layers) (append_assoc path (name ∷ []) rest) ∙ e))
-    where
-      by : (o : Option (Shown ℕ)) → shown layers (path ++ name ∷ []) ≡ o → is_some o ≡ true
-          → is_some (shown layers path) ≡ true
-      by None s h = absurd (true≢false (sym h))
-      by (Some next) s h = ap is_some (shown_in_directory layers are_open 0 path name next s).is
+      grind (
+        arith,
+        common_steps,
+        shown_before (path ++ name ∷ []) rest seen (ap (shown layers) (append_assoc path
+            (name ∷ []) rest) ∙ e),
+        true≢false,
+        shown_in_directory,
+      )
 
   -- each such path is gone through
   pub paths_complete : (depth : ℕ) (base rest : List (List ℕ)) (seen : Shown ℕ) → length rest ≤ depth
       → shown layers (base ++ rest) ≡ Some seen → Among (paths_from depth layers base) (base ++ rest)
-  paths_complete zero base [] seen h e = inl (append_nil base)
-    where
-      append_nil : (p : List (List ℕ)) → p ≡ p ++ []
-      append_nil [] = refl
-      append_nil (name ∷ p) = ap (λ q. name ∷ q) (append_nil p)
-  paths_complete (suc depth) base [] seen h e = inl (append_nil base)
-    where
-      append_nil : (p : List (List ℕ)) → p ≡ p ++ []
-      append_nil [] = refl
-      append_nil (name ∷ p) = ap (λ q. name ∷ q) (append_nil p)
+  paths_complete zero base [] seen h e = grind (arith, common_steps)
+  paths_complete (suc depth) base [] seen h e = grind (arith, common_steps)
   paths_complete zero base (name ∷ rest) seen h e = let no : ⊥ = omega arith in absurd no
   paths_complete (suc depth) base (name ∷ rest) seen h e =
       inr (among_flat_map (λ n. paths_from depth layers (base ++ n ∷ [])) (names_shown layers base) name
@@ -212,15 +206,11 @@ module _ (layers : List (OpenLayer ℕ)) (are_open : AreOpen layers) where
     pub object_is : (object : Merged ℕ) → Among (merged_objects layers longest) object
         → shown layers object.path ≡ Some object.seen
     object_is object among =
-        let found = from_filter_map (merged_at layers) (paths_from longest layers []) object among in
-        by found.0 (shown layers found.0) refl found.2
-      where
-        by : (path : List (List ℕ)) (o : Option (Shown ℕ)) → shown layers path ≡ o
-            → option_map (λ seen. record { path = path; seen = seen }) o ≡ Some object
-            → shown layers object.path ≡ Some object.seen
-        by path None s e = none_is_some object e
-        by path (Some seen) s e = subst (λ m. shown layers m.path ≡ Some m.seen)
-            (same_Some (record { path = path; seen = seen }) object e) s
+        let found = from_filter_map (merged_at layers) (paths_from longest layers []) object among in grind (
+          arith,
+          common_steps,
+          none_is_some,
+        )
 
 -- two objects that are one inode are the same in their layer, and have one real object
 pub record IsOne (has_upper : Bool) (a b : Merged ℕ) : Type 0 where

@@ -1,4 +1,5 @@
 -- A merged tree that is made of its layers has at each path what they show, with its real object.
+use Rattle.std.proofs.lemmas.Grind.{common_steps}
 use Rattle.std.proofs.Common.{◌≡◌, ◌≢◌, ◌≤◌, refl, sym, ap, subst, ◌∙◌, true≢false, arith, ℕ, zero, suc, ◌+◌, nat_eq, Bool, true, cond, List, [], ◌∷◌, ◌++◌, length, Option, Some, None, option_and_then, slice_get, unwrap_or}
 use Rattle.std.specs.List.{cons_option, filter_map}
 use Rattle.std.specs.Prelude.{option_map}
@@ -71,11 +72,7 @@ module _ (layers : List (OpenLayer ℕ)) (are_open : AreOpen layers) (longest : 
   no_entry : (path : List (List ℕ)) (name : List ℕ) (found : Option ℕ) → found ≡ None
       → ((seen : Shown ℕ) → shown layers (path ++ name ∷ []) ≢ Some seen)
       → Arrives (shown layers (path ++ name ∷ [])) (path ++ name ∷ []) found
-  no_entry path name found none not_shown = by (shown layers (path ++ name ∷ [])) refl
-    where
-      by : (o : Option (Shown ℕ)) → shown layers (path ++ name ∷ []) ≡ o → Arrives o (path ++ name ∷ []) found
-      by None s = none
-      by (Some seen) s = absurd (not_shown seen s)
+  no_entry path name found none not_shown = grind (arith, common_steps)
 
   -- what is shown under a name is shown in a directory
   pub directory_above : (path : List (List ℕ)) (name : List ℕ) (seen : Shown ℕ) → shown layers path ≡ Some seen
@@ -83,17 +80,12 @@ module _ (layers : List (OpenLayer ℕ)) (are_open : AreOpen layers) (longest : 
       → (below : Shown ℕ) → shown layers (path ++ name ∷ []) ≡ Some below
       → is_directory (kind_of inode.node.content) ≡ true
   directory_above path name seen s inode below t =
-      let shows = shown_in_directory layers are_open 0 path name below t in
-      let same = same_Some seen (record { layer = 0 + shows.place; object = shows.object }) (sym s ∙ shows.is) in
-      let place : 0 + shows.place ≡ shows.place = omega arith in
-      by shows.layer (shows.layer.tree.node shows.object) shows.directory
-      (sym inode.seen ∙ ap (layer_node layers) same
-      ∙ ap (λ k. then_some (slice_get layers k) (λ layer. layer.tree.node shows.object)) place
-      ∙ ap (λ o. then_some o (λ layer. layer.tree.node shows.object)) shows.there)
-    where
-      by : (layer : OpenLayer ℕ) (o : Option (Node ℕ)) → Rattle.vt_spec.specs.Tree.is_directory_node o ≡ true
-          → Some inode.node ≡ o → is_directory (kind_of inode.node.content) ≡ true
-      by layer o d e = ap (λ p. Rattle.vt_spec.specs.Tree.is_directory_node p) e ∙ d
+      let shows = shown_in_directory layers are_open 0 path name below t in let same = same_Some seen (record {
+        layer
+            = 0 + shows.place;
+        object = shows.object;
+      }) (sym s ∙ shows.is) in let place : 0 + shows.place ≡ shows.place =
+      omega arith in grind (arith, common_steps)
 
   step : (path : List (List ℕ)) (name : List ℕ) → Arrives (shown layers path) path (led merged_tree (fresh 0) path)
       → Arrives (shown layers (path ++ name ∷ [])) (path ++ name ∷ []) (led merged_tree (fresh 0) (path ++ name ∷ []))

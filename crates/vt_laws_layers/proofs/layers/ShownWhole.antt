@@ -1,4 +1,6 @@
 -- A merged tree has no whiteout and no mark, and two inodes of it have two real objects, which are there.
+use Rattle.std.proofs.Common.{arith}
+use Rattle.std.proofs.lemmas.Grind.{common_steps}
 use Rattle.std.proofs.Common.{◌≡◌, ◌≢◌, ◌≤◌, inl, inr, refl, sym, ap, subst, ◌∙◌, true≢false, ℕ, zero, suc, nat_eq, eqb-true, Bool, true, false, cond, List, [], ◌∷◌, length, Option, Some, None, is_some, slice_get, unwrap_or}
 use Rattle.std.specs.List.{find}
 use Rattle.std.specs.Prelude.{option_map}
@@ -24,12 +26,7 @@ use Rattle.vt_spec.proofs.Truths.{bytes_eq_itself}
 pub found_in_list : {A : Type 0} (test : A → Bool) (list : List A) (a : A) → find test list ≡ Some a
     → Among list a × (test a ≡ true)
 found_in_list test [] a e = none_is_some a e
-found_in_list test (first ∷ list) a e = by (test first) refl e (found_in_list test list a)
-  where
-    by : (b : Bool) → test first ≡ b → cond b (Some first) (find test list) ≡ Some a
-        → (find test list ≡ Some a → Among list a × (test a ≡ true)) → Among (first ∷ list) a × (test a ≡ true)
-    by true t e rest = let same = same_Some first a e in (inl same, ap test (sym same) ∙ t)
-    by false t e rest = let later = rest e in (inr later.0, later.1)
+found_in_list test (first ∷ list) a e = grind (arith, common_steps, found_in_list test list a)
 
 -- the inode behind a real object, in these layers
 abbrev pub behind : List (OpenLayer ℕ) → Bool → Real ℕ → Option (Node ℕ)
@@ -209,12 +206,7 @@ module _ (layers : List (OpenLayer ℕ)) (are_open : AreOpen layers) (longest : 
           )
 
   pub merged_real_there : (n : ℕ) → nodes n ≡ None → real_of nat_eq made n ≡ None
-  merged_real_there n = by (inode_of made n nat_eq)
-    where
-      by : (o : Option (MergedInode ℕ)) → option_map (λ inode. inode.node) o ≡ None
-          → option_map (λ inode. inode.real) o ≡ None
-      by None e = refl
-      by (Some inode) e = absurd (true≢false (ap is_some e))
+  merged_real_there n = grind (arith, common_steps, true≢false)
 
   -- two inodes have two real objects
   pub merged_one_to_one : (a b : ℕ) → is_some (real_of nat_eq made a) ≡ true
@@ -237,24 +229,4 @@ module _ (layers : List (OpenLayer ℕ)) (are_open : AreOpen layers) (longest : 
       → (has_upper ≡ true) × ((layer : OpenLayer ℕ) → slice_get layers 0 ≡ Some layer
       → is_some (layer.tree.node object) ≡ true)
   merged_upper n object e =
-      let real = has_real n (Upper object) e in
-      by real.object real.layer has_upper refl real.object.seen.layer refl real.is
-    where
-      upper_in : Real ℕ → Option ℕ
-      upper_in (Upper o) = Some o
-      upper_in (Lower layer path) = None
-
-      by : (m : Merged ℕ) → InLayer layers are_open longest bounded fresh distinct has_upper m → (u : Bool)
-          → has_upper ≡ u → (l : ℕ) → m.seen.layer ≡ l → Upper object ≡ real_object u l m
-          → (has_upper ≡ true) × ((layer : OpenLayer ℕ) → slice_get layers 0 ≡ Some layer
-          → is_some (layer.tree.node object) ≡ true)
-      by m here true hu zero lm r = (
-        hu,
-        λ layer there.
-            ap (λ l. is_some (l.tree.node object))
-            (same_Some layer here.layer (sym there ∙ ap (slice_get layers) (sym lm) ∙ here.there))
-            ∙ ap (λ o. is_some (here.layer.tree.node o)) (same_Some object m.seen.object (ap upper_in r))
-            ∙ ap is_some here.is,
-      )
-      by m here true hu (suc l) lm r = none_is_some object (sym (ap upper_in r))
-      by m here false hu l lm r = none_is_some object (sym (ap upper_in r))
+      let real = has_real n (Upper object) e in grind (arith, common_steps, none_is_some)

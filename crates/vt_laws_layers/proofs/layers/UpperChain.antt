@@ -1,4 +1,5 @@
 -- The directories above one end at the root, within as many steps as there are inodes.
+use Rattle.std.proofs.lemmas.Grind.{common_steps}
 use Rattle.std.proofs.Common.{◌≡◌, ◌≤◌, refl, sym, ap, subst, ◌∙◌, true≢false, arith, ℕ, zero, suc, nat_eq, eq-eqb, eqb-true, ne_eqb, Bool, true, false, cond, ◌||◌, List, [], ◌∷◌, length, Some, None}
 use Rattle.std.specs.List.{list_any}
 use Rattle.vt_spec.specs.FileTree.{FileTree, has_entry_to, named_parent}
@@ -127,11 +128,7 @@ module _ (files : FileTree ℕ) (tree : IsTree files.tree) where
 
   pub all_above : (steps directory : ℕ) → ReachedIn files.tree steps directory → (q : ℕ)
       → list_any (nat_eq q) (chain steps (named_parent nat_eq files.tree) directory) ≡ true → IsAbove steps q
-  all_above zero directory r q e = by (nat_eq q directory) refl e
-    where
-      by : (b : Bool) → nat_eq q directory ≡ b → (b || false) ≡ true → IsAbove zero q
-      by true t e = (0, omega arith, eqb-true q directory t ∙ r)
-      by false t e = absurd (true≢false (sym e))
+  all_above zero directory r q e = grind (arith, common_steps, eqb-true, true≢false)
   all_above (suc steps) directory r q e =
       by (nat_eq q directory) refl (sym (ap (list_any (nat_eq q)) (up_from steps steps directory r)) ∙ e)
       (all_above steps r.0 r.2 q)

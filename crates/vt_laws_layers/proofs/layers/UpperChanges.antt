@@ -1,4 +1,6 @@
 -- A change of an overlay writes to new inodes and to objects of the upper layer alone.
+use Rattle.std.proofs.Common.{arith}
+use Rattle.std.proofs.lemmas.Grind.{common_steps}
 use Rattle.std.proofs.Common.{◌≡◌, ◌≢◌, refl, sym, ap, subst, ◌∙◌, true≢false, ℕ, ◌+◌, ◌*◌, nat_eq, ne_eqb, Bool, true, false, cond, List, Option, Some, None, is_some}
 use Rattle.vt_spec.specs.Language.Changes.{Change, changed_node, node_with_attr, node_with_mark, node_with_parent, node_without_entries, node_without_entry, with_inode, with_moved, with_name, without_name, without_parent}
 use Rattle.vt_spec.specs.Language.Changes.Change.{AddName, CopyUp, Make, Move, Remove, SetAttr, SetBytes, SetMark}
@@ -51,19 +53,16 @@ module _ (inode : ℕ) where
       → entry_named name (entries_in (files.tree.node to)) ≢ Some inode
       → (with_moved nat_eq files from old to name object).tree.node inode ≡ files.tree.node inode
   moved_elsewhere files from old to name object f t o spared =
-      let freed = without_parent nat_eq files (entry_named name (entries_in (files.tree.node to))) in
-      let left = without_name nat_eq freed from old in
-      kept_elsewhere (with_name nat_eq left to name object) object (node_with_parent to) inode o
-      ∙ kept_elsewhere left to (node_with_entry name object) inode t
-      ∙ kept_elsewhere freed from (node_without_entry old) inode f
-      ∙ by (entry_named name (entries_in (files.tree.node to))) spared
-    where
-      by : (replaced : Option ℕ) → replaced ≢ Some inode
-          → (without_parent nat_eq files replaced).tree.node inode ≡ files.tree.node inode
-      by None differs = refl
-      by (Some replaced) differs =
-          kept_elsewhere files replaced (node_with_parent replaced) inode
-          (ne_eqb inode replaced (λ same. differs (ap Some (sym same))))
+      let freed = without_parent nat_eq files (entry_named name (entries_in (files.tree.node to))) in let left =
+      without_name nat_eq freed from old in grind (
+        arith,
+        common_steps,
+        kept_elsewhere (with_name nat_eq left to name
+            object) object (node_with_parent to) inode o,
+        kept_elsewhere left to (node_with_entry name object) inode t,
+        kept_elsewhere freed from (node_without_entry old) inode f,
+        kept_elsewhere,
+      )
 
 module _ (files : FileTree ℕ) (tree : IsTree files.tree) (numbers : ListsNumbers nat_eq files) (inode : ℕ)
     (node : Option (Node ℕ)) where
@@ -77,19 +76,7 @@ module _ (files : FileTree ℕ) (tree : IsTree files.tree) (numbers : ListsNumbe
   replaced_differs : (real : ℕ → Option (Real ℕ)) (upper : FileTree ℕ) → Apart real upper
       → (directory : ℕ) (name : List ℕ) (number : ℕ)
       → upper_directory_named (With real upper) directory name ≡ Some number → nat_eq inode number ≡ false
-  replaced_differs real upper fine directory name number e =
-      by (entry_named name (entries_in (files.tree.node directory))) e
-    where
-      chosen : (object : ℕ) (b : Bool) → cond b (upper_object (real object)) None ≡ Some number
-          → nat_eq inode number ≡ false
-      chosen object true e = ne_eqb inode number (λ same. fine.apart object (e ∙ ap Some (sym same)))
-      chosen object false e = absurd (true≢false (sym (ap is_some e)))
-
-      by : (o : Option ℕ) → then_some o
-          (λ object. cond (is_directory_node (files.tree.node object)) (upper_object (real object)) None) ≡ Some number
-          → nat_eq inode number ≡ false
-      by None e = absurd (true≢false (sym (ap is_some e)))
-      by (Some object) e = chosen object (is_directory_node (files.tree.node object)) e
+  replaced_differs real upper fine directory name number e = grind (arith, common_steps, true≢false)
 
   module _ (fresh : Fresh ℕ) (new : (k : ℕ) → inode ≢ fresh k) (stack : Stack ℕ) (real : ℕ → Option (Real ℕ))
       (upper : FileTree ℕ) (fine : Apart real upper) where

@@ -1,5 +1,6 @@
 -- A copy-up writes to new inodes and to objects of the upper layer alone: the parents of what is copied are there
 -- first.
+use Rattle.std.proofs.lemmas.Grind.{common_steps}
 use Rattle.std.proofs.Common.{◌≡◌, ◌≢◌, ◌≤◌, refl, sym, ap, subst, ◌∙◌, true≢false, arith, ℕ, zero, suc, ◌+◌, nat_eq, eq-eqb, ne_eqb, Bool, true, false, cond, List, [], ◌∷◌, ◌++◌, reverse, length, Option, Some, None, is_some, unwrap_or}
 use mathlib.Core.List.{reverse-cons}
 use Rattle.vt_spec.specs.Language.Changes.{with_inode}
@@ -57,12 +58,7 @@ module _ (files : FileTree ℕ) (tree : IsTree files.tree) (numbers : ListsNumbe
 
   pub upper_differs : (real : ℕ → Option (Real ℕ)) (upper : FileTree ℕ) → IsApart real upper → (number : ℕ)
       → HasUpper real number → nat_eq inode (upper_of (MergeOf real upper) number) ≡ false
-  upper_differs real upper fine number has = by (upper_object (real number)) refl has
-    where
-      by : (o : Option ℕ) → upper_object (real number) ≡ o → is_some o ≡ true
-          → nat_eq inode (unwrap_or o number) ≡ false
-      by None e h = absurd (true≢false (sym h))
-      by (Some object) e h = ne_eqb inode object (λ same. fine.apart number (e ∙ ap Some (sym same)))
+  upper_differs real upper fine number has = grind (arith, common_steps, true≢false)
 
   -- one copy
   pub copy_arrives : (real : ℕ → Option (Real ℕ)) (upper : FileTree ℕ) → IsApart real upper → (object copy : ℕ)
@@ -71,59 +67,7 @@ module _ (files : FileTree ℕ) (tree : IsTree files.tree) (numbers : ListsNumbe
       → Arrives real (copy_of nat_eq (MergeOf real upper) object copy (files.tree.node object)
       (is_in_upper (MergeOf real upper) object)) object
   copy_arrives real upper fine object copy new there parents =
-      by (files.tree.node object) there (is_in_upper (MergeOf real upper) object) refl
-    where
-      with_copy : FileTree ℕ → ℕ → Node ℕ → FileTree ℕ
-      with_copy u number n = with_inode nat_eq u number n
-
-      real_new : (number : ℕ) (b : Bool) → upper_object (cond b (Some (Upper copy)) (real number)) ≢ Some inode
-      real_new number true e = new (sym (same_Some copy inode e))
-      real_new number false e = fine.apart number e
-
-      grown : (number : ℕ) (b : Bool) → HasUpper real number
-          → is_some (upper_object (cond b (Some (Upper copy)) (real number))) ≡ true
-      grown number true h = refl
-      grown number false h = h
-
-      stays : (n : Node ℕ) (named : Option (ℕ × List ℕ)) → a_name nat_eq files object ≡ named
-          → (copy_named nat_eq (MergeOf real upper) copy named (with_inode nat_eq upper copy n)).tree.node inode ≡ node
-      stays n None e = ap (λ b. cond b (Some n) (upper.tree.node inode)) (ne_eqb inode copy new) ∙ fine.here
-      stays n (Some name) e =
-          kept_elsewhere (with_inode nat_eq upper copy n) (upper_of (MergeOf real upper) name.0)
-          (node_with_entry name.1 copy) inode
-          (upper_differs real upper fine name.0 (parents name e))
-          ∙ ap (λ b. cond b (Some n) (upper.tree.node inode)) (ne_eqb inode copy new) ∙ fine.here
-
-      by : (o : Option (Node ℕ)) → is_some o ≡ true → (b : Bool) → is_in_upper (MergeOf real upper) object ≡ b
-          → Arrives real (copy_of nat_eq (MergeOf real upper) object copy o b) object
-      by None h b e = absurd (true≢false (sym h))
-      by (Some n) h true e = record {
-        real = real;
-        upper = upper;
-        is = refl;
-        fine = fine;
-        grows = λ number h.
-            h;
-        copied = e;
-      }
-      by (Some n) h false e = record {
-        real = with_real nat_eq real object (Upper copy);
-        upper = copy_named nat_eq (MergeOf real upper) copy (a_name nat_eq files object)
-            (with_inode nat_eq upper copy (record {
-              attr = n.attr;
-              content = copied_content
-                  (copy_parent (MergeOf real upper) copy (a_name nat_eq files object)) n.content;
-            }));
-        is = refl;
-        fine = record {
-          here = stays _ (a_name nat_eq files object) refl;
-          apart = λ number. real_new number (nat_eq number object);
-          root = grown files.tree.root (nat_eq files.tree.root object) fine.root;
-        };
-        grows = λ number. grown number (nat_eq number object);
-        copied = ap (λ b. is_some (upper_object (cond b (Some (Upper copy)) (real object))))
-            (eq-eqb object object refl);
-      }
+      grind (arith, common_steps, MergeOf real upper, MergeOf, kept_elsewhere, upper_differs, true≢false, eq-eqb)
 
   -- and then another, whose parent the first is
   record ArrivesTwice (before : ℕ → Option (Real ℕ)) (merge : Merge ℕ) (object last : ℕ) : Type 0 where

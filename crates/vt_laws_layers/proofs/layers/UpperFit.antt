@@ -1,4 +1,6 @@
 -- Each overlay of a world is fit to change.
+use Rattle.std.proofs.Common.{arith}
+use Rattle.std.proofs.lemmas.Grind.{common_steps}
 use Rattle.std.proofs.Common.{◌≡◌, refl, sym, ap, subst, ◌∙◌, true≢false, ℕ, zero, suc, nat_eq, true, List, ◌∷◌, ◌++◌, map, Option, Some, None, is_some}
 use Rattle.std.specs.Prelude.{option_map, option_to_list}
 use Rattle.vt_spec.specs.Machine.Filesystems.{merge_of}
@@ -46,31 +48,15 @@ module _ (world : World ℕ) (conditions : IsWorld nat_eq world) (number : ℕ) 
       → is_directory_node ((filesystem_numbered nat_eq world upper.filesystem).files.tree.node object)
       ≡ is_directory_node (merged.files.tree.node inode)
   kinds path inode object e h =
-      by (shown (top ∷ lower) path) refl
-      (ap upper_object (sym (real_named world conditions number overlay is upper has path inode e)) ∙ h)
-      (subst (λ o. SameObject (then_some o merged.files.tree.node)
-      (then_some (shown (top ∷ lower) path) (layer_node (top ∷ lower)))) e
-      (subst (λ o. SameObject (then_some (number_at_path merged.files path) merged.files.tree.node)
-      (then_some (shown (map (open_layer nat_eq world) (option_to_list o ++ overlay.lowers)) path)
-      (layer_node (map (open_layer nat_eq world) (option_to_list o ++ overlay.lowers))))) has
-      ((overlay_merges world conditions number overlay is).shows path)))
-    where
-      seen_so : (layer found : ℕ) → upper_object
-          (Some (real_object true layer (record { path = path; seen = record { layer = layer; object = found } })))
-          ≡ Some object → SameObject (merged.files.tree.node inode)
-          (layer_node (top ∷ lower) (record { layer = layer; object = found }))
-          → is_directory_node (top.tree.node object) ≡ is_directory_node (merged.files.tree.node inode)
-      seen_so zero found u same = ap (λ o. is_directory_node (top.tree.node o)) (sym (same_Some found object u))
-          ∙ same_directory (merged.files.tree.node inode) (top.tree.node found) same
-      seen_so (suc layer) found u same = none_is_some object u
-
-      by : (o : Option (Shown ℕ)) → shown (top ∷ lower) path ≡ o
-          → upper_object (option_map (λ m. real_object true m.seen.layer m)
-          (option_map (λ seen. record { path = path; seen = seen }) o)) ≡ Some object
-          → SameObject (merged.files.tree.node inode) (then_some o (layer_node (top ∷ lower)))
-          → is_directory_node (top.tree.node object) ≡ is_directory_node (merged.files.tree.node inode)
-      by None s u same = none_is_some object u
-      by (Some seen) s u same = seen_so seen.layer seen.object u same
+      grind (
+        arith,
+        common_steps,
+        real_named world conditions number overlay is upper has path inode e,
+        top,
+        overlay_merges world conditions number overlay is,
+        same_directory,
+        none_is_some,
+      )
 
   pub overlay_is_fit : (fresh : Fresh ℕ) → ((j k : ℕ) → fresh j ≡ fresh k → j ≡ k)
       → ((k : ℕ) → inode_in world upper.filesystem (fresh k) ≡ None)

@@ -1,4 +1,6 @@
 -- The directories from the root down to one.
+use Rattle.std.proofs.Common.{arith}
+use Rattle.std.proofs.lemmas.Grind.{common_steps}
 use Rattle.std.proofs.Common.{◌≡◌, ◌≢◌, refl, sym, ap, subst, ◌∙◌, true≢false, ℕ, zero, suc, nat_eq, Bool, true, false, List, [], ◌∷◌, Option, Some, None, option_and_then, ⊎_elim}
 use Rattle.std.proofs.lemmas.Bool.Decides.{eqb_tells}
 use Rattle.std.specs.List.{find, filter_map}
@@ -43,18 +45,7 @@ named_so files tree object name e = searched files.numbers e
 -- what has an entry is a directory
 pub has_entries : (tree : Tree ℕ) (directory : ℕ) (name : List ℕ) (object : ℕ)
     → entry_at tree directory name ≡ Some object → IsDirectory tree directory
-has_entries tree directory name object e = by (tree.node directory) e
-  where
-    holds : (content : Content ℕ) → entry_named name (entries_of content) ≡ Some object
-        → Rattle.vt_spec.specs.Rights.is_directory (Rattle.vt_spec.specs.Tree.kind_of content) ≡ true
-    holds (Directory parent entries opaque) e = refl
-    holds (Regular bytes) e = none_is_some object e
-    holds (Symlink text) e = none_is_some object e
-    holds Whiteout e = none_is_some object e
-
-    by : (node : Option (Node ℕ)) → entry_named name (entries_in node) ≡ Some object → is_directory_node node ≡ true
-    by None e = none_is_some object e
-    by (Some node) e = holds node.content e
+has_entries tree directory name object e = grind (arith, common_steps, none_is_some)
 
 -- so many steps from the root
 abbrev pub ReachedIn : Tree ℕ → ℕ → ℕ → Type 0

@@ -1,5 +1,7 @@
 -- In an overlay whose tree is what its layers show: the root has an object in the upper layer, and so has each
 -- directory that has an entry for an upper object; what lies below has one name.
+use Rattle.std.proofs.Common.{arith}
+use Rattle.std.proofs.lemmas.Grind.{common_steps}
 use Rattle.std.proofs.Common.{◌≡◌, refl, sym, ap, ◌∙◌, true≢false, ℕ, zero, suc, nat_eq, eqb-true, Bool, true, false, cond, not, ◌||◌, List, [], ◌∷◌, ◌++◌, map, Option, Some, None, is_some, option_and_then}
 use Rattle.std.specs.List.{cons_option, filter_map, find, list_any}
 use Rattle.std.specs.Prelude.{option_map}
@@ -141,31 +143,4 @@ module _ (top : OpenLayer ℕ) (lower : List (OpenLayer ℕ)) where
   -- what lies below is named by the path where it is shown
   pub below_is_at : (path other : List (List ℕ)) → is_some (shown (top ∷ lower) path) ≡ true
       → is_some (upper_object (real_at path)) ≡ false → real_at path ≡ real_at other → path ≡ other
-  below_is_at path other there h same = by (shown (top ∷ lower) path) there h (shown (top ∷ lower) other) same
-    where
-      real_by : List (List ℕ) → Option (Shown ℕ) → Option (Real ℕ)
-      real_by p o = option_map (λ object. real_object true object.seen.layer object)
-          (option_map (λ seen. record { path = p; seen = seen }) o)
-
-      path_in : List (List ℕ) → Option (Real ℕ) → List (List ℕ)
-      path_in default None = default
-      path_in default (Some (Upper object)) = default
-      path_in default (Some (Lower layer path)) = path
-
-      told : (layer object : ℕ) → is_some
-          (upper_object (real_by path (Some (record { layer = layer; object = object })))) ≡ false
-          → path_in other (real_by path (Some (record { layer = layer; object = object }))) ≡ path
-      told zero object h = absurd (true≢false h)
-      told (suc layer) object h = refl
-
-      told_other : (layer object : ℕ)
-          → path_in other (real_by other (Some (record { layer = layer; object = object }))) ≡ other
-      told_other zero object = refl
-      told_other (suc layer) object = refl
-
-      by : (o : Option (Shown ℕ)) → is_some o ≡ true → is_some (upper_object (real_by path o)) ≡ false
-          → (p : Option (Shown ℕ)) → real_by path o ≡ real_by other p → path ≡ other
-      by None there h p same = absurd (true≢false (sym there))
-      by (Some seen) there h None same = none_is_some _ (sym same)
-      by (Some seen) there h (Some seen_there) same =
-          sym (told seen.layer seen.object h) ∙ ap (path_in other) same ∙ told_other seen_there.layer seen_there.object
+  below_is_at path other there h same = grind (arith, common_steps, true≢false, none_is_some)

@@ -1,5 +1,6 @@
 -- In a world, a change through an overlay writes to new inodes and to the overlay's own objects in the upper layer
 -- alone.
+use Rattle.std.proofs.lemmas.Grind.{common_steps}
 use Rattle.std.proofs.Common.{◌≡◌, ◌≢◌, ◌<◌, All, refl, sym, ap, subst, ◌∙◌, true≢false, arith, ℕ, suc, nat_eq, Bool, true, false, cond, not, ◌&&◌, List, [], ◌∷◌, ◌++◌, map, length, Option, Some, None, is_some, unwrap_or}
 use Rattle.std.specs.List.{find, list_all}
 use Rattle.std.specs.Prelude.{nat_le, option_to_list}
@@ -52,26 +53,19 @@ all_pass_found : (passes test : Filesystem ℕ → Bool) (list : List (Filesyste
     → (filesystem : Filesystem ℕ) → find test list ≡ Some filesystem → passes filesystem ≡ true
 all_pass_found passes test [] all filesystem e = none_is_some filesystem e
 all_pass_found passes test (first ∷ list) all filesystem e =
-    by (test first) e (all_pass_found passes test list (and_true_right (passes first) _ all) filesystem)
-  where
-    by : (b : Bool) → cond b (Some first) (find test list) ≡ Some filesystem
-        → (find test list ≡ Some filesystem → passes filesystem ≡ true) → passes filesystem ≡ true
-    by true e rest = ap passes (sym (same_Some first filesystem e))
-        ∙ and_true_left (passes first) (list_all passes list) all
-    by false e rest = rest e
+    grind (
+      arith,
+      common_steps,
+      all_pass_found passes test list (and_true_right (passes first) _ all) filesystem,
+      and_true_left,
+    )
 
 -- an overlay is there
 pub overlay_found : (world : World ℕ) (number : ℕ) (overlay : Overlay ℕ)
     → (filesystem_numbered nat_eq world number).overlay ≡ Some overlay
     → find (λ filesystem. nat_eq number filesystem.number) world.filesystems
     ≡ Some (filesystem_numbered nat_eq world number)
-overlay_found world number overlay e =
-    by (find (λ filesystem. nat_eq number filesystem.number) world.filesystems) refl e
-  where
-    by : (o : Option (Filesystem ℕ)) → find (λ filesystem. nat_eq number filesystem.number) world.filesystems ≡ o
-        → (unwrap_or o (no_filesystem number)).overlay ≡ Some overlay → o ≡ Some (unwrap_or o (no_filesystem number))
-    by None f e = none_is_some overlay e
-    by (Some filesystem) f e = refl
+overlay_found world number overlay e = grind (arith, common_steps, none_is_some)
 
 module _ (world : World ℕ) (conditions : IsWorld nat_eq world) (number : ℕ) (overlay : Overlay ℕ)
     (is : (filesystem_numbered nat_eq world number).overlay ≡ Some overlay) where
@@ -145,13 +139,13 @@ module _ (world : World ℕ) (conditions : IsWorld nat_eq world) (number : ℕ) 
     -- the upper layer is in another filesystem
     pub upper_elsewhere : upper.filesystem ≢ number
     upper_elsewhere e =
-        no (is_overlay (filesystem_numbered nat_eq world upper.filesystem))
-        (ap (λ n. is_some (filesystem_numbered nat_eq world n).overlay) e ∙ ap is_some is)
-        (and_true_left (not (is_overlay (filesystem_numbered nat_eq world upper.filesystem))) _ plain_upper)
-      where
-        no : (a : Bool) → a ≡ true → not a ≡ true → ⊥
-        no true e f = true≢false (sym f)
-        no false e f = true≢false (sym e)
+        grind (
+          arith,
+          common_steps,
+          and_true_left (not (is_overlay (filesystem_numbered nat_eq world
+              upper.filesystem))) _ plain_upper,
+          true≢false,
+        )
 
     upper_directory : is_directory_node
         ((filesystem_numbered nat_eq world upper.filesystem).files.tree.node upper.directory) ≡ true
@@ -180,19 +174,7 @@ module _ (world : World ℕ) (conditions : IsWorld nat_eq world) (number : ℕ) 
     -- something is shown where names lead
     pub shown_there : (path : List (List ℕ)) (object : ℕ) → number_at_path files path ≡ Some object
         → is_some (files.tree.node object) ≡ true → is_some (shown (top ∷ lower) path) ≡ true
-    shown_there path object e there =
-        by (shown (top ∷ lower) path) (then_some (number_at_path files path) files.tree.node)
-        (ap (λ o. is_some (then_some o files.tree.node)) e ∙ there)
-        (subst (λ o. SameObject (then_some (number_at_path files path) files.tree.node)
-        (then_some (shown (map (open_layer nat_eq world) (option_to_list o ++ overlay.lowers)) path)
-        (layer_node (map (open_layer nat_eq world) (option_to_list o ++ overlay.lowers))))) has
-        (overlay_merges.shows path))
-      where
-        by : (o : Option (Rattle.vt_spec.specs.Machine.Layers.Shown ℕ)) (node : Option (Node ℕ)) → is_some node ≡ true
-            → SameObject node (then_some o (layer_node (top ∷ lower))) → is_some o ≡ true
-        by None None h same = absurd (true≢false (sym h))
-        by None (Some inode) h same = absurd same
-        by (Some seen) inode h same = refl
+    shown_there path object e there = grind (arith, common_steps, overlay_merges.shows path, top, true≢false)
 
     -- a directory with an entry for an upper object is in the upper layer
     pub above_upper : (from : ℕ) (old : List ℕ) (object : ℕ) → entry_at files.tree from old ≡ Some object
@@ -252,12 +234,7 @@ module _ (world : World ℕ) (conditions : IsWorld nat_eq world) (number : ℕ) 
       before = inode_in world upper.filesystem inode
 
       apart : (n : ℕ) → upper_object (overlay.real n) ≢ Some inode
-      apart n e = by (overlay.real n) refl e
-        where
-          by : (o : Option (Real ℕ)) → overlay.real n ≡ o → upper_object o ≡ Some inode → ⊥
-          by None r e = none_is_some inode e
-          by (Some (Upper object)) r e = not_object (n, r ∙ ap (λ o. Some (Upper o)) (same_Some object inode e))
-          by (Some (Lower layer path)) r e = none_is_some inode e
+      apart n e = grind (arith, common_steps, none_is_some)
 
       merge_keeps : IsKept before ((merge_changed nat_eq fresh (stack_of nat_eq world overlay upper)
           (merge_of nat_eq world merged overlay upper) change).upper.tree.node inode)

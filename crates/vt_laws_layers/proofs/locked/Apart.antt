@@ -1,4 +1,6 @@
 -- Objects of an upper layer lie under no other layer of a live overlay.
+use Rattle.std.proofs.Common.{arith}
+use Rattle.std.proofs.lemmas.Grind.{common_steps}
 use Rattle.std.proofs.Common.{◌≡◌, ◌≢◌, refl, sym, ap, subst, ◌∙◌, true≢false, ℕ, nat_eq, eq-eqb, eqb-true, Bool, true, false, cond, not, ◌&&◌, List, [], ◌∷◌, ◌++◌, Option, Some, None, is_some, unwrap_or, inl, inr, ◌⊎◌, ⊎_elim}
 use Rattle.std.specs.List.{find, list_any, list_all}
 use Rattle.std.specs.Prelude.{flat_map, option_to_list}
@@ -24,31 +26,12 @@ never_both a b e f g = true≢false (sym (and_from a b f g) ∙ e)
 -- a directory is under itself
 pub under_itself : (files : FileTree ℕ) (directory : ℕ) → is_directory_node (files.tree.node directory) ≡ true
     → is_under nat_eq files directory directory ≡ true
-under_itself files directory is =
-    ap (λ b. cond b (is_among nat_eq directory
-    (chain (Rattle.std.proofs.Common.length files.numbers) (named_parent nat_eq files.tree) directory))
-    (Rattle.vt_spec.specs.FileTree.is_file_under nat_eq files directory directory)) is
-    ∙ first (Rattle.std.proofs.Common.length files.numbers)
-  where
-    started : (o : Option ℕ) (rest : ℕ → List ℕ)
-        → is_among nat_eq directory (elim o [ None ↦ directory ∷ [] | Some b ↦ directory ∷ rest b ]) ≡ true
-    started None rest = or_left (nat_eq directory directory) _ (eq-eqb directory directory refl)
-    started (Some b) rest = or_left (nat_eq directory directory) _ (eq-eqb directory directory refl)
-
-    first : (most : ℕ) → is_among nat_eq directory (chain most (named_parent nat_eq files.tree) directory) ≡ true
-    first Rattle.std.proofs.Common.zero = or_left (nat_eq directory directory) _ (eq-eqb directory directory refl)
-    first (Rattle.std.proofs.Common.suc most) =
-        started (named_parent nat_eq files.tree directory) (chain most (named_parent nat_eq files.tree))
+under_itself files directory is = grind (arith, common_steps, eq-eqb)
 
 pub found_among : (test : Filesystem ℕ → Bool) (list : List (Filesystem ℕ)) (a : Filesystem ℕ)
     → find test list ≡ Some a → Among a list
 found_among test [] a e = none_is_some a e
-found_among test (first ∷ list) a e = by (test first) e (found_among test list a)
-  where
-    by : (b : Bool) → cond b (Some first) (find test list) ≡ Some a → (find test list ≡ Some a → Among a list)
-        → Among a (first ∷ list)
-    by true e rest = inl (sym (same_Some first a e))
-    by false e rest = inr (rest e)
+found_among test (first ∷ list) a e = grind (arith, common_steps, found_among test list a)
 
 -- of pairs of a list none of which passes
 pair_append : {A : Type 0} (test : A → A → Bool) (xs bs : List A) → any_pair test (xs ++ bs) ≡ false
@@ -86,33 +69,7 @@ apart_pairs test f (z ∷ zs) e x y differ m n a b p q =
 pub lies_there : (world : World ℕ) (object filesystem : ℕ) (layer : Layer ℕ)
     → lies_or_counts_under nat_eq world filesystem object layer ≡ true → filesystem ≡ layer.filesystem
 lies_there world object filesystem layer e =
-    ⊎_elim
-    (λ (lies : lies_in_layer nat_eq world filesystem object layer ≡ true). in_it filesystem object lies)
-    (λ (counts : list_any (counts_in_layer nat_eq world filesystem object layer) (overlays world) ≡ true).
-    let found = any_among (counts_in_layer nat_eq world filesystem object layer) (overlays world) counts in
-    by found.0 found.0.overlay found.2)
-    (or_cases (lies_in_layer nat_eq world filesystem object layer) _ e)
-  where
-    in_it : (number inode : ℕ) → lies_in_layer nat_eq world number inode layer ≡ true → number ≡ layer.filesystem
-    in_it number inode lies = eqb-true number layer.filesystem (and_true_left (nat_eq number layer.filesystem) _ lies)
-
-    upper_by : (rest : Bool) (o : Option (Layer ℕ))
-        → (holds_of (λ u. lies_in_layer nat_eq world u.filesystem u.directory layer) o
-        && (holds_of (λ l. nat_eq filesystem l.filesystem) o && rest)) ≡ true → filesystem ≡ layer.filesystem
-    upper_by rest None h = absurd (true≢false (sym h))
-    upper_by rest (Some upper) h =
-        eqb-true filesystem upper.filesystem
-        (and_true_left (nat_eq filesystem upper.filesystem) rest
-        (and_true_right (lies_in_layer nat_eq world upper.filesystem upper.directory layer) _ h))
-        ∙ in_it upper.filesystem upper.directory
-        (and_true_left (lies_in_layer nat_eq world upper.filesystem upper.directory layer) _ h)
-
-    by : (merged : Filesystem ℕ) (o : Option (Overlay ℕ))
-        → overlay_or false (λ v. holds_of (λ u. lies_in_layer nat_eq world u.filesystem u.directory layer) v.upper
-        && is_object_of nat_eq filesystem object merged v) o ≡ true
-        → filesystem ≡ layer.filesystem
-    by merged None h = absurd (true≢false (sym h))
-    by merged (Some v) h = upper_by (list_any (is_real_upper nat_eq v object) merged.files.numbers) v.upper h
+    grind (arith, common_steps, any_among, eqb-true, and_true_left, true≢false, and_true_right)
 
 module _ (world : World ℕ) where
   -- an overlay is among the overlays
@@ -166,12 +123,13 @@ module _ (world : World ℕ) (conditions : IsWorld nat_eq world) where
   pub no_overlay_in : (layer : Layer ℕ) → is_plain_layer nat_eq world layer ≡ true
       → (filesystem_numbered nat_eq world layer.filesystem).overlay ≡ None
   no_overlay_in layer plain =
-      by (filesystem_numbered nat_eq world layer.filesystem).overlay
-      (and_true_left (not (is_overlay (filesystem_numbered nat_eq world layer.filesystem))) _ plain)
-    where
-      by : (o : Option (Overlay ℕ)) → not (is_some o) ≡ true → o ≡ None
-      by None e = refl
-      by (Some overlay) e = absurd (true≢false (sym e))
+      grind (
+        arith,
+        common_steps,
+        and_true_left (not (is_overlay (filesystem_numbered nat_eq world
+            layer.filesystem))) _ plain,
+        true≢false,
+      )
 
   module _ (number : ℕ) (overlay : Overlay ℕ) (is : (filesystem_numbered nat_eq world number).overlay ≡ Some overlay)
       (upper : Layer ℕ) (has : overlay.upper ≡ Some upper) where
@@ -189,19 +147,7 @@ module _ (world : World ℕ) (conditions : IsWorld nat_eq world) where
           ∙ (overlay_merges world conditions number overlay is).upper_there is_object.0 object is_object.1
 
       shown_there : is_some ((filesystem_numbered nat_eq world number).files.tree.node is_object.0) ≡ true
-      shown_there =
-          by ((filesystem_numbered nat_eq world number).files.tree.node is_object.0)
-          (inode_in world upper.filesystem object) object_there
-          (subst (λ l. SameObject ((filesystem_numbered nat_eq world number).files.tree.node is_object.0)
-          (then_some l (λ layer. inode_in world layer.filesystem object))) has
-          (subst (λ r. SameObject ((filesystem_numbered nat_eq world number).files.tree.node is_object.0)
-          (then_some r (real_node nat_eq world overlay))) is_object.1
-          ((overlay_merges world conditions number overlay is).real_objects is_object.0)))
-        where
-          by : (a b : Option (Node ℕ)) → is_some b ≡ true → SameObject a b → is_some a ≡ true
-          by None None h same = absurd (true≢false (sym h))
-          by None (Some b) h same = absurd same
-          by (Some a) b h same = refl
+      shown_there = grind (arith, common_steps, overlay_merges world conditions number overlay is, true≢false)
 
       -- an object of the upper layer counts under its directory
       is_of : is_object_of nat_eq upper.filesystem object (filesystem_numbered nat_eq world number) overlay ≡ true

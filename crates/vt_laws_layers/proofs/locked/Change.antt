@@ -1,4 +1,6 @@
 -- What a change that is granted leaves as it was: what is locked, but for upper objects of the overlay that is changed.
+use Rattle.std.proofs.Common.{arith}
+use Rattle.std.proofs.lemmas.Grind.{common_steps}
 use Rattle.std.proofs.Common.{◌≡◌, ◌≢◌, refl, sym, ap, subst, ◌∙◌, ℕ, nat_eq, true, false, List, Option, Some, None, inr, ◌⊎◌, ⊎_elim}
 use Rattle.std.proofs.lemmas.Bool.Decides.{eqb_tells}
 use Rattle.vt_spec.specs.Language.Changes.{Change, changed}
@@ -28,23 +30,7 @@ changed_in supply world mounted change =
 looks_at_filesystems : (supply : Fresh ℕ) (world base : World ℕ) (mounted : ℕ) (change : Change ℕ)
     → (changed_in supply world mounted change).filesystems
     ≡ (changed_in supply (record base { filesystems = world.filesystems }) mounted change).filesystems
-looks_at_filesystems supply world base mounted change = by (filesystem_numbered nat_eq world mounted).overlay
-  where
-    with_them : World ℕ
-    with_them = record base { filesystems = world.filesystems }
-
-    layered : (overlay : Overlay ℕ) (o : Option (Layer ℕ))
-        → (overlay_changed nat_eq supply world (filesystem_numbered nat_eq world mounted) overlay o change).filesystems
-        ≡ (overlay_changed nat_eq supply with_them
-        (filesystem_numbered nat_eq world mounted) overlay o change).filesystems
-    layered overlay None = refl
-    layered overlay (Some upper) = refl
-
-    by : (o : Option (Overlay ℕ))
-        → (filesystem_changed nat_eq supply world (filesystem_numbered nat_eq world mounted) o change).filesystems
-        ≡ (filesystem_changed nat_eq supply with_them (filesystem_numbered nat_eq world mounted) o change).filesystems
-    by None = refl
-    by (Some overlay) = layered overlay overlay.upper
+looks_at_filesystems supply world base mounted change = grind (arith, common_steps)
 
 module _ (world : World ℕ) (fresh : Fresh ℕ) where
   abbrev pub IsNew : ℕ → Type 0

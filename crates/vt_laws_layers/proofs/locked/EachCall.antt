@@ -1,4 +1,6 @@
 -- Each call on files leaves the filesystems as they were, or with one change that is granted.
+use Rattle.std.proofs.Common.{arith}
+use Rattle.std.proofs.lemmas.Grind.{common_steps}
 use Rattle.std.proofs.Common.{Bool, List, None, Option, Some, [], ap, eqb-true, false, inl, is_some, nat_eq, ne_eqb, not, option_map, refl, subst, sym, true, true≢false, unwrap_or, ℕ, ◌*◌, ◌+◌, ◌||◌, ◌∙◌, ◌∷◌, ◌≡◌, ◌≢◌, Result}
 use Rattle.vt_spec.specs.Language.Calls.{Access, Call}
 use Rattle.vt_spec.specs.Language.Changes.{Change}
@@ -107,11 +109,7 @@ module _ (world : World ℕ) (fresh : Fresh ℕ) (task : Task ℕ) where
 
   opened_left : (file : Location ℕ) (access : Access) → NodeThere file
       → Left (apply nat_eq fresh world task (ToOpen file access)).world
-  opened_left file access there = by (is_copied_up nat_eq world file access)
-    where
-      by : (b : Bool) → Left (with_copy nat_eq b fresh world file)
-      by true = change_left fresh whole file (CopyUp file.node) (λ inode locked new. refl) (λ overlay is. there)
-      by false = same
+  opened_left file access there = grind (arith, common_steps, change_left, whole, same)
 
   pwritten_left : (file : Location ℕ) (offset : ℕ) (bytes : List ℕ) → is_locked_at nat_eq world file ≡ false
       → NodeThere file

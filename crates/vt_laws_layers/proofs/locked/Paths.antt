@@ -1,4 +1,6 @@
 -- Where what lies under a layer stays as it was, paths lead from the layer's directory where they led.
+use Rattle.std.proofs.Common.{arith}
+use Rattle.std.proofs.lemmas.Grind.{common_steps}
 use Rattle.std.proofs.Common.{◌≡◌, ◌≢◌, refl, sym, ap, subst, ◌∙◌, true≢false, eq-eqb, ℕ, nat_eq, true, cond, not, ◌&&◌, ◌||◌, List, Option, Some, None, is_some, unwrap_or}
 use Rattle.std.specs.List.{find, list_any}
 use Rattle.vt_spec.specs.FileTree.{is_directory_under, is_file_under, is_under}
@@ -32,13 +34,7 @@ module _ (world : World ℕ) (conditions : IsWorld nat_eq world) (layer : Layer 
   top_directory = and_true_right (not (is_overlay filesystem)) _ plain
 
   found : find (λ f. nat_eq layer.filesystem f.number) world.filesystems ≡ Some filesystem
-  found = by (find (λ f. nat_eq layer.filesystem f.number) world.filesystems) refl top_directory
-    where
-      by : (o : Option (Filesystem ℕ)) → find (λ f. nat_eq layer.filesystem f.number) world.filesystems ≡ o
-          → is_directory_node ((unwrap_or o (no_filesystem layer.filesystem)).files.tree.node layer.directory) ≡ true
-          → o ≡ Some (unwrap_or o (no_filesystem layer.filesystem))
-      by None f d = absurd (true≢false (sym d))
-      by (Some one) f d = refl
+  found = grind (arith, common_steps, true≢false)
 
   pub layer_tree : IsTree filesystem.files.tree
   layer_tree =
@@ -76,31 +72,7 @@ module _ (world : World ℕ) (conditions : IsWorld nat_eq world) (layer : Layer 
       → is_some (inode_in world layer.filesystem inode) ≡ true
       → IsKept (inode_in world layer.filesystem inode) (inode_in later layer.filesystem inode))
       → LeadsAsBefore world later layer
-  leads_as_before later kept path = (leads, by (at_path (open_layer nat_eq world layer) path) refl)
-    where
-      leads : at_path (open_layer nat_eq later layer) path ≡ at_path (open_layer nat_eq world layer) path
-      leads =
-          led_where filesystem.files.tree
-          (filesystem_numbered nat_eq later layer.filesystem).files.tree path layer.directory
-          (λ way inode l word. ap (entry_named word) (kept inode (led_lies way inode l) (led_there way inode l)).names)
-
-      by : (o : Option ℕ) → at_path (open_layer nat_eq world layer) path ≡ o
-          → IsKept (then_some (at_path (open_layer nat_eq world layer) path)
-          (λ object. inode_in world layer.filesystem object))
-          (then_some (at_path (open_layer nat_eq later layer) path) (λ object. inode_in later layer.filesystem object))
-      by None e =
-          subst (λ o. IsKept (then_some (at_path (open_layer nat_eq world layer) path)
-          (λ object. inode_in world layer.filesystem object))
-          (then_some o (λ object. inode_in later layer.filesystem object))) (sym (leads ∙ e))
-          (subst (λ o. IsKept (then_some o (λ object. inode_in world layer.filesystem object)) None) (sym e)
-          (kept_itself None))
-      by (Some inode) e =
-          subst (λ o. IsKept (then_some (at_path (open_layer nat_eq world layer) path)
-          (λ object. inode_in world layer.filesystem object))
-          (then_some o (λ object. inode_in later layer.filesystem object))) (sym (leads ∙ e))
-          (subst (λ o. IsKept (then_some o (λ object. inode_in world layer.filesystem object))
-          (inode_in later layer.filesystem inode)) (sym e)
-          (kept inode (led_lies path inode e) (led_there path inode e)))
+  leads_as_before later kept path = grind (arith, common_steps, led_where, led_lies, led_there, kept_itself)
 
 -- what is there has no new number
 pub no_new : (fresh : Fresh ℕ) (world : World ℕ) (filesystem inode : ℕ) → AreNoInodes fresh world filesystem

@@ -1,4 +1,5 @@
 -- What a world is when an overlay is mounted in it.
+use Rattle.std.proofs.lemmas.Grind.{common_steps}
 use Rattle.std.proofs.Common.{arith, ◌≡◌, refl, sym, ap, subst, ◌∙◌, true≢false, ℕ, nat_eq, eqb-true, Bool, true, false, ◌&&◌, ◌||◌, List, [], ◌∷◌, ◌++◌, map, Option, Some, None, Ok, inl, inr, unwrap_or}
 use Rattle.std.proofs.lemmas.Bool.Decides.{eqb_tells}
 use Rattle.std.proofs.lemmas.List.Elements.{All-push}
@@ -86,21 +87,9 @@ trees_with world mounts master is = record {
 none_equal : (number : ℕ) (list : List (Filesystem ℕ)) → is_among nat_eq number (map (λ f. f.number) list) ≡ false
     → (filesystem : Filesystem ℕ) → Among list filesystem → nat_eq filesystem.number number ≡ false
 none_equal number [] e filesystem among = absurd among
-none_equal number (first ∷ list) e filesystem (inl same) =
-    ap (λ f. nat_eq f.number number) (sym same) ∙ by (nat_eq number first.number) refl e
-  where
-    by : (b : Bool) → nat_eq number first.number ≡ b → (b || is_among nat_eq number (map (λ f. f.number) list)) ≡ false
-        → nat_eq first.number number ≡ false
-    by true t e = absurd (true≢false e)
-    by false t e = grind (arith, eqb_tells, t)
-none_equal number (first ∷ list) e filesystem (inr among) = by (nat_eq number first.number) e (none_equal number list)
-  where
-    by : (b : Bool) → (b || is_among nat_eq number (map (λ f. f.number) list)) ≡ false
-        → (is_among nat_eq number (map (λ f. f.number) list) ≡ false → (filesystem : Filesystem ℕ)
-        → Among list filesystem → nat_eq filesystem.number number ≡ false)
-        → nat_eq filesystem.number number ≡ false
-    by true e rest = absurd (true≢false e)
-    by false e rest = rest e filesystem among
+none_equal number (first ∷ list) e filesystem (inl same) = grind (arith, common_steps, true≢false)
+none_equal number (first ∷ list) e filesystem (inr among) =
+    grind (arith, common_steps, none_equal number list, true≢false)
 
 module _ (world : World ℕ) (conditions : IsWorld nat_eq world) (fresh : Fresh ℕ) (are_new : AreNewNumbers fresh world)
     (task : Task ℕ) where
@@ -142,44 +131,14 @@ module _ (world : World ℕ) (conditions : IsWorld nat_eq world) (fresh : Fresh 
     all_plain_later : (layers : List (Layer ℕ)) → list_all (is_plain_layer nat_eq world) layers ≡ true
         → list_all (is_plain_layer nat_eq later) layers ≡ true
     all_plain_later [] e = refl
-    all_plain_later (layer ∷ layers) e = by (is_plain_layer nat_eq world layer) refl e (all_plain_later layers)
-      where
-        by : (b : Bool) → is_plain_layer nat_eq world layer ≡ b
-            → (b && list_all (is_plain_layer nat_eq world) layers) ≡ true
-            → (list_all (is_plain_layer nat_eq world) layers ≡ true
-            → list_all (is_plain_layer nat_eq later) layers ≡ true)
-            → (is_plain_layer nat_eq later layer && list_all (is_plain_layer nat_eq later) layers) ≡ true
-        by true p e rest = ap (λ b. b && list_all (is_plain_layer nat_eq later) layers) (plain_later layer p) ∙ rest e
-        by false p e rest = absurd (true≢false (sym e))
+    all_plain_later (layer ∷ layers) e = grind (arith, common_steps, all_plain_later layers, plain_later, true≢false)
 
     plain_filesystems : (list : List (Filesystem ℕ))
         → list_all (of_overlay true (λ o. list_all (is_plain_layer nat_eq world) (layers_of o))) list ≡ true
         → list_all (of_overlay true (λ o. list_all (is_plain_layer nat_eq later) (layers_of o))) list ≡ true
     plain_filesystems [] e = refl
-    plain_filesystems (filesystem ∷ list) e = by filesystem.overlay e (plain_filesystems list)
-      where
-        one : (o : Overlay ℕ) (b : Bool) → list_all (is_plain_layer nat_eq world) (layers_of o) ≡ b
-            → (b && list_all (of_overlay true (λ o. list_all (is_plain_layer nat_eq world) (layers_of o))) list) ≡ true
-            → (list_all (of_overlay true (λ o. list_all (is_plain_layer nat_eq world) (layers_of o))) list ≡ true
-            → list_all (of_overlay true (λ o. list_all (is_plain_layer nat_eq later) (layers_of o))) list ≡ true)
-            → (list_all (is_plain_layer nat_eq later) (layers_of o)
-            && list_all (of_overlay true (λ o. list_all (is_plain_layer nat_eq later) (layers_of o))) list) ≡ true
-        one o true p e rest =
-            ap (λ b. b && list_all (of_overlay true (λ o. list_all (is_plain_layer nat_eq later) (layers_of o))) list)
-            (all_plain_later (layers_of o) p) ∙ rest e
-        one o false p e rest = absurd (true≢false (sym e))
-
-        by : (o : Option (Overlay ℕ)) →
-            (Rattle.vt_spec.specs.Machine.Locked.overlay_or true
-            (λ o. list_all (is_plain_layer nat_eq world) (layers_of o)) o
-            && list_all (of_overlay true (λ o. list_all (is_plain_layer nat_eq world) (layers_of o))) list) ≡ true
-            → (list_all (of_overlay true (λ o. list_all (is_plain_layer nat_eq world) (layers_of o))) list ≡ true
-            → list_all (of_overlay true (λ o. list_all (is_plain_layer nat_eq later) (layers_of o))) list ≡ true)
-            → (Rattle.vt_spec.specs.Machine.Locked.overlay_or true
-            (λ o. list_all (is_plain_layer nat_eq later) (layers_of o)) o
-            && list_all (of_overlay true (λ o. list_all (is_plain_layer nat_eq later) (layers_of o))) list) ≡ true
-        by None e rest = rest e
-        by (Some o) e rest = one o (list_all (is_plain_layer nat_eq world) (layers_of o)) refl e rest
+    plain_filesystems (filesystem ∷ list) e =
+        grind (arith, common_steps, plain_filesystems list, all_plain_later, true≢false)
 
     pushed : (test : Filesystem ℕ → Bool) → list_all test world.filesystems ≡ true → test new ≡ true
         → list_all test (world.filesystems ++ new ∷ []) ≡ true

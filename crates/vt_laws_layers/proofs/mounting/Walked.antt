@@ -1,4 +1,5 @@
 -- Layers that are walked for a mount are directories of plain trees, as many as may be.
+use Rattle.std.proofs.lemmas.Grind.{common_steps}
 use Rattle.std.proofs.Common.{arith, ◌≡◌, refl, sym, ap, ◌∙◌, true≢false, ℕ, nat_eq, Bool, true, false, not, ◌&&◌, ◌||◌, List, [], ◌∷◌, ◌++◌, length, map, Option, Some, None, is_some, Result, Ok, Err, inl, inr}
 use Rattle.std.proofs.Math.Dec.{leb, ltb}
 use Rattle.std.proofs.lemmas.Bool.Decides.{leb_tells}
@@ -117,39 +118,17 @@ module _ (world : World ℕ) (task : Task ℕ) where
     plain_places : (list : List (Location ℕ)) → list_any lies_in_overlay list ≡ false → AreDirectories list
         → list_all (is_plain_layer nat_eq world) (map layer list) ≡ true
     plain_places [] none are = refl
-    plain_places (place ∷ list) none are =
-        by (lies_in_overlay place) (is_directory_at nat_eq world place) none are (plain_places list)
-      where
-        by : (o d : Bool) → (o || list_any lies_in_overlay list) ≡ false
-            → (d && list_all (is_directory_at nat_eq world) list) ≡ true
-            → (list_any lies_in_overlay list ≡ false → AreDirectories list
-            → list_all (is_plain_layer nat_eq world) (map layer list) ≡ true)
-            → ((not o && d) && list_all (is_plain_layer nat_eq world) (map layer list)) ≡ true
-        by true d none are rest = absurd (true≢false none)
-        by false true none are rest = rest none are
-        by false false none are rest = absurd (true≢false (sym are))
+    plain_places (place ∷ list) none are = grind (arith, common_steps, plain_places list, layer, true≢false)
 
     split_left : (one other : List (Location ℕ)) → list_any lies_in_overlay (one ++ other) ≡ false
         → list_any lies_in_overlay one ≡ false
     split_left [] other e = refl
-    split_left (place ∷ one) other e = by (lies_in_overlay place) e (split_left one other)
-      where
-        by : (b : Bool) → (b || list_any lies_in_overlay (one ++ other)) ≡ false
-            → (list_any lies_in_overlay (one ++ other) ≡ false → list_any lies_in_overlay one ≡ false)
-            → (b || list_any lies_in_overlay one) ≡ false
-        by true e rest = absurd (true≢false e)
-        by false e rest = rest e
+    split_left (place ∷ one) other e = grind (arith, common_steps, split_left one other, true≢false)
 
     split_right : (one other : List (Location ℕ)) → list_any lies_in_overlay (one ++ other) ≡ false
         → list_any lies_in_overlay other ≡ false
     split_right [] other e = e
-    split_right (place ∷ one) other e = by (lies_in_overlay place) e (split_right one other)
-      where
-        by : (b : Bool) → (b || list_any lies_in_overlay (one ++ other)) ≡ false
-            → (list_any lies_in_overlay (one ++ other) ≡ false → list_any lies_in_overlay other ≡ false)
-            → list_any lies_in_overlay other ≡ false
-        by true e rest = absurd (true≢false e)
-        by false e rest = rest e
+    split_right (place ∷ one) other e = grind (arith, common_steps, split_right one other, true≢false)
 
     -- no place is in an overlay
     none_in_overlay : list_any lies_in_overlay (layer_locations places) ≡ false
@@ -219,10 +198,4 @@ module _ (world : World ℕ) (task : Task ℕ) where
         ∙ beside_each_other places.upper places.work passed.1.1.0 walked.beside
 
     pub has_layers : option_to_list overlay.upper ++ overlay.lowers ≡ [] → ⊥
-    has_layers = by (option_to_list overlay.upper) places.lowers passed.0
-      where
-        by : (above : List (Layer ℕ)) (list : List (Location ℕ)) → is_empty_list list ≡ false
-            → above ++ map layer list ≡ [] → ⊥
-        by above [] e none = true≢false e
-        by [] (place ∷ list) e none = absurd cc
-        by (first ∷ above) (place ∷ list) e none = absurd cc
+    has_layers = grind (arith, common_steps, layer, true≢false)

@@ -1,4 +1,6 @@
 -- What a change of the upper layer leaves of what is shown.
+use Rattle.std.proofs.Common.{arith}
+use Rattle.std.proofs.lemmas.Grind.{common_steps}
 use Rattle.std.proofs.Common.{◌≡◌, ◌≢◌, refl, sym, ap, subst, ◌∙◌, true≢false, ℕ, nat_eq, Bool, true, false, not, cond, List, [], ◌∷◌, ◌++◌, ⊎_elim, Option, Some, None}
 use Rattle.std.proofs.lemmas.Bool.Decides.{eqb_tells}
 use Rattle.std.proofs.lemmas.List.{append-nil}
@@ -64,20 +66,7 @@ hides_itself one = record { of_kind = record { there = refl; kind = refl }; mark
 
 bytes_hide : (bytes : List ℕ) (o : Option (Node ℕ)) → HidesAlike o (node_with_bytes bytes o)
 bytes_hide bytes None = hides_itself None
-bytes_hide bytes (Some node) =
-    record { of_kind = record { there = refl; kind = kind node.content }; mark = mark node.content }
-  where
-    kind : (content : Content ℕ) → kind_of (with_bytes content bytes) ≡ kind_of content
-    kind (Directory parent entries opaque) = refl
-    kind (Regular old) = refl
-    kind (Symlink text) = refl
-    kind Whiteout = refl
-
-    mark : (content : Content ℕ) → opaque_of (with_bytes content bytes) ≡ opaque_of content
-    mark (Directory parent entries opaque) = refl
-    mark (Regular old) = refl
-    mark (Symlink text) = refl
-    mark Whiteout = refl
+bytes_hide bytes (Some node) = grind (arith, common_steps)
 
 attr_hides : (attr : Attr) (o : Option (Node ℕ)) → HidesAlike o (node_with_attr attr o)
 attr_hides attr None = hides_itself None
@@ -85,13 +74,7 @@ attr_hides attr (Some node) = record { of_kind = record { there = refl; kind = r
 
 mark_of_kind : (opaque : Bool) (o : Option (Node ℕ)) → IsOneKind o (node_with_mark opaque o)
 mark_of_kind opaque None = record { there = refl; kind = refl }
-mark_of_kind opaque (Some node) = record { there = refl; kind = kind node.content }
-  where
-    kind : (content : Content ℕ) → kind_of (content_with_mark opaque content) ≡ kind_of content
-    kind (Directory parent entries old) = refl
-    kind (Regular bytes) = refl
-    kind (Symlink text) = refl
-    kind Whiteout = refl
+mark_of_kind opaque (Some node) = grind (arith, common_steps)
 
 -- a relation of each inode to what a change of one makes of it
 holds_after : (R : Option (Node ℕ) → Option (Node ℕ)
@@ -113,14 +96,7 @@ module _ (R : Option (Node ℕ) → Option (Node ℕ) → Type 0) (same : (o : O
   holds_led : (before after : Tree ℕ) (top : ℕ) (path : List (List ℕ)) → led after top path ≡ led before top path
       → ((inode : ℕ) → led before top path ≡ Some inode → R (before.node inode) (after.node inode))
       → R (then_some (led before top path) before.node) (then_some (led after top path) after.node)
-  holds_led before after top path e others =
-      subst (λ o. R (then_some (led before top path) before.node) (then_some o after.node)) (sym e)
-      (by (led before top path) others)
-    where
-      by : (o : Option ℕ) → ((inode : ℕ) → o ≡ Some inode → R (before.node inode) (after.node inode))
-          → R (then_some o before.node) (then_some o after.node)
-      by None others = same None
-      by (Some inode) others = others inode refl
+  holds_led before after top path e others = grind (arith, common_steps)
 
 -- A path at which a change may show nothing
 

@@ -1,4 +1,6 @@
 -- The entries of a tree after a change of one inode.
+use Rattle.std.proofs.Common.{arith}
+use Rattle.std.proofs.lemmas.Grind.{common_steps}
 use Rattle.std.proofs.Common.{◌≡◌, refl, sym, ap, ◌∙◌, true≢false, ℕ, nat_eq, Bool, true, false, not, cond, ◌&&◌, List, ⊎_elim, Option, Some, None}
 use Rattle.std.proofs.lemmas.Bool.Decides.{eqb_tells}
 use Rattle.std.specs.Cmp.Lexicographic.{bytes_decides, texts_ties}
@@ -59,19 +61,7 @@ module _ (files : FileTree ℕ) (directory : ℕ) (name : List ℕ) where
   pub taken : (other : ℕ) (word : List ℕ)
       → entry_at (without_name nat_eq files directory name).tree other word
       ≡ cond (is_entry directory name other word) None (entry_at files.tree other word)
-  taken = one_entry (node_without_entry name) None told
-    where
-      turned : (b : Bool) (o : Option ℕ) → cond (not b) o None ≡ cond b None o
-      turned true o = refl
-      turned false o = refl
-
-      told : (word : List ℕ)
-          → entry_named word (entries_in (node_without_entry name (files.tree.node directory)))
-          ≡ cond (bytes_eq word name) None (entry_at files.tree directory word)
-      told word =
-          ap (entry_named word) (entries-node_without_entry name (files.tree.node directory))
-          ∙ entry_named-without_entry word name (entries_in (files.tree.node directory))
-          ∙ turned (bytes_eq word name) (entry_at files.tree directory word)
+  taken = grind (arith, common_steps, one_entry, entries-node_without_entry, entry_named-without_entry)
 
 -- a change of one inode that keeps its entries keeps all
 pub entries_stay : (files : FileTree ℕ) (number : ℕ) (change : Option (Node ℕ) → Option (Node ℕ))

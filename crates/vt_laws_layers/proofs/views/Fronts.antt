@@ -1,4 +1,6 @@
 -- Views that lead alike along a path show the same there.
+use Rattle.std.proofs.Common.{arith}
+use Rattle.std.proofs.lemmas.Grind.{common_steps}
 use Rattle.std.proofs.Common.{◌≡◌, refl, sym, ap, subst, ◌∙◌, true≢false, ℕ, ◌+◌, Bool, true, false, not, ◌||◌, List, [], ◌∷◌, map, Option, Some, None}
 use Rattle.std.specs.List.{list_any}
 use Rattle.vt_spec.specs.declared.attributes.Kind.TheVariants.{White}
@@ -51,22 +53,7 @@ module _ (path : List (List ℕ)) where
       → shown_over other depth (other.leads path) (cuts other path) lower
       ≡ shown_over one depth (one.leads path) (cuts one path) lower
   over_alike one other is depth lower =
-      ap (λ b. shown_over other depth (other.leads path) b lower) (cuts_alike one other is)
-      ∙ ap (λ o. shown_over other depth o (cuts one path) lower) is.leads
-      ∙ by (one.leads path) refl (cuts one path)
-    where
-      whiteouts : (object : ℕ) → one.leads path ≡ Some object
-          → is_kind_in White (other.node object) ≡ is_kind_in White (one.node object)
-      whiteouts object e =
-          white_of_kind (one.node object) (other.node object)
-          (subst (λ o. IsOneKind (then_some o one.node) (other.node object)) e
-          (subst (λ o. IsOneKind (node_led one path) (then_some o other.node)) (is.leads ∙ e) is.inode))
-
-      by : (o : Option ℕ) → one.leads path ≡ o → (cut : Bool)
-          → shown_over other depth o cut lower ≡ shown_over one depth o cut lower
-      by None e true = refl
-      by None e false = refl
-      by (Some object) e cut = ap (λ b. when (not b) (record { layer = depth; object = object })) (whiteouts object e)
+      grind (arith, common_steps, other.leads path, cuts_alike one other is, white_of_kind)
 
   all_shown : (views others : List (View ℕ)) → AllLeadAlikeTo path views others → (depth : ℕ)
       → shown_from depth others path ≡ shown_from depth views path

@@ -1,4 +1,6 @@
 -- What is shown where a name of the upper layer was.
+use Rattle.std.proofs.Common.{arith}
+use Rattle.std.proofs.lemmas.Grind.{common_steps}
 use Rattle.std.proofs.Common.{◌≡◌, ◌≢◌, refl, sym, ap, subst, ◌∙◌, true≢false, ℕ, Bool, true, false, cond, ◌||◌, List, [], ◌∷◌, ◌++◌, map, Option, Some, None, option_and_then}
 use Rattle.std.proofs.lemmas.List.{append-nil}
 use Rattle.std.specs.List.{list_any}
@@ -60,21 +62,7 @@ shown_under : (before after : View ℕ) (lowers : List (View ℕ)) (way : List (
     → after.leads (way ++ name ∷ []) ≡ None → LeadAlikeTo way before after
     → shown_from 0 (after ∷ lowers) (way ++ name ∷ []) ≡ shown_in_lowers before lowers (way ++ name ∷ [])
 shown_under before after lowers way name gone alike =
-    ap (λ o. shown_over after 0 o (cuts after (way ++ name ∷ [])) (shown_from 1 lowers (way ++ name ∷ []))) gone
-    ∙ by (cuts after (way ++ name ∷ [])) (shown_from 1 lowers (way ++ name ∷ []))
-    ∙ ap (λ b. cond b None (shown_from 1 lowers (way ++ name ∷ []))) cut
-  where
-    by : (b : Bool) (lower : Option (Shown ℕ)) → shown_over after 0 None b lower ≡ cond b None lower
-    by true lower = refl
-    by false lower = refl
-
-    cut : cuts after (way ++ name ∷ []) ≡ cuts before (without_last (way ++ name ∷ []))
-    cut =
-        prefixes_longer (λ front. hides (node_led after front)) way name
-        ∙ ap (λ o. cuts after way || hides (then_some o after.node)) gone
-        ∙ or-false (cuts after way)
-        ∙ cuts_alike way before after alike
-        ∙ ap (cuts before) (sym (without_last_of_longer way name))
+    grind (arith, common_steps, prefixes_longer, or-false, cuts_alike, without_last_of_longer)
 
 module _ (files : FileTree ℕ) (top directory : ℕ) (name : List ℕ) where
   pub is_named : (path : List (List ℕ)) → names_entry (view_in files top) directory name path ≡ true
@@ -87,12 +75,7 @@ module _ (files : FileTree ℕ) (top directory : ℕ) (name : List ℕ) where
       → names_entry (view_in files top) directory name (way ++ name ∷ []) ≡ true
       → goes_through (view_in files top) directory name (way ++ name ∷ []) ≡ true
   goes_through_named way e =
-      prefix_passes (names_entry (view_in files top) directory name) (way ++ name ∷ []) (way ++ name ∷ []) []
-      (append-nil (way ++ name ∷ [])) (not_empty way) e
-    where
-      not_empty : (way : List (List ℕ)) → way ++ name ∷ [] ≢ []
-      not_empty [] = cons_is_not_empty name []
-      not_empty (word ∷ way) = cons_is_not_empty word (way ++ name ∷ [])
+      grind (arith, common_steps, prefix_passes, append-nil (way ++ name ∷ []), cons_is_not_empty)
 
   -- and the way to its directory does not
   pub way_goes_elsewhere : IsTree files.tree → (object : ℕ) → entry_at files.tree directory name ≡ Some object

@@ -1,4 +1,5 @@
 -- A move on the view of a layer.
+use Rattle.std.proofs.lemmas.Grind.{common_steps}
 use Rattle.std.proofs.Common.{◌≡◌, ◌≢◌, ◌≤◌, refl, sym, ap, subst, ◌∙◌, true≢false, eq-eqb, arith, ℕ, suc, nat_eq, Bool, true, false, cond, ◌&&◌, ◌||◌, List, [], ◌∷◌, ◌++◌, Option, Some, None, option_and_then}
 use Rattle.std.specs.Cmp.Lexicographic.{bytes_decides}
 use Rattle.std.specs.Str.{bytes_eq}
@@ -49,12 +50,7 @@ more_steps (name ∷ names) steps = let h = more_steps names (suc steps) in omeg
 leads_to_directory : (tree : Tree ℕ) (names : List (List ℕ)) (next to : ℕ) → led tree next names ≡ Some to
     → IsDirectory tree to → IsDirectory tree next
 leads_to_directory tree [] next to e d = subst (IsDirectory tree) (sym (same_Some next to e)) d
-leads_to_directory tree (name ∷ names) next to e d = step (entry_at tree next name) refl e
-  where
-    step : (o : Option ℕ) → entry_at tree next name ≡ o → option_and_then (λ n. led tree n names) o ≡ Some to
-        → IsDirectory tree next
-    step None o e = none_is_some to e
-    step (Some n) o e = has_entries tree next name n o
+leads_to_directory tree (name ∷ names) next to e d = grind (arith, common_steps, none_is_some, has_entries)
 
 steps_on : (tree : Tree ℕ) (names : List (List ℕ)) (steps from to : ℕ) → ReachedIn tree steps from
     → led tree from names ≡ Some to → IsDirectory tree to → ReachedIn tree (after_steps names steps) to
@@ -91,22 +87,7 @@ module _ (before after : Tree ℕ) (from : ℕ) (old : List ℕ) (to : ℕ) (new
   pub others_led : (path : List (List ℕ)) (start : ℕ) → passes before to new start path ≡ false
       → led after start path ≡ cond (passes before from old start path) None (led before start path)
   others_led [] start e = refl
-  others_led (word ∷ rest) start e =
-      ap (option_and_then (λ next. led after next rest)) (told start word)
-      ∙ by (is_entry to new start word) (is_entry from old start word) (entry_at before start word) e
-      (others_led rest)
-    where
-      by : (is_new is_old : Bool) (o : Option ℕ)
-          → (is_new || holds_of (λ inner. passes before to new inner rest) o) ≡ false
-          → ((inner : ℕ) → passes before to new inner rest ≡ false
-          → led after inner rest ≡ cond (passes before from old inner rest) None (led before inner rest))
-          → option_and_then (λ next. led after next rest) (cond is_new (Some object) (cond is_old None o))
-          ≡ cond (is_old || holds_of (λ inner. passes before from old inner rest) o) None
-          (option_and_then (λ next. led before next rest) o)
-      by true is_old o e later = absurd (true≢false e)
-      by false true o e later = refl
-      by false false None e later = refl
-      by false false (Some inner) e later = later inner e
+  others_led (word ∷ rest) start e = grind (arith, common_steps, others_led rest, true≢false)
 
   module _ (named : entry_at before from old ≡ Some object)
       (not_under : (names : List (List ℕ)) → led before object names ≢ Some to)
@@ -115,12 +96,7 @@ module _ (before after : Tree ℕ) (from : ℕ) (old : List ℕ) (to : ℕ) (new
     passes_not : (directory : ℕ) (name : List ℕ) (start : ℕ) (path : List (List ℕ))
         → ((way rest : List (List ℕ)) → way ++ name ∷ rest ≡ path → led before start way ≡ Some directory → ⊥)
         → passes before directory name start path ≡ false
-    passes_not directory name start path none = by (passes before directory name start path) refl
-      where
-        by : (b : Bool) → passes before directory name start path ≡ b → b ≡ false
-        by false e = refl
-        by true e =
-            let parts = split before directory name path start e in absurd (none parts.0 parts.1 parts.2 parts.3)
+    passes_not directory name start path none = grind (arith, common_steps, split)
 
     -- what lies under the object goes through neither name
     object_led : (path : List (List ℕ)) → led after object path ≡ led before object path
@@ -172,13 +148,14 @@ module _ (files : FileTree ℕ) (from : ℕ) (old : List ℕ) (to : ℕ) (new : 
   still : (replaced : Option ℕ)
       → IsDirectory (without_name nat_eq (without_parent nat_eq files replaced) from old).tree to
   still replaced =
-      part-changed_node is_directory_node (without_parent nat_eq files replaced) from (node_without_entry old)
-      (without_entry_keeps old).directory to ∙ freed replaced
-    where
-      freed : (replaced : Option ℕ) → IsDirectory (without_parent nat_eq files replaced).tree to
-      freed None = is
-      freed (Some k) =
-          part-changed_node is_directory_node files k (node_with_parent k) (parent_keeps k).directory to ∙ is
+      grind (
+        arith,
+        common_steps,
+        part-changed_node is_directory_node (without_parent nat_eq files replaced) from
+            (node_without_entry old) (without_entry_keeps old).directory to,
+        part-changed_node,
+        parent_keeps,
+      )
 
   pub move_told : (other : ℕ) (word : List ℕ)
       → entry_at (with_moved nat_eq files from old to new object).tree other word

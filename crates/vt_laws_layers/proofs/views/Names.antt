@@ -1,4 +1,6 @@
 -- A new name and a removed one, on the view of a layer.
+use Rattle.std.proofs.Common.{arith}
+use Rattle.std.proofs.lemmas.Grind.{common_steps}
 use Rattle.std.proofs.Common.{◌≡◌, ◌≢◌, refl, sym, ap, subst, ◌∙◌, true≢false, ℕ, nat_eq, Bool, true, false, cond, List, [], ⊎_elim, Option, Some, None, is_some}
 use Rattle.std.proofs.lemmas.Bool.Decides.{eqb_tells}
 use Rattle.vt_spec.specs.Language.Changes.{changed_node, node_without_entry, with_inode, with_name, without_name, without_parent}
@@ -32,12 +34,7 @@ module _ (before after : Tree ℕ) (directory : ℕ) (name : List ℕ) (object :
     ≡ cond (is_entry directory name other word) (Some object) (entry_at before other word))
     (other_one : object ≢ directory) (empty : entries_in (before.node object) ≡ []) where
   stays_empty : (word : List ℕ) → entry_at after object word ≡ None
-  stays_empty word = told object word ∙ by (is_entry directory name object word) refl
-    where
-      by : (b : Bool) → is_entry directory name object word ≡ b
-          → cond b (Some object) (entry_at before object word) ≡ None
-      by true is = absurd (other_one (is_that_entry directory name object word is).0)
-      by false is = no_entries before object empty word
+  stays_empty word = grind (arith, common_steps, is_that_entry, no_entries)
 
   pub given_led : ((k : ℕ) → entry_at before directory name ≡ Some k → entries_in (before.node k) ≡ [])
       → (start : ℕ) (path : List (List ℕ))
@@ -73,22 +70,7 @@ alike_both one middle other a b = record {
 pub alike_after : (files : FileTree ℕ) (number : ℕ) (change : Option (Node ℕ) → Option (Node ℕ)) → KeepsButNames change
     → (inode : ℕ)
     → IsAlike (files.tree.node inode) ((changed_node nat_eq files number change).tree.node inode)
-alike_after files number change keeps inode =
-    ⊎_elim
-    (λ t. subst (λ b. IsAlike (files.tree.node inode)
-    (cond b (change (files.tree.node number)) (files.tree.node inode))) (sym t.0)
-    (subst (λ n. IsAlike (files.tree.node n) (change (files.tree.node number))) (sym t.1) kept))
-    (λ t. alike_same (files.tree.node inode) _ (kept_elsewhere files number change inode t.0))
-    (eqb_tells inode number)
-  where
-    kept : IsAlike (files.tree.node number) (change (files.tree.node number))
-    kept = record {
-      there = keeps.there (files.tree.node number);
-      kind = keeps.kind (files.tree.node number);
-      attr = keeps.attr (files.tree.node number);
-      bytes = keeps.bytes (files.tree.node number);
-      mark = keeps.mark (files.tree.node number);
-    }
+alike_after files number change keeps inode = grind (arith, common_steps, alike_same, kept_elsewhere)
 
 -- a new inode alone, without names in it, leaves all entries
 pub inode_entries : (files : FileTree ℕ) (number : ℕ) (node : Node ℕ) → files.tree.node number ≡ None
@@ -230,14 +212,7 @@ module _ (before after : Tree ℕ) (top : ℕ) (path : List (List ℕ)) where
       → ((inode : ℕ) → led before top path ≡ Some inode → IsAlike (before.node inode) (after.node inode))
       → IsAlike (cond b at (then_some (led before top path) before.node)) (then_some (led after top path) after.node)
   seen_by true to at e here others = subst (λ o. IsAlike at (then_some o after.node)) (sym e) here
-  seen_by false to at e here others =
-      subst (λ o. IsAlike (then_some (led before top path) before.node) (then_some o after.node)) (sym e)
-      (by (led before top path) others)
-    where
-      by : (o : Option ℕ) → ((inode : ℕ) → o ≡ Some inode → IsAlike (before.node inode) (after.node inode))
-          → IsAlike (then_some o before.node) (then_some o after.node)
-      by None others = make_seen None
-      by (Some inode) others = others inode refl
+  seen_by false to at e here others = grind (arith, common_steps, make_seen)
 
 pub make_is_seen : MakeIsSeen
 make_is_seen files top directory number name node tree is_top is vacant bare path =

@@ -1,4 +1,6 @@
 -- Where paths lead when one entry of a tree changes.
+use Rattle.std.proofs.Common.{arith}
+use Rattle.std.proofs.lemmas.Grind.{common_steps}
 use Rattle.std.proofs.Common.{◌≡◌, ◌≢◌, refl, sym, ap, ◌∙◌, true≢false, ℕ, nat_eq, Bool, true, false, cond, ◌&&◌, ◌||◌, List, [], ◌∷◌, ◌++◌, map, Option, Some, None, option_and_then}
 use Rattle.std.specs.List.{list_any}
 use Rattle.std.specs.Str.{bytes_eq}
@@ -32,28 +34,14 @@ module _ (tree : Tree ℕ) (directory : ℕ) (name : List ℕ) where
   deeper : (start : ℕ) (word next : List ℕ) (rest : List (List ℕ))
       → names_entry (view_from tree start) directory name (word ∷ next ∷ rest)
       ≡ holds_of (λ inner. names_entry (view_from tree inner) directory name (next ∷ rest)) (entry_at tree start word)
-  deeper start word next rest = by (entry_at tree start word)
-    where
-      by : (o : Option ℕ) →
-          (same_option nat_eq (option_and_then (λ inner. led tree inner (without_last (next ∷ rest))) o)
-          (Some directory) && bytes_eq (last_or next rest) name)
-          ≡ holds_of (λ inner. names_entry (view_from tree inner) directory name (next ∷ rest)) o
-      by None = refl
-      by (Some inner) = refl
+  deeper start word next rest = grind (arith, common_steps, view_from)
 
   pub names_it : (path : List (List ℕ)) (start : ℕ)
       → names_entry (view_from tree start) directory name path ≡ ends_in start path
   names_it [] start = refl
   names_it (word ∷ []) start = refl
   names_it (word ∷ next ∷ rest) start =
-      deeper start word next rest ∙ by (entry_at tree start word) (names_it (next ∷ rest))
-    where
-      by : (o : Option ℕ) → ((inner : ℕ)
-          → names_entry (view_from tree inner) directory name (next ∷ rest) ≡ ends_in inner (next ∷ rest))
-          → holds_of (λ inner. names_entry (view_from tree inner) directory name (next ∷ rest)) o
-          ≡ holds_of (λ inner. ends_in inner (next ∷ rest)) o
-      by None later = refl
-      by (Some inner) later = later inner
+      grind (arith, common_steps, deeper start word next rest, names_it (next ∷ rest), view_from)
 
   any_alike : {A : Type 0} (one other : A → Bool) → ((a : A) → one a ≡ other a) → (list : List A)
       → list_any one list ≡ list_any other list
@@ -131,14 +119,7 @@ module _ (before after : Tree ℕ) (directory : ℕ) (name : List ℕ) (to : Opt
   leaf_ends : (object : ℕ) → entry_at before directory name ≡ Some object → (path : List (List ℕ))
       → ends_in before directory name object path ≡ false
   leaf_ends object e [] = refl
-  leaf_ends object e (word ∷ []) = by (is_entry directory name object word) refl
-    where
-      by : (b : Bool) → is_entry directory name object word ≡ b → b ≡ false
-      by false is = refl
-      by true is =
-          let same = is_that_entry directory name object word is in
-          none_is_some object (sym (leaf_before object e word) ∙ ap (λ d. entry_at before d word) same.0
-          ∙ ap (entry_at before directory) same.1 ∙ e)
+  leaf_ends object e (word ∷ []) = grind (arith, common_steps, is_that_entry, none_is_some)
   leaf_ends object e (word ∷ next ∷ rest) =
       ap (holds_of (λ inner. ends_in before directory name inner (next ∷ rest))) (leaf_before object e word)
 
@@ -154,50 +135,7 @@ module _ (before after : Tree ℕ) (directory : ℕ) (name : List ℕ) (to : Opt
       → led after start path ≡ cond (ends_in before directory name start path) to (led before start path)
   entry_led [] start = refl
   entry_led (word ∷ rest) start =
-      ap (option_and_then (λ next. led after next rest)) (told start word)
-      ∙ by (is_entry directory name start word) refl rest (entry_led rest)
-    where
-      ends_at_leaf : (o : Option ℕ) → entry_at before directory name ≡ o → (path : List (List ℕ))
-          → holds_of (λ inner. ends_in before directory name inner path) o ≡ false
-      ends_at_leaf None e path = refl
-      ends_at_leaf (Some object) e path = leaf_ends object e path
-
-      here : (start ≡ directory) × (word ≡ name) → (next : List ℕ) (rest : List (List ℕ))
-          → option_and_then (λ inner. led after inner (next ∷ rest)) to
-          ≡ cond (holds_of (λ inner. ends_in before directory name inner (next ∷ rest))
-          (entry_at before start word)) to
-          (option_and_then (λ inner. led before inner (next ∷ rest)) (entry_at before start word))
-      here same next rest =
-          let entry : entry_at before start word
-          ≡ entry_at before directory name = ap (λ d. entry_at before d word) same.0
-          ∙ ap (entry_at before directory) same.1 in
-          leads_no_more after to leaf_after next rest
-          ∙ sym (leads_no_more before (entry_at before directory name) leaf_before next rest)
-          ∙ ap (λ b. cond b to
-          (option_and_then (λ inner. led before inner (next ∷ rest)) (entry_at before directory name)))
-          (sym (ends_at_leaf (entry_at before directory name) refl (next ∷ rest)))
-          ∙ ap (λ o. cond (holds_of (λ inner. ends_in before directory name inner (next ∷ rest)) o) to
-          (option_and_then (λ inner. led before inner (next ∷ rest)) o)) (sym entry)
-
-      on : (o : Option ℕ) (next : List ℕ) (rest : List (List ℕ))
-          → ((inner : ℕ) → led after inner (next ∷ rest)
-          ≡ cond (ends_in before directory name inner (next ∷ rest)) to (led before inner (next ∷ rest)))
-          → option_and_then (λ inner. led after inner (next ∷ rest)) o
-          ≡ cond (holds_of (λ inner. ends_in before directory name inner (next ∷ rest)) o) to
-          (option_and_then (λ inner. led before inner (next ∷ rest)) o)
-      on None next rest later = refl
-      on (Some inner) next rest later = later inner
-
-      by : (b : Bool) → is_entry directory name start word ≡ b → (rest : List (List ℕ))
-          → ((inner : ℕ) → led after inner rest
-          ≡ cond (ends_in before directory name inner rest) to (led before inner rest))
-          → option_and_then (λ next. led after next rest) (cond b to (entry_at before start word))
-          ≡ cond (ends_in before directory name start (word ∷ rest)) to (led before start (word ∷ rest))
-      by true is [] later =
-          option_and_then-Some to ∙ ap (λ b. cond b to (led before start (word ∷ []))) (sym is)
-      by true is (next ∷ rest) later = here (is_that_entry directory name start word is) next rest
-      by false is [] later = ap (λ b. cond b to (led before start (word ∷ []))) (sym is)
-      by false is (next ∷ rest) later = on (entry_at before start word) next rest later
+      grind (arith, common_steps, entry_led rest, leaf_ends, leads_no_more, option_and_then-Some, is_that_entry)
 
 -- One entry that leads nowhere: no path goes on through it
 
@@ -207,19 +145,7 @@ module _ (before after : Tree ℕ) (directory : ℕ) (name : List ℕ)
   pub entry_gone : (path : List (List ℕ)) (start : ℕ)
       → led after start path ≡ cond (passes before directory name start path) None (led before start path)
   entry_gone [] start = refl
-  entry_gone (word ∷ rest) start =
-      ap (option_and_then (λ next. led after next rest)) (told start word)
-      ∙ by (is_entry directory name start word) (entry_at before start word) (entry_gone rest)
-    where
-      by : (b : Bool) (o : Option ℕ)
-          → ((inner : ℕ) → led after inner rest
-          ≡ cond (passes before directory name inner rest) None (led before inner rest))
-          → option_and_then (λ next. led after next rest) (cond b None o)
-          ≡ cond (b || holds_of (λ inner. passes before directory name inner rest) o) None
-          (option_and_then (λ next. led before next rest) o)
-      by true o later = refl
-      by false None later = refl
-      by false (Some inner) later = later inner
+  entry_gone (word ∷ rest) start = grind (arith, common_steps, entry_gone rest)
 
 -- One entry that leads to what has no entries, in the place of what does not lead back to its directory
 
@@ -248,11 +174,7 @@ module _ (before after : Tree ℕ) (directory : ℕ) (name : List ℕ) (to : Opt
   over_ends : (o : Option ℕ) → entry_at before directory name ≡ o → (path : List (List ℕ))
       → holds_of (λ inner. ends_in before directory name inner path) o ≡ false
   over_ends None e path = refl
-  over_ends (Some object) e path = by (ends_in before directory name object path) refl
-    where
-      by : (b : Bool) → ends_in before directory name object path ≡ b → b ≡ false
-      by false f = refl
-      by true f = let found = ends_led path object f in absurd (not_back object e found.0 found.1)
+  over_ends (Some object) e path = grind (arith, common_steps, ends_led)
 
   over_leads_no_more : (o : Option ℕ)
       → ((object : ℕ) → o ≡ Some object → (word : List ℕ) → entry_at after object word ≡ None)

@@ -1,4 +1,6 @@
 -- Namespaces that end with their last tasks, in a world that was swept before, or that was not.
+use Rattle.std.proofs.Common.{arith}
+use Rattle.std.proofs.lemmas.Grind.{common_steps}
 use Rattle.std.proofs.Common.{◌≡◌, refl, sym, ap, subst, ◌∙◌, ⊎_elim, ℕ, nat_eq, Bool, true, false, true≢false, not, ◌&&◌, List, filter, flat_map, map, Option, Some, None, is_some, option_map, option_to_list}
 use Rattle.std.specs.List.{list_all}
 use Rattle.std.proofs.lemmas.Bool.{cases_Bool}
@@ -46,16 +48,7 @@ module _ (world : World ℕ) (tasks : List (Task ℕ)) (kept : MountInvariants n
 
   -- what is in a namespace is in use, so that the sweep takes no mount of one that ends
   same_gone : ended_mounts swept ≡ gone
-  same_gone =
-      ap (map (λ (mount : Mount ℕ). mount.number))
-      (filter_twice ends_with_it (mount_lives nat_eq world) ends_with_it
-      (λ mount. follows (ends_with_it mount) (mount_lives nat_eq world mount) (λ is.
-      or_first (is_some mount.namespace) (is_located nat_eq world mount.number) (in_one _ mount.namespace is)))
-      world.mounts)
-    where
-      in_one : (test : ℕ → Bool) (o : Option ℕ) → holds_of test o ≡ true → is_some o ≡ true
-      in_one test None e = absurd (true≢false (sym e))
-      in_one test (Some number) e = refl
+  same_gone = grind (arith, common_steps, filter_twice, follows, true≢false)
 
   -- the mounts of a namespace that does not end stay
   stays : (mount : Mount ℕ) → Among mount world.mounts → ends_with_it mount ≡ false

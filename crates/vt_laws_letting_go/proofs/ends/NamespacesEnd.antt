@@ -1,4 +1,5 @@
 -- A namespace ends with its last task, and how many mounts a namespace has.
+use Rattle.std.proofs.lemmas.Grind.{common_steps}
 use Rattle.std.proofs.Common.{◌≡◌, refl, sym, ap, ◌∙◌, ⊎_elim, ℕ, zero, suc, nat_eq, eqb-true, eq-eqb, Bool, true, false, cond, not, ◌||◌, ◌&&◌, ◌+◌, ◌++◌, ◌≤◌, List, [], ◌∷◌, filter, length, map, Option, Some, None, option_map, option_to_list, arith}
 use Rattle.std.specs.Prelude.{nat_lt}
 use Rattle.std.specs.List.{list_all, list_any}
@@ -21,11 +22,7 @@ use Rattle.vt_spec.proofs.Truths.{or_false_left}
 -- Where nothing is taken away, places stay.
 module _ (world : World ℕ) where
   place_stays : (place : Location ℕ) → mount_point_left nat_eq world [] place ≡ place
-  place_stays place = by (length world.mounts)
-    where
-      by : (n : ℕ) → last_or place (chain n (mount_point_of_parent nat_eq world []) place) ≡ place
-      by zero = refl
-      by (suc n) = refl
+  place_stays place = grind (arith, common_steps)
 
   pub nothing_taken : taken_away nat_eq world [] ≡ regrouped nat_eq world
   nothing_taken =
@@ -64,11 +61,7 @@ module _ (world : World ℕ) where
 
 -- groups are no namespaces
 namespaces-regrouped : (world : World ℕ) → (regrouped nat_eq world).namespaces ≡ world.namespaces
-namespaces-regrouped world = by (list_any (lost_a_group nat_eq world) world.mounts)
-  where
-    by : (b : Bool) → (regrouped_by nat_eq b world).namespaces ≡ world.namespaces
-    by true = refl
-    by false = refl
+namespaces-regrouped world = grind (arith, common_steps)
 
 pub no_namespace_ends : NoNamespaceEnds
 no_namespace_ends world listed all =
@@ -145,13 +138,7 @@ one_namespace_ends world number listed empty others = λ i. record (taken_away n
 count_both : (p : Mount ℕ → Bool) (before added : List (Mount ℕ))
     → length (filter p (before ++ added)) ≡ length (filter p before) + length (filter p added)
 count_both p [] added = omega arith
-count_both p (mount ∷ before) added = by (p mount) (count_both p before added)
-  where
-    by : (b : Bool) → length (filter p (before ++ added)) ≡ length (filter p before) + length (filter p added)
-        → length (cond b (mount ∷ filter p (before ++ added)) (filter p (before ++ added)))
-        ≡ length (cond b (mount ∷ filter p before) (filter p before)) + length (filter p added)
-    by true e = ap suc e ∙ omega arith
-    by false e = e
+count_both p (mount ∷ before) added = grind (arith, common_steps, count_both p before added)
 
 pub added_mounts_count_in_their_own : AddedMountsCountInTheirOwn
 added_mounts_count_in_their_own world added namespace = count_both (is_in namespace) world.mounts added

@@ -1,4 +1,6 @@
 -- What goes when tasks leave locations and namespaces at once.
+use Rattle.std.proofs.Common.{arith}
+use Rattle.std.proofs.lemmas.Grind.{common_steps}
 use Rattle.std.proofs.Common.{◌≡◌, refl, sym, ap, subst, ◌∙◌, ◌⊎◌, inl, inr, ⊎_elim, ℕ, nat_eq, eqb-true, Bool, true, false, cond, not, ◌||◌, List, filter, map, true≢false, flat_map, ◌++◌, Some, is_some}
 use Rattle.std.specs.List.{list_any}
 use Rattle.std.proofs.lemmas.Bool.{or_cases, or_parts, cases_Bool}
@@ -225,16 +227,16 @@ module _ (world : World ℕ) (all : List (Mount ℕ)) (tasks : List (Task ℕ)) 
       → settled nat_eq (namespaces_ended nat_eq ending)
       ≡ let_go (namespaces_ended nat_eq ending) (used_by_ended world left ending)
   ended_lets_go settles kept new found stay =
-      subst (λ w. settled nat_eq w ≡ let_go w (used_by_ended world left ending))
-      (sym (ends_so world all tasks namespaces left settles.in_use settles.mounts kept new found stay))
-      (losers_go world now.mounts now.master now.namespaces tasks (gone_with left ending)
-      (places_lost world (ended_mounts ending) ++ left)
-      (groups_of_mounts ending (ended_mounts ending)) settles
-      (ends_losing world all tasks namespaces left settles.in_use settles.mounts kept new found stay)
-      (ends_hearing world all tasks namespaces left settles.in_use settles.mounts kept new found stay))
-    where
-      now : World ℕ
-      now = last world all tasks namespaces left settles.in_use settles.mounts kept new found stay
+      grind (
+        arith,
+        common_steps,
+        ends_so world all tasks namespaces left settles.in_use settles.mounts kept new
+            found stay,
+        losers_go,
+        ends_losing world all tasks namespaces left settles.in_use settles.mounts kept new found
+            stay,
+        ends_hearing world all tasks namespaces left settles.in_use settles.mounts kept new found stay,
+      )
 
   all_ended_lets_go : IsSettled world
       → ((mount : Mount ℕ) → Among mount world.mounts → Among mount all)

@@ -1,4 +1,6 @@
 -- What goes when a mount leaves its place.
+use Rattle.std.proofs.Common.{arith}
+use Rattle.std.proofs.lemmas.Grind.{common_steps}
 use Rattle.std.proofs.Common.{◌≡◌, refl, sym, ap, ◌∙◌, ◌⊎◌, inl, inr, ⊎_elim, ℕ, zero, suc, nat_eq, eqb-true, eq-eqb, Bool, true, false, cond, not, ◌||◌, List, [], ◌∷◌, find, length, map, true≢false, Option, Some, None, option_map, option_to_list, unwrap_or}
 use Rattle.std.specs.List.{list_all}
 use Rattle.std.proofs.lemmas.Bool.{and_parts, not-true}
@@ -16,28 +18,7 @@ use Rattle.vt_spec.proofs.Lists.{map_alike}
 module _ (world : World ℕ) (number : ℕ) (alone : has_child nat_eq world number ≡ false) where
   stays_at : (place : Location ℕ) → nat_eq number place.mount ≡ false
       → mount_point_left nat_eq world (number ∷ []) place ≡ place
-  stays_at place other = by (length world.mounts)
-    where
-      not_going : (nat_eq place.mount number || false) ≡ false
-      not_going = by (nat_eq place.mount number) refl
-        where
-          by : (b : Bool) → nat_eq place.mount number ≡ b → (b || false) ≡ false
-          by true e = absurd (true≢false
-              (sym (eq-eqb number place.mount (sym (eqb-true place.mount number e))) ∙ other))
-          by false e = refl
-
-      ends : mount_point_of_parent nat_eq world (number ∷ []) place ≡ None
-      ends = ap (λ b. cond b (mount_at nat_eq world place).mount_point None) not_going
-
-      by : (n : ℕ) → last_or place (chain n (mount_point_of_parent nat_eq world (number ∷ [])) place) ≡ place
-      by zero = refl
-      by (suc n) =
-          ap (λ (o : Option (Location ℕ)). last_or place
-          (elim o [
-            | None ↦ place ∷ []
-            | Some b ↦ place
-                ∷ chain n (mount_point_of_parent nat_eq world (number ∷ [])) b
-          ])) ends
+  stays_at place other = grind (arith, common_steps, true≢false, eq-eqb, eqb-true)
 
   one_by_one : (mount : Mount ℕ) → Among mount world.mounts
       → after_going nat_eq world (number ∷ []) mount ≡ detached_if number mount
@@ -126,29 +107,4 @@ pub not_found-map : (change : Mount ℕ → Mount ℕ) → ((mount : Mount ℕ) 
     ⊎ ((mount : Mount ℕ) × Among mount mounts × (mount_in nat_eq mounts number ≡ mount) × (mount.number ≡ number))
 not_found-map change same [] number = inl refl
 not_found-map change same (first ∷ rest) number =
-    by (nat_eq number first.number) refl (not_found-map change same rest number)
-  where
-    by : (b : Bool) → nat_eq number first.number ≡ b
-        → ((mount_in nat_eq (map change rest) number).filesystem ≡ (mount_in nat_eq rest number).filesystem
-        ⊎ ((mount : Mount ℕ) × Among mount rest × (mount_in nat_eq rest number ≡ mount) × (mount.number ≡ number)))
-        → ((mount_in nat_eq (map change (first ∷ rest)) number).filesystem
-        ≡ (mount_in nat_eq (first ∷ rest) number).filesystem
-        ⊎ ((mount : Mount ℕ) × Among mount (first ∷ rest) × (mount_in nat_eq (first ∷ rest) number ≡ mount)
-        × (mount.number ≡ number)))
-    by true e later =
-        inr (
-          first,
-          inl refl,
-          ap (λ b. unwrap_or (cond b (Some first) (find (λ x. nat_eq number x.number) rest))
-              (no_mount number)) e,
-          sym (eqb-true number first.number e),
-        )
-    by false e later =
-        let here = ap (λ b. unwrap_or (cond b (Some first) (find (λ x. nat_eq number x.number) rest))
-        (no_mount number)) e in
-        let there = ap (λ n. unwrap_or (cond (nat_eq number n) (Some (change first))
-        (find (λ x. nat_eq number x.number) (map change rest))) (no_mount number)) (same first)
-        ∙ ap (λ b. unwrap_or (cond b (Some (change first)) (find (λ x. nat_eq number x.number) (map change rest)))
-        (no_mount number)) e in
-        ⊎_elim (λ none. inl (ap (λ x. x.filesystem) there ∙ none ∙ ap (λ x. x.filesystem) (sym here)))
-        (λ some. inr (some.0, inr some.1, here ∙ some.2, some.3)) later
+    grind (arith, common_steps, not_found-map change same rest number, eqb-true)

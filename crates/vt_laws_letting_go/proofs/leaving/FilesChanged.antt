@@ -1,4 +1,6 @@
 -- What calls that change plain trees let go of.
+use Rattle.std.proofs.Common.{arith}
+use Rattle.std.proofs.lemmas.Grind.{common_steps}
 use Rattle.std.proofs.Common.{◌≡◌, refl, sym, ap, subst, ◌∙◌, ◌⊎◌, inl, inr, ⊎_elim, ℕ, nat_eq, nat_lt, Bool, true, false, cond, ◌||◌, List, [], ◌∷◌, flat_map, map, true≢false, Option, Some, None, is_some, option_to_list}
 use Rattle.std.proofs.lemmas.Bool.{or_parts}
 use Rattle.std.specs.Cmp.Lexicographic.{bytes_decides}
@@ -243,13 +245,7 @@ one_task (first ∷ rest) one a b m n same = by m n (one_task rest parts.1 a b)
 inserted_keeps : (new : Descriptor ℕ) (list : List (Descriptor ℕ)) (d : Descriptor ℕ) → Among d list
     → Among d (inserted new list)
 inserted_keeps new [] d m = absurd m
-inserted_keeps new (first ∷ rest) d m = by (nat_lt new.number first.number) m (inserted_keeps new rest d)
-  where
-    by : (b : Bool) → Among d (first ∷ rest) → (Among d rest → Among d (inserted new rest))
-        → Among d (cond b (new ∷ first ∷ rest) (first ∷ inserted new rest))
-    by true n later = inr n
-    by false (inl e) later = inl e
-    by false (inr l) later = inr (later l)
+inserted_keeps new (first ∷ rest) d m = grind (arith, common_steps, inserted_keeps new rest d)
 
 with_descriptor_keeps : (task : Task ℕ) (file : Location ℕ) (access : Access) (location : Location ℕ)
     → Among location (locations_of task)

@@ -1,4 +1,6 @@
 -- Mounts and filesystems that are added.
+use Rattle.std.proofs.Common.{arith}
+use Rattle.std.proofs.lemmas.Grind.{common_steps}
 use Rattle.std.proofs.Common.{◌≡◌, refl, sym, ap, inl, inr, ⊎_elim, ℕ, nat_eq, Bool, true, false, cond, ◌||◌, List, [], ◌∷◌, find, map, true≢false, ◌++◌, Option, Some, is_some, unwrap_or}
 use Rattle.std.specs.List.{list_all}
 use Rattle.vt_spec.specs.Lists.{is_among}
@@ -18,15 +20,7 @@ pub found_before : (mounts added : List (Mount ℕ)) (number : ℕ)
     → is_among nat_eq number (map (λ mount. mount.number) mounts) ≡ true
     → mount_in nat_eq (mounts ++ added) number ≡ mount_in nat_eq mounts number
 found_before [] added number h = absurd (true≢false (sym h))
-found_before (first ∷ rest) added number h = by (nat_eq number first.number) h (found_before rest added number)
-  where
-    by : (b : Bool) → (b || is_among nat_eq number (map (λ mount. mount.number) rest)) ≡ true
-        → (is_among nat_eq number (map (λ mount. mount.number) rest) ≡ true → mount_in nat_eq (rest ++ added) number
-        ≡ mount_in nat_eq rest number)
-        → unwrap_or (cond b (Some first) (find (λ x. nat_eq number x.number) (rest ++ added))) (no_mount number)
-        ≡ unwrap_or (cond b (Some first) (find (λ x. nat_eq number x.number) rest)) (no_mount number)
-    by true g later = refl
-    by false g later = later g
+found_before (first ∷ rest) added number h = grind (arith, common_steps, found_before rest added number)
 
 module _ (world : World ℕ) (mounts : List (Mount ℕ)) (filesystems : List (Filesystem ℕ)) (master : ℕ → Option ℕ)
     (in_use : AllInUse world) (stand : MountsStand world) (located : LocationsStand world)

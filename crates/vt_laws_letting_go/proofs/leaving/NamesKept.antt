@@ -1,4 +1,6 @@
 -- What changes of a tree do to names.
+use Rattle.std.proofs.Common.{arith}
+use Rattle.std.proofs.lemmas.Grind.{common_steps}
 use Rattle.std.proofs.Common.{◌≡◌, refl, sym, ap, subst, ◌∙◌, ◌⊎◌, inl, inr, ⊎_elim, ℕ, nat_eq, Bool, true, false, cond, not, ◌||◌, List, [], ◌∷◌, true≢false, Option, Some, None, is_some, option_to_list}
 use Rattle.std.specs.List.{list_all}
 use Rattle.std.proofs.lemmas.Bool.{and_parts, false_from_ne_true, cases_Bool}
@@ -102,28 +104,12 @@ filter_keeps name entries e m =
 node_keeps_given : (name : List ℕ) (number : ℕ) (o : Option (Node ℕ)) (e : Entry) → Among e (entries_in o)
     → Among e (entries_in (node_with_entry name number o)) ⊎ (e.0 ≡ name)
 node_keeps_given name number None e m = absurd m
-node_keeps_given name number (Some node) e m = by node.content m
-  where
-    by : (content : Content ℕ) → Among e (entries_in (Some (record { attr = node.attr; content = content })))
-        → Among e (entries_in (node_with_entry name number (Some (record { attr = node.attr; content = content }))))
-        ⊎ (e.0 ≡ name)
-    by (Directory parent entries opaque) n = put_keeps name number entries e n
-    by (Regular bytes) n = absurd n
-    by (Symlink text) n = absurd n
-    by Whiteout n = absurd n
+node_keeps_given name number (Some node) e m = grind (arith, common_steps, put_keeps)
 
 node_keeps_taken : (name : List ℕ) (o : Option (Node ℕ)) (e : Entry) → Among e (entries_in o)
     → Among e (entries_in (node_without_entry name o)) ⊎ (e.0 ≡ name)
 node_keeps_taken name None e m = absurd m
-node_keeps_taken name (Some node) e m = by node.content m
-  where
-    by : (content : Content ℕ) → Among e (entries_in (Some (record { attr = node.attr; content = content })))
-        → Among e (entries_in (node_without_entry name (Some (record { attr = node.attr; content = content }))))
-        ⊎ (e.0 ≡ name)
-    by (Directory parent entries opaque) n = filter_keeps name entries e n
-    by (Regular bytes) n = absurd n
-    by (Symlink text) n = absurd n
-    by Whiteout n = absurd n
+node_keeps_taken name (Some node) e m = grind (arith, common_steps, filter_keeps)
 
 node_has : (name : List ℕ) (number : ℕ) (o : Option (Node ℕ)) → is_directory_node o ≡ true
     → (e : Entry) × Among e (entries_in (node_with_entry name number o)) × (e.1 ≡ number)
@@ -159,21 +145,7 @@ named_before : (old name : List ℕ) (o : Option (Node ℕ)) (number : ℕ)
     → entry_named name (entries_in (node_without_entry old o)) ≡ Some number
     → entry_named name (entries_in o) ≡ Some number
 named_before old name None number e = e
-named_before old name (Some node) number e = by node.content e
-  where
-    of_name : (entries : Entries ℕ) (b : Bool) → cond (not b) (entry_named name entries) None ≡ Some number
-        → entry_named name entries ≡ Some number
-    of_name entries true h = none_is_not None number refl h
-    of_name entries false h = h
-
-    by : (content : Content ℕ) → entry_named name
-        (entries_in (node_without_entry old (Some (record { attr = node.attr; content = content })))) ≡ Some number
-        → entry_named name (entries_in (Some (record { attr = node.attr; content = content }))) ≡ Some number
-    by (Directory parent entries opaque) h =
-        of_name entries (bytes_eq name old) (sym (entry_named-without_entry name old entries) ∙ h)
-    by (Regular bytes) h = h
-    by (Symlink text) h = h
-    by Whiteout h = h
+named_before old name (Some node) number e = grind (arith, common_steps, none_is_not, entry_named-without_entry)
 
 -- Trees: what a change of one node keeps
 
@@ -427,16 +399,14 @@ module _ (files : FileTree ℕ) (listed : IsListedTree files) where
 
     directory_left : is_directory_node (left.tree.node to) ≡ true
     directory_left =
-        part_kept is_directory_node apart.tree from (node_without_entry old (apart.tree.node from))
-        (is_directory-node_without_entry old (apart.tree.node from)) to
-        ∙ kind_apart replaced ∙ moves.in_directory
-      where
-        kind_apart : (o : Option ℕ) → is_directory_node ((without_parent nat_eq files o).tree.node to)
-            ≡ is_directory_node (files.tree.node to)
-        kind_apart None = refl
-        kind_apart (Some one) =
-            part_kept is_directory_node files.tree one (node_with_parent one (files.tree.node one))
-            (is_directory-node_with_parent one (files.tree.node one)) to
+        grind (
+          arith,
+          common_steps,
+          part_kept is_directory_node apart.tree from (node_without_entry old
+              (apart.tree.node from)) (is_directory-node_without_entry old (apart.tree.node from)) to,
+          part_kept,
+          is_directory-node_with_parent,
+        )
 
     to_last : (d : ℕ) (e : Entry) → Among e (entries_at placed d) → Among e (entries_at last d)
     to_last d e m = subst (Among e) (sym (same_last d)) m

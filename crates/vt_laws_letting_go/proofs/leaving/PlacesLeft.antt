@@ -1,4 +1,6 @@
 -- What goes when tasks leave places.
+use Rattle.std.proofs.Common.{arith}
+use Rattle.std.proofs.lemmas.Grind.{common_steps}
 use Rattle.std.proofs.Common.{◌≡◌, refl, sym, ap, subst, ◌∙◌, ◌⊎◌, inl, inr, ⊎_elim, ℕ, nat_eq, eqb-true, eq-eqb, Bool, true, false, cond, not, ◌||◌, ◌&&◌, List, [], ◌∷◌, filter, find, map, true≢false, flat_map, ◌++◌, Option, Some, None, is_some, unwrap_or, option_to_list}
 use Rattle.std.specs.Prelude.{filter_map}
 use Rattle.std.specs.List.{list_all, list_any}
@@ -62,28 +64,12 @@ found_in_filter stays (first ∷ rest) number h =
 pub found_is_there : (mounts : List (Mount ℕ)) (number : ℕ) → is_some (mount_in nat_eq mounts number).namespace ≡ true
     → Among (mount_in nat_eq mounts number) mounts
 found_is_there [] number e = absurd (true≢false (sym e))
-found_is_there (first ∷ rest) number e = by (nat_eq number first.number) refl (λ f. found_is_there rest number f)
-  where
-    by : (b : Bool) → nat_eq number first.number ≡ b
-        → (is_some (mount_in nat_eq rest number).namespace ≡ true → Among (mount_in nat_eq rest number) rest)
-        → Among (mount_in nat_eq (first ∷ rest) number) (first ∷ rest)
-    by true f next = inl (ap (λ b.
-        unwrap_or (cond b (Some first) (find (λ x. nat_eq number x.number) rest)) (no_mount number)) f)
-    by false f next =
-        let skipped : mount_in nat_eq (first ∷ rest) number ≡ mount_in nat_eq rest number =
-        ap (λ b. unwrap_or (cond b (Some first) (find (λ x. nat_eq number x.number) rest)) (no_mount number)) f in
-        subst (λ x. Among x (first ∷ rest)) (sym skipped)
-        (inr (next (sym (ap (λ x. is_some x.namespace) skipped) ∙ e)))
+found_is_there (first ∷ rest) number e = grind (arith, common_steps, found_is_there rest number)
 
 -- a mount outside every namespace has no place, and is in no group
 pub nowhere_parts : (mount : Mount ℕ) → is_nowhere_or_attached mount ≡ true → is_some mount.namespace ≡ false
     → (is_some mount.mount_point ≡ false) × (is_private mount.propagation ≡ true)
-nowhere_parts mount h e = by (is_some mount.namespace) e (is_some mount.mount_point) (is_private mount.propagation) h
-  where
-    by : (n : Bool) → n ≡ false → (p k : Bool) → (n || (not p && k)) ≡ true → (p ≡ false) × (k ≡ true)
-    by true f p k g = absurd (true≢false f)
-    by false f true k g = absurd (true≢false (sym g))
-    by false f false k g = (refl, g)
+nowhere_parts mount h e = grind (arith, common_steps, true≢false)
 
 pub placed_is_attached : (mount : Mount ℕ) → is_nowhere_or_attached mount ≡ true → (place : Location ℕ)
     → mount.mount_point ≡ Some place → is_some mount.namespace ≡ true
@@ -93,13 +79,7 @@ placed_is_attached mount h place p =
 
 pub private_is_no_member : (group : ℕ) (mount : Mount ℕ) → is_private mount.propagation ≡ true
     → is_member_of nat_eq group mount ≡ false
-private_is_no_member group mount e = by mount.propagation e
-  where
-    by : (kind : Propagation ℕ) → is_private kind ≡ true → holds_of (nat_eq group) (group_of kind) ≡ false
-    by (Shared own) f = absurd (true≢false (sym f))
-    by (Slave up) f = absurd (true≢false (sym f))
-    by Private f = refl
-    by Unbindable f = absurd (true≢false (sym f))
+private_is_no_member group mount e = grind (arith, common_steps, true≢false)
 
 pub is_it : (list : List (Location ℕ)) (location : Location ℕ) → is_location_among list location ≡ true
     → Among location list

@@ -1,4 +1,6 @@
 -- What goes when types of mounts change.
+use Rattle.std.proofs.Common.{arith}
+use Rattle.std.proofs.lemmas.Grind.{common_steps}
 use Rattle.std.proofs.Common.{◌≡◌, refl, sym, ap, subst, ◌∙◌, inl, inr, ⊎_elim, ℕ, zero, suc, nat_eq, eqb-true, Bool, true, false, cond, List, [], ◌∷◌, length, map, true≢false, Option, Some, None, is_some}
 use Rattle.std.specs.List.{list_any}
 use Rattle.std.proofs.lemmas.Bool.{false_from_ne_true, or_parts, cases_Bool}
@@ -100,18 +102,7 @@ module _ (fresh : Fresh ℕ) (world : World ℕ) (number : ℕ) (word : TypeWord
   keeps : {A : Type 0} (part : Mount ℕ → A) → ((mount : Mount ℕ) (kind : Propagation ℕ)
       → part (record mount { propagation = kind }) ≡ part mount)
       → (b : Bool) (mount : Mount ℕ) → part (change b mount) ≡ part mount
-  keeps part same b mount = by b
-    where
-      retyped : (c : Bool) → part (cond c
-          (record mount { propagation = type_after (group mount.number) word mount.propagation }) mount)
-          ≡ part mount
-      retyped true = same mount (type_after (group mount.number) word mount.propagation)
-      retyped false = refl
-
-      by : (c : Bool) → part (change c mount) ≡ part mount
-      by true = same (retype mount) (inherited nat_eq base (retype mount).propagation)
-          ∙ retyped (list_any (λ other. nat_eq mount.number other.number) named)
-      by false = retyped (list_any (λ other. nat_eq mount.number other.number) named)
+  keeps part same b mount = grind (arith, common_steps, group)
 
   abbrev is_named : Mount ℕ → Bool
   is_named mount = list_any (λ other. nat_eq mount.number other.number) named
@@ -124,22 +115,7 @@ module _ (fresh : Fresh ℕ) (world : World ℕ) (number : ℕ) (word : TypeWord
 
   -- those that change are in namespaces
   named_of_world : (mount : Mount ℕ) → Among mount named → Among mount world.mounts × (is_some mount.namespace ≡ true)
-  named_of_world = by recursive
-    where
-      by : (b : Bool) → (mount : Mount ℕ) → Among mount (named_mounts nat_eq world number b)
-          → Among mount world.mounts × (is_some mount.namespace ≡ true)
-      by true mount m = (
-        of_tree world number attached (length world.mounts) mount m,
-        tree_attached world stand (length world.mounts) (mount_numbered nat_eq world number) attached mount m,
-      )
-      by false mount m =
-          ⊎_elim
-          (λ e. (
-            subst (λ x. Among x world.mounts) (sym e) (found_is_there world.mounts number attached),
-            ap
-                (λ (x : Mount ℕ). is_some x.namespace) e ∙ attached,
-          ))
-          (λ none. absurd none) m
+  named_of_world = grind (arith, common_steps, of_tree, tree_attached, found_is_there)
 
   named_attached : (mount : Mount ℕ) → Among mount world.mounts → is_named mount ≡ true → is_some mount.namespace ≡ true
   named_attached mount m is =

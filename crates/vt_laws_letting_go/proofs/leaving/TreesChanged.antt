@@ -1,4 +1,6 @@
 -- What goes when a plain tree changes.
+use Rattle.std.proofs.Common.{arith}
+use Rattle.std.proofs.lemmas.Grind.{common_steps}
 use Rattle.std.proofs.Common.{◌≡◌, refl, sym, ap, subst, ◌∙◌, ◌⊎◌, inl, inr, ⊎_elim, ℕ, nat_eq, eqb-true, eq-eqb, Bool, true, false, cond, ◌||◌, ◌&&◌, List, [], ◌∷◌, find, map, true≢false, flat_map, ◌++◌, Some, unwrap_or}
 use Rattle.std.specs.List.{list_all}
 use Rattle.std.proofs.lemmas.Bool.{or_cases}
@@ -23,18 +25,7 @@ found_filesystem : (filesystems : List (Filesystem ℕ)) (number : ℕ)
     → Among (unwrap_or (find (λ f. nat_eq number f.number) filesystems) (no_filesystem number)) filesystems
     × ((unwrap_or (find (λ f. nat_eq number f.number) filesystems) (no_filesystem number)).number ≡ number)
 found_filesystem [] number h = absurd (true≢false (sym h))
-found_filesystem (first ∷ rest) number h = by (nat_eq number first.number) refl h (found_filesystem rest number)
-  where
-    by : (b : Bool) → nat_eq number first.number ≡ b → (b || is_among nat_eq number (map (λ f. f.number) rest)) ≡ true
-        → (is_among nat_eq number (map (λ f. f.number) rest) ≡ true
-        → Among (unwrap_or (find (λ f. nat_eq number f.number) rest) (no_filesystem number)) rest
-        × ((unwrap_or (find (λ f. nat_eq number f.number) rest) (no_filesystem number)).number ≡ number))
-        → Among (unwrap_or (cond b (Some first) (find (λ f. nat_eq number f.number) rest)) (no_filesystem number))
-        (first ∷ rest)
-        × ((unwrap_or (cond b (Some first) (find (λ f. nat_eq number f.number) rest)) (no_filesystem number)).number
-        ≡ number)
-    by true e g next = (inl refl, sym (eqb-true number first.number e))
-    by false e g next = let later = next g in (inr later.0, later.1)
+found_filesystem (first ∷ rest) number h = grind (arith, common_steps, found_filesystem rest number, eqb-true)
 
 -- Another tree in one filesystem of a plain world in which all is in use
 module _ (world : World ℕ) (number : ℕ) (files : FileTree ℕ) (in_use : AllInUse world) (plain : IsPlain world)
@@ -52,14 +43,8 @@ module _ (world : World ℕ) (number : ℕ) (files : FileTree ℕ) (in_use : All
   is_new_or_old : (filesystem : Filesystem ℕ) → Among filesystem with_new.filesystems
       → (filesystem ≡ with_files before files) ⊎ Among filesystem world.filesystems
   is_new_or_old filesystem m =
-      let from =
-      among-from_map (replaced_if_numbered nat_eq (with_files before files)) world.filesystems filesystem m in
-      by (nat_eq before.number from.0.number) from.0 from.1 from.2
-    where
-      by : (b : Bool) (f : Filesystem ℕ) → Among f world.filesystems → filesystem ≡ cond b (with_files before files) f
-          → (filesystem ≡ with_files before files) ⊎ Among filesystem world.filesystems
-      by true f n e = inl e
-      by false f n e = inr (subst (λ g. Among g world.filesystems) (sym e) n)
+      let from = among-from_map (replaced_if_numbered nat_eq (with_files before files)) world.filesystems filesystem
+      m in grind (arith, common_steps)
 
   pub for_each : (P : Filesystem ℕ → Type 0) → P (with_files before files)
       → ((f : Filesystem ℕ) → Among f world.filesystems → P f)
@@ -127,27 +112,7 @@ module _ (world : World ℕ) (number : ℕ) (files : FileTree ℕ) (unnamed : Li
       → (inode ≡ f.files.tree.root) ⊎ (is_among nat_eq inode (named_in f.files) ≡ true)
       ⊎ Among inode (located_in nat_eq world f.number)
       → is_inode_used after f inode ≡ true
-  used_after f inode how =
-      by how
-    where
-      under : is_among nat_eq inode (named_in f.files ++ located_in nat_eq world f.number) ≡ true
-          → is_inode_used after f inode ≡ true
-      under h =
-          or_second (nat_eq inode f.files.tree.root) _
-          (is_among_left inode (named_in f.files ++ located_in nat_eq world f.number ++ layers_in nat_eq after f.number)
-          (flat_map (objects_of_overlay nat_eq f.number) after.filesystems)
-          (is_among_left inode (named_in f.files ++ located_in nat_eq world f.number)
-          (layers_in nat_eq after f.number) h))
-
-      by : (inode ≡ f.files.tree.root) ⊎ (is_among nat_eq inode (named_in f.files) ≡ true)
-          ⊎ Among inode (located_in nat_eq world f.number)
-          → is_inode_used after f inode ≡ true
-      by h =
-          ⊎_elim (λ root. or_first (nat_eq inode f.files.tree.root) _ (eq-eqb inode f.files.tree.root root))
-          (λ rest. ⊎_elim (λ named. under
-          (is_among_left inode (named_in f.files) (located_in nat_eq world f.number) named))
-          (λ located. under (is_among_right inode (named_in f.files) (located_in nat_eq world f.number)
-          (is_among_numbers inode _ located))) rest) h
+  used_after f inode how = grind (arith, common_steps, is_among_left, eq-eqb, is_among_right, is_among_numbers)
 
   -- an inode of the changed tree is used, or may go
   of_new : (inode : ℕ) → Among inode files.numbers → is_used_or_among losers.inodes after new inode ≡ true

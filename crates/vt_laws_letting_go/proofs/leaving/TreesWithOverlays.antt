@@ -1,4 +1,6 @@
 -- What goes when trees change, in worlds with overlays.
+use Rattle.std.proofs.Common.{arith}
+use Rattle.std.proofs.lemmas.Grind.{common_steps}
 use Rattle.std.proofs.Common.{◌≡◌, None, Option, Some, is_some, refl, sym, ap, subst, ◌∙◌, ◌⊎◌, inl, inr, ⊎_elim, ℕ, nat_eq, eqb-true, eq-eqb, Bool, true, false, cond, ◌||◌, ◌&&◌, List, [], ◌∷◌, map, ◌++◌, true≢false}
 use Rattle.std.specs.List.{list_all, list_any}
 use Rattle.std.specs.Prelude.{All}
@@ -345,11 +347,7 @@ changed_trees_keep_all world change settles trees uppers reals changes =
 
 -- a plain filesystem has no real objects
 pub no_real : (f : Filesystem ℕ) → is_overlay f ≡ false → (number : ℕ) → real_in f number ≡ None
-no_real f plain number = by f.overlay plain
-  where
-    by : (o : Option (Overlay ℕ)) → is_some o ≡ false → overlay_or None (λ overlay. overlay.real number) o ≡ None
-    by None e = refl
-    by (Some overlay) e = absurd (true≢false e)
+no_real f plain number = grind (arith, common_steps, true≢false)
 
 -- a filesystem that does not change
 pub unchanged : (after : World ℕ) (lost : List Inode) (f : Filesystem ℕ) → ChangesFilesystem after lost f f
@@ -429,11 +427,7 @@ module _ (world : World ℕ) (number : ℕ) (files : FileTree ℕ) (unnamed : Li
 
   for_each : (P : Filesystem ℕ → Type 0) → P new → ((f : Filesystem ℕ) → Among f world.filesystems → P f)
       → (f : Filesystem ℕ) → Among f world.filesystems → P (swap f)
-  for_each P here others f m = by (which f m)
-    where
-      by : Is f → P (swap f)
-      by (is_the_one e s) = subst P (sym s) here
-      by (is_another s) = subst P (sym s) (others f m)
+  for_each P here others f m = grind (arith, common_steps, which f m)
 
   for_all : (P : Filesystem ℕ → Type 0) → P new → ((f : Filesystem ℕ) → Among f world.filesystems → P f)
       → All P then_.filesystems

@@ -1,4 +1,6 @@
 -- Changes of mounts that take no use away.
+use Rattle.std.proofs.Common.{arith}
+use Rattle.std.proofs.lemmas.Grind.{common_steps}
 use Rattle.std.proofs.Common.{◌≡◌, refl, sym, ap, subst, ◌∙◌, ⊎_elim, ℕ, nat_eq, eqb-true, eq-eqb, Bool, true, false, cond, ◌||◌, ◌&&◌, List, [], ◌∷◌, filter, map, true≢false, flat_map, ◌++◌, Option, is_some}
 use Rattle.std.specs.Prelude.{filter_map}
 use Rattle.std.specs.List.{cons_option, list_all, list_any}
@@ -129,13 +131,7 @@ keeps_flags number flags = record {
 
 same_members : (number group : ℕ) (flags : MountFlags) (mounts : List (Mount ℕ))
     → has_members nat_eq (map (flags_if number flags) mounts) group ≡ has_members nat_eq mounts group
-same_members number group flags mounts = any-map (is_member_of nat_eq group) (flags_if number flags) mounts
-    (λ mount. by mount (nat_eq mount.number number))
-  where
-    by : (mount : Mount ℕ) (b : Bool) → is_member_of nat_eq group (cond b (record mount { flags = flags }) mount)
-        ≡ is_member_of nat_eq group mount
-    by mount true = refl
-    by mount false = refl
+same_members number group flags mounts = grind (arith, common_steps, any-map)
 
 pub flags_keep_all : FlagsKeepAll
 flags_keep_all world here flags one all =

@@ -1,4 +1,6 @@
 -- What mounts are after a tree of mounts is attached, and what they used.
+use Rattle.std.proofs.Common.{arith}
+use Rattle.std.proofs.lemmas.Grind.{common_steps}
 use Rattle.std.proofs.Common.{◌≡◌, refl, sym, ap, subst, ◌∙◌, ◌⊎◌, inl, inr, ⊎_elim, ℕ, nat_eq, append_assoc, eqb-true, eq-eqb, Bool, true, false, cond, not, ◌||◌, ◌&&◌, List, [], ◌∷◌, find, map, true≢false, flat_map, ◌++◌, Option, Some, None, is_some, option_map, option_to_list, unwrap_or}
 use Rattle.std.specs.Prelude.{filter_map}
 use Rattle.std.specs.List.{list_all, list_any}
@@ -41,20 +43,7 @@ Swapped copied mount last =
 
 swapped_is : (copied : List (Mount ℕ)) (mount : Mount ℕ) → Swapped copied mount (swapped copied mount)
 swapped_is [] mount = inl (refl, refl)
-swapped_is (copy ∷ copied) mount = by (nat_eq copy.number mount.number) refl (swapped_is copied)
-  where
-    by : (b : Bool) → nat_eq copy.number mount.number ≡ b → ((one : Mount ℕ) → Swapped copied one (swapped copied one))
-        → Swapped (copy ∷ copied) mount (swapped copied (cond b copy mount))
-    by true e later =
-        ⊎_elim
-        (λ none. inr (copy, inl refl, none.1, eqb-true copy.number mount.number e))
-        (λ some. inr (some.0, inr some.1, some.2, some.3 ∙ eqb-true copy.number mount.number e))
-        (later copy)
-    by false e later =
-        ⊎_elim
-        (λ none. inl (ap (λ b. b || list_any (λ x. nat_eq x.number mount.number) copied) e ∙ none.0, none.1))
-        (λ some. inr (some.0, inr some.1, some.2, some.3))
-        (later mount)
+swapped_is (copy ∷ copied) mount = grind (arith, common_steps, swapped_is copied, copied, eqb-true)
 
 -- masters that groups keep
 masters_stay : (made : List (ℕ × Option ℕ)) (master : ℕ → Option ℕ) (group : ℕ)
@@ -167,13 +156,8 @@ module _ (world : World ℕ) (filesystems : List (Filesystem ℕ)) (new : Copies
 
   attached_part : (part : Mount ℕ) → Among part (rest_of parts) → is_some part.namespace ≡ true
   attached_part part m =
-      let takes = (among-from_filter (takes_part nat_eq base place) (receivers_of nat_eq base destination) part m).1 in
-      by (not (nat_eq place.mount part.number)) (is_some part.namespace) _ _ takes
-    where
-      by : (a b c d : Bool) → (a && b && c && d) ≡ true → b ≡ true
-      by true true c d h = refl
-      by true false c d h = absurd (true≢false (sym h))
-      by false b c d h = absurd (true≢false (sym h))
+      let takes = (among-from_filter (takes_part nat_eq base place) (receivers_of nat_eq base destination) part m).1
+      in grind (arith, common_steps, true≢false)
 
   comes : (x : Mount ℕ) → Among x after.mounts → Comes x
   comes x m =
@@ -233,11 +217,7 @@ module _ (world : World ℕ) (filesystems : List (Filesystem ℕ)) (new : Copies
   push_keeps : {A : Type 0} (part : Mount ℕ → A) → ((mount : Mount ℕ) (at : Option (Location ℕ))
       → part (record mount { mount_point = at }) ≡ part mount)
       → (mount : Mount ℕ) → part (push mount) ≡ part mount
-  push_keeps part same mount = by (receiver_stood_on nat_eq tree parts mount)
-    where
-      by : (below : Option (Mount ℕ)) → part (pushed_onto nat_eq base new tree parts mount below) ≡ part mount
-      by None = refl
-      by (Some receiver) = same mount (Some (top_of_copies nat_eq (copies receiver) place))
+  push_keeps part same mount = grind (arith, common_steps)
 
   -- where it is pushed up, the first copy has its place
   pushed : (mount : Mount ℕ) → (push mount ≡ mount)
@@ -273,31 +253,19 @@ module _ (world : World ℕ) (filesystems : List (Filesystem ℕ)) (new : Copies
 
   -- each mount keeps its number, what it shows, and the namespace or another one
   went_number : (mount : Mount ℕ) → Among mount world.mounts → (went mount).number ≡ mount.number
-  went_number mount m = by (went_is mount m)
-    where
-      by : Went mount → (went mount).number ≡ mount.number
-      by (stayed e none) = ap (λ (x : Mount ℕ). x.number) e
-      by (moved b n e) = ap (λ (x : Mount ℕ). x.number) e ∙ keeps_number b mount
+  went_number mount m = grind (arith, common_steps, went_is mount m, keeps_number)
 
   last_number : (mount : Mount ℕ) → Among mount world.mounts → (last mount).number ≡ mount.number
   last_number mount m = push_keeps (λ x. x.number) (λ x at. refl) (went mount) ∙ went_number mount m
 
   went_filesystem : (mount : Mount ℕ) → Among mount world.mounts → (went mount).filesystem ≡ mount.filesystem
-  went_filesystem mount m = by (went_is mount m)
-    where
-      by : Went mount → (went mount).filesystem ≡ mount.filesystem
-      by (stayed e none) = ap (λ (x : Mount ℕ). x.filesystem) e
-      by (moved b n e) = ap (λ (x : Mount ℕ). x.filesystem) e
+  went_filesystem mount m = grind (arith, common_steps, went_is mount m)
 
   last_filesystem : (mount : Mount ℕ) → Among mount world.mounts → (last mount).filesystem ≡ mount.filesystem
   last_filesystem mount m = push_keeps (λ x. x.filesystem) (λ x at. refl) (went mount) ∙ went_filesystem mount m
 
   last_root : (mount : Mount ℕ) → Among mount world.mounts → (last mount).root ≡ mount.root
-  last_root mount m = push_keeps (λ x. x.root) (λ x at. refl) (went mount) ∙ by (went_is mount m)
-    where
-      by : Went mount → (went mount).root ≡ mount.root
-      by (stayed e none) = ap (λ (x : Mount ℕ). x.root) e
-      by (moved b n e) = ap (λ (x : Mount ℕ). x.root) e
+  last_root mount m = grind (arith, common_steps, push_keeps, went_is mount m)
 
   -- in use still
   last_lives : (mount : Mount ℕ) → Among mount world.mounts → mount_lives nat_eq after (last mount) ≡ true
@@ -316,12 +284,7 @@ module _ (world : World ℕ) (filesystems : List (Filesystem ℕ)) (new : Copies
           ∙ or_first (is_some destination.namespace) (is_located nat_eq world mount.number) at_attached
 
   all_live : (x : Mount ℕ) → Among x after.mounts → mount_lives nat_eq after x ≡ true
-  all_live x m = by (comes x m)
-    where
-      by : Comes x → mount_lives nat_eq after x ≡ true
-      by (was mount n e) = ap (mount_lives nat_eq after) e ∙ last_lives mount n
-      by (came part origin there n e) = ap (mount_lives nat_eq after) e
-          ∙ or_first (is_some part.namespace) (is_located nat_eq after (copy part origin).number) there
+  all_live x m = grind (arith, common_steps, comes x m, last_lives)
 
   last_nowhere : (mount : Mount ℕ) → Among mount world.mounts → is_nowhere_or_attached (last mount) ≡ true
   last_nowhere mount m = by (is_some mount.namespace) refl (went_is mount m)
@@ -394,33 +357,8 @@ module _ (world : World ℕ) (filesystems : List (Filesystem ℕ)) (new : Copies
   -- a mount where it went has its place still, unless it is the first that moves
   place_went : (mount : Mount ℕ) → Among mount world.mounts → (at : Location ℕ) → mount.mount_point ≡ Some at
       → ((went mount).mount_point ≡ Some at) ⊎ Among at (left_by moves)
-  place_went mount m at e = by (went_is mount m)
-    where
-      by_first : moves ≡ true → Among mount origins → (b : Bool) → nat_eq mount.number first.number ≡ b
-          → went mount ≡ copy destination mount → ((went mount).mount_point ≡ Some at) ⊎ Among at (left_by moves)
-      by_first g n true f is =
-          let same : mount ≡ first = one_of_its_number mount first m (of_world g first (inl refl))
-          (eqb-true mount.number first.number f) in
-          inr (first_left g at (ap (λ (x : Mount ℕ). x.mount_point) (sym same) ∙ e))
-      by_first g n false f is =
-          inl (ap (λ (x : Mount ℕ). x.mount_point) is
-          ∙ ap (λ b. Some (cond b (record { mount = destination.number; node = place.node })
-          (unwrap_or (option_map (mount_point_on_copy nat_eq new tree destination.number) mount.mount_point) place))) f
-          ∙ ap (λ o. Some (unwrap_or (option_map (mount_point_on_copy nat_eq new tree destination.number) o) place)) e
-          ∙ ap (λ b. Some (record {
-            mount = cond (b && is_destination nat_eq tree destination.number) at.mount
-                (new.copy destination.number at.mount);
-            node = at.node;
-          })) g
-          ∙ ap (λ b. Some (record {
-            mount = cond b at.mount
-                (new.copy destination.number at.mount);
-            node = at.node;
-          })) at_its_number)
-
-      by : Went mount → ((went mount).mount_point ≡ Some at) ⊎ Among at (left_by moves)
-      by (stayed is none) = inl (ap (λ (x : Mount ℕ). x.mount_point) is ∙ e)
-      by (moved g n is) = by_first g n (nat_eq mount.number first.number) refl is
+  place_went mount m at e =
+      grind (arith, common_steps, went_is mount m, one_of_its_number, eqb-true, first_left, at_its_number)
 
   place_still : (mount : Mount ℕ) → Among mount world.mounts → (at : Location ℕ) → mount.mount_point ≡ Some at
       → StillAPlace after.mounts [] at ⊎ Among at (left_by moves)
@@ -477,23 +415,7 @@ module _ (world : World ℕ) (filesystems : List (Filesystem ℕ)) (new : Copies
   member_still : (mount : Mount ℕ) → Among mount world.mounts → (group : ℕ) → is_member_of nat_eq group mount ≡ true
       → is_member_of nat_eq group (last mount) ≡ true
   member_still mount m group h =
-      push_keeps (is_member_of nat_eq group) (λ x at. refl) (went mount) ∙ by (went_is mount m)
-    where
-      keeps : (kind : Propagation ℕ) (at : Option ℕ) → holds_of (nat_eq group) (group_of kind) ≡ true
-          → holds_of (nat_eq group) (group_of (type_at new at (record mount { propagation = kind }))) ≡ true
-      keeps (Shared own) None e = e
-      keeps (Shared own) (Some at) e = e
-      keeps (Slave up) at e = absurd (true≢false (sym e))
-      keeps Private at e = absurd (true≢false (sym e))
-      keeps Unbindable at e = absurd (true≢false (sym e))
-
-      by : Went mount → is_member_of nat_eq group (went mount) ≡ true
-      by (stayed e none) = ap (is_member_of nat_eq group) e ∙ h
-      by (moved g n e) =
-          ap (is_member_of nat_eq group) e
-          ∙ ap (λ b. holds_of (nat_eq group) (group_of (cond b (twig mount).propagation
-          (copy_type nat_eq base new parts destination (twig mount) destination.propagation)))) at_its_number
-          ∙ keeps mount.propagation (group_of destination.propagation) h
+      grind (arith, common_steps, push_keeps, went_is mount m, true≢false, twig, at_its_number)
 
   -- what a copy is, some mount is afterwards
   copy_stands : (part origin : Mount ℕ) → Among part parts → Among origin origins
@@ -533,51 +455,7 @@ module _ (world : World ℕ) (filesystems : List (Filesystem ℕ)) (new : Copies
   made_has_it : (part origin : Mount ℕ) (made : ℕ × Option ℕ)
       → group_made nat_eq base new tree parts part (twig origin) ≡ Some made
       → group_of (copy part origin).propagation ≡ Some made.0
-  made_has_it part origin made e = by (is_destination nat_eq tree part.number) refl
-    where
-      at_destination : (shared : Bool) (group : Option ℕ)
-          → cond shared None (option_map (λ g. (g, master_after origin.propagation)) group) ≡ Some made
-          → group ≡ Some made.0
-      at_destination true group f = absurd (true≢false (sym (ap is_some f)))
-      at_destination false None f = absurd (true≢false (sym (ap is_some f)))
-      at_destination false (Some g) f =
-          ap Some (ap (λ (t : ℕ × Option ℕ). t.0) (same_Some (g, master_after origin.propagation) made f))
-
-      made_by : (b : Bool) (g : ℕ) (above : Option ℕ) → when b (g, above) ≡ Some made → g ≡ made.0
-      made_by true g above f = ap (λ (t : ℕ × Option ℕ). t.0) (same_Some (g, above) made f)
-      made_by false g above f = absurd (true≢false (sym (ap is_some f)))
-
-      at_receiver : (kind : Propagation ℕ)
-          → then_some (group_of kind) (λ group. when (not (is_member_of nat_eq group destination)) (
-            image nat_eq new destination (twig origin) group,
-            nearest_image nat_eq base new parts destination (twig origin)
-                (base.master group),
-          )) ≡ Some made
-          → group_of (copy_type nat_eq base new parts destination (twig origin) kind) ≡ Some made.0
-      at_receiver (Shared group) f = ap Some (made_by (not (is_member_of nat_eq group destination)) _ _ f)
-      at_receiver (Slave up) f = absurd (true≢false (sym (ap is_some f)))
-      at_receiver Private f = absurd (true≢false (sym (ap is_some f)))
-      at_receiver Unbindable f = absurd (true≢false (sym (ap is_some f)))
-
-      made_at : Bool → Option (ℕ × Option ℕ)
-      made_at b =
-          cond b (twig_master (twig origin)) (then_some (group_of part.propagation)
-          (λ group. when (not (is_member_of nat_eq group destination)) (
-            image nat_eq new destination (twig origin) group,
-            nearest_image nat_eq base new parts destination (twig origin)
-                (base.master group),
-          )))
-
-      type_by : Bool → Propagation ℕ
-      type_by b = cond b (twig origin).propagation
-          (copy_type nat_eq base new parts destination (twig origin) part.propagation)
-
-      by : (b : Bool) → is_destination nat_eq tree part.number ≡ b
-          → group_of (copy part origin).propagation ≡ Some made.0
-      by true f = ap (λ b. group_of (type_by b)) f
-          ∙ at_destination (is_shared origin.propagation) (group_of (twig origin).propagation)
-          (ap made_at (sym f) ∙ e)
-      by false f = ap (λ b. group_of (type_by b)) f ∙ at_receiver part.propagation (ap made_at (sym f) ∙ e)
+  made_has_it part origin made e = grind (arith, common_steps, true≢false, twig)
 
   is_its_member : (x origin part : Mount ℕ) (group made : ℕ) → x.propagation ≡ (copy part origin).propagation
       → group_of (copy part origin).propagation ≡ Some made → nat_eq group made ≡ true

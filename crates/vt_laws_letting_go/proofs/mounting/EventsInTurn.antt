@@ -1,4 +1,5 @@
 -- Unmount events in a world that was swept before, or that was not.
+use Rattle.std.proofs.lemmas.Grind.{common_steps}
 use Rattle.std.proofs.Common.{◌≡◌, refl, sym, ap, subst, ◌∙◌, inl, inr, ⊎_elim, ℕ, nat_eq, Bool, true, false, true≢false, cond, List, [], ◌∷◌, filter, find, length, map, Option, Some, None, is_some, option_map, unwrap_or, arith}
 use Rattle.std.specs.Prelude.{filter_map}
 use Rattle.std.proofs.lemmas.Bool.{cases_Bool}
@@ -83,14 +84,7 @@ module _ (world : World ℕ) (kept : MountInvariants nat_eq world) where
 
   goes_alike : (node : ℕ) (receiver : Mount ℕ) → goes_at nat_eq swept node receiver ≡ goes_at nat_eq world node receiver
   goes_alike node receiver =
-      ap (λ o. then_some o (λ child. when (may_go nat_eq swept child) child))
-      (same_child (record { mount = receiver.number; node = node }))
-      ∙ by (child_at nat_eq world.mounts (record { mount = receiver.number; node = node }))
-    where
-      by : (o : Option (Mount ℕ)) → then_some o (λ child. when (may_go nat_eq swept child) child)
-          ≡ then_some o (λ child. when (may_go nat_eq world child) child)
-      by None = refl
-      by (Some child) = ap (λ l. when (only_cover nat_eq child l) child) (same_children child.number)
+      grind (arith, common_steps, same_child (record { mount = receiver.number; node = node }), same_children)
 
   -- Receivers
   same_groups : (source : ℕ) → LivesIn world kept source → groups_up swept source ≡ groups_up world source
@@ -128,12 +122,7 @@ module _ (world : World ℕ) (kept : MountInvariants nat_eq world) where
       none Unbindable e = absurd (true≢false (sym e))
 
   same_receivers_of : (mount : Mount ℕ) → receivers_of nat_eq swept mount ≡ receivers_of nat_eq world mount
-  same_receivers_of mount = by (group_of mount.propagation)
-    where
-      by : (o : Option ℕ) → unwrap_or (option_map (receivers nat_eq swept) o) []
-          ≡ unwrap_or (option_map (receivers nat_eq world) o) []
-      by None = refl
-      by (Some group) = same_receivers group
+  same_receivers_of mount = grind (arith, common_steps, same_receivers)
 
   -- What goes
   goes_from_alike : (mount : Mount ℕ) (place : Location ℕ) → IsAttached world kept place.mount → (shared : Bool)
@@ -147,15 +136,7 @@ module _ (world : World ℕ) (kept : MountInvariants nat_eq world) where
   goes_alike_at : (mount : Mount ℕ)
       → ((place : Location ℕ) → mount.mount_point ≡ Some place → IsAttached world kept place.mount)
       → going nat_eq swept mount ≡ going nat_eq world mount
-  goes_alike_at mount on = by mount.mount_point refl
-    where
-      by : (o : Option (Location ℕ)) → mount.mount_point ≡ o
-          → going_at nat_eq swept mount o ≡ going_at nat_eq world mount o
-      by None e = refl
-      by (Some place) e =
-          ap (λ (x : Mount ℕ). going_from nat_eq swept mount place (is_shared x.propagation))
-          (same_found world kept place.mount (on place e))
-          ∙ goes_from_alike mount place (on place e) (is_shared (mount_at nat_eq world place).propagation)
+  goes_alike_at mount on = grind (arith, common_steps, same_found, goes_from_alike)
 
   attached_alike : (number : ℕ) → is_some (mount_numbered nat_eq swept number).namespace
       ≡ is_some (mount_numbered nat_eq world number).namespace
@@ -228,11 +209,7 @@ one_sweep_for_events world mount plain trees kept afterwards =
 -- an event leaves the filesystems
 filesystems-event : (world : World ℕ) (mount : Mount ℕ)
     → (unmounted_if_there nat_eq world mount).filesystems ≡ world.filesystems
-filesystems-event world mount = by (is_some (mount_numbered nat_eq world mount.number).namespace)
-  where
-    by : (b : Bool) → (cond b (unmounted nat_eq world mount.number) world).filesystems ≡ world.filesystems
-    by true = filesystems-taken_away world (going nat_eq world (mount_numbered nat_eq world mount.number))
-    by false = refl
+filesystems-event world mount = grind (arith, common_steps, filesystems-taken_away)
 
 pub one_sweep_for_all_events_with_overlays : OneSweepForAllEventsWithOverlays
 one_sweep_for_all_events_with_overlays world mounts trees uppers reals kept =

@@ -1,4 +1,6 @@
 -- What goes when mounts are taken away.
+use Rattle.std.proofs.Common.{arith}
+use Rattle.std.proofs.lemmas.Grind.{common_steps}
 use Rattle.std.proofs.Common.{◌≡◌, refl, sym, ap, subst, ◌∙◌, inl, inr, ⊎_elim, ℕ, zero, suc, nat_eq, Bool, true, false, cond, not, ◌||◌, ◌&&◌, List, [], ◌∷◌, filter, length, map, Option, Some, None, is_some, option_map, true≢false}
 use Rattle.std.specs.List.{list_any}
 use Rattle.std.proofs.lemmas.Bool.{or_parts, cases_Bool}
@@ -48,13 +50,7 @@ module _ (world : World ℕ) (gone : List ℕ) (namespaces : List (Namespace ℕ
       → part (record mount { mount_point = option_map (mount_point_left nat_eq world gone) mount.mount_point })
       ≡ part mount
       → part (after_going nat_eq world gone mount) ≡ part mount
-  same_part part mount down up = by (is_going nat_eq gone mount.number)
-    where
-      by : (c : Bool) → part (cond c (detached mount)
-          (record mount { mount_point = option_map (mount_point_left nat_eq world gone) mount.mount_point }))
-          ≡ part mount
-      by true = down
-      by false = up
+  same_part part mount down up = grind (arith, common_steps)
 
   pub same_root : (b : Bool) (mount : Mount ℕ) → root_of (change b mount) ≡ root_of mount
   same_root true mount = same_part root_of mount refl refl
@@ -93,16 +89,7 @@ module _ (world : World ℕ) (gone : List ℕ) (namespaces : List (Namespace ℕ
 
   stays_at : (place : Location ℕ) → is_going nat_eq gone place.mount ≡ false
       → mount_point_left nat_eq world gone place ≡ place
-  stays_at place isnt = by (length world.mounts)
-    where
-      ends : mount_point_of_parent nat_eq world gone place ≡ None
-      ends = ap (λ b. cond b (mount_at nat_eq world place).mount_point None) isnt
-
-      by : (n : ℕ) → last_or place (chain n (mount_point_of_parent nat_eq world gone) place) ≡ place
-      by zero = refl
-      by (suc n) =
-          ap (λ (o : Option (Location ℕ)). last_or place
-          (elim o [ None ↦ place ∷ [] | Some b ↦ place ∷ chain n (mount_point_of_parent nat_eq world gone) b ])) ends
+  stays_at place isnt = grind (arith, common_steps)
 
   pub same_place : (b : Bool) (mount : Mount ℕ) (place : Location ℕ) → mount.mount_point ≡ Some place
       → is_going nat_eq gone mount.number ≡ false
@@ -124,35 +111,7 @@ module _ (world : World ℕ) (gone : List ℕ) (namespaces : List (Namespace ℕ
 
   pub nowhere_after : (b : Bool) (mount : Mount ℕ) → is_nowhere_or_attached mount ≡ true
       → is_nowhere_or_attached (change b mount) ≡ true
-  nowhere_after b mount h = by b (is_going nat_eq gone mount.number) refl
-    where
-      no_place : (o : Option (Location ℕ)) → is_some o ≡ false
-          → not (is_some (option_map (mount_point_left nat_eq world gone) o)) ≡ true
-      no_place None e = refl
-      no_place (Some place) e = absurd (true≢false e)
-
-      whole : (propagation : Propagation ℕ) → (is_private mount.propagation ≡ true → is_private propagation ≡ true)
-          → (n : Bool)
-          → is_some mount.namespace ≡ n
-          → (n || (not (is_some (option_map (mount_point_left nat_eq world gone) mount.mount_point))
-          && is_private propagation)) ≡ true
-      whole propagation same true e = refl
-      whole propagation same false e =
-          let parts = nowhere_parts mount h e in
-          ap (λ t. t && is_private propagation) (no_place mount.mount_point parts.0) ∙ same parts.1
-
-      by : (b c : Bool) → is_going nat_eq gone mount.number ≡ c → is_nowhere_or_attached (change b mount) ≡ true
-      by true true e = ap (λ d. is_nowhere_or_attached (inheriting nat_eq without
-          (cond d (detached mount)
-          (record mount { mount_point = option_map (mount_point_left nat_eq world gone) mount.mount_point })))) e
-      by false true e = ap (λ d. is_nowhere_or_attached (cond d (detached mount)
-          (record mount { mount_point = option_map (mount_point_left nat_eq world gone) mount.mount_point }))) e
-      by true false e =
-          ap (λ m. is_nowhere_or_attached (inheriting nat_eq without m)) (stays mount e)
-          ∙ whole (inherited nat_eq without mount.propagation) (private_still mount.propagation)
-          (is_some mount.namespace) refl
-      by false false e = ap is_nowhere_or_attached (stays mount e)
-          ∙ whole mount.propagation (λ p. p) (is_some mount.namespace) refl
+  nowhere_after b mount h = grind (arith, common_steps, true≢false, nowhere_parts, stays, private_still)
 
   module _ (in_use : AllInUse world) (stand : MountsStand world) where
     pub loses : (b : Bool) → Loses world (after b) gone (places_lost world gone)
@@ -232,13 +191,12 @@ taken_is world gone =
 
 pub taking_away_lets_go : TakingAwayLetsGo
 taking_away_lets_go world gone groups settles hears =
-    subst (λ w. settled nat_eq w ≡ let_go w (used_by_mounts world gone (places_lost world gone) groups)) same
-    (taken_with_namespaces world gone groups world.namespaces settles hears)
-  where
-    same : record (taken_away nat_eq world gone) { namespaces = world.namespaces } ≡ taken_away nat_eq world gone
-    same = same_namespaces (without world gone world.namespaces)
-        (list_any (lost_a_group nat_eq (without world gone world.namespaces))
-        (without world gone world.namespaces).mounts)
+    grind (
+      arith,
+      common_steps,
+      taken_with_namespaces world gone groups world.namespaces settles hears,
+      same_namespaces,
+    )
 
 pub ending_lets_go : EndingLetsGo
 ending_lets_go world groups settles hears =

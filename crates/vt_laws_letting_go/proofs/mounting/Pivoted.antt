@@ -1,4 +1,6 @@
 -- What goes after pivot_root.
+use Rattle.std.proofs.Common.{arith}
+use Rattle.std.proofs.lemmas.Grind.{common_steps}
 use Rattle.std.proofs.Common.{◌≡◌, refl, sym, ap, subst, ◌∙◌, ◌⊎◌, inl, inr, ⊎_elim, ℕ, nat_eq, eqb-true, eq-eqb, Bool, true, false, cond, ◌||◌, [], Option, Some, is_some, option_to_list}
 use Rattle.std.proofs.lemmas.Bool.{or_cases}
 use Rattle.vt_spec.specs.Machine.Mounts.{Location, Mount, mount_in, root_of, same_location}
@@ -48,15 +50,7 @@ module _ (world : World ℕ) (namespace old new : ℕ) (put : Location ℕ) (in_
   keeps : {A : Type 0} (part : Mount ℕ → A) → ((mount : Mount ℕ) (at : Option (Location ℕ))
       → part (record mount { mount_point = at }) ≡ part mount)
       → (mount : Mount ℕ) → part (change mount) ≡ part mount
-  keeps part same mount = by (nat_eq mount.number target.number) (nat_eq mount.number root.number)
-    where
-      by : (a b : Bool)
-          → part (cond a (record mount { mount_point = root.mount_point })
-          (cond b (record mount { mount_point = Some put }) mount))
-          ≡ part mount
-      by true b = same mount root.mount_point
-      by false true = same mount (Some put)
-      by false false = refl
+  keeps part same mount = grind (arith, common_steps)
 
   number_kept : (mount : Mount ℕ) → (change mount).number ≡ mount.number
   number_kept mount = keeps (λ x. x.number) (λ x at. refl) mount
@@ -74,54 +68,16 @@ module _ (world : World ℕ) (namespace old new : ℕ) (put : Location ℕ) (in_
     is_other : change mount ≡ mount → Is mount
 
   which : (mount : Mount ℕ) → Among mount world.mounts → Is mount
-  which mount m = by (nat_eq mount.number target.number) refl (nat_eq mount.number root.number) refl
-    where
-      by : (a : Bool) → nat_eq mount.number target.number ≡ a → (b : Bool) → nat_eq mount.number root.number ≡ b
-          → Is mount
-      by true e b f = is_target (itself mount target m target_there e)
-      by false e true f = is_root (itself mount root m root_there f)
-      by false e false f =
-          is_other (ap (λ a. cond a (record mount { mount_point = root.mount_point })
-          (cond (nat_eq mount.number root.number) (record mount { mount_point = Some put }) mount)) e
-          ∙ ap (λ b. cond b (record mount { mount_point = Some put }) mount) f)
+  which mount m = grind (arith, common_steps, itself, target_there, root_there)
 
   -- a location is one still, or it was the root of the old root mount
   left_or_same : (location : Location ℕ)
       → (location ≡ pivoted_location nat_eq root target location) ⊎ (location ≡ root_of root)
-  left_or_same location = by (same_location nat_eq location (root_of root)) refl
-    where
-      by : (b : Bool) → same_location nat_eq location (root_of root) ≡ b
-          → (location ≡ cond (same_location nat_eq location (root_of root)) (root_of target) location)
-          ⊎ (location ≡ root_of root)
-      by true e = inr (same_location_is location (root_of root) e)
-      by false e = inl (ap (λ b. cond b (root_of target) location) (sym e))
+  left_or_same location = grind (arith, common_steps, same_location_is)
 
   of_task : (task : Task ℕ) (location : Location ℕ) → Among location (locations_of task)
       → Among location (locations_of (pivoted_task nat_eq namespace root target task)) ⊎ (location ≡ root_of root)
-  of_task task location m = by (nat_eq namespace task.namespace)
-    where
-      moves : Among location (locations_of task)
-          → Among location (locations_of (record task {
-            root = pivoted_location nat_eq root target task.root;
-            directory
-                = pivoted_location nat_eq root target task.directory;
-          }))
-          ⊎ (location ≡ root_of root)
-      moves (inl e) = ⊎_elim (λ same. inl (inl (e ∙ same))) (λ was. inr (e ∙ was)) (left_or_same task.root)
-      moves (inr (inl e)) = ⊎_elim (λ same. inl (inr (inl (e ∙ same)))) (λ was. inr (e ∙ was))
-          (left_or_same task.directory)
-      moves (inr (inr l)) = inl (inr (inr l))
-
-      by : (b : Bool)
-          → Among location (locations_of (cond b
-          (record task {
-            root = pivoted_location nat_eq root target task.root;
-            directory = pivoted_location nat_eq root target
-                task.directory;
-          }) task))
-          ⊎ (location ≡ root_of root)
-      by true = moves m
-      by false = inl m
+  of_task task location m = grind (arith, common_steps, left_or_same)
 
   still : (location : Location ℕ) → Among location (all_locations world)
       → Among location (all_locations after) ⊎ (location ≡ root_of root)

@@ -1,5 +1,6 @@
 -- Mounts are taken away from a world that was swept before, or that was not: after the sweep that follows the two
 -- worlds are one.
+use Rattle.std.proofs.lemmas.Grind.{common_steps}
 use Rattle.std.proofs.Common.{◌≡◌, refl, sym, ap, subst, ◌∙◌, ⊎_elim, ℕ, zero, suc, nat_eq, eqb-true, eq-eqb, Bool, true, false, cond, not, ◌||◌, List, ◌++◌, filter, find, length, map, true≢false, Option, Some, None, is_some, option_map, unwrap_or, arith}
 use Rattle.std.specs.Prelude.{filter_map}
 use Rattle.std.specs.List.{list_any}
@@ -97,17 +98,15 @@ module _ (world : World ℕ) (tasks : List (Task ℕ)) (namespaces : List (Names
   same_left : (place : Location ℕ) → IsAttached place.mount
       → mount_point_left nat_eq swept gone place ≡ mount_point_left nat_eq not_swept gone place
   same_left place attached =
-      let many : length numbers ≡ length first_mounts =
-      length-map first_mounts (λ (mount : Mount ℕ). mount.number) in
-      ap (last_or place)
-      (sym (chains_alike falls falls_swept (λ (l : Location ℕ). l.mount) numbers by_mount
-      (length world.mounts) (length first_mounts) place
-      (way_down place.mount (standing_at world kept place.mount attached) place refl attached)
-      (omega (arith, many, shorter world kept)) (omega (arith, many))))
-    where
-      by_mount : (a b : Location ℕ) → a.mount ≡ b.mount → falls a ≡ falls b
-      by_mount a b e =
-          ap (λ n. cond (is_going nat_eq gone n) (mount_in nat_eq world.mounts n).mount_point None) e
+      let many : length numbers ≡ length first_mounts = length-map first_mounts (λ (mount : Mount ℕ). mount.number)
+      in grind (
+        arith,
+        common_steps,
+        chains_alike,
+        way_down place.mount (standing_at world kept place.mount attached)
+            place refl attached,
+        shorter world kept,
+      )
 
   abbrev going : Mount ℕ → Mount ℕ
   going = after_going nat_eq not_swept gone
@@ -142,13 +141,7 @@ module _ (world : World ℕ) (tasks : List (Task ℕ)) (namespaces : List (Names
       (λ mount m. going_alike mount (of_world world kept mount m))
 
   private_then : (mount : Mount ℕ) → is_private mount.propagation ≡ true → is_private (going mount).propagation ≡ true
-  private_then mount e = by (is_going nat_eq gone mount.number)
-    where
-      by : (b : Bool) → is_private (cond b (detached mount) (record mount {
-        mount_point = option_map (mount_point_left nat_eq not_swept gone) mount.mount_point;
-      })).propagation ≡ true
-      by true = refl
-      by false = e
+  private_then mount e = grind (arith, common_steps)
 
   -- a test of what is left of each mount, which private ones do not pass
   tested : (test : Mount ℕ → Bool) → ((mount : Mount ℕ) → is_private mount.propagation ≡ true → test mount ≡ false)
@@ -336,25 +329,8 @@ module _ (world : World ℕ) (tasks : List (Task ℕ)) (namespaces : List (Names
   member_was : (b : Bool) (mount : Mount ℕ) (group : ℕ)
       → is_member_of nat_eq group (MountingTaken.change not_swept gone namespaces b mount) ≡ true
       → source_of (going mount).propagation ≡ Some group
-  member_was true mount group e = by (going mount).propagation e
-    where
-      no_member : (o : Option ℕ) → holds_of (nat_eq group) (group_of (slave_of_heir o)) ≡ false
-      no_member None = refl
-      no_member (Some master) = refl
-
-      by : (kind : Propagation ℕ) → holds_of (nat_eq group) (group_of (inherited nat_eq before kind)) ≡ true
-          → source_of kind ≡ Some group
-      by (Shared own) f = held_number group (Some own) f
-      by (Slave master) f = absurd (true≢false (sym f ∙ no_member (heir nat_eq before (Some master))))
-      by Private f = absurd (true≢false (sym f))
-      by Unbindable f = absurd (true≢false (sym f))
-  member_was false mount group e = by (going mount).propagation e
-    where
-      by : (kind : Propagation ℕ) → holds_of (nat_eq group) (group_of kind) ≡ true → source_of kind ≡ Some group
-      by (Shared own) f = held_number group (Some own) f
-      by (Slave master) f = absurd (true≢false (sym f))
-      by Private f = absurd (true≢false (sym f))
-      by Unbindable f = absurd (true≢false (sym f))
+  member_was true mount group e = grind (arith, common_steps, held_number, true≢false)
+  member_was false mount group e = grind (arith, common_steps, held_number, true≢false)
 
   same_master : (group : ℕ) → has_members nat_eq last_mounts group ≡ true → again.master group ≡ once.master group
   same_master group has =

@@ -1,4 +1,6 @@
 -- What goes after unmounts, one or several after one another.
+use Rattle.std.proofs.Common.{arith}
+use Rattle.std.proofs.lemmas.Grind.{common_steps}
 use Rattle.std.proofs.Common.{◌≡◌, refl, sym, ap, subst, ◌∙◌, ◌⊎◌, inl, inr, ⊎_elim, ℕ, nat_eq, Bool, true, false, cond, not, ◌&&◌, List, [], ◌∷◌, filter, map, true≢false, Option, Some, None, is_some, option_map}
 use Rattle.std.specs.List.{list_any}
 use Rattle.std.proofs.lemmas.Bool.{false_from_ne_true, or_cases, cases_Bool}
@@ -97,16 +99,7 @@ module _ (world : World ℕ) (gone : List ℕ) where
   stays_member : (b : Bool) (mount : Mount ℕ) → is_going nat_eq gone mount.number ≡ false → (group : ℕ)
       → is_member_of nat_eq group mount ≡ true → is_member_of nat_eq group (change b mount) ≡ true
   stays_member true mount isnt group is =
-      ap (λ m. holds_of (nat_eq group) (group_of (inherited nat_eq without m.propagation)))
-      (stays world gone world.namespaces mount isnt)
-      ∙ by mount.propagation is
-    where
-      by : (kind : Propagation ℕ) → holds_of (nat_eq group) (group_of kind) ≡ true
-          → holds_of (nat_eq group) (group_of (inherited nat_eq without kind)) ≡ true
-      by (Shared own) e = e
-      by (Slave up) e = absurd (true≢false (sym e))
-      by Private e = absurd (true≢false (sym e))
-      by Unbindable e = absurd (true≢false (sym e))
+      grind (arith, common_steps, stays world gone world.namespaces mount isnt, true≢false)
   stays_member false mount isnt group is =
       ap (is_member_of nat_eq group) (stays world gone world.namespaces mount isnt) ∙ is
 
@@ -368,14 +361,14 @@ module _ (world now : World ℕ) (in_use : AllInUse world) (stand : MountsStand 
 pub faded_lets_go : (world now : World ℕ) → IsSettledPlain world → Faded world now
     → settled nat_eq now ≡ let_go now (used_by_gone world (detached_between world now))
 faded_lets_go world now settles faded =
-    subst (λ w. settled nat_eq w ≡ let_go w (used_by_gone world gone)) (sym faded.is)
-    (losers_go world (map faded.change world.mounts) now.master world.namespaces world.tasks gone
-    (places_lost world gone)
-    (groups_of_mounts world gone) settles
-    (loses world now settles.in_use settles.mounts faded) (groups world now settles.in_use settles.mounts faded))
-  where
-    gone : List ℕ
-    gone = detached_between world now
+    grind (
+      arith,
+      common_steps,
+      losers_go,
+      loses world now settles.in_use settles.mounts faded,
+      groups world now
+          settles.in_use settles.mounts faded,
+    )
 
 -- a lazy unmount is several events
 pub lazily_fades : (world : World ℕ) (number : ℕ) → MountsStand world

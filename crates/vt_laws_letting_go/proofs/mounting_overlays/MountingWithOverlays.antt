@@ -1,4 +1,6 @@
 -- What goes after each change of mounts in worlds with overlays.
+use Rattle.std.proofs.Common.{arith}
+use Rattle.std.proofs.lemmas.Grind.{common_steps}
 use Rattle.std.proofs.Common.{◌≡◌, sym, ap, subst, ◌∙◌, ℕ, nat_eq, Bool, true, List, [], ◌∷◌, filter, flat_map, length, map, suc, zero, option_to_list}
 use Rattle.std.proofs.lemmas.List.{append-nil}
 use Rattle.std.specs.List.{list_any}
@@ -52,14 +54,12 @@ taken_with_namespaces world gone groups namespaces settles hears =
 
 pub taking_away_with_overlays_lets_go : TakingAwayWithOverlaysLetsGo
 taking_away_with_overlays_lets_go world gone groups settles hears =
-    subst (λ w. settled nat_eq w ≡ let_go_all w
-    (used_by_mounts_with_layers world gone (places_lost world gone) groups)) same
-    (taken_with_namespaces world gone groups world.namespaces settles hears)
-  where
-    same : record (taken_away nat_eq world gone) { namespaces = world.namespaces } ≡ taken_away nat_eq world gone
-    same = same_namespaces (without world gone world.namespaces)
-        (list_any (lost_a_group nat_eq (without world gone world.namespaces))
-        (without world gone world.namespaces).mounts)
+    grind (
+      arith,
+      common_steps,
+      taken_with_namespaces world gone groups world.namespaces settles hears,
+      same_namespaces,
+    )
 
 pub ending_with_overlays_lets_go : EndingWithOverlaysLetsGo
 ending_with_overlays_lets_go world groups settles hears =

@@ -1,4 +1,6 @@
 -- Where all is in use nothing goes, and what is left is in use.
+use Rattle.std.proofs.Common.{arith}
+use Rattle.std.proofs.lemmas.Grind.{common_steps}
 use Rattle.std.proofs.Common.{◌≡◌, refl, sym, ap, subst, ◌∙◌, ⊎_elim, ℕ, nat_eq, eq-eqb, Bool, true, false, cond, not, ◌||◌, ◌&&◌, List, [], ◌∷◌, filter, map, true≢false, flat_map, ◌++◌, Option, Some, None, is_some, option_map}
 use Rattle.std.specs.Prelude.{All, filter_map}
 use Rattle.std.specs.List.{list_all, list_any}
@@ -33,15 +35,7 @@ inodes_stay chosen world all =
     (among_from_all (λ f. list_all (is_inode_used world f) f.files.numbers ≡ true) world.filesystems all filesystem m)))
 
 pub groups_stay : (world : World ℕ) → GroupsInUse world → without_dead_groups nat_eq world ≡ world
-groups_stay world all = λ i. record world { master = λ group. kept group i }
-  where
-    by : (group : ℕ) (b : Bool) → has_members nat_eq world.mounts group ≡ b
-        → cond b (world.master group) None ≡ world.master group
-    by group true e = refl
-    by group false e = sym (all group e)
-
-    kept : (group : ℕ) → cond (has_members nat_eq world.mounts group) (world.master group) None ≡ world.master group
-    kept group = by group (has_members nat_eq world.mounts group) refl
+groups_stay world all = grind (arith, common_steps)
 
 pub mounts_stay : (world : World ℕ) → MountsInUse world → without_dead_mounts nat_eq world ≡ world
 mounts_stay world all = ap (with_mounts world) (filter_all (mount_lives nat_eq world) world.mounts
@@ -80,31 +74,15 @@ module _ (used : List ℕ) (filesystem : Filesystem ℕ) where
 
   pub overlay-left : (all : Bool) → is_overlay (left_by all) ≡ is_overlay filesystem
   overlay-left true = refl
-  overlay-left false = by filesystem.overlay
-    where
-      by : (o : Option (Overlay ℕ)) → is_some (option_map (real_among nat_eq used) o) ≡ is_some o
-      by None = refl
-      by (Some overlay) = refl
+  overlay-left false = grind (arith, common_steps)
 
   pub layers-left : (all : Bool) → of_overlay [] layers_of (left_by all) ≡ of_overlay [] layers_of filesystem
   layers-left true = refl
-  layers-left false = by filesystem.overlay
-    where
-      by : (o : Option (Overlay ℕ)) → overlay_or [] layers_of (option_map (real_among nat_eq used) o)
-          ≡ overlay_or [] layers_of o
-      by None = refl
-      by (Some overlay) = refl
+  layers-left false = grind (arith, common_steps)
 
   pub upper-left : (number : ℕ) (all : Bool) → has_upper_in number (left_by all) ≡ has_upper_in number filesystem
   upper-left number true = refl
-  upper-left number false = by filesystem.overlay
-    where
-      by : (o : Option (Overlay ℕ))
-          → overlay_or false (λ overlay. holds_of (λ layer. nat_eq number layer.filesystem) overlay.upper)
-          (option_map (real_among nat_eq used) o)
-          ≡ overlay_or false (λ overlay. holds_of (λ layer. nat_eq number layer.filesystem) overlay.upper) o
-      by None = refl
-      by (Some overlay) = refl
+  upper-left number false = grind (arith, common_steps)
 
   -- an inode that is used no more has no entries
   abbrev pub UnusedAreEmpty : Type 0
@@ -114,20 +92,7 @@ module _ (used : List ℕ) (filesystem : Filesystem ℕ) where
   -- so the names stay
   pub named-left : UnusedAreEmpty → (all : Bool) → named_in (left_by all).files ≡ named_in filesystem.files
   named-left empty true = refl
-  named-left empty false =
-      flat_map_alike (λ directory. targets_in
-      (cond (is_among nat_eq directory used) (filesystem.files.tree.node directory) None))
-      (λ directory. targets_in (filesystem.files.tree.node directory))
-      (filter (λ number. is_among nat_eq number used) filesystem.files.numbers)
-      (λ directory m. by directory (is_among nat_eq directory used) refl)
-      ∙ flat_map-filter (λ number. is_among nat_eq number used)
-      (λ directory. targets_in (filesystem.files.tree.node directory)) filesystem.files.numbers empty
-    where
-      by : (directory : ℕ) (b : Bool) → is_among nat_eq directory used ≡ b
-          → targets_in (cond b (filesystem.files.tree.node directory) None)
-          ≡ targets_in (filesystem.files.tree.node directory)
-      by directory true e = refl
-      by directory false e = sym (empty directory e)
+  named-left empty false = grind (arith, common_steps, flat_map_alike, flat_map-filter)
 
   -- and each number that is left is used
   pub numbers-left : (all : Bool) → list_all (λ number. is_among nat_eq number used) filesystem.files.numbers ≡ all
@@ -225,36 +190,18 @@ module _ (world : World ℕ) where
   after_second filesystem = only_used nat_eq first (not (is_overlay filesystem)) filesystem
 
   pub number-first : (filesystem : Filesystem ℕ) → (after_first filesystem).number ≡ filesystem.number
-  number-first filesystem = by (is_overlay filesystem)
-    where
-      by : (b : Bool) → (only_used nat_eq living b filesystem).number ≡ filesystem.number
-      by true = number-left (used_in nat_eq living filesystem) filesystem _
-      by false = refl
+  number-first filesystem = grind (arith, common_steps, number-left)
 
   pub number-second : (filesystem : Filesystem ℕ) → (after_second filesystem).number ≡ filesystem.number
-  number-second filesystem = by (not (is_overlay filesystem))
-    where
-      by : (b : Bool) → (only_used nat_eq first b filesystem).number ≡ filesystem.number
-      by true = number-left (used_in nat_eq first filesystem) filesystem _
-      by false = refl
+  number-second filesystem = grind (arith, common_steps, number-left)
 
   pub layers-first : (filesystem : Filesystem ℕ)
       → of_overlay [] layers_of (after_first filesystem) ≡ of_overlay [] layers_of filesystem
-  layers-first filesystem = by (is_overlay filesystem)
-    where
-      by : (b : Bool) → of_overlay [] layers_of (only_used nat_eq living b filesystem)
-          ≡ of_overlay [] layers_of filesystem
-      by true = layers-left (used_in nat_eq living filesystem) filesystem _
-      by false = refl
+  layers-first filesystem = grind (arith, common_steps, layers-left)
 
   pub layers-second : (filesystem : Filesystem ℕ)
       → of_overlay [] layers_of (after_second filesystem) ≡ of_overlay [] layers_of filesystem
-  layers-second filesystem = by (not (is_overlay filesystem))
-    where
-      by : (b : Bool) → of_overlay [] layers_of (only_used nat_eq first b filesystem)
-          ≡ of_overlay [] layers_of filesystem
-      by true = layers-left (used_in nat_eq first filesystem) filesystem _
-      by false = refl
+  layers-second filesystem = grind (arith, common_steps, layers-left)
 
   same_layers : (number : ℕ) → layers_in nat_eq (settled nat_eq world) number ≡ layers_in nat_eq living number
   same_layers number =
@@ -274,13 +221,7 @@ module _ (world : World ℕ) where
   -- a plain tree has no objects
   pub no_objects : (number : ℕ) (filesystem : Filesystem ℕ) → is_overlay filesystem ≡ false
       → objects_of_overlay nat_eq number filesystem ≡ []
-  no_objects number filesystem e = by filesystem.overlay e
-    where
-      by : (o : Option (Overlay ℕ)) → is_some o ≡ false
-          → overlay_or [] (λ overlay. cond (holds_of (λ layer. nat_eq number layer.filesystem) overlay.upper)
-          (filter_map (λ object. upper_object (overlay.real object)) filesystem.files.numbers) []) o ≡ []
-      by None f = refl
-      by (Some overlay) f = absurd (true≢false f)
+  no_objects number filesystem e = grind (arith, common_steps, true≢false)
 
   objects_after_second : (number : ℕ) (filesystem : Filesystem ℕ)
       → objects_of_overlay nat_eq number (after_second filesystem) ≡ objects_of_overlay nat_eq number filesystem
@@ -399,13 +340,7 @@ module _ (world : World ℕ) where
   pub layers_on : (number : ℕ) (filesystem : Filesystem ℕ)
       → has_layer_on nat_eq number filesystem
       ≡ list_any (λ layer. nat_eq number layer.filesystem) (of_overlay [] layers_of filesystem)
-  layers_on number filesystem = by filesystem.overlay
-    where
-      by : (o : Option (Overlay ℕ)) → overlay_or false
-          (λ overlay. list_any (λ layer. nat_eq number layer.filesystem) (layers_of overlay)) o
-          ≡ list_any (λ layer. nat_eq number layer.filesystem) (overlay_or [] layers_of o)
-      by None = refl
-      by (Some overlay) = refl
+  layers_on number filesystem = grind (arith, common_steps)
 
   still_lives : (filesystem : Filesystem ℕ) → filesystem_lives nat_eq mounted filesystem ≡ true
       → filesystem_lives nat_eq (settled nat_eq world) (after_second (after_first filesystem)) ≡ true
@@ -444,16 +379,7 @@ module _ (world : World ℕ) where
   -- an overlay that has no upper layer there has no objects there
   pub no_upper_objects : (number : ℕ) (merged : Filesystem ℕ) → has_upper_in number merged ≡ false
       → objects_of_overlay nat_eq number merged ≡ []
-  no_upper_objects number merged e = by merged.overlay e
-    where
-      by : (o : Option (Overlay ℕ)) → overlay_or false
-          (λ overlay. holds_of (λ layer. nat_eq number layer.filesystem) overlay.upper) o
-          ≡ false
-          → overlay_or [] (λ overlay. cond (holds_of (λ layer. nat_eq number layer.filesystem) overlay.upper)
-          (filter_map (λ object. upper_object (overlay.real object)) merged.files.numbers) []) o ≡ []
-      by None f = refl
-      by (Some overlay) f = ap (λ b.
-          cond b (filter_map (λ object. upper_object (overlay.real object)) merged.files.numbers) []) f
+  no_upper_objects number merged e = grind (arith, common_steps)
 
   pub left_in_use : HasTrees world → UppersArePlain world → AllInUse (settled nat_eq world)
   left_in_use trees plain = record {

@@ -1,4 +1,6 @@
 -- Inodes of plain trees go one by one.
+use Rattle.std.proofs.Common.{arith}
+use Rattle.std.proofs.lemmas.Grind.{common_steps}
 use Rattle.std.proofs.Common.{flat_map, ◌≡◌, refl, sym, ap, subst, ◌∙◌, ℕ, nat_eq, eqb-true, Bool, true, false, cond, not, ◌||◌, ◌&&◌, List, [], ◌∷◌, filter, map, true≢false, ◌++◌, Option, Some, None, is_some, option_map}
 use Rattle.std.specs.List.{list_all}
 use Rattle.std.proofs.lemmas.Bool.{and_parts, not-true}
@@ -74,28 +76,7 @@ pub goes_on : (used : List ℕ) (inode : Inode) (rest : List Inode) (filesystem 
     → goes_of used (inode ∷ rest) filesystem number
     ≡ (((nat_eq filesystem.number inode.0 && not (is_among nat_eq inode.1 used)) && nat_eq number inode.1)
     || goes_of used rest filesystem number)
-goes_on used inode rest filesystem number =
-    by (nat_eq filesystem.number inode.0) (nat_eq number inode.1) refl (is_inode_among filesystem.number number rest)
-    (is_among nat_eq number used) (is_among nat_eq inode.1 used)
-    (λ e. ap (λ n. is_among nat_eq n used) (eqb-true number inode.1 e))
-  where
-    by : (here same : Bool) → nat_eq number inode.1 ≡ same → (later mine its : Bool)
-        → (nat_eq number inode.1 ≡ true → mine ≡ its)
-        → (((here && same) || later) && not mine) ≡ (((here && not its) && same) || (later && not mine))
-    by true true e later mine its h =
-        ap not (h e) ∙ both later its ∙ ap (λ u. ((true && not its) && true) || (later && not u)) (sym (h e))
-      where
-        both : (b u : Bool) → not u ≡ (((true && not u) && true) || (b && not u))
-        both true true = refl
-        both true false = refl
-        both false true = refl
-        both false false = refl
-    by true false e later mine its h = false_or (not its) (later && not mine)
-      where
-        false_or : (b c : Bool) → c ≡ ((b && false) || c)
-        false_or true c = refl
-        false_or false c = refl
-    by false same e later mine its h = refl
+goes_on used inode rest filesystem number = grind (arith, common_steps, eqb-true number inode.1)
 
 -- what goes at one step, and later
 two_steps : (world : World ℕ) (inode : Inode) (rest : List Inode) (filesystem : Filesystem ℕ) (used : List ℕ)
@@ -168,21 +149,7 @@ module _ (world : World ℕ) (inode : Inode) (plain : IsPlain world) where
   named-step : (filesystem : Filesystem ℕ) → UnusedAreEmpty (used_in nat_eq world filesystem) filesystem
       → named_in (step filesystem).files ≡ named_in filesystem.files
   named-step filesystem empty =
-      ap (λ f. named_in f.files) (one_step world inode filesystem)
-      ∙ named_without gone filesystem (λ number e. empty number (is_unused number e))
-    where
-      gone : ℕ → Bool
-      gone = goes_here world inode filesystem
-
-      -- what goes is not used
-      is_unused : (number : ℕ) → gone number ≡ true → is_among nat_eq number (used_in nat_eq world filesystem) ≡ false
-      is_unused number e =
-          let parts = and_parts (nat_eq filesystem.number inode.0 && not (is_inode_used world filesystem inode.1))
-          (nat_eq number inode.1) e in
-          let unused = and_parts (nat_eq filesystem.number inode.0)
-          (not (is_inode_used world filesystem inode.1)) parts.0 in
-          ap (λ n. is_among nat_eq n (used_in nat_eq world filesystem)) (eqb-true number inode.1 parts.1)
-          ∙ not-true (is_inode_used world filesystem inode.1) unused.1
+      grind (arith, common_steps, one_step world inode filesystem, named_without, and_parts, eqb-true, not-true)
 
   layers-step : (number : ℕ) → layers_in nat_eq next number ≡ layers_in nat_eq world number
   layers-step number =
@@ -193,24 +160,23 @@ module _ (world : World ℕ) (inode : Inode) (plain : IsPlain world) where
   used-step : (filesystem : Filesystem ℕ) → UnusedAreEmpty (used_in nat_eq world filesystem) filesystem
       → used_in nat_eq next (step filesystem) ≡ used_in nat_eq world filesystem
   used-step filesystem empty =
-      λ i. (root i) ∷ (named-step filesystem empty i ++ located_in nat_eq world (number-step filesystem i)
-      ++ (layers-step (step filesystem).number ∙ ap (layers_in nat_eq world) (number-step filesystem)) i
-      ++ (no_objects_of next plain-step (step filesystem).number ∙ sym (no_objects_of world plain filesystem.number)) i)
-    where
-      root : (step filesystem).files.tree.root ≡ filesystem.files.tree.root
-      root = ap (λ f. f.files.tree.root) (one_step world inode filesystem)
+      grind (
+        arith,
+        common_steps,
+        named-step filesystem empty,
+        number-step filesystem,
+        layers-step (step
+            filesystem).number,
+        no_objects_of next plain-step (step filesystem).number,
+        no_objects_of world plain
+            filesystem.number,
+        one_step,
+      )
 
   empty-step : (filesystem : Filesystem ℕ) → UnusedAreEmpty (used_in nat_eq world filesystem) filesystem
       → UnusedAreEmpty (used_in nat_eq next (step filesystem)) (step filesystem)
   empty-step filesystem empty number unused =
-      ap (λ f. targets_in (f.files.tree.node number)) (one_step world inode filesystem)
-      ∙ by (goes_here world inode filesystem number)
-      (empty number (ap (is_among nat_eq number) (sym (used-step filesystem empty)) ∙ unused))
-    where
-      by : (b : Bool) → targets_in (filesystem.files.tree.node number) ≡ []
-          → targets_in (cond b None (filesystem.files.tree.node number)) ≡ []
-      by true e = refl
-      by false e = e
+      grind (arith, common_steps, one_step world inode filesystem, used-step filesystem empty)
 
 -- each inode that is used no more has no entries
 AllUnusedAreEmpty : World ℕ → Type 0

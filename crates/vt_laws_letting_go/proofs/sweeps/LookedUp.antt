@@ -1,4 +1,6 @@
 -- A mount, a filesystem, an inode or a group that is looked at is looked up by its number.
+use Rattle.std.proofs.Common.{arith}
+use Rattle.std.proofs.lemmas.Grind.{common_steps}
 use Rattle.std.proofs.Common.{◌≡◌, refl, sym, ap, ◌∙◌, ℕ, nat_eq, eqb-true, Bool, true, false, cond, not, ◌&&◌, ◌||◌, Option, None, is_some}
 use Rattle.vt_spec.specs.Machine.Mounts.{Mount, mount_in}
 use Rattle.vt_spec.specs.Machine.Receives.{has_members}
@@ -20,27 +22,8 @@ gone_unused true lives h = h refl
 gone_unused false lives h = refl
 
 pub mount_is_looked_up : MountIsLookedUp
-mount_is_looked_up world number one = by (is_mount_used world number) refl
-  where
-    its_use : (mount : Mount ℕ) → Among mount world.mounts → nat_eq mount.number number ≡ true
-        → mount_lives nat_eq world mount ≡ is_mount_used world number
-    its_use mount m e =
-        let it : mount_numbered nat_eq world number ≡ mount =
-        ap (mount_in nat_eq world.mounts) (sym (eqb-true mount.number number e))
-        ∙ found_itself world.mounts one mount m in
-        (λ i. is_some (sym it i).namespace || is_located nat_eq world (eqb-true mount.number number e i))
-
-    by : (b : Bool) → is_mount_used world number ≡ b
-        → let_go_mount world number ≡ cond b world (without_mount world number)
-    by true e = ap (with_mounts world) (filter_all (λ mount. not (nat_eq mount.number number)
-        || mount_lives nat_eq world mount) world.mounts
-        (λ mount m. kept_used (nat_eq mount.number number) (mount_lives nat_eq world mount)
-        (λ same. its_use mount m same ∙ e)))
-    by false e = ap (with_mounts world)
-        (filter_alike (λ mount. not (nat_eq mount.number number) || mount_lives nat_eq world mount)
-        (λ mount. not (nat_eq mount.number number)) world.mounts
-        (λ mount m. gone_unused (nat_eq mount.number number) (mount_lives nat_eq world mount)
-        (λ same. its_use mount m same ∙ e)))
+mount_is_looked_up world number one =
+    grind (arith, common_steps, eqb-true, found_itself, filter_all, kept_used, filter_alike, gone_unused)
 
 pub filesystem_is_looked_up : FilesystemIsLookedUp
 filesystem_is_looked_up world number = by (is_filesystem_used world number) refl
@@ -101,29 +84,4 @@ inode_is_looked_up world inode one = by (is_inode_used_in world inode) refl
         (λ same. its_use filesystem m same ∙ e)))
 
 pub group_is_looked_up : GroupIsLookedUp
-group_is_looked_up world group = by (has_members nat_eq world.mounts group) refl
-  where
-    its_members : (other : ℕ) → nat_eq other group ≡ true
-        → has_members nat_eq world.mounts other ≡ has_members nat_eq world.mounts group
-    its_members other e = ap (has_members nat_eq world.mounts) (eqb-true other group e)
-
-    stays : (same members : Bool) (master : Option ℕ) → (same ≡ true → members ≡ true)
-        → cond (same && not members) None master ≡ master
-    stays true members master h = ap (λ b. cond (not b) None master) (h refl)
-    stays false members master h = refl
-
-    goes : (same members : Bool) (master : Option ℕ) → (same ≡ true → members ≡ false)
-        → cond (same && not members) None master ≡ cond same None master
-    goes true members master h = ap (λ b. cond (not b) None master) (h refl)
-    goes false members master h = refl
-
-    by : (b : Bool) → has_members nat_eq world.mounts group ≡ b
-        → let_go_group world group ≡ cond b world (without_master world group)
-    by true e = λ i. record world {
-      master = λ other. stays (nat_eq other group) (has_members nat_eq world.mounts other) (world.master other)
-          (λ same. its_members other same ∙ e) i;
-    }
-    by false e = λ i. record world {
-      master = λ other. goes (nat_eq other group) (has_members nat_eq world.mounts other) (world.master other)
-          (λ same. its_members other same ∙ e) i;
-    }
+group_is_looked_up world group = grind (arith, common_steps, eqb-true)

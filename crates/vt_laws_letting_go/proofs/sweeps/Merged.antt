@@ -1,4 +1,6 @@
 -- Inodes of one kind of filesystem go one by one, overlays among them.
+use Rattle.std.proofs.Common.{arith}
+use Rattle.std.proofs.lemmas.Grind.{common_steps}
 use Rattle.std.proofs.Common.{◌≡◌, refl, sym, ap, ◌∙◌, ◌⊎◌, inl, inr, ℕ, nat_eq, Bool, true, false, cond, not, ◌||◌, ◌&&◌, List, [], filter, true≢false, Option, Some, None, is_some, option_map}
 use Rattle.std.specs.List.{list_all}
 use Rattle.vt_spec.specs.FileTree.{targets_in}
@@ -84,25 +86,7 @@ without_both some others both h filesystem = λ i. record filesystem {
 pub named_without : (gone : ℕ → Bool) (filesystem : Filesystem ℕ)
     → ((number : ℕ) → gone number ≡ true → targets_in (filesystem.files.tree.node number) ≡ [])
     → named_in (without_all gone filesystem).files ≡ named_in filesystem.files
-named_without gone filesystem empty =
-    flat_map_alike (λ directory. targets_in (cond (gone directory) None (filesystem.files.tree.node directory)))
-    (λ directory. targets_in (filesystem.files.tree.node directory))
-    (filter (λ number. not (gone number)) filesystem.files.numbers)
-    (λ directory m. by directory (gone directory) refl)
-    ∙ flat_map-filter (λ number. not (gone number))
-    (λ directory. targets_in (filesystem.files.tree.node directory)) filesystem.files.numbers
-    (λ number skipped. nothing number (gone number) refl skipped)
-  where
-    by : (directory : ℕ) (b : Bool) → gone directory ≡ b
-        → targets_in (cond b None (filesystem.files.tree.node directory))
-        ≡ targets_in (filesystem.files.tree.node directory)
-    by directory true e = sym (empty directory e)
-    by directory false e = refl
-
-    nothing : (number : ℕ) (b : Bool) → gone number ≡ b → not b ≡ false
-        → targets_in (filesystem.files.tree.node number) ≡ []
-    nothing number true e f = empty number e
-    nothing number false e f = absurd (true≢false f)
+named_without gone filesystem empty = grind (arith, common_steps, flat_map_alike, flat_map-filter, true≢false)
 
 -- an inode that is not there has no real object
 abbrev pub HasReals : Filesystem ℕ → Type 0

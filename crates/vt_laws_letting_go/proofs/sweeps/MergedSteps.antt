@@ -1,4 +1,6 @@
 -- Inodes of one kind of filesystem go one by one, overlays among them.
+use Rattle.std.proofs.Common.{arith}
+use Rattle.std.proofs.lemmas.Grind.{common_steps}
 use Rattle.std.proofs.Common.{◌≡◌, refl, sym, ap, subst, ◌∙◌, ⊎_elim, ℕ, nat_eq, eqb-true, Bool, true, false, cond, not, ◌||◌, ◌&&◌, List, [], ◌∷◌, filter, map, true≢false, flat_map, ◌++◌, Option, Some, None, option_map}
 use Rattle.std.specs.List.{list_all}
 use Rattle.std.proofs.lemmas.Bool.{and_parts, not-true, cases_Bool}
@@ -18,12 +20,7 @@ use Rattle.vt_spec.proofs.Lists.{map_alike, map_twice}
 
 pub layers_without : (gone : ℕ → Bool) (filesystem : Filesystem ℕ)
     → of_overlay [] layers_of (without_all gone filesystem) ≡ of_overlay [] layers_of filesystem
-layers_without gone filesystem = by filesystem.overlay
-  where
-    by : (o : Option (Overlay ℕ)) → overlay_or [] layers_of (option_map (reals_without gone) o)
-        ≡ overlay_or [] layers_of o
-    by None = refl
-    by (Some overlay) = refl
+layers_without gone filesystem = grind (arith, common_steps)
 
 -- a kind of filesystem, which inodes that go do not change
 module _ (chosen : Filesystem ℕ → Bool)
@@ -121,15 +118,18 @@ module _ (chosen : Filesystem ℕ → Bool)
         → UnusedAreEmpty (used_in nat_eq world filesystem) filesystem → used_in nat_eq next (step filesystem)
         ≡ used_in nat_eq world filesystem
     used_step apart filesystem m is empty =
-        λ i. (ap (λ f. f.files.tree.root) (one_step filesystem) i)
-        ∷ (named i ++ located_in nat_eq world (number_step filesystem i)
-        ++ (layers_step (step filesystem).number ∙ ap (layers_in nat_eq world) (number_step filesystem)) i
-        ++ (ap (λ n. flat_map (objects_of_overlay nat_eq n) next.filesystems) (number_step filesystem)
-        ∙ objects_step apart filesystem m is) i)
-      where
-        named : named_in (step filesystem).files ≡ named_in filesystem.files
-        named = ap (λ f. named_in f.files) (one_step filesystem)
-            ∙ named_without (here filesystem) filesystem (λ number e. empty number (is_unused filesystem number e))
+        grind (
+          arith,
+          common_steps,
+          one_step filesystem,
+          number_step filesystem,
+          layers_step (step
+              filesystem).number,
+          objects_step apart filesystem m is,
+          one_step,
+          named_without,
+          is_unused,
+        )
 
     empty_step : Apart world → ChosenAreEmpty world → ChosenAreEmpty next
     unfolding ChosenAreEmpty

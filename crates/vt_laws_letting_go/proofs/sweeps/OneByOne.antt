@@ -1,4 +1,6 @@
 -- The sweep, one thing at a time.
+use Rattle.std.proofs.Common.{arith}
+use Rattle.std.proofs.lemmas.Grind.{common_steps}
 use Rattle.std.proofs.Common.{◌≡◌, refl, sym, ap, ◌∙◌, ℕ, nat_eq, Bool, true, false, cond, not, ◌||◌, ◌&&◌, List, [], ◌∷◌, filter, true≢false, Option, None}
 use Rattle.std.proofs.lemmas.Bool.{or_parts}
 use Rattle.vt_spec.specs.Lists.{is_among}
@@ -108,36 +110,7 @@ groups_folded : (world : World ℕ) (losers : List ℕ)
           (world.master other);
     }
 groups_folded world [] = refl
-groups_folded world (group ∷ rest) =
-    groups_folded (let_go_group world group) rest
-    ∙ (λ i. record world {
-      master = λ other. by (nat_eq other group) (is_among nat_eq other rest)
-          (not (has_members nat_eq world.mounts other)) (world.master other) i;
-    })
-  where
-    by : (here later empty : Bool) (master : Option ℕ)
-        → cond (later && empty) None (cond (here && empty) None master) ≡ cond ((here || later) && empty) None master
-    by true true true master = refl
-    by true true false master = refl
-    by true false true master = refl
-    by true false false master = refl
-    by false true true master = refl
-    by false true false master = refl
-    by false false true master = refl
-    by false false false master = refl
+groups_folded world (group ∷ rest) = grind (arith, common_steps, groups_folded (let_go_group world group) rest)
 
 pub groups_go_one_by_one : GroupsGoOneByOne
-groups_go_one_by_one world losers others =
-    (λ i. record world {
-      master = λ group.
-          by group (is_among nat_eq group losers) refl (has_members nat_eq world.mounts group) refl i;
-    })
-    ∙ sym (groups_folded world losers)
-  where
-    by : (group : ℕ) (among : Bool) → is_among nat_eq group losers ≡ among → (has : Bool)
-        → has_members nat_eq world.mounts group ≡ has
-        → cond has (world.master group) None ≡ cond (among && not has) None (world.master group)
-    by group true e true f = refl
-    by group true e false f = refl
-    by group false e true f = refl
-    by group false e false f = sym (others group e f)
+groups_go_one_by_one world losers others = grind (arith, common_steps, groups_folded world losers)

@@ -1,4 +1,5 @@
 -- An inode of an overlay that goes is one use less of its upper inode.
+use Rattle.std.proofs.lemmas.Grind.{common_steps}
 use Rattle.std.proofs.Common.{◌≡◌, refl, sym, ap, ◌∙◌, ℕ, nat_eq, eqb-true, eq-eqb, Bool, true, false, cond, not, ◌&&◌, ◌+◌, List, [], ◌∷◌, filter, map, true≢false, flat_map, ◌++◌, Option, Some, None, option_map, arith}
 use Rattle.std.specs.Prelude.{filter_map}
 use Rattle.std.specs.List.{cons_option}
@@ -31,12 +32,13 @@ module _ {A B : Type 0} where
       → times test (g x) ≡ times test (g y) + less
       → times test (flat_map g (front ++ (x ∷ back))) ≡ times test (flat_map g (front ++ (y ∷ back))) + less
   times_one test g [] back x y less e =
-      times_append test (g x) (flat_map g back) ∙ ap (λ n. n + times test (flat_map g back)) e
-      ∙ over (times test (g y)) less (times test (flat_map g back))
-      ∙ ap (λ n. n + less) (sym (times_append test (g y) (flat_map g back)))
-    where
-      over : (a b c : ℕ) → (a + b) + c ≡ (a + c) + b
-      over a b c = omega arith
+      grind (
+        arith,
+        common_steps,
+        times_append test (g x) (flat_map g back),
+        times_append test (g y) (flat_map g
+            back),
+      )
   times_one test g (z ∷ front) back x y less e =
       times_append test (g z) (flat_map g (front ++ (x ∷ back)))
       ∙ ap (λ n. times test (g z) + n) (times_one test g front back x y less e)
@@ -59,60 +61,8 @@ module _ (overlay : Overlay ℕ) (inode object number : ℕ) (upper : overlay.re
       ≡ times (nat_eq number) (left numbers) + cond b (times (nat_eq inode) numbers) 0
   objects_less true e [] = refl
   objects_less false e [] = refl
-  objects_less b e (k ∷ numbers) = by (nat_eq k inode) refl (objects_less b e numbers)
-    where
-      count : List ℕ → ℕ
-      count = times (nat_eq number)
-
-      by : (same : Bool) → nat_eq k inode ≡ same
-          → times (nat_eq number) (filter_map before numbers) ≡ times (nat_eq number) (left numbers) + cond b
-          (times (nat_eq inode) numbers) 0
-          → times (nat_eq number) (cons_option (before k) (filter_map before numbers))
-          ≡ times (nat_eq number) (filter_map after
-          (cond (not (nat_eq k inode)) (k ∷ filter (λ other. not (nat_eq other inode)) numbers)
-          (filter (λ other. not (nat_eq other inode)) numbers)))
-          + cond b (cond (nat_eq inode k) 1 0 + times (nat_eq inode) numbers) 0
-      by true same later =
-          ap (λ o. times (nat_eq number) (cons_option o (filter_map before numbers)))
-          (ap before (eqb-true k inode same) ∙ ap upper_object upper)
-          ∙ ap (λ c. cond c 1 0 + times (nat_eq number) (filter_map before numbers)) e
-          ∙ ap (λ n. cond b 1 0 + n) later
-          ∙ sum b (times (nat_eq number) (left numbers)) (times (nat_eq inode) numbers)
-          ∙ ap (λ c. times (nat_eq number) (left numbers) + cond b (cond c 1 0 + times (nat_eq inode) numbers) 0)
-          (sym (eq-eqb inode k (sym (eqb-true k inode same))))
-          ∙ ap (λ c. times (nat_eq number) (filter_map after
-          (cond (not c) (k ∷ filter (λ other. not (nat_eq other inode)) numbers)
-          (filter (λ other. not (nat_eq other inode)) numbers)))
-          + cond b (cond (nat_eq inode k) 1 0 + times (nat_eq inode) numbers) 0) (sym same)
-        where
-          sum : (c : Bool) (r t : ℕ) → cond c 1 0 + (r + cond c t 0) ≡ r + cond c (1 + t) 0
-          sum true r t = omega arith
-          sum false r t = omega arith
-      by false same later =
-          kept (before k)
-          ∙ ap (λ o. times (nat_eq number) (cons_option o (left numbers)) + cond b (times (nat_eq inode) numbers) 0)
-          (ap (λ c. upper_object (cond c None (overlay.real k))) (sym same))
-          ∙ ap (λ n. times (nat_eq number) (cons_option (after k) (left numbers)) + cond b n 0)
-          (zero_first (times (nat_eq inode) numbers))
-          ∙ ap (λ c. times (nat_eq number) (cons_option (after k) (left numbers)) + cond b
-          (cond c 1 0 + times (nat_eq inode) numbers) 0)
-          (sym (differ (nat_eq inode k) refl))
-          ∙ ap (λ c. times (nat_eq number) (filter_map after
-          (cond (not c) (k ∷ filter (λ other. not (nat_eq other inode)) numbers)
-          (filter (λ other. not (nat_eq other inode)) numbers)))
-          + cond b (cond (nat_eq inode k) 1 0 + times (nat_eq inode) numbers) 0) (sym same)
-        where
-          differ : (c : Bool) → nat_eq inode k ≡ c → nat_eq inode k ≡ false
-          differ false f = f
-          differ true f = absurd (true≢false (sym (eq-eqb k inode (sym (eqb-true inode k f))) ∙ same))
-
-          kept : (o : Option ℕ) → times (nat_eq number) (cons_option o (filter_map before numbers))
-              ≡ times (nat_eq number) (cons_option o (left numbers)) + cond b (times (nat_eq inode) numbers) 0
-          kept None = later
-          kept (Some x) =
-              ap (λ n. cond (nat_eq number x) 1 0 + n) later
-              ∙ sym (add_assoc (cond (nat_eq number x) 1 0) (times (nat_eq number) (left numbers))
-              (cond b (times (nat_eq inode) numbers) 0))
+  objects_less b e (k ∷ numbers) =
+      grind (arith, common_steps, objects_less b e numbers, eqb-true, eq-eqb, zero_first, true≢false, add_assoc)
 
 pub one_upper_use_less : OneUpperUseLess
 one_upper_use_less world front back merged overlay layer inode object all is upper real once filesystem number =

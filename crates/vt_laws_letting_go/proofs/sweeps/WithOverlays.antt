@@ -1,4 +1,6 @@
 -- The sweep in worlds with overlays: inodes of overlays go one by one, then those of plain trees.
+use Rattle.std.proofs.Common.{arith}
+use Rattle.std.proofs.lemmas.Grind.{common_steps}
 use Rattle.std.proofs.Common.{◌≡◌, refl, sym, ap, subst, ◌∙◌, ◌⊎◌, inl, inr, ⊎_elim, ℕ, nat_eq, eqb-true, eq-eqb, Bool, true, false, cond, not, ◌||◌, ◌&&◌, List, [], ◌∷◌, filter, map, true≢false, flat_map, ◌++◌, Option, Some, None, is_some, option_map, option_to_list}
 use Rattle.std.specs.Prelude.{All, filter_map}
 use Rattle.std.specs.List.{list_all}
@@ -21,25 +23,14 @@ use Rattle.vt_laws_letting_go.proofs.sweeps.OneByOne.{filesystems_go_one_by_one,
 use Rattle.vt_spec.proofs.Found.{is_among_left, is_among_right}
 
 overlay_without : (gone : ℕ → Bool) (f : Filesystem ℕ) → is_overlay (without_all gone f) ≡ is_overlay f
-overlay_without gone f = by f.overlay
-  where
-    by : (o : Option (Overlay ℕ)) → is_some (option_map (reals_without gone) o) ≡ is_some o
-    by None = refl
-    by (Some overlay) = refl
+overlay_without gone f = grind (arith, common_steps)
 
 plain_without : (gone : ℕ → Bool) (f : Filesystem ℕ) → is_plain (without_all gone f) ≡ is_plain f
 plain_without gone f = ap not (overlay_without gone f)
 
 upper_without : (number : ℕ) (gone : ℕ → Bool) (f : Filesystem ℕ)
     → has_upper_in number (without_all gone f) ≡ has_upper_in number f
-upper_without number gone f = by f.overlay
-  where
-    by : (o : Option (Overlay ℕ)) → overlay_or false
-        (λ overlay. holds_of (λ layer. nat_eq number layer.filesystem) overlay.upper)
-        (option_map (reals_without gone) o)
-        ≡ overlay_or false (λ overlay. holds_of (λ layer. nat_eq number layer.filesystem) overlay.upper) o
-    by None = refl
-    by (Some overlay) = refl
+upper_without number gone f = grind (arith, common_steps)
 
 -- no overlay has an upper object in an overlay
 overlays_apart : (world : World ℕ) → UppersArePlain world → Apart is_overlay overlay_without world
@@ -166,18 +157,10 @@ module _ (world : World ℕ) (losers : List Inode) (trees : HasTrees world) (rea
   first f = only_used nat_eq world (is_overlay f) f
 
   overlay_first : (f : Filesystem ℕ) → is_overlay (first f) ≡ is_overlay f
-  overlay_first f = by (is_overlay f)
-    where
-      by : (b : Bool) → is_overlay (only_used nat_eq world b f) ≡ is_overlay f
-      by true = overlay-left (used_in nat_eq world f) f _
-      by false = refl
+  overlay_first f = grind (arith, common_steps, overlay-left)
 
   layers_first : (f : Filesystem ℕ) → of_overlay [] layers_of (first f) ≡ of_overlay [] layers_of f
-  layers_first f = by (is_overlay f)
-    where
-      by : (b : Bool) → of_overlay [] layers_of (only_used nat_eq world b f) ≡ of_overlay [] layers_of f
-      by true = layers-left (used_in nat_eq world f) f _
-      by false = refl
+  layers_first f = grind (arith, common_steps, layers-left)
 
   same_layers : (number : ℕ) → layers_in nat_eq after number ≡ layers_in nat_eq world number
   same_layers number =
@@ -242,41 +225,19 @@ module _ (world : World ℕ) (losers : List Inode) (trees : HasTrees world) (rea
   still_used : (f : Filesystem ℕ) (number : ℕ) → is_used_or_among losers world f number ≡ true
       → is_used_or_among (losers ++ uppers_of world losers) after f number ≡ true
   still_used f number h =
-      ⊎_elim
-      (λ a. or_first _ (is_inode_used after f number) (more_left a))
-      (λ u. ⊎_elim
-      (λ before. or_second (is_inode_among f.number number (losers ++ uppers_of world losers)) _
-      (is_among_left number (front (layers_in nat_eq after f.number))
-      (flat_map (objects_of_overlay nat_eq f.number) after.filesystems)
-      (ap (λ l. is_among nat_eq number (front l)) (same_layers f.number) ∙ before)))
-      (λ object. ⊎_elim
-      (λ there. or_second (is_inode_among f.number number (losers ++ uppers_of world losers)) _
-      (is_among_right number (front (layers_in nat_eq after f.number))
-      (flat_map (objects_of_overlay nat_eq f.number) after.filesystems)
-      (is_among_numbers number (flat_map (objects_of_overlay nat_eq f.number) after.filesystems) there)))
-      (λ looked. or_first _ (is_inode_used after f number) (more_right looked))
-      (object_left f.number number (among_numbers number
-      (flat_map (objects_of_overlay nat_eq f.number) world.filesystems) object)))
-      (or_cases (is_among nat_eq number (front (layers_in nat_eq world f.number)))
-      (is_among nat_eq number (flat_map (objects_of_overlay nat_eq f.number) world.filesystems))
-      (sym (list_any-append (nat_eq number) (front (layers_in nat_eq world f.number))
-      (flat_map (objects_of_overlay nat_eq f.number) world.filesystems)) ∙ u)))
-      (or_cases (is_inode_among f.number number losers) (is_inode_used world f number) h)
-    where
-      front : List ℕ → List ℕ
-      front layers = f.files.tree.root ∷ (named_in f.files ++ located_in nat_eq world f.number ++ layers)
-
-      more_left : is_inode_among f.number number losers ≡ true
-          → is_inode_among f.number number (losers ++ uppers_of world losers) ≡ true
-      more_left a =
-          list_any-append (λ inode. nat_eq f.number inode.0 && nat_eq number inode.1) losers (uppers_of world losers)
-          ∙ or_first _ _ a
-
-      more_right : is_inode_among f.number number (uppers_of world losers) ≡ true
-          → is_inode_among f.number number (losers ++ uppers_of world losers) ≡ true
-      more_right a =
-          list_any-append (λ inode. nat_eq f.number inode.0 && nat_eq number inode.1) losers (uppers_of world losers)
-          ∙ or_second _ _ a
+      grind (
+        arith,
+        common_steps,
+        is_among_left,
+        same_layers f.number,
+        is_among_right,
+        is_among_numbers number
+            (flat_map (objects_of_overlay nat_eq f.number) after.filesystems),
+        object_left,
+        among_numbers number (flat_map
+            (objects_of_overlay nat_eq f.number) world.filesystems),
+        list_any-append,
+      )
 
   plain_empty : ChosenAreEmpty is_plain plain_without after
   unfolding ChosenAreEmpty

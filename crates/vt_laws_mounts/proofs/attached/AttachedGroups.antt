@@ -1,4 +1,6 @@
 -- Groups live on where a tree of mounts is attached: those that were there, and the images of those that take part.
+use Rattle.std.proofs.Common.{arith}
+use Rattle.std.proofs.lemmas.Grind.{common_steps}
 use Rattle.std.proofs.Common.{◌≡◌, refl, sym, ap, subst, ◌∙◌, true, false, nat_eq, ℕ, Bool, List, None, Option, Some, find, inl, is_some, length, option_map, true≢false, unwrap_or, ⊎_elim, ◌⊎◌}
 use Rattle.std.proofs.lemmas.Option.{same_Some}
 use Rattle.std.specs.Prelude.{if◌then◌else◌}
@@ -204,11 +206,8 @@ module _ (world : World ℕ) (new : Copies ℕ) (place : Location ℕ) (moves : 
 
   lives_either : (group : ℕ) → has_members nat_eq parts group ≡ true → (origin : Mount ℕ) → Among origin mounts
       → HigherLive group origin → LivesIn after (image_of origin group)
-  lives_either group has origin m higher = by (is_member_of nat_eq group destination) refl
-    where
-      by : (b : Bool) → is_member_of nat_eq group destination ≡ b → LivesIn after (image_of origin group)
-      by true e = lives_there group (ap group_of (member_shared group destination e)) origin m
-      by false e = lives_elsewhere group has e origin m higher
+  lives_either group has origin m higher =
+      grind (arith, common_steps, image_of, lives_there, member_shared, lives_elsewhere)
 
   -- so does that of each group that takes part, up the masters
   image_lives : (group : ℕ) → LivesIn world group → (other : ℕ) → Up world.master group other

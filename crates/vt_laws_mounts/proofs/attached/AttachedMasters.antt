@@ -1,4 +1,6 @@
 -- The groups that are new where a tree of mounts is attached, and their masters.
+use Rattle.std.proofs.Common.{arith}
+use Rattle.std.proofs.lemmas.Grind.{common_steps}
 use Rattle.std.proofs.Common.{◌≡◌, refl, sym, ap, subst, ◌∙◌, true, false, nat_eq, ℕ, Bool, List, None, Option, Some, [], eq-eqb, inl, inr, is_some, not, true≢false, ⊎_elim, ◌∷◌, ◌⊎◌, filter_map, option_map}
 use Rattle.std.proofs.lemmas.Bool.Decides.{eqb_tells}
 use Rattle.std.proofs.lemmas.Option.{same_Some}
@@ -107,44 +109,7 @@ module _ (world : World ℕ) (new : Copies ℕ) (place : Location ℕ) (moves : 
 
   image_there : (origin : Mount ℕ) (entry : ℕ × Option ℕ) → twig_master (twig origin) ≡ Some entry
       → IsImage origin entry
-  image_there origin entry e = by (group_of destination.propagation) refl origin.propagation refl
-    where
-      here : (group : ℕ) → group_of destination.propagation ≡ Some group → (above : Option ℕ)
-          → above ≡ master_after origin.propagation
-          → Some (new.image group origin.number, above) ≡ Some entry → IsImage origin entry
-      here group f above is h =
-          let same : (new.image group origin.number, above) ≡ entry =
-          same_Some (new.image group origin.number, above) entry h in (
-            group,
-            takes_part_in destination group (inl refl) f,
-            sym (ap (λ (x : ℕ × Option ℕ). x.0) same),
-            sym (ap (λ (x : ℕ × Option ℕ). x.1) same) ∙ is
-                ∙ sym (ap
-                (λ b. if b then master_after origin.propagation else nearest origin (world.master group))
-                (member_by_group destination group f)),
-          )
-
-      by : (group : Option ℕ) → group_of destination.propagation ≡ group → (kind : Propagation ℕ)
-          → origin.propagation ≡ kind → IsImage origin entry
-      by None f kind h = absurd (none kind (sym (ap (λ k. makes (λ x. x) k) h)
-          ∙ sym (ap (λ o. twig_master (twig_of new o origin)) f) ∙ e))
-        where
-          none : (k : Propagation ℕ) → makes (λ x. x) k ≡ Some entry → ⊥
-          none (Shared own_group) l = true≢false (sym (ap is_some l))
-          none (Slave above) l = true≢false (sym (ap is_some l))
-          none Private l = true≢false (sym (ap is_some l))
-          none Unbindable l = true≢false (sym (ap is_some l))
-      by (Some group) f kind h =
-          some kind h (sym (ap (λ k. makes (type_on_shared (new.image group origin.number)) k) h)
-          ∙ sym (ap (λ o. twig_master (twig_of new o origin)) f) ∙ e)
-        where
-          some : (k : Propagation ℕ) → origin.propagation ≡ k
-              → makes (type_on_shared (new.image group origin.number)) k ≡ Some entry
-              → IsImage origin entry
-          some (Shared own_group) g l = absurd (true≢false (sym (ap is_some l)))
-          some (Slave above) g l = here group f (Some above) (sym (ap master_after g)) l
-          some Private g l = here group f None (sym (ap master_after g)) l
-          some Unbindable g l = here group f None (sym (ap master_after g)) l
+  image_there origin entry e = grind (arith, common_steps, takes_part_in, member_by_group, true≢false)
 
   -- elsewhere
   abbrev made_pair : Mount ℕ → ℕ → ℕ × Option ℕ
@@ -163,27 +128,8 @@ module _ (world : World ℕ) (new : Copies ℕ) (place : Location ℕ) (moves : 
 
   image_at_part : (part origin : Mount ℕ) (entry : ℕ × Option ℕ) → Among part parts
       → made_elsewhere origin (group_of part.propagation) ≡ Some entry → IsImage origin entry
-  image_at_part part origin entry m e = by (group_of part.propagation) refl
-    where
-      by : (found : Option ℕ) → group_of part.propagation ≡ found → IsImage origin entry
-      by None f = absurd (true≢false (ap is_some (sym e ∙ ap (made_elsewhere origin) f)))
-      by (Some group) f = in_group (is_member_of nat_eq group destination) refl
-        where
-          in_group : (b : Bool) → is_member_of nat_eq group destination ≡ b → IsImage origin entry
-          in_group true g =
-              absurd (true≢false (ap is_some
-              (sym e ∙ ap (made_elsewhere origin) f ∙ ap (λ b. when (not b) (made_pair origin group)) g)))
-          in_group false g =
-              let same : made_pair origin group ≡ entry =
-              same_Some (made_pair origin group) entry
-              (sym (ap (made_elsewhere origin) f ∙ ap (λ b. when (not b) (made_pair origin group)) g) ∙ e) in (
-                group,
-                takes_part_in part group m f,
-                sym (ap (λ (x : ℕ × Option ℕ). x.0) same) ∙ image_elsewhere group origin g,
-                sym (ap (λ (x : ℕ × Option ℕ). x.1) same)
-                    ∙ sym (ap
-                    (λ b. if b then master_after origin.propagation else nearest origin (world.master group)) g),
-              )
+  image_at_part part origin entry m e =
+      grind (arith, common_steps, true≢false, made_pair, takes_part_in, image_elsewhere)
 
   -- each group that is made is an image
   abbrev pub all_made : List (ℕ × Option ℕ)

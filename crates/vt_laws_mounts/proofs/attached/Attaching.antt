@@ -1,4 +1,6 @@
 -- A tree of mounts that is attached stands where it is attached, and what it pushes up stands on it.
+use Rattle.std.proofs.Common.{arith}
+use Rattle.std.proofs.lemmas.Grind.{common_steps}
 use Rattle.std.proofs.Common.{◌≡◌, refl, sym, ap, subst, ◌∙◌, true, false, nat_eq, ℕ, Bool, List, None, Option, Some, [], eq-eqb, flat_map, inl, inr, is_some, length, map, option_map, suc, true≢false, zero, ⊎_elim, ◌&&◌, ◌++◌, ◌∷◌, ◌||◌, not}
 use Rattle.std.specs.List.{list_any}
 use Rattle.std.specs.Prelude.{if◌then◌else◌, unwrap_or}
@@ -73,35 +75,22 @@ pub stood_on_there : (world : World ℕ) → NowhereOrAttached world → (number
     → (mount_numbered nat_eq world number).namespace ≡ (mount_numbered nat_eq world on.mount).namespace
     → is_mount world on.mount ≡ true
 stood_on_there world nowhere number on e f =
-    ⊎_elim
-    (λ found. subst (λ n. is_mount world n ≡ true) (number-mount_in world.mounts on.mount)
-    (is_one_of world.mounts (mount_numbered nat_eq world on.mount) found))
-    (λ none.
-    absurd (outside (mount_numbered nat_eq world number) (placed_among world.mounts number on e) e
-    (f ∙ ap (λ (x : Mount ℕ). x.namespace) none)))
-    (found_or_none world.mounts on.mount)
-  where
-    outside : (mount : Mount ℕ) → Among mount world.mounts → mount.mount_point ≡ Some on → mount.namespace ≡ None → ⊥
-    outside mount m p none =
-        true≢false
-        (sym (among_from_list_all is_nowhere_or_attached world.mounts nowhere mount m)
-        ∙ ap (λ n. is_some n || (not (is_some mount.mount_point) && is_private mount.propagation)) none
-        ∙ ap (λ q. not (is_some q) && is_private mount.propagation) p)
+    grind (
+      arith,
+      common_steps,
+      number-mount_in world.mounts on.mount,
+      is_one_of world.mounts (mount_numbered nat_eq
+          world on.mount),
+      placed_among world.mounts number on e,
+      found_or_none world.mounts on.mount,
+      true≢false,
+      among_from_list_all,
+    )
 
 -- a receiver that takes part is one of the world's mounts
 pub taker_there : (world : World ℕ) (place : Location ℕ) (mount : Mount ℕ)
     → Among mount (rest_of (parts_of nat_eq world place)) → Among mount world.mounts
-taker_there world place mount m =
-    by (group_of destination.propagation)
-    (among-from_filter (takes_part nat_eq world place) (receivers_of nat_eq world destination) mount m).0
-  where
-    destination : Mount ℕ
-    destination = mount_at nat_eq world place
-
-    by : (group : Option ℕ) → Among mount (unwrap_or (option_map (receivers nat_eq world) group) [])
-        → Among mount world.mounts
-    by None l = absurd l
-    by (Some group) l = (among-from_filter (receives nat_eq world group) world.mounts mount l).0
+taker_there world place mount m = grind (arith, common_steps, among-from_filter)
 
 module _ (world : World ℕ) (new : Copies ℕ) (place : Location ℕ) (mounts : List (Mount ℕ))
     (serve : ServeAsCopies world (parts_of nat_eq world place) mounts new) (own : OneNumberAMount mounts)

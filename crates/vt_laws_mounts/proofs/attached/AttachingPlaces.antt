@@ -1,4 +1,5 @@
 -- A tree of mounts that is attached leaves at most one mount at a place.
+use Rattle.std.proofs.lemmas.Grind.{common_steps}
 use Rattle.std.proofs.Common.{◌≡◌, refl, sym, ap, subst, ◌∙◌, true, false, nat_eq, ℕ, Bool, List, None, Option, Some, [], append_assoc, arith, eq-eqb, eqb-true, flat_map, inl, inr, is_some, length, map, option_map, suc, true≢false, zero, ⊎_elim, ◌&&◌, ◌++◌, ◌<◌, ◌∷◌, ◌⊎◌}
 use Rattle.std.specs.List.{list_any}
 use Rattle.std.specs.Prelude.{if◌then◌else◌, unwrap_or}
@@ -45,17 +46,7 @@ differ_by_mount a b p q e f differ =
 -- what stands at one place has it twice
 pub one_place : (a b : Mount ℕ) → test a b ≡ true
     → (p : Location ℕ) × (a.mount_point ≡ Some p) × (b.mount_point ≡ Some p)
-one_place a b h = by a.mount_point refl b.mount_point refl
-  where
-    by : (x : Option (Location ℕ)) → a.mount_point ≡ x → (y : Option (Location ℕ)) → b.mount_point ≡ y
-        → (p : Location ℕ) × (a.mount_point ≡ Some p) × (b.mount_point ≡ Some p)
-    by None e y f = absurd (true≢false (sym h ∙ ap (beside b.mount_point) e))
-    by (Some p) e None f =
-        absurd (true≢false (sym h ∙ ap (beside b.mount_point) e ∙ ap (same_option (same_location nat_eq) (Some p)) f))
-    by (Some p) e (Some q) f =
-        let same : same_location nat_eq p q ≡ true =
-        sym (ap (beside b.mount_point) e ∙ ap (same_option (same_location nat_eq) (Some p)) f) ∙ h in
-        (p, e, f ∙ ap Some (sym (same_location_is p q same)))
+one_place a b h = grind (arith, common_steps, true≢false, same_location_is)
 
 -- and the other way round
 pub stand_together : (a b : Mount ℕ) (p : Location ℕ) → a.mount_point ≡ Some p → b.mount_point ≡ Some p
@@ -341,29 +332,17 @@ module _ (world : World ℕ) (new : Copies ℕ) (place : Location ℕ) (mounts :
   apart_at_two : (p q x y : Mount ℕ) → Among p parts → Among q parts → same_number p q ≡ false → Among x (copies p)
       → Among y (copies q) → test x y ≡ false
   apart_at_two p q x y m n differ k l =
-      let s = copied p x k in
-      let t = copied q y l in
-      subst (λ z. test z y ≡ false) (sym s.2) (subst (λ z. test (copy p s.0) z ≡ false) (sym t.2)
-      (by s.0 s.1 (copy_mount_point_of p s.0 s.1) t.0 t.1 (copy_mount_point_of q t.0 t.1)))
-    where
-      by : (a : Mount ℕ) → Among a mounts → CopyPlace p a → (b : Mount ℕ) → Among b mounts → CopyPlace q b
-          → test (copy p a) (copy q b) ≡ false
-      by a i (at_part e f) b j (at_part g h) =
-          differ_by_mount (copy p a) (copy q b) (place_at p) (place_at q) f h differ
-      by a i (at_part e f) b j (on_copy on parent g h there_is same d) =
-          differ_by_mount (copy p a) (copy q b) (place_at p) (place_upon q on) f d
-          (subst (λ k. nat_eq p.number (new.copy q.number k) ≡ false) same
-          (copy_is_new q parent n there_is p.number (part_there p m)))
-      by a i (on_copy on parent e f there_is same c) b j (at_part g h) =
-          differ_by_mount (copy p a) (copy q b) (place_upon p on) (place_at q) c h
-          (nat_eq_false_turned q.number (new.copy p.number on.mount)
-          (subst (λ k. nat_eq q.number (new.copy p.number k) ≡ false) same
-          (copy_is_new p parent m there_is q.number (part_there q n))))
-      by a i (on_copy on parent e f there_is same c) b j (on_copy at other g h there_too same_too d) =
-          differ_by_mount (copy p a) (copy q b) (place_upon p on) (place_upon q at) c d
-          (subst (λ k. nat_eq (new.copy p.number k) (new.copy q.number at.mount) ≡ false) same
-          (subst (λ k. nat_eq (new.copy p.number parent.number) (new.copy q.number k) ≡ false) same_too
-          (two_parts p q parent other m n there_is there_too differ)))
+      let s = copied p x k in let t = copied q y l in grind (
+        arith,
+        common_steps,
+        copy_mount_point_of p s.0 s.1,
+        copy_mount_point_of q t.0 t.1,
+        differ_by_mount,
+        copy_is_new,
+        part_there,
+        nat_eq_false_turned,
+        two_parts,
+      )
 
   -- copies at one part, where the mounts of the tree but for its top stand at places of their own
   module _ (spread : (a b : Mount ℕ) → Among a mounts → Among b mounts → nat_eq a.number top.number ≡ false

@@ -1,4 +1,5 @@
 -- What namespaces have left of their mounts where some are taken away.
+use Rattle.std.proofs.lemmas.Grind.{common_steps}
 use Rattle.std.proofs.Common.{◌≡◌, refl, sym, ap, subst, ◌∙◌, true, false, nat_eq, ℕ, Bool, List, None, Option, Some, [], arith, cond, eq-eqb, eqb-true, filter, flat_map, inl, inr, is_some, length, map, not, option_map, zero, suc, true≢false, ⊎_elim, ◌&&◌, ◌∷◌, ◌≤◌, ◌⊎◌}
 use Rattle.std.proofs.lemmas.Bool.{and_from, false_from_ne_true, le-leb}
 use Rattle.std.specs.List.{list_any}
@@ -24,16 +25,7 @@ use Rattle.vt_spec.proofs.Worlds.{number-after_going, number-mount_in}
 module _ {A : Type 0} where
   filter_twice : (p q : A → Bool) (xs : List A) → filter p (filter q xs) ≡ filter (λ x. q x && p x) xs
   filter_twice p q [] = refl
-  filter_twice p q (y ∷ ys) = by (q y) refl (filter_twice p q ys)
-    where
-      by : (b : Bool) → q y ≡ b → filter p (filter q ys) ≡ filter (λ x. q x && p x) ys
-          → filter p (filter q (y ∷ ys)) ≡ filter (λ x. q x && p x) (y ∷ ys)
-      by true e later =
-          ap (filter p) (filter_here q y ys e) ∙ ap (λ rest. cond (p y) (y ∷ rest) rest) later
-          ∙ sym (ap (λ b. cond (b && p y) (y ∷ filter (λ x. q x && p x) ys) (filter (λ x. q x && p x) ys)) e)
-      by false e later =
-          ap (filter p) (filter_skip q y ys e) ∙ later
-          ∙ sym (filter_skip (λ x. q x && p x) y ys (ap (λ b. b && p y) e))
+  filter_twice p q (y ∷ ys) = grind (arith, common_steps, filter_twice p q ys, filter_here, filter_skip)
 
   same_count : (p q : A → Bool) (f : A → A) (xs : List A) → ((x : A) → Among x xs → p (f x) ≡ q x)
       → length (filter p (map f xs)) ≡ length (filter q xs)
@@ -51,23 +43,8 @@ module _ {A : Type 0} where
   no_higher_count : (p q : A → Bool) (f : A → A) (xs : List A) → ((x : A) → p (f x) ≡ true → q x ≡ true)
       → length (filter p (map f xs)) ≤ length (filter q xs)
   no_higher_count p q f [] passes = omega arith
-  no_higher_count p q f (y ∷ ys) passes = by (p (f y)) refl (q y) refl (no_higher_count p q f ys passes)
-    where
-      by : (b : Bool) → p (f y) ≡ b → (c : Bool) → q y ≡ c → length (filter p (map f ys)) ≤ length (filter q ys)
-          → length (filter p (map f (y ∷ ys))) ≤ length (filter q (y ∷ ys))
-      by true e true g later =
-          let here = ap length (filter_here p (f y) (map f ys) e) in
-          let there = ap length (filter_here q y ys g) in
-          omega (arith, here, there, later)
-      by true e false g later = absurd (true≢false (sym (passes y e) ∙ g))
-      by false e true g later =
-          let here = ap length (filter_skip p (f y) (map f ys) e) in
-          let there = ap length (filter_here q y ys g) in
-          omega (arith, here, there, later)
-      by false e false g later =
-          let here = ap length (filter_skip p (f y) (map f ys) e) in
-          let there = ap length (filter_skip q y ys g) in
-          omega (arith, here, there, later)
+  no_higher_count p q f (y ∷ ys) passes =
+      grind (arith, common_steps, no_higher_count p q f ys passes, filter_here, true≢false, filter_skip)
 
 -- One mount, whatever goes
 module _ (world : World ℕ) (gone : List ℕ) where
@@ -85,12 +62,7 @@ module _ (world : World ℕ) (gone : List ℕ) where
 
   namespace_after : (mount : Mount ℕ)
       → ((after_it mount).namespace ≡ None) ⊎ ((after_it mount).namespace ≡ mount.namespace)
-  namespace_after mount = by (is_going nat_eq gone mount.number) refl
-    where
-      by : (b : Bool) → is_going nat_eq gone mount.number ≡ b
-          → ((after_it mount).namespace ≡ None) ⊎ ((after_it mount).namespace ≡ mount.namespace)
-      by true e = inl (ap (λ m. m.namespace) (going_is_detached world gone mount e))
-      by false e = inr (ap (λ m. m.namespace) (staying_is_placed world gone mount e))
+  namespace_after mount = grind (arith, common_steps, going_is_detached, staying_is_placed)
 
   pub taken_has_no_more : HasNoMoreMounts world (taken_away nat_eq world gone)
   taken_has_no_more namespace =

@@ -1,4 +1,5 @@
 -- A lazy unmount keeps the invariants of mounts: as the event of a mount comes, nothing stands on it any more.
+use Rattle.std.proofs.lemmas.Grind.{common_steps}
 use Rattle.std.proofs.Common.{◌≡◌, refl, sym, ap, subst, ◌∙◌, true, false, nat_eq, ℕ, Bool, List, None, Option, Some, [], arith, eqb-true, inl, inr, is_some, not, suc, true≢false, ⊎_elim, ◌∷◌, ◌<◌, ◌≤◌, ◌⊎◌, ◌&&◌, ◌||◌}
 use Rattle.std.proofs.lemmas.Bool.{false_from_ne_true}
 use Rattle.std.specs.Prelude.{if◌then◌else◌}
@@ -27,32 +28,13 @@ no_place_outside : (world : World ℕ) → NowhereOrAttached world → (number :
     → is_some (mount_numbered nat_eq world number).namespace ≡ false
     → (mount_numbered nat_eq world number).mount_point ≡ None
 no_place_outside world nowhere number e =
-    ⊎_elim
-    (λ there. by mount.mount_point
-    (sym (ap (λ b. b || (not (is_some mount.mount_point) && is_private mount.propagation)) e)
-    ∙ among_from_list_all is_nowhere_or_attached world.mounts nowhere mount there))
-    (λ none. ap (λ m. m.mount_point) none)
-    (found_or_none world.mounts number)
-  where
-    mount : Mount ℕ
-    mount = mount_numbered nat_eq world number
-
-    by : (place : Option (Location ℕ)) → (not (is_some place) && is_private mount.propagation) ≡ true → place ≡ None
-    by None f = refl
-    by (Some place) f = absurd (true≢false (sym f))
+    grind (arith, common_steps, among_from_list_all, found_or_none world.mounts number, true≢false)
 
 -- a mount on which nothing stands is without a place once it is unmounted
 no_place_then : (world : World ℕ) → MountInvariants nat_eq world → (one : ℕ) → has_child nat_eq world one ≡ false
     → (mount_numbered nat_eq (unmounted nat_eq world one) one).mount_point ≡ None
-no_place_then world kept one childless = by (mount_numbered nat_eq world one).mount_point refl
-  where
-    by : (place : Option (Location ℕ)) → (mount_numbered nat_eq world one).mount_point ≡ place
-        → (mount_numbered nat_eq (unmounted nat_eq world one) one).mount_point ≡ None
-    by None e = root_stays world (going nat_eq world (mount_numbered nat_eq world one)) one e
-    by (Some place) e =
-        ap (λ m. m.mount_point)
-        (detached_by_number world (going nat_eq world (mount_numbered nat_eq world one)) one
-        (the_mount_itself_goes world one place kept.one_child e childless))
+no_place_then world kept one childless =
+    grind (arith, common_steps, root_stays, detached_by_number, the_mount_itself_goes, childless)
 
 module _ (start : World ℕ) (at_first : MountInvariants nat_eq start) (one : ℕ) where
   abbrev rank_of : ℕ → ℕ

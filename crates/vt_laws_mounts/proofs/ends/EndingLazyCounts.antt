@@ -1,4 +1,5 @@
 -- What namespaces have left of their mounts after a lazy unmount.
+use Rattle.std.proofs.lemmas.Grind.{common_steps}
 use Rattle.std.proofs.Common.{◌≡◌, refl, sym, ap, ◌∙◌, true, false, nat_eq, ℕ, Bool, List, None, Option, Some, [], arith, inl, inr, is_some, length, option_map, true≢false, ⊎_elim, ◌∷◌, ◌⊎◌, ◌≤◌}
 use Rattle.std.proofs.lemmas.Bool.{le-leb, leb-true}
 use Rattle.std.specs.Prelude.{if◌then◌else◌}
@@ -19,11 +20,7 @@ use Rattle.vt_spec.proofs.Worlds.{number-mount_in}
 -- Each event changes nothing, or is an unmount
 event_by : (Relation : World ℕ → World ℕ → Type 0) (world : World ℕ) (mount : Mount ℕ) → Relation world world
     → Relation world (unmounted nat_eq world mount.number) → Relation world (unmounted_if_there nat_eq world mount)
-event_by Relation world mount skipped unmount = by (is_some (mount_numbered nat_eq world mount.number).namespace)
-  where
-    by : (b : Bool) → Relation world (if b then unmounted nat_eq world mount.number else world)
-    by true = unmount
-    by false = skipped
+event_by Relation world mount skipped unmount = grind (arith, common_steps)
 
 all_have_no_more : (mounts : List (Mount ℕ)) (world : World ℕ)
     → HasNoMoreMounts world (folded (unmounted_if_there nat_eq) world mounts)
@@ -81,25 +78,8 @@ IsPlacedOrOut world number =
 
 placed_or_out_then : (world : World ℕ) (gone : List ℕ) (number : ℕ) → IsPlacedOrOut world number
     → IsPlacedOrOut (taken_away nat_eq world gone) number
-placed_or_out_then world gone number was = by (is_going nat_eq gone number) refl was
-  where
-    itself : Mount ℕ
-    itself = mount_numbered nat_eq world number
-
-    alike : (place : Option (Location ℕ))
-        → is_some (option_map (mount_point_left nat_eq world gone) place) ≡ is_some place
-    alike None = refl
-    alike (Some p) = refl
-
-    by : (b : Bool) → is_going nat_eq gone number ≡ b → IsPlacedOrOut world number
-        → IsPlacedOrOut (taken_away nat_eq world gone) number
-    by true e was = inr (ap (λ m. m.namespace) (detached_by_number world gone number e))
-    by false e (inr none) = inr ((kept_by_number world gone number e).namespace ∙ none)
-    by false e (inl placed) =
-        inl (ap (λ m. is_some m.mount_point) (taken world gone number)
-        ∙ ap (λ m. is_some m.mount_point)
-        (staying_is_placed world gone itself (ap (is_going nat_eq gone) (number-mount_in world.mounts number) ∙ e))
-        ∙ alike itself.mount_point ∙ placed)
+placed_or_out_then world gone number was =
+    grind (arith, common_steps, detached_by_number, kept_by_number, taken, staying_is_placed, number-mount_in)
 
 all_keep_roots : (mounts : List (Mount ℕ)) (world : World ℕ) → OneNumberEach world
     → ((mount : Mount ℕ) → Among mount mounts → IsPlacedOrOut world mount.number)

@@ -1,4 +1,5 @@
 -- The mounts of a lazy unmount: each of the tree, the deepest first.
+use Rattle.std.proofs.lemmas.Grind.{common_steps}
 use Rattle.std.proofs.Common.{◌≡◌, refl, sym, ap, subst, ◌∙◌, true, false, nat_eq, nat_lt, ℕ, Bool, List, [], arith, flat_map, inl, inr, length, map, zero, suc, ⊎_elim, ◌∷◌, ◌≤◌, ◌<◌, ◌⊎◌}
 use Rattle.std.proofs.lemmas.Bool.{ltb-false, ltb-true}
 use Rattle.std.specs.Prelude.{if◌then◌else◌, ⊤}
@@ -36,53 +37,18 @@ module _ (world : World ℕ) where
   pub among_inserted : (mount : Mount ℕ) (sorted : List (Mount ℕ)) (x : Mount ℕ) → Among x (insert mount sorted)
       → Among x (mount ∷ sorted)
   among_inserted mount [] x m = m
-  among_inserted mount (other ∷ rest) x m = by (is_less_deep mount other) m (among_inserted mount rest x)
-    where
-      by : (b : Bool) → Among x (inserts_by mount other rest b)
-          → (Among x (insert mount rest) → Among x (mount ∷ rest))
-          → Among x (mount ∷ other ∷ rest)
-      by true (inl e) next = inr (inl e)
-      by true (inr l) next = ⊎_elim inl (λ k. inr (inr k)) (next l)
-      by false l next = l
+  among_inserted mount (other ∷ rest) x m = grind (arith, common_steps, among_inserted mount rest x)
 
   inserted_among : (mount : Mount ℕ) (sorted : List (Mount ℕ)) (x : Mount ℕ) → Among x (mount ∷ sorted)
       → Among x (insert mount sorted)
   inserted_among mount [] x m = m
-  inserted_among mount (other ∷ rest) x m = by (is_less_deep mount other) m (inserted_among mount rest x)
-    where
-      by : (b : Bool) → Among x (mount ∷ other ∷ rest) → (Among x (mount ∷ rest) → Among x (insert mount rest))
-          → Among x (inserts_by mount other rest b)
-      by true (inl e) next = inr (next (inl e))
-      by true (inr (inl e)) next = inl e
-      by true (inr (inr l)) next = inr (next (inr l))
-      by false l next = l
+  inserted_among mount (other ∷ rest) x m = grind (arith, common_steps, inserted_among mount rest x)
 
   inserted_in_order : (mount : Mount ℕ) (sorted : List (Mount ℕ)) → AreDeepestFirst sorted
       → AreDeepestFirst (insert mount sorted)
   inserted_in_order mount [] order = (λ x m. absurd m, tt)
   inserted_in_order mount (other ∷ rest) order =
-      by (is_less_deep mount other) refl (inserted_in_order mount rest order.1)
-    where
-      by : (b : Bool) → is_less_deep mount other ≡ b → AreDeepestFirst (insert mount rest)
-          → AreDeepestFirst (inserts_by mount other rest b)
-      by true e later =
-          let deep : depth_of nat_eq world mount < depth_of nat_eq world other =
-          ltb-true (depth_of nat_eq world mount) (depth_of nat_eq world other) e in (
-            λ x m. ⊎_elim
-                (λ same. let equal = ap (depth_of nat_eq world) same in omega (arith, equal, deep))
-                (order.0 x)
-                (among_inserted mount rest x m),
-            later,
-          )
-      by false e later =
-          let deep : depth_of nat_eq world other ≤ depth_of nat_eq world mount =
-          ltb-false (depth_of nat_eq world mount) (depth_of nat_eq world other) e in (
-            λ x m. ⊎_elim
-                (λ same. let equal = ap (depth_of nat_eq world) same in omega (arith, equal, deep))
-                (λ l. let below = order.0 x l in omega (arith, below, deep))
-                m,
-            order,
-          )
+      grind (arith, common_steps, inserted_in_order mount rest order.1, ltb-true, among_inserted, ltb-false)
 
   abbrev all_inserted : List (Mount ℕ) → List (Mount ℕ) → List (Mount ℕ)
   all_inserted sorted mounts = folded (λ list mount. insert mount list) sorted mounts

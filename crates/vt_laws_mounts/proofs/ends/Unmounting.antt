@@ -1,4 +1,6 @@
 -- An unmount takes just the mounts that propagation names.
+use Rattle.std.proofs.Common.{arith}
+use Rattle.std.proofs.lemmas.Grind.{common_steps}
 use Rattle.std.proofs.Common.{◌≡◌, refl, sym, ap, ◌∙◌, ⊎_elim, ℕ, zero, suc, nat_eq, Bool, true, false, true≢false, List, length, map, Option, Some, None, is_some, find}
 use Rattle.std.specs.Prelude.{if◌then◌else◌, option_map}
 use Rattle.std.specs.List.{list_any}
@@ -35,14 +37,7 @@ module _ (world : World ℕ) (gone : List ℕ) where
       (record mount { mount_point = option_map (mount_point_left nat_eq world gone) mount.mount_point })) e
 
   none_after : (number : ℕ) → after_going nat_eq world gone (no_mount number) ≡ no_mount number
-  none_after number = by (is_going nat_eq gone number)
-    where
-      by : (b : Bool)
-          → (if b then detached (no_mount number) else
-          (record (no_mount number) { mount_point = option_map (mount_point_left nat_eq world gone) None }))
-          ≡ no_mount number
-      by true = refl
-      by false = refl
+  none_after number = grind (arith, common_steps)
 
   -- the world in which they are detached, before groups inherit
   abbrev pub middle : World ℕ
@@ -121,43 +116,21 @@ module _ (world : World ℕ) (gone : List ℕ) where
       → (last_or (mount_at nat_eq world place) (chain n below_mount (mount_at nat_eq world place))).mount_point ≡ down
       (last_or place (chain n down place))
   same_end zero place = refl
-  same_end (suc n) place = by (down place) refl (same_end n)
-    where
-      by : (found : Option (Location ℕ)) → down place ≡ found
-          → ((next : Location ℕ)
-          → (last_or (mount_at nat_eq world next) (chain n below_mount (mount_at nat_eq world next))).mount_point ≡ down
-          (last_or next (chain n down next)))
-          → (last_or (mount_at nat_eq world place)
-          (chain (suc n) below_mount (mount_at nat_eq world place))).mount_point ≡ down
-          (last_or place (chain (suc n) down place))
-      by None e later =
-          ap (λ ms. (last_or (mount_at nat_eq world place) ms).mount_point)
-          (chain_ends below_mount n (mount_at nat_eq world place) (ap (option_map (mount_at nat_eq world)) e))
-          ∙ sym (ap (λ ps. down (last_or place ps)) (chain_ends down n place e))
-      by (Some next) e later =
-          ap (λ m. m.mount_point)
-          (ap (last_or (mount_at nat_eq world place))
-          (chain_goes_on below_mount n (mount_at nat_eq world place) (mount_at nat_eq world next)
-          (ap (option_map (mount_at nat_eq world)) e))
-          ∙ last_of_chain below_mount n (mount_at nat_eq world next) (mount_at nat_eq world place))
-          ∙ later next
-          ∙ sym (ap down (ap (last_or place) (chain_goes_on down n place next e) ∙ last_of_chain down n next place))
+  same_end (suc n) place = grind (arith, common_steps, same_end n, chain_ends, chain_goes_on, last_of_chain)
 
   ends_below : ChainsEnd world → (place : Location ℕ) → EndsBelow (length world.mounts) place
   ends_below ends place =
-      ap is_some (sym (same_end (length world.mounts) place))
-      ∙ ⊎_elim
-      (λ m. not-true _
-      (and_parts _ _ (among_from_list_all (stands_in_its_namespace nat_eq world) world.mounts ends
-      (mount_at nat_eq world place) m)).0)
-      (λ none. ap (λ m. is_some (last_or m (chain (length world.mounts) below_mount m)).mount_point) none
-      ∙ none_ends (length world.mounts) place.mount)
-      (found_or_none world.mounts place.mount)
-    where
-      none_ends : (n number : ℕ) → is_some
-          (last_or (no_mount number) (chain n below_mount (no_mount number))).mount_point ≡ false
-      none_ends zero number = refl
-      none_ends (suc n) number = refl
+      grind (
+        arith,
+        common_steps,
+        same_end (length world.mounts) place,
+        not-true,
+        and_parts,
+        among_from_list_all
+            (stands_in_its_namespace nat_eq world) world.mounts ends (mount_at nat_eq world place),
+        found_or_none
+            world.mounts place.mount,
+      )
 
   -- What goes and what stays, by a number
   abbrev left : ℕ → Mount ℕ
@@ -206,15 +179,7 @@ module _ (world : World ℕ) (gone : List ℕ) where
       ∙ ap Some (falls_to_rest (length world.mounts) place rest (ends_below ends place) fall)
 
   pub root_stays : (number : ℕ) → (before_it number).mount_point ≡ None → (left number).mount_point ≡ None
-  root_stays number at = ap (λ m. m.mount_point) (taken number)
-      ∙ by (is_going nat_eq gone (before_it number).number) refl
-    where
-      by : (b : Bool) → is_going nat_eq gone (before_it number).number ≡ b
-          → (after_going nat_eq world gone (before_it number)).mount_point ≡ None
-      by true e = ap (λ m. m.mount_point) (going_is_detached (before_it number) e)
-      by false e =
-          ap (λ m. m.mount_point) (staying_is_placed (before_it number) e)
-          ∙ ap (option_map (mount_point_left nat_eq world gone)) at
+  root_stays number at = grind (arith, common_steps, taken number, going_is_detached, staying_is_placed)
 
   -- Types
   type_by_number : (number : ℕ) → is_going nat_eq gone number ≡ false
@@ -255,11 +220,7 @@ module _ (world : World ℕ) (gone : List ℕ) where
   master_kept group master e h = master-regrouped middle group master e (sym (members_of_middle master) ∙ h)
 
   pub all_but_mounts : KeepsAllButMounts world (taken_away nat_eq world gone)
-  all_but_mounts = by (list_any (lost_a_group nat_eq middle) middle.mounts)
-    where
-      by : (b : Bool) → KeepsAllButMounts world (regrouped_by nat_eq b middle)
-      by true = record { filesystems = refl; namespaces = refl; tasks = refl; change = refl }
-      by false = record { filesystems = refl; namespaces = refl; tasks = refl; change = refl }
+  all_but_mounts = grind (arith, common_steps)
 
 -- At an unmount
 abbrev gone_with : World ℕ → ℕ → List ℕ

@@ -1,4 +1,6 @@
 -- Mounts that end with something else, and lazy unmounts.
+use Rattle.std.proofs.Common.{arith}
+use Rattle.std.proofs.lemmas.Grind.{common_steps}
 use Rattle.std.proofs.Common.{◌≡◌, refl, sym, ap, subst, ◌∙◌, true, false, Bool, List, None, Some, [], is_some, map, nat_eq, true≢false, ⊎_elim, ◌∷◌, ◌⊎◌, ℕ, inr, inl}
 use Rattle.vt_spec.proofs.Lists.{Among, among-filter, among-filter_map, among-map, filter_none, head_among, is_among_numbers}
 use Rattle.vt_laws_mounts.specs.Mounts.Unmounting.{KeepsAllButMounts, KeepsAllButMountPointAndType}
@@ -36,13 +38,7 @@ DetachedOrKept before later = (later ≡ detached before) ⊎ KeepsAllButMountPo
 -- a mount after one event, by the world before
 event : (world : World ℕ) (gone : List ℕ) (number : ℕ)
     → DetachedOrKept (mount_numbered nat_eq world number) (mount_numbered nat_eq (taken_away nat_eq world gone) number)
-event world gone number = by (is_going nat_eq gone number) refl
-  where
-    by : (b : Bool) → is_going nat_eq gone number ≡ b
-        → DetachedOrKept (mount_numbered nat_eq world number)
-        (mount_numbered nat_eq (taken_away nat_eq world gone) number)
-    by true e = inl (detached_by_number world gone number e)
-    by false e = inr (kept_by_number world gone number e)
+event world gone number = grind (arith, common_steps, detached_by_number, kept_by_number)
 
 -- what is detached twice, or kept and then detached
 detached_of_kept : (a b : Mount ℕ) → KeepsAllButMountPointAndType a b → detached b ≡ detached a
@@ -61,13 +57,7 @@ stays_detached : (world : World ℕ) (gone : List ℕ) (number : ℕ) (before : 
     → mount_numbered nat_eq world number ≡ detached before
     → mount_numbered nat_eq (taken_away nat_eq world gone) number ≡ detached before
 stays_detached world gone number before e =
-    taken world gone number ∙ ap (λ m. inheriting nat_eq (middle world gone) (after_going nat_eq world gone m)) e
-    ∙ by (is_going nat_eq gone before.number) refl
-  where
-    by : (b : Bool) → is_going nat_eq gone before.number ≡ b
-        → inheriting nat_eq (middle world gone) (after_going nat_eq world gone (detached before)) ≡ detached before
-    by true f = ap (inheriting nat_eq (middle world gone)) (going_is_detached world gone (detached before) f)
-    by false f = ap (inheriting nat_eq (middle world gone)) (staying_is_placed world gone (detached before) f)
+    grind (arith, common_steps, taken world gone number, going_is_detached, staying_is_placed)
 
 then_event : (before : Mount ℕ) (world : World ℕ) (gone : List ℕ) (number : ℕ)
     → DetachedOrKept before (mount_numbered nat_eq world number)

@@ -1,4 +1,6 @@
 -- What goes at an unmount is what propagation names.
+use Rattle.std.proofs.Common.{arith}
+use Rattle.std.proofs.lemmas.Grind.{common_steps}
 use Rattle.std.proofs.Common.{◌≡◌, refl, sym, ap, subst, ◌∙◌, inl, ⊎_elim, ℕ, nat_eq, Bool, true, false, true≢false, List, [], ◌∷◌, map, Option, Some, None, is_some, Ok}
 use Rattle.std.specs.Prelude.{Contains, filter_map, option_map, unwrap_or}
 use Rattle.vt_spec.specs.Machine.Attach.{receivers_of}
@@ -32,25 +34,7 @@ module _ (world : World ℕ) where
   pub child_goes : (node : ℕ) (receiver child : Mount ℕ) → goes_at nat_eq world node receiver ≡ Some child
       → (child_at nat_eq world.mounts (record { mount = receiver.number; node = node }) ≡ Some child)
       × (may_go nat_eq world child ≡ true)
-  child_goes node receiver child e =
-      by (child_at nat_eq world.mounts (record { mount = receiver.number; node = node })) refl
-    where
-      may : (found : Mount ℕ) (b : Bool) → may_go nat_eq world found ≡ b → when b found ≡ Some child
-          → (found ≡ child) × (may_go nat_eq world child ≡ true)
-      may found true f g = let same : found ≡ child = cc in (same, ap (may_go nat_eq world) (sym same) ∙ f)
-      may found false f g = cc
-
-      by : (found : Option (Mount ℕ))
-          → child_at nat_eq world.mounts (record { mount = receiver.number; node = node }) ≡ found
-          → (child_at nat_eq world.mounts (record { mount = receiver.number; node = node }) ≡ Some child)
-          × (may_go nat_eq world child ≡ true)
-      by None f = absurd (true≢false
-          (sym (ap is_some e) ∙ ap (λ found. is_some (then_some found (λ c. when (may_go nat_eq world c) c))) f))
-      by (Some found) f =
-          let t : (found ≡ child) × (may_go nat_eq world child ≡ true) =
-          may found (may_go nat_eq world found) refl
-          (sym (ap (λ o. then_some o (λ c. when (may_go nat_eq world c) c)) f) ∙ e) in
-          (f ∙ ap Some t.0, t.1)
+  child_goes node receiver child e = grind (arith, common_steps, true≢false)
 
   pub child_goes_so : (node : ℕ) (receiver child : Mount ℕ)
       → child_at nat_eq world.mounts (record { mount = receiver.number; node = node }) ≡ Some child

@@ -1,4 +1,6 @@
 -- A namespace that ends leaves at most one mount at a place in the others.
+use Rattle.std.proofs.Common.{arith}
+use Rattle.std.proofs.lemmas.Grind.{common_steps}
 use Rattle.std.proofs.Common.{◌≡◌, refl, sym, ap, subst, ◌∙◌, true, false, zero, suc, nat_eq, ℕ, List, None, Option, Some, eqb-true, filter, is_some, map, not, option_map, true≢false, ◌&&◌}
 use Rattle.vt_spec.specs.Machine.Mounts.{Location, Mount, mount_in}
 use Rattle.vt_spec.proofs.Lists.{Among, among-filter, among-from_filter, among-from_map, among-map, among_from_list_all, among_numbers, chain_ends, chain_goes_on, is_among_numbers, last_of_chain}
@@ -18,20 +20,7 @@ use Rattle.vt_spec.proofs.Found.{length_from_among}
 last_longer : {A : Type 0} (next : A → Option A) (n : ℕ) (a : A) → next (last_or a (chain n next a)) ≡ None
     → last_or a (chain (suc n) next a) ≡ last_or a (chain n next a)
 last_longer next zero a e = ap (last_or a) (chain_ends next zero a e)
-last_longer next (suc n) a e = by (next a) refl (last_longer next n)
-  where
-    by : (found : Option _) → next a ≡ found
-        → ((b : _) → next (last_or b (chain n next b)) ≡ None
-        → last_or b (chain (suc n) next b) ≡ last_or b (chain n next b))
-        → last_or a (chain (suc (suc n)) next a) ≡ last_or a (chain (suc n) next a)
-    by None f later = ap (last_or a) (chain_ends next (suc n) a f) ∙ sym (ap (last_or a) (chain_ends next n a f))
-    by (Some b) f later =
-        let shorter : last_or a (chain (suc n) next a) ≡ last_or b (chain n next b) =
-        ap (last_or a) (chain_goes_on next n a b f) ∙ last_of_chain next n b a in
-        ap (last_or a) (chain_goes_on next (suc n) a b f)
-        ∙ last_of_chain next (suc n) b a
-        ∙ later b (ap next (sym shorter) ∙ e)
-        ∙ sym shorter
+last_longer next (suc n) a e = grind (arith, common_steps, last_longer next n, chain_ends, chain_goes_on, last_of_chain)
 
 pub one_namespace : (a b : Option ℕ) → same_option nat_eq a b ≡ true → a ≡ b
 one_namespace None None e = refl
@@ -44,11 +33,7 @@ module _ (world : World ℕ) (ends : ChainsEnd world) where
   under mount = option_map (mount_at nat_eq world) mount.mount_point
 
   no_more : (mount : Mount ℕ) → is_some mount.mount_point ≡ false → under mount ≡ None
-  no_more mount e = by mount.mount_point e
-    where
-      by : (place : Option (Location ℕ)) → is_some place ≡ false → option_map (mount_at nat_eq world) place ≡ None
-      by None f = refl
-      by (Some place) f = absurd (true≢false f)
+  no_more mount e = grind (arith, common_steps, true≢false)
 
   parts : (mount : Mount ℕ) → Among mount world.mounts
       → (is_some (last_parent nat_eq world mount).mount_point ≡ false)

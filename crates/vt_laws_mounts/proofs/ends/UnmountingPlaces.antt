@@ -1,4 +1,6 @@
 -- An unmount leaves at most one mount at a place.
+use Rattle.std.proofs.Common.{arith}
+use Rattle.std.proofs.lemmas.Grind.{common_steps}
 use Rattle.std.proofs.Common.{◌≡◌, refl, sym, ap, subst, ◌∙◌, true, false, zero, suc, Bool, List, None, Option, Some, [], eq-eqb, is_some, length, nat_eq, option_map, true≢false, ⊎_elim, ◌∷◌, ◌⊎◌, ℕ, inl, inr}
 use Rattle.vt_spec.proofs.Lists.{Among, among-filter, among-from_filter_map, among-from_map, among_numbers, chain_ends, chain_goes_on, last_of_chain, none_among, pair-map}
 use Rattle.vt_laws_mounts.specs.Mounts.Invariants.{AreApart, OneMountEachMountPoint, UnmountLeavesOneMountAMountPoint}
@@ -77,11 +79,7 @@ one_child_alone : (mount : Mount ℕ) (list : List (Mount ℕ)) → only_cover n
     → Among a list
     → Among b list → a ≡ b
 one_child_alone mount [] h a b m n = absurd m
-one_child_alone mount (child ∷ []) h a b m n = only a m ∙ sym (only b n)
-  where
-    only : (x : Mount ℕ) → Among x (child ∷ []) → x ≡ child
-    only x (inl e) = e
-    only x (inr none) = absurd none
+one_child_alone mount (child ∷ []) h a b m n = grind (arith, common_steps)
 one_child_alone mount (child ∷ other ∷ rest) h a b m n = absurd (true≢false (sym h))
 
 module _ (world : World ℕ) (gone : List ℕ) (apart_all : AreApart world)

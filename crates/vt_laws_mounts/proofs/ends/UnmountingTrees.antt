@@ -1,4 +1,5 @@
 -- Mounts that go with all that stands on them leave at most one mount at a place.
+use Rattle.std.proofs.lemmas.Grind.{common_steps}
 use Rattle.std.proofs.Common.{◌≡◌, refl, sym, ap, subst, ◌∙◌, true, false, zero, suc, nat_eq, ℕ, Bool, List, None, Option, Some, arith, eq-eqb, eqb-true, flat_map, inl, inr, is_some, length, map, option_map, true≢false, ⊎_elim, ◌⊎◌}
 use Rattle.vt_spec.specs.Machine.Mounts.{Location, Mount, children, mount_tree, stands_on, tree_from}
 use Rattle.vt_spec.proofs.Lists.{Among, among-filter, among-flat_map, among-from_filter, among-from_flat_map, among-from_map, among-map, among_from_list_all, among_numbers, chain_goes_on, is_among_numbers, last_of_chain, pair-map}
@@ -27,24 +28,7 @@ module _ (world : World ℕ) (gone : List ℕ) (closed : AreClosed world gone) w
   stood_there : (a : Mount ℕ) (rest : Location ℕ) → Among a world.mounts
       → (after_going nat_eq world gone a).mount_point ≡ Some rest
       → a.mount_point ≡ Some rest
-  stood_there a rest m e = by (is_going nat_eq gone a.number) refl
-    where
-      on : (place : Location ℕ) (b : Bool) → is_going nat_eq gone place.mount ≡ b → a.mount_point ≡ Some place
-          → is_going nat_eq gone a.number ≡ false
-          → option_map (mount_point_left nat_eq world gone) (Some place) ≡ Some rest → a.mount_point ≡ Some rest
-      on place true goes f stays g = absurd (true≢false (sym (closed a place m f goes) ∙ stays))
-      on place false stays_too f stays g =
-          f ∙ ap Some (sym (left_at_rest world gone (length world.mounts) place stays_too)) ∙ g
-
-      at : (place : Option (Location ℕ)) → a.mount_point ≡ place → is_going nat_eq gone a.number ≡ false
-          → option_map (mount_point_left nat_eq world gone) place ≡ Some rest → a.mount_point ≡ Some rest
-      at None f stays g = absurd (true≢false (sym (ap is_some g)))
-      at (Some place) f stays g = on place (is_going nat_eq gone place.mount) refl f stays g
-
-      by : (b : Bool) → is_going nat_eq gone a.number ≡ b → a.mount_point ≡ Some rest
-      by true f = absurd (true≢false
-          (sym (ap is_some e) ∙ ap (λ m. is_some m.mount_point) (going_is_detached world gone a f)))
-      by false f = at a.mount_point refl f (sym (ap (λ m. m.mount_point) (staying_is_placed world gone a f)) ∙ e)
+  stood_there a rest m e = grind (arith, common_steps, true≢false, left_at_rest, going_is_detached, staying_is_placed)
 
   pub closed_keeps_apart : AreApart world → AreApart (taken_away nat_eq world gone)
   closed_keeps_apart both = record {

@@ -1,4 +1,6 @@
 -- Mounts stay apart, by number and by place.
+use Rattle.std.proofs.Common.{arith}
+use Rattle.std.proofs.lemmas.Grind.{common_steps}
 use Rattle.std.proofs.Common.{◌≡◌, refl, sym, ap, ◌∙◌, true, false, nat_eq, ℕ, Bool, List, [], eqb-true, is_some, map, ◌&&◌, ◌∷◌, ⊎_elim, ◌++◌}
 use Rattle.vt_spec.specs.Machine.Mounts.{Mount, mount_in, mount_tree, replaced_if_same, same_location, with_mount, numbers_by}
 use Rattle.vt_spec.proofs.Lists.{Among, pair-filter, pair-map, among-append, among-from_map, among_from_list_all, list_all_from_among}
@@ -36,14 +38,8 @@ places_same f mounts same one =
 replaced_same_place : (mounts : List (Mount ℕ)) → OneNumberAMount mounts → (new : Mount ℕ)
     → (mount_in nat_eq mounts new.number).mount_point ≡ new.mount_point
     → (old : Mount ℕ) → Among old mounts → (replaced_if_same nat_eq new old).mount_point ≡ old.mount_point
-replaced_same_place mounts one new same old m = by (nat_eq new.number old.number) refl
-  where
-    by : (b : Bool) → nat_eq new.number old.number ≡ b → (replaced_if_same nat_eq new old).mount_point ≡ old.mount_point
-    by true e =
-        ap (λ x. x.mount_point) (replaced_there new old e) ∙ sym same
-        ∙ ap (λ x. x.mount_point) (ap (mount_in nat_eq mounts) (eqb-true new.number old.number e)
-        ∙ found_itself mounts one old m)
-    by false e = ap (λ x. x.mount_point) (replaced_elsewhere new old e)
+replaced_same_place mounts one new same old m =
+    grind (arith, common_steps, replaced_there, eqb-true, found_itself, replaced_elsewhere)
 
 pub flags_keep_apart : KeptByFlags AreApart
 flags_keep_apart world here flags both =

@@ -1,4 +1,6 @@
 -- What is attached leaves the mounts that were there.
+use Rattle.std.proofs.Common.{arith}
+use Rattle.std.proofs.lemmas.Grind.{common_steps}
 use Rattle.std.specs.List.{list_any}
 use Rattle.std.proofs.lemmas.List.{map-append}
 use Rattle.std.proofs.Common.{◌≡◌, refl, sym, ap, ◌∙◌, Bool, List, None, Option, Some, [], ℕ, ◌∷◌, nat_eq, append_assoc, cond, eq-eqb, find, flat_map, inl, inr, map, subst, ◌++◌, false, true, length, ◌⊎◌}
@@ -25,13 +27,7 @@ none_found test (x ∷ xs) h =
 module _ (world : World ℕ) (new : Copies ℕ) (graft : Graft ℕ) (parts : List (Mount ℕ)) where
   -- a receiver moves a mount up, or none does
   pub push_keeps : (mount : Mount ℕ) → KeepsAllButMountPoint mount (pushed_up nat_eq world new graft parts mount)
-  push_keeps mount = by (receiver_stood_on nat_eq graft parts mount)
-    where
-      by : (part : Option (Mount ℕ)) → KeepsAllButMountPoint mount (pushed_onto nat_eq world new graft parts mount part)
-      by None =
-          record { number = refl; namespace = refl; filesystem = refl; root = refl; flags = refl; propagation = refl }
-      by (Some part) =
-          record { number = refl; namespace = refl; filesystem = refl; root = refl; flags = refl; propagation = refl }
+  push_keeps mount = grind (arith, common_steps)
 
   abbrev pub is_pushed_by : Mount ℕ → Mount ℕ → Bool
   is_pushed_by mount receiver = stands_at nat_eq
@@ -98,11 +94,7 @@ module _ (world : World ℕ) (new : Copies ℕ) (place : Location ℕ) (moves : 
   push_number mount = (push_keeps world new graft parts mount).number
 
   pub numbers_moved : numbers_of moved_ones ≡ numbers_of world.mounts
-  numbers_moved = by moves
-    where
-      by : (b : Bool) → numbers_of (with_moved_mounts nat_eq b world.mounts arriving) ≡ numbers_of world.mounts
-      by true = numbers-folded world.mounts arriving
-      by false = refl
+  numbers_moved = grind (arith, common_steps, numbers-folded)
 
   numbers_pushed : numbers_of (map push moved_ones) ≡ numbers_of world.mounts
   numbers_pushed = numbers-map push push_number moved_ones ∙ numbers_moved

@@ -1,4 +1,6 @@
 -- The places below places come to an end through changes of types and flags.
+use Rattle.std.proofs.Common.{arith}
+use Rattle.std.proofs.lemmas.Grind.{common_steps}
 use Rattle.std.proofs.Common.{◌≡◌, refl, sym, ap, subst, ◌∙◌, zero, suc, nat_eq, ℕ, None, Option, Some, is_some, length, not, option_map, ◌&&◌}
 use Rattle.vt_spec.specs.Machine.Mounts.{Location, Mount, mount_in}
 use Rattle.vt_spec.proofs.Lists.{Among, among-map, among_from_list_all, chain_ends, chain_goes_on, is_among_numbers, last_of_chain, list_all_from_among}
@@ -33,29 +35,7 @@ module _ (world after : World ℕ)
   same_last : (n : ℕ) (a b : Mount ℕ) → StandsAlike a b
       → StandsAlike (last_or a (chain n below_before a)) (last_or b (chain n below_after b))
   same_last zero a b r = r
-  same_last (suc n) a b r = by a.mount_point refl (same_last n)
-    where
-      by : (found : Option (Location ℕ)) → a.mount_point ≡ found
-          → ((x y : Mount ℕ) → StandsAlike x y
-          → StandsAlike (last_or x (chain n below_before x)) (last_or y (chain n below_after y)))
-          → StandsAlike (last_or a (chain (suc n) below_before a)) (last_or b (chain (suc n) below_after b))
-      by None e later =
-          subst (λ l. StandsAlike l (last_or b (chain (suc n) below_after b)))
-          (sym (ap (last_or a) (chain_ends below_before n a (ap (option_map (mount_at nat_eq world)) e))))
-          (subst (StandsAlike a)
-          (sym (ap (last_or b) (chain_ends below_after n b
-          (ap (option_map (mount_at nat_eq after)) (r.mount_point ∙ e))))) r)
-      by (Some at) e later =
-          let x = mount_at nat_eq world at in
-          let y = mount_at nat_eq after at in
-          subst (λ l. StandsAlike l (last_or b (chain (suc n) below_after b)))
-          (sym (ap (last_or a) (chain_goes_on below_before n a x (ap (option_map (mount_at nat_eq world)) e))
-          ∙ last_of_chain below_before n x a))
-          (subst (StandsAlike (last_or x (chain n below_before x)))
-          (sym (ap (last_or b) (chain_goes_on below_after n b y
-          (ap (option_map (mount_at nat_eq after)) (r.mount_point ∙ e)))
-          ∙ last_of_chain below_after n y b))
-          (later x y (alike at.mount)))
+  same_last (suc n) a b r = grind (arith, common_steps, same_last n, chain_ends, chain_goes_on, last_of_chain)
 
   pub places_end_alike : OneNumberEach world → numbers_of after.mounts ≡ numbers_of world.mounts → ChainsEnd world
       → ChainsEnd after

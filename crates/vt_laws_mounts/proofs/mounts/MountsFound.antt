@@ -1,4 +1,6 @@
 -- Mounts found by their numbers.
+use Rattle.std.proofs.Common.{arith}
+use Rattle.std.proofs.lemmas.Grind.{common_steps}
 use Rattle.std.proofs.Common.{◌≡◌, refl, sym, ap, subst, ◌∙◌, inl, inr, ⊎_elim, ℕ, nat_eq, Bool, true, false, cond, List, [], ◌∷◌, map, true≢false, None, Some, find, is_some, ◌||◌}
 use Rattle.std.specs.Prelude.{unwrap_or}
 use Rattle.std.proofs.lemmas.Option.{same_Some}
@@ -25,15 +27,7 @@ first_or_later first rest number false e =
 pub found_there : (mounts : List (Mount ℕ)) (number : ℕ) → is_among nat_eq number (numbers_of mounts) ≡ true
     → Among (mount_in nat_eq mounts number) mounts
 found_there [] number h = absurd (true≢false (sym h))
-found_there (first ∷ rest) number h = by (nat_eq number first.number) refl (found_there rest number)
-  where
-    by : (b : Bool) → nat_eq number first.number ≡ b
-        → (is_among nat_eq number (numbers_of rest) ≡ true → Among (mount_in nat_eq rest number) rest)
-        → Among (mount_in nat_eq (first ∷ rest) number) (first ∷ rest)
-    by true e later = inl (first_or_later first rest number true e)
-    by false e later =
-        inr (subst (λ x. Among x rest) (sym (first_or_later first rest number false e))
-        (later (sym (ap (λ b. b || is_among nat_eq number (numbers_of rest)) e) ∙ h)))
+found_there (first ∷ rest) number h = grind (arith, common_steps, found_there rest number, first_or_later)
 
 -- a mount that has a place is one of the list
 pub placed_among : (mounts : List (Mount ℕ)) (number : ℕ) (place : Location ℕ)
@@ -47,52 +41,20 @@ placed_among mounts number place e =
 pub found_in : (test : Mount ℕ → Bool) (mounts : List (Mount ℕ)) (found : Mount ℕ) → find test mounts ≡ Some found
     → Among found mounts × (test found ≡ true)
 found_in test [] found e = absurd (true≢false (sym (ap is_some e)))
-found_in test (first ∷ rest) found e = by (test first) refl (found_in test rest found)
-  where
-    by : (b : Bool) → test first ≡ b → (find test rest ≡ Some found → Among found rest × (test found ≡ true))
-        → Among found (first ∷ rest) × (test found ≡ true)
-    by true f later =
-        let same : first ≡ found =
-        same_Some first found (ap (λ c. cond c (Some first) (find test rest)) (sym f) ∙ e) in
-        (inl (sym same), ap test (sym same) ∙ f)
-    by false f later =
-        let t : Among found rest × (test found ≡ true) =
-        later (ap (λ c. cond c (Some first) (find test rest)) (sym f) ∙ e) in
-        (inr t.0, t.1)
+found_in test (first ∷ rest) found e = grind (arith, common_steps, found_in test rest found)
 
 -- where none is found no one passes
 pub unfound : (test : Mount ℕ → Bool) (mounts : List (Mount ℕ)) → find test mounts ≡ None
     → (mount : Mount ℕ) → Among mount mounts → test mount ≡ false
 unfound test [] e mount m = absurd m
-unfound test (first ∷ rest) e mount m = by (test first) refl (unfound test rest)
-  where
-    by : (b : Bool) → test first ≡ b
-        → (find test rest ≡ None → (other : Mount ℕ) → Among other rest → test other ≡ false) → test mount ≡ false
-    by true f later = absurd (true≢false (ap is_some (sym (ap (λ c. cond c (Some first) (find test rest)) f) ∙ e)))
-    by false f later =
-        ⊎_elim (λ same. ap test same ∙ f)
-        (λ l. later (sym (ap (λ c. cond c (Some first) (find test rest)) f) ∙ e) mount l) m
+unfound test (first ∷ rest) e mount m = grind (arith, common_steps, unfound test rest, true≢false)
 
 -- a change of each mount that keeps the numbers is found under them
 pub found-map : (f : Mount ℕ → Mount ℕ) → ((mount : Mount ℕ) → (f mount).number ≡ mount.number)
     → (mounts : List (Mount ℕ)) (number : ℕ) → f (no_mount number) ≡ no_mount number
     → mount_in nat_eq (map f mounts) number ≡ f (mount_in nat_eq mounts number)
 found-map f numbers [] number none = sym none
-found-map f numbers (first ∷ rest) number none =
-    by (nat_eq number first.number) refl (found-map f numbers rest number none)
-  where
-    by : (b : Bool) → nat_eq number first.number ≡ b
-        → mount_in nat_eq (map f rest) number ≡ f (mount_in nat_eq rest number)
-        → mount_in nat_eq (map f (first ∷ rest)) number ≡ f (mount_in nat_eq (first ∷ rest) number)
-    by true e later =
-        ap (λ b. unwrap_or (cond b (Some (f first)) (find (has_number number) (map f rest))) (no_mount number))
-        (ap (nat_eq number) (numbers first) ∙ e)
-        ∙ sym (ap (λ b. f (unwrap_or (cond b (Some first) (find (has_number number) rest)) (no_mount number))) e)
-    by false e later =
-        ap (λ b. unwrap_or (cond b (Some (f first)) (find (has_number number) (map f rest))) (no_mount number))
-        (ap (nat_eq number) (numbers first) ∙ e)
-        ∙ later
-        ∙ sym (ap (λ b. f (unwrap_or (cond b (Some first) (find (has_number number) rest)) (no_mount number))) e)
+found-map f numbers (first ∷ rest) number none = grind (arith, common_steps, found-map f numbers rest number none)
 
 -- as that, of a mount that is there
 pub found-map_there : (f : Mount ℕ → Mount ℕ) → ((mount : Mount ℕ) → (f mount).number ≡ mount.number)
@@ -100,21 +62,7 @@ pub found-map_there : (f : Mount ℕ → Mount ℕ) → ((mount : Mount ℕ) →
     → mount_in nat_eq (map f mounts) number ≡ f (mount_in nat_eq mounts number)
 found-map_there f numbers [] number there = absurd (true≢false (sym there))
 found-map_there f numbers (first ∷ rest) number there =
-    by (nat_eq number first.number) refl (found-map_there f numbers rest number)
-  where
-    by : (b : Bool) → nat_eq number first.number ≡ b
-        → (is_among nat_eq number (map (λ mount. mount.number) rest) ≡ true
-        → mount_in nat_eq (map f rest) number ≡ f (mount_in nat_eq rest number))
-        → mount_in nat_eq (map f (first ∷ rest)) number ≡ f (mount_in nat_eq (first ∷ rest) number)
-    by true e later =
-        ap (λ b. unwrap_or (cond b (Some (f first)) (find (has_number number) (map f rest))) (no_mount number))
-        (ap (nat_eq number) (numbers first) ∙ e)
-        ∙ sym (ap (λ b. f (unwrap_or (cond b (Some first) (find (has_number number) rest)) (no_mount number))) e)
-    by false e later =
-        ap (λ b. unwrap_or (cond b (Some (f first)) (find (has_number number) (map f rest))) (no_mount number))
-        (ap (nat_eq number) (numbers first) ∙ e)
-        ∙ later (sym (ap (λ b. b || is_among nat_eq number (map (λ (mount : Mount ℕ). mount.number) rest)) e) ∙ there)
-        ∙ sym (ap (λ b. f (unwrap_or (cond b (Some first) (find (has_number number) rest)) (no_mount number))) e)
+    grind (arith, common_steps, found-map_there f numbers rest number)
 
 pub numbers-map : (f : Mount ℕ → Mount ℕ) → ((mount : Mount ℕ) → (f mount).number ≡ mount.number)
     → (mounts : List (Mount ℕ)) → map (λ mount. mount.number) (map f mounts) ≡ map (λ mount. mount.number) mounts

@@ -1,4 +1,6 @@
 -- What a granted call leaves.
+use Rattle.std.proofs.Common.{arith}
+use Rattle.std.proofs.lemmas.Grind.{common_steps}
 use Rattle.std.proofs.Common.{◌≡◌, refl, sym, ap, ◌∙◌, ℕ, nat_eq, Bool, true, false, not, ◌||◌, List, [], ◌∷◌, filter, Some, is_ok, ok_or, Ok, Err, Result, flat_map, inl, inr, is_some, map, subst, ⊎_elim, ◌++◌, ◌⊎◌}
 use Rattle.vt_spec.specs.declared.errors.Rule.TheVariants.{S2}
 use Rattle.vt_spec.specs.Errors.{denial}
@@ -31,12 +33,7 @@ one_end walk a b e f = same_ok a b (sym (ap walk_end e) ∙ f)
 
 -- a task with its change number raised is where it was
 locations_raised : (name : TaskName) (task : Task ℕ) → locations_of (raised_task name task) ≡ locations_of task
-locations_raised name task = by (same_name name task.name)
-  where
-    by : (b : Bool) → locations_of (if b then (record task { change = raised task.change }) else task)
-        ≡ locations_of task
-    by true = refl
-    by false = refl
+locations_raised name task = grind (arith, common_steps)
 
 all_locations_raised : (name : TaskName) (tasks : List (Task ℕ))
     → flat_map locations_of (map (raised_task name) tasks) ≡ flat_map locations_of tasks
@@ -71,25 +68,7 @@ pub policy_leaves : (fresh : Fresh ℕ) (world : World ℕ) (name : TaskName) (c
     → ((task : Task ℕ) → (call_outcome nat_eq fresh world task call).world.mounts ≡ world.mounts)
     → ((policy nat_eq fresh world name call).world.mounts ≡ world.mounts)
     ⊎ HasLiving (policy nat_eq fresh world name call).world world.mounts
-policy_leaves fresh world name call leaves = by (ok_or (task_called world name) (denial S2))
-  where
-    changed : Task ℕ → List ℕ
-    changed task = filesystems_changed_by nat_eq world (judge_in nat_eq fresh world task call)
-
-    by : (found : Result (Task ℕ) Deny)
-        → ((after world found
-        (λ task. finished nat_eq world name call (changed task)
-        (call_outcome nat_eq fresh world task call))).world.mounts ≡ world.mounts)
-        ⊎ HasLiving
-        (after world found
-        (λ task. finished nat_eq world name call (changed task)
-        (call_outcome nat_eq fresh world task call))).world world.mounts
-    by (Ok task) =
-        let outcome = call_outcome nat_eq fresh world task call in
-        let ended = finished nat_eq world name call (changed task) outcome in
-        ⊎_elim (λ e. inl (e ∙ leaves task)) (λ e. inr (e ∙ ap (filter (mount_lives nat_eq ended.world)) (leaves task)))
-        (finished_leaves (only_looks call || not (is_ok outcome.answer)) world name (changed task) outcome)
-    by (Err deny) = inl refl
+policy_leaves fresh world name call leaves = grind (arith, common_steps, finished_leaves)
 
 module _ (fresh : Fresh ℕ) (world : World ℕ) (name : TaskName) (task : Task ℕ) (call : Call)
     (is : task_called world name ≡ Some task) where

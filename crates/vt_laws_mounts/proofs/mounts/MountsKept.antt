@@ -1,4 +1,6 @@
 -- Conditions of a world that changes of mounts keep.
+use Rattle.std.proofs.Common.{arith}
+use Rattle.std.proofs.lemmas.Grind.{common_steps}
 use Rattle.vt_spec.specs.Machine.World.{World, mount_at, mount_numbered, with_flags}
 use Rattle.vt_laws_mounts.proofs.mounts.MountsReplaced.{one_number_by_numbers, numbers-with_mount}
 use Rattle.std.proofs.Common.{◌≡◌, refl, sym, ap, ◌∙◌, true, false, Bool, List, None, Option, Some, filter, is_some, map, not, option_map, true≢false, ◌&&◌, ◌||◌, ℕ, nat_eq}
@@ -64,51 +66,11 @@ settling_keeps_numbers world e =
 -- Mounts outside every namespace
 nowhere_inherits : (world : World ℕ) (mount : Mount ℕ) → is_nowhere_or_attached mount ≡ true
     → is_nowhere_or_attached (inheriting nat_eq world mount) ≡ true
-nowhere_inherits world mount e = by mount.propagation refl e
-  where
-    either_way : (a b c : Bool) → (a || (b && false)) ≡ true → (a || (b && c)) ≡ true
-    either_way true b c h = refl
-    either_way false true c h = absurd (true≢false (sym h))
-    either_way false false c h = absurd (true≢false (sym h))
-
-    by : (kind : Propagation ℕ) → mount.propagation ≡ kind
-        → (is_some mount.namespace || (not (is_some mount.mount_point) && is_private mount.propagation)) ≡ true
-        → (is_some mount.namespace
-        || (not (is_some mount.mount_point) && is_private (inherited nat_eq world mount.propagation))) ≡ true
-    by (Shared group) f h =
-        ap (λ k. is_some mount.namespace || (not (is_some mount.mount_point) && is_private (inherited nat_eq world k)))
-        f
-        ∙ sym (ap (λ k. is_some mount.namespace || (not (is_some mount.mount_point) && is_private k)) f) ∙ h
-    by (Slave above) f h =
-        either_way (is_some mount.namespace) (not (is_some mount.mount_point))
-        (is_private (inherited nat_eq world mount.propagation))
-        (sym (ap (λ k. is_some mount.namespace || (not (is_some mount.mount_point) && is_private k)) f) ∙ h)
-    by Private f h =
-        ap (λ k. is_some mount.namespace || (not (is_some mount.mount_point) && is_private (inherited nat_eq world k)))
-        f
-        ∙ sym (ap (λ k. is_some mount.namespace || (not (is_some mount.mount_point) && is_private k)) f) ∙ h
-    by Unbindable f h =
-        ap (λ k. is_some mount.namespace || (not (is_some mount.mount_point) && is_private (inherited nat_eq world k)))
-        f
-        ∙ sym (ap (λ k. is_some mount.namespace || (not (is_some mount.mount_point) && is_private k)) f) ∙ h
+nowhere_inherits world mount e = grind (arith, common_steps, true≢false)
 
 nowhere_after : (world : World ℕ) (gone : List ℕ) (mount : Mount ℕ) → is_nowhere_or_attached mount ≡ true
     → is_nowhere_or_attached (after_going nat_eq world gone mount) ≡ true
-nowhere_after world gone mount e = by (is_going nat_eq gone mount.number) mount.mount_point refl
-  where
-    by : (b : Bool) (place : Option (Location ℕ)) → mount.mount_point ≡ place
-        → is_nowhere_or_attached
-        (if b then detached mount else
-        (record mount { mount_point = option_map (mount_point_left nat_eq world gone) mount.mount_point })) ≡ true
-    by true place f = refl
-    by false None f =
-        ap (λ p. is_some mount.namespace ||
-        (not (is_some (option_map (mount_point_left nat_eq world gone) p)) && is_private mount.propagation)) f
-        ∙ sym (ap (λ p. is_some mount.namespace || (not (is_some p) && is_private mount.propagation)) f) ∙ e
-    by false (Some place) f =
-        ap (λ p. is_some mount.namespace ||
-        (not (is_some (option_map (mount_point_left nat_eq world gone) p)) && is_private mount.propagation)) f
-        ∙ sym (ap (λ p. is_some mount.namespace || (not (is_some p) && is_private mount.propagation)) f) ∙ e
+nowhere_after world gone mount e = grind (arith, common_steps)
 
 pub taking_away_keeps_nowhere : KeptByTakingAway NowhereOrAttached
 taking_away_keeps_nowhere world gone e =

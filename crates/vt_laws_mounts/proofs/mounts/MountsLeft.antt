@@ -1,4 +1,6 @@
 -- Calls that are of no mount leave the mounts as they were.
+use Rattle.std.proofs.Common.{arith}
+use Rattle.std.proofs.lemmas.Grind.{common_steps}
 use Rattle.std.proofs.Common.{◌≡◌, refl, sym, ℕ, nat_eq, Bool, true, false, true≢false, List, [], ◌∷◌, Option, Some, None}
 use Rattle.vt_spec.specs.Language.Calls.{Call}
 use Rattle.vt_spec.specs.Language.Calls.Call.{Bind, Exit, Lazy, MountOverlay, MountPlain, MoveMount, PivotRoot, Remount, Rename, Rmdir, SetType, Setns, Umount, Unshare}
@@ -24,18 +26,7 @@ use Rattle.vt_spec.specs.Machine.Permits.{Permit}
 module _ (world : World ℕ) where
   pub mounts-with_change : (fresh : Fresh ℕ) (location : Location ℕ) (change : Change ℕ)
       → (with_change nat_eq fresh world location change).mounts ≡ world.mounts
-  mounts-with_change fresh location change =
-      by (filesystem_at nat_eq world location) (filesystem_at nat_eq world location).overlay
-    where
-      upper : (filesystem : Filesystem ℕ) (overlay : Overlay ℕ) (layer : Option (Layer ℕ))
-          → (overlay_changed nat_eq fresh world filesystem overlay layer change).mounts ≡ world.mounts
-      upper filesystem overlay None = refl
-      upper filesystem overlay (Some layer) = refl
-
-      by : (filesystem : Filesystem ℕ) (overlay : Option (Overlay ℕ))
-          → (filesystem_changed nat_eq fresh world filesystem overlay change).mounts ≡ world.mounts
-      by filesystem None = refl
-      by filesystem (Some overlay) = upper filesystem overlay overlay.upper
+  mounts-with_change fresh location change = grind (arith, common_steps)
 
   copied_leaves : (b : Bool) (fresh : Fresh ℕ) (file : Location ℕ)
       → (with_copy nat_eq b fresh world file).mounts ≡ world.mounts

@@ -1,4 +1,6 @@
 -- Where mounts stand.
+use Rattle.std.proofs.Common.{arith}
+use Rattle.std.proofs.lemmas.Grind.{common_steps}
 use Rattle.std.proofs.Common.{◌≡◌, refl, sym, ap, ◌∙◌, ⊎_elim, ℕ, nat_eq, eq-eqb, Bool, true, false, true≢false, cond, ◌&&◌, List, [], ◌∷◌, Option, Some, None, is_some, find}
 use Rattle.std.specs.List.{list_any}
 use Rattle.std.proofs.lemmas.Bool.{and_from, or_parts}
@@ -18,12 +20,7 @@ same_location_itself place =
 -- a mount that stands at a place has it
 pub stands_there : (place : Location ℕ) (mount : Mount ℕ) → stands_at nat_eq place mount ≡ true
     → mount.mount_point ≡ Some place
-stands_there place mount h = by mount.mount_point refl
-  where
-    by : (other : Option (Location ℕ)) → mount.mount_point ≡ other → mount.mount_point ≡ Some place
-    by None e = absurd (true≢false (sym h ∙ ap (holds_of (same_location nat_eq place)) e))
-    by (Some other) e = e ∙ ap Some
-        (sym (same_location_is place other (sym (ap (holds_of (same_location nat_eq place)) e) ∙ h)))
+stands_there place mount h = grind (arith, common_steps, true≢false, same_location_is)
 
 pub stands_at_its_place : (place : Location ℕ) (mount : Mount ℕ) → mount.mount_point ≡ Some place
     → stands_at nat_eq place mount ≡ true
@@ -68,22 +65,7 @@ stands_alone mounts one =
 -- two that stand at one place have it
 pub place_of_both : (a b : Mount ℕ) → share_a_mount_point nat_eq a b ≡ true
     → (place : Location ℕ) × (a.mount_point ≡ Some place) × (b.mount_point ≡ Some place)
-place_of_both a b h = by a.mount_point refl b.mount_point refl h
-  where
-    by : (p : Option (Location ℕ)) → a.mount_point ≡ p → (q : Option (Location ℕ)) → b.mount_point ≡ q
-        → share_a_mount_point nat_eq a b ≡ true
-        → (place : Location ℕ) × (a.mount_point ≡ Some place) × (b.mount_point ≡ Some place)
-    by None e q f t = absurd (true≢false
-        (sym t ∙ ap (λ p. is_some p && same_option (same_location nat_eq) p b.mount_point) e))
-    by (Some p) e None f t =
-        absurd (true≢false (sym t ∙ ap (λ x. is_some x && same_option (same_location nat_eq) x b.mount_point) e
-        ∙ ap (same_option (same_location nat_eq) (Some p)) f))
-    by (Some p) e (Some q) f t =
-        let same : p ≡ q =
-        same_location_is p q
-        (sym (ap (λ x. is_some x && same_option (same_location nat_eq) x b.mount_point) e
-        ∙ ap (same_option (same_location nat_eq) (Some p)) f) ∙ t) in
-        (p, e, f ∙ ap Some (sym same))
+place_of_both a b h = grind (arith, common_steps, true≢false, same_location_is)
 
 -- only one mount stands at a place
 pub one_stander : (mounts : List (Mount ℕ)) → OneMountAMountPoint mounts → (a b : Mount ℕ) → Among a mounts

@@ -1,4 +1,6 @@
 -- A mount in the place of the one with its number.
+use Rattle.std.proofs.Common.{arith}
+use Rattle.std.proofs.lemmas.Grind.{common_steps}
 use Rattle.std.proofs.Common.{◌≡◌, refl, sym, ap, ◌∙◌, Bool, List, Some, [], cond, eq-eqb, eqb-true, find, nat_eq, subst, true≢false, unwrap_or, ℕ, ⊎_elim, ◌++◌, ◌||◌, ◌∷◌, false, true}
 use Rattle.vt_spec.specs.Machine.Mounts.{Mount, mount_in, no_mount, replaced_if_same, with_mount}
 use Rattle.vt_laws_mounts.proofs.mounts.MountsFound.{found-map, numbers-map}
@@ -21,11 +23,7 @@ module _ (new : Mount ℕ) where
   replaced_elsewhere old e = ap (λ b. if b then new else old) e
 
   pub number_replaced : (old : Mount ℕ) → (replaced_if_same nat_eq new old).number ≡ old.number
-  number_replaced old = by (nat_eq new.number old.number) refl
-    where
-      by : (b : Bool) → nat_eq new.number old.number ≡ b → (if b then new else old).number ≡ old.number
-      by true e = eqb-true new.number old.number e
-      by false e = refl
+  number_replaced old = grind (arith, common_steps, eqb-true)
 
   -- the other mounts are found as they were
   pub found-with_mount_other : (mounts : List (Mount ℕ)) (number : ℕ) → nat_eq new.number number ≡ false
@@ -41,28 +39,8 @@ module _ (new : Mount ℕ) where
   pub found-with_mount_itself : (mounts : List (Mount ℕ)) → is_among nat_eq new.number (numbers_of mounts) ≡ true
       → mount_in nat_eq (with_mount nat_eq mounts new) new.number ≡ new
   found-with_mount_itself [] h = absurd (true≢false (sym h))
-  found-with_mount_itself (first ∷ rest) h = by (nat_eq new.number first.number) refl (found-with_mount_itself rest)
-    where
-      here : (b : Bool)
-          → mount_in nat_eq (with_mount nat_eq (first ∷ rest) new) new.number ≡ mount_in nat_eq
-          (replaced_if_same nat_eq new first ∷ with_mount nat_eq rest new) new.number
-      here b = refl
-
-      by : (b : Bool) → nat_eq new.number first.number ≡ b
-          → (is_among nat_eq new.number (numbers_of rest) ≡ true
-          → mount_in nat_eq (with_mount nat_eq rest new) new.number ≡ new)
-          → mount_in nat_eq (with_mount nat_eq (first ∷ rest) new) new.number ≡ new
-      by true e later =
-          ap (λ x. mount_in nat_eq (x ∷ with_mount nat_eq rest new) new.number) (replaced_there first e)
-          ∙ ap (λ b. unwrap_or (cond b (Some new)
-          (find (λ mount. nat_eq new.number mount.number) (with_mount nat_eq rest new)))
-          (no_mount new.number)) (eq-eqb new.number new.number refl)
-      by false e later =
-          ap (λ x. mount_in nat_eq (x ∷ with_mount nat_eq rest new) new.number) (replaced_elsewhere first e)
-          ∙ ap (λ b. unwrap_or
-          (cond b (Some first) (find (λ mount. nat_eq new.number mount.number) (with_mount nat_eq rest new)))
-          (no_mount new.number)) e
-          ∙ later (sym (ap (λ b. b || is_among nat_eq new.number (numbers_of rest)) e) ∙ h)
+  found-with_mount_itself (first ∷ rest) h =
+      grind (arith, common_steps, found-with_mount_itself rest, replaced_there, eq-eqb, replaced_elsewhere)
 
 -- a number that no mount has
 pub none_numbered : (mounts : List (Mount ℕ)) (number : ℕ) → is_among nat_eq number (numbers_of mounts) ≡ false
@@ -81,48 +59,22 @@ module _ (R : Mount ℕ → Mount ℕ → Type 0) (same : (mount : Mount ℕ) �
   pub related-with_mount : (mounts : List (Mount ℕ)) (new : Mount ℕ) → R (mount_in nat_eq mounts new.number) new
       → (number : ℕ)
       → R (mount_in nat_eq mounts number) (mount_in nat_eq (with_mount nat_eq mounts new) number)
-  related-with_mount mounts new r number = by (nat_eq new.number number) refl
-    where
-      there : (b : Bool) → is_among nat_eq new.number (numbers_of mounts) ≡ b
-          → R (mount_in nat_eq mounts new.number) (mount_in nat_eq (with_mount nat_eq mounts new) new.number)
-      there true e = subst (R (mount_in nat_eq mounts new.number)) (sym (found-with_mount_itself new mounts e)) r
-      there false e =
-          subst (R (mount_in nat_eq mounts new.number))
-          (none_numbered mounts new.number e
-          ∙ sym (none_numbered (with_mount nat_eq mounts new) new.number
-          (ap (is_among nat_eq new.number) (numbers-with_mount new mounts) ∙ e)))
-          (same (mount_in nat_eq mounts new.number))
-
-      by : (b : Bool) → nat_eq new.number number ≡ b
-          → R (mount_in nat_eq mounts number) (mount_in nat_eq (with_mount nat_eq mounts new) number)
-      by true e =
-          subst (λ n. R (mount_in nat_eq mounts n) (mount_in nat_eq (with_mount nat_eq mounts new) n))
-          (eqb-true new.number number e) (there (is_among nat_eq new.number (numbers_of mounts)) refl)
-      by false e =
-          subst (R (mount_in nat_eq mounts number)) (sym (found-with_mount_other new mounts number e))
-          (same (mount_in nat_eq mounts number))
+  related-with_mount mounts new r number =
+      grind (
+        arith,
+        common_steps,
+        found-with_mount_itself,
+        none_numbered,
+        numbers-with_mount,
+        eqb-true,
+        found-with_mount_other,
+      )
 
 -- what stands first in a list is found there
 pub found-append : (mounts others : List (Mount ℕ)) (number : ℕ) → is_among nat_eq number (numbers_of mounts) ≡ true
     → mount_in nat_eq (mounts ++ others) number ≡ mount_in nat_eq mounts number
 found-append [] others number h = absurd (true≢false (sym h))
-found-append (first ∷ rest) others number h = by (nat_eq number first.number) refl (found-append rest others number)
-  where
-    by : (b : Bool) → nat_eq number first.number ≡ b
-        → (is_among nat_eq number (numbers_of rest) ≡ true
-        → mount_in nat_eq (rest ++ others) number ≡ mount_in nat_eq rest number)
-        → mount_in nat_eq ((first ∷ rest) ++ others) number ≡ mount_in nat_eq (first ∷ rest) number
-    by true e later =
-        ap (λ b. unwrap_or (cond b (Some first) (find (λ mount. nat_eq number mount.number) (rest ++ others)))
-        (no_mount number)) e
-        ∙ sym (ap (λ b. unwrap_or (cond b (Some first) (find (λ mount. nat_eq number mount.number) rest))
-        (no_mount number)) e)
-    by false e later =
-        ap (λ b. unwrap_or (cond b (Some first) (find (λ mount. nat_eq number mount.number) (rest ++ others)))
-        (no_mount number)) e
-        ∙ later (sym (ap (λ b. b || is_among nat_eq number (numbers_of rest)) e) ∙ h)
-        ∙ sym (ap (λ b. unwrap_or (cond b (Some first) (find (λ mount. nat_eq number mount.number) rest))
-        (no_mount number)) e)
+found-append (first ∷ rest) others number h = grind (arith, common_steps, found-append rest others number)
 
 -- where no two mounts have one number, a mount is found by its own
 pub found_itself : (mounts : List (Mount ℕ)) → OneNumberAMount mounts → (mount : Mount ℕ) → Among mount mounts

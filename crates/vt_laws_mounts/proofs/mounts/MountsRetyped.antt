@@ -1,4 +1,6 @@
 -- A change of flags or of type is of the mounts that it names.
+use Rattle.std.proofs.Common.{arith}
+use Rattle.std.proofs.lemmas.Grind.{common_steps}
 use Rattle.std.proofs.Common.{◌≡◌, refl, sym, ap, ◌∙◌, true, false, Bool, subst, ℕ, nat_eq, List, None, [], inl, map, ◌∷◌, ◌||◌}
 use Rattle.std.specs.List.{list_any}
 use Rattle.vt_spec.specs.Machine.Mounts.Propagation.{Private, Shared, Slave, Unbindable}
@@ -57,12 +59,7 @@ module _ (world : World ℕ) (group : ℕ → ℕ) (word : TypeWord) (named : Li
   is_named mount = list_any (λ (other : Mount ℕ). nat_eq mount.number other.number) named
 
   pub retype_keeps : (mount : Mount ℕ) → KeepsAllButType mount (retype mount)
-  retype_keeps mount = by (is_named mount)
-    where
-      by : (b : Bool) → KeepsAllButType mount (retyped_if mount b)
-      by true =
-          record { number = refl; namespace = refl; mount_point = refl; filesystem = refl; root = refl; flags = refl }
-      by false = all_but_type_itself mount
+  retype_keeps mount = grind (arith, common_steps, all_but_type_itself)
 
   pub numbers-retyped : numbers_of next_world.mounts ≡ numbers_of world.mounts
   numbers-retyped =
@@ -86,24 +83,8 @@ module _ (world : World ℕ) (group : ℕ → ℕ) (word : TypeWord) (named : Li
 
   pub keeps_all_but_type : (number : ℕ)
       → KeepsAllButType (mount_numbered nat_eq world number) (mount_numbered nat_eq next_world number)
-  keeps_all_but_type number = by (is_mount world number) refl
-    where
-      by : (b : Bool) → is_mount world number ≡ b
-          → KeepsAllButType (mount_numbered nat_eq world number) (mount_numbered nat_eq next_world number)
-      by true there =
-          let r = retype_keeps (mount_numbered nat_eq world number) in
-          subst (KeepsAllButType (mount_numbered nat_eq world number)) (sym (retyped_found number there))
-          (record {
-            number = r.number;
-            namespace = r.namespace;
-            mount_point = r.mount_point;
-            filesystem = r.filesystem;
-            root = r.root;
-            flags = r.flags;
-          })
-      by false missing =
-          subst (KeepsAllButType (mount_numbered nat_eq world number)) (sym (retyped_missing number missing))
-          (all_but_type_itself (mount_numbered nat_eq world number))
+  keeps_all_but_type number =
+      grind (arith, common_steps, retype_keeps, retyped_found, retyped_missing, all_but_type_itself)
 
   named_by_number : (number : ℕ)
       → is_named (mount_numbered nat_eq world number) ≡ is_among nat_eq number (numbers_of named)
@@ -129,17 +110,8 @@ module _ (world : World ℕ) (group : ℕ → ℕ) (word : TypeWord) (named : Li
   pub type_of_unnamed : (number : ℕ) → is_among nat_eq number (numbers_of named) ≡ false
       → has_its_master next_world (mount_numbered nat_eq world number).propagation ≡ true
       → (mount_numbered nat_eq next_world number).propagation ≡ (mount_numbered nat_eq world number).propagation
-  type_of_unnamed number unnamed has = by (is_mount world number) refl
-    where
-      by : (b : Bool) → is_mount world number ≡ b
-          → (mount_numbered nat_eq next_world number).propagation ≡ (mount_numbered nat_eq world number).propagation
-      by true there =
-          let one = mount_numbered nat_eq world number in
-          ap (λ m. m.propagation) (retyped_found number there)
-          ∙ ap (λ b. inherited nat_eq between (retyped_if one b).propagation)
-          (named_by_number number ∙ unnamed)
-          ∙ kept_where_master one.propagation has
-      by false missing = ap (λ m. m.propagation) (retyped_missing number missing)
+  type_of_unnamed number unnamed has =
+      grind (arith, common_steps, retyped_found, named_by_number, kept_where_master, retyped_missing)
 
   pub type_of_named : (number : ℕ) → is_mount world number ≡ true → is_among nat_eq number (numbers_of named) ≡ true
       → (mount_numbered nat_eq next_world number).propagation
@@ -153,11 +125,7 @@ module _ (world : World ℕ) (group : ℕ → ℕ) (word : TypeWord) (named : Li
       (number-mount_in world.mounts number)
 
   pub retyping_is_of_mounts : KeepsAllButMounts world next_world
-  retyping_is_of_mounts = by (list_any (lost_a_group nat_eq between) between.mounts)
-    where
-      by : (b : Bool) → KeepsAllButMounts world (regrouped_by nat_eq b between)
-      by true = record { filesystems = refl; namespaces = refl; tasks = refl; change = refl }
-      by false = record { filesystems = refl; namespaces = refl; tasks = refl; change = refl }
+  retyping_is_of_mounts = grind (arith, common_steps)
 
 -- The laws
 abbrev pub groups_by : World ℕ → Fresh ℕ → ℕ → Bool → ℕ → ℕ

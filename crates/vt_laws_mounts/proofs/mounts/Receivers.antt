@@ -1,4 +1,6 @@
 -- What the policy takes for the receivers of a group is what receives from it.
+use Rattle.std.proofs.Common.{arith}
+use Rattle.std.proofs.lemmas.Grind.{common_steps}
 use Rattle.std.proofs.Common.{◌≡◌, refl, sym, ap, subst, ◌∙◌, inl, ⊎_elim, ℕ, zero, suc, nat_eq, Bool, true, false, true≢false, ◌&&◌, [], ◌∷◌, length, Option, Some, None, is_some}
 use Rattle.std.specs.Prelude.{◌↔◌, option_map, option_to_list, unwrap_or}
 use Rattle.std.specs.List.{list_all}
@@ -18,12 +20,7 @@ use Rattle.vt_spec.specs.Machine.Attach.{receivers_of}
 -- receivers are mounts of the world
 pub receivers_there : (world : World ℕ) (mount one : Mount ℕ) → Among one (receivers_of nat_eq world mount)
     → Among one world.mounts
-receivers_there world mount one = by (group_of mount.propagation)
-  where
-    by : (group : Option ℕ) → Among one (unwrap_or (option_map (receivers nat_eq world) group) [])
-        → Among one world.mounts
-    by None m = absurd m
-    by (Some group) m = (among-from_filter (receives nat_eq world group) world.mounts one m).0
+receivers_there world mount one = grind (arith, common_steps, among-from_filter)
 
 module _ (master : ℕ → Option ℕ) where
   -- what goes up the masters goes up a chain of them
@@ -54,13 +51,7 @@ module _ (master : ℕ → Option ℕ) where
   -- a chain begins with its start
   pub start_among : (n source : ℕ) → is_among nat_eq source (chain n master source) ≡ true
   start_among zero source = head_among source source [] refl
-  start_among (suc n) source = by (master source) refl
-    where
-      by : (found : Option ℕ) → master source ≡ found → is_among nat_eq source (chain (suc n) master source) ≡ true
-      by None e = ap (is_among nat_eq source) (chain_ends master n source e) ∙ head_among source source [] refl
-      by (Some above) e =
-          ap (is_among nat_eq source) (chain_goes_on master n source above e)
-          ∙ head_among source source (chain n master above) refl
+  start_among (suc n) source = grind (arith, common_steps, chain_ends, head_among, chain_goes_on)
 
   -- a chain that ends holds the master of each of its groups
   pub chain_is_closed : (n source lower group : ℕ) → Ends n source → master lower ≡ Some group
@@ -148,15 +139,8 @@ module _ (world : World ℕ) where
   receives_further_down : GroupsLive world → (group lower : ℕ) (mount : Mount ℕ) → Among mount world.mounts
       → world.master lower ≡ Some group
       → receives nat_eq world lower mount ≡ true → receives nat_eq world group mount ≡ true
-  receives_further_down live group lower mount m up h = by (source_of mount.propagation) refl
-    where
-      by : (source : Option ℕ) → source_of mount.propagation ≡ source → receives nat_eq world group mount ≡ true
-      by None e = absurd (true≢false (sym h ∙ ap (holds_of (λ s. is_among nat_eq lower (groups_up world s))) e))
-      by (Some source) e =
-          receives_by_source group source mount e
-          ∙ chain_is_closed world.master (length world.mounts) source lower group
-          (ends_above world live mount m source e) up
-          (sym (receives_by_source lower source mount e) ∙ h)
+  receives_further_down live group lower mount m up h =
+      grind (arith, common_steps, true≢false, receives_by_source, chain_is_closed, ends_above)
 
   pub receives_completely : GroupsLive world → (group : ℕ) (mount : Mount ℕ) → Among mount world.mounts
       → Receives world group mount
@@ -221,21 +205,4 @@ receivers_are_least world set group closed =
 pub receiver_receives : (world : World ℕ) (mount part : Mount ℕ) → Among part (receivers_of nat_eq world mount)
     → (group : ℕ) × (mount.propagation ≡ Shared group) × Among part world.mounts
     × (receives nat_eq world group part ≡ true)
-receiver_receives world mount part m = by mount.propagation refl
-  where
-    none : receivers_of nat_eq world mount ≡ []
-        → (group : ℕ) × (mount.propagation ≡ Shared group) × Among part world.mounts
-        × (receives nat_eq world group part ≡ true)
-    none e = absurd (subst (λ l. Among part l) e m)
-
-    by : (kind : Propagation ℕ) → mount.propagation ≡ kind
-        → (group : ℕ) × (mount.propagation ≡ Shared group) × Among part world.mounts
-        × (receives nat_eq world group part ≡ true)
-    by (Shared group) e =
-        let t =
-        among-from_filter (receives nat_eq world group) world.mounts part
-        (subst (λ k. Among part (unwrap_or (option_map (receivers nat_eq world) (group_of k)) [])) e m) in
-        (group, e, t.0, t.1)
-    by (Slave master) e = none (ap (λ k. unwrap_or (option_map (receivers nat_eq world) (group_of k)) []) e)
-    by Private e = none (ap (λ k. unwrap_or (option_map (receivers nat_eq world) (group_of k)) []) e)
-    by Unbindable e = none (ap (λ k. unwrap_or (option_map (receivers nat_eq world) (group_of k)) []) e)
+receiver_receives world mount part m = grind (arith, common_steps, among-from_filter)

@@ -1,4 +1,5 @@
 -- Mounts that stand, and what the test of it computes.
+use Rattle.std.proofs.lemmas.Grind.{common_steps}
 use Rattle.std.proofs.Common.{◌≡◌, refl, sym, ap, subst, ◌∙◌, true, false, zero, suc, nat_eq, ℕ, Bool, List, None, Option, Some, [], arith, eq-eqb, eqb-true, filter, flat_map, inl, inr, is_some, length, not, option_map, true≢false, ⊎_elim, ◌<◌, ◌∷◌, ◌≤◌, ◌⊎◌}
 use Rattle.std.specs.List.{list_any}
 use Rattle.std.proofs.lemmas.Bool.{and_from, and_parts, false_from_ne_true, not-true, or_from, or_parts}
@@ -331,18 +332,12 @@ module _ (world : World ℕ) (one : OneNumberEach world) (all : AllStand world) 
       → (place : Location ℕ) × ((mount_numbered nat_eq world child.number).mount_point ≡ Some place)
       × (place.mount ≡ mount.number)
   child_lies mount child m =
-      let from = among-from_filter (stands_on nat_eq mount.number) world.mounts child m in
-      by child.mount_point refl from.1 (found_itself world.mounts one child from.0)
-    where
-      by : (found : Option (Location ℕ)) → child.mount_point ≡ found → stands_on nat_eq mount.number child ≡ true
-          → mount_numbered nat_eq world child.number ≡ child
-          → (place : Location ℕ) × ((mount_numbered nat_eq world child.number).mount_point ≡ Some place)
-          × (place.mount ≡ mount.number)
-      by None e on it = absurd (true≢false (sym on ∙ ap (holds_of (λ p. nat_eq mount.number p.mount)) e))
-      by (Some place) e on it = (
-        place,
-        ap (λ x. x.mount_point) it ∙ e,
-        sym (eqb-true mount.number place.mount (sym (ap (holds_of (λ p. nat_eq mount.number p.mount)) e) ∙ on)),
+      let from = among-from_filter (stands_on nat_eq mount.number) world.mounts child m in grind (
+        arith,
+        common_steps,
+        found_itself world.mounts one child from.0,
+        true≢false,
+        eqb-true,
       )
 
   pub lies_in_tree : (fuel : ℕ) (mount x : Mount ℕ) → Among x (tree_from nat_eq fuel world.mounts mount)

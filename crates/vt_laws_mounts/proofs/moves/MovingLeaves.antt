@@ -1,4 +1,6 @@
 -- What moves, before anything is attached for the receivers: each mount stands, at most one at a place.
+use Rattle.std.proofs.Common.{arith}
+use Rattle.std.proofs.lemmas.Grind.{common_steps}
 use Rattle.std.proofs.Common.{◌≡◌, refl, sym, ap, subst, ◌∙◌, true, false, nat_eq, ℕ, Bool, List, None, Option, Some, [], eq-eqb, eqb-true, inl, inr, is_some, map, not, option_map, true≢false, ⊎_elim, ◌&&◌, ◌∷◌, ◌||◌}
 use Rattle.std.specs.List.{list_any}
 use Rattle.std.specs.Prelude.{if◌then◌else◌, unwrap_or}
@@ -163,33 +165,12 @@ module _ (world : World ℕ) (new : Copies ℕ) (place : Location ℕ) (mounts :
           (ap (is_among nat_eq mount.number) (sym same_numbers) ∙ is_one_of left.mounts mount m)))
 
   pub nowhere_left : NowhereOrAttached left
-  nowhere_left =
-      list_all_from_among is_nowhere_or_attached left.mounts (λ mount m. by mount (left_case mount m))
-    where
-      by : (mount : Mount ℕ) → LeftCase mount → is_nowhere_or_attached mount ≡ true
-      by mount (stayed m) = among_from_list_all is_nowhere_or_attached world.mounts may.nowhere mount m
-      by mount (came origin m e) =
-          ap is_nowhere_or_attached e
-          ∙ ap (λ b. b || (not (is_some (arrived origin).mount_point) && is_private (arrived origin).propagation))
-          may.attached
+  nowhere_left = grind (arith, common_steps, list_all_from_among, left_case, among_from_list_all)
 
   -- it is in the namespace in which it was
   pub namespace_kept : (mount : Mount ℕ) → Among mount world.mounts
       → (mount_numbered nat_eq left mount.number).namespace ≡ mount.namespace
-  namespace_kept mount m = by (is_moved mounts mount.number) refl
-    where
-      by : (b : Bool) → is_moved mounts mount.number ≡ b
-          → (mount_numbered nat_eq left mount.number).namespace ≡ mount.namespace
-      by true e =
-          let origin = mover mount.number e in
-          let itself : origin.0 ≡ mount =
-          sym (found_itself world.mounts may.one origin.0 (may.inside origin.0 origin.1))
-          ∙ ap (mount_in nat_eq world.mounts) (sym origin.2) ∙ found_itself world.mounts may.one mount m in
-          ap (λ n. (mount_numbered nat_eq left n).namespace) origin.2
-          ∙ ap (λ (x : Mount ℕ). x.namespace) (found_arrived origin.0 origin.1)
-          ∙ sym (may.in_one origin.0 origin.1) ∙ ap (λ (x : Mount ℕ). x.namespace) itself
-      by false e =
-          ap (λ (x : Mount ℕ). x.namespace) (found_stayed mount.number e ∙ found_itself world.mounts may.one mount m)
+  namespace_kept mount m = grind (arith, common_steps, mover, found_itself, found_arrived, found_stayed)
 
   -- Where a mount that moved stands: the top at the place, another one where it stood
   abbrev landing : Option (Location ℕ) → Bool → Location ℕ

@@ -1,4 +1,6 @@
 -- After a move at most one mount stands at a place: of what moved, the copies at receivers, and what they push up.
+use Rattle.std.proofs.Common.{arith}
+use Rattle.std.proofs.lemmas.Grind.{common_steps}
 use Rattle.std.proofs.Common.{◌≡◌, refl, sym, ap, subst, ◌∙◌, true, false, nat_eq, ℕ, Bool, List, None, Option, Some, [], append-nil, eq-eqb, eqb-true, flat_map, inl, inr, is_some, map, option_map, true≢false, ◌++◌, ◌∷◌}
 use Rattle.std.specs.List.{list_any}
 use Rattle.std.specs.Prelude.{if◌then◌else◌, unwrap_or}
@@ -165,29 +167,17 @@ module _ (world : World ℕ) (new : Copies ℕ) (place : Location ℕ) (mounts :
   apart_at_two : (p q x y : Mount ℕ) → Among p takers → Among q takers → same_number p q ≡ false → Among x (copies p)
       → Among y (copies q) → test x y ≡ false
   apart_at_two p q x y m n differ k l =
-      let s = copied p x k in
-      let t = copied q y l in
-      subst (λ z. test z y ≡ false) (sym s.2) (subst (λ z. test (copy p s.0) z ≡ false) (sym t.2)
-      (by s.0 s.1 (copy_mount_point_of p s.0 m s.1) t.0 t.1 (copy_mount_point_of q t.0 n t.1)))
-    where
-      by : (a : Mount ℕ) → Among a mounts → CopyPlace p a → (b : Mount ℕ) → Among b mounts → CopyPlace q b
-          → test (copy p a) (copy q b) ≡ false
-      by a i (at_part e f) b j (at_part g h) =
-          differ_by_mount (copy p a) (copy q b) (place_at p) (place_at q) f h differ
-      by a i (at_part e f) b j (on_copy on parent h there_is same d) =
-          differ_by_mount (copy p a) (copy q b) (place_at p) (place_upon q on) f d
-          (subst (λ k. nat_eq p.number (new.copy q.number k) ≡ false) same
-          (copy_is_new q parent n there_is p.number (part_there p m)))
-      by a i (on_copy on parent f there_is same c) b j (at_part g h) =
-          differ_by_mount (copy p a) (copy q b) (place_upon p on) (place_at q) c h
-          (nat_eq_false_turned q.number (new.copy p.number on.mount)
-          (subst (λ k. nat_eq q.number (new.copy p.number k) ≡ false) same
-          (copy_is_new p parent m there_is q.number (part_there q n))))
-      by a i (on_copy on parent f there_is same c) b j (on_copy at other h there_too same_too d) =
-          differ_by_mount (copy p a) (copy q b) (place_upon p on) (place_upon q at) c d
-          (subst (λ k. nat_eq (new.copy p.number k) (new.copy q.number at.mount) ≡ false) same
-          (subst (λ k. nat_eq (new.copy p.number parent.number) (new.copy q.number k) ≡ false) same_too
-          (two_parts p q parent other m n there_is there_too differ)))
+      let s = copied p x k in let t = copied q y l in grind (
+        arith,
+        common_steps,
+        copy_mount_point_of p s.0 m s.1,
+        copy_mount_point_of q t.0 n t.1,
+        differ_by_mount,
+        copy_is_new,
+        part_there,
+        nat_eq_false_turned,
+        two_parts,
+      )
 
   module _ (places : OneMountAMountPoint world.mounts) (free : child_at nat_eq world.mounts place ≡ None) where
     -- copies at one part

@@ -1,4 +1,6 @@
 -- What is attached has a place, and is in the namespace of the mount that it is attached on.
+use Rattle.std.proofs.Common.{arith}
+use Rattle.std.proofs.lemmas.Grind.{common_steps}
 use Rattle.std.proofs.Common.{◌≡◌, refl, sym, ap, subst, ◌∙◌, true, false, suc, nat_eq, ℕ, Bool, List, None, Option, Some, [], add-zero, cond, filter, flat_map, inl, inr, is_some, length, map, not, true≢false, ⊎_elim, ◌&&◌, ◌++◌, ◌+◌, ◌∷◌, zero, eqb-true, ◌⊎◌}
 use Rattle.std.proofs.lemmas.List.{length-append}
 use Rattle.std.proofs.lemmas.List.Elements.{filter-append}
@@ -33,28 +35,7 @@ module _ (namespace : ℕ) where
 
   count_step : (x : Mount ℕ) (xs : List (Mount ℕ))
       → count namespace (x ∷ xs) ≡ cond (is_root_in namespace x) (suc (count namespace xs)) (count namespace xs)
-  count_step x xs = by (is_in x) refl (is_root_mount nat_eq x) refl
-    where
-      by : (b : Bool) → is_in x ≡ b → (c : Bool) → is_root_mount nat_eq x ≡ c
-          → count namespace (x ∷ xs) ≡ cond (is_root_in namespace x) (suc (count namespace xs)) (count namespace xs)
-      by false e true f =
-          ap (λ list. length (filter (is_root_mount nat_eq) list)) (filter_skip is_in x xs e)
-          ∙ sym (ap (λ b. cond (is_root_mount nat_eq x && b) (suc (count namespace xs)) (count namespace xs)) e
-          ∙ ap (λ b. cond (b && false) (suc (count namespace xs)) (count namespace xs)) f)
-      by b e false f =
-          at b e
-          ∙ sym (ap (λ c. cond (c && is_in x) (suc (count namespace xs)) (count namespace xs)) f)
-        where
-          at : (d : Bool) → is_in x ≡ d → count namespace (x ∷ xs) ≡ count namespace xs
-          at true g =
-              ap (λ list. length (filter (is_root_mount nat_eq) list)) (filter_here is_in x xs g)
-              ∙ ap length (filter_skip (is_root_mount nat_eq) x (filter is_in xs) f)
-          at false g = ap (λ list. length (filter (is_root_mount nat_eq) list)) (filter_skip is_in x xs g)
-      by true e true f =
-          ap (λ list. length (filter (is_root_mount nat_eq) list)) (filter_here is_in x xs e)
-          ∙ ap length (filter_here (is_root_mount nat_eq) x (filter is_in xs) f)
-          ∙ sym (ap (λ b. cond (is_root_mount nat_eq x && b) (suc (count namespace xs)) (count namespace xs)) e
-          ∙ ap (λ b. cond (b && true) (suc (count namespace xs)) (count namespace xs)) f)
+  count_step x xs = grind (arith, common_steps, count, filter_skip, filter_here)
 
   count_map : (f : Mount ℕ → Mount ℕ) (xs : List (Mount ℕ))
       → ((x : Mount ℕ) → Among x xs → is_root_in namespace (f x) ≡ is_root_in namespace x)

@@ -1,4 +1,6 @@
 -- Changes of types and flags keep the invariants of mounts.
+use Rattle.std.proofs.Common.{arith}
+use Rattle.std.proofs.lemmas.Grind.{common_steps}
 use Rattle.std.proofs.Common.{◌≡◌, refl, sym, ap, ◌∙◌, true, false, nat_eq, ℕ, Bool, List, None, Option, Some, eqb-true, is_some, map, not, ⊎_elim, ◌&&◌, ◌||◌}
 use Rattle.std.specs.List.{list_any}
 use Rattle.vt_spec.proofs.Lists.{Among, among-from_map, among_from_list_all, any_among, list_all_from_among}
@@ -138,23 +140,8 @@ module _ (world : World ℕ) (here : Location ℕ) (flags : MountFlags) (one : O
   replaced_keeps : (mount : Mount ℕ) → Among mount world.mounts
       → ((replaced_if_same nat_eq new mount).namespace ≡ mount.namespace)
       × ((replaced_if_same nat_eq new mount).mount_point ≡ mount.mount_point)
-  replaced_keeps mount m = by (nat_eq new.number mount.number) refl
-    where
-      by : (b : Bool) → nat_eq new.number mount.number ≡ b
-          → ((replaced_if_same nat_eq new mount).namespace ≡ mount.namespace)
-          × ((replaced_if_same nat_eq new mount).mount_point ≡ mount.mount_point)
-      by true f =
-          let same : mount_at nat_eq world here ≡ mount =
-          ap (mount_in nat_eq world.mounts) (sym (number-mount_in world.mounts here.mount) ∙ eqb-true _ _ f)
-          ∙ found_itself world.mounts one mount m in (
-            ap (λ x. x.namespace) (replaced_there new mount f) ∙ ap (λ x. x.namespace) same,
-            ap (λ x. x.mount_point) (replaced_there new mount f) ∙ ap (λ x. x.mount_point) same,
-          )
-      by false f = (
-        ap (λ x. x.namespace) (replaced_elsewhere new mount f),
-        ap (λ x. x.mount_point)
-            (replaced_elsewhere new mount f),
-      )
+  replaced_keeps mount m =
+      grind (arith, common_steps, number-mount_in, eqb-true, found_itself, replaced_there, replaced_elsewhere)
 
 pub flags_keep_counts : SetFlagsKeepCounts
 flags_keep_counts world here flags namespace one =

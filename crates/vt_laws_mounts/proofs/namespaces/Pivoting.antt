@@ -1,4 +1,5 @@
 -- A pivot of the root: the new root mount stands where the old one stood, and that one over it.
+use Rattle.std.proofs.lemmas.Grind.{common_steps}
 use Rattle.std.proofs.Common.{◌≡◌, refl, sym, ap, subst, ◌∙◌, true, false, zero, suc, nat_eq, ℕ, Bool, None, Option, Some, arith, cond, eq-eqb, eqb-true, inl, inr, is_some, length, not, true≢false, ⊎_elim, ◌&&◌, ◌||◌, ◌<◌, ◌⊎◌}
 use Rattle.std.specs.Prelude.{if◌then◌else◌}
 use Rattle.std.proofs.lemmas.Bool.{and_parts, false_from_ne_true}
@@ -56,13 +57,7 @@ module _ (world : World ℕ) where
   pub after_start : (n : ℕ) (here place : Location ℕ) → Among place (rest_of (chain n next here))
       → (at : Location ℕ) × (next here ≡ Some at) × LiesIn world place.mount at.mount
   after_start zero here place m = absurd m
-  after_start (suc n) here place m = by (next here) refl
-    where
-      by : (found : Option (Location ℕ)) → next here ≡ found
-          → (at : Location ℕ) × (next here ≡ Some at) × LiesIn world place.mount at.mount
-      by None e = absurd (subst (λ l. Among place (rest_of l)) (chain_ends next n here e) m)
-      by (Some at) e =
-          (at, e, on_chain n at place (subst (λ l. Among place (rest_of l)) (chain_goes_on next n here at e) m))
+  after_start (suc n) here place m = grind (arith, common_steps, chain_ends, on_chain, chain_goes_on)
 
 module _ (world : World ℕ) (namespace : ℕ) (root new : Mount ℕ) (put : Location ℕ)
     (may : CanPivot world namespace root new put) (mounts : MountInvariants nat_eq world) where
@@ -163,12 +158,7 @@ module _ (world : World ℕ) (namespace : ℕ) (root new : Mount ℕ) (put : Loc
       ap (λ b. moved_if b (nat_eq mount.number root.number) mount) e ∙ ap (λ b. moved_if false b mount) f
 
   pub moved_namespace : (mount : Mount ℕ) → (move mount).namespace ≡ mount.namespace
-  moved_namespace mount = by (nat_eq mount.number new.number) (nat_eq mount.number root.number)
-    where
-      by : (a b : Bool) → (moved_if a b mount).namespace ≡ mount.namespace
-      by true b = refl
-      by false true = refl
-      by false false = refl
+  moved_namespace mount = grind (arith, common_steps)
 
   one_after : any_pair (λ (a b : Mount ℕ). nat_eq a.number b.number) after.mounts ≡ false
   one_after = pivot_keeps_numbers world namespace root new put mounts.one_number
@@ -316,13 +306,7 @@ module _ (world : World ℕ) (namespace : ℕ) (root new : Mount ℕ) (put : Loc
   either : (mount : Mount ℕ) → Among mount world.mounts
       → ((place : Location ℕ) → mount.mount_point ≡ Some place → Stands nat_eq after place.mount)
       → Stands nat_eq after mount.number
-  either mount m below = by (nat_eq mount.number new.number) refl (nat_eq mount.number root.number) refl
-    where
-      by : (a : Bool) → nat_eq mount.number new.number ≡ a → (b : Bool) → nat_eq mount.number root.number ≡ b
-          → Stands nat_eq after mount.number
-      by true e b f = subst (Stands nat_eq after) (sym (eqb-true mount.number new.number e)) new_stands
-      by false e true f = subst (Stands nat_eq after) (sym (eqb-true mount.number root.number f)) root_stands
-      by false e false f = carry mount m e f below
+  either mount m below = grind (arith, common_steps, eqb-true, new_stands, root_stands, carry)
 
   rise : (number : ℕ) → Stands nat_eq world number → (mount : Mount ℕ) → Among mount world.mounts
       → mount.number ≡ number → Stands nat_eq after mount.number
@@ -410,24 +394,8 @@ module _ (world : World ℕ) (namespace : ℕ) (root new : Mount ℕ) (put : Loc
 
   -- Mounts outside every namespace are not moved
   nowhere_after : (mount : Mount ℕ) → Among mount world.mounts → is_nowhere_or_attached (move mount) ≡ true
-  nowhere_after mount m = by mount.namespace refl
-    where
-      not_inside : (other : Mount ℕ) → other.namespace ≡ Some namespace → mount.namespace ≡ None → mount ≡ other → ⊥
-      not_inside other e none same =
-          true≢false (sym (ap is_some e) ∙ ap (λ x. is_some x.namespace) (sym same) ∙ ap is_some none)
-
-      by : (found : Option ℕ) → mount.namespace ≡ found → is_nowhere_or_attached (move mount) ≡ true
-      by (Some number) e =
-          ap (λ n. is_some n || (not (is_some (move mount).mount_point) && is_private (move mount).propagation))
-          (moved_namespace mount ∙ e)
-      by None e =
-          ap is_nowhere_or_attached
-          (moved_other mount
-          (false_from_ne_true (nat_eq mount.number new.number) (λ f.
-          not_inside new may.new_inside e (is_new mount m f)))
-          (false_from_ne_true (nat_eq mount.number root.number) (λ f.
-          not_inside root may.root_inside e (is_root mount m f))))
-          ∙ among_from_list_all is_nowhere_or_attached world.mounts mounts.nowhere mount m
+  nowhere_after mount m =
+      grind (arith, common_steps, true≢false, moved_namespace, moved_other, is_new, is_root, among_from_list_all)
 
 pub pivot_keeps_mounts : PivotKeepsMounts
 pivot_keeps_mounts world namespace root new put may mounts =

@@ -1,4 +1,6 @@
 -- A pivot of the root leaves each namespace as many mounts and as many root mounts.
+use Rattle.std.proofs.Common.{arith}
+use Rattle.std.proofs.lemmas.Grind.{common_steps}
 use Rattle.std.proofs.Common.{◌≡◌, refl, sym, ap, ◌∙◌, true, false, suc, nat_eq, ℕ, Bool, List, Some, [], eq-eqb, eqb-true, filter, is_some, length, not, true≢false, ⊎_elim, ◌&&◌, ◌∷◌}
 use Rattle.std.specs.List.{list_any}
 use Rattle.std.proofs.lemmas.Bool.{false_from_ne_true, or_parts}
@@ -98,57 +100,38 @@ module _ (world : World ℕ) (namespace : ℕ) (root new : Mount ℕ) (put : Loc
 
   -- where the old root mount is over another, no mount begins or ends to be one of a namespace
   alike : before root ≡ false → (mount : Mount ℕ) → Among mount world.mounts → later mount ≡ before mount
-  alike over mount m = by (nat_eq mount.number new.number) refl (nat_eq mount.number root.number) refl
-    where
-      by : (a : Bool) → nat_eq mount.number new.number ≡ a → (b : Bool) → nat_eq mount.number root.number ≡ b
-          → later mount ≡ before mount
-      by true e b f =
-          let same = is_new world namespace root new put may mounts mount m e in
-          ap later same ∙ new_later ∙ over ∙ sym new_not_before ∙ ap before (sym same)
-      by false e true f =
-          let same = is_root world namespace root new put may mounts mount m f in
-          ap later same ∙ root_not_later ∙ sym over ∙ ap before (sym same)
-      by false e false f = other_later mount e f
+  alike over mount m =
+      grind (arith, common_steps, is_new, new_later, new_not_before, is_root, root_not_later, other_later)
 
   -- in another namespace none is moved
   elsewhere : (other : ℕ) → nat_eq other namespace ≡ false → (mount : Mount ℕ) → Among mount world.mounts
       → is_in other mount ≡ true → later mount ≡ before mount
   elsewhere other differ mount m here =
-      other_later mount
-      (false_from_ne_true (nat_eq mount.number new.number) (λ e.
-      not_here new may.new_inside (is_new world namespace root new put may mounts mount m e)))
-      (false_from_ne_true (nat_eq mount.number root.number) (λ e.
-      not_here root may.root_inside (is_root world namespace root new put may mounts mount m e)))
-    where
-      not_here : (x : Mount ℕ) → x.namespace ≡ Some namespace → mount ≡ x → ⊥
-      not_here x e same =
-          true≢false
-          (sym here ∙ ap (is_in other) same ∙ ap (holds_of (nat_eq other)) e ∙ differ)
+      grind (
+        arith,
+        common_steps,
+        other_later,
+        is_new world namespace root new put may mounts mount m,
+        is_root world
+            namespace root new put may mounts mount m,
+        true≢false,
+      )
 
   -- in its own the new root mount begins where the old one ends
   besides_alike : (mount : Mount ℕ) → Among mount world.mounts → besides later new mount ≡ besides before root mount
-  besides_alike mount m = by (nat_eq mount.number new.number) refl (nat_eq mount.number root.number) refl
-    where
-      hidden : (b c : Bool) → c ≡ true → (b && not c) ≡ false
-      hidden true c f = ap not f
-      hidden false c f = refl
-
-      by : (a : Bool) → nat_eq mount.number new.number ≡ a → (b : Bool) → nat_eq mount.number root.number ≡ b
-          → besides later new mount ≡ besides before root mount
-      by true e b f =
-          let same = is_new world namespace root new put may mounts mount m e in
-          hidden (later mount) (nat_eq new.number mount.number)
-          (eq-eqb new.number mount.number (sym (eqb-true mount.number new.number e)))
-          ∙ sym (ap (λ b. b && not (nat_eq root.number mount.number)) (ap before same ∙ new_not_before))
-      by false e true f =
-          let same = is_root world namespace root new put may mounts mount m f in
-          ap (λ b. b && not (nat_eq new.number mount.number)) (ap later same ∙ root_not_later)
-          ∙ sym (hidden (before mount) (nat_eq root.number mount.number)
-          (eq-eqb root.number mount.number (sym (eqb-true mount.number root.number f))))
-      by false e false f =
-          ap (λ b. b && not (nat_eq new.number mount.number)) (other_later mount e f)
-          ∙ ap (λ b. before mount && not b) (nat_eq_false_turned mount.number new.number e)
-          ∙ sym (ap (λ b. before mount && not b) (nat_eq_false_turned mount.number root.number f))
+  besides_alike mount m =
+      grind (
+        arith,
+        common_steps,
+        is_new,
+        eq-eqb,
+        eqb-true,
+        new_not_before,
+        is_root,
+        root_not_later,
+        other_later,
+        nat_eq_false_turned,
+      )
 
   roots_of : (other : ℕ) → length (filter later (mounts_of nat_eq world other))
       ≡ length (filter before (mounts_of nat_eq world other))

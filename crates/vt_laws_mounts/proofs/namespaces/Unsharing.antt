@@ -1,4 +1,6 @@
 -- An unshare: the copies of a namespace's mounts stand on copies.
+use Rattle.std.proofs.Common.{arith}
+use Rattle.std.proofs.lemmas.Grind.{common_steps}
 use Rattle.std.proofs.Common.{◌≡◌, refl, sym, ap, subst, ◌∙◌, false, nat_eq, ℕ, List, None, Option, Some, eq-eqb, is_some, map, not, option_map, true≢false, ⊎_elim, ◌&&◌, ◌||◌, ◌+◌, ◌*◌, true}
 use Rattle.std.proofs.lemmas.Bool.{false_from_ne_true}
 use Rattle.std.proofs.lemmas.Option.{same_Some}
@@ -174,18 +176,7 @@ module _ (world : World ℕ) (fresh : Fresh ℕ) (task : Task ℕ) (serves : Ser
   -- the place of a copy
   copy_mount_point : (mount : Mount ℕ) (place : Location ℕ) → (copy mount).mount_point ≡ Some place
       → (origin : Location ℕ) × (mount.mount_point ≡ Some origin) × (location_on_copy new_number origin ≡ place)
-  copy_mount_point mount place e = by mount.mount_point refl
-    where
-      by : (found : Option (Location ℕ)) → mount.mount_point ≡ found
-          → (origin : Location ℕ) × (mount.mount_point ≡ Some origin) × (location_on_copy new_number origin ≡ place)
-      by None f =
-          absurd (true≢false (sym (ap is_some e) ∙ ap (λ p. is_some (option_map (location_on_copy new_number) p)) f))
-      by (Some origin) f = (
-        origin,
-        f,
-        same_Some (location_on_copy new_number origin) place
-            (sym (ap (option_map (location_on_copy new_number)) f) ∙ e),
-      )
+  copy_mount_point mount place e = grind (arith, common_steps, new_number, true≢false)
 
   two_copies : (a b : Mount ℕ) → Among a copied → Among b copied → share_a_mount_point nat_eq a b ≡ false
       → share_a_mount_point nat_eq (copy a) (copy b) ≡ false

@@ -1,4 +1,6 @@
 -- An unshare: the mounts of each namespace.
+use Rattle.std.proofs.Common.{arith}
+use Rattle.std.proofs.lemmas.Grind.{common_steps}
 use Rattle.std.proofs.Common.{◌≡◌, refl, sym, ap, subst, ◌∙◌, true, false, nat_eq, ℕ, None, Option, Some, eq-eqb, eqb-true, filter, flat_map, is_some, length, map, not, option_map, option_to_list, true≢false, ◌++◌}
 use Rattle.std.specs.List.{list_all}
 use Rattle.std.proofs.lemmas.Bool.{and_parts, false_from_ne_true}
@@ -60,19 +62,13 @@ unshare_copies_mounts world fresh task empty =
 
 pub unshare_keeps_counts : UnshareKeepsCounts
 unshare_keeps_counts world fresh task empty =
-    let copied = mounts_of nat_eq world task.namespace in
-    let new_number = numbers_by nat_eq (odds fresh) copied in
-    let copy = copied_mount new_number (evens fresh 0) in
-    let these = unshare_copies_mounts world fresh task empty in
-    record {
-      mounts = ap length these ∙ length-map copied copy;
-      roots = ap (λ l. length (filter (is_root_mount nat_eq) l)) these
-          ∙ ap length (filter-map (is_root_mount nat_eq) (is_root_mount nat_eq) copy copied
-          (λ mount m. as_root new_number mount.mount_point))
-          ∙ length-map (filter (is_root_mount nat_eq) copied) copy;
-    }
-  where
-    as_root : (new_number : ℕ → ℕ) (place : Option (Location ℕ))
-        → not (is_some (option_map (location_on_copy new_number) place)) ≡ not (is_some place)
-    as_root new_number None = refl
-    as_root new_number (Some place) = refl
+    let copied = mounts_of nat_eq world task.namespace in let new_number = numbers_by nat_eq (odds fresh) copied in
+    let copy = copied_mount new_number (evens fresh 0) in let these = unshare_copies_mounts world fresh task empty in
+    grind (
+      arith,
+      common_steps,
+      length-map copied copy,
+      filter-map,
+      length-map (filter (is_root_mount nat_eq) copied)
+          copy,
+    )

@@ -1,5 +1,7 @@
 -- Receivers that take part, but for members of the destination's group, have a group above them of which a part is a
 -- member: the destination's, or a nearer one.
+use Rattle.std.proofs.Common.{arith}
+use Rattle.std.proofs.lemmas.Grind.{common_steps}
 use Rattle.std.proofs.Common.{◌≡◌, refl, sym, ap, ◌∙◌, true, false, nat_eq, eq-eqb, ne_eqb, ℕ, zero, suc, Bool, List, [], None, Option, Some, inl, option_map, true≢false, unwrap_or, ⊎_elim, ◌||◌}
 use Rattle.vt_spec.proofs.Lists.{Among, among-from_filter, among_from_contains, any_among, any_from_among, chain_ends, chain_goes_on, contains_from_among}
 use Rattle.vt_spec.specs.Lists.{chain, holds_of, is_among}
@@ -14,15 +16,7 @@ use Rattle.vt_laws_mounts.proofs.propagation.PropagationUp.{finds_some}
 -- a chain that may be longer has what it had
 longer : (next : ℕ → Option ℕ) (n a d : ℕ) → is_among nat_eq d (chain n next a) ≡ true
     → is_among nat_eq d (chain (suc n) next a) ≡ true
-longer next zero a d h = by (nat_eq d a) refl h (next a) refl
-  where
-    by : (b : Bool) → nat_eq d a ≡ b → (b || false) ≡ true → (o : Option ℕ) → next a ≡ o
-        → is_among nat_eq d (chain (suc zero) next a) ≡ true
-    by true s t None e = ap (is_among nat_eq d) (chain_ends next zero a e) ∙ ap (λ c. c || false) s
-    by true s t (Some b) e =
-        ap (is_among nat_eq d) (chain_goes_on next zero a b e)
-        ∙ ap (λ c. c || is_among nat_eq d (chain zero next b)) s
-    by false s t o e = absurd (true≢false (sym t))
+longer next zero a d h = grind (arith, common_steps, chain_ends, chain_goes_on, true≢false)
 longer next (suc n) a d h = by (next a) refl (λ b. longer next n b d)
   where
     by : (o : Option ℕ) → next a ≡ o
@@ -45,17 +39,7 @@ longer next (suc n) a d h = by (next a) refl (λ b. longer next n b d)
 above_in : (next : ℕ → Option ℕ) (n a d : ℕ) → is_among nat_eq d (chain n next a) ≡ true → nat_eq d a ≡ false
     → (b : ℕ) × (next a ≡ Some b) × (is_among nat_eq d (chain n next b) ≡ true)
 above_in next zero a d h e = absurd (true≢false (sym h ∙ ap (λ c. c || false) e))
-above_in next (suc n) a d h e = by (next a) refl
-  where
-    by : (o : Option ℕ) → next a ≡ o
-        → (b : ℕ) × (next a ≡ Some b) × (is_among nat_eq d (chain (suc n) next b) ≡ true)
-    by None f = absurd (true≢false (sym h ∙ ap (is_among nat_eq d) (chain_ends next n a f) ∙ ap (λ c. c || false) e))
-    by (Some b) f = (
-      b,
-      f,
-      longer next n b d (sym (ap (λ c. c || is_among nat_eq d (chain n next b)) e)
-          ∙ sym (ap (is_among nat_eq d) (chain_goes_on next n a b f)) ∙ h),
-    )
+above_in next (suc n) a d h e = grind (arith, common_steps, true≢false, chain_ends, longer, chain_goes_on)
 
 module _ (it : Attachment) where
   abbrev parts : List (Mount ℕ)
@@ -66,18 +50,14 @@ module _ (it : Attachment) where
       → (group : ℕ) × (group_of (destination_of it).propagation ≡ Some group)
       × (receives nat_eq it.world group one ≡ true)
   hears one is differs =
-      ⊎_elim (λ same. absurd (differs same))
-      (λ rest. by (group_of (destination_of it).propagation) refl
-      (among-from_filter (takes_part nat_eq it.world it.mount_point)
-      (receivers_of nat_eq it.world (destination_of it)) one rest).0)
-      (among_from_contains parts one is)
-    where
-      by : (o : Option ℕ) → group_of (destination_of it).propagation ≡ o
-          → Among one (unwrap_or (option_map (receivers nat_eq it.world) o) [])
-          → (group : ℕ) × (group_of (destination_of it).propagation ≡ Some group)
-          × (receives nat_eq it.world group one ≡ true)
-      by None e m = absurd m
-      by (Some group) e m = (group, e, (among-from_filter (receives nat_eq it.world group) it.world.mounts one m).1)
+      grind (
+        arith,
+        common_steps,
+        among-from_filter (takes_part nat_eq it.world it.mount_point) (receivers_of nat_eq
+            it.world (destination_of it)) one,
+        among_from_contains parts one is,
+        among-from_filter,
+      )
 
   -- the destination is a part, so where its group is up from another there is a nearest one
   nearest_is : (group master : ℕ) → group_of (destination_of it).propagation ≡ Some group

@@ -1,4 +1,6 @@
 -- Copies of a tree that is attached: that they are there, where they stand, and their types.
+use Rattle.std.proofs.Common.{arith}
+use Rattle.std.proofs.lemmas.Grind.{common_steps}
 use Rattle.std.proofs.Common.{◌≡◌, refl, sym, ap, subst, ◌∙◌, true, false, nat_eq, ℕ, Bool, List, None, Option, Some, inl, is_some, true≢false, ⊎_elim, ◌&&◌, ◌∷◌}
 use Rattle.std.specs.Prelude.{Contains, if◌then◌else◌}
 use Rattle.std.specs.List.{list_any}
@@ -73,21 +75,7 @@ module _ (it : Attachment) (can : CanAttach it) where
 
   -- a copy has a place
   placed : (part origin : Mount ℕ) → is_some (arrived_at part origin).mount_point ≡ true
-  placed part origin = by (moves_to it part)
-    where
-      pushed : (below : Option (Mount ℕ))
-          → is_some (pushed_onto nat_eq it.world supply (tree it.world supply it.mount_point it.moves it.mounts)
-          (parts_of nat_eq it.world it.mount_point) (made_at part origin) below).mount_point ≡ true
-      pushed None = refl
-      pushed (Some receiver) = refl
-
-      by : (b : Bool)
-          → is_some (if b then push it.world supply it.mount_point it.moves it.mounts (made_at part origin)
-          else made_at part origin).mount_point ≡ true
-      by true =
-          pushed (receiver_stood_on nat_eq (tree it.world supply it.mount_point it.moves it.mounts)
-          (parts_of nat_eq it.world it.mount_point) (made_at part origin))
-      by false = refl
+  placed part origin = grind (arith, common_steps)
 
   there : (part origin : Mount ℕ) → IsPart it part → IsOfTree it origin
       → Contains (world_after it).mounts (copy_of it part origin)

@@ -1,4 +1,6 @@
 -- The copy of a mount at a part, as it is found after a tree was attached.
+use Rattle.std.proofs.Common.{arith}
+use Rattle.std.proofs.lemmas.Grind.{common_steps}
 use Rattle.std.proofs.Common.{◌≡◌, refl, sym, ap, subst, ◌∙◌, true, false, nat_eq, ℕ, Bool, List, Some, [], eq-eqb, eqb-true, flat_map, map, option_map, unwrap_or, ⊎_elim, ◌&&◌, ◌++◌, ◌∷◌}
 use Rattle.std.specs.Prelude.{if◌then◌else◌}
 use Rattle.std.specs.List.{list_any}
@@ -41,9 +43,6 @@ module _ (world : World ℕ) (new : Copies ℕ) (place : Location ℕ) (moves : 
   abbrev pub push : Mount ℕ → Mount ℕ
   push = pushed_up nat_eq world new tree parts
 
-  abbrev pub after : World ℕ
-  after = attached_by nat_eq world new place moves mounts
-
   abbrev pub stays : Mount ℕ → Bool
   stays part = moves && nat_eq part.number place.mount
 
@@ -70,12 +69,7 @@ module _ (world : World ℕ) (new : Copies ℕ) (place : Location ℕ) (moves : 
   destination_there = eq-eqb (mount_at nat_eq world place).number place.mount (number-mount_in world.mounts place.mount)
 
   pub arrived_keeps : (part origin : Mount ℕ) → KeepsAllButMountPoint (made part origin) (arrived part origin)
-  arrived_keeps part origin = by (stays part)
-    where
-      by : (b : Bool) → KeepsAllButMountPoint (made part origin) (if b then push
-          (made part origin) else made part origin)
-      by true = push_keeps world new tree parts (made part origin)
-      by false = same_mount (made part origin)
+  arrived_keeps part origin = grind (arith, common_steps, push_keeps, same_mount)
 
   -- where the top of the tree stands
   pub first_location : (part first : Mount ℕ) (rest : List (Mount ℕ)) → mounts ≡ first ∷ rest

@@ -1,4 +1,6 @@
 -- What the copies of a tree that is attached hear of.
+use Rattle.std.proofs.Common.{arith}
+use Rattle.std.proofs.lemmas.Grind.{common_steps}
 use Rattle.std.proofs.Common.{◌≡◌, refl, sym, ap, subst, ◌∙◌, true, false, nat_eq, ℕ, Bool, List, None, Option, Some, [], is_some, option_map, true≢false, unwrap_or, ⊎_elim}
 use Rattle.vt_spec.proofs.Lists.{Among, among_from_contains, among-from_filter, any_from_among, contains_from_among}
 use Rattle.vt_spec.specs.Machine.Attach.{Copies, attached_by, parts_of, receivers_of, takes_part, type_at}
@@ -71,14 +73,7 @@ module _ (it : Attachment) (can : CanAttach it) where
 
   in_a_group : (part : Mount ℕ) (group : ℕ) → IsPart it part → part.propagation ≡ Shared group
       → (own : ℕ) × (group_of (destination_of it).propagation ≡ Some own)
-  in_a_group part group c e = by (group_of (destination_of it).propagation) refl
-    where
-      by : (found : Option ℕ) → group_of (destination_of it).propagation ≡ found
-          → (own : ℕ) × (group_of (destination_of it).propagation ≡ Some own)
-      by None f =
-          absurd (true≢false (sym (ap (λ k. is_some (group_of k)) e)
-          ∙ ap (λ (x : Mount ℕ). is_some (group_of x.propagation)) (only_part f part c) ∙ ap is_some f))
-      by (Some own) f = (own, f)
+  in_a_group part group c e = grind (arith, common_steps, true≢false, only_part)
 
 pub copies_hear_one_another : CopiesHearOneAnother
 copies_hear_one_another it one other origin group can c c_other d e =

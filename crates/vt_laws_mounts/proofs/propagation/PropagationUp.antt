@@ -1,4 +1,6 @@
 -- Groups up the masters: hearing by the way up, and the nearest that passes a test.
+use Rattle.std.proofs.Common.{arith}
+use Rattle.std.proofs.lemmas.Grind.{common_steps}
 use Rattle.std.proofs.Common.{◌≡◌, refl, sym, ap, subst, ◌∙◌, true, false, zero, suc, nat_eq, ℕ, Bool, List, None, Option, Some, [], cond, find, is_some, length, true≢false, ⊎_elim, ◌∷◌, eqb-true}
 use Rattle.std.proofs.lemmas.Bool.{or_cases}
 use Rattle.std.proofs.lemmas.Option.{same_Some}
@@ -136,18 +138,7 @@ hears world live mount m source group e way =
 -- and of no other
 pub heard : (world : World ℕ) (mount : Mount ℕ) (group : ℕ) → receives nat_eq world group mount ≡ true
     → (source : ℕ) × (source_of mount.propagation ≡ Some source) × Up world.master source group
-heard world mount group h = by (source_of mount.propagation) refl
-  where
-    by : (found : Option ℕ) → source_of mount.propagation ≡ found
-        → (source : ℕ) × (source_of mount.propagation ≡ Some source) × Up world.master source group
-    by None e =
-        absurd (true≢false (sym h ∙ ap (holds_of (λ s. is_among nat_eq group (groups_up world s))) e))
-    by (Some source) e = (
-      source,
-      e,
-      way_up world.master (length world.mounts) source group
-          (sym (ap (holds_of (λ s. is_among nat_eq group (groups_up world s))) e) ∙ h),
-    )
+heard world mount group h = grind (arith, common_steps, true≢false, way_up)
 
 -- where groups live, each group up from one is on its list
 pub up_among : (world : World ℕ) → GroupsLive world → (source group : ℕ) → LivesIn world source

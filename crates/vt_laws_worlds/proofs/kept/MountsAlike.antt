@@ -1,4 +1,6 @@
 -- Worlds with the same mounts and masters, as changes of files and of tasks leave them.
+use Rattle.std.proofs.Common.{arith}
+use Rattle.std.proofs.lemmas.Grind.{common_steps}
 use Rattle.std.proofs.Common.{◌≡◌, refl, ap, subst, ◌∙◌, sym, true, false, nat_eq, ℕ, Bool, List, None, Option, Some, [], ◌∷◌}
 use Rattle.vt_spec.specs.Language.Changes.{Change}
 use Rattle.vt_spec.specs.Language.Changes.Change.{CopyUp, SetBytes}
@@ -25,22 +27,7 @@ stands_alike a b same number (on_parent it place e f stands) =
 -- The invariants of mounts are of the mounts and of the masters of groups.
 pub same_mounts : (a b : World ℕ) → a.mounts ≡ b.mounts → a.master ≡ b.master → MountInvariants nat_eq a
     → MountInvariants nat_eq b
-same_mounts a b mounts master kept =
-    subst (λ these. MountInvariants nat_eq (record b { mounts = these })) mounts
-    (subst (λ these. MountInvariants nat_eq (record b { mounts = a.mounts; master = these })) master start)
-  where
-    start : MountInvariants nat_eq (record b { mounts = a.mounts; master = a.master })
-    start =
-        let like : World ℕ = record b { mounts = a.mounts; master = a.master } in
-        record {
-          one_number = kept.one_number;
-          one_child = kept.one_child;
-          standing = all_from_among (λ (mount : Mount ℕ). Stands nat_eq like mount.number) a.mounts (λ mount m.
-              stands_alike a like refl mount.number
-              (among_from_all (λ (other : Mount ℕ). Stands nat_eq a other.number) a.mounts kept.standing mount m));
-          nowhere = kept.nowhere;
-          groups = kept.groups;
-        }
+same_mounts a b mounts master kept = grind (arith, common_steps, all_from_among, stands_alike, among_from_all)
 
 -- All but files stays.
 pub record IsOfFiles (before after : World ℕ) : Type 0 where
@@ -59,18 +46,7 @@ mounts_of_files before after same kept = same_mounts before after (sym same.moun
 module _ (fresh : Fresh ℕ) (world : World ℕ) where
   pub change_of_files : (location : Location ℕ) (change : Change ℕ)
       → IsOfFiles world (with_change nat_eq fresh world location change)
-  change_of_files location change =
-      by (filesystem_at nat_eq world location) (filesystem_at nat_eq world location).overlay
-    where
-      upper : (filesystem : Filesystem ℕ) (overlay : Overlay ℕ) (layer : Option (Layer ℕ))
-          → IsOfFiles world (overlay_changed nat_eq fresh world filesystem overlay layer change)
-      upper filesystem overlay None = itself_of_files world
-      upper filesystem overlay (Some layer) = record { mounts = refl; master = refl; namespaces = refl; tasks = refl }
-
-      by : (filesystem : Filesystem ℕ) (overlay : Option (Overlay ℕ))
-          → IsOfFiles world (filesystem_changed nat_eq fresh world filesystem overlay change)
-      by filesystem None = record { mounts = refl; master = refl; namespaces = refl; tasks = refl }
-      by filesystem (Some overlay) = upper filesystem overlay overlay.upper
+  change_of_files location change = grind (arith, common_steps, itself_of_files)
 
   pub copy_of_files : (copies : Bool) (file : Location ℕ)
       → IsOfFiles world (with_copy nat_eq copies fresh world file)

@@ -1,4 +1,6 @@
 -- Namespaces that end with their last tasks, after an exit, an unshare or an entry.
+use Rattle.std.proofs.Common.{arith}
+use Rattle.std.proofs.lemmas.Grind.{common_steps}
 use Rattle.std.proofs.Common.{◌≡◌, refl, sym, ap, subst, ◌∙◌, inl, ⊎_elim, ℕ, nat_eq, Bool, true, false, true≢false, List, [], ◌∷◌, ◌++◌, Some, eqb-true, filter, flat_map, is_some, length, map, not, ◌&&◌}
 use Rattle.std.specs.List.{list_any}
 use Rattle.std.specs.Prelude.{unwrap_or}
@@ -56,21 +58,15 @@ module _ (world : World ℕ) where
   left_from : (mount : Mount ℕ) → Among mount ended.mounts → (number : ℕ) → mount.namespace ≡ Some number
       → IsLeftFrom mount number
   left_from mount m number e =
-      let detached_ones = middle world gone in
-      let heir = among-from_map (inheriting nat_eq detached_ones) detached_ones.mounts mount
-      (subst (Among mount) (mounts-regrouped detached_ones) m) in
-      let old = among-from_map (after_going nat_eq world gone) world.mounts heir.0 heir.1 in
-      by old.0 old.1
-      (ap (λ (x : Mount ℕ). x.namespace) (sym (ap (inheriting nat_eq detached_ones) old.2) ∙ sym heir.2) ∙ e)
-      (is_going nat_eq gone old.0.number) refl
-    where
-      by : (old : Mount ℕ) → Among old world.mounts → (after_going nat_eq world gone old).namespace ≡ Some number
-          → (b : Bool) → is_going nat_eq gone old.number ≡ b → IsLeftFrom mount number
-      by old n f true goes =
-          absurd (true≢false (sym (ap is_some f)
-          ∙ ap (λ (x : Mount ℕ). is_some x.namespace) (going_is_detached world gone old goes)))
-      by old n f false stays =
-          (old, n, ap (λ (x : Mount ℕ). x.namespace) (sym (staying_is_placed world gone old stays)) ∙ f, stays)
+      let detached_ones = middle world gone in let heir = among-from_map (inheriting nat_eq detached_ones)
+      detached_ones.mounts mount (subst (Among mount) (mounts-regrouped detached_ones) m) in let old = among-from_map
+      (after_going nat_eq world gone) world.mounts heir.0 heir.1 in grind (
+        arith,
+        common_steps,
+        true≢false,
+        going_is_detached,
+        staying_is_placed,
+      )
 
   -- the namespace of a mount that stays has tasks
   abbrev is_kept : ℕ → Namespace ℕ → Bool

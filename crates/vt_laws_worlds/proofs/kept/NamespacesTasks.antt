@@ -1,4 +1,6 @@
 -- Tasks that change, fork and end, and the namespaces that they are in.
+use Rattle.std.proofs.Common.{arith}
+use Rattle.std.proofs.lemmas.Grind.{common_steps}
 use Rattle.std.proofs.Common.{◌≡◌, refl, sym, ap, ◌∙◌, ⊎_elim, ℕ, nat_eq, Bool, true, false, cond, true≢false, List, [], ◌∷◌, ◌++◌, if◌then◌else◌, map, subst}
 use Rattle.std.specs.List.{list_any}
 use Rattle.std.specs.Cmp.Lexicographic.{bytes_decides}
@@ -74,16 +76,7 @@ module _ (world : World ℕ) (task : Task ℕ) (apart : AreNamedApart world.task
 -- the root and the directory of tasks are others
 pub pivoted_stay : (namespace : ℕ) (root new : Mount ℕ) (tasks : List (Task ℕ))
     → TasksStay tasks (map (pivoted_task nat_eq namespace root new) tasks)
-pivoted_stay namespace root new tasks =
-    mapped_tasks_stay (pivoted_task nat_eq namespace root new) tasks
-    (λ task m. by task (nat_eq namespace task.namespace))
-  where
-    by : (task : Task ℕ) (b : Bool) → (if b then (record task {
-      root = pivoted_location nat_eq root new task.root;
-      directory = pivoted_location nat_eq root new task.directory;
-    }) else task).namespace ≡ task.namespace
-    by task true = refl
-    by task false = refl
+pivoted_stay namespace root new tasks = grind (arith, common_steps, mapped_tasks_stay)
 
 -- a task that is in another namespace of the list, in the place of the one of its name
 pub replaced_listed : (namespaces : List (Namespace ℕ)) (new : Task ℕ) (tasks : List (Task ℕ))
@@ -91,10 +84,4 @@ pub replaced_listed : (namespaces : List (Namespace ℕ)) (new : Task ℕ) (task
     → ((task : Task ℕ) → Among task tasks → IsListedIn namespaces task.namespace)
     → (task : Task ℕ) → Among task (map (replaced_if_called new) tasks) → IsListedIn namespaces task.namespace
 replaced_listed namespaces new tasks at old task m =
-    let from = among-from_map (replaced_if_called new) tasks task m in
-    subst (λ (x : Task ℕ). IsListedIn namespaces x.namespace) (sym from.2)
-    (by from.0 from.1 (same_name new.name from.0.name))
-  where
-    by : (other : Task ℕ) → Among other tasks → (b : Bool) → IsListedIn namespaces (cond b new other).namespace
-    by other n true = at
-    by other n false = old other n
+    let from = among-from_map (replaced_if_called new) tasks task m in grind (arith, common_steps)

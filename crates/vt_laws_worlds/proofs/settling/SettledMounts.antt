@@ -1,4 +1,6 @@
 -- Mounts and namespaces where what nothing uses goes.
+use Rattle.std.proofs.Common.{arith}
+use Rattle.std.proofs.lemmas.Grind.{common_steps}
 use Rattle.std.proofs.Common.{◌≡◌, refl, sym, ap, ◌∙◌, ℕ, nat_eq, Bool, true, false, List, Option, Some, None, filter, is_some, ◌&&◌}
 use Rattle.std.specs.Prelude.{length, nat_lt, option_to_list, ◌==◌}
 use Rattle.std.specs.List.{list_all, list_any}
@@ -66,26 +68,7 @@ module _ (world : World ℕ) (unsettled : IsUnderWay world) where
 
   -- Namespaces keep their mounts
   same_mounts_of : (namespace : ℕ) → mounts_of nat_eq later namespace ≡ mounts_of nat_eq world namespace
-  same_mounts_of namespace =
-      filter_twice (in_it namespace) (mount_lives nat_eq world) (in_it namespace)
-      (λ mount. by mount mount.namespace refl) world.mounts
-    where
-      in_it : ℕ → Mount ℕ → Bool
-      in_it n mount = holds_of (nat_eq n) mount.namespace
-
-      both_false : (b : Bool) → false ≡ (b && false)
-      both_false true = refl
-      both_false false = refl
-
-      by : (mount : Mount ℕ) (o : Option ℕ) → mount.namespace ≡ o
-          → holds_of (nat_eq namespace) mount.namespace
-          ≡ (mount_lives nat_eq world mount && holds_of (nat_eq namespace) mount.namespace)
-      by mount None e =
-          ap (holds_of (nat_eq namespace)) e ∙ both_false (mount_lives nat_eq world mount)
-          ∙ ap (λ o. mount_lives nat_eq world mount && holds_of (nat_eq namespace) o) (sym e)
-      by mount (Some n) e =
-          ap (λ b. b && holds_of (nat_eq namespace) mount.namespace)
-          (sym (attached_lives world unsettled mount (ap is_some e)))
+  same_mounts_of namespace = grind (arith, common_steps, filter_twice, attached_lives)
 
   abbrev MountsBy : Type 0
   MountsBy = ℕ → List (Mount ℕ)

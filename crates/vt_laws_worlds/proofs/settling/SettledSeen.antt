@@ -1,4 +1,6 @@
 -- What is seen where tasks are, at the roots of mounts and at their places stays where what nothing uses goes.
+use Rattle.std.proofs.Common.{arith}
+use Rattle.std.proofs.lemmas.Grind.{common_steps}
 use Rattle.std.proofs.Common.{◌≡◌, refl, sym, ap, ◌∙◌, ℕ, nat_eq, eqb-true, eq-eqb, Bool, true, false, cond, not, List, [], ◌∷◌, ◌++◌, Some, find, map, filter, is_some, true≢false}
 use Rattle.std.specs.Prelude.{filter_map, unwrap_or}
 use Rattle.vt_spec.specs.Lists.{is_among}
@@ -24,35 +26,14 @@ node_kept : (stays : Filesystem ℕ → Bool) (change : Filesystem ℕ → Files
     ≡ (unwrap_or (find (λ f. nat_eq number f.number) list) (no_filesystem number)).files.tree.node object
 node_kept stays change same number object [] stay keep = refl
 node_kept stays change same number object (filesystem ∷ list) stay keep =
-    by (nat_eq number filesystem.number) refl (stays filesystem) refl
-    (node_kept stays change same number object list stay keep)
-  where
-    rest : List (Filesystem ℕ)
-    rest = map change (filter stays list)
-
-    with_first : (b : Bool) → nat_eq number filesystem.number ≡ b
-        → (unwrap_or (find (λ f. nat_eq number f.number) (change filesystem ∷ rest))
-        (no_filesystem number)).files.tree.node object
-        ≡ (unwrap_or (cond b (Some (change filesystem)) (find (λ f. nat_eq number f.number) rest))
-        (no_filesystem number)).files.tree.node object
-    with_first b e =
-        ap (λ c. (unwrap_or (cond c (Some (change filesystem)) (find (λ f. nat_eq number f.number) rest))
-        (no_filesystem number)).files.tree.node object)
-        (ap (nat_eq number) (same filesystem) ∙ e)
-
-    by : (b : Bool) → nat_eq number filesystem.number ≡ b → (c : Bool) → stays filesystem ≡ c
-        → (unwrap_or (find (λ f. nat_eq number f.number) rest) (no_filesystem number)).files.tree.node object
-        ≡ (unwrap_or (find (λ f. nat_eq number f.number) list) (no_filesystem number)).files.tree.node object
-        → (unwrap_or (find (λ f. nat_eq number f.number)
-        (map change (cond c (filesystem ∷ filter stays list) (filter stays list))))
-        (no_filesystem number)).files.tree.node object
-        ≡ (unwrap_or (cond b (Some filesystem) (find (λ f. nat_eq number f.number) list))
-        (no_filesystem number)).files.tree.node object
-    by true e true d later = with_first true e ∙ keep filesystem (sym (eqb-true number filesystem.number e))
-    by true e false d later = absurd
-        (true≢false (sym (stay filesystem (sym (eqb-true number filesystem.number e))) ∙ d))
-    by false e true d later = with_first false e ∙ later
-    by false e false d later = later
+    grind (
+      arith,
+      common_steps,
+      stays filesystem,
+      node_kept stays change same number object list stay keep,
+      eqb-true,
+      true≢false,
+    )
 
 located_kept : (world : World ℕ) (chosen : Bool) (filesystem : Filesystem ℕ) (object : ℕ)
     → is_among nat_eq object (located_in nat_eq world filesystem.number) ≡ true

@@ -1,4 +1,5 @@
 -- Where no namespace gets mounts, none has too many.
+use Rattle.std.proofs.lemmas.Grind.{common_steps}
 use Rattle.std.proofs.Common.{◌≡◌, refl, sym, ap, subst, ◌∙◌, true≢false, arith, inl, inr, ⊎_elim, ◌⊎◌, ℕ, nat_eq, nat_lt, Bool, true, false, cond, List, [], ◌∷◌, ◌≤◌, filter, map, length, Option, Some, None, option_map}
 use Rattle.std.specs.List.{list_any}
 use Rattle.std.proofs.lemmas.Bool.{le-ltb, ltb-false}
@@ -43,12 +44,7 @@ mapped_no_more f (first ∷ rest) h number =
 
 pub filtered_no_more : (test : Mount ℕ → Bool) (mounts : List (Mount ℕ)) → length (filter test mounts) ≤ length mounts
 filtered_no_more test [] = omega arith
-filtered_no_more test (first ∷ rest) = by (test first) (filtered_no_more test rest)
-  where
-    by : (b : Bool) → length (filter test rest) ≤ length rest
-        → length (cond b (first ∷ filter test rest) (filter test rest)) ≤ length (first ∷ rest)
-    by true le = omega (arith, le)
-    by false le = omega (arith, le)
+filtered_no_more test (first ∷ rest) = grind (arith, common_steps, filtered_no_more test rest)
 
 pub none_counted : (mounts : List (Mount ℕ)) (number : ℕ) → ((mount : Mount ℕ) → Among mount mounts
     → is_in number mount ≡ false)
@@ -60,10 +56,7 @@ none_counted (first ∷ rest) number h =
 
 -- what is no more than enough is no more than that
 pub not_too_many : (a b : ℕ) → a ≤ b → nat_lt most_mounts b ≡ false → nat_lt most_mounts a ≡ false
-not_too_many a b le few = le-ltb most_mounts a (below (ltb-false most_mounts b few))
-  where
-    below : b ≤ most_mounts → a ≤ most_mounts
-    below few = omega (arith, le, few)
+not_too_many a b le few = grind (arith, common_steps, le-ltb, ltb-false most_mounts b few)
 
 pub few_of : (world : World ℕ) → has_too_many nat_eq world ≡ false → (namespace : Namespace ℕ)
     → Among namespace world.namespaces
@@ -95,52 +88,19 @@ pub shrinks_itself : (world : World ℕ) → Shrinks world world
 shrinks_itself world = (λ number. omega arith, refl)
 
 pub shrinks_then : (a b c : World ℕ) → Shrinks c b → Shrinks b a → Shrinks c a
-shrinks_then a b c later first =
-    (λ number. below number (later.0 number) (first.0 number), later.1 ∙ first.1)
-  where
-    below : (number : ℕ) → count_in c.mounts number ≤ count_in b.mounts number → count_in b.mounts number
-        ≤ count_in a.mounts number
-        → count_in c.mounts number ≤ count_in a.mounts number
-    below number x y = omega (arith, x, y)
+shrinks_then a b c later first = grind (arith, common_steps, later.0, later.1)
 
 -- A change of a filesystem
 pub change_shrinks : (fresh : Fresh ℕ) (world : World ℕ) (location : Location ℕ) (change : Change ℕ)
     → Shrinks (with_change nat_eq fresh world location change) world
-change_shrinks fresh world location change =
-    by (filesystem_at nat_eq world location) (filesystem_at nat_eq world location).overlay
-  where
-    upper : (filesystem : Filesystem ℕ) (overlay : Overlay ℕ) (layer : Option (Layer ℕ))
-        → Shrinks (overlay_changed nat_eq fresh world filesystem overlay layer change) world
-    upper filesystem overlay None = shrinks_itself world
-    upper filesystem overlay (Some layer) = (λ number. omega arith, refl)
-
-    by : (filesystem : Filesystem ℕ) (overlay : Option (Overlay ℕ))
-        → Shrinks (filesystem_changed nat_eq fresh world filesystem overlay change) world
-    by filesystem None = (λ number. omega arith, refl)
-    by filesystem (Some overlay) = upper filesystem overlay overlay.upper
+change_shrinks fresh world location change = grind (arith, common_steps, shrinks_itself)
 
 -- Mounts that go, or hear of other groups
 pub regrouped_shrinks : (world : World ℕ) → Shrinks (regrouped nat_eq world) world
-regrouped_shrinks world = by (list_any (lost_a_group nat_eq world) world.mounts)
-  where
-    by : (b : Bool) → Shrinks (regrouped_by nat_eq b world) world
-    by true = (mapped_no_more (inheriting nat_eq world) world.mounts (λ mount m. inl refl), refl)
-    by false = shrinks_itself world
+regrouped_shrinks world = grind (arith, common_steps, mapped_no_more, shrinks_itself)
 
 gone_stays : (world : World ℕ) (gone : List ℕ) (mount : Mount ℕ) → StaysOrLeaves (after_going nat_eq world gone) mount
-gone_stays world gone mount = by (is_going nat_eq gone mount.number)
-  where
-    by : (b : Bool)
-        → ((cond b (detached mount) (record mount {
-          mount_point = option_map
-              (mount_point_left nat_eq world gone) mount.mount_point;
-        })).namespace ≡ mount.namespace)
-        ⊎ ((cond b (detached mount) (record mount {
-          mount_point = option_map
-              (mount_point_left nat_eq world gone) mount.mount_point;
-        })).namespace ≡ None)
-    by true = inr refl
-    by false = inl refl
+gone_stays world gone mount = grind (arith, common_steps)
 
 pub taken_shrinks : (world : World ℕ) (gone : List ℕ) → Shrinks (taken_away nat_eq world gone) world
 taken_shrinks world gone =
@@ -152,13 +112,14 @@ lazily_folded : (mounts : List (Mount ℕ)) (world : World ℕ) → Shrinks (fol
     (unmounted_if_there nat_eq) world mounts) world
 lazily_folded [] world = shrinks_itself world
 lazily_folded (mount ∷ mounts) world =
-    shrinks_then world (unmounted_if_there nat_eq world mount) (folded (unmounted_if_there nat_eq)
-    (unmounted_if_there nat_eq world mount) mounts)
-    (lazily_folded mounts (unmounted_if_there nat_eq world mount)) (by _)
-  where
-    by : (b : Bool) → Shrinks (cond b (unmounted nat_eq world mount.number) world) world
-    by true = taken_shrinks world _
-    by false = shrinks_itself world
+    grind (
+      arith,
+      common_steps,
+      shrinks_then,
+      lazily_folded mounts (unmounted_if_there nat_eq world mount),
+      taken_shrinks,
+      shrinks_itself,
+    )
 
 pub lazily_shrinks : (world : World ℕ) (number : ℕ) → Shrinks (lazily_unmounted nat_eq world number) world
 lazily_shrinks world number =

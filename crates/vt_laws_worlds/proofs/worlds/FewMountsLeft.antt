@@ -1,4 +1,5 @@
 -- Permits that attach nothing leave no namespace with too many mounts.
+use Rattle.std.proofs.lemmas.Grind.{common_steps}
 use Rattle.std.proofs.Common.{◌≡◌, refl, sym, ap, ◌∙◌, true≢false, arith, inl, inr, ⊎_elim, ◌⊎◌, eqb-true, eq-eqb, ℕ, nat_eq, nat_lt, Bool, true, false, cond, List, [], ◌∷◌, ◌++◌, ◌+◌, ◌*◌, ◌≤◌, ◌&&◌, filter, map, length, flat_map, Option, Some, None}
 use Rattle.std.specs.Prelude.{option_to_list}
 use Rattle.std.specs.List.{list_all, list_any}
@@ -37,29 +38,11 @@ module _ (world : World ℕ) where
   -- other flags of a mount
   flags_stay : IsWorld nat_eq world → (number : ℕ) (flags : MountFlags) (mount : Mount ℕ) → Among mount world.mounts
       → StaysOrLeaves (replaced_if_same nat_eq (record (mount_numbered nat_eq world number) { flags = flags })) mount
-  flags_stay whole number flags mount m = by (nat_eq (mount_numbered nat_eq world number).number mount.number) refl
-    where
-      by : (b : Bool) → nat_eq (mount_numbered nat_eq world number).number mount.number ≡ b
-          → ((cond b (record (mount_numbered nat_eq world number) { flags = flags }) mount).namespace ≡ mount.namespace)
-          ⊎ ((cond b (record (mount_numbered nat_eq world number) { flags = flags }) mount).namespace ≡ None)
-      by true e =
-          inl (ap (λ n. (mount_numbered nat_eq world n).namespace)
-          (sym (number-mount_in world.mounts number)
-          ∙ eqb-true (mount_numbered nat_eq world number).number mount.number e)
-          ∙ ap (λ (x : Mount ℕ). x.namespace) (found_itself world.mounts whole.mounts.one_number mount m))
-      by false e = inl refl
+  flags_stay whole number flags mount m = grind (arith, common_steps, number-mount_in, eqb-true, found_itself)
 
   typed_stays : (group : ℕ → ℕ) (word : TypeWord) (named : List (Mount ℕ)) (mount : Mount ℕ)
       → StaysOrLeaves (retyped_mount nat_eq group word named) mount
-  typed_stays group word named mount = by (list_any (λ (other : Mount ℕ). nat_eq mount.number other.number) named)
-    where
-      by : (b : Bool)
-          → ((cond b (record mount { propagation = type_after (group mount.number) word mount.propagation })
-          mount).namespace ≡ mount.namespace)
-          ⊎ ((cond b (record mount { propagation = type_after (group mount.number) word mount.propagation })
-          mount).namespace ≡ None)
-      by true = inl refl
-      by false = inl refl
+  typed_stays group word named mount = grind (arith, common_steps)
 
   pub typed_shrinks : (fresh : Fresh ℕ) (number : ℕ) (word : TypeWord) (recursive : Bool)
       → Shrinks (with_type nat_eq fresh world number word recursive) world
@@ -78,16 +61,7 @@ module _ (world : World ℕ) where
 
   pivot_stays : (root new : Mount ℕ) (put : Location ℕ) (mount : Mount ℕ) → StaysOrLeaves
       (pivoted_mount nat_eq root new put) mount
-  pivot_stays root new put mount = by (nat_eq mount.number new.number) (nat_eq mount.number root.number)
-    where
-      by : (b c : Bool)
-          → ((cond b (record mount { mount_point = root.mount_point }) (cond c (record mount { mount_point = Some put })
-          mount)).namespace ≡ mount.namespace)
-          ⊎ ((cond b (record mount { mount_point = root.mount_point }) (cond c (record mount { mount_point = Some put })
-          mount)).namespace ≡ None)
-      by true c = inl refl
-      by false true = inl refl
-      by false false = inl refl
+  pivot_stays root new put mount = grind (arith, common_steps)
 
   copy_shrinks : (b : Bool) (fresh : Fresh ℕ) (file : Location ℕ)
       → Shrinks (with_copy nat_eq b fresh world file) world
@@ -117,33 +91,19 @@ module _ (fresh : Fresh ℕ) (world : World ℕ) (whole : IsWorld nat_eq world) 
 
   -- no mount is in it yet
   none_in : (mount : Mount ℕ) → Among mount world.mounts → is_in new mount ≡ false
-  none_in mount m = by mount.namespace refl
-    where
-      listed : list_all (is_listed nat_eq world) (option_to_list mount.namespace) ≡ true
-      listed = among_from_list_all (λ (x : Mount ℕ). list_all (is_listed nat_eq world) (option_to_list x.namespace))
-          world.mounts whole.namespaces.mounts_listed mount m
-
-      used : (number : ℕ) → is_listed nat_eq world number ≡ true → is_among nat_eq number (numbers_in_use world) ≡ true
-      used number is =
-          is_among_numbers (numbers_in_use world) number
-          (in_use (flat_map used_by_mount world.mounts) (flat_map used_by_filesystem world.filesystems)
-          (among_numbers (map (λ (n : Namespace ℕ). n.number) world.namespaces) number is))
-        where
-          in_use : (a b : List ℕ) → Among number (map (λ (n : Namespace ℕ). n.number) world.namespaces)
-              → Among number (a ++ b ++ map (λ (n : Namespace ℕ). n.number) world.namespaces)
-          in_use a b k = among-append_right (a ++ b) (map (λ (n : Namespace ℕ). n.number) world.namespaces) number k
-
-      by : (o : Option ℕ) → mount.namespace ≡ o → is_in new mount ≡ false
-      by None e = ap (λ o. holds_of (nat_eq new) o) e
-      by (Some number) e = ap (λ o. holds_of (nat_eq new) o) e ∙ test (nat_eq new number) refl
-        where
-          test : (b : Bool) → nat_eq new number ≡ b → nat_eq new number ≡ false
-          test true f =
-              absurd (true≢false (sym (used number (and_first (is_listed nat_eq world number)
-              (sym (ap (λ o. list_all (is_listed nat_eq world) (option_to_list o)) e) ∙ listed)))
-              ∙ ap (λ n. is_among nat_eq n (numbers_in_use world)) (sym (eqb-true new number f))
-              ∙ serves.unused (2 * 0)))
-          test false f = f
+  none_in mount m =
+      grind (
+        arith,
+        common_steps,
+        among_from_list_all,
+        is_among_numbers,
+        among_numbers,
+        among-append_right,
+        new,
+        true≢false,
+        and_first,
+        eqb-true,
+      )
 
   counts : (number : ℕ) → count_in (world.mounts ++ copies) number
       ≡ count_in world.mounts number + count_in copies number
@@ -184,11 +144,7 @@ module _ (fresh : Fresh ℕ) (world : World ℕ) (whole : IsWorld nat_eq world) 
   in_old : (number : ℕ) → nat_eq number new ≡ false → count_in (world.mounts ++ copies) number
       ≤ count_in world.mounts number
   in_old number other =
-      bound (counts number) (none_counted copies number (copy_is_new number other))
-    where
-      bound : count_in (world.mounts ++ copies) number ≡ count_in world.mounts number + count_in copies number
-          → count_in copies number ≡ 0 → count_in (world.mounts ++ copies) number ≤ count_in world.mounts number
-      bound a b = omega (arith, a, b)
+      grind (arith, common_steps, counts number, none_counted copies number (copy_is_new number other))
 
   unshared_few : has_too_many nat_eq (unshared nat_eq world fresh task) ≡ false
   unshared_few =

@@ -1,4 +1,6 @@
 -- What the walks and the rules of a call say of what its permit names.
+use Rattle.std.proofs.Common.{arith}
+use Rattle.std.proofs.lemmas.Grind.{common_steps}
 use Rattle.std.proofs.Common.{Bool, Err, Ok, Option, Result, [], ap, eqb-true, length, not, ok_or, option_map, refl, suc, sym, true≢false, zero, ⊎_elim, ◌==◌, ◌||◌, ◌∙◌, ◌∷◌}
 use Rattle.std.proofs.Math.Bool.{or-false}
 use Rattle.std.proofs.lemmas.Option.{same_Some}
@@ -32,11 +34,7 @@ use Rattle.vt_laws_worlds.specs.Worlds.Permits.{IsDestination, IsOwn, IsReachedD
 
 -- a step that succeeds where something is there
 pub ok_or_some : {A : Type 0} (o : Option A) (deny : Deny) (a : A) → ok_or o deny ≡ Ok a → o ≡ Some a
-ok_or_some {A} None deny a e = absurd (true≢false (sym (ap is_answer e)))
-  where
-    is_answer : Result A Deny → Bool
-    is_answer (Ok x) = true
-    is_answer (Err d) = false
+ok_or_some {A} None deny a e = grind (arith, common_steps, true≢false)
 ok_or_some (Some x) deny a e = ap Some (ok_same x a (Ok x) refl e)
 
 -- a test of what may be there
@@ -59,13 +57,7 @@ first_two false false c d e h = (refl, refl)
 rest_same : {A : Type 0} (most : ℕ) (next : A → Option A) (a b : A) → next a ≡ next b
     → rest_of (chain most next a) ≡ rest_of (chain most next b)
 rest_same zero next a b e = refl
-rest_same {A} (suc most) next a b e =
-    ap (λ o. rest_of (elim o [ None ↦ a ∷ [] | Some c ↦ a ∷ chain most next c ])) e ∙ by (next b)
-  where
-    by : (o : Option A) → rest_of (elim o [ None ↦ a ∷ [] | Some c ↦ a ∷ chain most next c ])
-        ≡ rest_of (elim o [ None ↦ b ∷ [] | Some c ↦ b ∷ chain most next c ])
-    by None = refl
-    by (Some c) = refl
+rest_same {A} (suc most) next a b e = grind (arith, common_steps)
 
 module _ (world : World ℕ) (whole : IsWorld nat_eq world) (task : Task ℕ)
     (called : task_called world task.name ≡ Some task) where
@@ -75,13 +67,7 @@ module _ (world : World ℕ) (whole : IsWorld nat_eq world) (task : Task ℕ)
   -- M2
   pub own_if : (location : Location ℕ) → is_elsewhere nat_eq looks task location ≡ false
       → IsOwn world task location.mount
-  own_if location e = by (mount_numbered nat_eq world location.mount).namespace refl e
-    where
-      by : (o : Option ℕ) → (mount_numbered nat_eq world location.mount).namespace ≡ o
-          → not (holds_of (nat_eq task.namespace) o) ≡ false → IsOwn world task location.mount
-      by None f h = absurd (true≢false h)
-      by (Some number) f h = f ∙ ap Some (sym (eqb-true task.namespace number
-          (not_true (nat_eq task.namespace number) h)))
+  own_if location e = grind (arith, common_steps, true≢false, eqb-true)
 
   pub reached_directory : (here : Here ℕ) → HereDirectory world whole task called here
       → IsReachedDirectory world task here.location
@@ -110,18 +96,13 @@ module _ (world : World ℕ) (whole : IsWorld nat_eq world) (task : Task ℕ)
   pub descriptor_among : (number : ℕ) (fits : Descriptor ℕ → Bool) (descriptor : Descriptor ℕ)
       → descriptor_at task number fits ≡ Ok descriptor → Among descriptor task.descriptors
   descriptor_among number fits descriptor e =
-      by (descriptor_numbered task number) refl
-      (found_among fits (option_to_list (descriptor_numbered task number)) descriptor
-      (ok_or_some (find fits (option_to_list (descriptor_numbered task number))) (denial S4) descriptor e))
-    where
-      by : (o : Option (Descriptor ℕ)) → descriptor_numbered task number ≡ o → Among descriptor (option_to_list o)
-          → Among descriptor task.descriptors
-      by None f m = absurd m
-      by (Some other) f m =
-          ⊎_elim
-          (λ same. found_among (λ (d : Descriptor ℕ). number == d.number) task.descriptors descriptor
-          (f ∙ ap Some (sym same)))
-          (λ none. absurd none) m
+      grind (
+        arith,
+        common_steps,
+        found_among fits (option_to_list (descriptor_numbered task number)) descriptor
+            (ok_or_some (find fits (option_to_list (descriptor_numbered task number))) (denial S4) descriptor e),
+        found_among,
+      )
 
   -- the place below a mount is that of the mount, whatever inode it is seen at
   pub below_at : (new : Location ℕ) → is_on_descendant nat_eq looks task.root.mount new ≡ true → (node : ℕ)

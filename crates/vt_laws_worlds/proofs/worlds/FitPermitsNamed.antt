@@ -1,4 +1,6 @@
 -- Whatever is permitted in a world that has the invariants fits it.
+use Rattle.std.proofs.Common.{arith}
+use Rattle.std.proofs.lemmas.Grind.{common_steps}
 use Rattle.std.proofs.Common.{Bool, Ok, not, option_map, refl, sym, true≢false, ◌∙◌}
 use Rattle.std.proofs.lemmas.Bool.{or_parts}
 use Rattle.std.specs.Prelude.{List, Some, false, is_some, nat_eq, true, ℕ, ◌≡◌}
@@ -243,12 +245,7 @@ module _ (fresh : Fresh ℕ) (world : World ℕ) (whole : IsWorld nat_eq world) 
   fitting : Serves nat_eq world fresh → (call : Call) (permit : Permit ℕ) → mounts_overlay call ≡ false
       → Granted call permit → IsFitPermit fresh world task permit
   fitting serves call permit plain granted =
-      record { names = granted_names call permit plain granted; few_mounts = by (attaches permit) refl }
-    where
-      by : (b : Bool) → attaches permit ≡ b → has_too_many nat_eq (apply nat_eq fresh world task
-          permit).world ≡ false
-      by true is = granted_leaves_room call permit granted is plain
-      by false is = few_left fresh world whole serves task called permit is
+      grind (arith, common_steps, granted_names call permit plain granted, granted_leaves_room, few_left)
 
 pub all_permits_fit : AllPermitsFit
 all_permits_fit world fresh task call permit whole serves called files judged =

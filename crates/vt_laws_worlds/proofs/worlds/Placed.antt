@@ -1,4 +1,6 @@
 -- Where tasks stand, and what they have open, is there in each world that keeps what is seen.
+use Rattle.std.proofs.Common.{arith}
+use Rattle.std.proofs.lemmas.Grind.{common_steps}
 use Rattle.std.proofs.Common.{◌≡◌, refl, sym, ap, subst, ◌∙◌, ◌⊎◌, inl, inr, ⊎_elim, ℕ, nat_eq, Bool, true, false, cond, List, [], ◌∷◌, map, nat_lt}
 use Rattle.std.proofs.lemmas.Bool.{and_from, and_parts}
 use Rattle.vt_spec.specs.declared.attributes.Kind.TheVariants.{File}
@@ -133,22 +135,10 @@ module _ (world : World ℕ) (placed : ArePlaced world world.tasks) where
 pub placed_with : (world : World ℕ) (new : Task ℕ) (tasks : List (Task ℕ)) → ArePlaced world tasks → IsPlaced world new
     → ArePlaced world (map (replaced_if_called new) tasks)
 placed_with world new tasks placed at task m =
-    let from = among-from_map (replaced_if_called new) tasks task m in
-    subst (IsPlaced world) (sym from.2) (by from.0 (same_name new.name from.0.name) (placed from.0 from.1))
-  where
-    by : (old : Task ℕ) (b : Bool) → IsPlaced world old → IsPlaced world (cond b new old)
-    by old true was = at
-    by old false was = was
+    let from = among-from_map (replaced_if_called new) tasks task m in grind (arith, common_steps)
 
 pub among-inserted : (new : Descriptor ℕ) (list : List (Descriptor ℕ)) (descriptor : Descriptor ℕ)
     → Among descriptor (inserted new list)
     → (descriptor ≡ new) ⊎ Among descriptor list
 among-inserted new [] descriptor m = ⊎_elim inl (λ none. absurd none) m
-among-inserted new (first ∷ rest) descriptor m =
-    by (nat_lt new.number first.number) m (among-inserted new rest descriptor)
-  where
-    by : (b : Bool) → Among descriptor (cond b (new ∷ first ∷ rest) (first ∷ inserted new rest))
-        → (Among descriptor (inserted new rest) → (descriptor ≡ new) ⊎ Among descriptor rest)
-        → (descriptor ≡ new) ⊎ Among descriptor (first ∷ rest)
-    by true n later = n
-    by false n later = ⊎_elim (λ e. inr (inl e)) (λ l. ⊎_elim inl (λ r. inr (inr r)) (later l)) n
+among-inserted new (first ∷ rest) descriptor m = grind (arith, common_steps, among-inserted new rest descriptor)

@@ -1,4 +1,6 @@
 -- Where one step of a walk leads: to what is there, on a mount of the task's namespace or on one that is in none.
+use Rattle.std.proofs.Common.{arith}
+use Rattle.std.proofs.lemmas.Grind.{common_steps}
 use Rattle.std.proofs.Common.{◌≡◌, refl, sym, ap, subst, ◌∙◌, true≢false, ⊎_elim, ℕ, nat_eq, Bool, true, false, not, cond, List, [], ◌∷◌, ◌&&◌, ◌||◌, length, Option, Some, None, is_some, option_map, ok_or, Ok, Err, Result}
 use Rattle.std.specs.Prelude.{option_to_list}
 use Rattle.std.specs.List.{list_all}
@@ -35,29 +37,13 @@ use Rattle.vt_spec.proofs.Worlds.{number-mount_in, found_or_none}
 -- a directory is no link
 pub directory_no_link : (o : Option (Node ℕ)) → is_directory_node o ≡ true → symlink_text o ≡ None
 directory_no_link None is = refl
-directory_no_link (Some node) is = by node.content is
-  where
-    by : (content : Content ℕ) → is_directory_node (Some (record { attr = node.attr; content = content })) ≡ true
-        → symlink_text (Some (record { attr = node.attr; content = content })) ≡ None
-    by (Directory parent entries opaque) e = refl
-    by (Regular bytes) e = refl
-    by (Symlink text) e = absurd (true≢false (sym e))
-    by Whiteout e = refl
+directory_no_link (Some node) is = grind (arith, common_steps, true≢false)
 
 -- what is there, and is no directory, whiteout or link, is a regular file
 pub others_are_files : (o : Option (Node ℕ)) → is_some o ≡ true → symlink_text o ≡ None → is_directory_node o ≡ false
     → is_kind_in White o ≡ false → is_kind_in File o ≡ true
 others_are_files None there no_link no_directory no_whiteout = absurd (true≢false (sym there))
-others_are_files (Some node) there no_link no_directory no_whiteout = by node.content no_link no_directory no_whiteout
-  where
-    by : (content : Content ℕ) → symlink_text (Some (record { attr = node.attr; content = content })) ≡ None
-        → is_directory_node (Some (record { attr = node.attr; content = content })) ≡ false
-        → is_kind_in White (Some (record { attr = node.attr; content = content })) ≡ false
-        → is_kind_in File (Some (record { attr = node.attr; content = content })) ≡ true
-    by (Directory parent entries opaque) e f g = absurd (true≢false f)
-    by (Regular bytes) e f g = refl
-    by (Symlink text) e f g = absurd (true≢false (ap is_some e))
-    by Whiteout e f g = absurd (true≢false g)
+others_are_files (Some node) there no_link no_directory no_whiteout = grind (arith, common_steps, true≢false)
 
 -- a mount that stands at a place is in the namespace of the mount below
 pub namespace_below : (world : World ℕ) (number : ℕ) (place : Location ℕ) → Stands nat_eq world number
@@ -202,11 +188,7 @@ module _ (world : World ℕ) (whole : IsWorld nat_eq world) (task : Task ℕ) wh
       (is.0, (directory_in_tree world whole.files.trees location is.1).parent_directory location.node is.1)
 
   no_denial : (deny : Deny) (a : Location ℕ) → Err deny ≡ Ok a → ⊥
-  no_denial deny a e = true≢false (sym (ap is_answer e))
-    where
-      is_answer : Result (Location ℕ) Deny → Bool
-      is_answer (Ok l) = true
-      is_answer (Err d) = false
+  no_denial deny a e = grind (arith, common_steps, true≢false)
 
   up_found : (location reached : Location ℕ) → IsFoundDirectory location
       → up_from nat_eq world task location ≡ Ok reached

@@ -1,4 +1,6 @@
 -- Where walks to a name end: at a directory that is there, and at what has the name in it; and those of mount calls.
+use Rattle.std.proofs.Common.{arith}
+use Rattle.std.proofs.lemmas.Grind.{common_steps}
 use Rattle.std.proofs.Common.{◌≡◌, refl, sym, ap, subst, ◌∙◌, true≢false, ℕ, zero, suc, nat_eq, Bool, true, false, not, List, [], ◌∷◌, ◌&&◌, ◌||◌, ◌+◌, reverse, Option, Some, None, is_some, option_map, Ok, Err, Result}
 use Rattle.std.proofs.lemmas.Option.{same_Some}
 use Rattle.vt_spec.specs.declared.errors.Deny.{Deny}
@@ -21,11 +23,7 @@ use Rattle.vt_laws_worlds.proofs.worlds.Reached.{IsDirectory, entry_found, step_
 use Rattle.vt_laws_worlds.proofs.worlds.ReachedWalks.{End, Found, FoundDirectory, directory_walk_end, front_end, start_end, walk_start_end}
 
 no_answer : (deny : Deny) (o : Option (Location ℕ)) → Err deny ≡ Ok o → ⊥
-no_answer deny o e = true≢false (sym (ap is_answer e))
-  where
-    is_answer : Result (Option (Location ℕ)) Deny → Bool
-    is_answer (Ok l) = true
-    is_answer (Err d) = false
+no_answer deny o e = grind (arith, common_steps, true≢false)
 
 module _ (world : World ℕ) (whole : IsWorld nat_eq world) (task : Task ℕ)
     (called : task_called world task.name ≡ Some task) where
@@ -151,14 +149,8 @@ module _ (world : World ℕ) (whole : IsWorld nat_eq world) (task : Task ℕ)
       → ((inner : List ℕ) → Ends IsEndPlace (follow inner))
       → (text : Option (List ℕ)) → symlink_there nat_eq world place ≡ text
       → Ends IsEndPlace (file_or_symlink nat_eq world place text follow)
-  file_or_link_end place follow is goes None e = (is.0, is.1, λ object f. by place.object refl object f)
-    where
-      by : (o : Option (Location ℕ)) → place.object ≡ o → (object : Location ℕ)
-          → option_map (topmost nat_eq world.mounts) o ≡ Some object → End world whole task called object
-      by None g object f = none_is_not None object refl f
-      by (Some below) g object f =
-          subst (End world whole task called) (same_Some _ object f)
-          (topmost_end world whole task below (is.2 below g, no_link_there place e below g))
+  file_or_link_end place follow is goes None e =
+      grind (arith, common_steps, is.0, is.1, none_is_not, topmost_end, no_link_there)
   file_or_link_end place follow is goes (Some text) e = goes text
 
   -- where a link stands there, its text is walked

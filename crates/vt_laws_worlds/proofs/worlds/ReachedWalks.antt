@@ -1,4 +1,6 @@
 -- Where the walks of a task end: at what is there, on a mount of the task's namespace or on one that is in none.
+use Rattle.std.proofs.Common.{arith}
+use Rattle.std.proofs.lemmas.Grind.{common_steps}
 use Rattle.std.proofs.Common.{◌≡◌, refl, ℕ, zero, suc, nat_eq, Bool, true, false, not, cond, List, [], ◌∷◌, ◌+◌, reverse, Option, Some, None, Ok, Err, Result, inl, inr}
 use Rattle.std.proofs.lemmas.Bool.{and_parts}
 use Rattle.vt_spec.specs.declared.errors.Rule.TheVariants.{W3}
@@ -162,12 +164,7 @@ module _ (world : World ℕ) (whole : IsWorld nat_eq world) (task : Task ℕ)
   last_found here (Named name) is = word_found here (Named name) is
 
   link_walk_by_found : (b : Bool) (path : List ℕ) → EndsFound (symlink_walk_by nat_eq b world task path)
-  link_walk_by_found true path =
-      ends_weaker (object_walk nat_eq world task path) (object_end path)
-    where
-      ends_weaker : (walk : Result (Here ℕ) (Stop ℕ)) → EndsAtEnd walk → EndsFound walk
-      ends_weaker (Ok here) end = end.0
-      ends_weaker (Err stop) end = tt
+  link_walk_by_found true path = grind (arith, common_steps, object_end path)
   link_walk_by_found false path =
       ends_next (λ here. Found here.location) (path_text path) _ (λ text.
       ends_then (λ here. End here.location) (λ here. Found here.location)

@@ -1,6 +1,8 @@
 -- What a change of a world keeps of what is seen: mounts stay and show what they showed, in their namespace or in
 -- none, and
 -- inodes stay and keep their kind.
+use Rattle.std.proofs.Common.{arith}
+use Rattle.std.proofs.lemmas.Grind.{common_steps}
 use Rattle.std.proofs.Common.{◌≡◌, refl, sym, ap, subst, ◌∙◌, ℕ, nat_eq, Bool, true, ◌&&◌, Option, Some, None, is_some}
 use Rattle.std.specs.Prelude.{option_to_list}
 use Rattle.std.specs.List.{list_all}
@@ -101,21 +103,7 @@ seen_on a b c r s =
 -- a world with the mounts and filesystems of another
 pub seen_alike : (before after : World ℕ) → after.mounts ≡ before.mounts → after.filesystems ≡ before.filesystems
     → KeepsWhatIsSeen before after
-seen_alike before after mounts filesystems =
-    record {
-      listed = λ number is. ap (λ ms. is_among nat_eq number (numbers_of ms)) mounts ∙ is;
-      views = λ number is.
-          subst (λ ms. KeepsView (mount_numbered nat_eq before number) (mount_in nat_eq ms number)) (sym mounts)
-          (same_view (mount_numbered nat_eq before number));
-      nodes = λ filesystem number.
-          same_nodes before after filesystems filesystem number;
-    }
-  where
-    same_nodes : (a b : World ℕ) → b.filesystems ≡ a.filesystems → (filesystem number : ℕ)
-        → KeepsKind (inode_in a filesystem number) (inode_in b filesystem number)
-    same_nodes a b same filesystem number =
-        same_kind (inode_in a filesystem number) (inode_in b filesystem number)
-        (ap (λ list. kind_seen (inode_in (record a { filesystems = list }) filesystem number)) same)
+seen_alike before after mounts filesystems = grind (arith, common_steps, same_view, same_kind)
 
 -- mounts changed, and filesystems as they were
 pub seen_by_mounts : (before after : World ℕ) → after.filesystems ≡ before.filesystems

@@ -1,5 +1,6 @@
 -- A change of an overlay keeps each inode that is there, and its kind, in the merged tree and in the upper layer; so
 -- what is seen stays in a change of any filesystem.
+use Rattle.std.proofs.lemmas.Grind.{common_steps}
 use Rattle.std.proofs.Common.{arith, ◌≡◌, ◌≢◌, refl, sym, ap, subst, ◌∙◌, inl, ⊎_elim, ◌++◌, not, ℕ, ◌+◌, ◌*◌, nat_eq, ne_eqb, eq-eqb, Bool, true, false, cond, true≢false, List, [], ◌∷◌, Option, Some, None, is_some, map}
 use Rattle.std.proofs.lemmas.Bool.{and_parts}
 use Rattle.std.specs.List.{list_all}
@@ -130,12 +131,7 @@ copied_on fresh distinct k merge (object ∷ rest) vacant =
 
 up_copied : (fresh : Fresh ℕ) → ((i j : ℕ) → fresh i ≡ fresh j → i ≡ j) → (merge : Merge ℕ) (object : ℕ)
     → ((j : ℕ) → IsVacant merge.upper (fresh j)) → IsCopied fresh merge (copied_up nat_eq fresh merge object)
-up_copied fresh distinct merge object vacant =
-    copied_on fresh distinct 0 merge (line_to nat_eq merge.files object)
-    (λ j. subst (λ n. IsVacant merge.upper (fresh n)) (same j) (vacant j))
-  where
-    same : (j : ℕ) → j ≡ j + 0
-    same j = omega arith
+up_copied fresh distinct merge object vacant = grind (arith, common_steps, copied_on)
 
 -- Parts of a change of the upper layer
 kinds_marked : (b : Bool) (files : FileTree ℕ) (object : ℕ) → SameKinds files (with_mark nat_eq b files object)
@@ -404,21 +400,7 @@ module _ (fresh : Fresh ℕ) (world : World ℕ) (location : Location ℕ) (chan
         ≡ map (λ (f : Filesystem ℕ). f.number) world.filesystems
 
   rest : LeavesRest (with_change nat_eq fresh world location change)
-  rest = by (filesystem_at nat_eq world location).overlay
-    where
-      over : (overlay : Overlay ℕ) (upper : Option (Layer ℕ))
-          → LeavesRest (overlay_changed nat_eq fresh world (filesystem_at nat_eq world location) overlay upper change)
-      over overlay None = record { mounts = refl; tasks = refl; numbers = refl }
-      over overlay (Some upper) = record {
-        mounts = refl;
-        tasks = refl;
-        numbers = numbers-replaced _ _ ∙ numbers-replaced _ world.filesystems;
-      }
-
-      by : (o : Option (Overlay ℕ)) → LeavesRest
-          (filesystem_changed nat_eq fresh world (filesystem_at nat_eq world location) o change)
-      by None = record { mounts = refl; tasks = refl; numbers = numbers-replaced _ world.filesystems }
-      by (Some overlay) = over overlay overlay.upper
+  rest = grind (arith, common_steps, numbers-replaced)
 
   pub change_keeps_mounts : (with_change nat_eq fresh world location change).mounts ≡ world.mounts
   change_keeps_mounts = rest.mounts

@@ -1,4 +1,6 @@
 -- Changes of mounts keep what is seen: mounts that are taken away, attached, moved, copied or changed.
+use Rattle.std.proofs.Common.{arith}
+use Rattle.std.proofs.lemmas.Grind.{common_steps}
 use Rattle.std.proofs.Common.{◌≡◌, refl, sym, ap, subst, ◌∙◌, inl, inr, ⊎_elim, ℕ, zero, suc, nat_eq, eqb-true, Bool, true, false, cond, true≢false, find, length, List, [], ◌∷◌, ◌++◌, Some, is_some, map}
 use Rattle.std.specs.Prelude.{if◌then◌else◌, unwrap_or}
 use Rattle.vt_spec.specs.Machine.Attach.{Copies, attach, copy_at, graft_of, parts_of, twig_of}
@@ -29,23 +31,7 @@ use Rattle.vt_spec.proofs.Worlds.{filesystems-taken_away, number-mount_in, numbe
 module _ (world : World ℕ) (gone : List ℕ) where
   taken_view : (number : ℕ) → KeepsView (mount_numbered nat_eq world number)
       (mount_numbered nat_eq (taken_away nat_eq world gone) number)
-  taken_view number = by (is_going nat_eq gone number) refl
-    where
-      by : (b : Bool) → is_going nat_eq gone number ≡ b
-          → KeepsView (mount_numbered nat_eq world number)
-          (mount_numbered nat_eq (taken_away nat_eq world gone) number)
-      by true e =
-          subst (KeepsView (mount_numbered nat_eq world number)) (sym (taken_are_detached world gone number e))
-          (record { filesystem = refl; root = refl; namespace = λ own in_it. refl })
-      by false e =
-          let kept = others_are_kept world gone number e in
-          record {
-            filesystem = kept.filesystem;
-            root = kept.root;
-            namespace = λ own in_it.
-                ap (λ n. is_in own (record (mount_numbered nat_eq world number) { namespace = n })) kept.namespace
-                ∙ in_it;
-          }
+  taken_view number = grind (arith, common_steps, taken_are_detached, others_are_kept)
 
   pub taken_seen : KeepsWhatIsSeen world (taken_away nat_eq world gone)
   taken_seen =
@@ -54,11 +40,7 @@ module _ (world : World ℕ) (gone : List ℕ) where
       (λ number is. taken_view number)
 
 lazy_step : (world : World ℕ) (mount : Mount ℕ) → KeepsWhatIsSeen world (unmounted_if_there nat_eq world mount)
-lazy_step world mount = by (is_some (mount_numbered nat_eq world mount.number).namespace)
-  where
-    by : (b : Bool) → KeepsWhatIsSeen world (if b then unmounted nat_eq world mount.number else world)
-    by true = taken_seen world (going nat_eq world (mount_numbered nat_eq world mount.number))
-    by false = same_seen world
+lazy_step world mount = grind (arith, common_steps, taken_seen, same_seen)
 
 lazy_steps : (mounts : List (Mount ℕ)) (world : World ℕ)
     → KeepsWhatIsSeen world (folded (unmounted_if_there nat_eq) world mounts)
@@ -103,19 +85,7 @@ module _ (filesystem : Filesystem ℕ) where
       → KeepsKind ((numbered number list).files.tree.node k)
       ((numbered number (list ++ (filesystem ∷ []))).files.tree.node k)
   added_keeps [] number k test e = absurd (true≢false (sym e))
-  added_keeps (first ∷ rest) number k test e = by (nat_eq number first.number) e (added_keeps rest number k test)
-    where
-      by : (b : Bool)
-          → holds_of test (kind_seen
-          ((unwrap_or (cond b (Some first) (find (λ f. nat_eq number f.number) rest))
-          (no_filesystem number)).files.tree.node k)) ≡ true
-          → (holds_of test (kind_seen ((numbered number rest).files.tree.node k)) ≡ true
-          → holds_of test (kind_seen ((numbered number (rest ++ (filesystem ∷ []))).files.tree.node k)) ≡ true)
-          → holds_of test (kind_seen
-          ((unwrap_or (cond b (Some first) (find (λ f. nat_eq number f.number) (rest ++ (filesystem ∷ []))))
-          (no_filesystem number)).files.tree.node k)) ≡ true
-      by true h later = h
-      by false h later = later h
+  added_keeps (first ∷ rest) number k test e = grind (arith, common_steps, added_keeps rest number k test)
 
   pub added_seen : (world : World ℕ) → KeepsWhatIsSeen world (with_new_filesystem world filesystem)
   added_seen world =
@@ -165,14 +135,7 @@ flags_seen world one flags =
 -- The root is pivoted
 module _ (root new : Mount ℕ) (put : Location ℕ) where
   pub pivoted_view : (mount : Mount ℕ) → KeepsView mount (pivoted_mount nat_eq root new put mount)
-  pivoted_view mount = by (nat_eq mount.number new.number) (nat_eq mount.number root.number)
-    where
-      by : (a b : Bool)
-          → KeepsView mount (if a then (record mount { mount_point = root.mount_point }) else
-          (if b then (record mount { mount_point = Some put }) else mount))
-      by true b = record { filesystem = refl; root = refl; namespace = λ own e. e }
-      by false true = record { filesystem = refl; root = refl; namespace = λ own e. e }
-      by false false = same_view mount
+  pivoted_view mount = grind (arith, common_steps, same_view)
 
   pub pivoted_seen : (world : World ℕ) (namespace : ℕ)
       → KeepsWhatIsSeen world (pivoted nat_eq world namespace root new put)
@@ -190,20 +153,18 @@ module _ (root new : Mount ℕ) (put : Location ℕ) where
 pub copied_seen : (world after : World ℕ) (copies : List (Mount ℕ)) → after.mounts ≡ world.mounts ++ copies
     → after.filesystems ≡ world.filesystems → KeepsWhatIsSeen world after
 copied_seen world after copies mounts filesystems =
-    seen_on world (with_mounts world (world.mounts ++ copies)) after
-    (seen_by_mounts world (with_mounts world (world.mounts ++ copies)) refl
-    (λ number is.
-    is_among_numbers (numbers_of (world.mounts ++ copies)) number
-    (numbered_in_front world.mounts number (among_numbers (numbers_of world.mounts) number is)))
-    (λ number is. subst (KeepsView (mount_numbered nat_eq world number))
-    (sym (found-append world.mounts copies number is))
-    (same_view (mount_numbered nat_eq world number))))
-    (seen_alike (with_mounts world (world.mounts ++ copies)) after mounts filesystems)
-  where
-    numbered_in_front : (list : List (Mount ℕ)) (number : ℕ) → Among number (numbers_of list)
-        → Among number (numbers_of (list ++ copies))
-    numbered_in_front [] number m = absurd m
-    numbered_in_front (first ∷ rest) number m = ⊎_elim inl (λ later. inr (numbered_in_front rest number later)) m
+    grind (
+      arith,
+      common_steps,
+      seen_on,
+      seen_by_mounts,
+      is_among_numbers,
+      among_numbers (numbers_of world.mounts),
+      found-append world.mounts copies,
+      same_view,
+      seen_alike (with_mounts world (world.mounts ++ copies)) after mounts
+          filesystems,
+    )
 
 -- A tree of mounts moves: it is all in one namespace
 module _ (world : World ℕ) (one : OneNumberAMount world.mounts)

@@ -1,5 +1,7 @@
 -- A change of a tree keeps each inode that is there, and its kind; so do changes of filesystems in a world without
 -- overlays.
+use Rattle.std.proofs.Common.{arith}
+use Rattle.std.proofs.lemmas.Grind.{common_steps}
 use Rattle.std.proofs.Common.{◌≡◌, refl, sym, ap, subst, ◌∙◌, ◌⊎◌, inl, inr, ⊎_elim, ℕ, nat_eq, eqb-true, eq-eqb, Bool, true, false, cond, true≢false, find, flat_map, List, [], ◌∷◌, ◌++◌, Option, Some, None, map}
 use Rattle.std.specs.Prelude.{All, unwrap_or, ⊤}
 use Rattle.vt_spec.specs.declared.attributes.Attr.{Attr}
@@ -44,13 +46,7 @@ kind-without_entry name (Some node) =
 
 pub kind-with_bytes : (bytes : List ℕ) (o : Option (Node ℕ)) → kind_seen (node_with_bytes bytes o) ≡ kind_seen o
 kind-with_bytes bytes None = refl
-kind-with_bytes bytes (Some node) = by node.content
-  where
-    by : (content : Content ℕ) → Some (kind_of (with_bytes content bytes)) ≡ Some (kind_of content)
-    by (Directory parent old opaque) = refl
-    by (Regular old) = refl
-    by (Symlink text) = refl
-    by Whiteout = refl
+kind-with_bytes bytes (Some node) = grind (arith, common_steps)
 
 pub kind-with_attr : (attr : Attr) (o : Option (Node ℕ)) → kind_seen (node_with_attr attr o) ≡ kind_seen o
 kind-with_attr attr None = refl
@@ -58,23 +54,11 @@ kind-with_attr attr (Some node) = refl
 
 pub kind-with_mark : (opaque : Bool) (o : Option (Node ℕ)) → kind_seen (node_with_mark opaque o) ≡ kind_seen o
 kind-with_mark opaque None = refl
-kind-with_mark opaque (Some node) = by node.content
-  where
-    by : (content : Content ℕ) → Some (kind_of (content_with_mark opaque content)) ≡ Some (kind_of content)
-    by (Directory parent old mark) = refl
-    by (Regular old) = refl
-    by (Symlink text) = refl
-    by Whiteout = refl
+kind-with_mark opaque (Some node) = grind (arith, common_steps)
 
 pub kind-with_parent : (parent : ℕ) (o : Option (Node ℕ)) → kind_seen (node_with_parent parent o) ≡ kind_seen o
 kind-with_parent parent None = refl
-kind-with_parent parent (Some node) = by node.content
-  where
-    by : (content : Content ℕ) → Some (kind_of (content_with_parent parent content)) ≡ Some (kind_of content)
-    by (Directory other old mark) = refl
-    by (Regular old) = refl
-    by (Symlink text) = refl
-    by Whiteout = refl
+kind-with_parent parent (Some node) = grind (arith, common_steps)
 
 -- Changes of a tree
 abbrev pub SameKinds : FileTree ℕ → FileTree ℕ → Type 0
@@ -109,13 +93,7 @@ MakesNew files (CopyUp object) = ⊤
 
 pub keeps-with_inode : (files : FileTree ℕ) (number : ℕ) (node : Node ℕ) → files.tree.node number ≡ None
     → (k : ℕ) → KeepsKind (files.tree.node k) ((with_inode nat_eq files number node).tree.node k)
-keeps-with_inode files number node none k test e = by (nat_eq k number) refl
-  where
-    by : (b : Bool) → nat_eq k number ≡ b → holds_of test (kind_seen (cond b (Some node) (files.tree.node k))) ≡ true
-    by true same =
-        absurd (true≢false (sym e ∙ ap (λ n. holds_of test (kind_seen (files.tree.node n))) (eqb-true k number same)
-        ∙ ap (λ o. holds_of test (kind_seen o)) none))
-    by false other = e
+keeps-with_inode files number node none k test e = grind (arith, common_steps, true≢false, eqb-true)
 
 pub changes_keep_kinds : (files : FileTree ℕ) (change : Change ℕ) → MakesNew files change
     → (k : ℕ) → KeepsKind (files.tree.node k) ((changed nat_eq files change).tree.node k)
@@ -170,19 +148,7 @@ module _ (new : Filesystem ℕ) where
       → numbered number (replaced list) ≡ numbered number list
   found_other [] number other = refl
   found_other (first ∷ rest) number other =
-      ap (λ n. unwrap_or (cond (nat_eq number n) (Some (replaced_if_numbered nat_eq new first))
-      (find (λ f. nat_eq number f.number) (replaced rest))) (no_filesystem number))
-      (number-replaced_if_numbered new first)
-      ∙ by (nat_eq number first.number) refl (found_other rest number other)
-    where
-      by : (b : Bool) → nat_eq number first.number ≡ b → numbered number (replaced rest) ≡ numbered number rest
-          → unwrap_or (cond b (Some (replaced_if_numbered nat_eq new first))
-          (find (λ f. nat_eq number f.number) (replaced rest))) (no_filesystem number)
-          ≡ unwrap_or (cond b (Some first) (find (λ f. nat_eq number f.number) rest)) (no_filesystem number)
-      by true e later =
-          ap (λ b. cond b new first)
-          (ap (nat_eq new.number) (sym (eqb-true number first.number e)) ∙ other)
-      by false e later = later
+      grind (arith, common_steps, number-replaced_if_numbered new first, found_other rest number other, eqb-true)
 
   -- it is found, or none was there
   pub found_new : (list : List (Filesystem ℕ))
@@ -190,52 +156,13 @@ module _ (new : Filesystem ℕ) where
       ⊎ ((numbered new.number (replaced list) ≡ no_filesystem new.number)
       × (numbered new.number list ≡ no_filesystem new.number))
   found_new [] = inr (refl, refl)
-  found_new (first ∷ rest) = by (nat_eq new.number first.number) refl (found_new rest)
-    where
-      head : (f : Filesystem ℕ) (b : Bool) → nat_eq new.number f.number ≡ b → (list : List (Filesystem ℕ))
-          → numbered new.number (f ∷ list) ≡ unwrap_or
-          (cond b (Some f) (find (λ g. nat_eq new.number g.number) list)) (no_filesystem new.number)
-      head f b e list = ap
-          (λ c. unwrap_or (cond c (Some f) (find (λ g. nat_eq new.number g.number) list)) (no_filesystem new.number)) e
-
-      by : (b : Bool) → nat_eq new.number first.number ≡ b
-          → (numbered new.number (replaced rest) ≡ new)
-          ⊎ ((numbered new.number (replaced rest) ≡ no_filesystem new.number)
-          × (numbered new.number rest ≡ no_filesystem new.number))
-          → (numbered new.number (replaced (first ∷ rest)) ≡ new)
-          ⊎ ((numbered new.number (replaced (first ∷ rest)) ≡ no_filesystem new.number)
-          × (numbered new.number (first ∷ rest) ≡ no_filesystem new.number))
-      by true e later =
-          inl (ap (λ f. numbered new.number (f ∷ replaced rest)) (ap (λ b. cond b new first) e)
-          ∙ head new true (eq-eqb new.number new.number refl) (replaced rest))
-      by false e later =
-          let skip : numbered new.number (replaced (first ∷ rest)) ≡ numbered new.number (replaced rest) =
-          ap (λ f. numbered new.number (f ∷ replaced rest)) (ap (λ b. cond b new first) e)
-          ∙ head first false e (replaced rest) in
-          ⊎_elim (λ is. inl (skip ∙ is)) (λ none. inr (skip ∙ none.0, head first false e rest ∙ none.1)) later
+  found_new (first ∷ rest) = grind (arith, common_steps, found_new rest, eq-eqb)
 
   pub replaced_keeps : (list : List (Filesystem ℕ))
       → ((k : ℕ) → KeepsKind ((numbered new.number list).files.tree.node k) (new.files.tree.node k))
       → (number k : ℕ) → KeepsKind ((numbered number list).files.tree.node k)
       ((numbered number (replaced list)).files.tree.node k)
-  replaced_keeps list keeps number k test e = by (nat_eq new.number number) refl
-    where
-      itself : holds_of test (kind_seen ((numbered new.number list).files.tree.node k)) ≡ true
-          → holds_of test (kind_seen ((numbered new.number (replaced list)).files.tree.node k)) ≡ true
-      itself h =
-          ⊎_elim (λ is. ap (λ (f : Filesystem ℕ). holds_of test (kind_seen (f.files.tree.node k))) is ∙ keeps k test h)
-          (λ none. ap (λ (f : Filesystem ℕ). holds_of test (kind_seen (f.files.tree.node k))) (none.0 ∙ sym none.1)
-          ∙ h)
-          (found_new list)
-
-      by : (b : Bool) → nat_eq new.number number ≡ b
-          → holds_of test (kind_seen ((numbered number (replaced list)).files.tree.node k)) ≡ true
-      by true same =
-          let is : new.number ≡ number = eqb-true new.number number same in
-          ap (λ n. holds_of test (kind_seen ((numbered n (replaced list)).files.tree.node k))) (sym is)
-          ∙ itself (ap (λ n. holds_of test (kind_seen ((numbered n list).files.tree.node k))) is ∙ e)
-      by false other = ap (λ (f : Filesystem ℕ). holds_of test (kind_seen (f.files.tree.node k)))
-          (found_other list number other) ∙ e
+  replaced_keeps list keeps number k test e = grind (arith, common_steps, found_new, eqb-true, found_other)
 
 -- A change at a location
 module _ (fresh : Fresh ℕ) (world : World ℕ) (plain : IsPlain world) (location : Location ℕ)

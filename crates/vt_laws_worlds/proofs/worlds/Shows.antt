@@ -1,4 +1,6 @@
 -- What mounts show, and where they stand, stays there when mounts are taken away, changed or copied.
+use Rattle.std.proofs.Common.{arith}
+use Rattle.std.proofs.lemmas.Grind.{common_steps}
 use Rattle.std.proofs.Common.{◌≡◌, refl, sym, ap, subst, ◌∙◌, ⊎_elim, ℕ, nat_eq, eqb-true, eq-eqb, Bool, true, false, true≢false, not, List, [], ◌∷◌, ◌&&◌, ◌||◌, Option, Some, None, is_some, length, map, option_map}
 use Rattle.std.specs.Prelude.{if◌then◌else◌, option_to_list, unwrap_or}
 use Rattle.std.specs.List.{list_all}
@@ -110,15 +112,7 @@ module _ (world : World ℕ) (is : IsWorld nat_eq world) where
   placed_is_attached : (mount : Mount ℕ) → Among mount world.mounts → (place : Location ℕ)
       → mount.mount_point ≡ Some place
       → is_some mount.namespace ≡ true
-  placed_is_attached mount m place at = by (is_some mount.namespace) refl
-    where
-      by : (b : Bool) → is_some mount.namespace ≡ b → is_some mount.namespace ≡ true
-      by true e = e
-      by false e =
-          absurd (true≢false
-          (sym (among_from_list_all is_nowhere_or_attached world.mounts is.mounts.nowhere mount m)
-          ∙ ap (λ b. b || (not (is_some mount.mount_point) && is_private mount.propagation)) e
-          ∙ ap (λ o. not (is_some o) && is_private mount.propagation) at))
+  placed_is_attached mount m place at = grind (arith, common_steps, true≢false, among_from_list_all)
 
   pub place_listed : (mount : Mount ℕ) → Among mount world.mounts → (place : Location ℕ)
       → mount.mount_point ≡ Some place

@@ -1,4 +1,5 @@
 -- Binds, new mounts and moves leave mounts that show what is there, and stand on what is there.
+use Rattle.std.proofs.lemmas.Grind.{common_steps}
 use Rattle.std.proofs.Common.{◌≡◌, refl, sym, ap, subst, ◌∙◌, ◌⊎◌, inl, inr, ⊎_elim, ℕ, zero, suc, ◌+◌, ◌*◌, arith, nat_eq, eqb-true, eq-eqb, Bool, true, false, cond, true≢false, find, flat_map, filter, List, [], ◌∷◌, ◌++◌, Some, None, length, map}
 use Rattle.std.specs.Prelude.{unwrap_or}
 use Rattle.vt_spec.specs.Machine.Attach.{attach, bind_tree, bindable_children, bindable_tree, bound, bound_at, is_top, stands_under, twig_of}
@@ -209,16 +210,7 @@ module _ (world : World ℕ) (is : IsWorld nat_eq world) (fresh : Fresh ℕ) (se
   larger = with_new_filesystem world (plain_filesystem nat_eq fresh)
 
   not_used : (k : ℕ) (number : ℕ) → Among number (used_by_filesystem filesystem) → nat_eq (odds fresh k) number ≡ false
-  not_used k number m =
-      ⊎_elim (λ e. ap (nat_eq (odds fresh k)) e ∙ served-differ world fresh serves (2 * k + 1) 0 (not_none k))
-      (λ later. ⊎_elim (λ e. ap (nat_eq (odds fresh k)) e ∙ served-differ world fresh serves (2 * k + 1) 2 (not_two k))
-      (λ none. absurd none) later) m
-    where
-      not_none : (j : ℕ) → 2 * j + 1 ≡ 0 → ⊥
-      not_none j e = omega (arith, e)
-
-      not_two : (j : ℕ) → 2 * j + 1 ≡ 2 → ⊥
-      not_two j e = omega (arith, e)
+  not_used k number m = grind (arith, common_steps, served-differ)
 
   pub odds_serve : Serves nat_eq larger (odds fresh)
   odds_serve = record {

@@ -1,4 +1,6 @@
 -- The groups that a line names are at most 32.
+use Rattle.std.proofs.Common.{arith}
+use Rattle.std.proofs.lemmas.Grind.{common_steps}
 use Rattle.std.proofs.Common.{◌≡◌, refl, sym, ap, ◌∙◌, ℕ, Bool, true, false, cond, List, [], ◌∷◌, Option, Some, None, option_map, suc}
 use Rattle.std.specs.Prelude.{codes, length, nat_le, unwrap_or, ⊤}
 use Rattle.std.specs.Str.{bytes_eq}
@@ -19,14 +21,7 @@ HasLength n (Some list) = length list ≡ n
 
 each_has_length : {A B : Type 0} (read : A → Option B) (list : List A) → HasLength (length list) (each_of read list)
 each_has_length read [] = refl
-each_has_length {B = B} read (a ∷ rest) = by (read a) (each_of read rest) (each_has_length read rest)
-  where
-    by : (o : Option B) (others : Option (List B)) → HasLength (length rest) others
-        → HasLength (suc (length rest)) (with_first o others)
-    by None None h = tt
-    by None (Some others) h = tt
-    by (Some b) None h = tt
-    by (Some b) (Some others) h = ap suc h
+each_has_length {B = B} read (a ∷ rest) = grind (arith, common_steps, each_has_length read rest)
 
 few_numbers : Option (List ℕ) → Bool
 few_numbers None = true
@@ -69,11 +64,7 @@ few_word : {A : Type 0} (read : List ℕ → Option A) (next : A → List (List 
     → ((word : List ℕ) (rest : List (List ℕ)) (a : A) → read word ≡ Some a → Few (next a rest))
     → Few (word_then read next words)
 few_word read next [] h = record { passes = refl }
-few_word {A = A} read next (word ∷ rest) h = by (read word) refl
-  where
-    by : (o : Option A) → read word ≡ o → Few (then_some o (λ a. next a rest))
-    by None e = record { passes = refl }
-    by (Some a) e = h word rest a e
+few_word {A = A} read next (word ∷ rest) h = grind (arith, common_steps)
 
 few_end : (call : Call) (words : List (List ℕ)) → names_few_groups call ≡ true → Few (no_more call words)
 few_end call [] h = record { passes = h }
@@ -82,11 +73,7 @@ few_end call (word ∷ rest) h = record { passes = refl }
 few_may_have : {A : Type 0} (read : List ℕ → Option A) (call : Option A → Call) (words : List (List ℕ))
     → ((o : Option A) → names_few_groups (call o) ≡ true) → Few (may_have read call words)
 few_may_have read call [] h = record { passes = h None }
-few_may_have {A = A} read call (word ∷ rest) h = by (read word)
-  where
-    by : (o : Option A) → Few (then_some o (λ a. no_more (call (Some a)) rest))
-    by None = record { passes = refl }
-    by (Some a) = few_end (call (Some a)) rest (h (Some a))
+few_may_have {A = A} read call (word ∷ rest) h = grind (arith, common_steps, few_end)
 
 abbrev forking : ℕ → ℕ → List ℕ → CapabilityWord → Call
 forking uid gid groups capabilities =
@@ -264,12 +251,7 @@ few_asked grammar (Some (Someone task)) (name ∷ words) =
     by true (Some call) h = when_there (grammar.has call) call h.passes
     by false o h = refl
 few_asked grammar (Some Nobody) [] = refl
-few_asked grammar (Some Nobody) (name ∷ words) = by (grammar.directs name) (directive_words name words)
-  where
-    by : (b : Bool) (o : Option Directive) → request_names_few (cond b (option_map Asking o) None) ≡ true
-    by true None = refl
-    by true (Some directive) = refl
-    by false o = refl
+few_asked grammar (Some Nobody) (name ∷ words) = grind (arith, common_steps)
 
 few_texts : (grammar : Grammar) (o : Option (List (List ℕ)))
     → request_names_few (then_some o (request_of_texts grammar)) ≡ true

@@ -1,4 +1,6 @@
 -- A group that loses its last member hands its slaves on.
+use Rattle.std.proofs.Common.{arith}
+use Rattle.std.proofs.lemmas.Grind.{common_steps}
 use Rattle.std.proofs.Common.{◌≡◌, refl, sym, ap, ◌∙◌, ⊎_elim, ℕ, suc, nat_eq, eqb-true, eq-eqb, Bool, true, false, cond, not, ◌||◌, List, [], ◌∷◌, find, length, true≢false, Option, Some, None, is_some, option_to_list}
 use Rattle.std.specs.List.{list_all, list_any}
 use Rattle.std.proofs.lemmas.Bool.{and_parts, or_cases, or_parts, cases_Bool}
@@ -15,13 +17,7 @@ use Rattle.vt_spec.proofs.Lists.{map_alike}
 find_after_start : (p : ℕ → Bool) (next : ℕ → Option ℕ) (n a : ℕ) → p a ≡ false
     → list_all p (option_to_list (next a)) ≡ true
     → find p (chain (suc n) next a) ≡ next a
-find_after_start p next n a e above = by (next a) above
-  where
-    by : (o : Option ℕ) → list_all p (option_to_list o) ≡ true
-        → find p (elim o [ None ↦ a ∷ [] | Some b ↦ a ∷ chain n next b ]) ≡ o
-    by None h = ap (λ b. cond b (Some a) None) e
-    by (Some b) h = ap (λ c. cond c (Some a) (find p (chain n next b))) e
-        ∙ find-chain_start p next n b (and_parts (p b) true h).0
+find_after_start p next n a e above = grind (arith, common_steps, find-chain_start, and_parts)
 
 module _ (world : World ℕ) (group : ℕ) (live : GroupsLiveBut group world)
     (empty : has_members nat_eq world.mounts group ≡ false) where
@@ -32,56 +28,20 @@ module _ (world : World ℕ) (group : ℕ) (live : GroupsLiveBut group world)
   heir_itself other e = find-chain_start lives world.master (length world.mounts) other e
 
   heir_of_group : heir nat_eq world (Some group) ≡ world.master group
-  heir_of_group = by world.mounts refl
-    where
-      by : (mounts : List (Mount ℕ)) → world.mounts ≡ mounts
-          → find lives (chain (length world.mounts) world.master group) ≡ world.master group
-      by [] e =
-          ap (λ (ms : List (Mount ℕ)). find lives (chain (length ms) world.master group)) e
-          ∙ ap (λ b. cond b (Some group) None) empty
-          ∙ none (world.master group) (ap
-          (λ ms. list_all (has_members nat_eq ms) (option_to_list (world.master group))) (sym e)
-          ∙ live.its_master)
-        where
-          none : (o : Option ℕ) → list_all (has_members nat_eq []) (option_to_list o) ≡ true → None ≡ o
-          none None h = refl
-          none (Some b) h = absurd (true≢false (sym h))
-      by (mount ∷ rest) e =
-          ap (λ (ms : List (Mount ℕ)). find lives (chain (length ms) world.master group)) e
-          ∙ find_after_start lives world.master (length rest) group empty live.its_master
+  heir_of_group = grind (arith, common_steps, true≢false, find_after_start)
 
   heir_handed_on : (o : Option ℕ) → list_all (is_group_or_lives world group) (option_to_list o) ≡ true
       → heir nat_eq world o ≡ master_handed_on group (world.master group) o
   heir_handed_on None h = refl
-  heir_handed_on (Some other) h = by (nat_eq group other) refl
-    where
-      by : (b : Bool) → nat_eq group other ≡ b
-          → heir nat_eq world (Some other) ≡ cond b (world.master group) (Some other)
-      by true e = ap (λ n. heir nat_eq world (Some n)) (sym (eqb-true group other e)) ∙ heir_of_group
-      by false e =
-          ⊎_elim (λ same. absurd (true≢false (sym (eq-eqb group other (sym (eqb-true other group same))) ∙ e)))
-          (λ has. heir_itself other has)
-          (or_cases (nat_eq other group) (lives other) (and_parts (nat_eq other group || lives other) true h).0)
+  heir_handed_on (Some other) h =
+      grind (arith, common_steps, eqb-true, heir_of_group, true≢false, eq-eqb, heir_itself, and_parts)
 
   inherited_handed_on : (kind : Propagation ℕ)
       → list_all (is_group_or_lives world group) (option_to_list (source_of kind)) ≡ true
       → inherited nat_eq world kind ≡ handed_on group (world.master group) kind
   inherited_handed_on (Shared own) h = refl
   inherited_handed_on (Slave master) h =
-      ap slave_of_heir (heir_handed_on (Some master) h) ∙ by (nat_eq group master) refl
-    where
-      by : (b : Bool) → nat_eq group master ≡ b
-          → slave_of_heir (cond b (world.master group) (Some master))
-          ≡ cond (nat_eq master group) (slave_of_heir (world.master group))
-          (Slave master)
-      by true e = ap (λ b. cond b (slave_of_heir (world.master group)) (Slave master))
-          (sym (eq-eqb master group (sym (eqb-true group master e))))
-      by false e = ap (λ b. cond b (slave_of_heir (world.master group)) (Slave master))
-          (sym (differs (nat_eq master group) refl))
-        where
-          differs : (b : Bool) → nat_eq master group ≡ b → b ≡ false
-          differs false f = refl
-          differs true f = absurd (true≢false (sym (eq-eqb group master (sym (eqb-true master group f))) ∙ e))
+      grind (arith, common_steps, heir_handed_on (Some master) h, eq-eqb, eqb-true, true≢false)
   inherited_handed_on Private h = refl
   inherited_handed_on Unbindable h = refl
 
@@ -89,12 +49,7 @@ module _ (world : World ℕ) (group : ℕ) (live : GroupsLiveBut group world)
   no_slave : (kind : Propagation ℕ) → is_lost_group nat_eq world (source_of kind) ≡ false
       → handed_on group (world.master group) kind ≡ kind
   no_slave (Shared own) h = refl
-  no_slave (Slave master) h = by (nat_eq master group) refl
-    where
-      by : (b : Bool) → nat_eq master group ≡ b
-          → cond b (slave_of_heir (world.master group)) (Slave master) ≡ Slave master
-      by true e = absurd (true≢false (sym (ap not (ap lives (eqb-true master group e) ∙ empty)) ∙ h))
-      by false e = refl
+  no_slave (Slave master) h = grind (arith, common_steps, true≢false, eqb-true)
   no_slave Private h = refl
   no_slave Unbindable h = refl
 

@@ -1,4 +1,6 @@
 -- The list of mounts after an unshare.
+use Rattle.std.proofs.Common.{arith}
+use Rattle.std.proofs.lemmas.Grind.{common_steps}
 use Rattle.std.proofs.Common.{◌≡◌, refl, sym, ap, ◌∙◌, Bool, List, [], None, eq-eqb, eqb-true, true≢false, Option, Some, cond, false, flat_map, map, nat_eq, option_map, true, unwrap_or, ℕ, ◌+◌, ◌∷◌, inl, inr}
 use Rattle.std.proofs.lemmas.List.Folds.{flat_map-map}
 use Rattle.std.proofs.lemmas.Bool.{false_from_ne_true}
@@ -63,19 +65,19 @@ module _ (world : World ℕ) (fresh : Fresh ℕ) (task : Task ℕ) (serves : Ser
 
   new_apart : (a b : Mount ℕ) → Among a copied → Among b copied
       → nat_eq (new_number a.number) (new_number b.number) ≡ nat_eq a.number b.number
-  new_apart a b m n = by (nat_eq a.number b.number) refl
-    where
-      by : (same : Bool) → nat_eq a.number b.number ≡ same
-          → nat_eq (new_number a.number) (new_number b.number) ≡ nat_eq a.number b.number
-      by true e =
-          eq-eqb (new_number a.number) (new_number b.number) (ap new_number (eqb-true a.number b.number e)) ∙ sym e
-      by false e = false_from_ne_true (nat_eq (new_number a.number) (new_number b.number)) (λ same.
-          true≢false
-          (sym (eq-eqb a.number b.number
-          (one_index copied a.number b.number (is_one_of copied a m) (is_one_of copied b n)
-          (odds-distinct fresh (served-distinct world fresh serves) (index_of nat_eq copied a.number)
-          (index_of nat_eq copied b.number)
-          (eqb-true (new_number a.number) (new_number b.number) same)))) ∙ e)) ∙ sym e
+  new_apart a b m n =
+      grind (
+        arith,
+        common_steps,
+        new_number,
+        eq-eqb,
+        eqb-true,
+        true≢false,
+        one_index,
+        is_one_of,
+        odds-distinct,
+        served-distinct,
+      )
 
   -- the parent of a mount of a namespace is in the namespace
   parent_inside : (namespace : ℕ) (mount : Mount ℕ) → Among mount (mounts_of nat_eq world namespace)
