@@ -1,4 +1,5 @@
 -- What the proofs of src/outsiders.rt use.
+pub mod AttachedGroups
 pub mod Attaching
 pub mod Binding
 pub mod ChangedWorlds
@@ -9,6 +10,7 @@ pub mod Closing
 pub mod CutTrees
 pub mod Ending
 pub mod Entering
+pub mod EveryPermit
 pub mod FilesChanged
 pub mod FilesOfCalls
 pub mod FilesStep
@@ -16,12 +18,14 @@ pub mod Filesystems
 pub mod FilesystemsStepped
 pub mod FilesystemsSwept
 pub mod FlagsSet
+pub mod InTurn
 pub mod InodesSwept
 pub mod InodesUsed
 pub mod Joining
 pub mod Lazily
 pub mod LowersChanged
 pub mod Masters
+pub mod Moving
 pub mod NumbersGrown
 pub mod Opening
 pub mod OtherMounts

@@ -2,13 +2,12 @@
 use Rattle.std.proofs.Common.{◌≡◌, refl, sym, ap, subst, ◌∙◌, inl, inr, ⊎_elim, ℕ, zero, suc, nat_eq, Bool, true, false, true≢false, List, [], ◌∷◌, ◌++◌, append-nil, ◌*◌, ◌+◌, Some, Ok, filter, length, not}
 use Rattle.vt_spec.specs.Language.Calls.{Call, MountFlags, TaskName}
 use Rattle.vt_spec.specs.Lists.{Fresh, odds}
-use Rattle.vt_spec.specs.Machine.Apply.{apply, filesystems_changed}
+use Rattle.vt_spec.specs.Machine.Apply.{apply}
 use Rattle.vt_spec.specs.Machine.Attach.{bind_tree, bindable_children, bindable_tree, bound, stands_under}
 use Rattle.vt_spec.specs.Machine.Judge.{judge_in}
 use Rattle.vt_spec.specs.Machine.Locked.{overlays}
 use Rattle.vt_spec.specs.Machine.Mounts.{Location, Mount, children, is_unbindable}
 use Rattle.vt_spec.specs.Machine.NewMounts.{new_mount, plain_filesystem}
-use Rattle.vt_spec.specs.Machine.Permits.{Permit}
 use Rattle.vt_spec.specs.Machine.Permits.Permit.{ToBind, ToMountPlain}
 use Rattle.vt_spec.specs.Machine.Sealed.{is_own_namespace}
 use Rattle.vt_spec.specs.Machine.Settled.{settled}
@@ -23,13 +22,14 @@ use Rattle.vt_laws_worlds.proofs.worlds.FitPermitsNamed.{all_permits_fit}
 use Rattle.vt_laws_later_calls.specs.Ends.{sets_type, takes_uses}
 use Rattle.vt_laws_part.specs.Seals.{IsApart}
 use Rattle.vt_laws_part.proofs.seals.ByPart.{apart_if_sealed}
-use Rattle.vt_laws_sealed.specs.Outsiders.{IsOutsidersCall, LeaveASealedSet, binds, mounts_plain}
-use Rattle.vt_laws_sealed.proofs.outsiders.Attaching.{OriginOf, attaching_leaves_apart}
+use Rattle.vt_laws_sealed.specs.Outsiders.{IsOutsidersCall}
+use Rattle.vt_laws_sealed.proofs.outsiders.AttachedGroups.{OriginOf}
+use Rattle.vt_laws_sealed.proofs.outsiders.Attaching.{attaching_leaves_apart}
 use Rattle.vt_laws_sealed.proofs.outsiders.Filesystems.{larger_overlays, larger_sees}
 use Rattle.vt_laws_sealed.proofs.outsiders.OtherMounts.{IsIn, child_in, is_other, namespace_outside}
 use Rattle.vt_laws_sealed.proofs.outsiders.OwnTasks.{caller_outside, nothing_is_swept}
 use Rattle.vt_laws_sealed.proofs.outsiders.Refusals.{leaves_apart_itself}
-use Rattle.vt_laws_sealed.proofs.outsiders.Staying.{LeavesApart, by_permit}
+use Rattle.vt_laws_sealed.proofs.outsiders.Staying.{LeavesApart}
 
 module _ (world : World ℕ) (names : List TaskName) (apart : IsApart world names) (namespace : ℕ)
     (outside : is_own_namespace nat_eq world names namespace ≡ false) where
@@ -87,7 +87,7 @@ module _ (world : World ℕ) (names : List TaskName) (apart : IsApart world name
         (subst (λ n. Among from.0 (bindable_children nat_eq world.mounts n))
         (sym (number-mount_in world.mounts source.mount)) child)) origin from.2)) m
 
-bind_leaves : (world : World ℕ) (fresh : Fresh ℕ) (names : List TaskName) (name : TaskName) (call : Call)
+pub bind_leaves : (world : World ℕ) (fresh : Fresh ℕ) (names : List TaskName) (name : TaskName) (call : Call)
     (task : Task ℕ) → IsOutsidersCall world fresh names name call → task_called world name ≡ Some task
     → (source place : Location ℕ) (recursive : Bool)
     → judge_in nat_eq fresh world task call ≡ Ok (ToBind source place recursive)
@@ -107,24 +107,11 @@ bind_leaves world fresh names name call task outsider called source place recurs
     (leaves_apart_itself world fresh names name call outsider).sees [] (sym (append-nil (overlays world)))
     (λ merged m number free. absurd m) fresh (λ k. (k, refl)) place task.namespace outside named.2.own
     (bind_tree nat_eq world source recursive)
-    (bind_origins world names apart task.namespace outside fresh source named.1 recursive))
-
-by_bind : (world : World ℕ) (fresh : Fresh ℕ) (names : List TaskName) (name : TaskName) (call : Call)
-    (task : Task ℕ) → IsOutsidersCall world fresh names name call → task_called world name ≡ Some task
-    → (permit : Permit ℕ) → judge_in nat_eq fresh world task call ≡ Ok permit → binds permit ≡ true
-    → LeavesApart world (settled nat_eq (apply nat_eq fresh world task permit).world) names
-    (filesystems_changed nat_eq world permit)
-by_bind world fresh names name call task outsider called (ToBind source place recursive) judged e =
-    bind_leaves world fresh names name call task outsider called source place recursive judged
-by_bind world fresh names name call task outsider called permit judged e = absurd (true≢false (sym e))
-
-pub binds_leave_a_sealed_set : LeaveASealedSet binds
-binds_leave_a_sealed_set =
-    by_permit binds (λ world fresh names name call task permit outsider called judged these.
-    by_bind world fresh names name call task outsider called permit judged these)
+    (bind_origins world names apart task.namespace outside fresh source named.1 recursive) false
+    (λ moving. absurd (true≢false (sym moving))))
 
 -- A new mount: mount(2) of a tmpfs
-plain_leaves : (world : World ℕ) (fresh : Fresh ℕ) (names : List TaskName) (name : TaskName) (call : Call)
+pub plain_leaves : (world : World ℕ) (fresh : Fresh ℕ) (names : List TaskName) (name : TaskName) (call : Call)
     (task : Task ℕ) → IsOutsidersCall world fresh names name call → task_called world name ≡ Some task
     → (place : Location ℕ) (flags : MountFlags)
     → judge_in nat_eq fresh world task call ≡ Ok (ToMountPlain place flags)
@@ -149,18 +136,4 @@ plain_leaves world fresh names name call task outsider called place flags judged
     task.namespace outside named.own (new_mount added.number added.files.tree.root flags ∷ [])
     (λ origin m. ⊎_elim
     (λ e. inr (ap (λ (x : Mount ℕ). x.propagation) e, 0, ap (λ (x : Mount ℕ). x.filesystem) e))
-    (λ none. absurd none) m))
-
-by_plain : (world : World ℕ) (fresh : Fresh ℕ) (names : List TaskName) (name : TaskName) (call : Call)
-    (task : Task ℕ) → IsOutsidersCall world fresh names name call → task_called world name ≡ Some task
-    → (permit : Permit ℕ) → judge_in nat_eq fresh world task call ≡ Ok permit → mounts_plain permit ≡ true
-    → LeavesApart world (settled nat_eq (apply nat_eq fresh world task permit).world) names
-    (filesystems_changed nat_eq world permit)
-by_plain world fresh names name call task outsider called (ToMountPlain place flags) judged e =
-    plain_leaves world fresh names name call task outsider called place flags judged
-by_plain world fresh names name call task outsider called permit judged e = absurd (true≢false (sym e))
-
-pub new_mounts_leave_a_sealed_set : LeaveASealedSet mounts_plain
-new_mounts_leave_a_sealed_set =
-    by_permit mounts_plain (λ world fresh names name call task permit outsider called judged these.
-    by_plain world fresh names name call task outsider called permit judged these)
+    (λ none. absurd none) m) false (λ moving. absurd (true≢false (sym moving))))

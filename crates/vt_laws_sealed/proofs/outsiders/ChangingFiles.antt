@@ -1,5 +1,5 @@
 -- Files that others change, make and write to: chmod(2), mkdir(2), link(2), unlink(2), open(2), write(2), pwrite(2).
-use Rattle.std.proofs.Common.{◌≡◌, refl, sym, ap, subst, ◌∙◌, ℕ, nat_eq, Bool, true, false, true≢false, List, [], ◌∷◌, Some, Ok}
+use Rattle.std.proofs.Common.{◌≡◌, refl, sym, ap, subst, ◌∙◌, ℕ, nat_eq, Bool, true, false, List, [], ◌∷◌, Some, Ok}
 use Rattle.vt_spec.specs.Language.Calls.{Access, Call, TaskName}
 use Rattle.vt_spec.specs.Language.Changes.{Change}
 use Rattle.vt_spec.specs.Language.Changes.Change.{CopyUp, Make, SetBytes}
@@ -31,12 +31,12 @@ use Rattle.vt_laws_overlay_permits.specs.Asked.{change_asked}
 use Rattle.vt_laws_overlay_permits.proofs.kept.KeptOverlays.{permits_make_their_change}
 use Rattle.vt_laws_overlay_permits.proofs.worlds.EveryCall.{overlays_kept, under}
 use Rattle.vt_laws_part.proofs.seals.ByPart.{apart_if_sealed}
-use Rattle.vt_laws_sealed.specs.Outsiders.{IsOutsidersCall, LeaveASealedSet, changes_files}
+use Rattle.vt_laws_sealed.specs.Outsiders.{IsOutsidersCall}
 use Rattle.vt_laws_sealed.proofs.outsiders.ChangesGround.{granted_theirs}
 use Rattle.vt_laws_sealed.proofs.outsiders.FilesOfCalls.{changed_files_leave}
 use Rattle.vt_laws_sealed.proofs.outsiders.Opening.{descriptor_leaves, open_outside}
 use Rattle.vt_laws_sealed.proofs.outsiders.Refusals.{leaves_apart_itself}
-use Rattle.vt_laws_sealed.proofs.outsiders.Staying.{LeavesApart, by_permit}
+use Rattle.vt_laws_sealed.proofs.outsiders.Staying.{LeavesApart}
 use Rattle.vt_laws_sealed.proofs.outsiders.Sweeping.{sweep_leaves_apart, sweeping_leaves_apart}
 
 -- a call that is granted a change mounts no overlay
@@ -118,7 +118,8 @@ module _ (world : World ℕ) (fresh : Fresh ℕ) (names : List TaskName) (name :
       ≡ record (with_open file access) { filesystems = changed.filesystems }
   opened_beside changed same file access = ap (λ w. with_task w (with_descriptor task file access)) same
 
-  open_leaves : (file : Location ℕ) (access : Access) → judge_in nat_eq fresh world task call ≡ Ok (ToOpen file access)
+  pub open_leaves : (file : Location ℕ) (access : Access)
+      → judge_in nat_eq fresh world task call ≡ Ok (ToOpen file access)
       → LeavesApart world (settled nat_eq (apply nat_eq fresh world task (ToOpen file access)).world) names
       (filesystems_changed nat_eq world (ToOpen file access))
   open_leaves file access judged = by (is_copied_up nat_eq world file access) refl
@@ -159,7 +160,7 @@ module _ (world : World ℕ) (fresh : Fresh ℕ) (names : List TaskName) (name :
           not_copied =
               ap (λ b. with_task (with_copy nat_eq b fresh world file) (with_descriptor task file access)) e
 
-  new_leaves : (directory : Location ℕ) (new_name : List ℕ) (node : Node ℕ) (access : Access)
+  pub new_leaves : (directory : Location ℕ) (new_name : List ℕ) (node : Node ℕ) (access : Access)
       → judge_in nat_eq fresh world task call ≡ Ok (ToOpenNew directory new_name node access)
       → LeavesApart world (settled nat_eq (apply nat_eq fresh world task
       (ToOpenNew directory new_name node access)).world) names (changed_at nat_eq world directory)
@@ -177,34 +178,39 @@ module _ (world : World ℕ) (fresh : Fresh ℕ) (names : List TaskName) (name :
       refl
       (descriptor_leaves world fresh names name call task outsider called file access theirs.0)
 
--- By the permit
-files_leave : (world : World ℕ) (fresh : Fresh ℕ) (names : List TaskName) (name : TaskName) (call : Call)
+-- A change of attributes and bytes, a new name, and a write
+pub attributes_leave : (world : World ℕ) (fresh : Fresh ℕ) (names : List TaskName) (name : TaskName) (call : Call)
     (task : Task ℕ) → IsOutsidersCall world fresh names name call → task_called world name ≡ Some task
-    → (permit : Permit ℕ) → judge_in nat_eq fresh world task call ≡ Ok permit → changes_files permit ≡ true
-    → LeavesApart world (settled nat_eq (apply nat_eq fresh world task permit).world) names
-    (filesystems_changed nat_eq world permit)
-files_leave world fresh names name call task outsider called (ToChange location change) judged e =
+    → (location : Location ℕ) (change : Change ℕ)
+    → judge_in nat_eq fresh world task call ≡ Ok (ToChange location change)
+    → LeavesApart world (settled nat_eq (apply nat_eq fresh world task (ToChange location change)).world) names
+    (filesystems_changed nat_eq world (ToChange location change))
+attributes_leave world fresh names name call task outsider called location change judged =
     change_alone world fresh names name call task outsider called (ToChange location change) judged location change refl
     (the_rest_stays fresh world location change) refl
-files_leave world fresh names name call task outsider called (ToMake directory new_name node) judged e =
+
+pub making_leaves : (world : World ℕ) (fresh : Fresh ℕ) (names : List TaskName) (name : TaskName) (call : Call)
+    (task : Task ℕ) → IsOutsidersCall world fresh names name call → task_called world name ≡ Some task
+    → (directory : Location ℕ) (new_name : List ℕ) (node : Node ℕ)
+    → judge_in nat_eq fresh world task call ≡ Ok (ToMake directory new_name node)
+    → LeavesApart world (settled nat_eq (apply nat_eq fresh world task (ToMake directory new_name node)).world) names
+    (filesystems_changed nat_eq world (ToMake directory new_name node))
+making_leaves world fresh names name call task outsider called directory new_name node judged =
     change_alone world fresh names name call task outsider called (ToMake directory new_name node) judged directory
     (Make directory.node new_name (evens fresh 0) node) refl
     (the_rest_stays (odds fresh) world directory (Make directory.node new_name (evens fresh 0) node)) refl
-files_leave world fresh names name call task outsider called (ToOpen file access) judged e =
-    open_leaves world fresh names name call task outsider called file access judged
-files_leave world fresh names name call task outsider called (ToOpenNew directory new_name node access) judged e =
-    new_leaves world fresh names name call task outsider called directory new_name node access judged
-files_leave world fresh names name call task outsider called (ToWritePart file offset []) judged e =
+
+pub writing_leaves : (world : World ℕ) (fresh : Fresh ℕ) (names : List TaskName) (name : TaskName) (call : Call)
+    (task : Task ℕ) → IsOutsidersCall world fresh names name call → task_called world name ≡ Some task
+    → (file : Location ℕ) (offset : ℕ) (bytes : List ℕ)
+    → judge_in nat_eq fresh world task call ≡ Ok (ToWritePart file offset bytes)
+    → LeavesApart world (settled nat_eq (apply nat_eq fresh world task (ToWritePart file offset bytes)).world) names
+    (filesystems_changed nat_eq world (ToWritePart file offset bytes))
+writing_leaves world fresh names name call task outsider called file offset [] judged =
     subst (λ w. LeavesApart world w names []) (sym outsider.is.nothing_unused)
     (leaves_apart_itself world fresh names name call outsider)
-files_leave world fresh names name call task outsider called (ToWritePart file offset (byte ∷ bytes)) judged e =
+writing_leaves world fresh names name call task outsider called file offset (byte ∷ bytes) judged =
     change_alone world fresh names name call task outsider called (ToWritePart file offset (byte ∷ bytes)) judged file
     (SetBytes file.node (overwritten offset (byte ∷ bytes) (bytes_in (node_at nat_eq world file)))) refl
     (the_rest_stays fresh world file
     (SetBytes file.node (overwritten offset (byte ∷ bytes) (bytes_in (node_at nat_eq world file))))) refl
-files_leave world fresh names name call task outsider called permit judged e = absurd (true≢false (sym e))
-
-pub files_leave_a_sealed_set : LeaveASealedSet changes_files
-files_leave_a_sealed_set =
-    by_permit changes_files (λ world fresh names name call task permit outsider called judged these.
-    files_leave world fresh names name call task outsider called permit judged these)

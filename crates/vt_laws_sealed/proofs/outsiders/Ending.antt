@@ -1,35 +1,31 @@
 -- Namespaces of others that end with their last tasks: _exit(2).
-use Rattle.std.proofs.Common.{◌≡◌, refl, sym, ap, subst, ◌∙◌, inl, ℕ, nat_eq, Bool, true, false, true≢false, List, [], Option, Some, None, Ok, filter, map, not, ◌&&◌, eqb-true}
+use Rattle.std.proofs.Common.{◌≡◌, refl, sym, ap, subst, ◌∙◌, inl, ℕ, nat_eq, Bool, true, false, true≢false, List, [], Option, Some, None, filter, map, not, ◌&&◌, eqb-true}
 use Rattle.std.specs.List.{list_any}
 use Rattle.std.proofs.lemmas.Bool.{and_from, false_from_ne_true, not-false}
 use Rattle.vt_spec.specs.Language.Calls.{Call, TaskName, same_name}
 use Rattle.vt_spec.specs.Lists.{Fresh, holds_of, is_among}
-use Rattle.vt_spec.specs.Machine.Apply.{apply, filesystems_changed}
+use Rattle.vt_spec.specs.Machine.Apply.{apply}
 use Rattle.vt_spec.specs.Machine.Detach.{is_going}
 use Rattle.vt_spec.specs.Machine.Invariants.{is_listed}
-use Rattle.vt_spec.specs.Machine.Judge.{judge_in}
 use Rattle.vt_spec.specs.Machine.Mounts.{Location, Mount}
 use Rattle.vt_spec.specs.Machine.Namespaces.{has_tasks, is_in_ended, namespaces_ended}
-use Rattle.vt_spec.specs.Machine.Permits.{Permit}
 use Rattle.vt_spec.specs.Machine.Permits.Permit.{ToExit}
-use Rattle.vt_spec.specs.Machine.Run.{Serves}
 use Rattle.vt_spec.specs.Machine.Sealed.{is_member_task, is_own_namespace, locations, members, outsiders, sealed}
 use Rattle.vt_spec.specs.Machine.Settled.{settled}
 use Rattle.vt_spec.specs.Machine.World.{Namespace, Task, World, locations_of, mount_numbered, task_called}
-use Rattle.vt_spec.proofs.Lists.{Among, among-flat_map, among-filter, among-from_filter, among-from_flat_map, among-from_map, among_from_list_all, among_numbers, any_among, any_from_among}
-use Rattle.vt_spec.proofs.Found.{found_among}
+use Rattle.vt_spec.proofs.Lists.{Among, among-flat_map, among-filter, among-from_filter, among-from_flat_map, among-from_map, among_numbers, any_among, any_from_among}
 use Rattle.vt_spec.proofs.Worlds.{same_task_name}
 use Rattle.vt_laws_letting_go.proofs.Lists.{filter_less}
 use Rattle.vt_laws_mounts.proofs.mounts.MountsReplaced.{found_itself}
 use Rattle.vt_laws_worlds.proofs.worlds.CallsKept.{name_found}
 use Rattle.vt_laws_part.specs.Seals.{IsApart}
 use Rattle.vt_laws_part.proofs.seals.ByPart.{apart_if_sealed}
-use Rattle.vt_laws_sealed.specs.Outsiders.{IsOutsidersCall, LeaveASealedSet, ends_task}
+use Rattle.vt_laws_sealed.specs.Outsiders.{IsOutsidersCall}
 use Rattle.vt_laws_sealed.proofs.outsiders.ChangedWorlds.{OthersMove}
 use Rattle.vt_laws_sealed.proofs.outsiders.OtherMounts.{namespace_outside, standing_apart}
 use Rattle.vt_laws_sealed.proofs.outsiders.OwnTasks.{IsOutside}
 use Rattle.vt_laws_sealed.proofs.outsiders.StandingApart.{StandsApart}
-use Rattle.vt_laws_sealed.proofs.outsiders.Staying.{LeavesApart, by_permit}
+use Rattle.vt_laws_sealed.proofs.outsiders.Staying.{LeavesApart}
 use Rattle.vt_laws_sealed.proofs.outsiders.TakingAway.{filesystems_taken, taken_leaves_apart, taking_leaves_apart}
 
 -- Other tasks, with the members as they were; then the namespaces without tasks end
@@ -168,7 +164,7 @@ module _ (world : World ℕ) (fresh : Fresh ℕ) (names : List TaskName) (name :
       among-filter (λ (x : Task ℕ). not (is_member_task names x)) world.tasks t
       (among-from_filter (λ (x : Task ℕ). not (same_name task.name x.name)) world.tasks t out.0).0 out.1
 
-  exit_leaves : LeavesApart world (settled nat_eq (apply nat_eq fresh world task ToExit).world) names []
+  pub exit_leaves : LeavesApart world (settled nat_eq (apply nat_eq fresh world task ToExit).world) names []
   exit_leaves =
       ending_leaves_apart world names set_apart outsider.sealed_off others members_there
       (λ t m. namespace_outside world names set_apart t (out_before t m))
@@ -180,17 +176,3 @@ module _ (world : World ℕ) (fresh : Fresh ℕ) (names : List TaskName) (name :
         among-flat_map locations_of (outsiders world names) of.0 location (out_before of.0 of.1) of.2,
         refl,
       ))
-
-by_exit : (world : World ℕ) (fresh : Fresh ℕ) (names : List TaskName) (name : TaskName) (call : Call)
-    (task : Task ℕ) → IsOutsidersCall world fresh names name call → task_called world name ≡ Some task
-    → (permit : Permit ℕ) → judge_in nat_eq fresh world task call ≡ Ok permit → ends_task permit ≡ true
-    → LeavesApart world (settled nat_eq (apply nat_eq fresh world task permit).world) names
-    (filesystems_changed nat_eq world permit)
-by_exit world fresh names name call task outsider called ToExit judged e =
-    exit_leaves world fresh names name call task outsider called
-by_exit world fresh names name call task outsider called permit judged e = absurd (true≢false (sym e))
-
-pub exits_leave_a_sealed_set : LeaveASealedSet ends_task
-exits_leave_a_sealed_set =
-    by_permit ends_task (λ world fresh names name call task permit outsider called judged these.
-    by_exit world fresh names name call task outsider called permit judged these)

@@ -1,8 +1,8 @@
 -- Other working and root directories of others: chdir(2), chroot(2).
-use Rattle.std.proofs.Common.{◌≡◌, refl, sym, ap, subst, ◌∙◌, inl, inr, ⊎_elim, ℕ, nat_eq, true, true≢false, List, [], Ok, Some}
+use Rattle.std.proofs.Common.{◌≡◌, refl, sym, ap, subst, ◌∙◌, inl, inr, ⊎_elim, ℕ, nat_eq, List, [], Ok, Some}
 use Rattle.vt_spec.specs.Language.Calls.{Call, TaskName, same_name}
 use Rattle.vt_spec.specs.Lists.{Fresh}
-use Rattle.vt_spec.specs.Machine.Apply.{apply, filesystems_changed, overfills}
+use Rattle.vt_spec.specs.Machine.Apply.{apply, overfills}
 use Rattle.vt_spec.specs.Machine.Judge.{judge_in}
 use Rattle.vt_spec.specs.Machine.Looks.{looks_of}
 use Rattle.vt_spec.specs.Machine.Mounts.{Location}
@@ -21,11 +21,11 @@ use Rattle.vt_laws_rules.specs.Granted.IsGranted.{changes_directory, changes_roo
 use Rattle.vt_laws_calls.proofs.ways.WaysEnds.{directory_ways_are_searched}
 use Rattle.vt_laws_part.specs.Seals.{IsApart}
 use Rattle.vt_laws_part.proofs.seals.ByPart.{apart_if_sealed}
-use Rattle.vt_laws_sealed.specs.Outsiders.{IsOutsidersCall, LeaveASealedSet, enters}
+use Rattle.vt_laws_sealed.specs.Outsiders.{IsOutsidersCall}
 use Rattle.vt_laws_sealed.proofs.outsiders.OtherMounts.{is_other, namespace_outside}
 use Rattle.vt_laws_sealed.proofs.outsiders.OwnTasks.{IsOutside, caller_outside, callers_outside, replacing_leaves_apart}
 use Rattle.vt_laws_sealed.proofs.outsiders.Standing.{IsGround, searched_ground}
-use Rattle.vt_laws_sealed.proofs.outsiders.Staying.{LeavesApart, by_permit}
+use Rattle.vt_laws_sealed.proofs.outsiders.Staying.{LeavesApart}
 use Rattle.vt_laws_sealed.proofs.outsiders.Sweeping.{sweeping_leaves_apart}
 
 -- where one of the others gets is no mount of theirs
@@ -90,7 +90,8 @@ module _ (world : World ℕ) (fresh : Fresh ℕ) (names : List TaskName) (name :
   pub ground_outside : (location : Location ℕ) → OnGround location → IsOutside world names location
   ground_outside = ground_of_others world names apart task outside task_there
 
-  directory_leaves : (directory : Location ℕ) → judge_in nat_eq fresh world task call ≡ Ok (ToSetDirectory directory)
+  pub directory_leaves : (directory : Location ℕ)
+      → judge_in nat_eq fresh world task call ≡ Ok (ToSetDirectory directory)
       → LeavesApart world (settled nat_eq (apply nat_eq fresh world task (ToSetDirectory directory)).world) names []
   directory_leaves directory judged =
       sweeping_leaves_apart world (apply nat_eq fresh world task (ToSetDirectory directory)).world names apart
@@ -105,7 +106,7 @@ module _ (world : World ℕ) (fresh : Fresh ℕ) (names : List TaskName) (name :
       (ToSetDirectory directory) judged) directory refl)))
       (λ open_ones. old_outside location (inr (inr open_ones))) rest) m))
 
-  root_leaves : (root : Location ℕ) → judge_in nat_eq fresh world task call ≡ Ok (ToSetRoot root)
+  pub root_leaves : (root : Location ℕ) → judge_in nat_eq fresh world task call ≡ Ok (ToSetRoot root)
       → LeavesApart world (settled nat_eq (apply nat_eq fresh world task (ToSetRoot root)).world) names []
   root_leaves root judged =
       sweeping_leaves_apart world (apply nat_eq fresh world task (ToSetRoot root)).world names apart
@@ -118,19 +119,3 @@ module _ (world : World ℕ) (fresh : Fresh ℕ) (names : List TaskName) (name :
       (calls_are_granted nat_eq (looks_of nat_eq world) (overfills nat_eq fresh world task) task call
       (ToSetRoot root) judged) root refl)))
       (λ rest. old_outside location (inr rest)) m))
-
-by_enter : (world : World ℕ) (fresh : Fresh ℕ) (names : List TaskName) (name : TaskName) (call : Call)
-    (task : Task ℕ) → IsOutsidersCall world fresh names name call → task_called world name ≡ Some task
-    → (permit : Permit ℕ) → judge_in nat_eq fresh world task call ≡ Ok permit → enters permit ≡ true
-    → LeavesApart world (settled nat_eq (apply nat_eq fresh world task permit).world) names
-    (filesystems_changed nat_eq world permit)
-by_enter world fresh names name call task outsider called (ToSetDirectory directory) judged e =
-    directory_leaves world fresh names name call task outsider called directory judged
-by_enter world fresh names name call task outsider called (ToSetRoot root) judged e =
-    root_leaves world fresh names name call task outsider called root judged
-by_enter world fresh names name call task outsider called permit judged e = absurd (true≢false (sym e))
-
-pub entering_leaves_a_sealed_set : LeaveASealedSet enters
-entering_leaves_a_sealed_set =
-    by_permit enters (λ world fresh names name call task permit outsider called judged these.
-    by_enter world fresh names name call task outsider called permit judged these)

@@ -1,13 +1,12 @@
 -- Flags of a mount of others that are set.
-use Rattle.std.proofs.Common.{◌≡◌, refl, sym, ap, subst, ◌∙◌, ℕ, nat_eq, Bool, true, false, cond, true≢false, List, [], Some, Ok, map, not, ◌||◌, eqb-true}
+use Rattle.std.proofs.Common.{◌≡◌, refl, sym, ap, subst, ◌∙◌, ℕ, nat_eq, Bool, true, false, cond, List, [], Some, Ok, map, not, ◌||◌, eqb-true}
 use Rattle.std.specs.List.{list_all}
 use Rattle.vt_spec.specs.Language.Calls.{Call, MountFlags, TaskName}
 use Rattle.vt_spec.specs.Language.Calls.Call.{Remount}
 use Rattle.vt_spec.specs.Lists.{Fresh, when}
-use Rattle.vt_spec.specs.Machine.Apply.{apply, filesystems_changed}
+use Rattle.vt_spec.specs.Machine.Apply.{apply}
 use Rattle.vt_spec.specs.Machine.Judge.{judge_in}
 use Rattle.vt_spec.specs.Machine.Mounts.{Mount, Propagation, no_mount, replaced_if_same}
-use Rattle.vt_spec.specs.Machine.Permits.{Permit}
 use Rattle.vt_spec.specs.Machine.Permits.Permit.{ToSetFlags}
 use Rattle.vt_spec.specs.Machine.Sealed.{is_at, locations, members, other_mounts, own_mounts, roots_and_directories, seen_by_descriptor, share_events, shares_no_events}
 use Rattle.vt_spec.specs.Machine.Settled.{settled}
@@ -23,12 +22,12 @@ use Rattle.vt_laws_worlds.proofs.worlds.CallsKept.{name_found}
 use Rattle.vt_laws_part.proofs.part.PartOfPart.{is_own, keep}
 use Rattle.vt_laws_part.specs.Seals.{IsApart}
 use Rattle.vt_laws_part.proofs.seals.ByPart.{apart_if_sealed}
-use Rattle.vt_laws_sealed.specs.Outsiders.{IsOutsidersCall, LeaveASealedSet, sets_flags}
+use Rattle.vt_laws_sealed.specs.Outsiders.{IsOutsidersCall}
 use Rattle.vt_laws_sealed.proofs.outsiders.Changing.{KeepsPlaces, changing_leaves_apart, others_changed, own_changed}
 use Rattle.vt_laws_sealed.proofs.outsiders.OtherMounts.{namespace_outside, not_own, not_stood_on}
 use Rattle.vt_laws_sealed.proofs.outsiders.OwnTasks.{caller_outside, nothing_is_swept}
 use Rattle.vt_laws_sealed.proofs.outsiders.Raising.{all-map_same}
-use Rattle.vt_laws_sealed.proofs.outsiders.Staying.{LeavesApart, by_permit}
+use Rattle.vt_laws_sealed.proofs.outsiders.Staying.{LeavesApart}
 
 -- Flags
 module _ (world : World ℕ) (number : ℕ) (flags : MountFlags) where
@@ -151,7 +150,7 @@ module _ (world : World ℕ) (fresh : Fresh ℕ) (names : List TaskName) (name :
         (λ other. ap not (ap (λ kind. share_by kind (change other).propagation) (type_kept world number flags own)
         ∙ ap (share_by own.propagation) (type_kept world number flags other))))
 
-    flags_leave : LeavesApart world
+    pub flags_leave : LeavesApart world
         (settled nat_eq (apply nat_eq fresh world task (ToSetFlags number flags)).world) names []
     flags_leave =
         subst (λ w. LeavesApart world w names [])
@@ -162,17 +161,3 @@ module _ (world : World ℕ) (fresh : Fresh ℕ) (names : List TaskName) (name :
         (changing_leaves_apart world names apart_before (set world number flags) (set_keeps world number flags)
         kept_same
         world.master (λ group e. refl) (events_same ∙ apart_before.events))
-
-by_flags : (world : World ℕ) (fresh : Fresh ℕ) (names : List TaskName) (name : TaskName) (call : Call)
-    (task : Task ℕ) → IsOutsidersCall world fresh names name call → task_called world name ≡ Some task
-    → (permit : Permit ℕ) → judge_in nat_eq fresh world task call ≡ Ok permit → sets_flags permit ≡ true
-    → LeavesApart world (settled nat_eq (apply nat_eq fresh world task permit).world) names
-    (filesystems_changed nat_eq world permit)
-by_flags world fresh names name call task outsider called (ToSetFlags number flags) judged e =
-    flags_leave world fresh names name call task outsider called number flags judged
-by_flags world fresh names name call task outsider called permit judged e = absurd (true≢false (sym e))
-
-pub flags_leave_a_sealed_set : LeaveASealedSet sets_flags
-flags_leave_a_sealed_set =
-    by_permit sets_flags (λ world fresh names name call task permit outsider called judged these.
-    by_flags world fresh names name call task outsider called permit judged these)

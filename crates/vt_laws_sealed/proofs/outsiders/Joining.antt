@@ -5,7 +5,7 @@ use Rattle.vt_spec.specs.declared.errors.Rule.TheVariants.{S2}
 use Rattle.vt_spec.specs.Errors.{denial}
 use Rattle.vt_spec.specs.Language.Calls.{Call, TaskName, same_name}
 use Rattle.vt_spec.specs.Lists.{Fresh, holds_of, is_among}
-use Rattle.vt_spec.specs.Machine.Apply.{apply, filesystems_changed, overfills}
+use Rattle.vt_spec.specs.Machine.Apply.{apply, overfills}
 use Rattle.vt_spec.specs.Machine.Judge.{judge_in}
 use Rattle.vt_spec.specs.Machine.Looks.{looks_of}
 use Rattle.vt_spec.specs.Machine.Mounts.{Location, Mount, root_of, topmost}
@@ -22,13 +22,13 @@ use Rattle.vt_laws_rules.proofs.given.Inversion.{calls_are_granted}
 use Rattle.vt_laws_rules.specs.Granted.{IsGranted}
 use Rattle.vt_laws_rules.specs.Granted.IsGranted.{enters_namespace}
 use Rattle.vt_laws_worlds.proofs.worlds.CallsKept.{name_found}
-use Rattle.vt_laws_sealed.specs.Outsiders.{IsOutsidersCall, LeaveASealedSet, enters_namespaces}
+use Rattle.vt_laws_sealed.specs.Outsiders.{IsOutsidersCall}
 use Rattle.vt_laws_sealed.proofs.outsiders.Ending.{ending_leaves_apart}
-use Rattle.vt_laws_sealed.proofs.outsiders.Entering.{apart, ground_of_others, old_outside, task_there}
+use Rattle.vt_laws_sealed.proofs.outsiders.Entering.{apart, ground_of_others, old_outside}
 use Rattle.vt_laws_sealed.proofs.outsiders.OtherMounts.{namespace_outside}
 use Rattle.vt_laws_sealed.proofs.outsiders.OwnTasks.{IsOutside, replaced_members}
 use Rattle.vt_laws_sealed.proofs.outsiders.Standing.{topmost_ground}
-use Rattle.vt_laws_sealed.proofs.outsiders.Staying.{LeavesApart, by_permit}
+use Rattle.vt_laws_sealed.proofs.outsiders.Staying.{LeavesApart}
 
 module _ (world : World ℕ) (fresh : Fresh ℕ) (names : List TaskName) (name : TaskName) (call : Call)
     (task : Task ℕ) (outsider : IsOutsidersCall world fresh names name call)
@@ -123,7 +123,8 @@ module _ (world : World ℕ) (fresh : Fresh ℕ) (names : List TaskName) (name :
       (λ rest. ⊎_elim (λ directory. subst (IsOutside world names) (sym directory) at_root)
       (λ open_ones. old_outside world fresh names name call task outsider called location (inr (inr open_ones))) rest) m
 
-  join_leaves : LeavesApart world (settled nat_eq (apply nat_eq fresh world task (ToEnterNamespace namespace)).world)
+  pub join_leaves : LeavesApart world (settled nat_eq
+      (apply nat_eq fresh world task (ToEnterNamespace namespace)).world)
       names
       []
   join_leaves =
@@ -140,17 +141,3 @@ module _ (world : World ℕ) (fresh : Fresh ℕ) (names : List TaskName) (name :
       (λ new. joined_outside location (subst (λ (x : Task ℕ). Among location (locations_of x)) new of.2))
       (λ old. inl (location, among-flat_map locations_of (outsiders world names) of.0 location old of.2, refl))
       (joined_or_other of.0 of.1))
-
-by_join : (world : World ℕ) (fresh : Fresh ℕ) (names : List TaskName) (name : TaskName) (call : Call)
-    (task : Task ℕ) → IsOutsidersCall world fresh names name call → task_called world name ≡ Some task
-    → (permit : Permit ℕ) → judge_in nat_eq fresh world task call ≡ Ok permit → enters_namespaces permit ≡ true
-    → LeavesApart world (settled nat_eq (apply nat_eq fresh world task permit).world) names
-    (filesystems_changed nat_eq world permit)
-by_join world fresh names name call task outsider called (ToEnterNamespace namespace) judged e =
-    join_leaves world fresh names name call task outsider called namespace judged
-by_join world fresh names name call task outsider called permit judged e = absurd (true≢false (sym e))
-
-pub joins_leave_a_sealed_set : LeaveASealedSet enters_namespaces
-joins_leave_a_sealed_set =
-    by_permit enters_namespaces (λ world fresh names name call task permit outsider called judged these.
-    by_join world fresh names name call task outsider called permit judged these)

@@ -1,16 +1,14 @@
 -- Trees of mounts of others that are unmounted at once: umount2(2) with MNT_DETACH.
-use Rattle.std.proofs.Common.{◌≡◌, refl, sym, ap, subst, ◌∙◌, ⊎_elim, inl, inr, ℕ, nat_eq, Bool, true, false, cond, true≢false, List, [], ◌∷◌, Option, Some, None, Ok, is_some, length, eqb-true}
+use Rattle.std.proofs.Common.{◌≡◌, refl, sym, ap, subst, ◌∙◌, ⊎_elim, inl, inr, ℕ, nat_eq, Bool, true, false, cond, List, [], ◌∷◌, Option, Some, None, Ok, is_some, length}
 use Rattle.std.specs.List.{list_any}
 use Rattle.std.proofs.lemmas.Option.{same_Some}
 use Rattle.vt_spec.specs.Language.Calls.{Call, TaskName}
-use Rattle.vt_spec.specs.Language.Calls.Call.{Lazy}
 use Rattle.vt_spec.specs.Lists.{Fresh, folded}
-use Rattle.vt_spec.specs.Machine.Apply.{apply, filesystems_changed}
-use Rattle.vt_spec.specs.Machine.Detach.{going, is_going, lazily_unmounted, taken_away, unmounted, unmounted_if_there}
+use Rattle.vt_spec.specs.Machine.Apply.{apply}
+use Rattle.vt_spec.specs.Machine.Detach.{going, is_going, lazily_unmounted, unmounted, unmounted_if_there}
 use Rattle.vt_spec.specs.Machine.Invariants.{MountInvariants}
 use Rattle.vt_spec.specs.Machine.Judge.{judge_in}
 use Rattle.vt_spec.specs.Machine.Mounts.{Mount}
-use Rattle.vt_spec.specs.Machine.Permits.{Permit}
 use Rattle.vt_spec.specs.Machine.Permits.Permit.{ToUnmountLazily}
 use Rattle.vt_spec.specs.Machine.Sealed.{is_own_namespace}
 use Rattle.vt_spec.specs.Machine.Settled.{settled}
@@ -27,13 +25,13 @@ use Rattle.vt_laws_worlds.proofs.worlds.CallsKept.{name_found}
 use Rattle.vt_laws_worlds.proofs.worlds.FitPermitsNamed.{all_permits_fit}
 use Rattle.vt_laws_part.specs.Seals.{IsApart}
 use Rattle.vt_laws_part.proofs.seals.ByPart.{apart_if_sealed}
-use Rattle.vt_laws_sealed.specs.Outsiders.{IsOutsidersCall, LeaveASealedSet, unmounts_lazily}
+use Rattle.vt_laws_sealed.specs.Outsiders.{IsOutsidersCall}
 use Rattle.vt_laws_sealed.proofs.outsiders.ChangedWorlds.{OthersMove, others_rest}
 use Rattle.vt_laws_sealed.proofs.outsiders.OtherMounts.{namespace_outside, standing_apart, tree_in}
 use Rattle.vt_laws_sealed.proofs.outsiders.OwnTasks.{caller_outside}
 use Rattle.vt_laws_sealed.proofs.outsiders.Refusals.{leaves_apart_itself}
 use Rattle.vt_laws_sealed.proofs.outsiders.StandingApart.{NothingNew, StandsApart}
-use Rattle.vt_laws_sealed.proofs.outsiders.Staying.{LeavesApart, by_permit}
+use Rattle.vt_laws_sealed.proofs.outsiders.Staying.{LeavesApart}
 use Rattle.vt_laws_sealed.proofs.outsiders.Steps.{leaves_on, standing_on}
 use Rattle.vt_laws_sealed.proofs.outsiders.Sweeping.{sweeping_leaves_apart}
 use Rattle.vt_laws_sealed.proofs.outsiders.TakingAway.{filesystems_taken, namespaces_taken_away, taken_from, taken_leaves_apart}
@@ -160,7 +158,7 @@ module _ (world : World ℕ) (names : List TaskName) (apart : IsApart world name
       }) (λ mount m. m) in
       (all.leaves, all.same)
 
-lazy_leaves : (world : World ℕ) (fresh : Fresh ℕ) (names : List TaskName) (name : TaskName) (call : Call)
+pub lazy_leaves : (world : World ℕ) (fresh : Fresh ℕ) (names : List TaskName) (name : TaskName) (call : Call)
     (task : Task ℕ) → IsOutsidersCall world fresh names name call → task_called world name ≡ Some task
     → (number : ℕ) → judge_in nat_eq fresh world task call ≡ Ok (ToUnmountLazily number)
     → LeavesApart world (settled nat_eq (apply nat_eq fresh world task (ToUnmountLazily number)).world) names []
@@ -175,17 +173,3 @@ lazy_leaves world fresh names name call task outsider called number judged =
     number placed (leaves_apart_itself world fresh names name call outsider) in
     sweeping_leaves_apart world (lazily_unmounted nat_eq world number) names set_apart outsider.sealed_off left.1
     (lazy_unmount_keeps_mounts world number outsider.is.mounts).one_number [] left.0
-
-by_lazy : (world : World ℕ) (fresh : Fresh ℕ) (names : List TaskName) (name : TaskName) (call : Call)
-    (task : Task ℕ) → IsOutsidersCall world fresh names name call → task_called world name ≡ Some task
-    → (permit : Permit ℕ) → judge_in nat_eq fresh world task call ≡ Ok permit → unmounts_lazily permit ≡ true
-    → LeavesApart world (settled nat_eq (apply nat_eq fresh world task permit).world) names
-    (filesystems_changed nat_eq world permit)
-by_lazy world fresh names name call task outsider called (ToUnmountLazily number) judged e =
-    lazy_leaves world fresh names name call task outsider called number judged
-by_lazy world fresh names name call task outsider called permit judged e = absurd (true≢false (sym e))
-
-pub lazy_unmounts_leave_a_sealed_set : LeaveASealedSet unmounts_lazily
-lazy_unmounts_leave_a_sealed_set =
-    by_permit unmounts_lazily (λ world fresh names name call task permit outsider called judged these.
-    by_lazy world fresh names name call task outsider called permit judged these)

@@ -1,14 +1,13 @@
 -- Files that others open to read: open(2) with O_RDONLY.
-use Rattle.std.proofs.Common.{◌≡◌, refl, sym, subst, ◌∙◌, ◌⊎◌, inl, inr, ⊎_elim, ℕ, zero, suc, ◌+◌, nat_eq, nat_lt, Bool, true, false, cond, ◌||◌, true≢false, List, [], ◌∷◌, map, Option, Some, None, Ok, Err, Result, reverse}
+use Rattle.std.proofs.Common.{◌≡◌, refl, sym, subst, ◌∙◌, ◌⊎◌, inl, inr, ⊎_elim, ℕ, zero, suc, ◌+◌, nat_eq, nat_lt, Bool, true, false, cond, ◌||◌, List, [], ◌∷◌, map, Option, Some, None, Ok, Err, Result, reverse}
 use Rattle.std.specs.Prelude.{option_map}
 use Rattle.std.proofs.lemmas.Option.{same_Some}
 use Rattle.vt_spec.specs.declared.errors.Deny.{Deny}
 use Rattle.vt_spec.specs.Errors.{and_then}
 use Rattle.vt_spec.specs.Language.Calls.{Access, Call, TaskName}
-use Rattle.vt_spec.specs.Language.Calls.Access.{ReadOnly, ReadWrite, WriteOnly}
 use Rattle.vt_spec.specs.Language.Limits.{most_symlinks}
 use Rattle.vt_spec.specs.Lists.{Fresh}
-use Rattle.vt_spec.specs.Machine.Apply.{apply, filesystems_changed, overfills}
+use Rattle.vt_spec.specs.Machine.Apply.{overfills}
 use Rattle.vt_spec.specs.Machine.Descriptors.{inserted, with_descriptor}
 use Rattle.vt_spec.specs.Machine.Invariants.{IsWorld}
 use Rattle.vt_spec.specs.Machine.Judge.{judge_in}
@@ -16,7 +15,6 @@ use Rattle.vt_spec.specs.Machine.Looks.{looks_of}
 use Rattle.vt_spec.specs.Machine.Mounts.{Location, topmost}
 use Rattle.vt_spec.specs.Machine.Permits.{Permit}
 use Rattle.vt_spec.specs.Machine.Permits.Permit.{ToOpen}
-use Rattle.vt_spec.specs.Machine.Settled.{settled}
 use Rattle.vt_spec.specs.Machine.Walking.{Here, LastWord, Place, Stop, final_word, path_text, start_of, symlink_of, then_walk, walk_start, walk_unless}
 use Rattle.vt_spec.specs.Machine.Walking.LastWord.{Dot, DotDot, Named, NoWord}
 use Rattle.vt_spec.specs.Machine.World.{Descriptor, Task, World, task_called, with_task}
@@ -32,12 +30,11 @@ use Rattle.vt_laws_calls.proofs.ways.WaysEnds.{object_ways_are_searched}
 use Rattle.vt_laws_calls.proofs.ways.WaysNamed.{IsFront, prefix_searched}
 use Rattle.vt_laws_calls.proofs.ways.WaysSearched.{IsNamedAt, placed_step}
 use Rattle.vt_laws_calls.proofs.ways.WaysWalked.{path_text_same}
-use Rattle.vt_laws_sealed.specs.Outsiders.{IsOutsidersCall, LeaveASealedSet, opens_to_read}
-use Rattle.vt_laws_sealed.proofs.outsiders.Entering.{apart, ground_outside, old_outside, task_there}
+use Rattle.vt_laws_sealed.specs.Outsiders.{IsOutsidersCall}
+use Rattle.vt_laws_sealed.proofs.outsiders.Entering.{ground_outside, old_outside, task_there}
 use Rattle.vt_laws_sealed.proofs.outsiders.OwnTasks.{IsOutside, replacing_leaves_apart}
 use Rattle.vt_laws_sealed.proofs.outsiders.Standing.{IsGround, directory_ground, searched_ground, start_ground, step_ground, topmost_ground, way_ground}
-use Rattle.vt_laws_sealed.proofs.outsiders.Staying.{LeavesApart, by_permit}
-use Rattle.vt_laws_sealed.proofs.outsiders.Sweeping.{sweeping_leaves_apart}
+use Rattle.vt_laws_sealed.proofs.outsiders.Staying.{LeavesApart}
 
 -- a new descriptor is at its file, the others where they were
 inserted_at : (new : Descriptor ℕ) (descriptors : List (Descriptor ℕ)) (location : Location ℕ)
@@ -199,28 +196,3 @@ module _ (world : World ℕ) (fresh : Fresh ℕ) (names : List TaskName) (name :
       (file_reached call (ToOpen file access)
       (calls_are_granted nat_eq (looks_of nat_eq world) (overfills nat_eq fresh world task) task call
       (ToOpen file access) judged) file access refl)
-
-  reading_leaves : (file : Location ℕ) → judge_in nat_eq fresh world task call ≡ Ok (ToOpen file ReadOnly)
-      → LeavesApart world (settled nat_eq (apply nat_eq fresh world task (ToOpen file ReadOnly)).world) names []
-  reading_leaves file judged =
-      sweeping_leaves_apart world (apply nat_eq fresh world task (ToOpen file ReadOnly)).world names
-      (apart world fresh names name call task outsider called) outsider.sealed_off refl outsider.is.mounts.one_number []
-      (descriptor_leaves file ReadOnly (open_outside file ReadOnly judged))
-
-by_open : (world : World ℕ) (fresh : Fresh ℕ) (names : List TaskName) (name : TaskName) (call : Call)
-    (task : Task ℕ) → IsOutsidersCall world fresh names name call → task_called world name ≡ Some task
-    → (permit : Permit ℕ) → judge_in nat_eq fresh world task call ≡ Ok permit → opens_to_read permit ≡ true
-    → LeavesApart world (settled nat_eq (apply nat_eq fresh world task permit).world) names
-    (filesystems_changed nat_eq world permit)
-by_open world fresh names name call task outsider called (ToOpen file ReadOnly) judged e =
-    reading_leaves world fresh names name call task outsider called file judged
-by_open world fresh names name call task outsider called (ToOpen file WriteOnly) judged e =
-    absurd (true≢false (sym e))
-by_open world fresh names name call task outsider called (ToOpen file ReadWrite) judged e =
-    absurd (true≢false (sym e))
-by_open world fresh names name call task outsider called permit judged e = absurd (true≢false (sym e))
-
-pub opening_leaves_a_sealed_set : LeaveASealedSet opens_to_read
-opening_leaves_a_sealed_set =
-    by_permit opens_to_read (λ world fresh names name call task permit outsider called judged these.
-    by_open world fresh names name call task outsider called permit judged these)

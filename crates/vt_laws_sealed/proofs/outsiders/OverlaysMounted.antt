@@ -1,11 +1,11 @@
 -- Overlays that others mount over their own layers: mount(2) of an overlay.
-use Rattle.std.proofs.Common.{◌≡◌, refl, sym, ap, subst, ◌∙◌, inl, inr, ⊎_elim, ℕ, nat_eq, true, false, true≢false, List, [], ◌∷◌, ◌++◌, ◌*◌, ◌+◌, Option, Some, None, Result, Ok, Err, map, not, eqb-true, eq-eqb}
+use Rattle.std.proofs.Common.{◌≡◌, refl, sym, ap, subst, ◌∙◌, inl, inr, ⊎_elim, ℕ, nat_eq, false, true≢false, List, [], ◌∷◌, ◌++◌, ◌*◌, ◌+◌, Option, Some, None, Result, Ok, Err, map, not, eqb-true, eq-eqb}
 use Rattle.std.specs.Prelude.{option_map, option_to_list}
 use Rattle.std.specs.List.{list_any}
 use Rattle.std.proofs.lemmas.Bool.{and_parts, false_from_ne_true, not-true}
 use Rattle.vt_spec.specs.Language.Calls.{Call, MountFlags, OverlayWords, TaskName}
 use Rattle.vt_spec.specs.Lists.{Fresh, evens, odds}
-use Rattle.vt_spec.specs.Machine.Apply.{apply, filesystems_changed, overfills}
+use Rattle.vt_spec.specs.Machine.Apply.{apply, overfills}
 use Rattle.vt_spec.specs.Machine.Judge.{judge_in}
 use Rattle.vt_spec.specs.Machine.Looks.{looks_of}
 use Rattle.vt_spec.specs.Machine.Mounts.{Location, Mount}
@@ -30,14 +30,14 @@ use Rattle.vt_laws_worlds.proofs.worlds.CallsKept.{name_found}
 use Rattle.vt_laws_worlds.proofs.worlds.FitPermits.{own_if}
 use Rattle.vt_laws_later_calls.specs.Ends.{sets_type, takes_uses}
 use Rattle.vt_laws_part.proofs.seals.ByPart.{apart_if_sealed}
-use Rattle.vt_laws_sealed.specs.Outsiders.{IsOutsidersCall, LeaveASealedSet, mounts_overlays}
+use Rattle.vt_laws_sealed.specs.Outsiders.{IsOutsidersCall}
 use Rattle.vt_laws_sealed.proofs.outsiders.Attaching.{attaching_leaves_apart}
 use Rattle.vt_laws_sealed.proofs.outsiders.Entering.{ground_outside, task_there}
 use Rattle.vt_laws_sealed.proofs.outsiders.Filesystems.{larger_sees, larger_with_overlay}
 use Rattle.vt_laws_sealed.proofs.outsiders.OtherMounts.{namespace_outside}
 use Rattle.vt_laws_sealed.proofs.outsiders.OwnTasks.{IsOutside, caller_outside, nothing_is_swept}
 use Rattle.vt_laws_sealed.proofs.outsiders.Standing.{IsGround, searched_ground}
-use Rattle.vt_laws_sealed.proofs.outsiders.Staying.{LeavesApart, by_permit}
+use Rattle.vt_laws_sealed.proofs.outsiders.Staying.{LeavesApart}
 
 -- where one of the others may be, others have a foothold
 pub outside_uses : (world : World ℕ) (names : List TaskName) (location : Location ℕ) → IsOutside world names location
@@ -185,7 +185,7 @@ module _ (world : World ℕ) (fresh : Fresh ℕ) (names : List TaskName) (name :
       )
   granted_of_others asked permit granted place overlay flags e = absurd cc
 
-  overlay_leaves : (place : Location ℕ) (overlay : Overlay ℕ) (flags : MountFlags)
+  pub overlay_leaves : (place : Location ℕ) (overlay : Overlay ℕ) (flags : MountFlags)
       → judge_in nat_eq fresh world task call ≡ Ok (ToMountOverlay place overlay flags)
       → LeavesApart world (settled nat_eq (apply nat_eq fresh world task (ToMountOverlay place overlay flags)).world)
       names []
@@ -215,18 +215,4 @@ module _ (world : World ℕ) (fresh : Fresh ℕ) (names : List TaskName) (name :
       (new_mount added.number added.files.tree.root flags ∷ [])
       (λ origin m. ⊎_elim
       (λ e. inr (ap (λ (x : Mount ℕ). x.propagation) e, 0, ap (λ (x : Mount ℕ). x.filesystem) e))
-      (λ none. absurd none) m))
-
-by_overlay : (world : World ℕ) (fresh : Fresh ℕ) (names : List TaskName) (name : TaskName) (call : Call)
-    (task : Task ℕ) → IsOutsidersCall world fresh names name call → task_called world name ≡ Some task
-    → (permit : Permit ℕ) → judge_in nat_eq fresh world task call ≡ Ok permit → mounts_overlays permit ≡ true
-    → LeavesApart world (settled nat_eq (apply nat_eq fresh world task permit).world) names
-    (filesystems_changed nat_eq world permit)
-by_overlay world fresh names name call task outsider called (ToMountOverlay place overlay flags) judged e =
-    overlay_leaves world fresh names name call task outsider called place overlay flags judged
-by_overlay world fresh names name call task outsider called permit judged e = absurd (true≢false (sym e))
-
-pub overlays_leave_a_sealed_set : LeaveASealedSet mounts_overlays
-overlays_leave_a_sealed_set =
-    by_permit mounts_overlays (λ world fresh names name call task permit outsider called judged these.
-    by_overlay world fresh names name call task outsider called permit judged these)
+      (λ none. absurd none) m) false (λ moving. absurd (true≢false (sym moving))))

@@ -6,9 +6,8 @@ use Rattle.std.proofs.lemmas.List.Elements.{filter-append}
 use Rattle.vt_spec.specs.Language.Calls.{Call, TaskName, same_name}
 use Rattle.vt_spec.specs.Language.Calls.Call.{Drop, Fork, Umask}
 use Rattle.vt_spec.specs.Lists.{Fresh, holds_of, is_among}
-use Rattle.vt_spec.specs.Machine.Apply.{apply, filesystems_changed}
+use Rattle.vt_spec.specs.Machine.Apply.{apply}
 use Rattle.vt_spec.specs.Machine.Judge.{judge_in}
-use Rattle.vt_spec.specs.Machine.Looks.{looks_of}
 use Rattle.vt_spec.specs.Machine.Mounts.{Location, Mount}
 use Rattle.vt_spec.specs.Machine.Tasks.{child_name, child_of}
 use Rattle.vt_spec.specs.Machine.Outcomes.{Outcome, after}
@@ -18,6 +17,7 @@ use Rattle.vt_spec.specs.Machine.Policy.{call_outcome}
 use Rattle.vt_spec.specs.Machine.Sealed.{is_member_task, is_own_mount, locations, members, no_outsider_on, other_mounts, outsiders, share_events}
 use Rattle.vt_spec.specs.Machine.Settled.{settled}
 use Rattle.vt_spec.specs.Machine.World.{Namespace, Task, World, locations_of, mount_at, mount_numbered, replaced_if_called, task_called}
+use Rattle.vt_spec.specs.Rights.{Credentials}
 use Rattle.vt_spec.proofs.Found.{found_among}
 use Rattle.vt_spec.proofs.Lists.{Among, among-append, among-filter, among-flat_map, among-from_filter, among-from_flat_map, among-from_map, among_from_list_all, any_among, contains_from_among, list_all_from_among, map_same, none_among, none_from_among}
 use Rattle.vt_spec.proofs.Options.{some_from_is_some}
@@ -25,7 +25,6 @@ use Rattle.vt_spec.proofs.Worlds.{name-replaced_if_called, same_task_name}
 use Rattle.vt_laws_letting_go.proofs.Lists.{filter-map}
 use Rattle.vt_laws_rules.proofs.judged.CallsJudged.{call_is_judged_then_applied}
 use Rattle.vt_laws_rules.proofs.given.GivenPermits.{permits_are_for_their_calls}
-use Rattle.vt_laws_rules.specs.Given.{IsFor}
 use Rattle.vt_laws_overlay_permits.specs.Asked.{change_asked}
 use Rattle.vt_laws_worlds.proofs.worlds.CallsKept.{name_found}
 use Rattle.vt_laws_later_calls.proofs.ends.EndedBy.{other_calls_keep_all}
@@ -34,8 +33,8 @@ use Rattle.vt_laws_later_calls.specs.Whiteouts.{replaced_as, replaced_if}
 use Rattle.vt_laws_part.proofs.part.PartOfPart.{keep}
 use Rattle.vt_laws_part.specs.Seals.{IsApart}
 use Rattle.vt_laws_part.proofs.seals.ByPart.{apart_if_sealed}
-use Rattle.vt_laws_sealed.specs.Outsiders.{IsOutsidersCall, LeaveASealedSet, sets_own_task}
-use Rattle.vt_laws_sealed.proofs.outsiders.Staying.{LeavesApart, by_permit, free_from}
+use Rattle.vt_laws_sealed.specs.Outsiders.{IsOutsidersCall}
+use Rattle.vt_laws_sealed.proofs.outsiders.Staying.{LeavesApart, free_from}
 
 -- The sweep takes nothing at the end of a call that takes no use away and asks for no change.
 pub nothing_is_swept : (world : World ℕ) (fresh : Fresh ℕ) (names : List TaskName) (name : TaskName) (call : Call)
@@ -303,44 +302,42 @@ module _ (world : World ℕ) (fresh : Fresh ℕ) (names : List TaskName) (name :
           tasks_leave_apart world names (apart_if_sealed world names outsider.is outsider.sealed_off) forked
           forked_members forked_from
 
-own_tasks_leave : (world : World ℕ) (fresh : Fresh ℕ) (names : List TaskName) (name : TaskName) (call : Call)
-    (task : Task ℕ) → IsOutsidersCall world fresh names name call → task_called world name ≡ Some task
-    → (permit : Permit ℕ) → judge_in nat_eq fresh world task call ≡ Ok permit → sets_own_task permit ≡ true
-    → LeavesApart world (settled nat_eq (apply nat_eq fresh world task permit).world) names
-    (filesystems_changed nat_eq world permit)
-own_tasks_leave world fresh names name call task outsider called permit judged these =
-    by permit judged (permits_are_for_their_calls fresh world task call permit judged) these
-  where
-    swept : (permit : Permit ℕ) → judge_in nat_eq fresh world task call ≡ Ok permit → (asked : Call) → call ≡ asked
-        → takes_uses asked ≡ false → sets_type asked ≡ false → change_asked fresh world permit ≡ None
-        → LeavesApart world (apply nat_eq fresh world task permit).world names []
-        → LeavesApart world (settled nat_eq (apply nat_eq fresh world task permit).world) names []
-    swept permit judged asked e only no_type none leaves =
-        subst (λ w. LeavesApart world w names [])
-        (sym (nothing_is_swept world fresh names name call task permit outsider called judged
-        (ap takes_uses e ∙ only) (ap sets_type e ∙ no_type) none)) leaves
+module _ (world : World ℕ) (fresh : Fresh ℕ) (names : List TaskName) (name : TaskName) (call : Call)
+    (task : Task ℕ) (outsider : IsOutsidersCall world fresh names name call)
+    (called : task_called world name ≡ Some task) where
+  unswept : (permit : Permit ℕ) → judge_in nat_eq fresh world task call ≡ Ok permit → (asked : Call) → call ≡ asked
+      → takes_uses asked ≡ false → sets_type asked ≡ false → change_asked fresh world permit ≡ None
+      → LeavesApart world (apply nat_eq fresh world task permit).world names []
+      → LeavesApart world (settled nat_eq (apply nat_eq fresh world task permit).world) names []
+  unswept permit judged asked e only no_type none leaves =
+      subst (λ w. LeavesApart world w names [])
+      (sym (nothing_is_swept world fresh names name call task permit outsider called judged
+      (ap takes_uses e ∙ only) (ap sets_type e ∙ no_type) none)) leaves
 
-    by : (permit : Permit ℕ) → judge_in nat_eq fresh world task call ≡ Ok permit
-        → IsFor (looks_of nat_eq world) task call permit → sets_own_task permit ≡ true
-        → LeavesApart world (settled nat_eq (apply nat_eq fresh world task permit).world) names
-        (filesystems_changed nat_eq world permit)
-    by (ToSetUmask umask) judged for e =
-        swept (ToSetUmask umask) judged (Umask for.0) for.1 refl refl refl
-        (replacing_leaves_apart world fresh names name call task outsider called (record task { umask = umask })
-        refl refl (callers_outside world fresh names name call task outsider called))
-    by (ToSetCredentials credentials) judged for e =
-        swept (ToSetCredentials credentials) judged (Drop for.0) for.1 refl refl refl
-        (replacing_leaves_apart world fresh names name call task outsider called
-        (record task { credentials = credentials })
-        refl refl (callers_outside world fresh names name call task outsider called))
-    by (ToFork credentials) judged for e =
-        swept (ToFork credentials) judged (Fork for.0) for.1 refl refl refl
-        (forking_leaves_apart world fresh names name call task outsider called (child_of task credentials) refl refl
-        (λ location m. callers_outside world fresh names name call task outsider called location
-        (⊎_elim inl (λ rest. inr (⊎_elim inl (λ none. absurd none) rest)) m)))
-    by permit judged for e = absurd (true≢false (sym e))
+  pub umask_leaves : (umask : ℕ) → judge_in nat_eq fresh world task call ≡ Ok (ToSetUmask umask)
+      → LeavesApart world (settled nat_eq (apply nat_eq fresh world task (ToSetUmask umask)).world) names []
+  umask_leaves umask judged =
+      let for = permits_are_for_their_calls fresh world task call (ToSetUmask umask) judged in
+      unswept (ToSetUmask umask) judged (Umask for.0) for.1 refl refl refl
+      (replacing_leaves_apart world fresh names name call task outsider called (record task { umask = umask })
+      refl refl (callers_outside world fresh names name call task outsider called))
 
-pub own_tasks_leave_a_sealed_set : LeaveASealedSet sets_own_task
-own_tasks_leave_a_sealed_set =
-    by_permit sets_own_task (λ world fresh names name call task permit outsider called judged these.
-    own_tasks_leave world fresh names name call task outsider called permit judged these)
+  pub credentials_leave : (credentials : Credentials)
+      → judge_in nat_eq fresh world task call ≡ Ok (ToSetCredentials credentials)
+      → LeavesApart world (settled nat_eq (apply nat_eq fresh world task (ToSetCredentials credentials)).world) names
+      []
+  credentials_leave credentials judged =
+      let for = permits_are_for_their_calls fresh world task call (ToSetCredentials credentials) judged in
+      unswept (ToSetCredentials credentials) judged (Drop for.0) for.1 refl refl refl
+      (replacing_leaves_apart world fresh names name call task outsider called
+      (record task { credentials = credentials })
+      refl refl (callers_outside world fresh names name call task outsider called))
+
+  pub fork_leaves : (credentials : Credentials) → judge_in nat_eq fresh world task call ≡ Ok (ToFork credentials)
+      → LeavesApart world (settled nat_eq (apply nat_eq fresh world task (ToFork credentials)).world) names []
+  fork_leaves credentials judged =
+      let for = permits_are_for_their_calls fresh world task call (ToFork credentials) judged in
+      unswept (ToFork credentials) judged (Fork for.0) for.1 refl refl refl
+      (forking_leaves_apart world fresh names name call task outsider called (child_of task credentials) refl refl
+      (λ location m. callers_outside world fresh names name call task outsider called location
+      (⊎_elim inl (λ rest. inr (⊎_elim inl (λ none. absurd none) rest)) m)))

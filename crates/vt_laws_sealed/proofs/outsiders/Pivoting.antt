@@ -4,11 +4,10 @@ use Rattle.std.specs.List.{list_all}
 use Rattle.vt_spec.specs.Language.Calls.{Call, TaskName, same_name}
 use Rattle.vt_spec.specs.Language.Calls.Call.{PivotRoot}
 use Rattle.vt_spec.specs.Lists.{Fresh, holds_of, is_among}
-use Rattle.vt_spec.specs.Machine.Apply.{apply, filesystems_changed}
+use Rattle.vt_spec.specs.Machine.Apply.{apply}
 use Rattle.vt_spec.specs.Machine.Judge.{judge_in}
 use Rattle.vt_spec.specs.Machine.Mounts.{Location, Mount, Propagation, no_mount, root_of, same_location}
 use Rattle.vt_spec.specs.Machine.Namespaces.{pivoted_location, pivoted_mount, pivoted_task}
-use Rattle.vt_spec.specs.Machine.Permits.{Permit}
 use Rattle.vt_spec.specs.Machine.Permits.Permit.{ToPivot}
 use Rattle.vt_spec.specs.Machine.Sealed.{is_member_task, is_own_mount, is_own_namespace, locations, members, other_mounts, outsiders, own_mounts, share_events, shares_no_events}
 use Rattle.vt_spec.specs.Machine.Settled.{settled}
@@ -28,13 +27,13 @@ use Rattle.vt_laws_part.specs.Seals.{IsApart}
 use Rattle.vt_laws_part.proofs.part.Observed.{own_mounts_same}
 use Rattle.vt_laws_part.proofs.part.PartOfPart.{keep}
 use Rattle.vt_laws_part.proofs.seals.ByPart.{apart_if_sealed}
-use Rattle.vt_laws_sealed.specs.Outsiders.{IsOutsidersCall, LeaveASealedSet, pivots}
+use Rattle.vt_laws_sealed.specs.Outsiders.{IsOutsidersCall}
 use Rattle.vt_laws_sealed.proofs.outsiders.ChangedWorlds.{KeepsOrDetaches, OthersMove, changing_leaves_apart, left, others_from, sees}
 use Rattle.vt_laws_sealed.proofs.outsiders.OtherMounts.{is_other, namespace_outside, standing_apart}
 use Rattle.vt_laws_sealed.proofs.outsiders.OwnTasks.{IsOutside, caller_outside}
 use Rattle.vt_laws_sealed.proofs.outsiders.Reshaping.{IsReshaped, reshaping_keeps, reshaping_kept}
 use Rattle.vt_laws_sealed.proofs.outsiders.StandingApart.{NothingNew, StandsApart}
-use Rattle.vt_laws_sealed.proofs.outsiders.Staying.{LeavesApart, by_permit}
+use Rattle.vt_laws_sealed.proofs.outsiders.Staying.{LeavesApart}
 use Rattle.vt_laws_sealed.proofs.outsiders.Sweeping.{sweeping_leaves_apart}
 
 module _ (world : World ℕ) (fresh : Fresh ℕ) (names : List TaskName) (name : TaskName) (call : Call)
@@ -284,22 +283,8 @@ module _ (world : World ℕ) (fresh : Fresh ℕ) (names : List TaskName) (name :
       (λ a b m n e. ap (λ k. nat_eq k (change b).number) (keeps.number a) ∙ ap (nat_eq a.number) (keeps.number b) ∙ e)
       outsider.is.mounts.one_number
 
-  pivot_leaves : LeavesApart world (settled nat_eq (apply nat_eq fresh world task (ToPivot new put)).world) names []
+  pub pivot_leaves : LeavesApart world (settled nat_eq (apply nat_eq fresh world task (ToPivot new put)).world) names []
   pivot_leaves =
       sweeping_leaves_apart world pivoted_world names set_apart outsider.sealed_off refl one_each []
       (changing_leaves_apart world names so_far change keeps kept_same world.master (map move world.tasks)
       world.namespaces moved (λ group e. refl) events)
-
-by_pivot : (world : World ℕ) (fresh : Fresh ℕ) (names : List TaskName) (name : TaskName) (call : Call)
-    (task : Task ℕ) → IsOutsidersCall world fresh names name call → task_called world name ≡ Some task
-    → (permit : Permit ℕ) → judge_in nat_eq fresh world task call ≡ Ok permit → pivots permit ≡ true
-    → LeavesApart world (settled nat_eq (apply nat_eq fresh world task permit).world) names
-    (filesystems_changed nat_eq world permit)
-by_pivot world fresh names name call task outsider called (ToPivot new put) judged e =
-    pivot_leaves world fresh names name call task outsider called new put judged
-by_pivot world fresh names name call task outsider called permit judged e = absurd (true≢false (sym e))
-
-pub pivots_leave_a_sealed_set : LeaveASealedSet pivots
-pivots_leave_a_sealed_set =
-    by_permit pivots (λ world fresh names name call task permit outsider called judged these.
-    by_pivot world fresh names name call task outsider called permit judged these)

@@ -20,22 +20,9 @@ use Rattle.vt_laws_part.proofs.part.Observed.{own_mounts_same}
 use Rattle.vt_laws_part.proofs.part.PartOfPart.{keep}
 use Rattle.vt_laws_sealed.proofs.outsiders.ChangedWorlds.{OthersMove, changing_leaves_apart, others_from, sees}
 use Rattle.vt_laws_sealed.proofs.outsiders.OtherMounts.{Foreign, HearsGroup, events_stay_apart, member_of_heard, other_hears_foreign}
-use Rattle.vt_laws_sealed.proofs.outsiders.Reshaping.{IsReshaped, reshaping_keeps, reshaping_kept}
+use Rattle.vt_laws_sealed.proofs.outsiders.Reshaping.{IsReshaped, reshaped_twice, reshaping_keeps, reshaping_kept}
 use Rattle.vt_laws_sealed.proofs.outsiders.StandingApart.{StandsApart}
 use Rattle.vt_laws_sealed.proofs.outsiders.Staying.{LeavesApart}
-
--- what is reshaped twice is reshaped
-reshaped_twice : (old middle new : Mount ℕ) → IsReshaped old middle → IsReshaped middle new → IsReshaped old new
-reshaped_twice old middle new one two = (
-  two.0,
-  two.1,
-  two.2,
-  two.3 ∙ ap (λ (x : Mount ℕ). record x { namespace = two.0; mount_point = two.1; propagation = two.2 }) one.3,
-  ⊎_elim
-      (λ same. ⊎_elim (λ kept. inl (same ∙ ap (λ (x : Mount ℕ). x.namespace) one.3 ∙ kept))
-      (λ none. inr (same ∙ ap (λ (x : Mount ℕ). x.namespace) one.3 ∙ none)) one.4)
-      inr two.4,
-)
 
 module _ (world : World ℕ) (names : List TaskName) {New : ℕ → Type 0} (apart : StandsApart world names New) where
   -- a type that only groups of others are in

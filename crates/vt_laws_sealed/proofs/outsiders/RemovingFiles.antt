@@ -20,8 +20,7 @@ use Rattle.vt_spec.specs.Machine.Mounts.{Location, Mount, mount_tree}
 use Rattle.vt_spec.specs.Machine.Permits.{Permit}
 use Rattle.vt_spec.specs.Machine.Permits.Permit.{ToRemoveDirectory, ToRename}
 use Rattle.vt_spec.specs.Machine.Rules.Removing.{object_there}
-use Rattle.vt_spec.specs.Machine.Run.{Serves}
-use Rattle.vt_spec.specs.Machine.Sealed.{is_own_mount, is_own_namespace, own_mounts, sealed, used_filesystems}
+use Rattle.vt_spec.specs.Machine.Sealed.{is_own_mount, is_own_namespace, own_mounts, used_filesystems}
 use Rattle.vt_spec.specs.Machine.Settled.{settled}
 use Rattle.vt_spec.specs.Machine.Walking.{is_directory_there, name_of}
 use Rattle.vt_spec.specs.Machine.World.{Filesystem, Layer, Overlay, Task, World, files_at, filesystem_at, filesystem_numbered, mount_at, mount_numbered, task_called, upper_object}
@@ -43,13 +42,12 @@ use Rattle.vt_laws_overlay_permits.specs.Asked.{change_asked}
 use Rattle.vt_laws_part.specs.Seals.{IsApart}
 use Rattle.vt_laws_part.proofs.part.PartOfPart.{used_directly_used}
 use Rattle.vt_laws_part.proofs.seals.ByPart.{apart_if_sealed}
-use Rattle.vt_laws_sealed.specs.Outsiders.{IsOutsidersCall, LeaveASealedSet, removes_files}
+use Rattle.vt_laws_sealed.specs.Outsiders.{IsOutsidersCall}
 use Rattle.vt_laws_sealed.proofs.outsiders.ChangedWorlds.{others_rest}
 use Rattle.vt_laws_sealed.proofs.outsiders.ChangingFiles.{change_leaves, change_alone}
-use Rattle.vt_laws_sealed.proofs.outsiders.Entering.{task_there}
 use Rattle.vt_laws_sealed.proofs.outsiders.FilesOfCalls.{changed_is_unused, upper_is_unused}
 use Rattle.vt_laws_sealed.proofs.outsiders.OtherMounts.{nowhere_unplaced, standing_apart, tree_in}
-use Rattle.vt_laws_sealed.proofs.outsiders.Staying.{LeavesApart, by_permit}
+use Rattle.vt_laws_sealed.proofs.outsiders.Staying.{LeavesApart}
 use Rattle.vt_laws_sealed.proofs.outsiders.TakingAway.{namespaces_taken_away, taken_leaves_apart}
 
 -- what a change at a location changes depends on filesystems alone
@@ -294,31 +292,36 @@ module _ (world : World ℕ) (fresh : Fresh ℕ) (names : List TaskName) (name :
         (same_filesystems_without world directory) (same_mounted_without world directory location))
         mounts_leave
 
-by_removal : (world : World ℕ) (fresh : Fresh ℕ) (names : List TaskName) (name : TaskName) (call : Call)
+pub directory_removal_leaves : (world : World ℕ) (fresh : Fresh ℕ) (names : List TaskName) (name : TaskName)
+    (call : Call)
     (task : Task ℕ) → IsOutsidersCall world fresh names name call → task_called world name ≡ Some task
-    → (permit : Permit ℕ) → judge_in nat_eq fresh world task call ≡ Ok permit → removes_files permit ≡ true
-    → LeavesApart world (settled nat_eq (apply nat_eq fresh world task permit).world) names
-    (filesystems_changed nat_eq world permit)
-by_removal world fresh names name call task outsider called (ToRemoveDirectory parent entry directory) judged e =
+    → (parent : Location ℕ) (entry : List ℕ) (directory : Location ℕ)
+    → judge_in nat_eq fresh world task call ≡ Ok (ToRemoveDirectory parent entry directory)
+    → LeavesApart world
+    (settled nat_eq (apply nat_eq fresh world task (ToRemoveDirectory parent entry directory)).world) names
+    (filesystems_changed nat_eq world (ToRemoveDirectory parent entry directory))
+directory_removal_leaves world fresh names name call task outsider called parent entry directory judged =
     removal_leaves world fresh names name call task outsider called (ToRemoveDirectory parent entry directory) judged
     parent (Remove parent.node entry directory.node) refl directory
     (removed_in world fresh names name call task outsider called call (ToRemoveDirectory parent entry directory)
     (calls_are_granted nat_eq (looks_of nat_eq world) (overfills nat_eq fresh world task) task call
     (ToRemoveDirectory parent entry directory) judged) parent entry directory refl) refl refl
-by_removal world fresh names name call task outsider called (ToRename from old to new object None) judged e =
+
+pub renaming_leaves : (world : World ℕ) (fresh : Fresh ℕ) (names : List TaskName) (name : TaskName) (call : Call)
+    (task : Task ℕ) → IsOutsidersCall world fresh names name call → task_called world name ≡ Some task
+    → (from : Location ℕ) (old : List ℕ) (to : Location ℕ) (new : List ℕ) (object : Location ℕ)
+    (replaced : Option (Location ℕ))
+    → judge_in nat_eq fresh world task call ≡ Ok (ToRename from old to new object replaced)
+    → LeavesApart world
+    (settled nat_eq (apply nat_eq fresh world task (ToRename from old to new object replaced)).world) names
+    (filesystems_changed nat_eq world (ToRename from old to new object replaced))
+renaming_leaves world fresh names name call task outsider called from old to new object None judged =
     change_alone world fresh names name call task outsider called (ToRename from old to new object None) judged from
     (Move from.node old to.node new object.node) refl
     (the_rest_stays fresh world from (Move from.node old to.node new object.node)) refl
-by_removal world fresh names name call task outsider called (ToRename from old to new object (Some replaced)) judged
-    e =
+renaming_leaves world fresh names name call task outsider called from old to new object (Some replaced) judged =
     removal_leaves world fresh names name call task outsider called (ToRename from old to new object (Some replaced))
     judged from (Move from.node old to.node new object.node) refl replaced
     (replaced_in world fresh names name call task outsider called call (ToRename from old to new object (Some replaced))
     (calls_are_granted nat_eq (looks_of nat_eq world) (overfills nat_eq fresh world task) task call
     (ToRename from old to new object (Some replaced)) judged) from old to new object replaced refl) refl refl
-by_removal world fresh names name call task outsider called permit judged e = absurd (true≢false (sym e))
-
-pub removals_leave_a_sealed_set : LeaveASealedSet removes_files
-removals_leave_a_sealed_set =
-    by_permit removes_files (λ world fresh names name call task permit outsider called judged these.
-    by_removal world fresh names name call task outsider called permit judged these)

@@ -27,29 +27,38 @@ reshaping_keeps change shape = record {
       (λ none. inr (ap (λ (x : Mount ℕ). x.namespace) (shape mount).3 ∙ none)) (shape mount).4;
 }
 
+-- what is reshaped twice is reshaped
+pub reshaped_twice : (old middle new : Mount ℕ) → IsReshaped old middle → IsReshaped middle new → IsReshaped old new
+reshaped_twice old middle new one two = (
+  two.0,
+  two.1,
+  two.2,
+  two.3 ∙ ap (λ (x : Mount ℕ). record x { namespace = two.0; mount_point = two.1; propagation = two.2 }) one.3,
+  ⊎_elim
+      (λ same. ⊎_elim (λ kept. inl (same ∙ ap (λ (x : Mount ℕ). x.namespace) one.3 ∙ kept))
+      (λ none. inr (same ∙ ap (λ (x : Mount ℕ). x.namespace) one.3 ∙ none)) one.4)
+      inr two.4,
+)
+
 -- the part has the same of a mount of others
-pub reshaping_kept : (world : World ℕ) (names : List TaskName) {New : ℕ → Type 0} → StandsApart world names New
-    → (change : Mount ℕ → Mount ℕ)
-    → ((mount : Mount ℕ) → IsReshaped mount (change mount))
-    → ((own : Mount ℕ) → Among own (own_mounts nat_eq world names) → change own ≡ own)
-    → ((mount : Mount ℕ) → Among mount world.mounts → mount.namespace ≡ None → change mount ≡ mount)
-    → (mount : Mount ℕ) → Among mount world.mounts
-    → keep world names (members world names) (change mount) ≡ keep world names (members world names) mount
-reshaping_kept world names apart change shape own_same nowhere_same mount there = by mount.namespace refl
+pub reshaped_kept : (world : World ℕ) (names : List TaskName) {New : ℕ → Type 0} → StandsApart world names New
+    → (mount : Mount ℕ) → Among mount world.mounts → (new : Mount ℕ) → IsReshaped mount new
+    → (Among mount (own_mounts nat_eq world names) → new ≡ mount) → (mount.namespace ≡ None → new ≡ mount)
+    → keep world names (members world names) new ≡ keep world names (members world names) mount
+reshaped_kept world names apart mount there new shaped own_same nowhere_same = by mount.namespace refl
   where
     by : (o : Option ℕ) → mount.namespace ≡ o
-        → keep world names (members world names) (change mount) ≡ keep world names (members world names) mount
-    by None e = ap (keep world names (members world names)) (nowhere_same mount there e)
+        → keep world names (members world names) new ≡ keep world names (members world names) mount
+    by None e = ap (keep world names (members world names)) (nowhere_same e)
     by (Some n) e = which (is_own_namespace nat_eq world names n) refl
       where
         which : (b : Bool) → is_own_namespace nat_eq world names n ≡ b
-            → keep world names (members world names) (change mount) ≡ keep world names (members world names) mount
+            → keep world names (members world names) new ≡ keep world names (members world names) mount
         which true own =
-            ap (keep world names (members world names)) (own_same mount
+            ap (keep world names (members world names)) (own_same
             (among-filter (is_own_mount nat_eq world names) world.mounts mount there
             (ap (holds_of (is_own_namespace nat_eq world names)) e ∙ own)))
         which false other =
-            let shaped = shape mount in
             let no_place = apart.not_stood n other mount there e in
             let no : (is_own world names (members world names) mount
             || is_at nat_eq (roots_and_directories (members world names)) mount) ≡ false =
@@ -68,3 +77,14 @@ reshaping_kept world names apart change shape own_same nowhere_same mount there 
             })) (when (is_at nat_eq (locations (members world names)) mount) (seen_by_descriptor mount))) no_later
             ∙ sym (ap (λ b. cond b (Some mount)
             (when (is_at nat_eq (locations (members world names)) mount) (seen_by_descriptor mount))) no)
+
+pub reshaping_kept : (world : World ℕ) (names : List TaskName) {New : ℕ → Type 0} → StandsApart world names New
+    → (change : Mount ℕ → Mount ℕ)
+    → ((mount : Mount ℕ) → IsReshaped mount (change mount))
+    → ((own : Mount ℕ) → Among own (own_mounts nat_eq world names) → change own ≡ own)
+    → ((mount : Mount ℕ) → Among mount world.mounts → mount.namespace ≡ None → change mount ≡ mount)
+    → (mount : Mount ℕ) → Among mount world.mounts
+    → keep world names (members world names) (change mount) ≡ keep world names (members world names) mount
+reshaping_kept world names apart change shape own_same nowhere_same mount there =
+    reshaped_kept world names apart mount there (change mount) (shape mount) (own_same mount)
+    (nowhere_same mount there)

@@ -7,13 +7,12 @@ use Rattle.vt_spec.specs.Language.Calls.{Call, TaskName, TypeWord}
 use Rattle.vt_spec.specs.Language.Calls.Call.{SetType}
 use Rattle.vt_spec.specs.Language.Calls.TypeWord.{ToPrivate, ToShared, ToSlave, ToUnbindable}
 use Rattle.vt_spec.specs.Lists.{Fresh, holds_of, when}
-use Rattle.vt_spec.specs.Machine.Apply.{apply, filesystems_changed}
+use Rattle.vt_spec.specs.Machine.Apply.{apply}
 use Rattle.vt_spec.specs.Machine.Invariants.{is_nowhere_or_attached, is_private}
 use Rattle.vt_spec.specs.Machine.Judge.{judge_in}
 use Rattle.vt_spec.specs.Machine.Mounts.{Mount, Propagation, group_of, index_of, numbers_by, source_of}
 use Rattle.vt_spec.specs.Machine.Mounts.Propagation.{Private, Shared, Slave, Unbindable}
 use Rattle.vt_spec.specs.Machine.Outcomes.{after}
-use Rattle.vt_spec.specs.Machine.Permits.{Permit}
 use Rattle.vt_spec.specs.Machine.Permits.Permit.{ToSetType}
 use Rattle.vt_spec.specs.Machine.Policy.{call_outcome}
 use Rattle.vt_spec.specs.Machine.Receives.{groups_up, has_members, heir, inherited, inheriting, is_member_of, lost_a_group, regrouped_by, slave_of_heir}
@@ -40,12 +39,12 @@ use Rattle.vt_laws_part.proofs.groups.ReceiversAlike.{member_group}
 use Rattle.vt_laws_part.proofs.part.Observed.{own_mounts_same}
 use Rattle.vt_laws_part.proofs.part.PartOfPart.{is_own, keep}
 use Rattle.vt_laws_part.proofs.seals.ByPart.{apart_if_sealed}
-use Rattle.vt_laws_sealed.specs.Outsiders.{IsOutsidersCall, LeaveASealedSet, sets_types}
+use Rattle.vt_laws_sealed.specs.Outsiders.{IsOutsidersCall}
 use Rattle.vt_laws_sealed.proofs.outsiders.Changing.{KeepsPlaces, changing_leaves_apart, others_changed, sees}
 use Rattle.vt_laws_sealed.proofs.outsiders.OtherMounts.{Foreign, HearsGroup, IsIn, tree_in, events_stay_apart, foreign_above, is_other, member_not_new, member_of_heard, namespace_outside, not_own, not_stood_on, other_hears_foreign, standing_apart_with}
 use Rattle.vt_laws_sealed.proofs.outsiders.OwnTasks.{caller_outside}
 use Rattle.vt_laws_sealed.proofs.outsiders.StandingApart.{StandsApart}
-use Rattle.vt_laws_sealed.proofs.outsiders.Staying.{LeavesApart, by_permit}
+use Rattle.vt_laws_sealed.proofs.outsiders.Staying.{LeavesApart}
 
 -- the masters after a change of types: as they were, or of a group that is made for a mount that is named
 new_masters : (group : ℕ → ℕ) (number : ℕ) (named : List (Mount ℕ)) (master : ℕ → Option ℕ)
@@ -577,23 +576,9 @@ module _ (world : World ℕ) (fresh : Fresh ℕ) (names : List TaskName) (name :
       lives None f = f
       lives (Some x) f = refl
 
-  type_leaves : LeavesApart world (settled nat_eq done) names []
+  pub type_leaves : LeavesApart world (settled nat_eq done) names []
   type_leaves =
       subst (λ w. LeavesApart world w names []) (sym swept)
       (retyping_leaves_apart world names apart_before fresh outsider.serves task.namespace outside its_group its_new
       word
       its_named its_named_in has_lost last_master taken_or_not theirs_stay_there)
-
-by_type : (world : World ℕ) (fresh : Fresh ℕ) (names : List TaskName) (name : TaskName) (call : Call)
-    (task : Task ℕ) → IsOutsidersCall world fresh names name call → task_called world name ≡ Some task
-    → (permit : Permit ℕ) → judge_in nat_eq fresh world task call ≡ Ok permit → sets_types permit ≡ true
-    → LeavesApart world (settled nat_eq (apply nat_eq fresh world task permit).world) names
-    (filesystems_changed nat_eq world permit)
-by_type world fresh names name call task outsider called (ToSetType number word recursive) judged e =
-    type_leaves world fresh names name call task outsider called number word recursive judged
-by_type world fresh names name call task outsider called permit judged e = absurd (true≢false (sym e))
-
-pub types_leave_a_sealed_set : LeaveASealedSet sets_types
-types_leave_a_sealed_set =
-    by_permit sets_types (λ world fresh names name call task permit outsider called judged these.
-    by_type world fresh names name call task outsider called permit judged these)

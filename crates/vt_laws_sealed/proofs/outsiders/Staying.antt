@@ -24,7 +24,7 @@ use Rattle.vt_laws_part.specs.Parts.{SeesTheSame}
 use Rattle.vt_laws_part.specs.Seals.{IsApart}
 use Rattle.vt_laws_part.proofs.part.Observed.{part_same, used_same}
 use Rattle.vt_laws_part.proofs.seals.ByPart.{apart_if_sealed, fewer_footholds_seal_too}
-use Rattle.vt_laws_sealed.specs.Outsiders.{IsOutsidersCall, LeaveASealedSet, LeavesItSealed}
+use Rattle.vt_laws_sealed.specs.Outsiders.{IsOutsidersCall, LeavesItSealed, OutsidersLeaveASealedSet}
 use Rattle.vt_laws_sealed.proofs.outsiders.Raising.{events_raised, on_mounts_raised, sees_raised, tasks_raised, used_alone_raised}
 
 -- a filesystem of the world, or one that the set uses
@@ -112,15 +112,13 @@ module _ (world : World ℕ) (fresh : Fresh ℕ) (names : List TaskName) (name :
     leaves_it_sealed = subst (λ w. LeavesItSealed world w names) (sym policy_left) later_leaves
 
 -- by the permit of the call, if it is granted
-pub by_permit : (these : Permit ℕ → Bool)
-    → ((world : World ℕ) (fresh : Fresh ℕ) (names : List TaskName) (name : TaskName) (call : Call) (task : Task ℕ)
-    (permit : Permit ℕ) → IsOutsidersCall world fresh names name call → task_called world name ≡ Some task
-    → judge_in nat_eq fresh world task call ≡ Ok permit → these permit ≡ true
+pub by_permit : ((world : World ℕ) (fresh : Fresh ℕ) (names : List TaskName) (name : TaskName) (call : Call)
+    (task : Task ℕ) → IsOutsidersCall world fresh names name call → task_called world name ≡ Some task
+    → (permit : Permit ℕ) → judge_in nat_eq fresh world task call ≡ Ok permit
     → LeavesApart world (settled nat_eq (apply nat_eq fresh world task permit).world) names
     (filesystems_changed nat_eq world permit))
-    → LeaveASealedSet these
-by_permit these leaves world fresh names name call outsider given =
-    by (policy nat_eq fresh world name call).answer refl
+    → OutsidersLeaveASealedSet
+by_permit leaves world fresh names name call outsider = by (policy nat_eq fresh world name call).answer refl
   where
     granted : (answer : Answer) → (policy nat_eq fresh world name call).answer ≡ Ok answer → (b : Bool)
         → only_looks call ≡ b → LeavesItSealed world (policy nat_eq fresh world name call).world names
@@ -132,8 +130,7 @@ by_permit these leaves world fresh names name call outsider given =
         leaves_it_sealed world fresh names name call outsider
         (settled nat_eq (apply nat_eq fresh world did.task did.permit).world)
         (filesystems_changed nat_eq world did.permit) did.left
-        (leaves world fresh names name call did.task did.permit outsider did.called did.judged
-        (given did.task did.permit did.called did.judged))
+        (leaves world fresh names name call did.task outsider did.called did.permit did.judged)
 
     by : (answer : Result Answer Deny) → (policy nat_eq fresh world name call).answer ≡ answer
         → LeavesItSealed world (policy nat_eq fresh world name call).world names

@@ -1,13 +1,13 @@
 -- Steps of a call of others, one after the other: what each leaves of a sealed set is left by all.
-use Rattle.std.proofs.Common.{◌≡◌, refl, sym, ap, subst, ◌∙◌, ⊎_elim, inl, inr, ℕ, nat_eq, true, false, List, [], Some, map}
+use Rattle.std.proofs.Common.{◌≡◌, refl, sym, ap, subst, ◌∙◌, ⊎_elim, inl, inr, ℕ, nat_eq, List, [], Some, map}
 use Rattle.std.specs.Prelude.{Contains}
 use Rattle.std.specs.List.{filter_map, list_any}
 use Rattle.vt_spec.specs.Language.Calls.{TaskName}
 use Rattle.vt_spec.specs.Lists.{is_among}
-use Rattle.vt_spec.specs.Machine.Invariants.{MountInvariants, is_listed}
+use Rattle.vt_spec.specs.Machine.Invariants.{MountInvariants}
 use Rattle.vt_spec.specs.Machine.Mounts.{Location, Mount}
 use Rattle.vt_spec.specs.Machine.Receives.{is_member_of}
-use Rattle.vt_spec.specs.Machine.Sealed.{is_at, is_own_namespace, members, own_lowers, roots_and_directories, used_filesystems}
+use Rattle.vt_spec.specs.Machine.Sealed.{is_own_namespace, members, own_lowers, roots_and_directories, used_filesystems}
 use Rattle.vt_spec.specs.Machine.World.{Filesystem, Namespace, Task, World}
 use Rattle.vt_spec.proofs.Lists.{Among}
 use Rattle.vt_laws_part.specs.Parts.{SeesTheSame, shown_of}

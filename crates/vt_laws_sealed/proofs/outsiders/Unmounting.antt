@@ -3,16 +3,15 @@ use Rattle.std.proofs.Common.{◌≡◌, refl, sym, ap, subst, ◌∙◌, ⊎_el
 use Rattle.std.specs.Prelude.{option_map, unwrap_or}
 use Rattle.std.specs.List.{filter_map}
 use Rattle.std.proofs.lemmas.Bool.{false_from_ne_true}
-use Rattle.vt_spec.specs.Language.Calls.{Call, TaskName, same_name}
+use Rattle.vt_spec.specs.Language.Calls.{Call, TaskName}
 use Rattle.vt_spec.specs.Language.Calls.Call.{Umount}
 use Rattle.vt_spec.specs.Lists.{Fresh, holds_of, then_some, when}
-use Rattle.vt_spec.specs.Machine.Apply.{apply, filesystems_changed}
+use Rattle.vt_spec.specs.Machine.Apply.{apply}
 use Rattle.vt_spec.specs.Machine.Attach.{receivers_of}
 use Rattle.vt_spec.specs.Machine.Detach.{going, going_at, going_from, goes_at, is_going, may_go}
 use Rattle.vt_spec.specs.Machine.Invariants.{Stands}
 use Rattle.vt_spec.specs.Machine.Judge.{judge_in}
 use Rattle.vt_spec.specs.Machine.Mounts.{Location, Mount, child_at, group_of, is_shared, stands_at}
-use Rattle.vt_spec.specs.Machine.Permits.{Permit}
 use Rattle.vt_spec.specs.Machine.Permits.Permit.{ToUnmount}
 use Rattle.vt_spec.specs.Machine.Receives.{receivers, receives}
 use Rattle.vt_spec.specs.Machine.Sealed.{is_own_mount, is_own_namespace, other_mounts, own_mounts}
@@ -32,12 +31,12 @@ use Rattle.vt_laws_worlds.proofs.worlds.Reached.{namespace_below}
 use Rattle.vt_laws_part.specs.Seals.{IsApart}
 use Rattle.vt_laws_part.proofs.groups.EventsApart.{no_event_of_others_reaches_them}
 use Rattle.vt_laws_part.proofs.seals.ByPart.{apart_if_sealed}
-use Rattle.vt_laws_sealed.specs.Outsiders.{IsOutsidersCall, LeaveASealedSet, unmounts}
+use Rattle.vt_laws_sealed.specs.Outsiders.{IsOutsidersCall}
 use Rattle.vt_laws_sealed.proofs.outsiders.ChangedWorlds.{others_rest}
 use Rattle.vt_laws_sealed.proofs.outsiders.OtherMounts.{is_other, namespace_outside, nowhere_unplaced, standing_apart}
 use Rattle.vt_laws_sealed.proofs.outsiders.OwnTasks.{caller_outside}
 use Rattle.vt_laws_sealed.proofs.outsiders.StandingApart.{NothingNew, StandsApart}
-use Rattle.vt_laws_sealed.proofs.outsiders.Staying.{LeavesApart, by_permit}
+use Rattle.vt_laws_sealed.proofs.outsiders.Staying.{LeavesApart}
 use Rattle.vt_laws_sealed.proofs.outsiders.TakingAway.{namespaces_taken_away, taking_leaves_apart}
 
 -- The mounts that the unmount event of a mount of others takes away are of others.
@@ -196,7 +195,8 @@ module _ (world : World ℕ) (fresh : Fresh ℕ) (names : List TaskName) (name :
   abbrev gone : List ℕ
   gone = going nat_eq world (mount_numbered nat_eq world number)
 
-  unmount_leaves : LeavesApart world (settled nat_eq (apply nat_eq fresh world task (ToUnmount number)).world) names []
+  pub unmount_leaves : LeavesApart world (settled nat_eq (apply nat_eq fresh world task (ToUnmount number)).world)
+      names []
   unmount_leaves =
       subst (λ w. LeavesApart world (settled nat_eq w) names [])
       (namespaces_taken_away world gone)
@@ -205,17 +205,3 @@ module _ (world : World ℕ) (fresh : Fresh ℕ) (names : List TaskName) (name :
       (others_go world names so_far task.namespace
       (namespace_outside world names set_apart task (caller_outside world fresh names name call task outsider called))
       number placed_in))
-
-by_unmount : (world : World ℕ) (fresh : Fresh ℕ) (names : List TaskName) (name : TaskName) (call : Call)
-    (task : Task ℕ) → IsOutsidersCall world fresh names name call → task_called world name ≡ Some task
-    → (permit : Permit ℕ) → judge_in nat_eq fresh world task call ≡ Ok permit → unmounts permit ≡ true
-    → LeavesApart world (settled nat_eq (apply nat_eq fresh world task permit).world) names
-    (filesystems_changed nat_eq world permit)
-by_unmount world fresh names name call task outsider called (ToUnmount number) judged e =
-    unmount_leaves world fresh names name call task outsider called number judged
-by_unmount world fresh names name call task outsider called permit judged e = absurd (true≢false (sym e))
-
-pub unmounts_leave_a_sealed_set : LeaveASealedSet unmounts
-unmounts_leave_a_sealed_set =
-    by_permit unmounts (λ world fresh names name call task permit outsider called judged these.
-    by_unmount world fresh names name call task outsider called permit judged these)

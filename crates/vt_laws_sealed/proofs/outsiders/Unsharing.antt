@@ -1,19 +1,17 @@
 -- Others that get a namespace of their own, with copies of the mounts of theirs: unshare(2) with CLONE_NEWNS.
-use Rattle.std.proofs.Common.{◌≡◌, refl, sym, ap, subst, ◌∙◌, ◌⊎◌, inl, inr, ⊎_elim, ℕ, nat_eq, Bool, true, false, cond, true≢false, List, [], ◌∷◌, ◌++◌, append-nil, Option, Some, None, Ok, filter, flat_map, map, ◌+◌, ◌*◌, not, ◌||◌, eqb-true}
+use Rattle.std.proofs.Common.{◌≡◌, refl, sym, ap, subst, ◌∙◌, ◌⊎◌, inl, inr, ⊎_elim, ℕ, nat_eq, Bool, true, false, cond, true≢false, List, [], ◌∷◌, ◌++◌, append-nil, Option, Some, None, filter, flat_map, map, ◌+◌, ◌*◌, not, ◌||◌, eqb-true}
 use Rattle.std.specs.List.{filter_map, list_all, list_any}
 use Rattle.std.proofs.lemmas.Bool.{and_from, and_parts, false_from_ne_true, not-true}
 use Rattle.std.proofs.lemmas.List.Elements.{filter-append, filter_map-append}
 use Rattle.vt_spec.specs.Language.Calls.{Call, TaskName, same_name}
-use Rattle.vt_spec.specs.Lists.{Fresh, evens, holds_of, is_among, odds, when}
-use Rattle.vt_spec.specs.Machine.Apply.{apply, filesystems_changed}
-use Rattle.vt_spec.specs.Machine.Invariants.{IsWorld, is_listed}
-use Rattle.vt_spec.specs.Machine.Judge.{judge_in}
+use Rattle.vt_spec.specs.Lists.{Fresh, evens, holds_of, odds, when}
+use Rattle.vt_spec.specs.Machine.Apply.{apply}
+use Rattle.vt_spec.specs.Machine.Invariants.{is_listed}
 use Rattle.vt_spec.specs.Machine.Mounts.{Location, Mount, Propagation, index_of, numbers_by}
 use Rattle.vt_spec.specs.Machine.Mounts.Propagation.{Private, Shared, Slave, Unbindable}
 use Rattle.vt_spec.specs.Machine.Namespaces.{copied_mount, is_copied, location_on_copy, namespaces_ended, unshared, unshared_task}
-use Rattle.vt_spec.specs.Machine.Permits.{Permit}
 use Rattle.vt_spec.specs.Machine.Permits.Permit.{ToUnshare}
-use Rattle.vt_spec.specs.Machine.Run.{Serves, numbers_in_use, used_by_filesystem, used_by_mount}
+use Rattle.vt_spec.specs.Machine.Run.{Serves, used_by_filesystem, used_by_mount}
 use Rattle.vt_spec.specs.Machine.Sealed.{is_at, is_member_task, is_own_mount, is_own_namespace, locations, master_of, members, no_outsider_on, other_mounts, outsiders, roots_and_directories, seen_by_descriptor}
 use Rattle.vt_spec.specs.Machine.Settled.{settled}
 use Rattle.vt_spec.specs.Machine.World.{Namespace, Task, World, all_locations, locations_of, mount_at, mount_numbered, mounts_of, replaced_if_called, task_called}
@@ -27,13 +25,13 @@ use Rattle.vt_laws_part.specs.Seals.{IsApart}
 use Rattle.vt_laws_part.proofs.part.Observed.{own_mounts_same}
 use Rattle.vt_laws_part.proofs.part.PartOfPart.{keep}
 use Rattle.vt_laws_part.proofs.seals.ByPart.{apart_if_sealed}
-use Rattle.vt_laws_sealed.specs.Outsiders.{IsOutsidersCall, LeaveASealedSet, unshares}
+use Rattle.vt_laws_sealed.specs.Outsiders.{IsOutsidersCall}
 use Rattle.vt_laws_sealed.proofs.outsiders.Attaching.{found_first, none_kept}
 use Rattle.vt_laws_sealed.proofs.outsiders.Ending.{ended_leaves_apart, filesystems_ended}
 use Rattle.vt_laws_sealed.proofs.outsiders.OtherMounts.{HearsGroup, events_stay_apart, is_other, located_there, namespace_outside, not_stood_on, number_not_new, other_hears_foreign, standing_apart}
 use Rattle.vt_laws_sealed.proofs.outsiders.OwnTasks.{caller_outside, replaced_members}
 use Rattle.vt_laws_sealed.proofs.outsiders.StandingApart.{NothingNew, StandsApart}
-use Rattle.vt_laws_sealed.proofs.outsiders.Staying.{IsOfTheWorld, LeavesApart, by_permit, free_from}
+use Rattle.vt_laws_sealed.proofs.outsiders.Staying.{IsOfTheWorld, LeavesApart, free_from}
 use Rattle.vt_laws_sealed.proofs.outsiders.Steps.{leaves_on}
 use Rattle.vt_laws_sealed.proofs.outsiders.Sweeping.{sweeping_leaves_apart}
 
@@ -370,7 +368,7 @@ module _ (world : World ℕ) (names : List TaskName) (apart : IsApart world name
     filesystems_unshared =
         filesystems_ended left names copied_standing left.tasks refl left_placed (λ location m. inl (location, m, refl))
 
-unshare_leaves : (world : World ℕ) (fresh : Fresh ℕ) (names : List TaskName) (name : TaskName) (call : Call)
+pub unshare_leaves : (world : World ℕ) (fresh : Fresh ℕ) (names : List TaskName) (name : TaskName) (call : Call)
     (task : Task ℕ) → IsOutsidersCall world fresh names name call → task_called world name ≡ Some task
     → LeavesApart world (settled nat_eq (apply nat_eq fresh world task ToUnshare).world) names []
 unshare_leaves world fresh names name call task outsider called =
@@ -385,17 +383,3 @@ unshare_leaves world fresh names name call task outsider called =
     (ended_namespaces_keep_mounts (unshared nat_eq world fresh task)
     (unshare_keeps_mounts world fresh task outsider.serves outsider.is.mounts)).one_number []
     (unsharing_leaves_apart world names set_apart fresh outsider.serves task caller same)
-
-by_unshare : (world : World ℕ) (fresh : Fresh ℕ) (names : List TaskName) (name : TaskName) (call : Call)
-    (task : Task ℕ) → IsOutsidersCall world fresh names name call → task_called world name ≡ Some task
-    → (permit : Permit ℕ) → judge_in nat_eq fresh world task call ≡ Ok permit → unshares permit ≡ true
-    → LeavesApart world (settled nat_eq (apply nat_eq fresh world task permit).world) names
-    (filesystems_changed nat_eq world permit)
-by_unshare world fresh names name call task outsider called ToUnshare judged e =
-    unshare_leaves world fresh names name call task outsider called
-by_unshare world fresh names name call task outsider called permit judged e = absurd (true≢false (sym e))
-
-pub unshares_leave_a_sealed_set : LeaveASealedSet unshares
-unshares_leave_a_sealed_set =
-    by_permit unshares (λ world fresh names name call task permit outsider called judged these.
-    by_unshare world fresh names name call task outsider called permit judged these)

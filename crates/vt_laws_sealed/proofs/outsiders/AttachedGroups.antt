@@ -1,0 +1,378 @@
+-- The groups that mounts of others form where they are attached: those of others, and new ones.
+use Rattle.std.proofs.Common.{◌≡◌, refl, sym, ap, subst, ◌∙◌, ◌⊎◌, inl, inr, ⊎_elim, ℕ, nat_eq, Bool, true, false, cond, true≢false, List, [], ◌∷◌, ◌*◌, Option, Some, None, find, length, not, ◌+◌, eqb-true}
+use Rattle.std.specs.Prelude.{option_map, unwrap_or}
+use Rattle.std.specs.List.{filter_map, list_any}
+use Rattle.std.proofs.lemmas.Bool.{false_from_ne_true}
+use Rattle.std.proofs.lemmas.Option.{same_Some}
+use Rattle.vt_spec.specs.Language.Calls.{TaskName}
+use Rattle.vt_spec.specs.Lists.{Fresh, folded, holds_of, then_some, when}
+use Rattle.vt_spec.specs.Machine.Attach.{Copies, Graft, index_in_rows, index_of_group, all_groups_made, attach, copies_from, copy_at, copy_type, graft_of, group_made, image, is_destination, masters_with, nearest_image, parts_of, twig_master, twig_of, type_at, type_on_shared}
+use Rattle.vt_spec.specs.Machine.Mounts.{Location, Mount, Propagation, group_of, index_of, is_shared}
+use Rattle.vt_spec.specs.Machine.Mounts.Propagation.{Private, Shared, Slave, Unbindable}
+use Rattle.vt_spec.specs.Machine.Receives.{groups_up, has_members, is_member_of, slave_of_heir}
+use Rattle.vt_spec.specs.Machine.Run.{Serves}
+use Rattle.vt_spec.specs.Machine.Sealed.{is_own_mount, master_of, other_mounts, own_mounts}
+use Rattle.vt_spec.specs.Machine.Types.{master_after}
+use Rattle.vt_spec.specs.Machine.World.{Filesystem, World, mount_at}
+use Rattle.vt_spec.proofs.Lists.{Among, among-from_filter, among-from_filter_map, among-from_flat_map, among-from_map, any_among}
+use Rattle.vt_spec.proofs.Options.{none_is_some}
+use Rattle.vt_laws_layers.specs.Layers.ChangesUpper.{IsNewBy}
+use Rattle.vt_laws_part.specs.Seals.{IsApart}
+use Rattle.vt_laws_sealed.proofs.outsiders.OtherMounts.{Foreign, HearsGroup, foreign_above, member_not_new, other_hears_foreign, standing_apart_with}
+use Rattle.vt_laws_sealed.proofs.outsiders.StandingApart.{StandsApart}
+
+-- a master that is set for other groups stays
+masters_stay : (group : ℕ) (made : List (ℕ × Option ℕ)) (master : ℕ → Option ℕ)
+    → ((entry : ℕ × Option ℕ) → Among entry made → nat_eq group entry.0 ≡ false)
+    → folded (masters_with nat_eq) master made group ≡ master group
+masters_stay group [] master differ = refl
+masters_stay group (entry ∷ rest) master differ =
+    masters_stay group rest (masters_with nat_eq master entry) (λ e m. differ e (inr m))
+    ∙ ap (λ b. cond b entry.1 (master group)) (differ entry (inl refl))
+
+-- a master is one that was set, or the old one
+masters_from : (group : ℕ) (made : List (ℕ × Option ℕ)) (master : ℕ → Option ℕ)
+    → (folded (masters_with nat_eq) master made group ≡ master group)
+    ⊎ ((entry : ℕ × Option ℕ) × Among entry made × (folded (masters_with nat_eq) master made group ≡ entry.1))
+masters_from group [] master = inl refl
+masters_from group (entry ∷ rest) master =
+    ⊎_elim (λ same. by (nat_eq group entry.0) refl same)
+    (λ set. inr (set.0, inr set.1, set.2))
+    (masters_from group rest (masters_with nat_eq master entry))
+  where
+    by : (b : Bool) → nat_eq group entry.0 ≡ b
+        → folded (masters_with nat_eq) (masters_with nat_eq master entry) rest group
+        ≡ cond (nat_eq group entry.0) entry.1 (master group)
+        → (folded (masters_with nat_eq) master (entry ∷ rest) group ≡ master group)
+        ⊎ ((one : ℕ × Option ℕ) × Among one (entry ∷ rest)
+        × (folded (masters_with nat_eq) master (entry ∷ rest) group ≡ one.1))
+    by true e same = inr (entry, inl refl, same ∙ ap (λ b. cond b entry.1 (master group)) e)
+    by false e same = inl (same ∙ ap (λ b. cond b entry.1 (master group)) e)
+
+-- what is attached: a mount with the type and the filesystem of one of the others, or a private one of a new filesystem
+abbrev pub OriginOf : World ℕ → Fresh ℕ → List TaskName → Mount ℕ → Type 0
+OriginOf world fresh names origin =
+    ((other : Mount ℕ) × Among other (other_mounts nat_eq world names) × (origin.propagation ≡ other.propagation)
+    × (origin.filesystem ≡ other.filesystem))
+    ⊎ ((origin.propagation ≡ Private) × (k : ℕ) × (origin.filesystem ≡ fresh k))
+
+module _ (world : World ℕ) (names : List TaskName) (apart : IsApart world names) (fresh : Fresh ℕ)
+    (serves : Serves nat_eq world fresh) (filesystems : List (Filesystem ℕ))
+    (supply : Fresh ℕ) (supplied : (k : ℕ) → (j : ℕ) × (supply k ≡ fresh j)) (place : Location ℕ)
+    (mounts : List (Mount ℕ)) (origins : (origin : Mount ℕ) → Among origin mounts → OriginOf world fresh names origin)
+    (moves : Bool) where
+  abbrev so_far : StandsApart world names (IsNewBy fresh)
+  so_far = standing_apart_with world names apart fresh serves
+
+  -- the world, perhaps with a new filesystem
+  abbrev base : World ℕ
+  base = record world { filesystems = filesystems }
+
+  abbrev destination : Mount ℕ
+  destination = mount_at nat_eq world place
+
+  abbrev parts : List (Mount ℕ)
+  parts = parts_of nat_eq base place
+
+  abbrev new : Copies ℕ
+  new = copies_from nat_eq supply parts mounts
+
+  abbrev tree : Graft ℕ
+  tree = graft_of nat_eq base new place moves mounts
+
+  abbrev pub left : World ℕ
+  left = attach nat_eq base supply place moves mounts
+
+  abbrev pub IsForeign : ℕ → Type 0
+  IsForeign = Foreign world names so_far
+
+  -- numbers of new groups are new
+  new_image : (group origin : ℕ) → (k : ℕ) × (new.image group origin ≡ fresh k)
+  new_image group origin =
+      supplied (2 * index_in_rows (length mounts) (index_of_group nat_eq parts group)
+      (index_of nat_eq mounts origin) + 1)
+
+  -- an origin hears groups of others alone
+  origin_hears : (origin : Mount ℕ) → Among origin mounts → (kind : Propagation ℕ) → origin.propagation ≡ kind
+      → (group : ℕ) → HearsGroup world names so_far world kind group → IsForeign group
+  origin_hears origin m kind e group how =
+      ⊎_elim
+      (λ other. other_hears_foreign world names so_far other.0 other.1 group
+      (subst (λ k. HearsGroup world names so_far world k group) (sym e ∙ other.2) how))
+      (λ private. ⊎_elim (λ f. none_is_some group f) (λ f. none_is_some group f)
+      (subst (λ k. HearsGroup world names so_far world k group) (sym e ∙ private.0) how))
+      (origins origin m)
+
+  -- A copy is of a mount that is attached, at a part.
+  abbrev pub copied_to : Mount ℕ → Mount ℕ → Mount ℕ
+  copied_to part origin =
+      copy_at nat_eq base new tree parts part (twig_of new (group_of destination.propagation) origin)
+
+  abbrev pub IsCopyOf : Mount ℕ → Type 0
+  IsCopyOf mount =
+      (part : Mount ℕ) × Among part parts × (origin : Mount ℕ) × Among origin mounts × (mount ≡ copied_to part origin)
+
+  -- Groups that are made are new, and their masters are groups of others.
+  image_foreign : (twig_group : ℕ) (origin : Mount ℕ) → Among origin mounts
+      → IsForeign (image nat_eq new destination (twig_of new (group_of destination.propagation) origin) twig_group)
+  image_foreign group origin m = by (is_member_of nat_eq group destination)
+    where
+      typed : (o : Option ℕ) (kind : Propagation ℕ) → origin.propagation ≡ kind
+          → IsForeign (unwrap_or (group_of (type_at new o (record origin { propagation = kind })))
+          (new.image group origin.number))
+      typed None (Shared g) e = origin_hears origin m (Shared g) e g (inl refl)
+      typed None (Slave g) e = inr (new_image group origin.number)
+      typed None Private e = inr (new_image group origin.number)
+      typed None Unbindable e = inr (new_image group origin.number)
+      typed (Some there) (Shared g) e = origin_hears origin m (Shared g) e g (inl refl)
+      typed (Some there) (Slave g) e = inr (new_image there origin.number)
+      typed (Some there) Private e = inr (new_image there origin.number)
+      typed (Some there) Unbindable e = inr (new_image there origin.number)
+
+      by : (b : Bool) → IsForeign (cond b (unwrap_or (group_of (type_at new (group_of destination.propagation) origin))
+          (new.image group origin.number)) (new.image group origin.number))
+      by true = typed (group_of destination.propagation) origin.propagation refl
+      by false = inr (new_image group origin.number)
+
+  nearest_foreign : (origin : Mount ℕ) → Among origin mounts → (above : Option ℕ) (group : ℕ)
+      → nearest_image nat_eq base new parts destination (twig_of new (group_of destination.propagation) origin) above
+      ≡ Some group → IsForeign group
+  nearest_foreign origin m None group e = none_is_some group e
+  nearest_foreign origin m (Some above) group e =
+      by (find (has_members nat_eq parts) (groups_up world above)) e
+    where
+      by : (o : Option ℕ) → option_map (image nat_eq new destination
+          (twig_of new (group_of destination.propagation) origin)) o ≡ Some group → IsForeign group
+      by None f = none_is_some group f
+      by (Some found) f =
+          subst IsForeign
+          (same_Some (image nat_eq new destination (twig_of new (group_of destination.propagation) origin) found) group
+          f)
+          (image_foreign found origin m)
+
+  -- a master of an origin
+  after_foreign : (origin : Mount ℕ) → Among origin mounts → (group : ℕ)
+      → master_after origin.propagation ≡ Some group → IsForeign group
+  after_foreign origin m group e = by origin.propagation refl e
+    where
+      by : (kind : Propagation ℕ) → origin.propagation ≡ kind → master_after kind ≡ Some group → IsForeign group
+      by (Shared g) f h = none_is_some group h
+      by (Slave g) f h = origin_hears origin m (Slave g) f group (inr h)
+      by Private f h = none_is_some group h
+      by Unbindable f h = none_is_some group h
+
+  abbrev IsMade : ℕ × Option ℕ → Type 0
+  IsMade entry = ((k : ℕ) × (entry.0 ≡ fresh k)) × ((group : ℕ) → entry.1 ≡ Some group → IsForeign group)
+
+  made_there : (origin : Mount ℕ) → Among origin mounts → (entry : ℕ × Option ℕ)
+      → twig_master (twig_of new (group_of destination.propagation) origin) ≡ Some entry → IsMade entry
+  made_there origin m entry e = by origin.propagation refl (group_of destination.propagation) e
+    where
+      made : (group : ℕ) → (k : ℕ) × (group ≡ fresh k)
+          → Some (group, master_after origin.propagation) ≡ Some entry → IsMade entry
+      made group number f =
+          let it = same_Some (group, master_after origin.propagation) entry f in (
+            (number.0, sym (ap (λ (x : ℕ × Option ℕ). x.0) it) ∙ number.1),
+            λ above h. after_foreign origin m above (ap (λ (x : ℕ × Option ℕ). x.1) it ∙ h),
+          )
+
+      at : (kind : Propagation ℕ) → origin.propagation ≡ kind → (o : Option ℕ)
+          → cond (is_shared kind) None (option_map (λ group. (group, master_after origin.propagation))
+          (group_of (type_at new o (record origin { propagation = kind })))) ≡ Some entry → IsMade entry
+      at (Shared g) f o h = none_is_some entry h
+      at (Slave g) f None h = none_is_some entry h
+      at Private f None h = none_is_some entry h
+      at Unbindable f None h = none_is_some entry h
+      at (Slave g) f (Some there) h = made (new.image there origin.number) (new_image there origin.number) h
+      at Private f (Some there) h = made (new.image there origin.number) (new_image there origin.number) h
+      at Unbindable f (Some there) h = made (new.image there origin.number) (new_image there origin.number) h
+
+      by : (kind : Propagation ℕ) → origin.propagation ≡ kind → (o : Option ℕ)
+          → twig_master (twig_of new o origin) ≡ Some entry → IsMade entry
+      by kind f o h =
+          at kind f o
+          (subst (λ x. cond (is_shared x) None (option_map (λ group. (group, master_after origin.propagation))
+          (group_of (type_at new o (record origin { propagation = x })))) ≡ Some entry) f h)
+
+  made_elsewhere : (origin : Mount ℕ) → Among origin mounts → (group : ℕ) (entry : ℕ × Option ℕ)
+      → when (not (is_member_of nat_eq group destination)) (
+        image nat_eq new destination (twig_of new (group_of destination.propagation) origin) group,
+        nearest_image nat_eq base new parts destination (twig_of new (group_of destination.propagation) origin)
+            (world.master group),
+      ) ≡ Some entry → IsMade entry
+  made_elsewhere origin m group entry e = by (is_member_of nat_eq group destination) refl e
+    where
+      above : Option ℕ
+      above =
+          nearest_image nat_eq base new parts destination (twig_of new (group_of destination.propagation) origin)
+          (world.master group)
+
+      by : (b : Bool) → is_member_of nat_eq group destination ≡ b
+          → when (not b) (
+            cond b (unwrap_or (group_of (type_at new (group_of destination.propagation) origin))
+                (new.image group origin.number)) (new.image group origin.number),
+            nearest_image nat_eq base new parts destination (twig_of new (group_of destination.propagation) origin)
+                (world.master group),
+          ) ≡ Some entry → IsMade entry
+      by true f h = none_is_some entry h
+      by false f h =
+          let it = same_Some (
+            new.image group origin.number,
+            nearest_image nat_eq base new parts destination (twig_of new (group_of destination.propagation) origin)
+                (world.master group),
+          ) entry h in
+          let number = new_image group origin.number in (
+            (number.0, sym (ap (λ (x : ℕ × Option ℕ). x.0) it) ∙ number.1),
+            λ g k. nearest_foreign origin m (world.master group) g (ap (λ (x : ℕ × Option ℕ). x.1) it ∙ k),
+          )
+
+  made_foreign : (entry : ℕ × Option ℕ) → Among entry (all_groups_made nat_eq base new tree parts) → IsMade entry
+  made_foreign entry m =
+      let part = among-from_flat_map (λ p. filter_map (group_made nat_eq base new tree parts p) tree.twigs) parts entry
+      m in
+      let twig = among-from_filter_map (group_made nat_eq base new tree parts part.0) tree.twigs entry part.2 in
+      let origin = among-from_map (twig_of new (group_of destination.propagation)) mounts twig.0 twig.1 in
+      by part.0 origin.0 origin.1 (is_destination nat_eq tree part.0.number)
+      (ap (group_made nat_eq base new tree parts part.0) (sym origin.2) ∙ twig.2)
+    where
+      elsewhere : (part origin : Mount ℕ) → Among origin mounts → (o : Option ℕ)
+          → then_some o (λ group. when (not (is_member_of nat_eq group destination)) (
+            image nat_eq new destination (twig_of new (group_of destination.propagation) origin) group,
+            nearest_image nat_eq base new parts destination (twig_of new (group_of destination.propagation) origin)
+                (world.master group),
+          )) ≡ Some entry → IsMade entry
+      elsewhere part origin n None h = none_is_some entry h
+      elsewhere part origin n (Some group) h = made_elsewhere origin n group entry h
+
+      by : (part origin : Mount ℕ) → Among origin mounts → (b : Bool)
+          → cond b (twig_master (twig_of new (group_of destination.propagation) origin))
+          (then_some (group_of part.propagation) (λ group. when (not (is_member_of nat_eq group destination)) (
+            image nat_eq new destination (twig_of new (group_of destination.propagation) origin) group,
+            nearest_image nat_eq base new parts destination (twig_of new (group_of destination.propagation) origin)
+                (world.master group),
+          ))) ≡ Some entry → IsMade entry
+      by part origin n true h = made_there origin n entry h
+      by part origin n false h = elsewhere part origin n (group_of part.propagation) h
+
+  -- The masters of groups of theirs stay, and that of a group of others is one of others.
+  pub own_master_stays : (group : ℕ) → list_any (is_member_of nat_eq group) (own_mounts nat_eq world names) ≡ true
+      → left.master group ≡ world.master group
+  own_master_stays group h =
+      let member = any_among (is_member_of nat_eq group) (own_mounts nat_eq world names) h in
+      masters_stay group (all_groups_made nat_eq base new tree parts) world.master (λ entry m.
+      false_from_ne_true (nat_eq group entry.0) (λ e.
+      let made = made_foreign entry m in
+      member_not_new world fresh serves member.0 group made.0.0
+      (among-from_filter (is_own_mount nat_eq world names) world.mounts member.0 member.1).0
+      (member_of group member.0 member.2) (eqb-true group entry.0 e ∙ made.0.1)))
+    where
+      member_of : (group : ℕ) (mount : Mount ℕ) → is_member_of nat_eq group mount ≡ true
+          → group_of mount.propagation ≡ Some group
+      member_of group mount h = by (group_of mount.propagation) h
+        where
+          by : (o : Option ℕ) → holds_of (nat_eq group) o ≡ true → o ≡ Some group
+          by None f = absurd (true≢false (sym f))
+          by (Some x) f = ap Some (sym (eqb-true group x f))
+
+  foreign_master : (group above : ℕ) → IsForeign group → left.master group ≡ Some above → IsForeign above
+  foreign_master group above foreign e =
+      ⊎_elim
+      (λ same. foreign_above world names so_far group above foreign (sym same ∙ e))
+      (λ set. (made_foreign set.0 set.1).1 above (sym set.2 ∙ e))
+      (masters_from group (all_groups_made nat_eq base new tree parts) world.master)
+
+  -- A type of which the group is one of others: then each group that it hears is.
+  heard_foreign : (kind : Propagation ℕ) → ((group : ℕ) → group_of kind ≡ Some group → IsForeign group)
+      → ((group : ℕ) → kind ≡ Slave group → IsForeign group)
+      → (group : ℕ) → HearsGroup world names so_far left kind group → IsForeign group
+  heard_foreign (Shared g) of_group of_slave group how =
+      ⊎_elim (of_group group) (λ e. foreign_master g group (of_group g refl) e) how
+  heard_foreign (Slave g) of_group of_slave group how =
+      ⊎_elim (λ e. none_is_some group e) (λ e. subst IsForeign (same_Some g group e) (of_slave g refl)) how
+  heard_foreign Private of_group of_slave group how =
+      ⊎_elim (λ e. none_is_some group e) (λ e. none_is_some group e) how
+  heard_foreign Unbindable of_group of_slave group how =
+      ⊎_elim (λ e. none_is_some group e) (λ e. none_is_some group e) how
+
+  -- the type of a mount of others, as it was
+  pub old_foreign : (other : Mount ℕ) → Among other (other_mounts nat_eq world names) → (group : ℕ)
+      → HearsGroup world names so_far left other.propagation group → IsForeign group
+  old_foreign other m =
+      heard_foreign other.propagation
+      (λ group e. other_hears_foreign world names so_far other m group (inl e))
+      (λ group e. other_hears_foreign world names so_far other m group (inr (ap (master_of world) e)))
+
+  -- the type of a copy
+  twig_foreign : (origin : Mount ℕ) → Among origin mounts → (group : ℕ)
+      → HearsGroup world names so_far left
+      (type_at new (group_of destination.propagation) origin) group → IsForeign group
+  twig_foreign origin m = by (group_of destination.propagation) origin.propagation refl
+    where
+      old : (group : ℕ) → HearsGroup world names so_far left origin.propagation group → IsForeign group
+      old =
+          heard_foreign origin.propagation
+          (λ group e. origin_hears origin m origin.propagation refl group (inl e))
+          (λ group e. origin_hears origin m origin.propagation refl group (inr (ap (master_of world) e)))
+
+      shared : (number : ℕ) → (k : ℕ) × (number ≡ fresh k) → (group : ℕ)
+          → HearsGroup world names so_far left (Shared number) group → IsForeign group
+      shared number new_one =
+          heard_foreign (Shared number)
+          (λ group e. inr (new_one.0, sym (same_Some number group e) ∙ new_one.1))
+          (λ group e. none_is_some number (sym (ap group_of e)))
+
+      on : (g : ℕ) (kind : Propagation ℕ) → origin.propagation ≡ kind → (group : ℕ)
+          → HearsGroup world names so_far left (type_on_shared (new.image g origin.number) kind) group
+          → IsForeign group
+      on g (Shared h) e group how =
+          old group (subst (λ kind. HearsGroup world names so_far left kind group) (sym e) how)
+      on g (Slave h) e group how = shared (new.image g origin.number) (new_image g origin.number) group how
+      on g Private e group how = shared (new.image g origin.number) (new_image g origin.number) group how
+      on g Unbindable e group how = shared (new.image g origin.number) (new_image g origin.number) group how
+
+      by : (o : Option ℕ) (kind : Propagation ℕ) → origin.propagation ≡ kind → (group : ℕ)
+          → HearsGroup world names so_far left (type_at new o origin) group → IsForeign group
+      by None kind e group how = old group how
+      by (Some g) kind e group how =
+          on g kind e group
+          (subst (λ x. HearsGroup world names so_far left
+          (type_on_shared (new.image g origin.number) x) group)
+          e how)
+
+  pub copy_foreign : (mount : Mount ℕ) → IsCopyOf mount → (group : ℕ)
+      → HearsGroup world names so_far left mount.propagation group → IsForeign group
+  copy_foreign mount copy group how =
+      by (is_destination nat_eq tree copy.0.number)
+      (subst (λ (m : Mount ℕ). HearsGroup world names so_far left m.propagation group) copy.4 how)
+    where
+      elsewhere : (kind : Propagation ℕ) → HearsGroup world names so_far left
+          (copy_type nat_eq base new parts destination (twig_of new (group_of destination.propagation) copy.2) kind)
+          group
+          → IsForeign group
+      elsewhere (Shared g) h =
+          heard_foreign (Shared (image nat_eq new destination
+          (twig_of new (group_of destination.propagation) copy.2) g))
+          (λ x e. subst IsForeign (same_Some (image nat_eq new destination
+          (twig_of new (group_of destination.propagation) copy.2) g) x e) (image_foreign g copy.2 copy.3))
+          (λ x e. none_is_some (image nat_eq new destination (twig_of new (group_of destination.propagation) copy.2) g)
+          (sym (ap group_of e))) group h
+      elsewhere (Slave g) h =
+          heir (nearest_image nat_eq base new parts destination (twig_of new (group_of destination.propagation) copy.2)
+          (Some g)) refl h
+        where
+          heir : (o : Option ℕ) → nearest_image nat_eq base new parts destination
+              (twig_of new (group_of destination.propagation) copy.2) (Some g) ≡ o
+              → HearsGroup world names so_far left (slave_of_heir o) group → IsForeign group
+          heir None e k = ⊎_elim (λ f. none_is_some group f) (λ f. none_is_some group f) k
+          heir (Some x) e k =
+              ⊎_elim (λ f. none_is_some group f)
+              (λ f. subst IsForeign (same_Some x group f) (nearest_foreign copy.2 copy.3 (Some g) x e)) k
+      elsewhere Private h = ⊎_elim (λ f. none_is_some group f) (λ f. none_is_some group f) h
+      elsewhere Unbindable h = ⊎_elim (λ f. none_is_some group f) (λ f. none_is_some group f) h
+
+      by : (b : Bool) → HearsGroup world names so_far left
+          (cond b (type_at new (group_of destination.propagation) copy.2)
+          (copy_type nat_eq base new parts destination (twig_of new (group_of destination.propagation) copy.2)
+          copy.0.propagation)) group → IsForeign group
+      by true h = twig_foreign copy.2 copy.3 group h
+      by false h = elsewhere copy.0.propagation h
