@@ -1,14 +1,11 @@
 -- Mounts that get other mount points, one after the other: their room, and the uses of their mount points.
 use Rattle.std.proofs.Common.{◌≡◌, refl, ap, subst, sym, ◌∙◌, ℕ, ◌+◌, ◌-◌, ◌<◌, ◌≤◌, nat_eq, Bool, true, false, cond, ◌&&◌, List, [], ◌∷◌, length, Some, None, Option, option_map, take, drop, get_or, is_some, map, inl, arith}
-use Rattle.std.specs.Prelude.{IfErr, IsErrOf, OnOk, Result, nat_le, option_to_list, ⊤}
+use Rattle.std.specs.Prelude.{IsErr, OnOk, Result, nat_le, option_to_list, ⊤}
 use Rattle.std.specs.List.{list_all}
 use Rattle.std.proofs.lemmas.Bool.{and_parts, le-leb, leb-true}
 use Rattle.std.proofs.lemmas.List.{flat_map_more, length-append, length-map, length-take-le, map_more, take-append-drop, take_more}
 use Rattle.std.proofs.lemmas.List.Folds.{list_all-append, list_all_more}
 use Rattle.vt_fs.specs.FilesystemsValue.{ChangesInodes, Filesystems, Shown, inodes_at, shown}
-use Rattle.vt_spec.specs.declared.errors.Deny.{Deny}
-use Rattle.vt_spec.specs.declared.errors.Rule.TheVariants.{S5}
-use Rattle.vt_spec.specs.Errors.{denial}
 use Rattle.vt_spec.specs.Inodes.{pinned, uses_in}
 use Rattle.vt_laws_letting_go.proofs.Lists.{Among, among-append_left, among-append_right, among-map, passes}
 use Rattle.vt_laws_letting_go.specs.OneByOne.{Inode}
@@ -144,15 +141,14 @@ pub pinned_next : (moved : List Moved) (old : List Shown) (before after : Filesy
     → length moved ≤ most_counted
     → list_all (λ (point : Location). point_has_room (most_counted - length moved) old (Some point)) (taken_of moved)
     ≡ true
-    → shown before ≡ folded pinned_by old (taken_of (take i moved)) → (result : Result ⊤ Deny)
-    → (IsErrOf result (denial S5)
+    → shown before ≡ folded pinned_by old (taken_of (take i moved)) → {E : Type 0} (result : Result ⊤ E)
+    → (IsErr result
     → uses_in ((inodes_at before (get_or moved i d).to.node.filesystem.count).inode
     (number_of (get_or moved i d).to.node)) ≡ most_counted)
-    → IfErr result (λ deny. deny ≡ denial S5)
     → OnOk result (ChangesInodes (get_or moved i d).to.node.filesystem.count
     (λ inodes. pinned nat_eq inodes (number_of (get_or moved i d).to.node)) before after)
     → shown after ≡ folded pinned_by old (taken_of (take (i + 1) moved))
-pinned_next moved old before after i d less fits room so_far result limit memory ok =
+pinned_next moved old before after i d less fits room so_far result limit ok =
     let point = (get_or moved i d).to in
     let node = point.node in
     let size : length (taken_of (take i moved)) ≡ i =
@@ -165,7 +161,7 @@ pinned_next moved old before after i d less fits room so_far result limit memory
     pins node.filesystem.count (number_of node) before after
     (not_refused result (ChangesInodes node.filesystem.count
     (λ inodes. pinned nat_eq inodes (number_of node)) before after)
-    (uses_in ((inodes_at before node.filesystem.count).inode (number_of node)) ≡ most_counted) limit memory ok
+    (uses_in ((inodes_at before node.filesystem.count).inode (number_of node)) ≡ most_counted) limit ok
     (λ full. omega (arith, full, few, same)))
     ∙ ap (λ all. pinned_by all point) so_far
     ∙ sym (ap (folded pinned_by old) (map_more place moved i d less)

@@ -1,12 +1,9 @@
 -- Uses of inodes and filesystems that new mounts make, and room for them.
 use Rattle.std.proofs.Common.{◌≡◌, refl, sym, ap, subst, ◌∙◌, ℕ, ◌+◌, ◌*◌, ◌-◌, ◌<◌, ◌≤◌, nat_eq, eqb-true, Bool, true, false, cond, ◌&&◌, List, [], ◌∷◌, ◌++◌, length, find, Option, Some, None, option_map, unwrap_or, take, get_or, arith}
-use Rattle.std.specs.Prelude.{Err, IfErr, IsErrOf, Ok, OnOk, Result, nat_le, ⊤}
+use Rattle.std.specs.Prelude.{Err, IsErr, Ok, OnOk, Result, nat_le, ⊤}
 use Rattle.std.specs.List.{list_all}
 use Rattle.std.proofs.lemmas.Bool.{and_parts, le-leb, leb-true}
 use Rattle.std.proofs.lemmas.List.{length-take-le}
-use Rattle.vt_spec.specs.declared.errors.Deny.{Deny}
-use Rattle.vt_spec.specs.declared.errors.Rule.TheVariants.{S5}
-use Rattle.vt_spec.specs.Errors.{denial}
 use Rattle.vt_spec.specs.Lists.{folded}
 use Rattle.vt_spec.specs.Inodes.{Inode as Counted, Inodes, pinned, used_once_more, uses_in}
 use Rattle.vt_laws_counts.specs.Using.{pinned_if}
@@ -264,12 +261,11 @@ holds count (entry ∷ rest) =
     by true = refl
     by false = refl
 
--- what is refused memory alone, and that only at the most, is not refused below
-pub not_refused : (result : Result ⊤ Deny) (P Q : Type 0) → (IsErrOf result (denial S5) → Q)
-    → IfErr result (λ deny. deny ≡ denial S5)
+-- what is refused at the most alone is not refused below
+pub not_refused : {E : Type 0} (result : Result ⊤ E) (P Q : Type 0) → (IsErr result → Q)
     → OnOk result P → (Q → ⊥) → P
-not_refused (Ok value) P Q limit memory ok less = ok
-not_refused (Err deny) P Q limit memory ok less = absurd (less (limit (ap Err memory)))
+not_refused (Ok value) P Q limit ok less = ok
+not_refused (Err refused) P Q limit ok less = absurd (less (limit refl))
 
 -- the parts of room
 pub root_has_room : (most : ℕ) (filesystems : Filesystems) (mount : Mount)

@@ -1,6 +1,6 @@
 -- Mounts that get other mount points while others come.
 use Rattle.std.specs.List.{list_all}
-use Rattle.std.specs.Prelude.{Bool, List, [], flat_map, if◌then◌else◌, is_some, map, nat_lt, option_to_list, true, ℕ, ◌++◌, ◌∷◌, ◌≡◌}
+use Rattle.std.specs.Prelude.{Bool, List, [], flat_map, if◌then◌else◌, is_some, map, nat_lt, option_to_list, true, ℕ, ◌++◌, ◌∷◌, ◌≡◌, ◌^◌}
 use Rattle.vt_location.specs.declared.locations.Location.{Location}
 use Rattle.vt_location.specs.declared.mounts.Mount.{Mount}
 use Rattle.vt_location.specs.Locations.{location_of}
@@ -48,7 +48,7 @@ abbrev pub unpinned_by : List Shown → Location → List Shown
 unpinned_by all point = unpinned_in (inode_of point.node) all
 
 abbrev pub is_small : Location → Bool
-is_small point = nat_lt point.node.slot 18446744073709551616
+is_small point = nat_lt point.node.slot (2 ^ 64)
 
 -- these are the mount points that mounts get and leave
 pub record AreMoves (points : List Point) (entries : List MountEntry) (taken left : List Location) : Type 0 where

@@ -1,5 +1,5 @@
 -- Room for the uses that new mounts make.
-use Rattle.std.specs.Prelude.{Bool, List, None, Option, Some, find, nat_eq, nat_le, nat_lt, option_map, true, unwrap_or, ℕ, ◌&&◌}
+use Rattle.std.specs.Prelude.{Bool, List, None, Option, Some, find, nat_eq, nat_le, nat_lt, option_map, true, unwrap_or, ℕ, ◌&&◌, ◌^◌}
 use Rattle.vt_fs.specs.FilesystemsValue.{Shown}
 use Rattle.vt_laws_letting_go.specs.OneByOne.{Inode}
 use Rattle.vt_location.specs.declared.locations.Location.{Location}
@@ -30,8 +30,8 @@ has_room most all mount =
 
 abbrev pub point_is_small : Option Location → Bool
 point_is_small None = true
-point_is_small (Some point) = nat_lt point.node.slot 18446744073709551616
+point_is_small (Some point) = nat_lt point.node.slot (2 ^ 64)
 
 -- the inodes of its root and of its mount point are in slots
 abbrev pub has_small_slots : Mount → Bool
-has_small_slots mount = nat_lt mount.root.slot 18446744073709551616 && point_is_small mount.mount_point
+has_small_slots mount = nat_lt mount.root.slot (2 ^ 64) && point_is_small mount.mount_point

@@ -1,12 +1,10 @@
 //! Copies of a namespace's mounts: unshare(2) with `CLONE_NEWNS`.
-ghost use Rattle.std.specs.Prelude.{List, ℕ, ◌+◌, ◌*◌, ◌<◌, ◌≡◌, IfErr, IfOk, OnErr, OnOk, false, find, length, map, nat_eq, nat_lt, option_map, true};
+ghost use Rattle.std.specs.Prelude.{List, ℕ, ◌+◌, ◌*◌, ◌<◌, ◌≡◌, IfOk, OnErr, OnOk, false, find, length, map, nat_eq, nat_lt, option_map, true};
 ghost use Rattle.std.specs.List.{list_all};
 ghost use Rattle.vt_location.specs.Locations.{location_of};
 ghost use Rattle.vt_location.specs.MountValue.{mount_of};
-ghost use Rattle.vt_location.specs.Numbers.{counted};
+ghost use Rattle.vt_location.specs.Numbers.{counted, mount_number, namespace_number};
 ghost use Rattle.vt_mount.specs.MountsValue.{mounts_in, uses_of, writers_of};
-ghost use Rattle.vt_spec.specs.declared.errors.Rule.TheVariants.{S5};
-ghost use Rattle.vt_spec.specs.Errors.{denial};
 ghost use Rattle.vt_spec.specs.Lists.{holds_of};
 ghost use Rattle.vt_spec.specs.Machine.Mounts as meant;
 ghost use Rattle.vt_spec.specs.Machine.Namespaces.{location_on_copy};
@@ -20,12 +18,11 @@ use vt_fs::Filesystems;
 use vt_group::Groups;
 use vt_location::{Location, Mount, MountId, NamespaceId};
 use vt_mount::Mounts;
-use vt_spec::errors::{Deny, Rule};
 
 /// Attaches copies of the mounts of a namespace in the one that is counted `next`, after all others; or nothing. The
 /// copy of a shared mount is in its peer group, that of a slave has its master.
 ///
-/// S5 (ENOMEM): an allocation failed, or an inode or a filesystem would have more than 2^64 - 1 uses.
+/// It fails too where an inode or a filesystem would have more than 2^64 - 1 uses.
 pub fn attach_copies(
     alloc: Global,
     mounts: &mut Mounts,
@@ -33,20 +30,17 @@ pub fn attach_copies(
     filesystems: &mut Filesystems,
     namespace: NamespaceId,
     next: u64,
-) -> Result<(), Deny>
-    requires room { next + 2 * length (attached_in (counted namespace.count) mounts.old) + 1 < u64.MAX }
+) -> Result<(), AllocError>
+    requires room { next + 2 * length (attached_in (namespace_number namespace) mounts.old) + 1 < u64.MAX }
     requires before { list_all (λ mount. nat_lt mount.number (counted next)) (mounts_in mounts.old) ≡ true }
-    ensures ok { OnOk result (CopiesAttached next (counted namespace.count) (kept mounts.old filesystems.old) groups.old
+    ensures ok { OnOk result (CopiesAttached next (namespace_number namespace) (kept mounts.old filesystems.old) groups.old
         (kept mounts.new filesystems.new) groups.new) }
-    ensures memory { IfErr result (λ deny. deny ≡ denial S5) }
     ensures err_mounts { OnErr result (mounts.new ≡ mounts.old) }
     ensures err_groups { OnErr result (groups.new ≡ groups.old) }
     ensures err_filesystems { OnErr result (filesystems.new ≡ filesystems.old) }
 {
     mounts.are_ascending();
-    let Ok(added) = copies(alloc, mounts, namespace, next) else {
-        return Err(Rule::S5.denial());
-    };
+    let added = copies(alloc, mounts, namespace, next)?;
     let plan = Planned {
         copies: &added,
         groups: &[],
@@ -64,11 +58,10 @@ fn copies(
     namespace: NamespaceId,
     next: u64,
 ) -> Result<Vec<Mount>, AllocError>
-    requires { next + 2 * length (attached_in (counted namespace.count) mounts.now) + 1 < u64.MAX }
+    requires { next + 2 * length (attached_in (namespace_number namespace) mounts.now) + 1 < u64.MAX }
     ensures { IfOk result (λ copies. map mount_of copies.items
-        ≡ copies_of next (attached_in (counted namespace.count) mounts.now)) }
+        ≡ copies_of next (attached_in (namespace_number namespace) mounts.now)) }
 {
-    mounts.are_ascending();
     let originals = mounts.attached_in(namespace);
     let mut copies = Vec::with_capacity(alloc, originals.len())?;
     for id in originals {
@@ -81,12 +74,12 @@ fn copies(
 
 /// Where a root or a working directory is once its namespace is copied: on the copy of its mount, if that was copied.
 pub fn moved(mounts: &Mounts, namespace: NamespaceId, at: Location, next: u64) -> Location
-    requires { next + 2 * length (attached_in (counted namespace.count) mounts.now) + 1 < u64.MAX }
-    ensures { location_of result ≡ moved_in next (attached_in (counted namespace.count) mounts.now) (location_of at) }
+    requires { next + 2 * length (attached_in (namespace_number namespace) mounts.now) + 1 < u64.MAX }
+    ensures { location_of result ≡ moved_in next (attached_in (namespace_number namespace) mounts.now) (location_of at) }
 {
-    mounts.are_ascending();
+    let originals = mounts.attached_in(namespace);
     if is_in(mounts, at.mount, namespace) {
-        on_copy(at, mounts.attached_in(namespace), next)
+        on_copy(at, originals, next)
     } else {
         at
     }
@@ -94,8 +87,8 @@ pub fn moved(mounts: &Mounts, namespace: NamespaceId, at: Location, next: u64) -
 
 // Whether a mount is attached in this namespace.
 fn is_in(mounts: &Mounts, id: MountId, namespace: NamespaceId) -> bool
-    ensures { result ≡ holds_of (λ mount. holds_of (nat_eq (counted namespace.count)) mount.namespace)
-        (find (λ mount. nat_eq (counted id.count) mount.number) (mounts_in mounts.now)) }
+    ensures { result ≡ holds_of (λ mount. holds_of (nat_eq (namespace_number namespace)) mount.namespace)
+        (find (λ mount. nat_eq (mount_number id) mount.number) (mounts_in mounts.now)) }
 {
     match mounts.get(id) {
         Some(mount) => mount.namespace == Some(namespace),
@@ -147,7 +140,7 @@ fn copy_number(id: MountId, originals: &[MountId], next: u64) -> MountId
     requires order { are_rising originals.now ≡ true }
     requires room { next + 2 * length originals.now + 1 < u64.MAX }
     ensures { (all : List (meant.Mount ℕ)) → AreOf originals.now all
-        → counted result.count ≡ copy_numbers next all (counted id.count) }
+        → mount_number result ≡ copy_numbers next all (mount_number id) }
 {
     let place = originals
         .binary_search_by_key(&id.count, |other| other.count)
@@ -157,9 +150,9 @@ fn copy_number(id: MountId, originals: &[MountId], next: u64) -> MountId
 
 /// A use of a mount goes to another one, which has room for it. It does not allocate.
 pub fn move_use(mounts: &mut Mounts, from: MountId, to: MountId)
-    requires uses { nat_eq from.count to.count ≡ false → uses_of mounts.old (counted to.count) < u64.MAX }
-    requires writers { nat_eq from.count to.count ≡ false → writers_of mounts.old (counted to.count) < u64.MAX }
-    ensures { mounts.new ≡ with_use_moved (counted from.count) (counted to.count) mounts.old }
+    requires uses { nat_eq from.count to.count ≡ false → uses_of mounts.old (mount_number to) < u64.MAX }
+    requires writers { nat_eq from.count to.count ≡ false → writers_of mounts.old (mount_number to) < u64.MAX }
+    ensures { mounts.new ≡ with_use_moved (mount_number from) (mount_number to) mounts.old }
 {
     if from == to {
         return;

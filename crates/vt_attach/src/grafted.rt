@@ -1,25 +1,21 @@
 //! Copies of a tree of mounts that are attached at a destination and at its receivers: mount(2), and the kernel's
 //! document sharedsubtree.
-ghost use Rattle.std.specs.Prelude.{◌≡◌, IfErr, OnErr, OnOk};
+ghost use Rattle.std.specs.Prelude.{◌≡◌, OnErr, OnOk};
 ghost use Rattle.vt_propagate.specs.Copying.{HasRoomFor};
-ghost use Rattle.vt_spec.specs.declared.errors.Rule.TheVariants.{S5};
-ghost use Rattle.vt_spec.specs.Errors.{denial};
 ghost use Rattle.vt_attach.specs.Grafted.{IsGrafted, MayGraft};
 ghost use Rattle.vt_detach.specs.Uses.{kept};
 
 use crate::planned::{Planned, attach_planned};
-use std::alloc::Global;
+use std::alloc::{AllocError, Global};
 use vt_fs::Filesystems;
 use vt_group::Groups;
 use vt_mount::Mounts;
 use vt_propagate::{Counts, Graft, attachment};
-use vt_spec::errors::Deny;
 
 /// Attaches copies of a tree at all parts, with the groups that they form, and moves the mounts that stood there onto
 /// them: all or nothing.
 ///
-/// S5 (ENOMEM): an allocation failed, or an inode or a filesystem would have more than 2^64 - 1 uses. Nothing has
-/// changed then.
+/// It fails too where an inode or a filesystem would have more than 2^64 - 1 uses. Nothing has changed then.
 pub fn attach_graft(
     alloc: Global,
     mounts: &mut Mounts,
@@ -27,12 +23,11 @@ pub fn attach_graft(
     filesystems: &mut Filesystems,
     graft: &Graft,
     counts: Counts,
-) -> Result<(), Deny>
+) -> Result<(), AllocError>
     requires room { HasRoomFor graft.now counts }
     requires may { MayGraft mounts.old groups.old graft.now counts }
     ensures ok { OnOk result (IsGrafted graft.now counts (kept mounts.old filesystems.old) groups.old
         (kept mounts.new filesystems.new) groups.new) }
-    ensures memory { IfErr result (λ deny. deny ≡ denial S5) }
     ensures err_mounts { OnErr result (mounts.new ≡ mounts.old) }
     ensures err_groups { OnErr result (groups.new ≡ groups.old) }
     ensures err_filesystems { OnErr result (filesystems.new ≡ filesystems.old) }

@@ -1,26 +1,22 @@
 //! A tree of mounts that moves to a destination, with copies of it at the receivers there: mount(2) with `MS_MOVE`, and
 //! the kernel's document sharedsubtree.
-ghost use Rattle.std.specs.Prelude.{◌≡◌, ◌++◌, IfErr, OnErr, OnOk};
+ghost use Rattle.std.specs.Prelude.{◌≡◌, ◌++◌, OnErr, OnOk};
 ghost use Rattle.vt_propagate.specs.Copying.{HasRoomFor};
-ghost use Rattle.vt_spec.specs.declared.errors.Rule.TheVariants.{S5};
-ghost use Rattle.vt_spec.specs.Errors.{denial};
 ghost use Rattle.vt_attach.specs.Moved.{IsMovedBy, MayMoveTree, top_point};
 ghost use Rattle.vt_detach.specs.Uses.{kept};
 
 use crate::planned::{Planned, attach_grouped};
-use std::alloc::Global;
+use std::alloc::{AllocError, Global};
 use vt_fs::Filesystems;
 use vt_group::Groups;
 use vt_mount::{Mounts, NewPoint};
 use vt_propagate::{Counts, Graft, attachment};
 use vt_retype::set_types;
-use vt_spec::errors::{Deny, Rule};
 
 /// Moves a tree to its destination and attaches copies of it at the receivers there, with the groups that they form.
 /// The mounts that stood at the receivers' places move onto the copies. All or nothing.
 ///
-/// S5 (ENOMEM): an allocation failed, or an inode or a filesystem would have more than 2^64 - 1 uses. Nothing has
-/// changed then.
+/// It fails too where an inode or a filesystem would have more than 2^64 - 1 uses. Nothing has changed then.
 pub fn move_tree(
     alloc: Global,
     mounts: &mut Mounts,
@@ -28,12 +24,11 @@ pub fn move_tree(
     filesystems: &mut Filesystems,
     graft: &Graft,
     counts: Counts,
-) -> Result<(), Deny>
+) -> Result<(), AllocError>
     requires room { HasRoomFor graft.now counts }
     requires may { MayMoveTree mounts.old groups.old graft.now counts }
     ensures ok { OnOk result (IsMovedBy graft.now counts (kept mounts.old filesystems.old) groups.old
         (kept mounts.new filesystems.new) groups.new) }
-    ensures memory { IfErr result (λ deny. deny ≡ denial S5) }
     ensures err_mounts { OnErr result (mounts.new ≡ mounts.old) }
     ensures err_groups { OnErr result (groups.new ≡ groups.old) }
     ensures err_filesystems { OnErr result (filesystems.new ≡ filesystems.old) }
@@ -51,9 +46,8 @@ pub fn move_tree(
 }
 
 // The first mount of a tree that moves gets the destination as its mount point.
-fn add_top(points: &mut Vec<NewPoint>, graft: &Graft) -> Result<(), Deny>
+fn add_top(points: &mut Vec<NewPoint>, graft: &Graft) -> Result<(), AllocError>
     ensures points { OnOk result (points.new.items ≡ points.old.items ++ top_point graft.now) }
-    ensures memory { IfErr result (λ deny. deny ≡ denial S5) }
 {
     let Some(top) = graft.tree.first() else {
         return Ok(());
@@ -62,8 +56,6 @@ fn add_top(points: &mut Vec<NewPoint>, graft: &Graft) -> Result<(), Deny>
         mount: top.number,
         place: graft.place,
     };
-    let Ok(()) = points.push(point) else {
-        return Err(Rule::S5.denial());
-    };
+    points.push(point)?;
     Ok(())
 }

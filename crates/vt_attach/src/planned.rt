@@ -1,14 +1,12 @@
 //! Planned attachments: mounts get other mount points while others come, with their groups.
 ghost use Rattle.std.specs.List.{list_all};
-ghost use Rattle.std.specs.Prelude.{List, ◌≡◌, ◌++◌, ◌+◌, ◌-◌, ◌*◌, ◌≤◌, IfErr, IfOk, OnErr, OnOk, length, map, option_to_list, Some, true};
+ghost use Rattle.std.specs.Prelude.{List, ◌≡◌, ◌++◌, ◌+◌, ◌-◌, ◌*◌, ◌≤◌, IfOk, OnErr, OnOk, length, map, option_to_list, Some, true};
 ghost use Rattle.vt_fs.specs.FilesystemsValue.{shown};
 ghost use Rattle.vt_group.specs.Together.{GrowsTo, new_group, typed};
 ghost use Rattle.vt_location.specs.declared.locations.Location.{Location};
 ghost use Rattle.vt_location.specs.Locations.{location_of};
 ghost use Rattle.vt_location.specs.MountValue.{mount_of};
 ghost use Rattle.vt_mount.specs.MountsValue.{are_ascending, mounts_in};
-ghost use Rattle.vt_spec.specs.declared.errors.Rule.TheVariants.{S5};
-ghost use Rattle.vt_spec.specs.Errors.{denial};
 ghost use Rattle.vt_spec.specs.Lists.{folded};
 ghost use Rattle.vt_attach.specs.Planned.{AreMoves, is_small, left_of, pinned_by, points_left, points_taken};
 ghost use Rattle.vt_attach.specs.Planned.{taken_of, unpinned_by, with_planned, with_points};
@@ -16,11 +14,11 @@ ghost use Rattle.vt_attach.specs.Room.{has_room, has_small_slots, most_counted, 
 ghost use Rattle.vt_detach.specs.Uses.{kept, unused_entry};
 
 use crate::attaching::{have_room, show_all};
+use std::alloc::AllocError;
 use vt_fs::Filesystems;
 use vt_group::{Groups, NewGroup};
 use vt_location::{Location, Mount};
 use vt_mount::{Mounts, Moved, NewPoint};
-use vt_spec::errors::{Deny, Rule};
 
 /// What is attached, and what moves for it.
 #[derive(Clone, Copy, Debug)]
@@ -37,14 +35,13 @@ pub struct Planned<'a> {
 /// the mount points of the mounts that come are in use then, their filesystems are shown, and the mount points that
 /// were left are in use once less. It costs what the mounts that come and move cost, however many others there are.
 ///
-/// S5 (ENOMEM): an allocation failed, or an inode or a filesystem would have more than 2^64 - 1 uses. Nothing has
-/// changed then.
+/// It fails too where an inode or a filesystem would have more than 2^64 - 1 uses. Nothing has changed then.
 pub fn attach_planned(
     mounts: &mut Mounts,
     groups: &mut Groups,
     filesystems: &mut Filesystems,
     plan: &Planned,
-) -> Result<(), Deny>
+) -> Result<(), AllocError>
     requires { are_ascending (mounts_in mounts.old ++ map mount_of plan.now.copies.now) ≡ true }
     ensures ok { OnOk result ((left : List Location)
         × (map location_of left ≡ points_left plan.now.points.now mounts.old)
@@ -55,7 +52,6 @@ pub fn attach_planned(
         (GrowsTo groups.old groups.new (map typed plan.now.copies.now) (map new_group plan.now.groups.now)) }
     ensures slots { OnOk result (list_all has_small_slots plan.now.copies.now ≡ true) }
     ensures places { OnOk result (list_all is_small (points_taken plan.now.points.now mounts.old) ≡ true) }
-    ensures memory { IfErr result (λ deny. deny ≡ denial S5) }
     ensures err_mounts { OnErr result (mounts.new ≡ mounts.old) }
     ensures err_groups { OnErr result (groups.new ≡ groups.old) }
     ensures err_filesystems { OnErr result (filesystems.new ≡ filesystems.old) }
@@ -71,7 +67,7 @@ pub(crate) fn attach_grouped(
     filesystems: &mut Filesystems,
     plan: &Planned,
     types: &[Mount],
-) -> Result<(), Deny>
+) -> Result<(), AllocError>
     requires { are_ascending (mounts_in mounts.old ++ map mount_of plan.now.copies.now) ≡ true }
     ensures ok { OnOk result ((left : List Location)
         × (map location_of left ≡ points_left plan.now.points.now mounts.old)
@@ -82,13 +78,12 @@ pub(crate) fn attach_grouped(
         (GrowsTo groups.old groups.new (map typed types.now) (map new_group plan.now.groups.now)) }
     ensures slots { OnOk result (list_all has_small_slots plan.now.copies.now ≡ true) }
     ensures places { OnOk result (list_all is_small (points_taken plan.now.points.now mounts.old) ≡ true) }
-    ensures memory { IfErr result (λ deny. deny ≡ denial S5) }
     ensures err_mounts { OnErr result (mounts.new ≡ mounts.old) }
     ensures err_groups { OnErr result (groups.new ≡ groups.old) }
     ensures err_filesystems { OnErr result (filesystems.new ≡ filesystems.old) }
 {
     if !plan_has_room(filesystems, plan) {
-        return Err(Rule::S5.denial());
+        return Err(AllocError);
     }
     let moved = enter_planned(mounts, groups, plan, types)?;
     pin_all(filesystems, &moved);
@@ -136,7 +131,7 @@ fn enter_planned(
     groups: &mut Groups,
     plan: &Planned,
     types: &[Mount],
-) -> Result<Vec<Moved>, Deny>
+) -> Result<Vec<Moved>, AllocError>
     requires { are_ascending (mounts_in mounts.old ++ map mount_of plan.now.copies.now) ≡ true }
     ensures mounts_ok { OnOk result
         (mounts.new ≡ with_points plan.now.points.now mounts.old ++ map unused_entry plan.now.copies.now) }
@@ -144,7 +139,6 @@ fn enter_planned(
         AreMoves plan.now.points.now mounts.old (taken_of moved.items) (left_of moved.items)) }
     ensures groups_ok { OnOk result
         (GrowsTo groups.old groups.new (map typed types.now) (map new_group plan.now.groups.now)) }
-    ensures memory { IfErr result (λ deny. deny ≡ denial S5) }
     ensures err_mounts { OnErr result (mounts.new ≡ mounts.old) }
     ensures err_groups { OnErr result (groups.new ≡ groups.old) }
 {

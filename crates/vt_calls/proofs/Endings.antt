@@ -1,6 +1,7 @@
 -- How a call ends, from what its judgement and its event say.
 use Rattle.std.proofs.Common.{◌≡◌, refl, sym, ap, subst, ◌∙◌, ℕ, Bool, false, true, not, ◌||◌, nat_eq, Some, None, Result, Ok, Err, ok_or, inl, inr}
 use Rattle.std.specs.Prelude.{IfErr, OnErr, OnOk, ⊤}
+use Rattle.std.specs.declared.alloc.AllocError.{AllocError}
 use Rattle.vt_spec.specs.declared.errors.Deny.{Deny}
 use Rattle.vt_spec.specs.declared.errors.Rule.TheVariants.{S2, S5}
 use Rattle.vt_spec.specs.Errors.{denial}
@@ -198,25 +199,25 @@ module _ (old : WorldValue) (name : TaskName) (grant : Grant) (meant : Permit �
       (sameness_is_an_equivalence.itself (world_of old))) call given
 
   -- it is a change that answers `ok`
-  pub changed : (new : WorldValue) (change : Result ⊤ Deny) (result : Result Answer Deny) → result ≡ answered change
+  pub changed : (new : WorldValue) (change : Result ⊤ AllocError) (result : Result Answer Deny) → result ≡ answered change
       → AreVacant old meant
       → ((task : Task ℕ) → task_called (world_of old) name ≡ Some task
       → (apply nat_eq (supply_of old meant) (world_of old) task meant).answer ≡ Ok (answer_of Done))
-      → is_free meant ≡ false → OnOk change (Becomes old name meant new) → IfErr change (λ deny. deny ≡ denial S5)
+      → is_free meant ≡ false → OnOk change (Becomes old name meant new)
       → OnErr change (new ≡ old) → EndsGiven old name grant result new
-  changed new (Ok done) result e vacant told taken becomes memory same =
+  changed new (Ok done) result e vacant told taken becomes same =
       subst (λ r. EndsGiven old name grant r new) (sym e) (made new Done vacant told becomes)
-  changed new (Err deny) result e vacant told taken becomes memory same =
-      subst (λ r. EndsGiven old name grant r new) (sym e) (short new deny memory same taken)
+  changed new (Err refused) result e vacant told taken becomes same =
+      subst (λ r. EndsGiven old name grant r new) (sym e) (short new (denial S5) refl same taken)
 
   -- or one that allocates in some cases alone
-  pub changed_if : (new : WorldValue) (change : Result ⊤ Deny) (result : Result Answer Deny) → result ≡ answered change
+  pub changed_if : (new : WorldValue) (change : Result ⊤ AllocError) (result : Result Answer Deny) → result ≡ answered change
       → AreVacant old meant
       → ((task : Task ℕ) → task_called (world_of old) name ≡ Some task
       → (apply nat_eq (supply_of old meant) (world_of old) task meant).answer ≡ Ok (answer_of Done))
       → (P : Type 0) → (P → is_free meant ≡ false) → OnErr change P → OnOk change (Becomes old name meant new)
-      → IfErr change (λ deny. deny ≡ denial S5) → OnErr change (new ≡ old) → EndsGiven old name grant result new
-  changed_if new (Ok done) result e vacant told P taken when becomes memory same =
+      → OnErr change (new ≡ old) → EndsGiven old name grant result new
+  changed_if new (Ok done) result e vacant told P taken when becomes same =
       subst (λ r. EndsGiven old name grant r new) (sym e) (made new Done vacant told becomes)
-  changed_if new (Err deny) result e vacant told P taken when becomes memory same =
-      subst (λ r. EndsGiven old name grant r new) (sym e) (short new deny memory same (taken when))
+  changed_if new (Err refused) result e vacant told P taken when becomes same =
+      subst (λ r. EndsGiven old name grant r new) (sym e) (short new (denial S5) refl same (taken when))

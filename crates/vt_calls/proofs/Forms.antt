@@ -3,14 +3,14 @@ use Rattle.std.proofs.Common.{nat_eq, not, refl}
 use Rattle.std.specs.Prelude.{Bool, List, Ok, false, true, ℕ, ◌||◌, ◌≡◌}
 use Rattle.vt_laws_rules.proofs.given.Inversion.{calls_are_granted}
 use Rattle.vt_laws_rules.specs.Granted.{IsGranted}
-use Rattle.vt_laws_rules.specs.Granted.IsGranted.{changes_flags, changes_mode, changes_owner, changes_type, changes_umask, closes, drops_capabilities, exits, may_execute, shows_object, shows_symlink}
+use Rattle.vt_laws_rules.specs.Granted.IsGranted.{changes_flags, changes_mark, changes_mode, changes_owner, changes_type, changes_umask, closes, drops_capabilities, exits, may_execute, shows_object, shows_symlink}
 use Rattle.vt_laws_permits.specs.Steps.{makes_shared}
 use Rattle.vt_permits.specs.Allocating.{TakesMemory}
 use Rattle.vt_spec.specs.Language.Calls.{Call, TypeWord}
 use Rattle.vt_spec.specs.Language.Calls.Call.{SetType}
 use Rattle.vt_spec.specs.Language.Calls.TypeWord.{ToPrivate, ToShared, ToSlave, ToUnbindable}
 use Rattle.vt_spec.specs.Language.Changes.{Change}
-use Rattle.vt_spec.specs.Language.Changes.Change.{SetAttr}
+use Rattle.vt_spec.specs.Language.Changes.Change.{SetAttr, SetMark}
 use Rattle.vt_spec.specs.Machine.Judge.{judge}
 use Rattle.vt_spec.specs.Machine.Looks.{Looks}
 use Rattle.vt_spec.specs.Machine.Permits.{Permit}
@@ -20,6 +20,7 @@ use Rattle.vt_spec.specs.Machine.World.{Task}
 -- a change that does not allocate
 abbrev pub is_free_change : Change ℕ → Bool
 is_free_change (SetAttr object attr) = true
+is_free_change (SetMark directory opaque) = true
 is_free_change change = false
 
 abbrev pub is_free : Permit ℕ → Bool
@@ -52,6 +53,7 @@ free looks too_many task call permit (shows_symlink _ _ _) none = refl
 free looks too_many task call permit (may_execute _ _ _ _) none = refl
 free looks too_many task call permit (changes_mode _ _ _ _ _) none = refl
 free looks too_many task call permit (changes_owner _ _ _ _ _ _) none = refl
+free looks too_many task call permit (changes_mark _ _ _ _ _ _) none = refl
 free looks too_many task call permit (changes_umask _) none = refl
 free looks too_many task call permit (drops_capabilities _) none = refl
 free looks too_many task call permit (closes _ _ _) none = refl

@@ -2,13 +2,13 @@
 use Rattle.std.proofs.Common.{◌≡◌, refl, sym, subst, ◌∙◌, ℕ, true, nat_eq, Some, None, Result, Ok, Err, arith}
 use Rattle.std.specs.Prelude.{IfErr, IfOk}
 use Rattle.std.proofs.lemmas.Grind.{common_steps}
-use Rattle.vt_spec.specs.Language.Script.{propagation}
+use Rattle.vt_spec.specs.Language.Script.{marks}
 use Rattle.vt_spec.specs.declared.errors.Deny.{Deny}
 use Rattle.vt_spec.specs.Machine.Judge.{Judgement, judge, judge_in}
 use Rattle.vt_spec.specs.Machine.World.{Task, task_called}
 use Rattle.vt_spec.specs.Language.Calls as spec
 use Rattle.vt_spec.specs.Language.Calls.{TaskName}
-use Rattle.vt_spec.specs.Language.Calls.Call.{Bind, Fork, LinkTo, Mkdir, MountPlain, MoveMount, OpenFile, Rename, Rmdir, SymlinkAt, Umount, Unlink, Write}
+use Rattle.vt_spec.specs.Language.Calls.Call.{Bind, Fork, LinkTo, MakeWhiteout, Mkdir, MountPlain, MoveMount, OpenFile, Rename, Rmdir, SymlinkAt, Umount, Unlink, Write}
 use Rattle.vt_permits.specs.Allocating.{TakesMemory}
 use Rattle.vt_permits.specs.Memory.{JudgesAlike, JudgesByReceivers}
 use Rattle.vt_policy.specs.Allocating.{IsJudgedWithMemory}
@@ -33,7 +33,7 @@ use Rattle.vt_calls.proofs.Endings.{refused}
 use Rattle.vt_calls.proofs.Tied.{judged_alike}
 use Rattle.vt_calls.specs.Meets.{Ends}
 use Rattle.vt_calls.specs.Permitted.{IsPermitted}
-use Rattle.vt_laws_runs.proofs.runs.GrammarsPlain.{propagation_mounts_no_overlay}
+use Rattle.vt_laws_runs.proofs.runs.GrammarsPlain.{marks_mount_no_overlay}
 
 -- a fork is given at most 32 groups
 few : (asked : Call) → names_few_groups (call_of asked) ≡ true
@@ -51,6 +51,7 @@ takes_judged : (call : spec.Call) → IsJudgedWithMemory call → TakesMemory ca
 takes_judged (Write path bytes) judging = tt
 takes_judged (Mkdir path mode) judging = tt
 takes_judged (SymlinkAt text path) judging = tt
+takes_judged (MakeWhiteout path) judging = tt
 takes_judged (LinkTo old new) judging = tt
 takes_judged (Unlink path) judging = tt
 takes_judged (Rmdir path) judging = tt
@@ -64,10 +65,10 @@ takes_judged (Umount path) judging = tt
 takes_judged call judging = absurd judging
 
 module _ (value : WorldValue) (name : TaskName) (asked : Call) (held : IsHeld value) (task : Task ℕ)
-    (called : task_called (world_of value) name ≡ Some task) (has : propagation.has (call_of asked) ≡ true) where
+    (called : task_called (world_of value) name ≡ Some task) (has : marks.has (call_of asked) ≡ true) where
   tied : judge nat_eq (looks_of_value value) (overfills_of value) task (call_of asked)
       ≡ judge_in nat_eq (counts_from value.next) (world_of value) task (call_of asked)
-  tied = judged_alike value task (call_of asked) (propagation_mounts_no_overlay (call_of asked) has)
+  tied = judged_alike value task (call_of asked) (marks_mount_no_overlay (call_of asked) has)
 
   abbrev by_code : Judgement ℕ
   by_code = judge nat_eq (looks_of_value value) (overfills_of value) task (call_of asked)

@@ -3,7 +3,7 @@ use Rattle.std.proofs.Common.{◌≡◌, refl, sym, ap, subst, ◌∙◌, ℕ, n
 use Rattle.std.specs.Prelude.{OnErr}
 use Rattle.vt_spec.specs.declared.errors.Deny.{Deny}
 use Rattle.vt_spec.specs.Language.Calls.{Call, TaskName}
-use Rattle.vt_spec.specs.Language.Script.{propagation}
+use Rattle.vt_spec.specs.Language.Script.{marks}
 use Rattle.vt_spec.specs.Lists.{Fresh}
 use Rattle.vt_spec.specs.Language.Answers.{PeerLine}
 use Rattle.vt_spec.specs.Language.Answers.Answer.{PeerList}
@@ -20,7 +20,7 @@ use Rattle.vt_request.specs.declared.request.Directive.{Directive}
 use Rattle.vt_request.specs.declared.request.Directive.TheVariants.{Peers}
 use Rattle.vt_laws_runs.proofs.answered.AlikeAnswered.{same_worlds_are_answered_alike, same_worlds_are_directed_alike}
 use Rattle.vt_laws_runs.proofs.answered.AlikeWorlds.{sameness_is_an_equivalence}
-use Rattle.vt_laws_runs.proofs.runs.GrammarsPlain.{propagation_mounts_no_overlay}
+use Rattle.vt_laws_runs.proofs.runs.GrammarsPlain.{marks_mount_no_overlay}
 use Rattle.vt_laws_runs.specs.Answered.{AreAlike}
 use Rattle.vt_laws_runs.specs.Handed.{may_be_given}
 use Rattle.vt_laws_runs.specs.Runs.{ServesInHand}
@@ -50,12 +50,12 @@ serves_numbered kernel allotment it = record {
 }
 
 -- a call ends so
-module _ (old : KernelValue) (name : TaskName) (call : Call) (has : propagation.has call ≡ true) where
+module _ (old : KernelValue) (name : TaskName) (call : Call) (has : marks.has call ≡ true) where
   alike : (fresh : Fresh ℕ)
       → AreAlike (policy nat_eq fresh (world_of old.world) name call) (policy nat_eq fresh (kernel_world old) name call)
   alike fresh =
       same_worlds_are_answered_alike (world_of old.world) (kernel_world old) (numbered old) (world_is_plain old.world)
-      fresh name call (propagation_mounts_no_overlay call has)
+      fresh name call (marks_mount_no_overlay call has)
 
   -- with the kernel that it leaves
   module _ (new : KernelValue) where
@@ -83,7 +83,7 @@ module _ (old : KernelValue) (name : TaskName) (call : Call) (has : propagation.
 
 -- the same of a kernel as a function sees it
 pub ends_seen : (seen old new : KernelValue) → seen ≡ old → (name : TaskName) (call : Call)
-    → propagation.has call ≡ true → (result : Result Answer Deny) → Ends seen.world name call result new.world
+    → marks.has call ≡ true → (result : Result Answer Deny) → Ends seen.world name call result new.world
     → OnErr result (new.world ≡ seen.world → new ≡ seen) → any.Ends kernel_world old name call result new
 ends_seen seen old new is name call has result it kept =
     subst (λ kernel. any.Ends kernel_world kernel name call result new) is

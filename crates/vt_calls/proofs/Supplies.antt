@@ -24,7 +24,7 @@ use Rattle.vt_ns.specs.Vacancy.{IsVacant, NextInodeIsVacant, NextRootIsVacant}
 use Rattle.vt_world.specs.WorldValue.{WorldValue, world_of}
 use Rattle.vt_laws_worlds.proofs.worlds.CallsKept.{name_found}
 use Rattle.vt_calls.specs.Permitted.{IsGivenFor}
-use Rattle.vt_laws_runs.proofs.runs.GrammarsPlain.{propagation_mounts_no_overlay}
+use Rattle.vt_laws_runs.proofs.runs.GrammarsPlain.{marks_mount_no_overlay}
 use Rattle.vt_detach.proofs.Staying.{world_is_plain}
 
 -- what a permit is handed beside counts is not in use
@@ -66,7 +66,7 @@ module _ (value : WorldValue) (name : TaskName) (call : Call) (grant : Grant)
   pub judged_with : (fresh : ℕ → ℕ) → judge_in nat_eq fresh (world_of value) given.task call ≡ Ok granted
   judged_with fresh =
       judgements_do_not_see_supplies (world_of value) given.task call fresh (counts_from value.next)
-      given.held.in_world (propagation_mounts_no_overlay call given.has)
+      given.held.in_world (marks_mount_no_overlay call given.has)
       ∙ given.judged
 
   -- so it is permitted to the task
@@ -83,7 +83,7 @@ module _ (value : WorldValue) (name : TaskName) (call : Call) (grant : Grant)
               subst (λ called. task_called (world_of value) called ≡ Some given.task)
               (name_found (world_of value) name given.task given.called) given.called;
           call = call;
-          no_overlay = propagation_mounts_no_overlay call given.has;
+          no_overlay = marks_mount_no_overlay call given.has;
           few_groups = given.few_groups;
           judged = judged_with (supply_of value granted);
         };

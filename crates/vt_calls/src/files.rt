@@ -1,4 +1,4 @@
-//! Grants to change files: write(2), pwrite(2), chmod(2), chown(2).
+//! Grants to change files: write(2), pwrite(2), chmod(2), chown(2), setxattr(2).
 ghost use Rattle.vt_permits.specs.declared.grant.Grant.TheVariants.{Write};
 ghost use Rattle.vt_calls.specs.Permitted.{EndsGiven, IsGiven};
 
@@ -26,6 +26,10 @@ pub(crate) fn change_file(
         WriteGrant::Part(part) => done(world.write_part(name, part)),
         WriteGrant::Attr { object, attr } => {
             world.set_attr(name, object, attr);
+            Ok(Answer::Done)
+        }
+        WriteGrant::Mark { directory, opaque } => {
+            world.set_opaque(name, directory, opaque);
             Ok(Answer::Done)
         }
     }

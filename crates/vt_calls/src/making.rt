@@ -1,4 +1,4 @@
-//! Grants to make names: mkdir(2), symlink(2), link(2).
+//! Grants to make names: mkdir(2), symlink(2), mknod(2), link(2).
 ghost use Rattle.vt_permits.specs.declared.grant.Grant.TheVariants.{Make};
 ghost use Rattle.vt_calls.specs.Permitted.{EndsGiven, IsGiven};
 

@@ -15,7 +15,7 @@ pub const PEERS: CallWords = CallWords {
 };
 
 /// Calls and directives of a later version.
-const LATER: [&str; 4] = ["pivot_root", "whiteout", "opaque", "sealed"];
+const LATER: [&str; 2] = ["pivot_root", "sealed"];
 
 /// What is wrong.
 #[derive(Clone, Copy)]

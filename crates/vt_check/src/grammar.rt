@@ -21,6 +21,7 @@ pub enum Kind {
     Path,
     Propagation,
     Task,
+    YesOrNo,
 }
 
 /// What is said of the words of a kind.
@@ -177,8 +178,13 @@ const TASK: Argument = Argument {
     kind: Kind::Task,
 };
 
+const YES_OR_NO: Argument = Argument {
+    name: "`yes` or `no`",
+    kind: Kind::YesOrNo,
+};
+
 /// The calls of tasks.
-pub const CALLS: [CallWords; 37] = [
+pub const CALLS: [CallWords; 39] = [
     CallWords {
         name: "ls",
         usage: "`ls PATH`",
@@ -234,6 +240,12 @@ pub const CALLS: [CallWords; 37] = [
         optional: &[],
     },
     CallWords {
+        name: "whiteout",
+        usage: "`whiteout PATH`",
+        needed: &[PATH],
+        optional: &[],
+    },
+    CallWords {
         name: "link",
         usage: "`link OLD NEW`",
         needed: &[OLD, NEW],
@@ -267,6 +279,12 @@ pub const CALLS: [CallWords; 37] = [
         name: "chown",
         usage: "`chown PATH UID GID`",
         needed: &[PATH, NEW_UID, NEW_GID],
+        optional: &[],
+    },
+    CallWords {
+        name: "opaque",
+        usage: "`opaque PATH yes|no`",
+        needed: &[PATH, YES_OR_NO],
         optional: &[],
     },
     CallWords {
@@ -526,6 +544,14 @@ impl Kind {
                 plain: "",
                 part: "",
                 choices: &[],
+            },
+            Kind::YesOrNo => KindWords {
+                before: "t opaque / ",
+                after: "",
+                said: "`opaque PATH yes` marks a directory, and `opaque PATH no` takes the mark away",
+                plain: "",
+                part: "",
+                choices: &["yes", "no"],
             },
         }
     }

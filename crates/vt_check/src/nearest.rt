@@ -5,7 +5,7 @@ use std::alloc::{AllocError, Global};
 use strsim::osa_distance;
 
 /// Words that stand for others, each kind's.
-static SYNONYMS: [(Kind, &str, &str); 30] = [
+static SYNONYMS: [(Kind, &str, &str); 36] = [
     (Kind::Access, "O_RDONLY", "r"),
     (Kind::Access, "O_WRONLY", "w"),
     (Kind::Access, "O_RDWR", "rw"),
@@ -36,6 +36,12 @@ static SYNONYMS: [(Kind, &str, &str); 30] = [
     (Kind::Identity, "root", "0"),
     (Kind::KeptIdentity, "root", "0"),
     (Kind::Task, "root", "t"),
+    (Kind::YesOrNo, "y", "yes"),
+    (Kind::YesOrNo, "true", "yes"),
+    (Kind::YesOrNo, "1", "yes"),
+    (Kind::YesOrNo, "n", "no"),
+    (Kind::YesOrNo, "false", "no"),
+    (Kind::YesOrNo, "0", "no"),
 ];
 
 /// The word of the list that is like the text: at most two letters differ, or one of a text of up to four.

@@ -1,9 +1,9 @@
 -- The events that change files and names.
-use Rattle.std.proofs.Common.{◌≡◌, refl, sym, ap, subst, ◌∙◌, ℕ, ◌<◌, ◌&&◌, true, false, nat_eq}
+use Rattle.std.proofs.Common.{◌≡◌, refl, sym, ap, subst, ◌∙◌, ℕ, ◌<◌, ◌&&◌, Bool, true, false, nat_eq}
 use Rattle.vt_spec.specs.declared.attributes.Attr.{Attr}
 use Rattle.vt_spec.specs.Language.Calls.{TaskName}
 use Rattle.vt_spec.specs.Language.Changes.{Change}
-use Rattle.vt_spec.specs.Language.Changes.Change.{SetAttr}
+use Rattle.vt_spec.specs.Language.Changes.Change.{SetAttr, SetMark}
 use Rattle.vt_spec.specs.Machine.Permits.{Permit}
 use Rattle.vt_spec.specs.Machine.Permits.Permit.{ToChange}
 use Rattle.vt_spec.specs.Fits.{Fits}
@@ -106,3 +106,17 @@ pub attr_is_set : (value : WorldValue) → IsHeld value
 attr_is_set value held name object attr filesystems small permits changes =
     change_is_done value held name object small (SetAttr (number_of object.node) attr) permits filesystems
     (inodes_named value.next object.node.filesystem.count object.node.slot) tt (λ number other. tt) changes
+
+-- setxattr(2) of the opaque mark
+pub mark_is_set : (value : WorldValue) → IsHeld value
+    → (name : TaskName) (directory : Location) (opaque : Bool) (filesystems : Filesystems)
+    → IsSmall directory
+    → Permits value name (ToChange (location_of directory) (SetMark (number_of directory.node) opaque))
+    → ChangesInodes directory.node.filesystem.count
+    (λ inodes. changed nat_eq inodes (SetMark (number_of directory.node) opaque))
+    value.filesystems filesystems
+    → IsFilesEvent value name (ToChange (location_of directory) (SetMark (number_of directory.node) opaque))
+    (with_filesystems value filesystems)
+mark_is_set value held name directory opaque filesystems small permits changes =
+    change_is_done value held name directory small (SetMark (number_of directory.node) opaque) permits filesystems
+    (inodes_named value.next directory.node.filesystem.count directory.node.slot) tt (λ number other. tt) changes

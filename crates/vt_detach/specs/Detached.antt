@@ -1,5 +1,5 @@
 -- Mounts that leave their namespaces one after the other.
-use Rattle.std.specs.Prelude.{IfSome, List, None, Option, Some, [], filter, flat_map, map, nat_eq, option_map, ℕ, ◌<◌, ◌∷◌, ◌≡◌}
+use Rattle.std.specs.Prelude.{IfSome, List, None, Option, Some, [], filter, flat_map, map, nat_eq, option_map, ℕ, ◌<◌, ◌∷◌, ◌≡◌, ◌^◌}
 use Rattle.vt_spec.specs.Machine.Mounts.{Mount, mount_in, mount_tree}
 use Rattle.vt_group.specs.Grouping.{Grouping}
 use Rattle.vt_group.specs.Together.{TakesAway}
@@ -14,7 +14,7 @@ abbrev pub LeaveInTurn : List ℕ → Kept → Kept → Type 0
 LeaveInTurn [] k last = last ≡ k
 LeaveInTurn (number ∷ rest) k last =
     (point : Option Location) × (option_map location_of point ≡ point_of number k.mounts)
-    × IfSome point (λ point. point.node.slot < 18446744073709551616)
+    × IfSome point (λ point. point.node.slot < 2 ^ 64)
     × LeaveInTurn rest (without_attachment number point k) last
 
 -- They leave their groups at once, too, and then each mount has the type that the groups tell.

@@ -1,7 +1,7 @@
 //! Mounts that leave their namespaces: umount(2).
-ghost use Rattle.std.specs.Prelude.{◌<◌, ◌≡◌, IfSome, map, option_map};
+ghost use Rattle.std.specs.Prelude.{◌<◌, ◌≡◌, IfSome, map, option_map, ◌^◌};
 ghost use Rattle.vt_location.specs.Locations.{location_of};
-ghost use Rattle.vt_location.specs.Numbers.{counted};
+ghost use Rattle.vt_location.specs.Numbers.{mount_number};
 ghost use Rattle.vt_detach.specs.Detached.{LeaveInTurn, LeaveTogether};
 ghost use Rattle.vt_detach.specs.Uses.{kept, point_of, without_attachment};
 
@@ -15,10 +15,10 @@ use vt_retype::leave_all;
 /// A mount leaves its namespace and its mount point, which is returned, and goes if nothing is on it. It takes no
 /// memory.
 pub fn detach(mounts: &mut Mounts, filesystems: &mut Filesystems, id: MountId) -> Option<Location>
-    ensures point { option_map location_of result ≡ point_of (counted id.count) mounts.old }
+    ensures point { option_map location_of result ≡ point_of (mount_number id) mounts.old }
     ensures left { kept mounts.new filesystems.new
-        ≡ without_attachment (counted id.count) result (kept mounts.old filesystems.old) }
-    ensures slot { IfSome result (λ point. point.node.slot < 18446744073709551616) }
+        ≡ without_attachment (mount_number id) result (kept mounts.old filesystems.old) }
+    ensures slot { IfSome result (λ point. point.node.slot < 2 ^ 64) }
 {
     let mount = mounts.get(id)?;
     mounts.detach(id);
@@ -31,7 +31,7 @@ pub fn detach(mounts: &mut Mounts, filesystems: &mut Filesystems, id: MountId) -
 
 /// Mounts leave their namespaces one after the other. It does not allocate.
 pub fn detach_each(mounts: &mut Mounts, filesystems: &mut Filesystems, ids: &[MountId])
-    ensures { LeaveInTurn (map (λ id. counted id.count) ids.now) (kept mounts.old filesystems.old)
+    ensures { LeaveInTurn (map mount_number ids.now) (kept mounts.old filesystems.old)
         (kept mounts.new filesystems.new) }
 {
     for id in ids {
@@ -47,7 +47,7 @@ pub fn detach_together(
     filesystems: &mut Filesystems,
     ids: &[MountId],
 )
-    ensures { LeaveTogether (map (λ id. counted id.count) ids.now) (kept mounts.old filesystems.old) groups.old
+    ensures { LeaveTogether (map mount_number ids.now) (kept mounts.old filesystems.old) groups.old
         (kept mounts.new filesystems.new) groups.new }
 {
     detach_each(mounts, filesystems, ids);

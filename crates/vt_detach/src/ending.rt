@@ -1,6 +1,6 @@
 //! Namespaces that tasks leave, and that end with their last: mount_namespaces(7).
 ghost use Rattle.std.specs.Prelude.{◌≡◌};
-ghost use Rattle.vt_location.specs.Numbers.{counted};
+ghost use Rattle.vt_location.specs.Numbers.{namespace_number};
 ghost use Rattle.vt_detach.specs.NamespacesLeft.{MountsAreLeft, NamespaceIsLeft, namespace_entry, with_one_task_less};
 ghost use Rattle.vt_detach.specs.Uses.{kept};
 ghost use Rattle.vt_world.specs.WorldValue.{entries_of};
@@ -25,7 +25,7 @@ pub fn leave_namespace(
 )
     ensures namespaces { entries_of namespaces.new.entries
         ≡ with_one_task_less id.count (entries_of namespaces.old.entries) }
-    ensures mounts { MountsAreLeft (counted id.count) (namespace_entry id.count (entries_of namespaces.old.entries))
+    ensures mounts { MountsAreLeft (namespace_number id) (namespace_entry id.count (entries_of namespaces.old.entries))
         (kept mounts.old filesystems.old) groups.old (kept mounts.new filesystems.new) groups.new }
 {
     let Some(namespace) = namespaces.get_mut(&id) else {
@@ -46,12 +46,11 @@ fn end_namespace(
     filesystems: &mut Filesystems,
     id: NamespaceId,
 )
-    ensures { NamespaceIsLeft (counted id.count) (kept mounts.old filesystems.old) groups.old
+    ensures { NamespaceIsLeft (namespace_number id) (kept mounts.old filesystems.old) groups.old
         (kept mounts.new filesystems.new) groups.new }
 {
     while let Some(last) = mounts.attached_in(id).last() {
         let mount = *last;
-        mounts.are_ascending();
         detach(mounts, filesystems, mount);
         leave(mounts, groups, mount);
     }

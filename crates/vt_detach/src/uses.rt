@@ -1,39 +1,34 @@
 //! Uses of locations: a root, a working directory or an open file is a use of its mount and of its inode.
-ghost use Rattle.std.specs.Prelude.{◌<◌, ◌≡◌, IfErr, IsOk, OnErr, OnOk};
+ghost use Rattle.std.specs.Prelude.{◌<◌, ◌≡◌, IsOk, OnErr, OnOk, ◌^◌};
 ghost use Rattle.vt_fs.specs.FilesystemsValue.{shown};
-ghost use Rattle.vt_location.specs.Numbers.{counted};
-ghost use Rattle.vt_spec.specs.declared.errors.Rule.TheVariants.{S5};
-ghost use Rattle.vt_spec.specs.Errors.{denial};
+ghost use Rattle.vt_location.specs.Numbers.{filesystem_number, mount_number};
 ghost use Rattle.vt_detach.specs.Forking.{HasRoom};
 ghost use Rattle.vt_detach.specs.Uses as meant;
 ghost use Rattle.vt_detach.specs.Uses.{kept, released_in, with_location, without_location};
 
+use std::alloc::AllocError;
 use vt_fs::Filesystems;
 use vt_location::{FilesystemId, Location, MountId};
 use vt_mount::Mounts;
-use vt_spec::errors::Deny;
 
-/// One use more of a location. It does not allocate.
-///
-/// S5 (ENOMEM): the mount or the inode has 2^64 - 1 uses.
+/// One use more of a location. It does not allocate: an error says that the mount or the inode has 2^64 - 1 uses.
 pub fn hold(
     mounts: &mut Mounts,
     filesystems: &mut Filesystems,
     at: Location,
     writes: bool,
-) -> Result<(), Deny>
+) -> Result<(), AllocError>
     ensures ok { OnOk result
         (kept mounts.new filesystems.new ≡ with_location at writes (kept mounts.old filesystems.old)) }
-    ensures slot { at.node.slot < 18446744073709551616 }
+    ensures slot { at.node.slot < 2 ^ 64 }
     ensures room { HasRoom 1 at mounts.old filesystems.old → IsOk result }
-    ensures memory { IfErr result (λ deny. deny ≡ denial S5) }
     ensures err_mounts { OnErr result (mounts.new ≡ mounts.old) }
     ensures err_filesystems { OnErr result (filesystems.new ≡ filesystems.old) }
 {
     mounts.hold(at.mount, writes)?;
-    if let Err(deny) = filesystems.pin(at.node) {
+    if let Err(refused) = filesystems.pin(at.node) {
         mounts.release(at.mount, writes);
-        return Err(deny);
+        return Err(refused);
     }
     Ok(())
 }
@@ -41,7 +36,7 @@ pub fn hold(
 /// One use less of a location: what nothing uses any more goes. It does not allocate.
 pub fn leave(mounts: &mut Mounts, filesystems: &mut Filesystems, at: Location, writes: bool)
     ensures left { kept mounts.new filesystems.new ≡ without_location at writes (kept mounts.old filesystems.old) }
-    ensures slot { at.node.slot < 18446744073709551616 }
+    ensures slot { at.node.slot < 2 ^ 64 }
 {
     mounts.release(at.mount, writes);
     filesystems.unpin(at.node);
@@ -51,7 +46,7 @@ pub fn leave(mounts: &mut Mounts, filesystems: &mut Filesystems, at: Location, w
 /// A mount goes if it is in no namespace and nothing is on it, and its filesystem with its last mount.
 pub(crate) fn let_go_mount(mounts: &mut Mounts, filesystems: &mut Filesystems, id: MountId)
     ensures { kept mounts.new filesystems.new
-        ≡ meant.let_go_mount (counted id.count) (kept mounts.old filesystems.old) }
+        ≡ meant.let_go_mount (mount_number id) (kept mounts.old filesystems.old) }
 {
     let Some(mount) = mounts.get(id) else {
         return;
@@ -67,7 +62,7 @@ pub(crate) fn let_go_mount(mounts: &mut Mounts, filesystems: &mut Filesystems, i
 // One mount less of a filesystem, which goes with its last.
 fn leave_filesystem(filesystems: &mut Filesystems, id: FilesystemId)
     ensures { shown filesystems.new
-        ≡ meant.let_go_filesystem (counted id.count) (released_in (counted id.count) (shown filesystems.old)) }
+        ≡ meant.let_go_filesystem (filesystem_number id) (released_in (filesystem_number id) (shown filesystems.old)) }
 {
     filesystems.release_mount(id);
     if filesystems.mounts(id) == 0 {

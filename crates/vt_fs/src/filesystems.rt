@@ -1,16 +1,14 @@
 //! `Filesystems`, and the calls that look at them and change them.
-ghost use Rattle.std.specs.Prelude.{◌≡◌, ℕ, [], ◌+◌, ◌-◌, ◌++◌, ◌∷◌, ◌↔◌, ◌≤◌, nat_eq, length, map, drop, take, true, false, nat_lt, None, Some, IfOk, IfErr, IfSome, IsErrOf, IsOk, IsTrue, OnOk, OnErr, ◌<◌, option_copied, option_map};
+ghost use Rattle.std.specs.Prelude.{◌≡◌, ℕ, [], ◌+◌, ◌-◌, ◌++◌, ◌∷◌, ◌↔◌, ◌≤◌, nat_eq, length, map, drop, take, true, false, nat_lt, None, Some, IfOk, IfSome, IsOk, IsTrue, OnOk, OnErr, ◌<◌, option_copied, option_map, IsErr};
 ghost use Rattle.std.specs.Option.{option_copied_mut};
 ghost use Rattle.std.specs.Borrow.{sem};
 ghost use Rattle.std.specs.List.{list_all};
 ghost use Rattle.std.specs.Map.{lookup};
-ghost use Rattle.vt_spec.specs.Errors.{denial};
 ghost use Rattle.vt_spec.specs.declared.attributes.Kind.TheVariants.{File};
-ghost use Rattle.vt_spec.specs.declared.errors.Rule.TheVariants.{S5};
 ghost use Rattle.vt_spec.specs.FileTree.{is_directory_under, is_kind_in, is_removed};
 ghost use Rattle.vt_spec.specs.Fits.{MayReplace, StaysOutside};
 ghost use Rattle.vt_spec.specs.Inodes.{changed, pinned, unpinned, uses_in};
-ghost use Rattle.vt_spec.specs.Language.Changes.Change.{AddName, Make, Move, Remove, SetAttr, SetBytes};
+ghost use Rattle.vt_spec.specs.Language.Changes.Change.{AddName, Make, Move, Remove, SetAttr, SetBytes, SetMark};
 ghost use Rattle.vt_spec.specs.Language.Limits.{largest_file};
 ghost use Rattle.vt_spec.specs.Laws.Trees.{IsNewIn};
 ghost use Rattle.vt_spec.specs.Lists.{any_pair};
@@ -22,11 +20,10 @@ ghost use Rattle.vt_location.specs.Locations.{number_of};
 ghost use Rattle.vt_location.specs.Numbers.{exchanged, is_inode_of};
 
 use indexmap::IndexMap;
-use std::alloc::Global;
+use std::alloc::{AllocError, Global};
 use std::marker::Model;
 use vt_location::{FilesystemId, NodeRef};
 use vt_node::{Attr, Node, NodeId};
-use vt_spec::errors::{Deny, Rule};
 use vt_tree::Tree;
 
 // A filesystem, and how many mounts show it.
@@ -229,23 +226,16 @@ impl Filesystems {
     }
 
     /// Makes a filesystem of one empty directory, which no mount shows yet. Its number is above all that are there.
-    ///
-    /// S5 (ENOMEM): an allocation failed.
-    pub fn add(&mut self, filesystem: FilesystemId, attr: Attr) -> Result<(), Deny>
+    pub fn add(&mut self, filesystem: FilesystemId, attr: Attr) -> Result<(), AllocError>
         requires { list_all (λ entry. nat_lt entry.count filesystem.count) self.old ≡ true }
         ensures ok { OnOk result
             ((entry : FilesystemEntry) × (self.new ≡ self.old ++ entry ∷ []) × IsNew filesystem.count attr entry) }
-        ensures memory { IfErr result (λ deny. deny ≡ denial S5) }
         ensures err { OnErr result (self.new ≡ self.old) }
     {
         let alloc = *self.by_number.allocator();
         let tree = Tree::new(alloc, attr)?;
-        let Ok(_) = self
-            .by_number
-            .insert(filesystem, Filesystem { tree, mounts: 0 })
-        else {
-            return Err(Rule::S5.denial());
-        };
+        self.by_number
+            .insert(filesystem, Filesystem { tree, mounts: 0 })?;
         Ok(())
     }
 
@@ -268,16 +258,15 @@ impl Filesystems {
 
     /// Counts one more mount of a filesystem. It does not allocate.
     ///
-    /// S5 (ENOMEM): it has 2^64 - 1 mounts.
-    pub fn hold_mount(&mut self, filesystem: FilesystemId) -> Result<(), Deny>
+    /// An error says that it has 2^64 - 1 mounts.
+    pub fn hold_mount(&mut self, filesystem: FilesystemId) -> Result<(), AllocError>
         ensures ok { OnOk result
             (self.new ≡ with_changed filesystem.count (λ entry. record entry { mounts = entry.mounts + 1 }) self.old) }
-        ensures limit { IsErrOf result (denial S5) ↔ ((entry_at self.old filesystem.count).mounts ≡ most_uses) }
-        ensures memory { IfErr result (λ deny. deny ≡ denial S5) }
+        ensures limit { IsErr result ↔ ((entry_at self.old filesystem.count).mounts ≡ most_uses) }
         ensures err { OnErr result (self.new ≡ self.old) }
     {
         if self.mounts(filesystem) == u64::MAX {
-            return Err(Rule::S5.denial());
+            return Err(AllocError);
         }
         if let Some(found) = self.by_number.get_mut(&filesystem) {
             found.mounts += 1;
@@ -297,13 +286,12 @@ impl Filesystems {
 
     /// The names of a directory, in the order of their bytes: readdir(3). What is no directory has none.
     ///
-    /// S5 (ENOMEM): an allocation failed; an empty list needs none.
-    pub fn list(&self, directory: NodeRef) -> Result<Vec<Vec<u8>>, Deny>
+    /// An empty list needs no allocation.
+    pub fn list(&self, directory: NodeRef) -> Result<Vec<Vec<u8>>, AllocError>
         ensures ok { IfOk result (λ names. map (λ name. name.items) names.items
             ≡ names_in ((files_at self.now directory.filesystem.count).tree.node (number_of directory))) }
         ensures empty { entries_in ((files_at self.now directory.filesystem.count).tree.node (number_of directory)) ≡ []
             → IsOk result }
-        ensures memory { IfErr result (λ deny. deny ≡ denial S5) }
     {
         match self.get(directory.filesystem) {
             Some(tree) => tree.list(slot_of(directory)),
@@ -313,15 +301,19 @@ impl Filesystems {
 
     /// At most `size` bytes of a file from an offset on: pread(2). Past the end there are none.
     ///
-    /// S5 (ENOMEM): an allocation failed; an empty result needs none.
-    pub fn read_part(&self, file: NodeRef, offset: usize, size: usize) -> Result<Vec<u8>, Deny>
+    /// An empty result needs no allocation.
+    pub fn read_part(
+        &self,
+        file: NodeRef,
+        offset: usize,
+        size: usize,
+    ) -> Result<Vec<u8>, AllocError>
         ensures ok { IfOk result (λ bytes. bytes.items
             ≡ take size (drop offset (bytes_in
             ((files_at self.now file.filesystem.count).tree.node (number_of file))))) }
         ensures empty { take size (drop offset
             (bytes_in ((files_at self.now file.filesystem.count).tree.node (number_of file)))) ≡ []
             → IsOk result }
-        ensures memory { IfErr result (λ deny. deny ≡ denial S5) }
     {
         match self.get(file.filesystem) {
             Some(tree) => tree.read_part(slot_of(file), offset, size),
@@ -330,9 +322,12 @@ impl Filesystems {
     }
 
     /// Makes an inode under a free name of a directory: mkdir(2), open(2) with O_CREAT, symlink(2), mknod(2).
-    ///
-    /// S5 (ENOMEM): an allocation failed.
-    pub fn create(&mut self, directory: NodeRef, name: Vec<u8>, node: Node) -> Result<NodeRef, Deny>
+    pub fn create(
+        &mut self,
+        directory: NodeRef,
+        name: Vec<u8>,
+        node: Node,
+    ) -> Result<NodeRef, AllocError>
         requires directory { IsDirectory (files_at self.old directory.filesystem.count).tree (number_of directory) }
         requires free { number_at (files_at self.old directory.filesystem.count).tree
             (number_of directory) name.items ≡ None }
@@ -344,7 +339,6 @@ impl Filesystems {
         ensures number { IfOk result (λ made.
             number_of made ≡ next_seen (entry_at self.old directory.filesystem.count)) }
         ensures filesystem { IfOk result (λ made. made.filesystem ≡ directory.filesystem) }
-        ensures memory { IfErr result (λ deny. deny ≡ denial S5) }
         ensures err { OnErr result (self.new ≡ self.old) }
     {
         let tree = self.get_mut(directory.filesystem).unwrap();
@@ -354,8 +348,13 @@ impl Filesystems {
 
     /// Makes another hard link to an inode of the same filesystem, under a free name: link(2).
     ///
-    /// S5 (ENOMEM): an allocation failed, or the inode has 2^64 - 1 uses.
-    pub fn link(&mut self, directory: NodeRef, name: Vec<u8>, object: NodeRef) -> Result<(), Deny>
+    /// It fails too where the inode has 2^64 - 1 uses.
+    pub fn link(
+        &mut self,
+        directory: NodeRef,
+        name: Vec<u8>,
+        object: NodeRef,
+    ) -> Result<(), AllocError>
         requires one_filesystem { object.filesystem ≡ directory.filesystem }
         requires directory { IsDirectory (files_at self.old directory.filesystem.count).tree (number_of directory) }
         requires free { number_at (files_at self.old directory.filesystem.count).tree
@@ -365,7 +364,6 @@ impl Filesystems {
         ensures ok { OnOk result (ChangesInodes directory.filesystem.count
             (λ inodes. changed nat_eq inodes (AddName (number_of directory) name.items (number_of object)))
             self.old self.new) }
-        ensures memory { IfErr result (λ deny. deny ≡ denial S5) }
         ensures err { OnErr result (self.new ≡ self.old) }
     {
         let tree = self.get_mut(directory.filesystem).unwrap();
@@ -390,7 +388,7 @@ impl Filesystems {
 
     /// Renames an inode within its filesystem, and replaces what had the new name: rename(2).
     ///
-    /// S5 (ENOMEM): an allocation failed, which only a new name needs.
+    /// Only a new name allocates.
     pub fn rename(
         &mut self,
         from: NodeRef,
@@ -398,7 +396,7 @@ impl Filesystems {
         to: NodeRef,
         new: Vec<u8>,
         object: NodeRef,
-    ) -> Result<(), Deny>
+    ) -> Result<(), AllocError>
         requires one_filesystem { to.filesystem ≡ from.filesystem }
         requires of_object { object.filesystem ≡ from.filesystem }
         requires named { number_at (files_at self.old from.filesystem.count).tree
@@ -411,9 +409,8 @@ impl Filesystems {
             (λ inodes. changed nat_eq inodes
             (Move (number_of from) old.now (number_of to) new.items (number_of object)))
             self.old self.new) }
-        ensures new_name { IsErrOf result (denial S5)
-            → number_at (files_at self.old from.filesystem.count).tree (number_of to) new.items ≡ None }
-        ensures memory { IfErr result (λ deny. deny ≡ denial S5) }
+        ensures new_name { OnErr result
+            (number_at (files_at self.old from.filesystem.count).tree (number_of to) new.items ≡ None) }
         ensures err { OnErr result (self.new ≡ self.old) }
     {
         let tree = self.get_mut(from.filesystem).unwrap();
@@ -436,9 +433,7 @@ impl Filesystems {
 
     /// Writes bytes into a file from an offset on, and zeros into a gap before them: pwrite(2). Only a file that gets
     /// longer takes memory. A symlink, a whiteout and a number without an inode stay as they are.
-    ///
-    /// S5 (ENOMEM): an allocation failed.
-    pub fn write_at(&mut self, file: NodeRef, offset: usize, bytes: &[u8]) -> Result<(), Deny>
+    pub fn write_at(&mut self, file: NodeRef, offset: usize, bytes: &[u8]) -> Result<(), AllocError>
         requires file { is_directory_node
             ((files_at self.old file.filesystem.count).tree.node (number_of file)) ≡ false }
         requires size { offset + length bytes.now ≤ largest_file }
@@ -447,12 +442,11 @@ impl Filesystems {
             (overwritten offset bytes.now (bytes_in
             ((files_at self.old file.filesystem.count).tree.node (number_of file))))))
             self.old self.new) }
-        ensures file { IsErrOf result (denial S5)
-            → IsTrue (is_kind_in File ((files_at self.old file.filesystem.count).tree.node (number_of file))) }
-        ensures longer { IsErrOf result (denial S5)
-            → length (bytes_in ((files_at self.old file.filesystem.count).tree.node (number_of file)))
-            < offset + length bytes.now }
-        ensures memory { IfErr result (λ deny. deny ≡ denial S5) }
+        ensures file { OnErr result
+            (IsTrue (is_kind_in File ((files_at self.old file.filesystem.count).tree.node (number_of file)))) }
+        ensures longer { OnErr result
+            (length (bytes_in ((files_at self.old file.filesystem.count).tree.node (number_of file)))
+            < offset + length bytes.now) }
         ensures err { OnErr result (self.new ≡ self.old) }
     {
         match self.get_mut(file.filesystem) {
@@ -471,16 +465,26 @@ impl Filesystems {
         }
     }
 
+    /// Marks a directory opaque, or takes its mark away: setxattr(2) of `trusted.overlay.opaque`. It does not allocate.
+    /// What is no directory stays as it is.
+    pub fn set_opaque(&mut self, directory: NodeRef, opaque: bool)
+        ensures { ChangesInodes directory.filesystem.count
+            (λ inodes. changed nat_eq inodes (SetMark (number_of directory) opaque)) self.old self.new }
+    {
+        if let Some(tree) = self.get_mut(directory.filesystem) {
+            tree.set_opaque(slot_of(directory), opaque);
+        }
+    }
+
     /// Counts one more use of an inode, as open(2) does: an inode in use is kept. It does not allocate.
     ///
-    /// S5 (ENOMEM): the inode has 2^64 - 1 uses.
-    pub fn pin(&mut self, object: NodeRef) -> Result<(), Deny>
+    /// An error says that the inode has 2^64 - 1 uses.
+    pub fn pin(&mut self, object: NodeRef) -> Result<(), AllocError>
         ensures ok { OnOk result
             (ChangesInodes object.filesystem.count
             (λ inodes. pinned nat_eq inodes (number_of object)) self.old self.new) }
-        ensures limit { IsErrOf result (denial S5)
+        ensures limit { IsErr result
             ↔ (uses_in ((inodes_at self.old object.filesystem.count).inode (number_of object)) ≡ most_uses) }
-        ensures memory { IfErr result (λ deny. deny ≡ denial S5) }
         ensures err { OnErr result (self.new ≡ self.old) }
     {
         match self.get_mut(object.filesystem) {

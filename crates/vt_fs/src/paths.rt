@@ -1,32 +1,28 @@
 //! Paths from one directory of a filesystem down to another: mountinfo of proc(5).
-ghost use Rattle.std.specs.Prelude.{◌≡◌, IfErr, IfOk, map, nat_eq, option_map};
-ghost use Rattle.vt_spec.specs.declared.errors.Rule.TheVariants.{S5};
-ghost use Rattle.vt_spec.specs.Errors.{denial};
+ghost use Rattle.std.specs.Prelude.{◌≡◌, IfOk, map, nat_eq, option_map};
 ghost use Rattle.vt_spec.specs.FileTree.{path_down};
 ghost use Rattle.vt_location.specs.Locations.{number_of};
 ghost use Rattle.vt_tree.specs.Paths.{NamesDirectoriesOnce};
 ghost use Rattle.vt_fs.specs.FilesystemsValue.{files_at};
 
 use crate::filesystems::{Filesystems, slot_of};
-use std::alloc::Global;
+use std::alloc::{AllocError, Global};
 use vt_location::NodeRef;
-use vt_spec::errors::Deny;
 
 impl Filesystems {
     /// The names that lead from a directory down to another of its filesystem, if that one lies under it.
     ///
-    /// A directory must have one name at most, as in every tree of a world. S5 (ENOMEM): an allocation failed.
+    /// A directory must have one name at most, as in every tree of a world.
     pub fn path_down(
         &self,
         alloc: Global,
         top: NodeRef,
         directory: NodeRef,
-    ) -> Result<Option<Vec<Vec<u8>>>, Deny>
+    ) -> Result<Option<Vec<Vec<u8>>>, AllocError>
         requires once { NamesDirectoriesOnce (files_at self.now top.filesystem.count).tree }
         requires one_filesystem { directory.filesystem ≡ top.filesystem }
         ensures ok { IfOk result (λ path. option_map (λ names. map (λ name. name.items) names.items) path
             ≡ path_down nat_eq (files_at self.now top.filesystem.count) (number_of top) (number_of directory)) }
-        ensures memory { IfErr result (λ deny. deny ≡ denial S5) }
     {
         match self.get(top.filesystem) {
             Some(tree) => tree.path_down(alloc, slot_of(top), slot_of(directory)),
@@ -36,18 +32,15 @@ impl Filesystems {
     }
 
     /// The names that lead to a directory from the root of its filesystem, if it lies under that; as `path_down`.
-    ///
-    /// S5 (ENOMEM): an allocation failed.
     pub fn path_from_root(
         &self,
         alloc: Global,
         directory: NodeRef,
-    ) -> Result<Option<Vec<Vec<u8>>>, Deny>
+    ) -> Result<Option<Vec<Vec<u8>>>, AllocError>
         requires { NamesDirectoriesOnce (files_at self.now directory.filesystem.count).tree }
         ensures ok { IfOk result (λ path. option_map (λ names. map (λ name. name.items) names.items) path
             ≡ path_down nat_eq (files_at self.now directory.filesystem.count)
             (files_at self.now directory.filesystem.count).tree.root (number_of directory)) }
-        ensures memory { IfErr result (λ deny. deny ≡ denial S5) }
     {
         match self.root(directory.filesystem) {
             Some(root) => self.path_down(alloc, root, directory),

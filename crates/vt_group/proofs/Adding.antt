@@ -14,7 +14,7 @@ use Rattle.vt_spec.specs.Machine.World.{World}
 use Rattle.vt_spec.proofs.Lists.{Among, among_from_all, folded-snoc}
 use Rattle.vt_location.specs.declared.numbers.GroupId.{GroupId}
 use Rattle.vt_group.specs.Grouping.{Grouping, Has, HasGroup, are_rising, master_in}
-use Rattle.vt_group.specs.Steps.{group_number}
+use Rattle.vt_location.specs.Numbers.{group_number}
 use Rattle.vt_group.specs.Together.{Grows, all_added, if_sourced, with_entry_of, with_master_of, with_type_of}
 use Rattle.vt_group.proofs.Changes.{lookup-inserted, rising-inserted}
 use Rattle.vt_group.proofs.Regrouping.{keys, lookup-low}

@@ -18,13 +18,13 @@ use Rattle.vt_spec.specs.Machine.Mounts.Propagation.{Private as MeansPrivate, Sh
 use Rattle.vt_location.specs.declared.numbers.GroupId.{GroupId}
 use Rattle.vt_location.specs.declared.numbers.MountId.{MountId}
 use Rattle.vt_location.specs.MountValue.{propagation_of}
-use Rattle.vt_location.specs.Numbers.{counted}
+use Rattle.vt_location.specs.Numbers.{counted, group_number}
 use Rattle.vt_group.specs.ByNumber.{Numbered, value_at}
 use Rattle.vt_group.specs.declared.groups.NewGroup.{NewGroup}
 use Rattle.vt_group.specs.declared.index.Index.{Index}
 use Rattle.vt_group.specs.Indexed.{group_at, is_listed, is_lower, mount_at}
 use Rattle.vt_group.specs.Grouping.{Grouping, are_rising, propagation_in}
-use Rattle.vt_group.specs.Steps.{group_number, numbered_master, numbered_peer, type_or_private}
+use Rattle.vt_group.specs.Steps.{numbered_master, numbered_peer, type_or_private}
 use Rattle.vt_group.specs.Together.{if_sourced, new_group, pair_of, shared_group, shared_type, typed, with_entry_of, with_master_of, with_type_of}
 use Rattle.vt_group.proofs.Adding.{lookup-removed, rising-removed}
 use Rattle.vt_group.proofs.Changes.{lookup-inserted, rising-inserted}

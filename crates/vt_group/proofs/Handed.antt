@@ -11,10 +11,10 @@ use Rattle.vt_location.specs.declared.numbers.GroupId.{GroupId}
 use Rattle.vt_group.specs.Handing.{group_handed, kind_handed}
 use Rattle.vt_spec.specs.Machine.Mounts.Propagation.{Private as MeansPrivate, Slave as SlaveOf}
 use Rattle.vt_location.specs.MountValue.{propagation_of}
-use Rattle.vt_location.specs.Numbers.{counted}
+use Rattle.vt_location.specs.Numbers.{counted, group_number}
 use Rattle.vt_group.specs.Indexed.{has_source}
 use Rattle.vt_group.specs.Sets.{same_group}
-use Rattle.vt_group.specs.Steps.{group_number, handed, handed_type}
+use Rattle.vt_group.specs.Steps.{handed, handed_type}
 use Rattle.vt_spec.proofs.Truths.{nat_eq-swapped}
 use Rattle.vt_location.proofs.NumberLemmas.{counted_test}
 

@@ -6,7 +6,7 @@ use Rattle.vt_spec.specs.Machine.Mounts.{Propagation, source_of}
 use Rattle.vt_location.specs.declared.numbers.GroupId.{GroupId}
 use Rattle.vt_location.specs.declared.numbers.MountId.{MountId}
 use Rattle.vt_group.specs.Grouping.{Grouping, master_in, propagation_in}
-use Rattle.vt_group.specs.Steps.{group_number}
+use Rattle.vt_location.specs.Numbers.{group_number}
 
 -- a mount receives from one of some groups
 abbrev pub receives_from : Grouping → (ℕ → Bool) → ℕ → Bool

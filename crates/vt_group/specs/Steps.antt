@@ -9,7 +9,7 @@ use Rattle.vt_spec.specs.Machine.Mounts.Propagation.{Private, Shared, Slave, Unb
 use Rattle.vt_location.specs.declared.numbers.GroupId.{GroupId}
 use Rattle.vt_location.specs.declared.mounts.Propagation.{Propagation}
 use Rattle.vt_location.specs.MountValue.{propagation_of}
-use Rattle.vt_location.specs.Numbers.{counted}
+use Rattle.vt_location.specs.Numbers.{counted, group_number}
 use Rattle.vt_group.specs.Grouping.{Grouping, master_in, propagation_in}
 
 abbrev pub type_or_private : Option Propagation → Type_of_mount ℕ
@@ -18,9 +18,6 @@ type_or_private (Some kind) = propagation_of kind
 
 abbrev pub numbered_peer : ℕ × Propagation → ℕ × Type_of_mount ℕ
 numbered_peer entry = (counted entry.0, propagation_of entry.1)
-
-abbrev pub group_number : GroupId → ℕ
-group_number group = counted group.count
 
 abbrev pub numbered_master : ℕ × GroupId → ℕ × ℕ
 numbered_master entry = (counted entry.0, group_number entry.1)

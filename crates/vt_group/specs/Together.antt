@@ -16,10 +16,9 @@ use Rattle.vt_location.specs.declared.mounts.Mount.{Mount as CodeMount}
 use Rattle.vt_location.specs.declared.numbers.GroupId.{GroupId}
 use Rattle.vt_location.specs.declared.numbers.MountId.{MountId}
 use Rattle.vt_location.specs.MountValue.{propagation_of}
-use Rattle.vt_location.specs.Numbers.{counted}
+use Rattle.vt_location.specs.Numbers.{counted, group_number}
 use Rattle.vt_group.specs.declared.groups.NewGroup.{NewGroup}
 use Rattle.vt_group.specs.Grouping.{Grouping, Has, HasGroup, LacksGroup, are_rising, peers_of, propagation_in}
-use Rattle.vt_group.specs.Steps.{group_number}
 use Rattle.vt_laws_mounts.specs.Mounts.Attaching.{numbers_of}
 use Rattle.vt_laws_mounts.specs.Mounts.Receivers.{AllGroupsLive}
 

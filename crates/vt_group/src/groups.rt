@@ -1,15 +1,13 @@
 //! Peer groups.
-ghost use Rattle.std.specs.Prelude.{◌≡◌, Bool, ◌⊎◌, ◌&&◌, ◌||◌, not, [], ⊤, ℕ, None, Some, false, true, if◌then◌else◌, length, nat_eq, map, IfOk, IfErr, IfSome, OnOk, OnErr, option_map};
-ghost use Rattle.vt_spec.specs.Errors.{denial};
+ghost use Rattle.std.specs.Prelude.{◌≡◌, Bool, ◌⊎◌, ◌&&◌, ◌||◌, not, [], ⊤, ℕ, None, Some, false, true, if◌then◌else◌, length, nat_eq, map, IfOk, IfSome, OnOk, OnErr, option_map};
 ghost use Rattle.vt_spec.specs.Lists.{chain, holds_of, is_among};
 ghost use Rattle.vt_spec.specs.Machine.Mounts.Propagation.{Private, Shared as SharedIn, Slave as SlaveOf};
 ghost use Rattle.vt_spec.specs.Machine.Receives.{receivers};
 ghost use Rattle.vt_spec.specs.Machine.Mounts.{group_of, source_of};
 ghost use Rattle.vt_spec.specs.Machine.World.{World};
-ghost use Rattle.vt_spec.specs.declared.errors.Rule.TheVariants.{S5};
 ghost use Rattle.vt_location.specs.declared.numbers.GroupId.{GroupId as GroupNumber};
 ghost use Rattle.vt_location.specs.MountValue.{propagation_of};
-ghost use Rattle.vt_location.specs.Numbers.{counted};
+ghost use Rattle.vt_location.specs.Numbers.{counted, group_number, mount_number};
 ghost use Rattle.vt_group.specs.Grouping.{Follows, Has, HasGroup, HasMount, LacksGroup, below, master_in, no_groups, propagation_in, with_propagation};
 ghost use Rattle.vt_group.specs.Additions.{typed_pair};
 ghost use Rattle.vt_group.specs.Together.{GrowsTo, Shares, is_ordered, new_group, pair_of};
@@ -20,7 +18,7 @@ ghost use Rattle.std.specs.Ordering.{nat_cmp};
 ghost use Rattle.vt_spec.specs.Lists.{or_else};
 ghost use Rattle.vt_group.specs.Receiving.{FindsBelow, IsLonger, is_in, is_noted, receivers_from, receives_from};
 ghost use Rattle.vt_group.specs.Steps.{numbered_peer};
-ghost use Rattle.vt_group.specs.Steps.{ended, ended_if_lost, group_number, handed, handed_type, has_peers, retyped, type_or_private};
+ghost use Rattle.vt_group.specs.Steps.{ended, ended_if_lost, handed, handed_type, has_peers, retyped, type_or_private};
 ghost use Rattle.vt_laws_mounts.specs.Mounts.Attaching.{numbers_of};
 ghost use Rattle.vt_laws_mounts.specs.Mounts.Receivers.{AllGroupsLive};
 
@@ -34,7 +32,6 @@ use indexmap::IndexSet;
 use std::alloc::{AllocError, Global};
 use std::marker::Model;
 use vt_location::{GroupId, Mount, MountId, Propagation};
-use vt_spec::errors::{Deny, Rule};
 
 /// A new group, and its master.
 #[derive(Clone, Copy, Debug, PartialEq, Eq)]
@@ -88,21 +85,21 @@ impl Groups {
 
     /// The propagation type of a mount that is in a group or a slave of one. Any other is private or unbindable.
     pub fn propagation_of(&self, mount: MountId) -> Option<Propagation>
-        ensures { type_or_private result ≡ propagation_in self.now (counted mount.count) }
+        ensures { type_or_private result ≡ propagation_in self.now (mount_number mount) }
     {
         self.mounts.get(mount.count)
     }
 
     /// The master of a group.
     pub fn master_of(&self, group: GroupId) -> Option<GroupId>
-        ensures { option_map group_number result ≡ master_in self.now (counted group.count) }
+        ensures { option_map group_number result ≡ master_in self.now (group_number group) }
     {
         self.above.get(group.count)
     }
 
     /// The group that a mount is the only member of: it ends once the mount leaves it. It does not allocate.
     pub fn ends_with(&self, mount: MountId) -> Option<GroupId>
-        ensures { option_map group_number result ≡ lone_group self.now (counted mount.count) }
+        ensures { option_map group_number result ≡ lone_group self.now (mount_number mount) }
     {
         self.are_ordered();
         let group = own_group(self.propagation_of(mount)?)?;
@@ -116,23 +113,23 @@ impl Groups {
 
     // Whether a mount is a member of a group, and another one than this.
     fn is_other_member(&self, other: MountId, mount: MountId, group: GroupId) -> bool
-        ensures { result ≡ (not (nat_eq (counted other.count) (counted mount.count))
-            && is_member_of (counted group.count) self.now (counted other.count)) }
+        ensures { result ≡ (not (nat_eq (mount_number other) (mount_number mount))
+            && is_member_of (group_number group) self.now (mount_number other)) }
     {
         other != mount && self.is_member(other, group)
     }
 
     // Mounts among which each member of a group is.
     fn members(&self, group: GroupId) -> &[MountId]
-        ensures { (mount : ℕ) → is_member_of (counted group.count) self.now mount ≡ true
-            → is_among nat_eq mount (map (λ mount. counted mount.count) result.now) ≡ true }
+        ensures { (mount : ℕ) → is_member_of (group_number group) self.now mount ≡ true
+            → is_among nat_eq mount (map mount_number result.now) ≡ true }
     {
         self.index.members(group)
     }
 
     // Whether a mount is a member of a group.
     fn is_member(&self, mount: MountId, group: GroupId) -> bool
-        ensures { result ≡ is_member_of (counted group.count) self.now (counted mount.count) }
+        ensures { result ≡ is_member_of (group_number group) self.now (mount_number mount) }
     {
         match self.propagation_of(mount) {
             Some(kind) => is_in(kind, group),
@@ -142,34 +139,28 @@ impl Groups {
 
     /// Mounts among which each member and each slave of a group is; others may be among them too.
     pub fn relatives(&self, group: GroupId) -> Listed<'_, MountId>
-        ensures { (mount : ℕ) → source_of (propagation_in self.now mount) ≡ Some (counted group.count)
-            → is_among nat_eq mount (map (λ mount. counted mount.count) result) ≡ true }
+        ensures { (mount : ℕ) → source_of (propagation_in self.now mount) ≡ Some (group_number group)
+            → is_among nat_eq mount (map mount_number result) ≡ true }
     {
         self.index.relatives(group)
     }
 
     /// The mounts that receive the events of a group, in order of attachment: its members and slaves, and those of
     /// every group below it.
-    ///
-    /// S5 (ENOMEM): an allocation failed.
-    pub fn receivers(&self, alloc: Global, group: GroupId) -> Result<Vec<MountId>, Deny>
+    pub fn receivers(&self, alloc: Global, group: GroupId) -> Result<Vec<MountId>, AllocError>
         ensures ok { IfOk result (λ mounts. (world : World ℕ) → Has world self.now → AllGroupsLive world
-            → map (λ mount. counted mount.count) mounts.items
-            ≡ numbers_of (receivers nat_eq world (counted group.count))) }
-        ensures memory { IfErr result (λ deny. deny ≡ denial S5) }
+            → map mount_number mounts.items
+            ≡ numbers_of (receivers nat_eq world (group_number group))) }
     {
-        let Ok(receivers) = self.receiving(alloc, group) else {
-            return Err(Rule::S5.denial());
-        };
-        Ok(receivers)
+        self.receiving(alloc, group)
     }
 
     // The mounts that receive the events of a group: those of the group and of the groups below it, which are looked for
     // level by level.
     fn receiving(&self, alloc: Global, group: GroupId) -> Result<Vec<MountId>, AllocError>
         ensures { IfOk result (λ mounts. (found : ℕ → Bool)
-            × FindsBelow self.now (counted group.count) found
-            × (map (λ mount. counted mount.count) mounts.items ≡ receivers_from found self.now.peers)) }
+            × FindsBelow self.now (group_number group) found
+            × (map mount_number mounts.items ≡ receivers_from found self.now.peers)) }
     {
         let _ = &self.mounts;
         let mut mounts = Vec::new(alloc);
@@ -189,7 +180,7 @@ impl Groups {
     // Adds the members and slaves of a group.
     fn add_relatives(&self, mounts: &mut Vec<MountId>, group: GroupId) -> Result<(), AllocError>
         ensures { OnOk result ((mount : ℕ) → is_noted mounts.new.items mount
-            ≡ (receives_from self.now (nat_eq (counted group.count)) (counted mount)
+            ≡ (receives_from self.now (nat_eq (group_number group)) (counted mount)
             || is_noted mounts.old.items mount)) }
     {
         for mount in self.relatives(group) {
@@ -207,7 +198,7 @@ impl Groups {
     ) -> Result<(), AllocError>
         ensures { OnOk result ((other : ℕ) → is_noted mounts.new.items other
             ≡ (if nat_eq other mount.count
-            then receives_from self.now (nat_eq (counted group.count)) (counted other)
+            then receives_from self.now (nat_eq (group_number group)) (counted other)
             || is_noted mounts.old.items other else is_noted mounts.old.items other)) }
     {
         let Some(kind) = self.propagation_of(mount) else {
@@ -223,8 +214,8 @@ impl Groups {
     fn add_lowers(&self, found: &mut IndexSet<GroupId>, group: GroupId) -> Result<(), AllocError>
         ensures longer { OnOk result (IsLonger found.old.keys found.new.keys) }
         ensures lower { OnOk result ((one : ℕ) → is_in found.new.keys one ≡ true
-            → (is_in found.old.keys one ≡ true) ⊎ (master_in self.now one ≡ Some (counted group.count))) }
-        ensures all { OnOk result ((one : ℕ) → master_in self.now one ≡ Some (counted group.count)
+            → (is_in found.old.keys one ≡ true) ⊎ (master_in self.now one ≡ Some (group_number group))) }
+        ensures all { OnOk result ((one : ℕ) → master_in self.now one ≡ Some (group_number group)
             → is_in found.new.keys one ≡ true) }
     {
         for lower in self.lowers(group) {
@@ -242,9 +233,9 @@ impl Groups {
     ) -> Result<(), AllocError>
         ensures longer { OnOk result (IsLonger found.old.keys found.new.keys) }
         ensures lower { OnOk result ((one : ℕ) → is_in found.new.keys one ≡ true
-            → (is_in found.old.keys one ≡ true) ⊎ (master_in self.now one ≡ Some (counted group.count))) }
-        ensures there { OnOk result (master_in self.now (counted lower.count) ≡ Some (counted group.count)
-            → is_in found.new.keys (counted lower.count) ≡ true) }
+            → (is_in found.old.keys one ≡ true) ⊎ (master_in self.now one ≡ Some (group_number group))) }
+        ensures there { OnOk result (master_in self.now (group_number lower) ≡ Some (group_number group)
+            → is_in found.new.keys (group_number lower) ≡ true) }
     {
         if self.master_of(lower) == Some(group) {
             found.insert(lower)?;
@@ -254,36 +245,30 @@ impl Groups {
 
     // Groups among which each is that has this one as its master.
     fn lowers(&self, group: GroupId) -> Listed<'_, GroupId>
-        ensures { (one : ℕ) → master_in self.now one ≡ Some (counted group.count) → is_in result one ≡ true }
+        ensures { (one : ℕ) → master_in self.now one ≡ Some (group_number group) → is_in result one ≡ true }
     {
         self.index.lowers(group)
     }
 
     /// A mount becomes a member of a group. A group that is not there is made, without a master.
-    ///
-    /// S5 (ENOMEM): an allocation failed.
-    pub fn join(&mut self, group: GroupId, mount: MountId) -> Result<(), Deny>
-        ensures ok { let mount = counted mount.count in
-            let group = counted group.count in
+    pub fn join(&mut self, group: GroupId, mount: MountId) -> Result<(), AllocError>
+        ensures ok { let mount = mount_number mount in
+            let group = group_number group in
             OnOk result (Follows self.old self.new
             (λ world. HasMount world mount × (LacksGroup world group → world.master group ≡ None))
             (λ world. with_propagation world mount (SharedIn group))) }
-        ensures memory { IfErr result (λ deny. deny ≡ denial S5) }
         ensures err { OnErr result (self.new ≡ self.old) }
     {
         self.set(mount, Propagation::Shared(group))
     }
 
     /// A mount becomes a slave of a group, and is no member of any.
-    ///
-    /// S5 (ENOMEM): an allocation failed.
-    pub fn make_slave(&mut self, mount: MountId, master: GroupId) -> Result<(), Deny>
-        ensures ok { let mount = counted mount.count in
-            let master = counted master.count in
+    pub fn make_slave(&mut self, mount: MountId, master: GroupId) -> Result<(), AllocError>
+        ensures ok { let mount = mount_number mount in
+            let master = group_number master in
             OnOk result (Follows self.old self.new
             (λ world. HasMount world mount × HasGroup world master)
             (λ world. with_propagation world mount (SlaveOf master))) }
-        ensures memory { IfErr result (λ deny. deny ≡ denial S5) }
         ensures err { OnErr result (self.new ≡ self.old) }
     {
         self.set(mount, Propagation::Slave(master))
@@ -293,9 +278,9 @@ impl Groups {
     /// It does not allocate.
     pub fn leave(&mut self, mount: MountId)
         ensures left { Follows self.old self.new (λ world. ⊤)
-            (λ world. with_propagation world (counted mount.count) Private) }
+            (λ world. with_propagation world (mount_number mount) Private) }
         ensures types { (other : ℕ) → propagation_in self.new other
-            ≡ type_once_left self.old (counted mount.count) other }
+            ≡ type_once_left self.old (mount_number mount) other }
     {
         let old = self.mounts.remove(mount.count);
         self.index.leave(mount, old, None);
@@ -305,11 +290,11 @@ impl Groups {
     /// A mount that is a member of a group becomes a slave of it. If it was the last member, the group ends. It does not
     /// allocate.
     pub fn make_slave_of_own(&mut self, mount: MountId)
-        ensures member { (group : ℕ) → propagation_in self.old (counted mount.count) ≡ SharedIn group
-            → self.new ≡ retyped (counted mount.count) (SlaveOf group) self.old }
-        ensures other { group_of (propagation_in self.old (counted mount.count)) ≡ None → self.new ≡ self.old }
+        ensures member { (group : ℕ) → propagation_in self.old (mount_number mount) ≡ SharedIn group
+            → self.new ≡ retyped (mount_number mount) (SlaveOf group) self.old }
+        ensures other { group_of (propagation_in self.old (mount_number mount)) ≡ None → self.new ≡ self.old }
         ensures types { (other : ℕ) → propagation_in self.new other
-            ≡ type_once_slave self.old (counted mount.count) other }
+            ≡ type_once_slave self.old (mount_number mount) other }
     {
         self.are_ordered();
         let Some(kind) = self.propagation_of(mount) else {
@@ -323,10 +308,10 @@ impl Groups {
 
     // A member of a group becomes a slave of it.
     fn set_slave(&mut self, mount: MountId, group: GroupId)
-        requires { propagation_in self.old (counted mount.count) ≡ SharedIn (counted group.count) }
-        ensures new { self.new ≡ retyped (counted mount.count) (SlaveOf (counted group.count)) self.old }
+        requires { propagation_in self.old (mount_number mount) ≡ SharedIn (group_number group) }
+        ensures new { self.new ≡ retyped (mount_number mount) (SlaveOf (group_number group)) self.old }
         ensures types { (other : ℕ) → propagation_in self.new other
-            ≡ type_once_retyped self.old (counted mount.count) (SlaveOf (counted group.count)) other }
+            ≡ type_once_retyped self.old (mount_number mount) (SlaveOf (group_number group)) other }
     {
         let member = Propagation::Shared(group);
         let slave = Propagation::Slave(group);
@@ -337,27 +322,20 @@ impl Groups {
 
     /// Mounts get the types that they have here, and new groups their masters, in whatever order they come: an
     /// attachment. No group that was there may lose its last member by it.
-    ///
-    /// S5 (ENOMEM): an allocation failed.
-    pub fn add(&mut self, mounts: &[Mount], new: &[NewGroup]) -> Result<(), Deny>
+    pub fn add(&mut self, mounts: &[Mount], new: &[NewGroup]) -> Result<(), AllocError>
         ensures ok { OnOk result (GrowsTo self.old self.new (map typed mounts.now) (map new_group new.now)) }
-        ensures memory { IfErr result (λ deny. deny ≡ denial S5) }
         ensures err { OnErr result (self.new ≡ self.old) }
     {
         let alloc = self.index.allocator();
-        let Ok(types) = types_of(alloc, mounts) else {
-            return Err(Rule::S5.denial());
-        };
+        let types = types_of(alloc, mounts)?;
         let types = types.as_slice();
-        let Ok(before) = self.types_before(alloc, types) else {
-            return Err(Rule::S5.denial());
-        };
+        let before = self.types_before(alloc, types)?;
         if self.index.join_all(new).is_err()
             || self.index.list_all(mounts).is_err()
             || reserve_all(&mut self.mounts, &mut self.above, types, new).is_err()
         {
             self.drop_plan(types, new);
-            return Err(Rule::S5.denial());
+            return Err(AllocError);
         }
         // From here on nothing can fail.
         set_all(&mut self.mounts, &mut self.above, types, new);
@@ -367,30 +345,21 @@ impl Groups {
 
     /// All these mounts become shared at once. One that is not shared yet is the first member of a new group, which is
     /// given beside it; if it was a slave, its master is the master of that group.
-    ///
-    /// S5 (ENOMEM): an allocation failed.
-    pub fn share(&mut self, named: &[(MountId, GroupId)]) -> Result<(), Deny>
+    pub fn share(&mut self, named: &[(MountId, GroupId)]) -> Result<(), AllocError>
         ensures ok { OnOk result (Shares self.old self.new (map pair_of named.now)) }
-        ensures memory { IfErr result (λ deny. deny ≡ denial S5) }
         ensures err { OnErr result (self.new ≡ self.old) }
     {
         let alloc = self.index.allocator();
-        let Ok(types) = self.types_when_shared(alloc, named) else {
-            return Err(Rule::S5.denial());
-        };
-        let Ok(new) = self.groups_when_shared(alloc, named) else {
-            return Err(Rule::S5.denial());
-        };
+        let types = self.types_when_shared(alloc, named)?;
+        let new = self.groups_when_shared(alloc, named)?;
         let types = types.as_slice();
         let new = new.as_slice();
-        let Ok(before) = self.types_before(alloc, types) else {
-            return Err(Rule::S5.denial());
-        };
+        let before = self.types_before(alloc, types)?;
         if self.index.share(named, &self.mounts).is_err()
             || reserve_all(&mut self.mounts, &mut self.above, types, new).is_err()
         {
             self.drop_plan(types, new);
-            return Err(Rule::S5.denial());
+            return Err(AllocError);
         }
         // From here on nothing can fail.
         set_all(&mut self.mounts, &mut self.above, types, new);
@@ -414,7 +383,7 @@ impl Groups {
         mounts: &[(MountId, Propagation)],
     ) -> Result<Vec<(MountId, Propagation)>, AllocError>
         ensures { IfOk result (λ types. map typed_pair types.items
-            ≡ map (λ pair. type_before self.now (counted pair.0.count)) mounts.now) }
+            ≡ map (λ pair. type_before self.now (mount_number pair.0)) mounts.now) }
     {
         let mut types = Vec::with_capacity(alloc, mounts.len())?;
         for pair in mounts {
@@ -425,7 +394,7 @@ impl Groups {
 
     // The type of a mount. One that is unbindable is taken for private, since neither is listed.
     fn type_before(&self, mount: MountId) -> Propagation
-        ensures { (counted mount.count, propagation_of result) ≡ type_before self.now (counted mount.count) }
+        ensures { (mount_number mount, propagation_of result) ≡ type_before self.now (mount_number mount) }
     {
         self.propagation_of(mount).unwrap_or(Propagation::Private)
     }
@@ -464,8 +433,8 @@ impl Groups {
 
     // The type of a mount that becomes shared.
     fn when_shared(&self, mount: MountId, group: GroupId) -> Propagation
-        ensures { (counted mount.count, propagation_of result)
-            ≡ shared_type self.now (counted mount.count, counted group.count) }
+        ensures { (mount_number mount, propagation_of result)
+            ≡ shared_type self.now (mount_number mount, group_number group) }
     {
         match self.propagation_of(mount) {
             Some(Propagation::Shared(own)) => Propagation::Shared(own),
@@ -475,7 +444,7 @@ impl Groups {
 
     // The group of a mount that becomes shared: a slave's master is its master.
     fn group_when_shared(&self, mount: MountId, group: GroupId) -> NewGroup
-        ensures { new_group result ≡ shared_group self.now (counted mount.count, counted group.count) }
+        ensures { new_group result ≡ shared_group self.now (mount_number mount, group_number group) }
     {
         match self.propagation_of(mount) {
             Some(Propagation::Slave(master)) => NewGroup {
@@ -491,21 +460,18 @@ impl Groups {
 
     /// A mount becomes the first member of a new group, which has this master, if any. A group that has a master keeps
     /// it.
-    ///
-    /// S5 (ENOMEM): an allocation failed.
     pub fn start_group(
         &mut self,
         group: GroupId,
         mount: MountId,
         master: Option<GroupId>,
-    ) -> Result<(), Deny>
-        ensures ok { let mount = counted mount.count in
-            let group = counted group.count in
+    ) -> Result<(), AllocError>
+        ensures ok { let mount = mount_number mount in
+            let group = group_number group in
             let master = option_map group_number master in
             OnOk result (Follows self.old self.new
             (λ world. HasMount world mount × LacksGroup world group × IfSome master (HasGroup world))
             (λ world. below (with_propagation world mount (SharedIn group)) group master)) }
-        ensures memory { IfErr result (λ deny. deny ≡ denial S5) }
         ensures err { OnErr result (self.new ≡ self.old) }
     {
         let Some(master) = master else {
@@ -514,15 +480,12 @@ impl Groups {
         if self.master_of(group).is_some() {
             return self.set(mount, Propagation::Shared(group));
         }
-        if self.index.list(mount, Propagation::Shared(group)).is_err()
-            || self.index.join(group, master).is_err()
-            || self.above.reserve(group.count).is_err()
-        {
-            return Err(Rule::S5.denial());
-        }
+        self.index.list(mount, Propagation::Shared(group))?;
+        self.index.join(group, master)?;
+        self.above.reserve(group.count)?;
         if self.mounts.reserve(mount.count).is_err() {
             self.above.release(group.count);
-            return Err(Rule::S5.denial());
+            return Err(AllocError);
         }
         let old = self.mounts.get(mount.count);
         // From here on nothing can fail.
@@ -535,16 +498,14 @@ impl Groups {
     }
 
     // A mount gets a type.
-    fn set(&mut self, mount: MountId, kind: Propagation) -> Result<(), Deny>
-        ensures ok { OnOk result (self.new ≡ retyped (counted mount.count) (propagation_of kind) self.old) }
+    fn set(&mut self, mount: MountId, kind: Propagation) -> Result<(), AllocError>
+        ensures ok { OnOk result (self.new ≡ retyped (mount_number mount) (propagation_of kind) self.old) }
         ensures types { OnOk result ((other : ℕ) → propagation_in self.new other
-            ≡ type_once_retyped self.old (counted mount.count) (propagation_of kind) other) }
-        ensures memory { IfErr result (λ deny. deny ≡ denial S5) }
+            ≡ type_once_retyped self.old (mount_number mount) (propagation_of kind) other) }
         ensures err { OnErr result (self.new ≡ self.old) }
     {
-        if self.index.list(mount, kind).is_err() || self.mounts.reserve(mount.count).is_err() {
-            return Err(Rule::S5.denial());
-        }
+        self.index.list(mount, kind)?;
+        self.mounts.reserve(mount.count)?;
         let old = self.mounts.get(mount.count);
         self.mounts.set(mount.count, kind);
         self.index.leave(mount, old, Some(kind));
@@ -571,7 +532,7 @@ impl Groups {
     }
 
     fn has_members(&self, group: GroupId) -> bool
-        ensures { result ≡ has_peers (counted group.count) self.now }
+        ensures { result ≡ has_peers (group_number group) self.now }
     {
         self.are_ordered();
         for mount in self.members(group) {
@@ -584,13 +545,13 @@ impl Groups {
 
     // A group has no members left: its slaves and lower groups get its master.
     fn end(&mut self, group: GroupId)
-        requires { has_peers (counted group.count) self.old ≡ false }
-        ensures ended { self.new ≡ ended (counted group.count) self.old }
+        requires { has_peers (group_number group) self.old ≡ false }
+        ensures ended { self.new ≡ ended (group_number group) self.old }
         ensures types { (mount : ℕ) → propagation_in self.new mount
-            ≡ type_after_end (counted group.count) (master_in self.old (counted group.count))
+            ≡ type_after_end (group_number group) (master_in self.old (group_number group))
             (propagation_in self.old mount) }
         ensures masters { (other : ℕ) → master_in self.new other
-            ≡ master_after_end (counted group.count) (master_in self.old (counted group.count)) self.old other }
+            ≡ master_after_end (group_number group) (master_in self.old (group_number group)) self.old other }
     {
         let heir = self.above.get(group.count);
         hand_mounts(&mut self.mounts, self.index.relatives(group), group, heir);

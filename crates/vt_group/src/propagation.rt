@@ -3,11 +3,10 @@ ghost use Rattle.std.specs.Prelude.{◌≡◌, None, Some, nat_eq, option_map};
 ghost use Rattle.vt_spec.specs.Lists.{holds_of};
 ghost use Rattle.vt_spec.specs.Machine.Mounts.{group_of, source_of};
 ghost use Rattle.vt_location.specs.MountValue.{propagation_of};
-ghost use Rattle.vt_location.specs.Numbers.{counted};
 ghost use Rattle.vt_group.specs.Handing.{group_handed, kind_handed};
 ghost use Rattle.vt_group.specs.Indexed.{group_of_kind, source_of_kind};
 ghost use Rattle.vt_group.specs.Leaving.{type_after_end as type_in_the_end};
-ghost use Rattle.vt_group.specs.Steps.{group_number};
+ghost use Rattle.vt_location.specs.Numbers.{group_number};
 
 use vt_location::{GroupId, Propagation};
 
@@ -24,7 +23,7 @@ pub(crate) fn own_group(kind: Propagation) -> Option<GroupId>
 
 // Whether a mount of this type is in this group.
 pub(crate) fn is_in(kind: Propagation, group: GroupId) -> bool
-    ensures { result ≡ holds_of (nat_eq (counted group.count)) (group_of (propagation_of kind)) }
+    ensures { result ≡ holds_of (nat_eq (group_number group)) (group_of (propagation_of kind)) }
 {
     own_group(kind) == Some(group)
 }
@@ -43,7 +42,7 @@ pub(crate) fn source(kind: Propagation) -> Option<GroupId>
 
 // Whether a mount of this type receives from this group.
 pub(crate) fn has_source(kind: Propagation, group: GroupId) -> bool
-    ensures { result ≡ holds_of (nat_eq (counted group.count)) (source_of (propagation_of kind)) }
+    ensures { result ≡ holds_of (nat_eq (group_number group)) (source_of (propagation_of kind)) }
 {
     source(kind) == Some(group)
 }
@@ -52,7 +51,7 @@ pub(crate) fn has_source(kind: Propagation, group: GroupId) -> bool
 /// private if there is none.
 pub fn type_after_end(kind: Propagation, lost: GroupId, heir: Option<GroupId>) -> Propagation
     ensures { propagation_of result
-        ≡ type_in_the_end (counted lost.count) (option_map group_number heir) (propagation_of kind) }
+        ≡ type_in_the_end (group_number lost) (option_map group_number heir) (propagation_of kind) }
 {
     handed(kind, lost, heir).unwrap_or(Propagation::Private)
 }

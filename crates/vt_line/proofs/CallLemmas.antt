@@ -4,7 +4,7 @@ use Rattle.std.proofs.Common.{List, None, Option, Some, Result, Err, option_map,
 use Rattle.vt_spec.specs.Language.Calls.{Call}
 use Rattle.vt_spec.specs.Language.Calls as spec
 use Rattle.vt_spec.specs.Lists.{then_some, when}
-use Rattle.vt_spec.specs.Language.Script.{no_more, path_alone, path_word, propagation, two_paths, word_then}
+use Rattle.vt_spec.specs.Language.Script.{marks, no_more, path_alone, path_word, two_paths, word_then}
 use Rattle.vt_request.specs.declared.request.Call.{Call as KeptCall}
 use Rattle.vt_line.specs.declared.names.CallName.{CallName}
 use Rattle.vt_line.specs.declared.names.CallName.TheVariants.{Pair, Path}
@@ -60,23 +60,23 @@ some_keeps call None keeps some = cc
 some_keeps call (Some x) keeps some = keeps x
 
 -- what the grammar has of calls that it all has
-had : {A : Type 0} (call : A → Call) (words : Option A) → ((x : A) → propagation.has (call x) ≡ true) →
-    then_some (option_map call words) (λ call. when (propagation.has call) call) ≡ option_map call words
+had : {A : Type 0} (call : A → Call) (words : Option A) → ((x : A) → marks.has (call x) ≡ true) →
+    then_some (option_map call words) (λ call. when (marks.has call) call) ≡ option_map call words
 had call None has = refl
 had call (Some x) has = ap (λ there. when there (call x)) (has x)
 
-path_had : (call : List ℕ → Call) (words : List (List ℕ)) → ((path : List ℕ) → propagation.has (call path) ≡ true) →
-    then_some (path_alone call words) (λ call. when (propagation.has call) call) ≡ option_map call (lone_path words)
+path_had : (call : List ℕ → Call) (words : List (List ℕ)) → ((path : List ℕ) → marks.has (call path) ≡ true) →
+    then_some (path_alone call words) (λ call. when (marks.has call) call) ≡ option_map call (lone_path words)
 path_had call words has =
-    ap (λ asked. then_some asked (λ call. when (propagation.has call) call)) (path_alone-lone call words)
+    ap (λ asked. then_some asked (λ call. when (marks.has call) call)) (path_alone-lone call words)
     ∙ had call (lone_path words) has
 
 pair_had : (call : List ℕ → List ℕ → Call) (words : List (List ℕ))
-    → ((a b : List ℕ) → propagation.has (call a b) ≡ true) →
-    then_some (two_paths call words) (λ call. when (propagation.has call) call)
+    → ((a b : List ℕ) → marks.has (call a b) ≡ true) →
+    then_some (two_paths call words) (λ call. when (marks.has call) call)
     ≡ option_map (with_pair call) (path_pair words)
 pair_had call words has =
-    ap (λ asked. then_some asked (λ call. when (propagation.has call) call)) (two_paths-pair call words)
+    ap (λ asked. then_some asked (λ call. when (marks.has call) call)) (two_paths-pair call words)
     ∙ had (with_pair call) (path_pair words) (λ pair. has pair.0 pair.1)
 
 path_named : (name : PathCall) (words : List (List ℕ))
@@ -93,6 +93,7 @@ path_named path.Chdir words = path_had spec.Call.Chdir words (λ path. refl)
 path_named path.Chroot words = path_had spec.Call.Chroot words (λ path. refl)
 path_named path.Umount words = path_had spec.Call.Umount words (λ path. refl)
 path_named path.Lazy words = path_had spec.Call.Lazy words (λ path. refl)
+path_named path.Whiteout words = path_had spec.Call.MakeWhiteout words (λ path. refl)
 
 pair_named : (name : PairCall) (words : List (List ℕ))
     → call_named (Pair name) words ≡ option_map (with_pair (pair_call name)) (path_pair words)
@@ -117,6 +118,7 @@ path_keeps path.Chdir path = tt
 path_keeps path.Chroot path = tt
 path_keeps path.Umount path = tt
 path_keeps path.Lazy path = tt
+path_keeps path.Whiteout path = tt
 
 pair_keeps : (name : PairCall) (first second : List ℕ) → KeepsWords (pair_call name first second)
 pair_keeps pair.Symlink first second = tt

@@ -1,20 +1,19 @@
 -- What a line asks for, by its texts.
-use Rattle.std.proofs.Common.{inl, inr, IfSome, Bool, List, None, Option, Some, Err, [], ap, arith, codes, cond, false, length, lit≤, option_map, refl, subst, suc, sym, true, unwrap_or, ℕ, ◌<◌, ◌≡◌, ◌≤◌, ◌∙◌, ◌∷◌, ◌++◌, leb, IsSomeAnd}
-use Rattle.std.specs.List.{list_any}
+use Rattle.std.proofs.Common.{inl, inr, IfSome, Bool, List, None, Option, Some, Err, [], ap, arith, codes, cond, false, length, lit≤, option_map, refl, subst, suc, sym, true, unwrap_or, ℕ, ◌<◌, ◌≡◌, ◌≤◌, ◌∙◌, ◌∷◌, leb, IsSomeAnd}
 use Rattle.std.specs.Str.{bytes_eq}
 use Rattle.std.proofs.lemmas.Bool.Decides.{nat_tests}
 use Rattle.vt_spec.specs.Language.Calls.{Call, Directive, plain_flags}
 use Rattle.vt_spec.specs.Language.Calls as asked
 use Rattle.vt_spec.specs.Language.Calls.Call.{MountOverlay, MountPlain}
 use Rattle.vt_spec.specs.Lists.{then_some, when}
-use Rattle.vt_spec.specs.Language.Script.{Request, access_word, asked_by, attribute_words, bytes_word, call_asked, call_words, capabilities_word, chown_call, creation_words, descriptor_word, descriptor_words, directive_asked, each_of, file_call_names, flags_or_plain, flags_word, fork_words, groups_word, identity_word, kept_or_identity, may_have, mode_word, mount_words, mounting_call_names, mounting_words, naming_words, no_more, offset_word, options_of, path_alone, path_word, propagation, raw_tokens, request_of, request_of_texts, some_tasks, task_word, task_words, token_text, two_paths, type_word, word_then, yes_or_no_word}
+use Rattle.vt_spec.specs.Language.Script.{Request, access_word, asked_by, attribute_words, bytes_word, call_asked, call_words, capabilities_word, chown_call, creation_words, descriptor_word, descriptor_words, directive_asked, each_of, flags_or_plain, flags_word, fork_words, groups_word, identity_word, kept_or_identity, marks, may_have, mode_word, mount_words, mounting_words, naming_words, no_more, offset_word, options_of, path_alone, path_word, raw_tokens, request_of, request_of_texts, some_tasks, task_word, task_words, token_text, two_paths, type_word, word_then, yes_or_no_word}
 use Rattle.vt_spec.specs.Language.Script.Request.{Asking, Calling}
 use Rattle.vt_spec.specs.Language.Script.Version.{One}
 use Rattle.vt_spec.specs.Language.Script.Who.{Nobody, Someone}
 use Rattle.vt_line.specs.declared.calls.ReadError.{ReadError}
 use Rattle.vt_line.specs.declared.calls.ReadError.TheVariants.{Grammar, Memory}
 use Rattle.vt_line.specs.declared.names.CallName.{CallName}
-use Rattle.vt_line.specs.declared.names.CallName.TheVariants.{Chmod, Chown, Close, Drop, Exit, Fork, Mkdir, Mount, Mounts, Open, Pair, Path, Pread, Pwrite, Remount, SetType, SetTypeRecursive, Setns, Umask, Unshare, Write}
+use Rattle.vt_line.specs.declared.names.CallName.TheVariants.{Chmod, Chown, Close, Drop, Exit, Fork, Mkdir, Mount, Mounts, Opaque, Open, Pair, Path, Pread, Pwrite, Remount, SetType, SetTypeRecursive, Setns, Umask, Unshare, Write}
 use Rattle.vt_line.specs.declared.names.PairCall.{PairCall}
 use Rattle.vt_line.specs.declared.names.PairCall.TheVariants as pair
 use Rattle.vt_line.specs.declared.names.PathCall.{PathCall}
@@ -185,22 +184,22 @@ module _ (words : List (List ℕ)) (many : 4 < length words) where
 
 -- Whose line it is
 someone-asked : (task : Option (List ℕ)) (words : List (List ℕ)) →
-    asked_by propagation (option_map Someone task) words ≡ then_some task (λ task. call_asked propagation task words)
+    asked_by marks (option_map Someone task) words ≡ then_some task (λ task. call_asked marks task words)
 someone-asked None words = refl
 someone-asked (Some task) words = refl
 
 texts-someones : (text : List ℕ) (words : List (List ℕ)) → bytes_eq text (codes "!") ≡ false
-    → request_of_texts propagation (text ∷ words) ≡ asked_by propagation (option_map Someone (task_word text)) words
+    → request_of_texts marks (text ∷ words) ≡ asked_by marks (option_map Someone (task_word text)) words
 texts-someones text words other =
-    ap (λ test. asked_by propagation (cond test (Some Nobody) (option_map Someone (task_word text))) words) other
+    ap (λ test. asked_by marks (cond test (Some Nobody) (option_map Someone (task_word text))) words) other
 
 texts-nobodys : (text : List ℕ) (words : List (List ℕ)) → bytes_eq text (codes "!") ≡ true
-    → request_of_texts propagation (text ∷ words) ≡ directive_asked propagation words
+    → request_of_texts marks (text ∷ words) ≡ directive_asked marks words
 texts-nobodys text words same =
-    ap (λ test. asked_by propagation (cond test (Some Nobody) (option_map Someone (task_word text))) words) same
+    ap (λ test. asked_by marks (cond test (Some Nobody) (option_map Someone (task_word text))) words) same
 
 -- the names of the product's calls are known
-path-known : (name : PathCall) → list_any (bytes_eq (path_text name)) (file_call_names ++ mounting_call_names) ≡ true
+path-known : (name : PathCall) → marks.knows (path_text name) ≡ true
 path-known path.Ls = refl
 path-known path.Stat = refl
 path-known path.Lstat = refl
@@ -213,8 +212,9 @@ path-known path.Chdir = refl
 path-known path.Chroot = refl
 path-known path.Umount = refl
 path-known path.Lazy = refl
+path-known path.Whiteout = refl
 
-pair-known : (name : PairCall) → list_any (bytes_eq (pair_text name)) (file_call_names ++ mounting_call_names) ≡ true
+pair-known : (name : PairCall) → marks.knows (pair_text name) ≡ true
 pair-known pair.Symlink = refl
 pair-known pair.Link = refl
 pair-known pair.Rename = refl
@@ -222,13 +222,14 @@ pair-known pair.Bind = refl
 pair-known pair.Rbind = refl
 pair-known pair.Move = refl
 
-name-known : (name : CallName) → list_any (bytes_eq (name_text name)) (file_call_names ++ mounting_call_names) ≡ true
+name-known : (name : CallName) → marks.knows (name_text name) ≡ true
 name-known (Path name) = path-known name
 name-known (Pair name) = pair-known name
 name-known Write = refl
 name-known Mkdir = refl
 name-known Chmod = refl
 name-known Chown = refl
+name-known Opaque = refl
 name-known Open = refl
 name-known Pread = refl
 name-known Pwrite = refl
@@ -246,28 +247,28 @@ name-known SetTypeRecursive = refl
 name-known Mounts = refl
 
 call-asked : (task : List ℕ) (name : CallName) (words : List (List ℕ)) →
-    call_asked propagation task (name_text name ∷ words) ≡ option_map (Calling task) (call_named name words)
+    call_asked marks task (name_text name ∷ words) ≡ option_map (Calling task) (call_named name words)
 call-asked task name words = ap (λ known. cond known (option_map (Calling task) (call_named name words)) None)
     (name-known name)
 
 -- what a task asks for, once it and its call are known
 pub task-named : (first second : List ℕ) (words : List (List ℕ)) (task : List ℕ) (name : CallName)
     → task_word first ≡ Some task → second ≡ name_text name
-    → asked_by propagation (option_map Someone (task_word first)) (second ∷ words)
+    → asked_by marks (option_map Someone (task_word first)) (second ∷ words)
     ≡ option_map (Calling task) (call_named name words)
 task-named first second words task name e f =
     someone-asked (task_word first) (second ∷ words)
-    ∙ ap (λ task. then_some task (λ task. call_asked propagation task (second ∷ words))) e
-    ∙ ap (λ second. call_asked propagation task (second ∷ words)) f ∙ call-asked task name words
+    ∙ ap (λ task. then_some task (λ task. call_asked marks task (second ∷ words))) e
+    ∙ ap (λ second. call_asked marks task (second ∷ words)) f ∙ call-asked task name words
 
 asked-none : (test : Bool) (task : List ℕ) (call : Option Call) → call ≡ None
-    → cond test (option_map (Calling task) (then_some call (λ call. when (propagation.has call) call))) None ≡ None
+    → cond test (option_map (Calling task) (then_some call (λ call. when (marks.has call) call))) None ≡ None
 asked-none true task call e = ap
-    (λ call. option_map (Calling task) (then_some call (λ call. when (propagation.has call) call))) e
+    (λ call. option_map (Calling task) (then_some call (λ call. when (marks.has call) call))) e
 asked-none false task call e = refl
 
 -- the directive has no words
-directive-many : (name word : List ℕ) (words : List (List ℕ)) → directive_asked propagation (name ∷ word ∷ words) ≡ None
+directive-many : (name word : List ℕ) (words : List (List ℕ)) → directive_asked marks (name ∷ word ∷ words) ≡ None
 directive-many name word words = by (bytes_eq name (codes "peers")) where
   others : Option Directive
   others = cond (bytes_eq name (codes "sealed")) (some_tasks (word ∷ words)) None
@@ -276,33 +277,33 @@ directive-many name word words = by (bytes_eq name (codes "peers")) where
   by true = refl
   by false = refl
 
-request-many : (texts : List (List ℕ)) → 6 < length texts → request_of_texts propagation texts ≡ None
+request-many : (texts : List (List ℕ)) → 6 < length texts → request_of_texts marks texts ≡ None
 request-many [] h = absurd (omega arith)
 request-many (first ∷ []) h = absurd (omega arith)
 request-many (first ∷ name ∷ []) h = absurd (omega arith)
 request-many (first ∷ name ∷ word ∷ words) h = by_test (bytes_eq first (codes "!")) refl where
   by_test : (test : Bool) → bytes_eq first (codes "!") ≡ test
-      → request_of_texts propagation (first ∷ name ∷ word ∷ words) ≡ None
+      → request_of_texts marks (first ∷ name ∷ word ∷ words) ≡ None
   by_test true e = texts-nobodys first (name ∷ word ∷ words) e ∙ directive-many name word words
   by_test false e =
       texts-someones first (name ∷ word ∷ words) e ∙ someone-asked (task_word first) (name ∷ word ∷ words)
-      ∙ none_then (task_word first) (λ task. call_asked propagation task (name ∷ word ∷ words))
-      (λ task. asked-none (list_any (bytes_eq name) (file_call_names ++ mounting_call_names)) task
+      ∙ none_then (task_word first) (λ task. call_asked marks task (name ∷ word ∷ words))
+      (λ task. asked-none (marks.knows name) task
       (call_words One name (word ∷ words)) (call-none (word ∷ words) (omega arith) name))
 
 -- the texts are as many as the tokens
 many_texts : (texts : Option (List (List ℕ))) → ((all : List (List ℕ)) → texts ≡ Some all → 6 < length all)
-    → then_some texts (request_of_texts propagation) ≡ None
+    → then_some texts (request_of_texts marks) ≡ None
 many_texts None many = refl
 many_texts (Some all) many = request-many all (many all refl)
 
 pub request-few : (line : List ℕ)
-    → request_of propagation line ≡ then_some (few_texts line) (request_of_texts propagation)
+    → request_of marks line ≡ then_some (few_texts line) (request_of_texts marks)
 unfolding request_of
 request-few line = by_test (leb (length (raw_tokens line)) 6) refl where
   by_test : (test : Bool) → leb (length (raw_tokens line)) 6 ≡ test →
-      then_some (each_of token_text (raw_tokens line)) (request_of_texts propagation)
-      ≡ then_some (cond test (each_of token_text (raw_tokens line)) None) (request_of_texts propagation)
+      then_some (each_of token_text (raw_tokens line)) (request_of_texts marks)
+      ≡ then_some (cond test (each_of token_text (raw_tokens line)) None) (request_of_texts marks)
   by_test true e = refl
   by_test false e =
       let many : 6 < length (raw_tokens line) = grind (arith, nat_tests) in

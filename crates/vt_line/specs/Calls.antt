@@ -2,7 +2,7 @@
 use Rattle.std.specs.Prelude.{List, None, Option, Some, length, ℕ, ◌<◌, ◌≡◌, ◌⊎◌, IsSome, IsSomeAnd, Result, Ok, Err}
 use Rattle.vt_spec.specs.Language.Calls as spec
 use Rattle.vt_spec.specs.Language.Calls.Call.{Close, Drop, Exit, Fork, ListMounts, Pread, Setns, Umask, Unshare}
-use Rattle.vt_spec.specs.Language.Script.{Request, call_words, no_more, path_word, propagation, word_then}
+use Rattle.vt_spec.specs.Language.Script.{Request, call_words, marks, no_more, path_word, word_then}
 use Rattle.vt_spec.specs.Language.Script.Request.{Asking, Calling}
 use Rattle.vt_spec.specs.Language.Script.Version.{One}
 use Rattle.vt_spec.specs.Lists.{then_some, when}
@@ -41,7 +41,7 @@ abbrev pub call_worded : CallName → List (List ℕ) → Option spec.Call
 call_worded name words = call_words One (name_text name) words
 
 abbrev pub call_named : CallName → List (List ℕ) → Option spec.Call
-call_named name words = then_some (call_worded name words) (λ call. when (propagation.has call) call)
+call_named name words = then_some (call_worded name words) (λ call. when (marks.has call) call)
 
 -- a call was read, or why none was
 abbrev pub IsCallRead : Option spec.Call → Result Call ReadError → Type 0

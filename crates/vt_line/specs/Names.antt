@@ -2,7 +2,7 @@
 use Rattle.std.specs.Prelude.{List, [], codes, false, true, ℕ, ◌∷◌}
 use Rattle.vt_spec.specs.Language.Calls as spec
 use Rattle.vt_line.specs.declared.names.CallName.{CallName}
-use Rattle.vt_line.specs.declared.names.CallName.TheVariants.{Chmod, Chown, Close, Drop, Exit, Fork, Mkdir, Mount, Mounts, Open, Pair, Path, Pread, Pwrite, Remount, Setns, SetType, SetTypeRecursive, Umask, Unshare, Write}
+use Rattle.vt_line.specs.declared.names.CallName.TheVariants.{Chmod, Chown, Close, Drop, Exit, Fork, Mkdir, Mount, Mounts, Opaque, Open, Pair, Path, Pread, Pwrite, Remount, Setns, SetType, SetTypeRecursive, Umask, Unshare, Write}
 use Rattle.vt_line.specs.declared.names.PairCall.{PairCall}
 use Rattle.vt_line.specs.declared.names.PairCall.TheVariants as pair
 use Rattle.vt_line.specs.declared.names.PathCall.{PathCall}
@@ -21,6 +21,7 @@ path_text path.Chdir = codes "chdir"
 path_text path.Chroot = codes "chroot"
 path_text path.Umount = codes "umount"
 path_text path.Lazy = codes "lazy"
+path_text path.Whiteout = codes "whiteout"
 
 abbrev pub pair_text : PairCall → List ℕ
 pair_text pair.Symlink = codes "symlink"
@@ -37,6 +38,7 @@ name_text Write = codes "write"
 name_text Mkdir = codes "mkdir"
 name_text Chmod = codes "chmod"
 name_text Chown = codes "chown"
+name_text Opaque = codes "opaque"
 name_text Open = codes "open"
 name_text Pread = codes "pread"
 name_text Pwrite = codes "pwrite"
@@ -79,6 +81,7 @@ path_call path.Chdir path = spec.Call.Chdir path
 path_call path.Chroot path = spec.Call.Chroot path
 path_call path.Umount path = spec.Call.Umount path
 path_call path.Lazy path = spec.Call.Lazy path
+path_call path.Whiteout path = spec.Call.MakeWhiteout path
 
 abbrev pub pair_call : PairCall → List ℕ → List ℕ → spec.Call
 pair_call pair.Symlink text path = spec.Call.SymlinkAt text path

@@ -86,6 +86,7 @@ pub fn call(alloc: Global, name: CallName, words: Words<'_>) -> Result<Call, Rea
         CallName::Mkdir => files::mkdir(alloc, words),
         CallName::Chmod => files::chmod(alloc, words),
         CallName::Chown => files::chown(alloc, words),
+        CallName::Opaque => files::opaque(alloc, words),
         CallName::Open => files::open(alloc, words),
         CallName::Pread => files::pread(words).ok_or(ReadError::Grammar),
         CallName::Pwrite => files::pwrite(alloc, words),

@@ -1,7 +1,7 @@
 //! The lines of a script.
 ghost use Rattle.std.specs.Prelude.{◌≡◌, ◌<◌, ◌≤◌, ◌↔◌, ◌⊎◌, ◌∷◌, None, length, option_map, IfOk, IfErr, IsSomeAnd};
 ghost use Rattle.vt_spec.specs.Errors.{denial};
-ghost use Rattle.vt_spec.specs.Language.Script.{asked_by, directive_asked, propagation};
+ghost use Rattle.vt_spec.specs.Language.Script.{asked_by, directive_asked, marks};
 ghost use Rattle.vt_spec.specs.Language.Script.{request_of, request_of_texts, task_word};
 ghost use Rattle.vt_spec.specs.Language.Script.Request.{Asking};
 ghost use Rattle.vt_spec.specs.Language.Script.Who.{Someone};
@@ -35,7 +35,7 @@ pub enum Line {
 /// A task's call, by their texts and the words behind them. What is kept of them is copied once all are of the grammar.
 fn task_call(alloc: Global, task: &[u8], name: &[u8], words: Words<'_>) -> Result<Line, ReadError>
     ensures { let task = option_map Someone (task_word task.now) in
-        IsRequestRead (asked_by propagation task (name.now ∷ words.entry)) result }
+        IsRequestRead (asked_by marks task (name.now ∷ words.entry)) result }
 {
     let Some(name) = CallName::from_text(name) else {
         return Err(ReadError::Grammar);
@@ -51,7 +51,7 @@ fn task_call(alloc: Global, task: &[u8], name: &[u8], words: Words<'_>) -> Resul
 /// The directive of this name, with these words.
 fn directive(name: &[u8], words: Words<'_>) -> Option<Directive>
     ensures { option_map (λ directive. Asking (directive_of directive)) result
-        ≡ directive_asked propagation (name.now ∷ words.entry) }
+        ≡ directive_asked marks (name.now ∷ words.entry) }
 {
     if name != b"peers".as_slice() {
         return None;
@@ -62,7 +62,7 @@ fn directive(name: &[u8], words: Words<'_>) -> Option<Directive>
 
 /// What a line asks for, by its texts.
 fn texts_request(alloc: Global, texts: Texts<'_>) -> Result<Line, ReadError>
-    ensures { IsRequestRead (request_of_texts propagation (texts_of texts.entry.items)) result }
+    ensures { IsRequestRead (request_of_texts marks (texts_of texts.entry.items)) result }
 {
     let mut words = Words::new(texts);
     let (Some(who), Some(name)) = (words.next(), words.next()) else {
@@ -80,7 +80,7 @@ fn texts_request(alloc: Global, texts: Texts<'_>) -> Result<Line, ReadError>
 /// What a line asks for that has escapes, or bytes that no token has.
 fn escaped_request(alloc: Global, line: &[u8]) -> Result<Line, ReadError>
     requires { length line.now ≤ longest_line }
-    ensures { IsRequestRead (request_of propagation line.now) result }
+    ensures { IsRequestRead (request_of marks line.now) result }
 {
     let Some(unescaped) = Unescaped::from_line(line) else {
         return Err(ReadError::Grammar);
@@ -91,7 +91,7 @@ fn escaped_request(alloc: Global, line: &[u8]) -> Result<Line, ReadError>
 /// What a line asks for, if it is of the grammar.
 fn request(alloc: Global, line: &[u8]) -> Result<Line, ReadError>
     requires { length line.now ≤ longest_line }
-    ensures { IsRequestRead (request_of propagation line.now) result }
+    ensures { IsRequestRead (request_of marks line.now) result }
 {
     if !is_unescaped(line) {
         return escaped_request(alloc, line);
@@ -114,9 +114,9 @@ impl Line {
         // The two refusals, and what each says of the line.
         ensures refused { IfErr result (λ deny. (deny ≡ denial S1) ⊎ (deny ≡ denial S5)) }
         ensures no_request { (result ≡ Err (denial S1))
-            ↔ ((longest_line < length line.now) ⊎ (IsSpoken line.now × (request_of propagation line.now ≡ None))) }
+            ↔ ((longest_line < length line.now) ⊎ (IsSpoken line.now × (request_of marks line.now ≡ None))) }
         ensures no_memory { result ≡ Err (denial S5)
-            → IsSpoken line.now × IsSomeAnd (request_of propagation line.now) TakesMemory }
+            → IsSpoken line.now × IsSomeAnd (request_of marks line.now) TakesMemory }
     {
         if line.len() > LONGEST_LINE {
             return Err(Rule::S1.denial());

@@ -1,6 +1,6 @@
 //! The names of the calls.
 ghost use Rattle.std.specs.Prelude.{◌≡◌, ◌++◌, None, false, IfSome};
-ghost use Rattle.vt_spec.specs.Language.Script.{file_call_names, mounting_call_names};
+ghost use Rattle.vt_spec.specs.Language.Script.{file_call_names, marking_call_names, mounting_call_names};
 
 use vt_request::{Call, LookCall, MakeCall, MountCall, RemoveCall, TaskCall};
 
@@ -19,6 +19,7 @@ pub enum PathCall {
     Chroot,
     Umount,
     Lazy,
+    Whiteout,
 }
 
 impl PathCall {
@@ -42,6 +43,7 @@ impl PathCall {
             PathCall::Chroot => Call::Task(TaskCall::Chroot { path }),
             PathCall::Umount => Call::Mount(MountCall::Umount { path }),
             PathCall::Lazy => Call::Mount(MountCall::Lazy { path }),
+            PathCall::Whiteout => Call::Make(MakeCall::Whiteout { path }),
         }
     }
 }
@@ -100,6 +102,7 @@ pub enum CallName {
     Mkdir,
     Chmod,
     Chown,
+    Opaque,
     Open,
     Pread,
     Pwrite,
@@ -126,7 +129,7 @@ impl CallName {
     pub fn from_text(text: &[u8]) -> Option<Self>
         ensures named { IfSome result (λ name. text.now ≡ name_text name) }
         ensures unknown { result ≡ None
-            → list_any (bytes_eq text.now) (file_call_names ++ mounting_call_names) ≡ false }
+            → list_any (bytes_eq text.now) (file_call_names ++ mounting_call_names ++ marking_call_names) ≡ false }
     {
         if let Some(name) = CallName::on_names(text) {
             return Some(name);
@@ -134,7 +137,10 @@ impl CallName {
         if let Some(name) = CallName::on_files(text) {
             return Some(name);
         }
-        CallName::on_mounts(text)
+        if let Some(name) = CallName::on_mounts(text) {
+            return Some(name);
+        }
+        CallName::on_marks(text)
     }
 
     // The call on a name of a directory that a text names.
@@ -200,6 +206,18 @@ impl CallName {
             b"chroot" => CallName::Path(PathCall::Chroot),
             b"unshare" => CallName::Unshare,
             b"setns" => CallName::Setns,
+            _ => return None,
+        })
+    }
+
+    // The call that makes what hides lower layers that a text names.
+    fn on_marks(text: &[u8]) -> Option<Self>
+        ensures named { IfSome result (λ name. text.now ≡ name_text name) }
+        ensures unknown { result ≡ None → list_any (bytes_eq text.now) marking_call_names ≡ false }
+    {
+        Some(match text {
+            b"whiteout" => CallName::Path(PathCall::Whiteout),
+            b"opaque" => CallName::Opaque,
             _ => return None,
         })
     }

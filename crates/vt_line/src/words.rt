@@ -1,6 +1,6 @@
 //! The words of a line: its task, its call and what the call is given.
 ghost use Rattle.std.specs.Prelude.{◌≡◌, ◌<◌, option_map, length, is_some, true, Some, IfOk, IfSome, OnErr};
-ghost use Rattle.vt_spec.specs.Language.Script.{task_word, path_word, capability_named, capabilities_word, access_word, first_flags, kept_or_identity, groups_word, type_word};
+ghost use Rattle.vt_spec.specs.Language.Script.{task_word, path_word, capability_named, capabilities_word, access_word, first_flags, kept_or_identity, groups_word, type_word, yes_or_no_word};
 ghost use Rattle.vt_request.specs.declared.task.TheConstants.{INLINE_NUMBERS};
 ghost use Rattle.vt_cred.specs.Caps.{capability_bits};
 ghost use Rattle.vt_cred.specs.MountFlags.{flags_of};
@@ -132,6 +132,19 @@ pub fn type_word(text: &[u8]) -> Option<TypeWord>
         Some(TypeWord::Private)
     } else if text == b"unbindable".as_slice() {
         Some(TypeWord::Unbindable)
+    } else {
+        None
+    }
+}
+
+/// Whether a directory is marked opaque.
+pub fn yes_or_no_word(text: &[u8]) -> Option<bool>
+    ensures { result ≡ yes_or_no_word text.now }
+{
+    if text == b"yes".as_slice() {
+        Some(true)
+    } else if text == b"no".as_slice() {
+        Some(false)
     } else {
         None
     }

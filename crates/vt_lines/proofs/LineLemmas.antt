@@ -1,11 +1,11 @@
 -- The lines of a text, one after the other, and how many of them are refused.
-use Rattle.std.proofs.Common.{◌≡◌, ◌≤◌, ◌<◌, ◌+◌, ◌==◌, ◌∷◌, ◌++◌, ◌∙◌, [], ℕ, List, length, Bool, true, false, cond, ap, arith, refl}
+use Rattle.std.proofs.Common.{◌≡◌, ◌≤◌, ◌<◌, ◌+◌, ◌==◌, ◌∷◌, ◌++◌, ◌∙◌, [], ℕ, List, length, Bool, true, false, cond, ap, sym, append_assoc, length-append, arith, refl}
 use Rattle.std.proofs.lemmas.Grind.{common_steps}
 use Rattle.std.specs.List.{count_by}
 use Rattle.std.proofs.lemmas.List.Sums.{count_by-le-length, sum_by-cons}
 use Rattle.vt_spec.specs.Language.Script.{lines_of, with_line_byte}
-use Rattle.vt_script.specs.Progress.{HasNoNewline}
-use Rattle.vt_script.proofs.RunLemmas.{lines_of-newline, lines_of-last}
+use Rattle.vt_script.specs.Progress.{HasNoNewline, whole_lines}
+use Rattle.vt_script.proofs.RunLemmas.{lines_of-newline, lines_of-last, lines_of-whole, whole_lines-append, whole_lines-newline}
 use Rattle.vt_lines.specs.Refused.{is_refused, refused_in}
 
 -- no more lines than bytes
@@ -48,6 +48,27 @@ lines_of-cut text line rest cut = rw cut.0 (lines_of-newline line rest cut.1)
 pub lines_of-one : (text : List ℕ) → 0 < length text → HasNoNewline text → lines_of text ≡ text ∷ lines_of []
 lines_of-one [] some whole = absurd (omega arith)
 lines_of-one (byte ∷ line) some whole = lines_of-last byte line whole
+
+-- Whole lines at the front of a text, with its next line
+
+module _ (front line : List ℕ) (whole : whole_lines front ≡ front) (one : HasNoNewline line) where
+  pub whole-next : whole_lines (front ++ (line ++ 10 ∷ [])) ≡ front ++ (line ++ 10 ∷ [])
+  whole-next = whole_lines-append front (line ++ 10 ∷ []) whole (whole_lines-newline line)
+
+  pub lines-next : lines_of (front ++ (line ++ 10 ∷ [])) ≡ lines_of front ++ (line ∷ [])
+  lines-next =
+      lines_of-whole front (line ++ 10 ∷ []) whole ∙ ap (λ last. lines_of front ++ last) (lines_of-newline line [] one)
+
+  pub split-next : (text rest after : List ℕ) → lines_of text ≡ lines_of front ++ lines_of rest
+      → lines_of rest ≡ line ∷ lines_of after
+      → lines_of text ≡ lines_of (front ++ (line ++ 10 ∷ [])) ++ lines_of after
+  split-next text rest after split first =
+      split ∙ ap (λ lines. lines_of front ++ lines) first
+      ∙ sym (append_assoc (lines_of front) (line ∷ []) (lines_of after))
+      ∙ ap (λ lines. lines ++ lines_of after) (sym lines-next)
+
+  pub count-next : length (lines_of (front ++ (line ++ 10 ∷ []))) ≡ length (lines_of front) + 1
+  count-next = ap length lines-next ∙ length-append (lines_of front) (line ∷ [])
 
 -- For `grind`: how many lines are refused, line by line.
 pub ruleset refused_lines = (refused_in-line, refused_in-le, refused_in-end)

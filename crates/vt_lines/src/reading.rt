@@ -1,7 +1,8 @@
 //! Whether a run takes a line, as the reader of lines decides.
 ghost use Rattle.std.specs.Prelude.{◌≡◌, IfOk, is_none, not};
-ghost use Rattle.vt_lines.specs.Refused.{is_refused};
+ghost use Rattle.vt_lines.specs.Refused.{is_refused, refused_in};
 
+use crate::lines::first_line;
 use std::alloc::{AllocError, Global};
 use vt_line::line::Line;
 use vt_spec::errors::Rule;
@@ -22,4 +23,20 @@ pub fn is_taken(alloc: Global, line: &[u8]) -> Result<bool, AllocError>
     ensures { IfOk result (λ taken. not taken ≡ is_refused line.now) }
 {
     Ok(reading(alloc, line)?.is_some())
+}
+
+/// How many lines of a text a run refuses by S1.
+#[tactic(auto, using(crate::proofs::LineLemmas::refused_lines))]
+pub fn refused_lines(alloc: Global, text: &[u8]) -> Result<u64, AllocError>
+    ensures { IfOk result (λ count. count ≡ refused_in text.now) }
+{
+    let mut rest = text;
+    let mut refused: u64 = 0;
+    while let Some((line, after)) = first_line(rest) {
+        if !is_taken(alloc, line)? {
+            refused += 1;
+        }
+        rest = after;
+    }
+    Ok(refused)
 }

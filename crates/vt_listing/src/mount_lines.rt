@@ -1,11 +1,9 @@
 //! The list of a namespace's mounts: mountinfo of proc(5).
-ghost use Rattle.std.specs.Prelude.{List, ℕ, ◌≡◌, ◌∷◌, [], IfErr, IfOk, OnOk, map, nat_eq, option_map, true};
+ghost use Rattle.std.specs.Prelude.{List, ℕ, ◌≡◌, ◌∷◌, [], IfOk, OnOk, map, nat_eq, option_map, true};
 ghost use Rattle.vt_location.specs.Locations.{location_of};
 ghost use Rattle.vt_location.specs.MountValue.{mount_of, propagation_of};
-ghost use Rattle.vt_location.specs.Numbers.{counted};
+ghost use Rattle.vt_location.specs.Numbers.{filesystem_number, group_number, mount_number, namespace_number};
 ghost use Rattle.vt_request.specs.Answers.{mount_line_of, spot_of, type_line_of};
-ghost use Rattle.vt_spec.specs.declared.errors.Rule.TheVariants.{S5};
-ghost use Rattle.vt_spec.specs.Errors.{denial};
 ghost use Rattle.vt_spec.specs.Language.Answers as answers;
 ghost use Rattle.vt_spec.specs.Machine.Listing as listing;
 ghost use Rattle.vt_spec.specs.Machine.Mounts as meant;
@@ -16,22 +14,20 @@ ghost use Rattle.vt_listing.specs.Shown.{IsShown, NameDirectoriesOnce, world_sho
 
 use crate::table::MountTable;
 use indexmap::IndexSet;
+use std::alloc::AllocError;
 use vt_location::{FilesystemId, GroupId, Location, Mount, MountId, NamespaceId, Propagation};
 use vt_request::{MountLine, Spot, TypeLine};
-use vt_spec::errors::{Deny, Rule};
 
 impl MountTable<'_> {
     /// The mounts of a namespace, in the order of their attachment: mountinfo of proc(5). Filesystems and groups are
     /// numbered by where they first stand in the list.
     ///
-    /// A directory must have one name at most, as in every tree of a world. S5 (ENOMEM): an allocation failed.
-    pub fn mount_lines(&self, namespace: NamespaceId) -> Result<Vec<MountLine>, Deny>
+    /// A directory must have one name at most, as in every tree of a world.
+    pub fn mount_lines(&self, namespace: NamespaceId) -> Result<Vec<MountLine>, AllocError>
         requires once { NameDirectoriesOnce self.now.filesystems.now }
         ensures ok { IfOk result (λ lines. (world : World ℕ) → IsShown world self.now
-            → map mount_line_of lines.items ≡ listing.mount_lines nat_eq world (counted namespace.count)) }
-        ensures memory { IfErr result (λ deny. deny ≡ denial S5) }
+            → map mount_line_of lines.items ≡ listing.mount_lines nat_eq world (namespace_number namespace)) }
     {
-        self.mounts.are_ascending();
         let listed = self.mounts.attached_in(namespace);
         let filesystems = self.filesystems_in(namespace)?;
         let groups = self.groups_in(namespace)?;
@@ -39,41 +35,31 @@ impl MountTable<'_> {
         for id in listed {
             if let Some(mount) = self.mounts.get(*id) {
                 let line = self.mount_line(&mount, listed, &filesystems, &groups)?;
-                let Ok(()) = lines.push(line) else {
-                    return Err(Rule::S5.denial());
-                };
+                lines.push(line)?;
             }
         }
         Ok(lines)
     }
 
     // The filesystems that the mounts of a namespace show, in the order in which they first stand in its list.
-    // S5 (ENOMEM): an allocation failed.
-    fn filesystems_in(&self, namespace: NamespaceId) -> Result<IndexSet<FilesystemId>, Deny>
-        ensures ok { IfOk result (λ seen. map (λ id. counted id.count) seen.keys
-            ≡ listing.filesystems_seen nat_eq (attached_in (counted namespace.count) self.now.mounts.now)) }
-        ensures memory { IfErr result (λ deny. deny ≡ denial S5) }
+    fn filesystems_in(&self, namespace: NamespaceId) -> Result<IndexSet<FilesystemId>, AllocError>
+        ensures ok { IfOk result (λ seen. map filesystem_number seen.keys
+            ≡ listing.filesystems_seen nat_eq (attached_in (namespace_number namespace) self.now.mounts.now)) }
     {
-        self.mounts.are_ascending();
         let mut seen = IndexSet::new(self.alloc);
         for id in self.mounts.attached_in(namespace) {
             if let Some(mount) = self.mounts.get(*id) {
-                let Ok(_) = seen.insert(mount.root.filesystem) else {
-                    return Err(Rule::S5.denial());
-                };
+                seen.insert(mount.root.filesystem)?;
             }
         }
         Ok(seen)
     }
 
     // The groups of the mounts of a namespace, in the order in which they first stand in its list.
-    // S5 (ENOMEM): an allocation failed.
-    fn groups_in(&self, namespace: NamespaceId) -> Result<IndexSet<GroupId>, Deny>
-        ensures ok { IfOk result (λ seen. map (λ id. counted id.count) seen.keys
-            ≡ listing.groups_seen nat_eq (world_shown self.now) (attached_in (counted namespace.count) self.now.mounts.now)) }
-        ensures memory { IfErr result (λ deny. deny ≡ denial S5) }
+    fn groups_in(&self, namespace: NamespaceId) -> Result<IndexSet<GroupId>, AllocError>
+        ensures ok { IfOk result (λ seen. map group_number seen.keys
+            ≡ listing.groups_seen nat_eq (world_shown self.now) (attached_in (namespace_number namespace) self.now.mounts.now)) }
     {
-        self.mounts.are_ascending();
         let mut seen = IndexSet::new(self.alloc);
         for id in self.mounts.attached_in(namespace) {
             if let Some(mount) = self.mounts.get(*id) {
@@ -84,16 +70,13 @@ impl MountTable<'_> {
     }
 
     /// The groups of a type are seen, as its line names them: a group before its master.
-    ///
-    /// S5 (ENOMEM): an allocation failed.
     pub(crate) fn see_type(
         &self,
         seen: &mut IndexSet<GroupId>,
         kind: Propagation,
-    ) -> Result<(), Deny>
+    ) -> Result<(), AllocError>
         ensures ok { OnOk result (SeesMore seen.old.keys seen.new.keys
             (listing.groups_in_type (world_shown self.now) (propagation_of kind))) }
-        ensures memory { IfErr result (λ deny. deny ≡ denial S5) }
     {
         match kind {
             Propagation::Shared(group) => {
@@ -109,21 +92,19 @@ impl MountTable<'_> {
     }
 
     // The line of a mount in a list of mounts, by the filesystems and the groups of that list in their order.
-    // S5 (ENOMEM): an allocation failed.
     fn mount_line(
         &self,
         mount: &Mount,
         listed: &[MountId],
         filesystems: &IndexSet<FilesystemId>,
         groups: &IndexSet<GroupId>,
-    ) -> Result<MountLine, Deny>
+    ) -> Result<MountLine, AllocError>
         requires once { NameDirectoriesOnce self.now.filesystems.now }
         requires order { are_rising listed.now ≡ true }
         ensures ok { IfOk result (λ line. (mounts : List (meant.Mount ℕ)) → AreOf listed.now mounts
-            → map (λ id. counted id.count) filesystems.now.keys ≡ listing.filesystems_seen nat_eq mounts
-            → map (λ id. counted id.count) groups.now.keys ≡ listing.groups_seen nat_eq (world_shown self.now) mounts
+            → map filesystem_number filesystems.now.keys ≡ listing.filesystems_seen nat_eq mounts
+            → map group_number groups.now.keys ≡ listing.groups_seen nat_eq (world_shown self.now) mounts
             → mount_line_of line ≡ listing.mount_line nat_eq (world_shown self.now) mounts (mount_of mount.now)) }
-        ensures memory { IfErr result (λ deny. deny ≡ denial S5) }
     {
         Ok(MountLine {
             mount_point: self.point_shown(mount.mount_point, listed)?,
@@ -138,7 +119,7 @@ impl MountTable<'_> {
     // The type of a mount, as its line shows it, by the groups of its list.
     fn type_shown(&self, kind: Propagation, groups: &IndexSet<GroupId>) -> TypeLine
         ensures { type_line_of result
-            ≡ listing.type_line nat_eq (world_shown self.now) (map (λ id. counted id.count) groups.now.keys)
+            ≡ listing.type_line nat_eq (world_shown self.now) (map group_number groups.now.keys)
             (propagation_of kind) }
     {
         match kind {
@@ -156,8 +137,8 @@ impl MountTable<'_> {
 
     /// The place of a group's master among others, if it has a master.
     pub(crate) fn master_place(&self, group: GroupId, groups: &IndexSet<GroupId>) -> Option<usize>
-        ensures { result ≡ option_map (listing.number_among nat_eq (map (λ id. counted id.count) groups.now.keys))
-            ((world_shown self.now).master (counted group.count)) }
+        ensures { result ≡ option_map (listing.number_among nat_eq (map group_number groups.now.keys))
+            ((world_shown self.now).master (group_number group)) }
     {
         match self.groups.master_of(group) {
             Some(master) => Some(group_place(master, groups)),
@@ -165,12 +146,12 @@ impl MountTable<'_> {
         }
     }
 
-    // A mount point as a list of mounts shows it. S5 (ENOMEM): an allocation failed.
+    // A mount point as a list of mounts shows it.
     fn point_shown(
         &self,
         point: Option<Location>,
         listed: &[MountId],
-    ) -> Result<Option<(usize, Spot)>, Deny>
+    ) -> Result<Option<(usize, Spot)>, AllocError>
         requires once { NameDirectoriesOnce self.now.filesystems.now }
         requires order { are_rising listed.now ≡ true }
         ensures ok { IfOk result (λ shown. (mounts : List (meant.Mount ℕ)) → AreOf listed.now mounts
@@ -179,7 +160,6 @@ impl MountTable<'_> {
               listing.number_among nat_eq (map (λ other. other.number) mounts) place.mount,
               listing.mount_point_spot nat_eq (world_shown self.now) place,
             )) (option_map location_of point)) }
-        ensures memory { IfErr result (λ deny. deny ≡ denial S5) }
     {
         match point {
             Some(place) => Ok(Some((
@@ -195,7 +175,7 @@ impl MountTable<'_> {
 fn mount_place(id: MountId, listed: &[MountId]) -> usize
     requires order { are_rising listed.now ≡ true }
     ensures { (mounts : List (meant.Mount ℕ)) → AreOf listed.now mounts
-        → result ≡ listing.number_among nat_eq (map (λ other. other.number) mounts) (counted id.count) }
+        → result ≡ listing.number_among nat_eq (map (λ other. other.number) mounts) (mount_number id) }
 {
     match listed.binary_search_by_key(&id.count, |other| other.count) {
         Ok(index) => index + 1,
@@ -205,8 +185,8 @@ fn mount_place(id: MountId, listed: &[MountId]) -> usize
 
 // The place of a filesystem among others, from 1 on; 0 if it is not among them.
 fn filesystem_place(id: FilesystemId, filesystems: &IndexSet<FilesystemId>) -> usize
-    ensures { result ≡ listing.number_among nat_eq (map (λ other. counted other.count) filesystems.now.keys)
-        (counted id.count) }
+    ensures { result ≡ listing.number_among nat_eq (map filesystem_number filesystems.now.keys)
+        (filesystem_number id) }
 {
     // The index is less than the length, which fits.
     let _ = filesystems.len();
@@ -218,8 +198,8 @@ fn filesystem_place(id: FilesystemId, filesystems: &IndexSet<FilesystemId>) -> u
 
 /// The place of a group among others, from 1 on; 0 if it is not among them.
 pub(crate) fn group_place(id: GroupId, groups: &IndexSet<GroupId>) -> usize
-    ensures { result ≡ listing.number_among nat_eq (map (λ other. counted other.count) groups.now.keys)
-        (counted id.count) }
+    ensures { result ≡ listing.number_among nat_eq (map group_number groups.now.keys)
+        (group_number id) }
 {
     // The index is less than the length, which fits.
     let _ = groups.len();
@@ -229,13 +209,10 @@ pub(crate) fn group_place(id: GroupId, groups: &IndexSet<GroupId>) -> usize
     }
 }
 
-// A group is seen. S5 (ENOMEM): an allocation failed.
-fn see(seen: &mut IndexSet<GroupId>, group: GroupId) -> Result<(), Deny>
-    ensures ok { OnOk result (SeesMore seen.old.keys seen.new.keys (counted group.count ∷ [])) }
-    ensures memory { IfErr result (λ deny. deny ≡ denial S5) }
+// A group is seen.
+fn see(seen: &mut IndexSet<GroupId>, group: GroupId) -> Result<(), AllocError>
+    ensures ok { OnOk result (SeesMore seen.old.keys seen.new.keys (group_number group ∷ [])) }
 {
-    match seen.insert(group) {
-        Ok(_) => Ok(()),
-        Err(_) => Err(Rule::S5.denial()),
-    }
+    seen.insert(group)?;
+    Ok(())
 }

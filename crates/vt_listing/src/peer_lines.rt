@@ -1,9 +1,7 @@
 //! The list of the peer groups of all namespaces: mount_namespaces(7).
-ghost use Rattle.std.specs.Prelude.{◌≡◌, ◌++◌, IfErr, IfOk, OnOk, filter_map, flat_map, map, nat_eq, [], ℕ};
+ghost use Rattle.std.specs.Prelude.{◌≡◌, ◌++◌, IfOk, OnOk, filter_map, flat_map, map, nat_eq, [], ℕ};
 ghost use Rattle.std.specs.List.{cons_option};
-ghost use Rattle.vt_location.specs.Numbers.{counted};
-ghost use Rattle.vt_spec.specs.declared.errors.Rule.TheVariants.{S5};
-ghost use Rattle.vt_spec.specs.Errors.{denial};
+ghost use Rattle.vt_location.specs.Numbers.{group_number, namespace_number};
 ghost use Rattle.vt_spec.specs.Lists.{each_once};
 ghost use Rattle.vt_spec.specs.Machine.Listing as listing;
 ghost use Rattle.vt_spec.specs.Machine.World.{World};
@@ -21,7 +19,6 @@ use indexmap::IndexSet;
 use std::alloc::{AllocError, Global};
 use vt_location::{GroupId, NamespaceId, Propagation};
 use vt_request::{MountPlace, PeerLine};
-use vt_spec::errors::{Deny, Rule};
 
 // An attached mount: its place, and its type.
 #[derive(Clone, Copy, Debug)]
@@ -33,30 +30,22 @@ struct Placed {
 impl MountTable<'_> {
     /// The peer groups of these namespaces, which are all that there are in the order of their creation: in the order
     /// in which they first stand among the types of all mounts.
-    ///
-    /// S5 (ENOMEM): an allocation failed.
-    pub fn peer_lines(&self, namespaces: &[NamespaceId]) -> Result<Vec<PeerLine>, Deny>
+    pub fn peer_lines(&self, namespaces: &[NamespaceId]) -> Result<Vec<PeerLine>, AllocError>
         ensures ok { IfOk result (λ lines. (world : World ℕ) → IsShown world self.now
-            → map (λ id. counted id.count) namespaces.now ≡ map (λ namespace. namespace.number) world.namespaces
+            → map namespace_number namespaces.now ≡ map (λ namespace. namespace.number) world.namespaces
             → map peer_line_of lines.items ≡ listing.peer_lines nat_eq world) }
-        ensures memory { IfErr result (λ deny. deny ≡ denial S5) }
     {
         let placed = self.placed(namespaces)?;
         let groups = self.groups_of(&placed)?;
-        let Ok(members) = members(self.alloc, &placed) else {
-            return Err(Rule::S5.denial());
-        };
-        let Ok(slaves) = slaves(self.alloc, &placed) else {
-            return Err(Rule::S5.denial());
-        };
+        let members = members(self.alloc, &placed)?;
+        let slaves = slaves(self.alloc, &placed)?;
         self.lines_of(&groups, &members, &slaves)
     }
 
-    // The mounts of these namespaces, each namespace by its place among them. S5 (ENOMEM): an allocation failed.
-    fn placed(&self, namespaces: &[NamespaceId]) -> Result<Vec<Placed>, Deny>
+    // The mounts of these namespaces, each namespace by its place among them.
+    fn placed(&self, namespaces: &[NamespaceId]) -> Result<Vec<Placed>, AllocError>
         ensures ok { IfOk result (λ placed. all_seen placed.items
-            ≡ placed_from (world_shown self.now) 1 (map (λ id. counted id.count) namespaces.now)) }
-        ensures memory { IfErr result (λ deny. deny ≡ denial S5) }
+            ≡ placed_from (world_shown self.now) 1 (map namespace_number namespaces.now)) }
     {
         let mut placed = Vec::new(self.alloc);
         let mut number = 0;
@@ -67,18 +56,16 @@ impl MountTable<'_> {
         Ok(placed)
     }
 
-    // Adds the mounts of a namespace, which has this place. S5 (ENOMEM): an allocation failed.
+    // Adds the mounts of a namespace, which has this place.
     fn push_placed(
         &self,
         namespace: NamespaceId,
         number: usize,
         placed: &mut Vec<Placed>,
-    ) -> Result<(), Deny>
+    ) -> Result<(), AllocError>
         ensures ok { OnOk result (all_seen placed.new.items
-            ≡ all_seen placed.old.items ++ placed_in (world_shown self.now) number (counted namespace.count)) }
-        ensures memory { IfErr result (λ deny. deny ≡ denial S5) }
+            ≡ all_seen placed.old.items ++ placed_in (world_shown self.now) number (namespace_number namespace)) }
     {
-        self.mounts.are_ascending();
         let mut place = 0;
         for id in self.mounts.attached_in(namespace) {
             if let Some(mount) = self.mounts.get(*id) {
@@ -88,21 +75,17 @@ impl MountTable<'_> {
                     place,
                 };
                 let kind = mount.propagation;
-                let Ok(()) = placed.push(Placed { at, kind }) else {
-                    return Err(Rule::S5.denial());
-                };
+                placed.push(Placed { at, kind })?;
             }
         }
         Ok(())
     }
 
-    // The groups of these mounts, in the order in which they first stand in their types. S5 (ENOMEM): an allocation
-    // failed.
-    fn groups_of(&self, placed: &[Placed]) -> Result<IndexSet<GroupId>, Deny>
+    // The groups of these mounts, in the order in which they first stand in their types.
+    fn groups_of(&self, placed: &[Placed]) -> Result<IndexSet<GroupId>, AllocError>
         ensures ok { IfOk result (λ seen. group_numbers seen.keys
             ≡ each_once nat_eq (flat_map (λ one. listing.groups_in_type (world_shown self.now) one.2)
             (all_seen placed.now))) }
-        ensures memory { IfErr result (λ deny. deny ≡ denial S5) }
     {
         let mut seen = IndexSet::new(self.alloc);
         for one in placed {
@@ -111,26 +94,21 @@ impl MountTable<'_> {
         Ok(seen)
     }
 
-    // The lines of these groups. S5 (ENOMEM): an allocation failed.
+    // The lines of these groups.
     fn lines_of(
         &self,
         groups: &IndexSet<GroupId>,
         members: &PlacesBy<GroupId>,
         slaves: &PlacesBy<GroupId>,
-    ) -> Result<Vec<PeerLine>, Deny>
+    ) -> Result<Vec<PeerLine>, AllocError>
         ensures ok { IfOk result (λ lines. map peer_line_of lines.items
             ≡ map (line_by (world_shown self.now) (group_numbers groups.now.keys) members.now slaves.now)
             groups.now.keys) }
-        ensures memory { IfErr result (λ deny. deny ≡ denial S5) }
     {
         let mut lines = Vec::new(self.alloc);
         for group in groups.as_slice() {
-            let Ok(line) = self.peer_line(*group, groups, members, slaves) else {
-                return Err(Rule::S5.denial());
-            };
-            let Ok(()) = lines.push(line) else {
-                return Err(Rule::S5.denial());
-            };
+            let line = self.peer_line(*group, groups, members, slaves)?;
+            lines.push(line)?;
         }
         Ok(lines)
     }
@@ -158,7 +136,7 @@ impl MountTable<'_> {
 // The places of these mounts, each under the group that it is a member of.
 fn members(alloc: Global, placed: &[Placed]) -> Result<PlacesBy<GroupId>, AllocError>
     ensures { IfOk result (λ places. (group : GroupId) → map mount_place_of (under same_group group places)
-        ≡ filter_map (member_place (counted group.count)) (all_seen placed.now)) }
+        ≡ filter_map (member_place (group_number group)) (all_seen placed.now)) }
 {
     let mut places = PlacesBy::new(alloc);
     for one in placed {
@@ -171,7 +149,7 @@ fn members(alloc: Global, placed: &[Placed]) -> Result<PlacesBy<GroupId>, AllocE
 fn push_member(places: &mut PlacesBy<GroupId>, one: Placed) -> Result<(), AllocError>
     ensures { OnOk result ((group : GroupId) → map mount_place_of (under same_group group places.new)
         ≡ map mount_place_of (under same_group group places.old)
-        ++ cons_option (member_place (counted group.count) (placed_seen one)) []) }
+        ++ cons_option (member_place (group_number group) (placed_seen one)) []) }
 {
     match one.kind {
         Propagation::Shared(own) => places.push(own, one.at),
@@ -182,7 +160,7 @@ fn push_member(places: &mut PlacesBy<GroupId>, one: Placed) -> Result<(), AllocE
 // The places of these mounts, each under the group that it is a slave of, if it is in none.
 fn slaves(alloc: Global, placed: &[Placed]) -> Result<PlacesBy<GroupId>, AllocError>
     ensures { IfOk result (λ places. (group : GroupId) → map mount_place_of (under same_group group places)
-        ≡ filter_map (slave_place (counted group.count)) (all_seen placed.now)) }
+        ≡ filter_map (slave_place (group_number group)) (all_seen placed.now)) }
 {
     let mut places = PlacesBy::new(alloc);
     for one in placed {
@@ -195,7 +173,7 @@ fn slaves(alloc: Global, placed: &[Placed]) -> Result<PlacesBy<GroupId>, AllocEr
 fn push_slave(places: &mut PlacesBy<GroupId>, one: Placed) -> Result<(), AllocError>
     ensures { OnOk result ((group : GroupId) → map mount_place_of (under same_group group places.new)
         ≡ map mount_place_of (under same_group group places.old)
-        ++ cons_option (slave_place (counted group.count) (placed_seen one)) []) }
+        ++ cons_option (slave_place (group_number group) (placed_seen one)) []) }
 {
     match one.kind {
         Propagation::Slave(master) => places.push(master, one.at),

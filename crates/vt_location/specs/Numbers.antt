@@ -1,10 +1,27 @@
 -- The numbers by which the definitions know what code counts, and inodes in their slots. Mounts, peer groups,
 -- filesystems and namespaces have odd numbers, inodes even ones; no number `4·c + 3` is given out.
 use Rattle.std.specs.Prelude.{Bool, if◌then◌else◌, nat_eq, nat_lt, not, ℕ, ◌&&◌, ◌*◌, ◌+◌, ◌-◌, ◌/◌}
+use Rattle.vt_location.specs.declared.numbers.FilesystemId.{FilesystemId}
+use Rattle.vt_location.specs.declared.numbers.GroupId.{GroupId}
+use Rattle.vt_location.specs.declared.numbers.MountId.{MountId}
+use Rattle.vt_location.specs.declared.numbers.NamespaceId.{NamespaceId}
 
 -- the number of the mount, peer group, filesystem or namespace with this count
 abbrev pub counted : ℕ → ℕ
 counted count = 4 * count + 1
+
+-- of a mount, a peer group, a filesystem, a mount namespace
+abbrev pub mount_number : MountId → ℕ
+mount_number mount = counted mount.count
+
+abbrev pub group_number : GroupId → ℕ
+group_number group = counted group.count
+
+abbrev pub filesystem_number : FilesystemId → ℕ
+filesystem_number filesystem = counted filesystem.count
+
+abbrev pub namespace_number : NamespaceId → ℕ
+namespace_number namespace = counted namespace.count
 
 -- a number that is never given out
 abbrev pub left_over : ℕ → ℕ

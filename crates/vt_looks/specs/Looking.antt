@@ -6,23 +6,18 @@ use Rattle.vt_spec.specs.Machine.Looks.{Looks, is_directory_at, mount_at, topmos
 use Rattle.vt_spec.specs.Machine.Walking.{entry_location, is_lost, parent_location}
 use Rattle.vt_spec.specs.Machine.Mounts as meant
 use Rattle.vt_spec.specs.Machine.Mounts.{no_mount}
-use Rattle.vt_spec.specs.Machine.Renaming.{renamed_node}
-use Rattle.vt_spec.specs.Tree.{Node}
+use Rattle.vt_spec.specs.Tree.{Node, bytes_of, kind_of}
+use Rattle.vt_spec.specs.declared.attributes.Attr.{Attr}
+use Rattle.vt_spec.specs.declared.attributes.Kind.{Kind}
 use Rattle.vt_location.specs.declared.mounts.Mount.{Mount}
-use Rattle.vt_location.specs.declared.numbers.FilesystemId.{FilesystemId}
 use Rattle.vt_location.specs.declared.numbers.MountId.{MountId}
 use Rattle.vt_location.specs.MountValue.{mount_of}
-use Rattle.vt_location.specs.Numbers.{counted, exchanged}
+use Rattle.vt_location.specs.Numbers.{counted}
 use Rattle.vt_looks.specs.declared.look.Ground.{Ground}
 
 -- the mount of a number, or the value of a number that no mount has
 abbrev pub mount_seen : MountId → Option Mount → meant.Mount ℕ
 mount_seen id mount = unwrap_or (option_map mount_of mount) (no_mount (counted id.count))
-
--- an inode in a slot of a filesystem, its entries and its parent by the numbers of inodes
-abbrev pub node_seen : FilesystemId → Option (Node ℕ) → Option (Node ℕ)
-node_seen filesystem node =
-    option_map (renamed_node (exchanged filesystem.count) (exchanged filesystem.count)) node
 
 -- what a walk keeps of a mount: its filesystem; and where it is bare, no mount is over a location on it
 pub record IsGround (looks : Looks ℕ) (mount : MountId) (ground : Ground) : Type 0 where
@@ -49,3 +44,15 @@ pub record HasNoOverlays (looks : Looks ℕ) : Type 0 where
   pub mounter : (location : meant.Location ℕ) (change : Change ℕ) → looks.mounter_rules location change ≡ []
   pub lower : (location : meant.Location ℕ) (name : List ℕ) → looks.has_lower_directory location name ≡ false
   pub unlocked : (location : meant.Location ℕ) → looks.is_locked location ≡ false
+
+-- what an inode and its real object have in common
+pub record Front : Type 0 where
+  pub attr : Attr
+  pub kind : Kind
+  pub bytes : List ℕ
+
+abbrev pub front_of : Node ℕ → Front
+front_of node = record { attr = node.attr; kind = kind_of node.content; bytes = bytes_of node.content }
+
+abbrev pub front : Option (Node ℕ) → Option Front
+front node = option_map front_of node

@@ -1,17 +1,20 @@
 //! The traits `Look` and `LookAtMounts`.
-ghost use Rattle.std.specs.Prelude.{◌≡◌, nat_eq, option_copied, option_map, Bool, IfErr, IfOk, ℕ};
+ghost use Rattle.std.specs.Prelude.{◌≡◌, nat_eq, option_copied, option_map, Bool, IfErr, IfOk, Option, Some, ℕ};
 ghost use Rattle.vt_spec.specs.declared.errors.Rule.TheVariants.{S5};
 ghost use Rattle.vt_spec.specs.Errors.{denial};
 ghost use Rattle.vt_spec.specs.Machine.Looks.{Looks, mount_at, topmost};
 ghost use Rattle.std.specs.List.{list_any};
+ghost use Rattle.vt_spec.specs.Machine.Mounts as meant;
 ghost use Rattle.vt_spec.specs.Machine.Mounts.{is_unbindable};
 ghost use Rattle.vt_spec.specs.Machine.Permits.{Permit};
 ghost use Rattle.vt_spec.specs.Machine.Rules.Conditions.{is_mount_point_anywhere, is_mount_point_in};
+ghost use Rattle.vt_spec.specs.Machine.Rules.Removing.{is_nonempty};
 ghost use Rattle.vt_spec.specs.Machine.Walking.{is_lost};
+ghost use Rattle.vt_spec.specs.Tree.{Node, entries_in, entry_named, parent_in};
 ghost use Rattle.vt_location.specs.Locations.{location_of, number_of};
-ghost use Rattle.vt_location.specs.Numbers.{counted};
+ghost use Rattle.vt_location.specs.Numbers.{mount_number, namespace_number};
 ghost use Rattle.vt_permits.specs.GrantValue.{attachment_permit};
-ghost use Rattle.vt_looks.specs.Looking.{HasNoOverlays, IsGround, WaysStayFound, is_at_or_below, mount_seen, node_seen};
+ghost use Rattle.vt_looks.specs.Looking.{HasNoOverlays, IsGround, WaysStayFound, front, is_at_or_below, mount_seen};
 
 use vt_location::{FilesystemId, Location, Mount, MountId, NamespaceId, NodeRef};
 use vt_node::Node;
@@ -33,14 +36,17 @@ pub trait Look {
     // what the world shows
     ghost looks: { Self → Looks ℕ };
 
+    // the object that is lent for a location: on an overlay the real one, in the tree of a layer
+    ghost real: { Self → meant.Location ℕ → Option (Node ℕ) };
+
     /// The namespace of the task of this name, if there is such a task: setns(2).
     fn namespace_called(&self, name: &TaskName) -> Option<NamespaceId>
-        ensures { option_map (λ namespace. counted namespace.count) result
+        ensures { option_map namespace_number result
             ≡ (looks self.now).namespace_called name.now };
 
     /// The mount of this number, if there is one.
     fn mount(&self, id: MountId) -> Option<Mount>
-        ensures { mount_seen id result ≡ (looks self.now).mount (counted id.count) };
+        ensures { mount_seen id result ≡ (looks self.now).mount (mount_number id) };
 
     /// How many mounts there are.
     fn mount_count(&self) -> usize
@@ -52,15 +58,30 @@ pub trait Look {
 
     /// Whether a mount of this namespace stands on a directory, through whatever mount that is seen: EBUSY of rmdir(2).
     fn is_mount_point_in(&self, namespace: NamespaceId, at: Location) -> bool
-        ensures { result ≡ is_mount_point_in nat_eq (looks self.now) (counted namespace.count) (location_of at) };
+        ensures { result ≡ is_mount_point_in nat_eq (looks self.now) (namespace_number namespace) (location_of at) };
 
     /// Whether a mount of any namespace stands on a directory: EBUSY of rename(2).
     fn is_mount_point_anywhere(&self, at: Location) -> bool
         ensures { result ≡ is_mount_point_anywhere (looks self.now) (location_of at) };
 
-    /// The inode at a location.
+    /// The real object of the inode at a location: its kind, attributes and bytes are those of the inode. Entries,
+    /// parent and emptiness are `entry`, `parent` and `is_nonempty`.
     fn node(&self, at: Location) -> Option<&Node>
-        ensures { node_seen at.node.filesystem (option_copied result) ≡ (looks self.now).node (location_of at) };
+        ensures { option_copied result ≡ real self.now (location_of at) };
+
+    /// The entry of a name in the directory at a location, of which this is the real object.
+    fn entry(&self, at: Location, object: &Node, name: &[u8]) -> Option<NodeRef>
+        requires { real self.now (location_of at) ≡ Some object.now }
+        ensures { option_map number_of result
+            ≡ entry_named name.now (entries_in ((looks self.now).node (location_of at))) };
+
+    /// Whether the directory at a location has entries: ENOTEMPTY of rmdir(2).
+    fn is_nonempty(&self, at: Location) -> bool
+        ensures { result ≡ is_nonempty (looks self.now) (location_of at) };
+
+    /// The parent of the directory at a location; of anything else, itself.
+    fn parent(&self, at: Location) -> NodeRef
+        ensures { number_of result ≡ parent_in (number_of at.node) ((looks self.now).node (location_of at)) };
 
     /// What a walk keeps of a mount.
     fn ground(&self, mount: MountId) -> Ground
@@ -69,7 +90,7 @@ pub trait Look {
     /// As `node`, of a location on a mount that was asked for before.
     fn node_on(&self, ground: Ground, at: Location) -> Option<&Node>
         requires { IsGround (looks self.now) at.mount ground }
-        ensures { node_seen at.node.filesystem (option_copied result) ≡ (looks self.now).node (location_of at) };
+        ensures { option_copied result ≡ real self.now (location_of at) };
 
     /// Whether the directory at a location has lost its name: rmdir(2) while it is in use.
     fn is_removed(&self, at: Location) -> bool
@@ -94,6 +115,9 @@ pub trait Look {
     /// checked, no lower layer has a directory, and nothing is locked.
     fn has_no_overlays(&self)
         ensures { HasNoOverlays (looks self.now) };
+
+    // what is lent looks like the inode
+    ghost alike: { (here : Self) (at : meant.Location ℕ) → front (real here at) ≡ front ((looks here).node at) };
 }
 
 /// What the rules of mount calls look at besides.
@@ -103,23 +127,23 @@ pub trait LookAtMounts: Look {
 
     /// Whether a mount is this one or a descendant of it: ELOOP of mount(2) with `MS_MOVE`.
     fn is_at_or_below(&self, top: MountId, mount: MountId) -> bool
-        ensures { result ≡ is_at_or_below (Self.looks self.now) (counted top.count) (counted mount.count) };
+        ensures { result ≡ is_at_or_below (Self.looks self.now) (mount_number top) (mount_number mount) };
 
     /// Whether a mount or a descendant of it is unbindable: EINVAL of mount(2) with `MS_MOVE`.
     fn has_unbindable(&self, top: MountId) -> bool
         ensures { result ≡ list_any (λ mount. is_unbindable mount.propagation)
-            ((Self.looks self.now).mount_tree (counted top.count)) };
+            ((Self.looks self.now).mount_tree (mount_number top)) };
 
     /// Whether a mount is busy: it has a child, or a mount that would be detached is in use: EBUSY of umount(2).
     ///
     /// S5 (ENOMEM): the allocation of a list of receivers failed.
     fn is_busy(&self, mount: MountId) -> Result<bool, Deny>
-        ensures ok { IfOk result (λ busy. busy ≡ (Self.looks self.now).is_busy (counted mount.count)) }
+        ensures ok { IfOk result (λ busy. busy ≡ (Self.looks self.now).is_busy (mount_number mount)) }
         ensures memory { IfErr result (λ deny. deny ≡ denial S5) };
 
     /// Whether a file is open for writing through a mount: EBUSY of mount(2) with `MS_REMOUNT`.
     fn is_written_through(&self, mount: MountId) -> bool
-        ensures { result ≡ (Self.looks self.now).is_written_through (counted mount.count) };
+        ensures { result ≡ (Self.looks self.now).is_written_through (mount_number mount) };
 
     /// Whether a namespace has more than 4,096 mounts once this is attached: ENOSPC of mount(2).
     ///

@@ -1,5 +1,5 @@
 -- The lists of mounts by namespace, parent, mount point and inode.
-use Rattle.std.specs.Prelude.{Bool, List, Option, filter, if◌then◌else◌, nat_eq, nat_lt, not, option_map, true, unwrap_or, [], ◌&&◌, ◌++◌, ◌∷◌}
+use Rattle.std.specs.Prelude.{Bool, List, Option, filter, if◌then◌else◌, nat_eq, nat_lt, not, option_map, true, unwrap_or, [], ◌&&◌, ◌++◌, ◌∷◌, ◌^◌}
 use Rattle.vt_spec.specs.Lists.{holds_of}
 use Rattle.vt_location.specs.declared.locations.Location.{Location}
 use Rattle.vt_location.specs.declared.locations.NodeRef.{NodeRef}
@@ -54,7 +54,7 @@ taken here id list = if here then filter (λ other. not (same_id other id)) list
 
 -- the slot of the mount point's inode is below 2^64
 abbrev pub has_slot : Mount → Bool
-has_slot mount = unwrap_or (option_map (λ place. nat_lt place.node.slot 18446744073709551616) mount.mount_point) true
+has_slot mount = unwrap_or (option_map (λ place. nat_lt place.node.slot (2 ^ 64)) mount.mount_point) true
 
 -- the old mount point is on this mount, at this location, on this inode
 abbrev pub stood_on : MountId → Option Location → Bool

@@ -1,5 +1,5 @@
 -- Mounts that get other mount points together.
-use Rattle.std.specs.Prelude.{Bool, List, Option, Some, [], nat_lt, option_map, option_to_list, true, unwrap_or, ℕ, ◌&&◌, ◌++◌, ◌∷◌}
+use Rattle.std.specs.Prelude.{Bool, List, Option, Some, [], nat_lt, option_map, option_to_list, true, unwrap_or, ℕ, ◌&&◌, ◌++◌, ◌∷◌, ◌^◌}
 use Rattle.vt_location.specs.declared.locations.Location.{Location}
 use Rattle.vt_location.specs.Locations.{location_of}
 use Rattle.vt_location.specs.Numbers.{counted}
@@ -36,7 +36,7 @@ all_moves (point ∷ rest) entries = all_moves rest entries ++ moves_by point (w
 
 -- the slot of a mount point's inode is below 2^64
 abbrev pub has_small_slot : Option Location → Bool
-has_small_slot point = unwrap_or (option_map (λ place. nat_lt place.node.slot 18446744073709551616) point) true
+has_small_slot point = unwrap_or (option_map (λ place. nat_lt place.node.slot (2 ^ 64)) point) true
 
 -- those of both mount points are
 abbrev pub is_small : Moved → Bool

@@ -9,14 +9,12 @@ ghost use Rattle.vt_location.specs.declared.locations.Location.{Location};
 ghost use Rattle.vt_location.specs.declared.numbers.MountId.{MountId};
 ghost use Rattle.vt_location.specs.declared.numbers.NamespaceId.{NamespaceId};
 ghost use Rattle.vt_location.specs.MountValue.{mount_of};
-ghost use Rattle.vt_location.specs.Numbers.{counted};
+ghost use Rattle.vt_location.specs.Numbers.{mount_number};
 ghost use Rattle.vt_mount.specs.declared.mounted.Mounted.{Mounted};
 ghost use Rattle.vt_mount.specs.Reserved.{Reserves, mount_points_of, moved_places, namespaces_of};
 ghost use Rattle.vt_mount.specs.Indexed.{IsIndexed};
 ghost use Rattle.vt_mount.specs.Moving.{all_moves, is_small, move_of, with_points};
 ghost use Rattle.vt_mount.specs.MountsValue.{are_ascending, entries_of, in_order, mounts_in, unused_entry, without};
-ghost use Rattle.vt_spec.specs.declared.errors.Rule.TheVariants.{S5};
-ghost use Rattle.vt_spec.specs.Errors.{denial};
 
 use crate::indexes::Indexes;
 use crate::mounted::Mounted;
@@ -25,18 +23,14 @@ use crate::moving::{Moved, NewPoint, drop_left, move_all, release_moves, reserve
 use indexmap::IndexMap;
 use std::alloc::AllocError;
 use vt_location::{Mount, MountId};
-use vt_spec::errors::{Deny, Rule};
 
 impl Mounts {
     /// Attaches a mount, after all others, with no uses yet: mount(2). Its number is greater than theirs.
-    ///
-    /// S5 (ENOMEM): an allocation failed.
-    pub fn attach(&mut self, mount: Mount) -> Result<(), Deny>
-        requires { list_all (λ entry. nat_lt entry.mount.number (counted mount.number.count)) self.old ≡ true }
+    pub fn attach(&mut self, mount: Mount) -> Result<(), AllocError>
+        requires { list_all (λ entry. nat_lt entry.mount.number (mount_number mount.number)) self.old ≡ true }
         ensures ok { OnOk result (self.new ≡ self.old ++ unused_entry mount ∷ []) }
         // taken out again, the mounts are as they were
-        ensures undone { OnOk result (without (counted mount.number.count) self.new ≡ self.old) }
-        ensures memory { IfErr result (λ deny. deny ≡ denial S5) }
+        ensures undone { OnOk result (without (mount_number mount.number) self.new ≡ self.old) }
         ensures err { OnErr result (self.new ≡ self.old) }
     {
         if self.by_number.reserve(1).is_err()
@@ -46,7 +40,7 @@ impl Mounts {
                 .is_err()
         {
             self.indexes.release(mount.namespace, mount.mount_point);
-            return Err(Rule::S5.denial());
+            return Err(AllocError);
         }
         enter(&mut self.by_number, &mut self.indexes, mount);
         Ok(())
@@ -57,22 +51,22 @@ impl Mounts {
     /// memory is reserved, it takes one more step, which may fail and change something else. It returns what moved, in
     /// the order of the moves. It costs what each mount costs that comes or moves, however many others there are.
     ///
-    /// S5 (ENOMEM): an allocation failed; that step has not been taken then.
-    pub fn attach_all_then<S, F: FnOnce(&mut S) -> Result<(), Deny>>(
+    /// If an allocation fails, that step has not been taken.
+    pub fn attach_all_then<S, F: FnOnce(&mut S) -> Result<(), AllocError>>(
         &mut self,
         new: &[Mount],
         points: &[NewPoint],
         other: &mut S,
         last: F,
-    ) -> Result<Vec<Moved>, Deny>
+    ) -> Result<Vec<Moved>, AllocError>
         requires callable { F.IsAlwaysCallable last }
         requires order { are_ascending (mounts_in self.old ++ map mount_of new.now) ≡ true }
         ensures ok { OnOk result (self.new ≡ with_points points.now self.old ++ map unused_entry new.now) }
         ensures moved { IfOk result (λ moved. map move_of moved.items ≡ all_moves points.now self.old) }
         ensures small { IfOk result (λ moved. list_all is_small moved.items ≡ true) }
         ensures last_ok { OnOk result (FnOnceReturnsAtMut F.FnOnce last other.old (Ok tt) other.new) }
-        ensures last_err { IfErr result (λ deny. ((deny ≡ denial S5) × (other.new ≡ other.old))
-            ⊎ FnOnceReturnsAtMut F.FnOnce last other.old (Err deny) other.new) }
+        ensures last_err { IfErr result (λ refused. (other.new ≡ other.old)
+            ⊎ FnOnceReturnsAtMut F.FnOnce last other.old (Err refused) other.new) }
         ensures err { OnErr result (self.new ≡ self.old) }
     {
         let mut moved = Vec::new(*self.by_number.allocator());
@@ -86,11 +80,11 @@ impl Mounts {
         .is_err()
         {
             release_all(&mut self.indexes, new, points);
-            return Err(Rule::S5.denial());
+            return Err(AllocError);
         }
-        if let Err(deny) = last(other) {
+        if let Err(refused) = last(other) {
             release_all(&mut self.indexes, new, points);
-            return Err(deny);
+            return Err(refused);
         }
         move_all(&mut self.by_number, &mut self.indexes, points, &mut moved);
         enter_all(&mut self.by_number, &mut self.indexes, new);
@@ -163,7 +157,7 @@ fn enter_all(by_number: &mut IndexMap<MountId, Mounted>, indexes: &mut Indexes, 
 // A mount comes after all others. It does not allocate: there is room.
 fn enter(by_number: &mut IndexMap<MountId, Mounted>, indexes: &mut Indexes, mount: Mount)
     requires indexed { IsIndexed indexes.old (in_order by_number.old.entries) }
-    requires order { list_all (λ entry. nat_lt entry.mount.number (counted mount.number.count))
+    requires order { list_all (λ entry. nat_lt entry.mount.number (mount_number mount.number))
         (entries_of by_number.old.entries) ≡ true }
     requires spare { 0 < spare by_number.old }
     requires reserves { Reserves indexes.old (option_to_list mount.namespace) (option_to_list mount.mount_point) }

@@ -1,23 +1,21 @@
 //! Mounts are moved, detached and removed: mount(2), umount(2).
-ghost use Rattle.std.specs.Prelude.{Some, ◌≡◌, filter, find, nat_eq, not, option_map, IfErr, OnErr, OnOk};
-ghost use Rattle.vt_spec.specs.declared.errors.Rule.TheVariants.{S5};
-ghost use Rattle.vt_spec.specs.Errors.{denial};
+ghost use Rattle.std.specs.Prelude.{Some, ◌≡◌, filter, find, nat_eq, not, option_map, OnErr, OnOk};
 ghost use Rattle.vt_spec.specs.Machine.Mounts.{detached};
 ghost use Rattle.vt_location.specs.Locations.{location_of};
 ghost use Rattle.vt_location.specs.MountValue.{mount_of};
-ghost use Rattle.vt_location.specs.Numbers.{counted};
+ghost use Rattle.vt_location.specs.Numbers.{mount_number};
 ghost use Rattle.vt_mount.specs.MountsValue.{changed, mounts_in, without};
 
 use crate::mounts::Mounts;
+use std::alloc::AllocError;
 use vt_location::{Location, Mount, MountId, Propagation};
-use vt_spec::errors::{Deny, Rule};
 
 impl Mounts {
     /// Removes a mount, whatever its uses, and returns it. Mounts on it keep their mount points. It does not allocate.
     pub fn remove(&mut self, id: MountId) -> Option<Mount>
         ensures value { option_map mount_of result
-            ≡ find (λ mount. nat_eq (counted id.count) mount.number) (mounts_in self.old) }
-        ensures rest { self.new ≡ without (counted id.count) self.old }
+            ≡ find (λ mount. nat_eq (mount_number id) mount.number) (mounts_in self.old) }
+        ensures rest { self.new ≡ without (mount_number id) self.old }
     {
         let kept = self.by_number.swap_remove(&id)?;
         let mount = kept.mount(id);
@@ -26,26 +24,21 @@ impl Mounts {
     }
 
     /// Moves a mount to another mount point: mount(2) with `MS_MOVE`. The order of the mounts stays.
-    ///
-    /// S5 (ENOMEM): an allocation failed.
-    pub fn move_to(&mut self, id: MountId, place: Location) -> Result<(), Deny>
+    pub fn move_to(&mut self, id: MountId, place: Location) -> Result<(), AllocError>
         ensures ok { OnOk result (self.new
-            ≡ changed (counted id.count)
+            ≡ changed (mount_number id)
             (λ entry. record entry {
               mount = record entry.mount {
                 mount_point = Some
                     (location_of place);
               };
             }) self.old) }
-        ensures memory { IfErr result (λ deny. deny ≡ denial S5) }
         ensures err { OnErr result (self.new ≡ self.old) }
     {
         let Some(kept) = self.by_number.get_mut(&id) else {
             return Ok(());
         };
-        if self.indexes.relist(kept.mount_point, place, id).is_err() {
-            return Err(Rule::S5.denial());
-        }
+        self.indexes.relist(kept.mount_point, place, id)?;
         kept.mount_point = Some(place);
         Ok(())
     }
@@ -54,7 +47,7 @@ impl Mounts {
     /// with
     /// `MNT_DETACH`. It does not allocate.
     pub fn detach(&mut self, id: MountId)
-        ensures { self.new ≡ changed (counted id.count)
+        ensures { self.new ≡ changed (mount_number id)
             (λ entry. record entry { mount = detached entry.mount }) self.old }
     {
         let Some(kept) = self.by_number.get_mut(&id) else {

@@ -1,5 +1,5 @@
 //! The lists of mounts by namespace, parent, mount point and inode.
-ghost use Rattle.std.specs.Prelude.{◌≡◌, ◌++◌, ◌∷◌, [], List, nat_lt, option_to_list, true, OnErr, OnOk};
+ghost use Rattle.std.specs.Prelude.{◌≡◌, ◌++◌, ◌∷◌, [], List, nat_lt, option_to_list, true, OnErr, OnOk, ◌^◌};
 ghost use Rattle.vt_location.specs.declared.numbers.MountId.{MountId};
 ghost use Rattle.vt_location.specs.declared.numbers.NamespaceId.{NamespaceId};
 ghost use Rattle.vt_location.specs.declared.locations.Location.{Location};
@@ -195,7 +195,7 @@ impl Indexes {
         place: Location,
         mount: MountId,
     ) -> Result<(), AllocError>
-        ensures slot { nat_lt place.node.slot 18446744073709551616 ≡ true }
+        ensures slot { nat_lt place.node.slot (2 ^ 64) ≡ true }
         ensures namespace { (q : NamespaceId) → listed_in self.new q ≡ listed_in self.old q }
         ensures parent_ok { OnOk result ((q : MountId) → listed_on self.new q
             ≡ relisted (stood_on q was) (same_id q place.mount) mount (listed_on self.old q)) }
@@ -220,7 +220,7 @@ impl Indexes {
     /// allocate.
     pub(crate) fn shift(&mut self, was: Option<Location>, place: Location, mount: MountId)
         requires { Reserves self.old [] (place ∷ []) }
-        ensures slot { nat_lt place.node.slot 18446744073709551616 ≡ true }
+        ensures slot { nat_lt place.node.slot (2 ^ 64) ≡ true }
         ensures namespace { (q : NamespaceId) → listed_in self.new q ≡ listed_in self.old q }
         ensures parent { (q : MountId) → listed_on self.new q
             ≡ relisted (stood_on q was) (same_id q place.mount) mount (listed_on self.old q) }
@@ -255,7 +255,7 @@ impl Indexes {
     // Inserts a mount among those at a location, where room is reserved, in the order of numbers.
     fn put_in(&mut self, place: Location, mount: MountId)
         requires { Reserves self.old [] (place ∷ []) }
-        ensures slot { nat_lt place.node.slot 18446744073709551616 ≡ true }
+        ensures slot { nat_lt place.node.slot (2 ^ 64) ≡ true }
         ensures namespace { self.new.by_namespace ≡ self.old.by_namespace }
         ensures parent { (q : MountId)
             → listed_on self.new q ≡ put_in_place (same_id q place.mount) mount (listed_on self.old q) }

@@ -3,15 +3,13 @@ ghost use Rattle.std.specs.Prelude.{◌≡◌, ◌%◌, ◌==◌, ◌++◌, ◌�
 ghost use Rattle.std.specs.Prelude.{nat_eq, nat_lt, not, option_copied, option_map, true, ℕ, ◌<◌, IfErr, IsOk, OnErr, OnOk, IfSome};
 ghost use Rattle.std.specs.List.{list_all};
 ghost use Rattle.std.specs.Map.{lookup};
-ghost use Rattle.vt_spec.specs.declared.errors.Rule.TheVariants.{S5};
-ghost use Rattle.vt_spec.specs.Errors.{denial};
 ghost use Rattle.vt_spec.specs.Machine.Mounts.{detached};
 ghost use Rattle.vt_location.specs.declared.mounts.Propagation.{Propagation};
 ghost use Rattle.vt_location.specs.declared.numbers.MountId.{MountId};
 ghost use Rattle.vt_cred.specs.MountFlags.{flags_of};
 ghost use Rattle.vt_location.specs.Locations.{location_of};
 ghost use Rattle.vt_location.specs.MountValue.{mount_of, propagation_of};
-ghost use Rattle.vt_location.specs.Numbers.{counted};
+ghost use Rattle.vt_location.specs.Numbers.{counted, mount_number};
 ghost use Rattle.vt_mount.specs.Listed.{same_id};
 ghost use Rattle.vt_mount.specs.MountsValue.{are_ascending, changed, held, mounts_in, released, uses_of, writers_of};
 ghost use Rattle.vt_mount.specs.Sources.{has_counted_source};
@@ -19,11 +17,10 @@ ghost use Rattle.vt_mount.specs.Sources.{has_counted_source};
 use crate::indexes::Indexes;
 use crate::mounted::Mounted;
 use indexmap::IndexMap;
-use std::alloc::Global;
+use std::alloc::{AllocError, Global};
 use std::marker::Model;
 use vt_cred::MountFlags;
 use vt_location::{Location, Mount, MountId, Propagation};
-use vt_spec::errors::{Deny, Rule};
 
 /// The mounts of all namespaces, and those that were detached and are still in use.
 ///
@@ -108,7 +105,7 @@ impl Mounts {
     #[inline(always)]
     pub fn get(&self, id: MountId) -> Option<Mount>
         ensures { option_map mount_of result
-            ≡ find (λ mount. nat_eq (counted id.count) mount.number) (mounts_in self.now) }
+            ≡ find (λ mount. nat_eq (mount_number id) mount.number) (mounts_in self.now) }
     {
         let kept = kept_under(&self.by_number, id)?;
         Some(kept.mount(id))
@@ -116,7 +113,7 @@ impl Mounts {
 
     /// How many uses of a mount are counted (`hold`, `release`): roots, working directories and descriptors on it.
     pub fn uses(&self, id: MountId) -> u64
-        ensures { result ≡ uses_of self.now (counted id.count) }
+        ensures { result ≡ uses_of self.now (mount_number id) }
     {
         match kept_under(&self.by_number, id) {
             Some(kept) => kept.uses,
@@ -126,7 +123,7 @@ impl Mounts {
 
     /// How many of the counted uses of a mount are descriptors that are open for writing.
     pub fn writers(&self, id: MountId) -> u64
-        ensures { result ≡ writers_of self.now (counted id.count) }
+        ensures { result ≡ writers_of self.now (mount_number id) }
     {
         match kept_under(&self.by_number, id) {
             Some(kept) => kept.writers,
@@ -136,7 +133,7 @@ impl Mounts {
 
     /// Whether a file is open for writing through a mount: EBUSY of mount(2) with `MS_REMOUNT`.
     pub fn is_written_through(&self, id: MountId) -> bool
-        ensures { result ≡ nat_lt 0 (writers_of self.now (counted id.count)) }
+        ensures { result ≡ nat_lt 0 (writers_of self.now (mount_number id)) }
     {
         self.writers(id) > 0
     }
@@ -144,7 +141,7 @@ impl Mounts {
     /// Sets the flags of one mount: mount(2) with `MS_REMOUNT` and `MS_BIND`. It does not allocate.
     pub fn set_flags(&mut self, id: MountId, flags: MountFlags)
         ensures { self.new
-            ≡ changed (counted id.count) (λ entry.
+            ≡ changed (mount_number id) (λ entry.
             record entry { mount = record entry.mount { flags = flags_of flags } }) self.old }
     {
         if let Some(kept) = self.by_number.get_mut(&id) {
@@ -155,7 +152,7 @@ impl Mounts {
     /// Sets the propagation type of one mount: mount(2) with `MS_PRIVATE` and so on. It does not allocate.
     pub fn set_propagation(&mut self, id: MountId, propagation: Propagation)
         ensures { self.new
-            ≡ changed (counted id.count)
+            ≡ changed (mount_number id)
             (λ entry. record entry { mount = record entry.mount { propagation = propagation_of propagation } }) self.old }
     {
         if let Some(kept) = self.by_number.get_mut(&id) {
@@ -165,19 +162,18 @@ impl Mounts {
 
     /// Counts a root, a working directory or a descriptor on a mount; a descriptor may be open for writing.
     ///
-    /// S5 (ENOMEM): 2^64 - 1 uses or writers are counted. It does not allocate.
-    pub fn hold(&mut self, id: MountId, writes: bool) -> Result<(), Deny>
-        ensures ok { OnOk result (self.new ≡ changed (counted id.count) (held writes) self.old) }
-        ensures few { uses_of self.old (counted id.count) < u64.MAX → writers_of self.old (counted id.count) < u64.MAX
+    /// It does not allocate: an error says that 2^64 - 1 uses or writers are counted.
+    pub fn hold(&mut self, id: MountId, writes: bool) -> Result<(), AllocError>
+        ensures ok { OnOk result (self.new ≡ changed (mount_number id) (held writes) self.old) }
+        ensures few { uses_of self.old (mount_number id) < u64.MAX → writers_of self.old (mount_number id) < u64.MAX
             → IsOk result }
         // released again, the mounts are as they were
-        ensures undone { OnOk result (changed (counted id.count) (released writes) self.new ≡ self.old) }
-        ensures memory { IfErr result (λ deny. deny ≡ denial S5) }
+        ensures undone { OnOk result (changed (mount_number id) (released writes) self.new ≡ self.old) }
         ensures err { OnErr result (self.new ≡ self.old) }
     {
         if let Some(kept) = self.by_number.get_mut(&id) {
             if !kept.has_room() {
-                return Err(Rule::S5.denial());
+                return Err(AllocError);
             }
             kept.hold(writes);
         }
@@ -186,7 +182,7 @@ impl Mounts {
 
     /// Takes back a use that `hold` counted; a count of 0 stays 0. It does not allocate.
     pub fn release(&mut self, id: MountId, writes: bool)
-        ensures { self.new ≡ changed (counted id.count) (released writes) self.old }
+        ensures { self.new ≡ changed (mount_number id) (released writes) self.old }
     {
         if let Some(kept) = self.by_number.get_mut(&id) {
             kept.release(writes);

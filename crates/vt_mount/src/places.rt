@@ -1,12 +1,12 @@
 //! Which mounts are at a location, on a mount, on an inode and in a namespace.
-ghost use Rattle.std.specs.Prelude.{◌≡◌, ◌&&◌, filter, find, is_some, map, nat_eq, option_map};
+ghost use Rattle.std.specs.Prelude.{◌≡◌, ◌&&◌, filter, find, is_some, map, nat_eq, option_map, true};
 ghost use Rattle.std.specs.List.{list_any};
 ghost use Rattle.vt_spec.specs.Lists.{holds_of};
 ghost use Rattle.vt_spec.specs.Machine.Mounts.{child_at, children, root_of, stands_on, topmost};
 ghost use Rattle.vt_location.specs.Locations.{location_of, number_of};
-ghost use Rattle.vt_location.specs.Numbers.{counted};
+ghost use Rattle.vt_location.specs.Numbers.{mount_number, namespace_number};
 ghost use Rattle.vt_mount.specs.Attached.{AreOf, attached_in};
-ghost use Rattle.vt_mount.specs.MountsValue.{mounts_in, stands_over};
+ghost use Rattle.vt_mount.specs.MountsValue.{are_ascending, mounts_in, stands_over};
 
 use crate::mounts::{Mounts, kept_under};
 use vt_location::{Location, MountId, NamespaceId, NodeRef};
@@ -14,23 +14,25 @@ use vt_location::{Location, MountId, NamespaceId, NodeRef};
 impl Mounts {
     /// The mount at a location; of several, the one with the least number.
     pub fn child_at(&self, place: Location) -> Option<MountId>
-        ensures { option_map (λ id. counted id.count) result
+        ensures child { option_map mount_number result
             ≡ option_map (λ child. child.number) (child_at nat_eq (mounts_in self.now) (location_of place)) }
+        ensures order { are_ascending (mounts_in self.now) ≡ true }
     {
         self.indexes.by_location.get(&place).first().copied()
     }
 
     /// The children of a mount, in the order of their numbers.
     pub fn children(&self, id: MountId) -> &[MountId]
-        ensures { map (λ id. counted id.count) result.now
-            ≡ map (λ child. child.number) (children nat_eq (mounts_in self.now) (counted id.count)) }
+        ensures children { map mount_number result.now
+            ≡ map (λ child. child.number) (children nat_eq (mounts_in self.now) (mount_number id)) }
+        ensures order { are_ascending (mounts_in self.now) ≡ true }
     {
         self.indexes.by_parent.get(&id)
     }
 
     /// Whether a mount has a child: EBUSY of umount(2).
     pub fn has_child(&self, id: MountId) -> bool
-        ensures { result ≡ list_any (stands_on nat_eq (counted id.count)) (mounts_in self.now) }
+        ensures { result ≡ list_any (stands_on nat_eq (mount_number id)) (mounts_in self.now) }
     {
         !self.children(id).is_empty()
     }
@@ -64,7 +66,7 @@ impl Mounts {
 
     /// The mounts on an inode, through whatever mount it is seen, in the order of their numbers.
     pub fn mounts_on(&self, inode: NodeRef) -> &[MountId]
-        ensures { map (λ id. counted id.count) result.now
+        ensures { map mount_number result.now
             ≡ map (λ mount. mount.number) (filter (stands_over (number_of inode)) (mounts_in self.now)) }
     {
         self.indexes.by_inode.get(&inode)
@@ -74,7 +76,7 @@ impl Mounts {
     pub fn is_mount_point_in(&self, namespace: NamespaceId, inode: NodeRef) -> bool
         ensures { result
             ≡ list_any (λ mount. stands_over (number_of inode) mount
-            && holds_of (nat_eq (counted namespace.count)) mount.namespace)
+            && holds_of (nat_eq (namespace_number namespace)) mount.namespace)
             (mounts_in self.now) }
     {
         self.indexes
@@ -98,8 +100,8 @@ impl Mounts {
 
     // Whether a mount is attached in this namespace.
     fn is_in(&self, id: MountId, namespace: NamespaceId) -> bool
-        ensures { result ≡ holds_of (λ mount. holds_of (nat_eq (counted namespace.count)) mount.namespace)
-            (find (λ mount. nat_eq (counted id.count) mount.number) (mounts_in self.now)) }
+        ensures { result ≡ holds_of (λ mount. holds_of (nat_eq (namespace_number namespace)) mount.namespace)
+            (find (λ mount. nat_eq (mount_number id) mount.number) (mounts_in self.now)) }
     {
         match self.get(id) {
             Some(mount) => mount.namespace == Some(namespace),
@@ -111,7 +113,7 @@ impl Mounts {
     fn is_attached(&self, id: MountId) -> bool
         ensures { result
             ≡ holds_of (λ mount. is_some mount.namespace)
-            (find (λ mount. nat_eq (counted id.count) mount.number) (mounts_in self.now)) }
+            (find (λ mount. nat_eq (mount_number id) mount.number) (mounts_in self.now)) }
     {
         match self.get(id) {
             Some(mount) => mount.namespace.is_some(),
@@ -121,7 +123,8 @@ impl Mounts {
 
     /// The mounts that are attached in a namespace, in the order of their numbers.
     pub fn attached_in(&self, namespace: NamespaceId) -> &[MountId]
-        ensures { AreOf result.now (attached_in (counted namespace.count) self.now) }
+        ensures are { AreOf result.now (attached_in (namespace_number namespace) self.now) }
+        ensures order { are_ascending (mounts_in self.now) ≡ true }
     {
         self.indexes.by_namespace.get(&namespace)
     }

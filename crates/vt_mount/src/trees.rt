@@ -1,17 +1,14 @@
 //! Trees of mounts.
 ghost use Rattle.std.specs.List.{list_any};
-ghost use Rattle.std.specs.Prelude.{◌≡◌, ◌++◌, ◌∷◌, [], map, reverse, OnOk, nat_eq, IfErr, IfOk};
-ghost use Rattle.vt_spec.specs.declared.errors.Rule.TheVariants.{S5};
-ghost use Rattle.vt_spec.specs.Errors.{denial};
+ghost use Rattle.std.specs.Prelude.{◌≡◌, ◌++◌, ◌∷◌, [], map, reverse, OnOk, nat_eq, IfOk};
 ghost use Rattle.vt_spec.specs.Machine.Mounts.{is_unbindable, mount_in, mount_tree, tree_from};
-ghost use Rattle.vt_location.specs.Numbers.{counted};
+ghost use Rattle.vt_location.specs.Numbers.{mount_number};
 ghost use Rattle.vt_mount.specs.MountsValue.{mounts_in};
 ghost use Rattle.vt_mount.specs.Waiting.{to_come};
 
 use crate::mounts::Mounts;
 use std::alloc::AllocError;
 use vt_location::{MountId, Propagation};
-use vt_spec::errors::{Deny, Rule};
 
 // A mount whose tree is still to be walked, and how deep that tree may be.
 #[derive(Clone, Copy, Debug)]
@@ -23,29 +20,15 @@ struct Branch {
 impl Mounts {
     /// A mount and all its descendants: each mount before its children, those in the order of their numbers. A number
     /// that no mount has counts as a mount here.
-    ///
-    /// S5 (ENOMEM): an allocation failed.
-    pub fn tree(&self, id: MountId) -> Result<Vec<MountId>, Deny>
-        ensures ok { IfOk result (λ tree. map (λ id. counted id.count) tree.items
+    pub fn tree(&self, id: MountId) -> Result<Vec<MountId>, AllocError>
+        ensures ok { IfOk result (λ tree. map mount_number tree.items
             ≡ map (λ mount. mount.number) (mount_tree nat_eq (mounts_in self.now)
-            (mount_in nat_eq (mounts_in self.now) (counted id.count)))) }
-        ensures memory { IfErr result (λ deny. deny ≡ denial S5) }
-    {
-        let Ok(tree) = self.tree_of(id) else {
-            return Err(Rule::S5.denial());
-        };
-        Ok(tree)
-    }
-
-    // The tree of a mount. No tree is deeper than there are mounts.
-    fn tree_of(&self, id: MountId) -> Result<Vec<MountId>, AllocError>
-        ensures { IfOk result (λ tree. map (λ id. counted id.count) tree.items
-            ≡ map (λ mount. mount.number) (mount_tree nat_eq (mounts_in self.now)
-            (mount_in nat_eq (mounts_in self.now) (counted id.count)))) }
+            (mount_in nat_eq (mounts_in self.now) (mount_number id)))) }
     {
         let alloc = *self.by_number.allocator();
         let mut tree = Vec::new(alloc);
         let mut waiting = Vec::new(alloc);
+        // No tree is deeper than there are mounts.
         waiting.push(Branch {
             mount: id,
             depth: self.len(),
@@ -60,7 +43,7 @@ impl Mounts {
     // Puts the children of a mount on a stack, unless its tree ends with it.
     fn push_children(&self, waiting: &mut Vec<Branch>, branch: Branch) -> Result<(), AllocError>
         ensures { OnOk result (to_come (mounts_in self.now) (waiting.old.items ++ branch ∷ [])
-            ≡ counted branch.mount.count ∷ to_come (mounts_in self.now) waiting.new.items) }
+            ≡ mount_number branch.mount ∷ to_come (mounts_in self.now) waiting.new.items) }
     {
         if branch.depth == 0 {
             return Ok(());
@@ -72,7 +55,7 @@ impl Mounts {
     /// of that tree alone, up to the first that is unbindable, and does not allocate.
     pub fn has_unbindable(&self, id: MountId) -> bool
         ensures { result ≡ list_any (λ mount. is_unbindable mount.propagation)
-            (mount_tree nat_eq (mounts_in self.now) (mount_in nat_eq (mounts_in self.now) (counted id.count))) }
+            (mount_tree nat_eq (mounts_in self.now) (mount_in nat_eq (mounts_in self.now) (mount_number id))) }
     {
         self.has_unbindable_within(id, self.len())
     }
@@ -80,7 +63,7 @@ impl Mounts {
     // Whether a mount of a tree is unbindable, down to a depth.
     fn has_unbindable_within(&self, id: MountId, depth: usize) -> bool
         ensures { result ≡ list_any (λ mount. is_unbindable mount.propagation)
-            (tree_from nat_eq depth (mounts_in self.now) (mount_in nat_eq (mounts_in self.now) (counted id.count))) }
+            (tree_from nat_eq depth (mounts_in self.now) (mount_in nat_eq (mounts_in self.now) (mount_number id))) }
     {
         if self.is_unbindable(id) {
             return true;
@@ -88,7 +71,6 @@ impl Mounts {
         if depth == 0 {
             return false;
         }
-        self.are_ascending();
         for child in self.children(id) {
             if self.has_unbindable_within(*child, depth - 1) {
                 return true;
@@ -99,7 +81,7 @@ impl Mounts {
 
     /// Whether a mount is unbindable.
     pub fn is_unbindable(&self, id: MountId) -> bool
-        ensures { result ≡ is_unbindable (mount_in nat_eq (mounts_in self.now) (counted id.count)).propagation }
+        ensures { result ≡ is_unbindable (mount_in nat_eq (mounts_in self.now) (mount_number id)).propagation }
     {
         match self.get(id) {
             Some(mount) => mount.propagation == Propagation::Unbindable,

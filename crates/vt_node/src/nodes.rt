@@ -3,7 +3,7 @@ ghost use Rattle.std.specs.FinMap.Entries.{is_sorted};
 ghost use Rattle.std.specs.Prelude.{◌≡◌, [], true, ◌+◌, ◌<◌, ◌^◌, find, map, length, nat_eq, not, take, drop, IsSome, IsOk, IfOk, OnOk, OnErr, option_copied, option_map};
 ghost use Rattle.vt_spec.specs.declared.attributes.Kind.TheVariants.{Dir, File};
 ghost use Rattle.vt_spec.specs.Rights.{is_directory};
-ghost use Rattle.vt_spec.specs.Language.Changes.{content_with_parent, without_entry};
+ghost use Rattle.vt_spec.specs.Language.Changes.{content_with_mark, content_with_parent, without_entry};
 ghost use Rattle.vt_spec.specs.FileTree.{opaque_of};
 ghost use Rattle.vt_spec.specs.Lists.{is_empty_list};
 ghost use Rattle.vt_spec.specs.Machine.Descriptors.{overwritten};
@@ -251,6 +251,15 @@ impl Node {
     {
         if let Content::Directory { parent: old, .. } = &mut self.content {
             *old = parent;
+        }
+    }
+
+    /// Marks a directory opaque, or takes its mark away; any other node stays as it is. It does not allocate.
+    pub fn set_opaque(&mut self, opaque: bool)
+        ensures { self.new ≡ record { attr = self.old.attr; content = content_with_mark opaque self.old.content } }
+    {
+        if let Content::Directory { opaque: old, .. } = &mut self.content {
+            *old = opaque;
         }
     }
 

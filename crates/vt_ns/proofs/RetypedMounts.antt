@@ -4,7 +4,7 @@ use Rattle.std.specs.Prelude.{IfOk, OnOk, if◌then◌else◌}
 use Rattle.std.specs.List.{list_any}
 use Rattle.std.proofs.lemmas.Bool.{or_parts}
 use Rattle.std.proofs.lemmas.List.{map-append, take_more}
-use Rattle.vt_spec.specs.declared.errors.Deny.{Deny}
+use Rattle.std.specs.declared.alloc.AllocError.{AllocError}
 use Rattle.vt_spec.specs.Language.Calls.{TypeWord}
 use Rattle.vt_spec.specs.Language.Calls.TypeWord.{ToShared, ToSlave}
 use Rattle.vt_spec.specs.Lists.{is_among}
@@ -207,14 +207,14 @@ shared_retyped next later numbers before now old new counts shares is = record {
         by false = refl
 
 -- mounts become shared where the step succeeds
-pub shared_if_ok : (result : Result ℕ Deny) (next : ℕ) (numbers : List ℕ) (before now : Grouping)
+pub shared_if_ok : (result : Result ℕ AllocError) (next : ℕ) (numbers : List ℕ) (before now : Grouping)
     (old new : List MountEntry)
     → OnOk result (Shares before now (with_counts next numbers)) → OnOk result (new ≡ map (shared_by now numbers) old)
     → (many : ℕ) → many ≡ length numbers → IfOk result (λ later. later ≡ next + many)
     → IfOk result (λ later. IsRetyped ToShared next later numbers before now old new)
 shared_if_ok (Ok later) next numbers before now old new shares is many all counts =
     shared_retyped next later numbers before now old new (counts ∙ ap (λ n. next + n) all) shares is
-shared_if_ok (Err deny) next numbers before now old new shares is many all counts = tt
+shared_if_ok (Err refused) next numbers before now old new shares is many all counts = tt
 
 -- New groups
 

@@ -1,3 +1,4 @@
 -- What the proofs of src/looking.rt use.
+pub mod Lending
 pub mod LooksKept
 pub mod LostKept

@@ -1,4 +1,5 @@
 pub mod Trees
+pub mod Lent
 pub mod LookingAlone
 pub mod Entering
 pub mod Opening

@@ -1,40 +1,41 @@
 //! Tasks enter namespaces: setns(2).
-ghost use Rattle.std.specs.Prelude.{◌≡◌, IfErr, IsOk, OnErr, OnOk, option_map};
+ghost use Rattle.std.specs.Prelude.{◌≡◌, IsOk, OnErr, OnOk, option_map};
 ghost use Rattle.vt_location.specs.Locations.{location_of};
-ghost use Rattle.vt_location.specs.Numbers.{counted};
+ghost use Rattle.vt_location.specs.Numbers.{namespace_number};
 ghost use Rattle.vt_mount.specs.MountsValue.{mounts_in};
-ghost use Rattle.vt_spec.specs.Errors.{denial};
-ghost use Rattle.vt_spec.specs.declared.errors.Rule.TheVariants.{S5};
 ghost use Rattle.vt_spec.specs.Machine.Permits.Permit.{ToEnterNamespace};
 ghost use Rattle.vt_ns.specs.Entering.{HasRoomToEnter, namespace_root};
 ghost use Rattle.vt_detach.specs.Events.{Becomes, Permits};
 
 use crate::forking::{count_task, has_room, has_room_for_task, hold_once_more};
 use crate::world::World;
+use std::alloc::AllocError;
 use vt_detach::ending::leave_namespace;
 use vt_detach::uses::leave;
 use vt_location::{Location, NamespaceId};
 use vt_mount::Mounts;
 use vt_request::TaskName;
-use vt_spec::errors::{Deny, Rule};
 
 impl World {
     /// Moves a task to a namespace, with its root and its working directory at the root of that one: setns(2). The
-    /// namespace that it leaves ends with its last task. It does not allocate.
+    /// namespace that it leaves ends with its last task.
     ///
-    /// S5 (ENOMEM): the root or the namespace has 2^64 - 2 uses.
-    pub fn enter_namespace(&mut self, name: &TaskName, namespace: NamespaceId) -> Result<(), Deny>
-        requires { Permits self.old name.now (ToEnterNamespace (counted namespace.count)) }
-        ensures ok { OnOk result (Becomes self.old name.now (ToEnterNamespace (counted namespace.count)) self.new) }
+    /// It does not allocate: an error says that the root or the namespace has 2^64 - 2 uses.
+    pub fn enter_namespace(
+        &mut self,
+        name: &TaskName,
+        namespace: NamespaceId,
+    ) -> Result<(), AllocError>
+        requires { Permits self.old name.now (ToEnterNamespace (namespace_number namespace)) }
+        ensures ok { OnOk result (Becomes self.old name.now (ToEnterNamespace (namespace_number namespace)) self.new) }
         ensures room { HasRoomToEnter self.old namespace.count → IsOk result }
-        ensures memory { IfErr result (λ deny. deny ≡ denial S5) }
         ensures err { OnErr result (self.new ≡ self.old) }
     {
         let root = namespace_root(&self.mounts, namespace).unwrap();
         if !has_room(2, &self.mounts, &self.filesystems, root)
             || !has_room_for_task(&self.namespaces, namespace)
         {
-            return Err(Rule::S5.denial());
+            return Err(AllocError);
         }
         let mounts = &mut self.mounts;
         let filesystems = &mut self.filesystems;
@@ -59,9 +60,8 @@ impl World {
 
 // The root of the topmost mount over the root of a namespace's root mount.
 fn namespace_root(mounts: &Mounts, namespace: NamespaceId) -> Option<Location>
-    ensures { option_map location_of result ≡ namespace_root (counted namespace.count) (mounts_in mounts.now) }
+    ensures { option_map location_of result ≡ namespace_root (namespace_number namespace) (mounts_in mounts.now) }
 {
-    mounts.are_ascending();
     for id in mounts.attached_in(namespace) {
         let number = *id;
         if let Some(mount) = mounts.get(number) {

@@ -1,22 +1,20 @@
-//! Events that change files and names: chmod(2), write(2), pwrite(2), mkdir(2), link(2), unlink(2).
-ghost use Rattle.std.specs.Prelude.{◌≡◌, IfErr, OnErr, OnOk};
+//! Events that change files and names: chmod(2), setxattr(2), write(2), pwrite(2), mkdir(2), link(2), unlink(2).
+ghost use Rattle.std.specs.Prelude.{◌≡◌, OnErr, OnOk};
 ghost use Rattle.vt_permits.specs.GrantValue.{make_permit, remove_permit, write_permit};
 ghost use Rattle.vt_permits.specs.declared.grant.MakeGrant.TheVariants.{Link, Node};
 ghost use Rattle.vt_permits.specs.declared.grant.RemoveGrant.TheVariants.{Unlink};
 ghost use Rattle.vt_permits.specs.declared.grant.WriteGrant.TheVariants.{Part};
 ghost use Rattle.vt_location.specs.Locations.{location_of, number_of};
-ghost use Rattle.vt_spec.specs.Errors.{denial};
-ghost use Rattle.vt_spec.specs.declared.errors.Rule.TheVariants.{S5};
-ghost use Rattle.vt_spec.specs.Language.Changes.Change.{SetAttr, SetBytes};
+ghost use Rattle.vt_spec.specs.Language.Changes.Change.{SetAttr, SetBytes, SetMark};
 ghost use Rattle.vt_spec.specs.Machine.Permits.Permit.{ToChange};
 ghost use Rattle.vt_detach.specs.Events.{Becomes, Permits};
 
 use crate::world::World;
+use std::alloc::AllocError;
 use vt_location::Location;
 use vt_node::Attr;
 use vt_permits::{ToLink, ToMake, ToUnlink, ToWritePart};
 use vt_request::TaskName;
-use vt_spec::errors::Deny;
 
 impl World {
     /// Sets the owner, group and mode of an inode: chmod(2), chown(2). It does not allocate.
@@ -27,6 +25,17 @@ impl World {
             (ToChange (location_of object) (SetAttr (number_of object.node) attr)) self.new }
     {
         self.filesystems.set_attr(object.node, attr);
+    }
+
+    /// Marks a directory opaque, or takes its mark away: setxattr(2) of `trusted.overlay.opaque`. It does not allocate.
+    #[inline(always)]
+    pub fn set_opaque(&mut self, name: &TaskName, directory: Location, opaque: bool)
+        requires { Permits self.old name.now
+            (ToChange (location_of directory) (SetMark (number_of directory.node) opaque)) }
+        ensures { Becomes self.old name.now
+            (ToChange (location_of directory) (SetMark (number_of directory.node) opaque)) self.new }
+    {
+        self.filesystems.set_opaque(directory.node, opaque);
     }
 
     /// Sets the whole content of a file: write(2) after open(2) with O_TRUNC. It does not allocate.
@@ -42,11 +51,10 @@ impl World {
 
     /// Makes a further hard link to an inode: link(2).
     ///
-    /// S5 (ENOMEM): an allocation failed, or the inode has 2^64 - 1 uses.
-    pub fn link(&mut self, name: &TaskName, new: ToLink) -> Result<(), Deny>
+    /// It fails too where the inode has 2^64 - 1 uses.
+    pub fn link(&mut self, name: &TaskName, new: ToLink) -> Result<(), AllocError>
         requires { Permits self.old name.now (make_permit (Link new)) }
         ensures ok { OnOk result (Becomes self.old name.now (make_permit (Link new)) self.new) }
-        ensures memory { IfErr result (λ deny. deny ≡ denial S5) }
         ensures err { OnErr result (self.new ≡ self.old) }
     {
         self.filesystems
@@ -66,13 +74,10 @@ impl World {
 
     /// Writes bytes into a file from an offset on, and zeros into a gap before them: pwrite(2). No bytes change
     /// nothing.
-    ///
-    /// S5 (ENOMEM): an allocation failed.
     #[inline(always)]
-    pub fn write_part(&mut self, name: &TaskName, part: ToWritePart) -> Result<(), Deny>
+    pub fn write_part(&mut self, name: &TaskName, part: ToWritePart) -> Result<(), AllocError>
         requires { Permits self.old name.now (write_permit (Part part)) }
         ensures ok { OnOk result (Becomes self.old name.now (write_permit (Part part)) self.new) }
-        ensures memory { IfErr result (λ deny. deny ≡ denial S5) }
         ensures err { OnErr result (self.new ≡ self.old) }
     {
         let filesystems = &mut self.filesystems;
@@ -84,13 +89,10 @@ impl World {
     }
 
     /// Makes an inode under a name of a directory: mkdir(2), symlink(2), mknod(2).
-    ///
-    /// S5 (ENOMEM): an allocation failed.
     #[inline(always)]
-    pub fn make(&mut self, name: &TaskName, new: ToMake) -> Result<(), Deny>
+    pub fn make(&mut self, name: &TaskName, new: ToMake) -> Result<(), AllocError>
         requires { Permits self.old name.now (make_permit (Node new)) }
         ensures ok { OnOk result (Becomes self.old name.now (make_permit (Node new)) self.new) }
-        ensures memory { IfErr result (λ deny. deny ≡ denial S5) }
         ensures err { OnErr result (self.new ≡ self.old) }
     {
         self.filesystems

@@ -1,9 +1,8 @@
 //! A task that forks: fork(2).
-ghost use Rattle.std.specs.Prelude.{◌<◌, ◌↔◌, ◌≡◌, IfErr, IfOk, IfSome, OnErr, OnOk, Some, false, find, nat_eq, option_map, true, unwrap_or};
+ghost use Rattle.std.specs.Prelude.{◌<◌, ◌↔◌, ◌≡◌, IfOk, IfSome, OnErr, OnOk, Some, false, find, nat_eq, option_map, true, unwrap_or, ◌^◌};
 ghost use Rattle.vt_spec.specs.Machine.Tasks.{child_name};
 ghost use Rattle.vt_spec.specs.Machine.Permits.Permit.{ToFork};
 ghost use Rattle.vt_spec.specs.Machine.World.{task_called};
-ghost use Rattle.vt_spec.specs.declared.errors.Rule.TheVariants.{S5};
 ghost use Rattle.vt_spec.specs.Errors.{denial};
 ghost use Rattle.vt_detach.specs.Events.{Becomes, Permits};
 ghost use Rattle.vt_detach.specs.Forking.{HasRoom, with_task_more};
@@ -12,36 +11,33 @@ ghost use Rattle.vt_world.specs.WorldValue.{entries_of, world_of};
 
 use crate::world::World;
 use indexmap::IndexMap;
+use std::alloc::AllocError;
 use vt_cred::Cred;
 use vt_detach::uses::hold;
 use vt_fs::Filesystems;
 use vt_location::{Location, NamespaceId};
 use vt_mount::Mounts;
 use vt_request::TaskName;
-use vt_spec::errors::{Deny, Rule};
 use vt_world::namespaces::Namespace;
 
 impl World {
     /// Forks a task, and returns the name of its child: fork(2). The child has these credentials.
     ///
-    /// S5 (ENOMEM): an allocation failed, or the task's root, working directory or namespace has 2^64 - 2 uses.
-    pub fn fork(&mut self, name: &TaskName, cred: Cred) -> Result<TaskName, Deny>
+    /// It fails too where the task's root, working directory or namespace has 2^64 - 2 uses.
+    pub fn fork(&mut self, name: &TaskName, cred: Cred) -> Result<TaskName, AllocError>
         requires { Permits self.old name.now (ToFork cred) }
         ensures name { IfOk result (λ child. Some child
             ≡ option_map child_name (task_called (world_of self.old) name.now)) }
         ensures ok { OnOk result (Becomes self.old name.now (ToFork cred) self.new) }
-        ensures memory { IfErr result (λ deny. deny ≡ denial S5) }
         ensures err { OnErr result (self.new ≡ self.old) }
     {
-        let Some(parent) = self.tasks.get(name) else {
-            return Err(Rule::S2.denial());
-        };
+        let parent = self.tasks.get(name).unwrap();
         let (namespace, root, directory) = (parent.namespace, parent.root, parent.directory);
         if !has_room(2, &self.mounts, &self.filesystems, root)
             || !has_room(2, &self.mounts, &self.filesystems, directory)
             || !has_room_for_task(&self.namespaces, namespace)
         {
-            return Err(Rule::S5.denial());
+            return Err(AllocError);
         }
         let child = self.tasks.fork(name, cred)?;
         hold_once_more(&mut self.mounts, &mut self.filesystems, root, false);
@@ -69,7 +65,7 @@ pub(crate) fn hold_once_more(
 )
     requires { HasRoom 1 at mounts.old filesystems.old }
     ensures held { kept mounts.new filesystems.new ≡ with_location at writes (kept mounts.old filesystems.old) }
-    ensures slot { at.node.slot < 18446744073709551616 }
+    ensures slot { at.node.slot < 2 ^ 64 }
 {
     // It cannot fail: there is room.
     let _ = hold(mounts, filesystems, at, writes);

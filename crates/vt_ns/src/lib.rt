@@ -19,6 +19,7 @@ mod reading;
 mod removing;
 mod renaming;
 mod retyping;
+mod showing;
 mod tasks;
 mod trees;
 mod unmounting;

@@ -2,7 +2,7 @@
 ghost use Rattle.std.specs.Prelude.{◌≡◌, nat_eq};
 ghost use Rattle.vt_spec.specs.Machine.World.{mount_numbered};
 ghost use Rattle.vt_location.specs.Locations.{location_of, number_of};
-ghost use Rattle.vt_location.specs.Numbers.{counted};
+ghost use Rattle.vt_location.specs.Numbers.{filesystem_number, mount_number};
 ghost use Rattle.vt_detach.specs.Looking.{is_seen, looks_of_value};
 ghost use Rattle.vt_world.specs.WorldValue.{world_of};
 
@@ -17,7 +17,7 @@ impl World {
     /// number.
     #[inline(always)]
     pub(crate) fn shown(&self, mount: MountId) -> FilesystemId
-        ensures { counted result.count ≡ (mount_numbered nat_eq (world_of self.now) (counted mount.count)).filesystem }
+        ensures { filesystem_number result ≡ (mount_numbered nat_eq (world_of self.now) (mount_number mount)).filesystem }
     {
         match self.mounts.get(mount) {
             Some(mount) => mount.root.filesystem,
@@ -35,7 +35,13 @@ impl World {
 }
 
 impl Look for World {
+    ghost use Rattle.vt_ns.specs.Lent.{filesystem_of, lent_alike, real_of_value};
+
     ghost looks = { looks_of_value };
+
+    ghost real = { real_of_value };
+
+    ghost alike = { λ here at. lent_alike (filesystem_of at.node) ((looks_of_value here).node at) };
 
     fn namespace_called(&self, name: &TaskName) -> Option<NamespaceId> {
         self.tasks.namespace_called(name)
@@ -70,6 +76,27 @@ impl Look for World {
         } else {
             None
         }
+    }
+
+    #[inline(always)]
+    fn entry(&self, at: Location, object: &Node, name: &[u8]) -> Option<NodeRef> {
+        let entry = object.entry(name)?;
+        Some(NodeRef::new(at.node.filesystem, entry))
+    }
+
+    fn is_nonempty(&self, at: Location) -> bool {
+        match self.node(at) {
+            Some(directory) => directory.is_nonempty(),
+            None => false,
+        }
+    }
+
+    fn parent(&self, at: Location) -> NodeRef {
+        let Some(directory) = self.node(at) else {
+            return at.node;
+        };
+        let parent = directory.parent(at.node.node());
+        NodeRef::new(at.node.filesystem, parent)
     }
 
     #[inline(always)]

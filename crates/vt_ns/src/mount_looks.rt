@@ -1,10 +1,9 @@
 //! What the rules of mount calls look at: mount(2), umount(2).
-ghost use Rattle.std.specs.Prelude.{◌≡◌, IfErr, IfOk, List, false, length, nat_eq, ℕ};
+ghost use Rattle.std.specs.Prelude.{◌≡◌, IfOk, List, false, length, nat_eq, ℕ};
 ghost use Rattle.vt_location.specs.Locations.{location_of};
-ghost use Rattle.vt_location.specs.Numbers.{counted};
+ghost use Rattle.vt_location.specs.Numbers.{mount_number};
 ghost use Rattle.vt_mount.specs.MountsValue.{mounts_in};
-ghost use Rattle.vt_spec.specs.declared.errors.Rule.TheVariants.{S5};
-ghost use Rattle.vt_spec.specs.Errors.{denial};
+ghost use Rattle.vt_permits.specs.GrantValue.{attachment_permit};
 ghost use Rattle.vt_spec.specs.Machine.Attach.{Copies, attached_by, has_too_many, parts_of};
 ghost use Rattle.vt_spec.specs.Machine.Invariants.{NamespaceInvariants};
 ghost use Rattle.vt_spec.specs.Machine.Mounts as meant;
@@ -14,6 +13,7 @@ ghost use Rattle.vt_detach.specs.Looking.{looks_of_value, overfills_of};
 ghost use Rattle.vt_world.specs.WorldValue.{world_of};
 
 use crate::world::World;
+use std::alloc::AllocError;
 use vt_location::{Location, MountId};
 use vt_looks::LookAtMounts;
 use vt_permits::Attachment;
@@ -23,7 +23,7 @@ use vt_spec::errors::Deny;
 impl World {
     /// Whether a file is open for writing through a mount: EBUSY of mount(2) with `MS_REMOUNT`.
     pub(crate) fn has_writer(&self, mount: MountId) -> bool
-        ensures { result ≡ (looks_of_value self.now).is_written_through (counted mount.count) }
+        ensures { result ≡ (looks_of_value self.now).is_written_through (mount_number mount) }
     {
         self.mounts.is_written_through(mount)
     }
@@ -51,7 +51,7 @@ impl LookAtMounts for World {
     }
 
     fn is_busy(&self, mount: MountId) -> Result<bool, Deny> {
-        is_busy(self.alloc, &self.mounts, &self.groups, mount)
+        Ok(is_busy(self.alloc, &self.mounts, &self.groups, mount)?)
     }
 
     fn is_written_through(&self, mount: MountId) -> bool {
@@ -59,6 +59,16 @@ impl LookAtMounts for World {
     }
 
     fn overfills(&self, attachment: Attachment) -> Result<bool, Deny> {
+        Ok(self.has_too_many(attachment)?)
+    }
+}
+
+impl World {
+    // Whether a namespace has too many mounts once this is attached.
+    fn has_too_many(&self, attachment: Attachment) -> Result<bool, AllocError>
+        ensures ok { IfOk result (λ too_many.
+            too_many ≡ overfills_of self.now (attachment_permit attachment)) }
+    {
         self.is_held();
         match attachment {
             Attachment::Plain { destination, .. } => self.has_too_many_with(destination, 1),
@@ -69,18 +79,14 @@ impl LookAtMounts for World {
             Attachment::Move { mount, destination } => self.has_too_many_moved(mount, destination),
         }
     }
-}
 
-impl World {
     // Whether a namespace has too many mounts once so many are attached at a place, and at the receivers there.
-    // S5 (ENOMEM): an allocation failed.
-    fn has_too_many_with(&self, place: Location, count: usize) -> Result<bool, Deny>
+    fn has_too_many_with(&self, place: Location, count: usize) -> Result<bool, AllocError>
         ensures ok { IfOk result (λ too_many. (world : Meant ℕ) (new : Copies ℕ) (tree : List (meant.Mount ℕ))
             → mounts_in self.now.mounts ≡ world.mounts → NamespaceInvariants nat_eq world
             → parts_of nat_eq world (location_of place) ≡ parts_of nat_eq (world_of self.now) (location_of place)
             → length tree ≡ count
             → too_many ≡ has_too_many nat_eq (attached_by nat_eq world new (location_of place) false tree)) }
-        ensures memory { IfErr result (λ deny. deny ≡ denial S5) }
     {
         if self.mounts.get(place.mount).is_none() {
             return Ok(false);
@@ -94,11 +100,9 @@ impl World {
     }
 
     // Whether a namespace has too many mounts once a mount is moved with all that is below it.
-    // S5 (ENOMEM): an allocation failed.
-    fn has_too_many_moved(&self, mount: MountId, place: Location) -> Result<bool, Deny>
+    fn has_too_many_moved(&self, mount: MountId, place: Location) -> Result<bool, AllocError>
         ensures ok { IfOk result (λ too_many. too_many
-            ≡ overfills_of self.now (ToMove (counted mount.count) (location_of place))) }
-        ensures memory { IfErr result (λ deny. deny ≡ denial S5) }
+            ≡ overfills_of self.now (ToMove (mount_number mount) (location_of place))) }
     {
         self.is_held();
         if self.mounts.get(place.mount).is_none() {

@@ -1,11 +1,9 @@
 //! The event of a mount that gets another mount point: mount(2) with `MS_MOVE`.
-ghost use Rattle.std.specs.Prelude.{◌+◌, ◌<◌, ◌≤◌, ◌≡◌, IfErr, IfOk, IfSome, OnErr, OnOk, false, is_some, map, nat_eq, option_map, true};
+ghost use Rattle.std.specs.Prelude.{◌+◌, ◌<◌, ◌≤◌, ◌≡◌, IfOk, IfSome, OnErr, OnOk, false, is_some, map, nat_eq, option_map, true, ◌^◌};
 ghost use Rattle.vt_location.specs.Locations.{location_of};
 ghost use Rattle.vt_location.specs.MountValue.{mount_of};
-ghost use Rattle.vt_location.specs.Numbers.{counted};
+ghost use Rattle.vt_location.specs.Numbers.{counted, mount_number};
 ghost use Rattle.vt_mount.specs.MountsValue.{mounts_in};
-ghost use Rattle.vt_spec.specs.declared.errors.Rule.TheVariants.{S5};
-ghost use Rattle.vt_spec.specs.Errors.{denial};
 ghost use Rattle.vt_spec.specs.Machine.Mounts.{is_shared, mount_in, mount_tree};
 ghost use Rattle.vt_spec.specs.Machine.Permits.Permit.{ToMove};
 ghost use Rattle.vt_spec.specs.Machine.World.{mount_numbered};
@@ -16,32 +14,30 @@ ghost use Rattle.vt_ns.specs.Counting.{counted_for};
 use crate::grafting::numbers_taken;
 use crate::unmounting::{is_member, type_of};
 use crate::world::World;
+use std::alloc::AllocError;
 use vt_attach::bound::bound_mounts;
 use vt_attach::moved::move_tree;
 use vt_location::{Location, Mount, MountId};
 use vt_propagate::{Counts, Graft, parts};
 use vt_request::TaskName;
-use vt_spec::errors::{Deny, Rule};
 
 impl World {
     /// Moves a mount, with all that is below it, to another mount point: mount(2) with `MS_MOVE`. On a shared mount all
     /// that moves is shared, and each receiver gets a copy of the whole tree.
     ///
-    /// S5 (ENOMEM): an allocation failed, no number is left, or an inode or a filesystem would have more than 2^64 - 1
-    /// uses.
+    /// It fails too where no number is left, or an inode or a filesystem would have more than 2^64 - 1 uses.
     pub fn move_mount(
         &mut self,
         name: &TaskName,
         mount: MountId,
         place: Location,
-    ) -> Result<(), Deny>
-        requires { Permits self.old name.now (ToMove (counted mount.count) (location_of place)) }
+    ) -> Result<(), AllocError>
+        requires { Permits self.old name.now (ToMove (mount_number mount) (location_of place)) }
         ensures ok { OnOk result (Becomes self.old name.now
-            (ToMove (counted mount.count) (location_of place)) self.new) }
+            (ToMove (mount_number mount) (location_of place)) self.new) }
         ensures counts { OnOk result (self.new.next ≤ self.old.next + counted_for self.old (location_of place)
             (mount_tree nat_eq (mounts_in self.old.mounts) (mount_numbered nat_eq (world_of self.old)
-            (counted mount.count)))) }
-        ensures memory { IfErr result (λ deny. deny ≡ denial S5) }
+            (mount_number mount)))) }
         ensures err { OnErr result (self.new ≡ self.old) }
     {
         if is_member(type_of(&self.mounts, place.mount)) {
@@ -51,19 +47,23 @@ impl World {
     }
 
     // Moves a mount to one that is not shared. The mounts keep their types.
-    fn move_alone(&mut self, name: &TaskName, mount: MountId, place: Location) -> Result<(), Deny>
-        requires permitted { Permits self.old name.now (ToMove (counted mount.count) (location_of place)) }
-        requires alone { is_shared (mount_in nat_eq (mounts_in self.old.mounts) (counted place.mount.count)).propagation
+    fn move_alone(
+        &mut self,
+        name: &TaskName,
+        mount: MountId,
+        place: Location,
+    ) -> Result<(), AllocError>
+        requires permitted { Permits self.old name.now (ToMove (mount_number mount) (location_of place)) }
+        requires alone { is_shared (mount_in nat_eq (mounts_in self.old.mounts) (mount_number place.mount)).propagation
             ≡ false }
         ensures ok { OnOk result (Becomes self.old name.now
-            (ToMove (counted mount.count) (location_of place)) self.new) }
+            (ToMove (mount_number mount) (location_of place)) self.new) }
         ensures counts { self.new.next ≡ self.old.next }
-        ensures memory { IfErr result (λ deny. deny ≡ denial S5) }
         ensures err { OnErr result (self.new ≡ self.old) }
     {
         let left = self.mount_point(mount);
         if self.filesystems.uses(place.node) == u64::MAX {
-            return Err(Rule::S5.denial());
+            return Err(AllocError);
         }
         self.mounts.move_to(mount, place)?;
         // It cannot fail: one more use can be counted.
@@ -80,16 +80,15 @@ impl World {
         name: &TaskName,
         mount: MountId,
         place: Location,
-    ) -> Result<(), Deny>
-        requires permitted { Permits self.old name.now (ToMove (counted mount.count) (location_of place)) }
+    ) -> Result<(), AllocError>
+        requires permitted { Permits self.old name.now (ToMove (mount_number mount) (location_of place)) }
         requires shared { is_shared
-            (mount_in nat_eq (mounts_in self.old.mounts) (counted place.mount.count)).propagation ≡ true }
+            (mount_in nat_eq (mounts_in self.old.mounts) (mount_number place.mount)).propagation ≡ true }
         ensures ok { OnOk result (Becomes self.old name.now
-            (ToMove (counted mount.count) (location_of place)) self.new) }
+            (ToMove (mount_number mount) (location_of place)) self.new) }
         ensures counts { OnOk result (self.new.next ≡ self.old.next + counted_for self.old (location_of place)
             (mount_tree nat_eq (mounts_in self.old.mounts) (mount_numbered nat_eq (world_of self.old)
-            (counted mount.count)))) }
-        ensures memory { IfErr result (λ deny. deny ≡ denial S5) }
+            (mount_number mount)))) }
         ensures err { OnErr result (self.new ≡ self.old) }
     {
         self.mounts.are_ascending();
@@ -97,7 +96,7 @@ impl World {
         let tree = self.mounts_below(mount)?;
         let parts = parts(self.alloc, &self.mounts, &self.groups, &*self, place)?;
         let Some(taken) = numbers_taken(parts.len(), tree.len(), u64::MAX - self.next) else {
-            return Err(Rule::S5.denial());
+            return Err(AllocError);
         };
         let graft = Graft {
             parts: &parts,
@@ -122,11 +121,10 @@ impl World {
     }
 
     // A mount that is there, with all its descendants: each mount before its children.
-    fn mounts_below(&self, mount: MountId) -> Result<Vec<Mount>, Deny>
-        requires { is_some (mount_numbered nat_eq (world_of self.now) (counted mount.count)).namespace ≡ true }
+    fn mounts_below(&self, mount: MountId) -> Result<Vec<Mount>, AllocError>
+        requires { is_some (mount_numbered nat_eq (world_of self.now) (mount_number mount)).namespace ≡ true }
         ensures ok { IfOk result (λ tree. map mount_of tree.items ≡ mount_tree nat_eq (mounts_in self.now.mounts)
-            (mount_numbered nat_eq (world_of self.now) (counted mount.count))) }
-        ensures memory { IfErr result (λ deny. deny ≡ denial S5) }
+            (mount_numbered nat_eq (world_of self.now) (mount_number mount))) }
     {
         self.mounts.are_ascending();
         let origins = self.mounts.tree(mount)?;
@@ -135,17 +133,14 @@ impl World {
             mount: top.number,
             node: top.root,
         };
-        let Ok(tree) = bound_mounts(self.alloc, &self.mounts, &origins, source) else {
-            return Err(Rule::S5.denial());
-        };
-        Ok(tree)
+        bound_mounts(self.alloc, &self.mounts, &origins, source)
     }
 
     /// Where a mount is attached.
     pub(crate) fn mount_point(&self, mount: MountId) -> Option<Location>
         ensures point { option_map location_of result
-            ≡ (mount_numbered nat_eq (world_of self.now) (counted mount.count)).mount_point }
-        ensures slot { IfSome result (λ point. point.node.slot < 18446744073709551616) }
+            ≡ (mount_numbered nat_eq (world_of self.now) (mount_number mount)).mount_point }
+        ensures slot { IfSome result (λ point. point.node.slot < 2 ^ 64) }
     {
         self.mounts.get(mount)?.mount_point
     }

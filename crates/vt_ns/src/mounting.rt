@@ -1,14 +1,12 @@
 //! The event that mounts a new filesystem: mount(2).
 ghost use Rattle.std.specs.List.{list_all};
-ghost use Rattle.std.specs.Prelude.{◌≡◌, ◌+◌, ◌*◌, ◌++◌, ◌∷◌, [], length, nat_eq, nat_lt, true, IfErr, OnErr, OnOk};
+ghost use Rattle.std.specs.Prelude.{◌≡◌, ◌+◌, ◌*◌, ◌++◌, ◌∷◌, [], length, nat_eq, nat_lt, true, OnErr, OnOk};
 ghost use Rattle.vt_fs.specs.FilesystemsValue.{FilesystemEntry, IsNew};
 ghost use Rattle.vt_cred.specs.MountFlags.{flags_of};
 ghost use Rattle.vt_location.specs.Locations.{location_of};
 ghost use Rattle.vt_location.specs.MountValue.{mount_of};
-ghost use Rattle.vt_location.specs.Numbers.{counted, inode_number};
+ghost use Rattle.vt_location.specs.Numbers.{inode_number, filesystem_number};
 ghost use Rattle.vt_propagate.specs.Copying.{HasRoomFor};
-ghost use Rattle.vt_spec.specs.declared.errors.Rule.TheVariants.{S5};
-ghost use Rattle.vt_spec.specs.Errors.{denial};
 ghost use Rattle.vt_spec.specs.Machine.Attach.{parts_of};
 ghost use Rattle.vt_spec.specs.Machine.Permits.Permit.{ToMountPlain};
 ghost use Rattle.vt_spec.specs.Machine.NewMounts.{new_mount};
@@ -20,7 +18,7 @@ ghost use Rattle.vt_attach.specs.Grafted.{IsGrafted, MayGraft};
 
 use crate::grafting::numbers_taken;
 use crate::world::World;
-use std::alloc::Global;
+use std::alloc::{AllocError, Global};
 use vt_attach::grafted::attach_graft;
 use vt_cred::MountFlags;
 use vt_fs::Filesystems;
@@ -30,7 +28,6 @@ use vt_mount::Mounts;
 use vt_node::{Attr, Mode};
 use vt_propagate::{Counts, Graft, parts};
 use vt_request::TaskName;
-use vt_spec::errors::{Deny, Rule};
 
 // The mode of the root directory of a new filesystem.
 const ROOT_MODE: u16 = 0o755;
@@ -39,30 +36,29 @@ impl World {
     /// Mounts a new filesystem, which is one empty directory: mount(2) of a tmpfs. Each receiver of the destination's
     /// mount gets a mount of it too.
     ///
-    /// S5 (ENOMEM): an allocation failed, no number is left, or an inode would have more than 2^64 - 1 uses.
+    /// It fails too where no number is left, or an inode would have more than 2^64 - 1 uses.
     pub fn mount_plain(
         &mut self,
         name: &TaskName,
         place: Location,
         flags: MountFlags,
-    ) -> Result<(), Deny>
+    ) -> Result<(), AllocError>
         requires { Permits self.old name.now (ToMountPlain (location_of place) (flags_of flags)) }
         ensures ok { OnOk result (Becomes self.old name.now
             (ToMountPlain (location_of place) (flags_of flags)) self.new) }
         ensures counts { OnOk result (self.new.next
             ≡ self.old.next + 4 * length (parts_of nat_eq (world_of self.old) (location_of place))) }
-        ensures memory { IfErr result (λ deny. deny ≡ denial S5) }
         ensures err { OnErr result (self.new ≡ self.old) }
     {
         self.mounts.are_ascending();
         self.mounts.are_counted();
         if self.next == u64::MAX {
-            return Err(Rule::S5.denial());
+            return Err(AllocError);
         }
         let parts = parts(self.alloc, &self.mounts, &self.groups, &*self, place)?;
         // Two numbers for the filesystem and its root come between those of the copies.
         let Some(taken) = numbers_taken(parts.len(), 2, u64::MAX - 1 - self.next) else {
-            return Err(Rule::S5.denial());
+            return Err(AllocError);
         };
         let filesystem = FilesystemId { count: self.next };
         let tree = [mount_of_new(filesystem, flags)];
@@ -92,7 +88,7 @@ impl World {
 
 // The mount of a new filesystem that is copied to its destination. It has the number of the filesystem.
 fn mount_of_new(filesystem: FilesystemId, flags: MountFlags) -> Mount
-    ensures { mount_of result ≡ new_mount (counted filesystem.count) (inode_number filesystem.count 0)
+    ensures { mount_of result ≡ new_mount (filesystem_number filesystem) (inode_number filesystem.count 0)
         (flags_of flags) }
 {
     Mount {
@@ -119,22 +115,21 @@ fn mount_new(
     filesystem: FilesystemId,
     graft: &Graft,
     counts: Counts,
-) -> Result<(), Deny>
+) -> Result<(), AllocError>
     requires above { list_all (λ entry. nat_lt entry.count filesystem.count) filesystems.old ≡ true }
     requires room { HasRoomFor graft.now counts }
     requires may { MayGraft mounts.old groups.old graft.now counts }
     ensures ok { OnOk result ((entry : FilesystemEntry) × IsNew filesystem.count meant.root_attr entry
         × IsGrafted graft.now counts (kept mounts.old (filesystems.old ++ entry ∷ [])) groups.old
         (kept mounts.new filesystems.new) groups.new) }
-    ensures memory { IfErr result (λ deny. deny ≡ denial S5) }
     ensures err_mounts { OnErr result (mounts.new ≡ mounts.old) }
     ensures err_groups { OnErr result (groups.new ≡ groups.old) }
     ensures err_filesystems { OnErr result (filesystems.new ≡ filesystems.old) }
 {
     filesystems.add(filesystem, root_attr())?;
-    if let Err(deny) = attach_graft(alloc, mounts, groups, filesystems, graft, counts) {
+    if let Err(refused) = attach_graft(alloc, mounts, groups, filesystems, graft, counts) {
         filesystems.remove(filesystem);
-        return Err(deny);
+        return Err(refused);
     }
     Ok(())
 }

@@ -1,7 +1,5 @@
 //! The opening world: one namespace with one mount of one filesystem, and one task.
-ghost use Rattle.std.specs.Prelude.{◌≡◌, ◌∷◌, [], nat_eq, IfErr, IfOk, OnOk};
-ghost use Rattle.vt_spec.specs.declared.errors.Rule.TheVariants.{S5};
-ghost use Rattle.vt_spec.specs.Errors.{denial};
+ghost use Rattle.std.specs.Prelude.{◌≡◌, ◌∷◌, [], nat_eq, IfOk, OnOk};
 ghost use Rattle.vt_spec.specs.Machine.World.{opening};
 ghost use Rattle.vt_fs.specs.FilesystemsValue.{shown};
 ghost use Rattle.vt_location.specs.MountValue.{mount_of};
@@ -11,23 +9,19 @@ ghost use Rattle.vt_world.specs.WorldValue.{entries_of, world_of};
 use crate::mounting::root_attr;
 use crate::world::World;
 use indexmap::IndexMap;
-use std::alloc::Global;
+use std::alloc::{AllocError, Global};
 use vt_cred::MountFlags;
 use vt_fs::Filesystems;
 use vt_group::Groups;
 use vt_location::{FilesystemId, Location, Mount, MountId, NamespaceId, NodeRef, Propagation};
 use vt_mount::Mounts;
-use vt_spec::errors::{Deny, Rule};
 use vt_tasks::Tasks;
 use vt_world::namespaces::Namespace;
 
 impl World {
     /// The opening world: a namespace with a root mount of an empty filesystem, and the first task, which may do all.
-    ///
-    /// S5 (ENOMEM): an allocation failed.
-    pub fn new(alloc: Global) -> Result<World, Deny>
+    pub fn new(alloc: Global) -> Result<World, AllocError>
         ensures opening { IfOk result (λ world. world_of world ≡ opening nat_eq opening_numbers) }
-        ensures memory { IfErr result (λ deny. deny ≡ denial S5) }
     {
         let number = MountId::new(0);
         let namespace = NamespaceId::new(1);
@@ -52,18 +46,18 @@ impl World {
         // What was made is dropped by calls: the proof of a function that drops such values itself takes minutes.
         let Ok(namespaces) = first_namespaces(alloc, namespace) else {
             drop(tasks);
-            return Err(Rule::S5.denial());
+            return Err(AllocError);
         };
         let Ok(filesystems) = first_filesystems(alloc, filesystem) else {
             drop(tasks);
             drop(namespaces);
-            return Err(Rule::S5.denial());
+            return Err(AllocError);
         };
         let Ok(mounts) = first_mounts(alloc, mount) else {
             drop(tasks);
             drop(namespaces);
             drop(filesystems);
-            return Err(Rule::S5.denial());
+            return Err(AllocError);
         };
         Ok(World {
             mounts,
@@ -78,19 +72,18 @@ impl World {
 }
 
 // A mount alone, with the root and the working directory of one task on it.
-fn first_mounts(alloc: Global, mount: Mount) -> Result<Mounts, Deny>
+fn first_mounts(alloc: Global, mount: Mount) -> Result<Mounts, AllocError>
     ensures ok { IfOk result (λ mounts. mounts ≡ record { mount = mount_of mount; uses = 2; writers = 0 } ∷ []) }
-    ensures memory { IfErr result (λ deny. deny ≡ denial S5) }
 {
     let mut mounts = Mounts::new(alloc);
     if attach_first(&mut mounts, mount).is_err() {
         drop(mounts);
-        return Err(Rule::S5.denial());
+        return Err(AllocError);
     }
     Ok(mounts)
 }
 
-fn attach_first(mounts: &mut Mounts, mount: Mount) -> Result<(), Deny>
+fn attach_first(mounts: &mut Mounts, mount: Mount) -> Result<(), AllocError>
     requires { mounts.old ≡ [] }
     ensures { OnOk result (mounts.new ≡ record { mount = mount_of mount; uses = 2; writers = 0 } ∷ []) }
 {
@@ -101,19 +94,18 @@ fn attach_first(mounts: &mut Mounts, mount: Mount) -> Result<(), Deny>
 
 // A filesystem alone, whose root directory is the root of one mount, and the root and the working directory of one
 // task.
-fn first_filesystems(alloc: Global, filesystem: FilesystemId) -> Result<Filesystems, Deny>
+fn first_filesystems(alloc: Global, filesystem: FilesystemId) -> Result<Filesystems, AllocError>
     ensures ok { IfOk result (λ filesystems. shown filesystems ≡ first_shown filesystem.count) }
-    ensures memory { IfErr result (λ deny. deny ≡ denial S5) }
 {
     let mut filesystems = Filesystems::new(alloc);
     if add_first(&mut filesystems, filesystem).is_err() {
         drop(filesystems);
-        return Err(Rule::S5.denial());
+        return Err(AllocError);
     }
     Ok(filesystems)
 }
 
-fn add_first(filesystems: &mut Filesystems, filesystem: FilesystemId) -> Result<(), Deny>
+fn add_first(filesystems: &mut Filesystems, filesystem: FilesystemId) -> Result<(), AllocError>
     requires { filesystems.old ≡ [] }
     ensures { OnOk result (shown filesystems.new ≡ first_shown filesystem.count) }
 {
@@ -132,14 +124,11 @@ fn add_first(filesystems: &mut Filesystems, filesystem: FilesystemId) -> Result<
 fn first_namespaces(
     alloc: Global,
     namespace: NamespaceId,
-) -> Result<IndexMap<NamespaceId, Namespace>, Deny>
+) -> Result<IndexMap<NamespaceId, Namespace>, AllocError>
     ensures ok { IfOk result (λ namespaces. entries_of namespaces.entries
         ≡ record { count = namespace.count; tasks = 1 } ∷ []) }
-    ensures memory { IfErr result (λ deny. deny ≡ denial S5) }
 {
     let mut namespaces = IndexMap::new(alloc);
-    let Ok(_) = namespaces.insert(namespace, Namespace { tasks: 1 }) else {
-        return Err(Rule::S5.denial());
-    };
+    namespaces.insert(namespace, Namespace { tasks: 1 })?;
     Ok(namespaces)
 }

@@ -1,13 +1,11 @@
 //! The event that makes a file and opens it: open(2) with O_CREAT.
-ghost use Rattle.std.specs.Prelude.{◌<◌, ◌≡◌, IfErr, IfOk, None, OnErr, OnOk, Some, nat_eq, option_map, true};
+ghost use Rattle.std.specs.Prelude.{◌<◌, ◌≡◌, IfOk, None, OnErr, OnOk, Some, nat_eq, option_map, true};
 ghost use Rattle.vt_fs.specs.FilesystemsValue.{ChangesInodes, entry_at, files_at, next_seen, node_seen};
 ghost use Rattle.vt_location.specs.Locations.{number_of};
-ghost use Rattle.vt_location.specs.Numbers.{counted};
+ghost use Rattle.vt_location.specs.Numbers.{counted, mount_number};
 ghost use Rattle.vt_mount.specs.MountsValue.{uses_of, writers_of};
 ghost use Rattle.vt_permits.specs.GrantValue.{descriptor_permit};
 ghost use Rattle.vt_permits.specs.declared.grant.DescriptorGrant.TheVariants.{OpenNew};
-ghost use Rattle.vt_spec.specs.declared.errors.Rule.TheVariants.{S5};
-ghost use Rattle.vt_spec.specs.Errors.{denial};
 ghost use Rattle.vt_spec.specs.Inodes.{changed};
 ghost use Rattle.vt_spec.specs.Language.Changes.Change.{Make};
 ghost use Rattle.vt_spec.specs.Laws.Trees.{IsNewIn};
@@ -20,32 +18,31 @@ ghost use Rattle.vt_world.specs.WorldValue.{world_of};
 ghost use Rattle.vt_ns.specs.Opening.{MakesNext};
 
 use crate::world::World;
+use std::alloc::AllocError;
 use vt_fs::Filesystems;
 use vt_location::{Location, MountId, NodeRef};
 use vt_mount::Mounts;
 use vt_node::Node;
 use vt_permits::ToOpenNew;
 use vt_request::TaskName;
-use vt_spec::errors::{Deny, Rule};
 use vt_tasks::{OpenFile, Tasks};
 
 impl World {
     /// Makes a file under a name of a directory and opens it, without rights on it, under the least number that is
     /// free, which is returned: open(2) with O_CREAT.
     ///
-    /// S5 (ENOMEM): an allocation failed, or the mount has 2^64 - 1 uses.
-    pub fn open_new(&mut self, name: &TaskName, new: ToOpenNew) -> Result<u8, Deny>
+    /// It fails too where the mount has 2^64 - 1 uses.
+    pub fn open_new(&mut self, name: &TaskName, new: ToOpenNew) -> Result<u8, AllocError>
         requires { Permits self.old name.now (descriptor_permit (OpenNew new)) }
         ensures number { IfOk result (λ number.
             Some number ≡ option_map free_number (task_called (world_of self.old) name.now)) }
         ensures ok { OnOk result (Becomes self.old name.now (descriptor_permit (OpenNew new)) self.new) }
-        ensures memory { IfErr result (λ deny. deny ≡ denial S5) }
         ensures err { OnErr result (self.new ≡ self.old) }
     {
         let Location { mount, node } = new.directory;
         let file = self.filesystems.next_number(node.filesystem).unwrap();
         if !mount_has_room(&self.mounts, mount) {
-            return Err(Rule::S5.denial());
+            return Err(AllocError);
         }
         let access = new.access;
         let opened = OpenFile {
@@ -64,8 +61,8 @@ impl World {
 
 // Whether one more use of a mount may be counted, also of one that writes.
 fn mount_has_room(mounts: &Mounts, id: MountId) -> bool
-    ensures { result ≡ true → (uses_of mounts.now (counted id.count) < u64.MAX)
-        × (writers_of mounts.now (counted id.count) < u64.MAX) }
+    ensures { result ≡ true → (uses_of mounts.now (mount_number id) < u64.MAX)
+        × (writers_of mounts.now (mount_number id) < u64.MAX) }
 {
     mounts.uses(id) < u64::MAX && mounts.writers(id) < u64::MAX
 }
@@ -80,7 +77,7 @@ fn open_next(
     directory: NodeRef,
     name: Vec<u8>,
     node: Node,
-) -> Result<u8, Deny>
+) -> Result<u8, AllocError>
     requires may { MayOpenMore (called task.now tasks.old) }
     requires directory { IsDirectory (files_at filesystems.old directory.filesystem.count).tree (number_of directory) }
     requires free { number_at (files_at filesystems.old directory.filesystem.count).tree
@@ -89,7 +86,6 @@ fn open_next(
     ensures number { IfOk result (λ number. Some number ≡ option_map free_number (called task.now tasks.old)) }
     ensures ok { OnOk result (tasks.new ≡ changed_called task.now (with_open opened) tasks.old) }
     ensures made { OnOk result (MakesNext directory name.items node filesystems.old filesystems.new) }
-    ensures memory { IfErr result (λ deny. deny ≡ denial S5) }
     ensures err_tasks { OnErr result (tasks.new ≡ tasks.old) }
     ensures err_filesystems { OnErr result (filesystems.new ≡ filesystems.old) }
 {
@@ -104,13 +100,12 @@ fn create_next(
     directory: NodeRef,
     name: Vec<u8>,
     node: Node,
-) -> Result<(), Deny>
+) -> Result<(), AllocError>
     requires directory { IsDirectory (files_at filesystems.old directory.filesystem.count).tree (number_of directory) }
     requires free { number_at (files_at filesystems.old directory.filesystem.count).tree
         (number_of directory) name.items ≡ None }
     requires node { IsNewIn directory.slot node }
     ensures ok { OnOk result (MakesNext directory name.items node filesystems.old filesystems.new) }
-    ensures memory { IfErr result (λ deny. deny ≡ denial S5) }
     ensures err { OnErr result (filesystems.new ≡ filesystems.old) }
 {
     filesystems.create(directory, name, node)?;

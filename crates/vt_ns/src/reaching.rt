@@ -1,19 +1,17 @@
 //! Where propagation goes in the world: mount_namespaces(7).
-ghost use Rattle.std.specs.Prelude.{◌≡◌, IfErr, IfOk, map, nat_eq, true};
+ghost use Rattle.std.specs.Prelude.{◌≡◌, IfOk, map, nat_eq, true};
 ghost use Rattle.vt_location.specs.Locations.{location_of};
 ghost use Rattle.vt_location.specs.MountValue.{mount_of};
-ghost use Rattle.vt_location.specs.Numbers.{counted};
+ghost use Rattle.vt_location.specs.Numbers.{mount_number};
 ghost use Rattle.vt_propagate.specs.Seen.{is_mounted};
-ghost use Rattle.vt_spec.specs.declared.errors.Rule.TheVariants.{S5};
-ghost use Rattle.vt_spec.specs.Errors.{denial};
 ghost use Rattle.vt_spec.specs.Machine.Attach.{parts_of};
 ghost use Rattle.vt_world.specs.WorldValue.{world_of};
 ghost use Rattle.vt_ns.specs.LyingUnder.{lies_under};
 
 use crate::world::World;
+use std::alloc::AllocError;
 use vt_location::{Location, Mount, NodeRef};
 use vt_propagate::{Reach, parts};
-use vt_spec::errors::Deny;
 
 impl Reach for World {
     ghost under = { lies_under };
@@ -26,13 +24,10 @@ impl Reach for World {
 impl World {
     /// The mounts at which a tree of mounts is attached: that of the place, then the receivers that take part, in the
     /// order of their attachment.
-    ///
-    /// S5 (ENOMEM): an allocation failed.
-    pub(crate) fn parts_at(&self, place: Location) -> Result<Vec<Mount>, Deny>
-        requires { is_mounted self.now.mounts (counted place.mount.count) ≡ true }
+    pub(crate) fn parts_at(&self, place: Location) -> Result<Vec<Mount>, AllocError>
+        requires { is_mounted self.now.mounts (mount_number place.mount) ≡ true }
         ensures ok { IfOk result (λ parts. map mount_of parts.items
             ≡ parts_of nat_eq (world_of self.now) (location_of place)) }
-        ensures memory { IfErr result (λ deny. deny ≡ denial S5) }
     {
         parts(self.alloc, &self.mounts, &self.groups, self, place)
     }

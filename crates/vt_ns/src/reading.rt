@@ -1,8 +1,6 @@
 //! Events that only look at files: readdir(3), stat(2), read(2), pread(2); and what is seen of a task.
-ghost use Rattle.std.specs.Prelude.{◌≡◌, IfErr, IfOk, drop, map, nat_eq, option_copied, option_map, take, None, Some, ℕ};
+ghost use Rattle.std.specs.Prelude.{◌≡◌, IfOk, drop, map, nat_eq, option_copied, option_map, take, None, Some, ℕ};
 ghost use Rattle.vt_location.specs.Locations.{location_of};
-ghost use Rattle.vt_spec.specs.Errors.{denial};
-ghost use Rattle.vt_spec.specs.declared.errors.Rule.TheVariants.{S5};
 ghost use Rattle.vt_request.specs.Answers.{stat_line_of};
 ghost use Rattle.vt_spec.specs.Machine.Apply.{stat_line};
 ghost use Rattle.vt_spec.specs.Machine.Permits.Permit.{ToList, ToRead, ToStat};
@@ -13,15 +11,16 @@ ghost use Rattle.vt_permits.specs.declared.grant.LookGrant.TheVariants.{ReadPart
 ghost use Rattle.vt_tasks.specs.TaskValue.{task_of};
 ghost use Rattle.vt_detach.specs.Events.{Permits};
 ghost use Rattle.vt_ns.specs.LookingAlone.{LookingChangesNothing};
+ghost use Rattle.vt_world.specs.Held.{IsHeld};
 ghost use Rattle.vt_world.specs.WorldValue.{world_of};
 
 use crate::world::World;
+use std::alloc::AllocError;
 use vt_location::Location;
 use vt_looks::Look;
 use vt_node::{Attr, Kind, Mode, Node, copied_bytes};
 use vt_permits::ToReadPart;
 use vt_request::{StatLine, TaskName};
-use vt_spec::errors::{Deny, Rule};
 use vt_tasks::Task;
 
 impl World {
@@ -35,12 +34,13 @@ impl World {
     /// The task of this name.
     #[inline(always)]
     pub fn task(&self, name: &TaskName) -> Option<&Task>
-        ensures { option_map task_of (option_copied result) ≡ task_called (world_of self.now) name.now }
+        ensures found { option_map task_of (option_copied result) ≡ task_called (world_of self.now) name.now }
+        ensures held { IsHeld self.now }
     {
         self.tasks.get(name)
     }
 
-    /// Kind, owner, mode and size of an object: stat(2), lstat(2). It does not allocate.
+    /// Kind, owner, mode, size and mark of an object: stat(2), lstat(2). It does not allocate.
     #[inline(always)]
     pub fn stat(&self, name: &TaskName, object: Location) -> StatLine
         requires { Permits self.now name.now (ToStat (location_of object)) }
@@ -53,44 +53,33 @@ impl World {
     }
 
     /// The bytes of a file, or the text of a symlink: read(2), readlink(2).
-    ///
-    /// S5 (ENOMEM): an allocation failed.
     #[inline(always)]
-    pub fn read(&self, name: &TaskName, file: Location) -> Result<Vec<u8>, Deny>
+    pub fn read(&self, name: &TaskName, file: Location) -> Result<Vec<u8>, AllocError>
         requires { Permits self.now name.now (ToRead (location_of file)) }
         ensures ok { IfOk result (λ bytes. bytes.items
             ≡ bytes_in (node_at nat_eq (world_of self.now) (location_of file))) }
-        ensures memory { IfErr result (λ deny. deny ≡ denial S5) }
     {
         match self.node(file) {
-            Some(node) => {
-                copied_bytes(self.alloc, node.bytes()).map_err(|_error| Rule::S5.denial())
-            }
+            Some(node) => { copied_bytes(self.alloc, node.bytes()) }
             None => Ok(Vec::new(self.alloc)),
         }
     }
 
     /// The names of a directory, in the order of their bytes: readdir(3).
-    ///
-    /// S5 (ENOMEM): an allocation failed.
-    pub fn list(&self, name: &TaskName, directory: Location) -> Result<Vec<Vec<u8>>, Deny>
+    pub fn list(&self, name: &TaskName, directory: Location) -> Result<Vec<Vec<u8>>, AllocError>
         requires { Permits self.now name.now (ToList (location_of directory)) }
         ensures ok { IfOk result (λ names. map (λ name. name.items) names.items
             ≡ names_in (node_at nat_eq (world_of self.now) (location_of directory))) }
-        ensures memory { IfErr result (λ deny. deny ≡ denial S5) }
     {
         self.filesystems.list(directory.node)
     }
 
     /// At most `size` bytes of an open file from an offset on: pread(2). Past the end there are none.
-    ///
-    /// S5 (ENOMEM): an allocation failed.
     #[inline(always)]
-    pub fn read_part(&self, name: &TaskName, part: ToReadPart) -> Result<Vec<u8>, Deny>
+    pub fn read_part(&self, name: &TaskName, part: ToReadPart) -> Result<Vec<u8>, AllocError>
         requires { Permits self.now name.now (look_permit (ReadPart part)) }
         ensures ok { IfOk result (λ bytes. bytes.items ≡ take part.size
             (drop part.offset (bytes_in (node_at nat_eq (world_of self.now) (location_of part.file))))) }
-        ensures memory { IfErr result (λ deny. deny ≡ denial S5) }
     {
         self.filesystems
             .read_part(part.file.node, part.offset, part.size)

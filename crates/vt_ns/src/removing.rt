@@ -1,37 +1,31 @@
 //! The event that removes a directory: rmdir(2).
-ghost use Rattle.std.specs.Prelude.{◌≡◌, IfErr, IfOk, OnErr, OnOk, filter, flat_map, map};
+ghost use Rattle.std.specs.Prelude.{◌≡◌, IfOk, OnErr, OnOk, filter, flat_map, map};
 ghost use Rattle.vt_location.specs.Locations.{number_of};
-ghost use Rattle.vt_location.specs.Numbers.{counted};
+ghost use Rattle.vt_location.specs.Numbers.{mount_number};
 ghost use Rattle.vt_mount.specs.MountsValue.{mounts_in, stands_over};
-ghost use Rattle.vt_spec.specs.Errors.{denial};
-ghost use Rattle.vt_spec.specs.declared.errors.Rule.TheVariants.{S5};
 ghost use Rattle.vt_permits.specs.GrantValue.{remove_permit};
 ghost use Rattle.vt_permits.specs.declared.grant.RemoveGrant.TheVariants.{Directory};
 ghost use Rattle.vt_detach.specs.Detached.{tree_numbers};
 ghost use Rattle.vt_detach.specs.Events.{Becomes, Permits};
 
 use crate::world::World;
-use std::alloc::Global;
+use std::alloc::{AllocError, Global};
 use vt_detach::detaching::detach_together;
 use vt_location::{MountId, NodeRef};
 use vt_mount::Mounts;
 use vt_permits::ToRemoveDirectory;
 use vt_request::TaskName;
-use vt_spec::errors::{Deny, Rule};
 
 impl World {
     /// Removes an empty directory: rmdir(2). Mounts on it are detached with all their descendants. With its last use it
     /// goes.
-    ///
-    /// S5 (ENOMEM): an allocation failed.
     pub fn remove_directory(
         &mut self,
         name: &TaskName,
         removed: ToRemoveDirectory,
-    ) -> Result<(), Deny>
+    ) -> Result<(), AllocError>
         requires { Permits self.old name.now (remove_permit (Directory removed)) }
         ensures ok { OnOk result (Becomes self.old name.now (remove_permit (Directory removed)) self.new) }
-        ensures memory { IfErr result (λ deny. deny ≡ denial S5) }
         ensures err { OnErr result (self.new ≡ self.old) }
     {
         let directory = removed.directory.node;
@@ -51,18 +45,19 @@ impl World {
 }
 
 // The mounts on an inode, through whatever mount it is seen, with all their descendants.
-pub(crate) fn trees_on(mounts: &Mounts, inode: NodeRef, alloc: Global) -> Result<Vec<MountId>, Deny>
-    ensures ok { IfOk result (λ ids. map (λ id. counted id.count) ids.items
+pub(crate) fn trees_on(
+    mounts: &Mounts,
+    inode: NodeRef,
+    alloc: Global,
+) -> Result<Vec<MountId>, AllocError>
+    ensures ok { IfOk result (λ ids. map mount_number ids.items
         ≡ flat_map (tree_numbers (mounts_in mounts.now))
         (map (λ mount. mount.number) (filter (stands_over (number_of inode)) (mounts_in mounts.now)))) }
-    ensures memory { IfErr result (λ deny. deny ≡ denial S5) }
 {
     let mut all = Vec::new(alloc);
     for id in mounts.mounts_on(inode) {
         let tree = mounts.tree(*id)?;
-        if all.extend_from_slice(&tree).is_err() {
-            return Err(Rule::S5.denial());
-        }
+        all.extend_from_slice(&tree)?;
     }
     Ok(all)
 }

@@ -1,9 +1,7 @@
 //! The event that renames: rename(2).
-ghost use Rattle.std.specs.Prelude.{◌<◌, ◌≡◌, IfErr, IfOk, IfSome, OnErr, OnOk, map};
-ghost use Rattle.vt_location.specs.Numbers.{counted};
+ghost use Rattle.std.specs.Prelude.{◌<◌, ◌≡◌, IfOk, IfSome, OnErr, OnOk, map, ◌^◌};
+ghost use Rattle.vt_location.specs.Numbers.{mount_number};
 ghost use Rattle.vt_mount.specs.MountsValue.{mounts_in};
-ghost use Rattle.vt_spec.specs.Errors.{denial};
-ghost use Rattle.vt_spec.specs.declared.errors.Rule.TheVariants.{S5};
 ghost use Rattle.vt_permits.specs.GrantValue.{remove_permit};
 ghost use Rattle.vt_permits.specs.declared.grant.RemoveGrant.TheVariants.{Rename};
 ghost use Rattle.vt_detach.specs.Detached.{trees_of_replaced};
@@ -11,23 +9,19 @@ ghost use Rattle.vt_detach.specs.Events.{Becomes, Permits};
 
 use crate::removing::trees_on;
 use crate::world::World;
-use std::alloc::Global;
+use std::alloc::{AllocError, Global};
 use vt_detach::detaching::detach_together;
 use vt_location::{Location, MountId};
 use vt_mount::Mounts;
 use vt_permits::ToRename;
 use vt_request::TaskName;
-use vt_spec::errors::Deny;
 
 impl World {
     /// Renames an inode, and replaces what had the new name: rename(2). Mounts on what is replaced are detached with
     /// all their descendants.
-    ///
-    /// S5 (ENOMEM): an allocation failed.
-    pub fn rename(&mut self, name: &TaskName, renamed: ToRename) -> Result<(), Deny>
+    pub fn rename(&mut self, name: &TaskName, renamed: ToRename) -> Result<(), AllocError>
         requires { Permits self.old name.now (remove_permit (Rename renamed)) }
         ensures ok { OnOk result (Becomes self.old name.now (remove_permit (Rename renamed)) self.new) }
-        ensures memory { IfErr result (λ deny. deny ≡ denial S5) }
         ensures err { OnErr result (self.new ≡ self.old) }
     {
         let ToRename {
@@ -58,11 +52,10 @@ fn trees_replaced(
     mounts: &Mounts,
     replaced: Option<Location>,
     alloc: Global,
-) -> Result<Vec<MountId>, Deny>
-    ensures ok { IfOk result (λ ids. map (λ id. counted id.count) ids.items
+) -> Result<Vec<MountId>, AllocError>
+    ensures ok { IfOk result (λ ids. map mount_number ids.items
         ≡ trees_of_replaced (mounts_in mounts.now) replaced) }
-    ensures slot { IfSome replaced (λ other. other.node.slot < 18446744073709551616) }
-    ensures memory { IfErr result (λ deny. deny ≡ denial S5) }
+    ensures slot { IfSome replaced (λ other. other.node.slot < 2 ^ 64) }
 {
     match replaced {
         Some(other) => trees_on(mounts, other.node, alloc),

@@ -1,13 +1,11 @@
 //! Events that change mounts where they are: mount(2) with `MS_REMOUNT`, or with a propagation type.
-ghost use Rattle.std.specs.Prelude.{◌+◌, ◌<◌, ◌^◌, ◌||◌, ◌≡◌, IfErr, IfOk, OnErr, OnOk, false, length, map, nat_eq, true};
+ghost use Rattle.std.specs.Prelude.{◌+◌, ◌<◌, ◌^◌, ◌||◌, ◌≡◌, IfOk, OnErr, OnOk, false, length, map, nat_eq, true};
 ghost use Rattle.vt_cred.specs.MountFlags.{flags_of};
 ghost use Rattle.vt_group.specs.Together.{Shares, pair_of};
 ghost use Rattle.vt_location.specs.MountValue.{propagation_of};
-ghost use Rattle.vt_location.specs.Numbers.{counted};
+ghost use Rattle.vt_location.specs.Numbers.{counted, mount_number};
 ghost use Rattle.vt_retype.specs.Retyping.{retyped, shared_by};
 ghost use Rattle.vt_request.specs.Requests.{type_word_of};
-ghost use Rattle.vt_spec.specs.declared.errors.Rule.TheVariants.{S5};
-ghost use Rattle.vt_spec.specs.Errors.{denial};
 ghost use Rattle.vt_spec.specs.Machine.Permits as meant;
 ghost use Rattle.vt_spec.specs.Machine.Permits.Permit.{ToSetFlags};
 ghost use Rattle.vt_permits.specs.GrantValue.{mount_permit};
@@ -28,13 +26,12 @@ use vt_mount::Mounts;
 use vt_permits::ToSetType;
 use vt_request::{TaskName, TypeWord};
 use vt_retype::{leave_all, make_slaves, share};
-use vt_spec::errors::{Deny, Rule};
 
 impl World {
     /// Sets the flags of a mount: mount(2) with `MS_REMOUNT` and `MS_BIND`. It does not allocate.
     pub fn set_flags(&mut self, name: &TaskName, mount: MountId, flags: MountFlags)
-        requires { Permits self.old name.now (ToSetFlags (counted mount.count) (flags_of flags)) }
-        ensures { Becomes self.old name.now (ToSetFlags (counted mount.count) (flags_of flags)) self.new }
+        requires { Permits self.old name.now (ToSetFlags (mount_number mount) (flags_of flags)) }
+        ensures { Becomes self.old name.now (ToSetFlags (mount_number mount) (flags_of flags)) self.new }
     {
         self.mounts.set_flags(mount, flags);
     }
@@ -43,14 +40,13 @@ impl World {
     /// `MS_SLAVE`, `MS_PRIVATE` or `MS_UNBINDABLE`, and `MS_REC`. A mount that becomes shared and is in no peer group is
     /// the first member of a new one.
     ///
-    /// S5 (ENOMEM): an allocation failed, or no number is left. Nothing has changed then. One mount alone that does not
-    /// become shared does not allocate.
-    pub fn set_type(&mut self, name: &TaskName, change: ToSetType) -> Result<(), Deny>
+    /// It fails too where no number is left. Nothing has changed then. One mount alone that does not become shared does
+    /// not allocate.
+    pub fn set_type(&mut self, name: &TaskName, change: ToSetType) -> Result<(), AllocError>
         requires { Permits self.old name.now (mount_permit (SetType change)) }
         ensures ok { OnOk result (Becomes self.old name.now (mount_permit (SetType change)) self.new) }
         ensures counts { OnOk result (self.new.next ≡ counted_after (type_word_of change.word) self.old.next
-            (numbers_of (named_mounts nat_eq (world_of self.old) (counted change.mount.count) change.recursive))) }
-        ensures memory { IfErr result (λ deny. deny ≡ denial S5) }
+            (numbers_of (named_mounts nat_eq (world_of self.old) (mount_number change.mount) change.recursive))) }
         ensures err { OnErr result (self.new ≡ self.old) }
         ensures one { OnErr result ((change.recursive || makes_shared (mount_permit (SetType change))) ≡ true) }
     {
@@ -72,7 +68,7 @@ impl World {
 
 // Mounts become shared; or slaves, private or unbindable, and leave their groups. It tells what is counted next.
 //
-// S5 (ENOMEM): an allocation failed, or no number is left. Nothing has changed then. Only shared mounts take memory.
+// It fails too where no number is left. Nothing has changed then. Only shared mounts allocate.
 fn change_types(
     alloc: Global,
     mounts: &mut Mounts,
@@ -80,10 +76,9 @@ fn change_types(
     ids: &[MountId],
     word: TypeWord,
     next: u64,
-) -> Result<u64, Deny>
+) -> Result<u64, AllocError>
     ensures ok { IfOk result (λ later. IsRetyped (type_word_of word) next later
-        (map (λ id. counted id.count) ids.now) groups.old groups.new mounts.old mounts.new) }
-    ensures memory { IfErr result (λ deny. deny ≡ denial S5) }
+        (map mount_number ids.now) groups.old groups.new mounts.old mounts.new) }
     ensures groups_err { OnErr result (groups.new ≡ groups.old) }
     ensures mounts_err { OnErr result (mounts.new ≡ mounts.old) }
     ensures shared { OnErr result (makes_shared (meant.Permit.ToSetType 0 (type_word_of word) false) ≡ true) }
@@ -106,29 +101,26 @@ fn change_types(
 // Mounts become shared, each that is in no group as the first member of a new one. The groups are numbered from the next
 // count on, one for each mount. It tells what is counted next.
 //
-// S5 (ENOMEM): an allocation failed, or no number is left. Nothing has changed then.
+// It fails too where no number is left. Nothing has changed then.
 fn share_all(
     alloc: Global,
     mounts: &mut Mounts,
     groups: &mut Groups,
     ids: &[MountId],
     next: u64,
-) -> Result<u64, Deny>
+) -> Result<u64, AllocError>
     ensures groups_ok { OnOk result
-        (Shares groups.old groups.new (with_counts next (map (λ id. counted id.count) ids.now))) }
+        (Shares groups.old groups.new (with_counts next (map mount_number ids.now))) }
     ensures types_ok { OnOk result (mounts.new
-        ≡ map (shared_by groups.new (map (λ id. counted id.count) ids.now)) mounts.old) }
+        ≡ map (shared_by groups.new (map mount_number ids.now)) mounts.old) }
     ensures count { IfOk result (λ later. later ≡ next + length ids.now) }
-    ensures memory { IfErr result (λ deny. deny ≡ denial S5) }
     ensures groups_err { OnErr result (groups.new ≡ groups.old) }
     ensures mounts_err { OnErr result (mounts.new ≡ mounts.old) }
 {
     let Some(later) = next.checked_add(ids.len() as u64) else {
-        return Err(Rule::S5.denial());
+        return Err(AllocError);
     };
-    let Ok(named) = new_groups(alloc, ids, next) else {
-        return Err(Rule::S5.denial());
-    };
+    let named = new_groups(alloc, ids, next)?;
     share(mounts, groups, &named)?;
     Ok(later)
 }
@@ -141,7 +133,7 @@ fn new_groups(
 ) -> Result<Vec<(MountId, GroupId)>, AllocError>
     requires { next + length ids.now < 2 ^ 64 }
     ensures { IfOk result (λ named.
-        map pair_of named.items ≡ with_counts next (map (λ id. counted id.count) ids.now)) }
+        map pair_of named.items ≡ with_counts next (map mount_number ids.now)) }
 {
     let mut named = Vec::new(alloc);
     for (index, id) in ids.iter().enumerate() {
@@ -153,7 +145,7 @@ fn new_groups(
 // All these mounts get a type. It does not allocate.
 fn set_all(mounts: &mut Mounts, ids: &[MountId], kind: Propagation)
     ensures { mounts.new ≡ map (retyped
-        (set_if (map (λ id. counted id.count) ids.now) (propagation_of kind))) mounts.old }
+        (set_if (map mount_number ids.now) (propagation_of kind))) mounts.old }
 {
     for id in ids {
         mounts.set_propagation(*id, kind);

@@ -1,12 +1,10 @@
 //! Events of tasks: umask(2), capset(2), chdir(2), chroot(2), open(2), close(2).
-ghost use Rattle.std.specs.Prelude.{◌≡◌, IfErr, IfOk, IsOk, OnErr, OnOk, Some, option_map};
+ghost use Rattle.std.specs.Prelude.{◌≡◌, IfOk, IsOk, OnErr, OnOk, Some, option_map};
 ghost use Rattle.vt_request.specs.Requests.{access_of};
 ghost use Rattle.vt_spec.specs.Machine.Descriptors.{free_number};
 ghost use Rattle.vt_spec.specs.Machine.World.{task_called};
 ghost use Rattle.vt_world.specs.WorldValue.{world_of};
 ghost use Rattle.vt_location.specs.Locations.{location_of};
-ghost use Rattle.vt_spec.specs.declared.errors.Rule.TheVariants.{S5};
-ghost use Rattle.vt_spec.specs.Errors.{denial};
 ghost use Rattle.vt_cred.specs.Caps.{capability_bits};
 ghost use Rattle.vt_spec.specs.Machine.Tasks.{with_dropped};
 ghost use Rattle.vt_spec.specs.Machine.Permits.Permit.{ToClose, ToOpen, ToSetCredentials, ToSetDirectory, ToSetRoot, ToSetUmask};
@@ -15,11 +13,11 @@ ghost use Rattle.vt_detach.specs.Forking.{HasRoom};
 
 use crate::forking::{has_room, hold_once_more};
 use crate::world::World;
+use std::alloc::AllocError;
 use vt_cred::{Caps, Mode};
 use vt_detach::uses::{hold, leave};
 use vt_location::Location;
 use vt_request::{Access, TaskName};
-use vt_spec::errors::{Deny, Rule};
 use vt_tasks::OpenFile;
 
 impl World {
@@ -42,14 +40,13 @@ impl World {
         self.tasks.drop_caps(name, dropped);
     }
 
-    /// Sets the working directory of a task: chdir(2). It does not allocate.
+    /// Sets the working directory of a task: chdir(2).
     ///
-    /// S5 (ENOMEM): the mount or the inode has 2^64 - 1 uses.
-    pub fn set_directory(&mut self, name: &TaskName, directory: Location) -> Result<(), Deny>
+    /// It does not allocate: an error says that the mount or the inode has 2^64 - 1 uses.
+    pub fn set_directory(&mut self, name: &TaskName, directory: Location) -> Result<(), AllocError>
         requires { Permits self.old name.now (ToSetDirectory (location_of directory)) }
         ensures ok { OnOk result (Becomes self.old name.now (ToSetDirectory (location_of directory)) self.new) }
         ensures room { HasRoom 1 directory self.old.mounts self.old.filesystems → IsOk result }
-        ensures memory { IfErr result (λ deny. deny ≡ denial S5) }
         ensures err { OnErr result (self.new ≡ self.old) }
     {
         hold(&mut self.mounts, &mut self.filesystems, directory, false)?;
@@ -59,14 +56,13 @@ impl World {
         Ok(())
     }
 
-    /// Sets the root of a task: chroot(2). It does not allocate.
+    /// Sets the root of a task: chroot(2).
     ///
-    /// S5 (ENOMEM): the mount or the inode has 2^64 - 1 uses.
-    pub fn set_root(&mut self, name: &TaskName, root: Location) -> Result<(), Deny>
+    /// It does not allocate: an error says that the mount or the inode has 2^64 - 1 uses.
+    pub fn set_root(&mut self, name: &TaskName, root: Location) -> Result<(), AllocError>
         requires { Permits self.old name.now (ToSetRoot (location_of root)) }
         ensures ok { OnOk result (Becomes self.old name.now (ToSetRoot (location_of root)) self.new) }
         ensures room { HasRoom 1 root self.old.mounts self.old.filesystems → IsOk result }
-        ensures memory { IfErr result (λ deny. deny ≡ denial S5) }
         ensures err { OnErr result (self.new ≡ self.old) }
     {
         hold(&mut self.mounts, &mut self.filesystems, root, false)?;
@@ -81,7 +77,6 @@ impl World {
         requires { Permits self.old name.now (ToClose descriptor) }
         ensures { Becomes self.old name.now (ToClose descriptor) self.new }
     {
-        self.tasks.files_are_in_order();
         if let Some(closed) = self.tasks.close(name, descriptor) {
             leave(
                 &mut self.mounts,
@@ -94,17 +89,21 @@ impl World {
 
     /// Opens a file of a task under the least number that is free, and tells that number: open(2).
     ///
-    /// S5 (ENOMEM): an allocation failed, or the mount or the inode has 2^64 - 1 uses.
-    pub fn open(&mut self, name: &TaskName, file: Location, access: Access) -> Result<u8, Deny>
+    /// It fails too where the mount or the inode has 2^64 - 1 uses.
+    pub fn open(
+        &mut self,
+        name: &TaskName,
+        file: Location,
+        access: Access,
+    ) -> Result<u8, AllocError>
         requires { Permits self.old name.now (ToOpen (location_of file) (access_of access)) }
         ensures number { IfOk result (λ number.
             Some number ≡ option_map free_number (task_called (world_of self.old) name.now)) }
         ensures ok { OnOk result (Becomes self.old name.now (ToOpen (location_of file) (access_of access)) self.new) }
-        ensures memory { IfErr result (λ deny. deny ≡ denial S5) }
         ensures err { OnErr result (self.new ≡ self.old) }
     {
         if !has_room(1, &self.mounts, &self.filesystems, file) {
-            return Err(Rule::S5.denial());
+            return Err(AllocError);
         }
         let opened = OpenFile {
             location: file,

@@ -1,11 +1,9 @@
 //! Trees of mounts: mount(2) with `MS_BIND` and `MS_REC`.
-ghost use Rattle.std.specs.Prelude.{◌≡◌, ◌++◌, ◌∷◌, [], IfErr, IfOk, OnOk, filter, flat_map, length, map, nat_eq, true};
+ghost use Rattle.std.specs.Prelude.{◌≡◌, ◌++◌, ◌∷◌, [], IfOk, OnOk, filter, flat_map, length, map, nat_eq, true};
 ghost use Rattle.vt_location.specs.Locations.{location_of};
 ghost use Rattle.vt_location.specs.MountValue.{mount_of};
-ghost use Rattle.vt_location.specs.Numbers.{counted};
+ghost use Rattle.vt_location.specs.Numbers.{mount_number};
 ghost use Rattle.vt_mount.specs.MountsValue.{mounts_in};
-ghost use Rattle.vt_spec.specs.declared.errors.Rule.TheVariants.{S5};
-ghost use Rattle.vt_spec.specs.Errors.{denial};
 ghost use Rattle.vt_spec.specs.Machine.Attach as meant;
 ghost use Rattle.vt_spec.specs.Machine.Attach.{bindable_children, bindable_tree};
 ghost use Rattle.vt_spec.specs.Machine.Mounts as meant_mounts;
@@ -19,7 +17,6 @@ use std::alloc::AllocError;
 use vt_attach::bound::bound_mounts;
 use vt_location::{Location, Mount, MountId};
 use vt_looks::Look;
-use vt_spec::errors::{Deny, Rule};
 
 // A mount whose tree is still to be walked, and how deep that tree may be.
 #[derive(Clone, Copy, Debug)]
@@ -31,39 +28,12 @@ struct Branch {
 impl World {
     /// The mounts that a bind copies, each before its children: that of the source, and if the bind is recursive those
     /// at or under the source with all their descendants, without unbindable mounts and what is below them.
-    ///
-    /// S5 (ENOMEM): an allocation failed.
-    pub(crate) fn bind_tree(&self, source: Location, recursive: bool) -> Result<Vec<MountId>, Deny>
-        ensures ok { IfOk result (λ tree. map (λ id. counted id.count) tree.items
-            ≡ map (λ mount. mount.number) (meant.bind_tree nat_eq (world_of self.now) (location_of source) recursive)) }
-        ensures memory { IfErr result (λ deny. deny ≡ denial S5) }
-    {
-        let Ok(tree) = self.bound_tree(source, recursive) else {
-            return Err(Rule::S5.denial());
-        };
-        Ok(tree)
-    }
-
-    /// The mounts that a bind copies, as it copies them: with the source as the root of that on which it lies.
-    ///
-    /// S5 (ENOMEM): an allocation failed.
-    pub(crate) fn mounts_bound(&self, source: Location, recursive: bool) -> Result<Vec<Mount>, Deny>
-        requires { is_located_well nat_eq (world_of self.now) (location_of source) ≡ true }
-        ensures ok { IfOk result (λ tree. map mount_of tree.items
-            ≡ meant.bind_tree nat_eq (world_of self.now) (location_of source) recursive) }
-        ensures memory { IfErr result (λ deny. deny ≡ denial S5) }
-    {
-        self.mounts.are_ascending();
-        let origins = self.bind_tree(source, recursive)?;
-        let Ok(tree) = bound_mounts(self.alloc, &self.mounts, &origins, source) else {
-            return Err(Rule::S5.denial());
-        };
-        Ok(tree)
-    }
-
-    // The mounts that a bind copies. No tree is deeper than there are mounts.
-    fn bound_tree(&self, source: Location, recursive: bool) -> Result<Vec<MountId>, AllocError>
-        ensures { IfOk result (λ tree. map (λ id. counted id.count) tree.items
+    pub(crate) fn bind_tree(
+        &self,
+        source: Location,
+        recursive: bool,
+    ) -> Result<Vec<MountId>, AllocError>
+        ensures ok { IfOk result (λ tree. map mount_number tree.items
             ≡ map (λ mount. mount.number) (meant.bind_tree nat_eq (world_of self.now) (location_of source) recursive)) }
     {
         let mut tree = Vec::new(self.alloc);
@@ -80,13 +50,28 @@ impl World {
         Ok(tree)
     }
 
+    /// The mounts that a bind copies, as it copies them: with the source as the root of that on which it lies.
+    pub(crate) fn mounts_bound(
+        &self,
+        source: Location,
+        recursive: bool,
+    ) -> Result<Vec<Mount>, AllocError>
+        requires { is_located_well nat_eq (world_of self.now) (location_of source) ≡ true }
+        ensures ok { IfOk result (λ tree. map mount_of tree.items
+            ≡ meant.bind_tree nat_eq (world_of self.now) (location_of source) recursive) }
+    {
+        self.mounts.are_ascending();
+        let origins = self.bind_tree(source, recursive)?;
+        bound_mounts(self.alloc, &self.mounts, &origins, source)
+    }
+
     // Puts the mounts at or under a source on a stack, the last one first.
     fn push_bound(&self, waiting: &mut Vec<Branch>, source: Location) -> Result<(), AllocError>
         ensures { OnOk result (bindable_to_come (mounts_in self.now.mounts) waiting.new.items
             ≡ map (λ mount. mount.number)
             (flat_map (bindable_tree nat_eq (length (mounts_in self.now.mounts)) (mounts_in self.now.mounts))
             (filter (meant.stands_under nat_eq (world_of self.now) (location_of source))
-            (bindable_children nat_eq (mounts_in self.now.mounts) (counted source.mount.count))))
+            (bindable_children nat_eq (mounts_in self.now.mounts) (mount_number source.mount))))
             ++ bindable_to_come (mounts_in self.now.mounts) waiting.old.items) }
     {
         let depth = self.mounts.len();
@@ -106,7 +91,7 @@ impl World {
     // Puts the children of a mount that are not unbindable on a stack, unless its tree ends with it.
     fn push_bindable(&self, waiting: &mut Vec<Branch>, branch: Branch) -> Result<(), AllocError>
         ensures { OnOk result (bindable_to_come (mounts_in self.now.mounts) (waiting.old.items ++ branch ∷ [])
-            ≡ counted branch.mount.count ∷ bindable_to_come (mounts_in self.now.mounts) waiting.new.items) }
+            ≡ mount_number branch.mount ∷ bindable_to_come (mounts_in self.now.mounts) waiting.new.items) }
     {
         if branch.depth == 0 {
             return Ok(());
@@ -128,7 +113,7 @@ impl World {
     /// Whether a mount is unbindable.
     pub(crate) fn is_unbindable(&self, mount: MountId) -> bool
         ensures { result
-            ≡ meant_mounts.is_unbindable (mount_numbered nat_eq (world_of self.now) (counted mount.count)).propagation }
+            ≡ meant_mounts.is_unbindable (mount_numbered nat_eq (world_of self.now) (mount_number mount)).propagation }
     {
         self.mounts.is_unbindable(mount)
     }
@@ -136,7 +121,7 @@ impl World {
     // Whether the mount point of a mount is a source or lies under it.
     fn stands_under(&self, source: Location, mount: MountId) -> bool
         ensures { result ≡ meant.stands_under nat_eq (world_of self.now) (location_of source)
-            (mount_numbered nat_eq (world_of self.now) (counted mount.count)) }
+            (mount_numbered nat_eq (world_of self.now) (mount_number mount)) }
     {
         let Some(mount) = self.mounts.get(mount) else {
             return false;

@@ -1,20 +1,19 @@
 //! Events in which mounts leave their namespaces: umount(2).
-ghost use Rattle.std.specs.Prelude.{◌≡◌, ◌&&◌, IfErr, IsOk, OnErr, OnOk, map, nat_eq, not, true};
+ghost use Rattle.std.specs.Prelude.{◌≡◌, ◌&&◌, IsOk, OnErr, OnOk, map, nat_eq, not, true};
 ghost use Rattle.std.specs.List.Sorted.{IsPermutation};
 ghost use Rattle.vt_location.specs.MountValue.{propagation_of};
-ghost use Rattle.vt_location.specs.Numbers.{counted};
+ghost use Rattle.vt_location.specs.Numbers.{mount_number};
 ghost use Rattle.vt_mount.specs.MountsValue.{mounts_in};
 ghost use Rattle.vt_spec.specs.Machine.Mounts.{is_shared, mount_in};
 ghost use Rattle.vt_ns.specs.Unmounting.{GoTogether, are_ungrouped, stands_on_shared, unmounts_alone};
 ghost use Rattle.vt_detach.specs.Detached.{tree_numbers};
 ghost use Rattle.vt_detach.specs.Uses.{kept};
-ghost use Rattle.vt_spec.specs.declared.errors.Rule.TheVariants.{S5};
-ghost use Rattle.vt_spec.specs.Errors.{denial};
 ghost use Rattle.vt_spec.specs.Machine.Permits.Permit.{ToUnmount, ToUnmountLazily};
 ghost use Rattle.vt_detach.specs.Events.{Becomes, Permits};
 ghost use Rattle.vt_laws_permits.specs.Taken.{is_ungrouped};
 
 use crate::world::World;
+use std::alloc::AllocError;
 use vt_attach::planned::{Planned, attach_planned};
 use vt_detach::detaching::{detach, detach_each, detach_together};
 use vt_fs::Filesystems;
@@ -23,19 +22,17 @@ use vt_location::{MountId, Propagation};
 use vt_mount::Mounts;
 use vt_propagate::Detachment;
 use vt_request::TaskName;
-use vt_spec::errors::Deny;
 
 impl World {
     /// Detaches a mount on which no other stands, and at each receiver of its parent the mount at the same place,
     /// unless others stand on that one; a single one that covers its root takes its place: umount(2). What is detached
     /// goes, as nothing is on it. Where the mount is in no peer group and its parent is not shared, it does not allocate.
     ///
-    /// S5 (ENOMEM): an allocation failed, or an inode would have more than 2^64 - 1 uses.
-    pub fn unmount(&mut self, name: &TaskName, mount: MountId) -> Result<(), Deny>
-        requires { Permits self.old name.now (ToUnmount (counted mount.count)) }
-        ensures ok { OnOk result (Becomes self.old name.now (ToUnmount (counted mount.count)) self.new) }
-        ensures alone { unmounts_alone (mounts_in self.old.mounts) (counted mount.count) ≡ true → IsOk result }
-        ensures memory { IfErr result (λ deny. deny ≡ denial S5) }
+    /// It fails too where an inode would have more than 2^64 - 1 uses.
+    pub fn unmount(&mut self, name: &TaskName, mount: MountId) -> Result<(), AllocError>
+        requires { Permits self.old name.now (ToUnmount (mount_number mount)) }
+        ensures ok { OnOk result (Becomes self.old name.now (ToUnmount (mount_number mount)) self.new) }
+        ensures alone { unmounts_alone (mounts_in self.old.mounts) (mount_number mount) ≡ true → IsOk result }
         ensures err { OnErr result (self.new ≡ self.old) }
     {
         if self.is_alone(mount) {
@@ -47,25 +44,24 @@ impl World {
 
     // Whether a mount is in no peer group, and its parent is not shared.
     fn is_alone(&self, mount: MountId) -> bool
-        ensures { result ≡ unmounts_alone (mounts_in self.now.mounts) (counted mount.count) }
+        ensures { result ≡ unmounts_alone (mounts_in self.now.mounts) (mount_number mount) }
     {
         is_in_no_group(type_of(&self.mounts, mount)) && !stands_on_shared(&self.mounts, mount)
     }
 
     // Detaches such a mount.
     fn unmount_alone(&mut self, name: &TaskName, mount: MountId)
-        requires permitted { Permits self.old name.now (ToUnmount (counted mount.count)) }
-        requires alone { unmounts_alone (mounts_in self.old.mounts) (counted mount.count) ≡ true }
-        ensures { Becomes self.old name.now (ToUnmount (counted mount.count)) self.new }
+        requires permitted { Permits self.old name.now (ToUnmount (mount_number mount)) }
+        requires alone { unmounts_alone (mounts_in self.old.mounts) (mount_number mount) ≡ true }
+        ensures { Becomes self.old name.now (ToUnmount (mount_number mount)) self.new }
     {
         detach(&mut self.mounts, &mut self.filesystems, mount);
     }
 
     // Detaches a mount, and those at the receivers of its parent.
-    fn unmount_everywhere(&mut self, name: &TaskName, mount: MountId) -> Result<(), Deny>
-        requires { Permits self.old name.now (ToUnmount (counted mount.count)) }
-        ensures ok { OnOk result (Becomes self.old name.now (ToUnmount (counted mount.count)) self.new) }
-        ensures memory { IfErr result (λ deny. deny ≡ denial S5) }
+    fn unmount_everywhere(&mut self, name: &TaskName, mount: MountId) -> Result<(), AllocError>
+        requires { Permits self.old name.now (ToUnmount (mount_number mount)) }
+        ensures ok { OnOk result (Becomes self.old name.now (ToUnmount (mount_number mount)) self.new) }
         ensures err { OnErr result (self.new ≡ self.old) }
     {
         let mut plan = vt_propagate::unmount(self.alloc, &self.mounts, &self.groups, mount)?;
@@ -80,11 +76,10 @@ impl World {
     /// umount(2) with `MNT_DETACH`. Each goes with its last use. Where none of the tree is in a peer group, and the
     /// top's parent is not shared, it allocates no more than a list of the tree.
     ///
-    /// S5 (ENOMEM): an allocation failed, or an inode would have more than 2^64 - 1 uses.
-    pub fn unmount_lazily(&mut self, name: &TaskName, mount: MountId) -> Result<(), Deny>
-        requires { Permits self.old name.now (ToUnmountLazily (counted mount.count)) }
-        ensures ok { OnOk result (Becomes self.old name.now (ToUnmountLazily (counted mount.count)) self.new) }
-        ensures memory { IfErr result (λ deny. deny ≡ denial S5) }
+    /// It fails too where an inode would have more than 2^64 - 1 uses.
+    pub fn unmount_lazily(&mut self, name: &TaskName, mount: MountId) -> Result<(), AllocError>
+        requires { Permits self.old name.now (ToUnmountLazily (mount_number mount)) }
+        ensures ok { OnOk result (Becomes self.old name.now (ToUnmountLazily (mount_number mount)) self.new) }
         ensures err { OnErr result (self.new ≡ self.old) }
     {
         let tree = self.mounts.tree(mount)?;
@@ -97,29 +92,32 @@ impl World {
 
     // Whether no mount of a tree is in a peer group, and the parent of its top is not shared.
     fn is_tree_alone(&self, top: MountId, tree: &[MountId]) -> bool
-        ensures { result ≡ are_ungrouped (mounts_in self.now.mounts) (map (λ id. counted id.count) tree.now)
-            && not (stands_on_shared (mounts_in self.now.mounts) (counted top.count)) }
+        ensures { result ≡ are_ungrouped (mounts_in self.now.mounts) (map mount_number tree.now)
+            && not (stands_on_shared (mounts_in self.now.mounts) (mount_number top)) }
     {
         are_in_no_group(&self.mounts, tree) && !stands_on_shared(&self.mounts, top)
     }
 
     // Detaches the mounts of such a tree.
     fn unmount_tree_alone(&mut self, name: &TaskName, mount: MountId, tree: &[MountId])
-        requires permitted { Permits self.old name.now (ToUnmountLazily (counted mount.count)) }
-        requires tree { map (λ id. counted id.count) tree.now
-            ≡ tree_numbers (mounts_in self.old.mounts) (counted mount.count) }
-        requires alone { (are_ungrouped (mounts_in self.old.mounts) (map (λ id. counted id.count) tree.now)
-            && not (stands_on_shared (mounts_in self.old.mounts) (counted mount.count))) ≡ true }
-        ensures { Becomes self.old name.now (ToUnmountLazily (counted mount.count)) self.new }
+        requires permitted { Permits self.old name.now (ToUnmountLazily (mount_number mount)) }
+        requires tree { map mount_number tree.now
+            ≡ tree_numbers (mounts_in self.old.mounts) (mount_number mount) }
+        requires alone { (are_ungrouped (mounts_in self.old.mounts) (map mount_number tree.now)
+            && not (stands_on_shared (mounts_in self.old.mounts) (mount_number mount))) ≡ true }
+        ensures { Becomes self.old name.now (ToUnmountLazily (mount_number mount)) self.new }
     {
         detach_each(&mut self.mounts, &mut self.filesystems, tree);
     }
 
     // Detaches the mounts of a tree, and those that propagation detaches with them.
-    fn unmount_lazily_everywhere(&mut self, name: &TaskName, mount: MountId) -> Result<(), Deny>
-        requires { Permits self.old name.now (ToUnmountLazily (counted mount.count)) }
-        ensures ok { OnOk result (Becomes self.old name.now (ToUnmountLazily (counted mount.count)) self.new) }
-        ensures memory { IfErr result (λ deny. deny ≡ denial S5) }
+    fn unmount_lazily_everywhere(
+        &mut self,
+        name: &TaskName,
+        mount: MountId,
+    ) -> Result<(), AllocError>
+        requires { Permits self.old name.now (ToUnmountLazily (mount_number mount)) }
+        ensures ok { OnOk result (Becomes self.old name.now (ToUnmountLazily (mount_number mount)) self.new) }
         ensures err { OnErr result (self.new ≡ self.old) }
     {
         let mut plan = vt_propagate::unmount_lazily(self.alloc, &self.mounts, &self.groups, mount)?;
@@ -137,10 +135,9 @@ fn take_away(
     groups: &mut Groups,
     filesystems: &mut Filesystems,
     plan: &Detachment,
-) -> Result<(), Deny>
-    ensures ok { OnOk result (GoTogether (map (λ id. counted id.count) plan.now.gone.items) plan.now.points.items
+) -> Result<(), AllocError>
+    ensures ok { OnOk result (GoTogether (map mount_number plan.now.gone.items) plan.now.points.items
         (kept mounts.old filesystems.old) groups.old (kept mounts.new filesystems.new) groups.new) }
-    ensures memory { IfErr result (λ deny. deny ≡ denial S5) }
     ensures err_mounts { OnErr result (mounts.new ≡ mounts.old) }
     ensures err_groups { OnErr result (groups.new ≡ groups.old) }
     ensures err_filesystems { OnErr result (filesystems.new ≡ filesystems.old) }
@@ -166,7 +163,7 @@ fn newest_first(plan: &mut Detachment)
 
 // Whether none of these mounts is in a peer group.
 fn are_in_no_group(mounts: &Mounts, ids: &[MountId]) -> bool
-    ensures { result ≡ are_ungrouped (mounts_in mounts.now) (map (λ id. counted id.count) ids.now) }
+    ensures { result ≡ are_ungrouped (mounts_in mounts.now) (map mount_number ids.now) }
 {
     for id in ids {
         if !is_in_no_group(type_of(mounts, *id)) {
@@ -178,7 +175,7 @@ fn are_in_no_group(mounts: &Mounts, ids: &[MountId]) -> bool
 
 // The type of a mount.
 pub(crate) fn type_of(mounts: &Mounts, id: MountId) -> Propagation
-    ensures { propagation_of result ≡ (mount_in nat_eq (mounts_in mounts.now) (counted id.count)).propagation }
+    ensures { propagation_of result ≡ (mount_in nat_eq (mounts_in mounts.now) (mount_number id)).propagation }
 {
     match mounts.get(id) {
         Some(mount) => mount.propagation,
@@ -208,7 +205,7 @@ pub(crate) fn is_member(kind: Propagation) -> bool
 
 // Whether a mount stands on one that is shared.
 fn stands_on_shared(mounts: &Mounts, id: MountId) -> bool
-    ensures { result ≡ stands_on_shared (mounts_in mounts.now) (counted id.count) }
+    ensures { result ≡ stands_on_shared (mounts_in mounts.now) (mount_number id) }
 {
     let Some(mount) = mounts.get(id) else {
         return false;

@@ -1,16 +1,14 @@
 //! Tasks get namespaces of their own: unshare(2) with `CLONE_NEWNS`.
-ghost use Rattle.std.specs.Prelude.{◌≡◌, ◌+◌, ◌*◌, ◌≤◌, IfErr, OnErr, OnOk, length};
-ghost use Rattle.vt_spec.specs.declared.errors.Rule.TheVariants.{S5};
-ghost use Rattle.vt_spec.specs.Errors.{denial};
+ghost use Rattle.std.specs.Prelude.{◌≡◌, ◌+◌, ◌*◌, ◌≤◌, OnErr, OnOk, length};
 ghost use Rattle.vt_spec.specs.Machine.Permits.Permit.{ToUnshare};
 ghost use Rattle.vt_detach.specs.Events.{Becomes, Permits};
 
 use crate::world::World;
+use std::alloc::AllocError;
 use vt_attach::copying::{attach_copies, move_use, moved};
 use vt_detach::ending::leave_namespace;
 use vt_location::NamespaceId;
 use vt_request::TaskName;
-use vt_spec::errors::{Deny, Rule};
 use vt_world::namespaces::Namespace;
 
 impl World {
@@ -18,13 +16,11 @@ impl World {
     /// task. Its root and its working directory go along, and the copies of shared mounts are in their peer groups:
     /// unshare(2) with `CLONE_NEWNS`.
     ///
-    /// S5 (ENOMEM): an allocation failed, no number is left, or an inode or a filesystem would have more than 2^64 - 1
-    /// uses.
-    pub fn unshare(&mut self, name: &TaskName) -> Result<(), Deny>
+    /// It fails too where no number is left, or an inode or a filesystem would have more than 2^64 - 1 uses.
+    pub fn unshare(&mut self, name: &TaskName) -> Result<(), AllocError>
         requires { Permits self.old name.now ToUnshare }
         ensures ok { OnOk result (Becomes self.old name.now ToUnshare self.new) }
         ensures counts { OnOk result (self.new.next ≤ self.old.next + 2 * length self.old.mounts) }
-        ensures memory { IfErr result (λ deny. deny ≡ denial S5) }
         ensures err { OnErr result (self.new ≡ self.old) }
     {
         self.mounts.are_counted();
@@ -33,7 +29,7 @@ impl World {
         let taken = 2 * self.mounts.attached_in(left).len() as u64;
         let next = self.next;
         if next >= u64::MAX - 1 - taken || self.namespaces.reserve(1).is_err() {
-            return Err(Rule::S5.denial());
+            return Err(AllocError);
         }
         let mounts = &mut self.mounts;
         let groups = &mut self.groups;

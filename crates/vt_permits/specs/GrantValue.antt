@@ -1,6 +1,6 @@
 -- What the definitions see of the code's grants: each is one of their permits.
 use Rattle.std.specs.Prelude.{option_map, ℕ}
-use Rattle.vt_spec.specs.Language.Changes.Change.{AddName, Remove, SetAttr, SetBytes}
+use Rattle.vt_spec.specs.Language.Changes.Change.{AddName, Remove, SetAttr, SetBytes, SetMark}
 use Rattle.vt_spec.specs.Machine.Tasks.{with_dropped}
 use Rattle.vt_spec.specs.Machine.Permits.{Permit}
 use Rattle.vt_spec.specs.Machine.Permits.Permit.{Allowed, ToBind, ToChange, ToClose, ToEnterNamespace, ToExit, ToFork, ToList, ToListMounts, ToMake, ToMountPlain, ToMove, ToOpen, ToOpenNew, ToRead, ToReadPart, ToRemoveDirectory, ToRename, ToSetCredentials, ToSetDirectory, ToSetFlags, ToSetRoot, ToSetType, ToSetUmask, ToStat, ToUnmount, ToUnmountLazily, ToUnshare, ToWritePart}
@@ -63,11 +63,13 @@ remove_permit (remove.Rename renamed) =
     ToRename (location_of renamed.from) renamed.old.items (location_of renamed.to) renamed.new.items
     (location_of renamed.object) (option_map location_of renamed.replaced)
 
--- to change the content, the owner and the mode of files
+-- to change the content, the owner and the mode of objects, and the mark of directories
 abbrev pub write_permit : WriteGrant → Permit ℕ
 write_permit (write.Content file bytes) = ToChange (location_of file) (SetBytes (number_of file.node) bytes.items)
 write_permit (write.Part part) = ToWritePart (location_of part.file) part.offset part.bytes.items
 write_permit (write.Attr object attr) = ToChange (location_of object) (SetAttr (number_of object.node) attr)
+write_permit (write.Mark directory opaque) =
+    ToChange (location_of directory) (SetMark (number_of directory.node) opaque)
 
 -- to open and close files
 abbrev pub descriptor_permit : DescriptorGrant → Permit ℕ

@@ -45,7 +45,7 @@ pub struct ToReadPart {
 /// A directory gets a name.
 #[derive(Debug, Drop)]
 pub enum MakeGrant {
-    /// mkdir(2), symlink(2), and open(2) with `O_CREAT` before write(2)
+    /// mkdir(2), symlink(2), mknod(2), and open(2) with `O_CREAT` before write(2)
     Node(ToMake),
     /// link(2)
     Link(ToLink),
@@ -105,7 +105,7 @@ pub struct ToRename {
     pub replaced: Option<Location>,
 }
 
-/// A file gets another content, owner or mode.
+/// An object gets another content, owner or mode, or a directory another mark.
 #[derive(Debug, Drop)]
 pub enum WriteGrant {
     /// The whole content: write(2) after open(2) with `O_TRUNC`.
@@ -114,6 +114,8 @@ pub enum WriteGrant {
     Part(ToWritePart),
     /// chmod(2), chown(2)
     Attr { object: Location, attr: Attr },
+    /// setxattr(2) of `trusted.overlay.opaque`
+    Mark { directory: Location, opaque: bool },
 }
 
 /// pwrite(2)

@@ -1,16 +1,16 @@
-//! Calls that set attributes: chmod(2), chown(2).
+//! Calls that set attributes and marks: chmod(2), chown(2), setxattr(2).
 ghost use Rattle.std.specs.Prelude.{nat_eq};
-ghost use Rattle.vt_spec.specs.Machine.Judge.{chmod_permit, chown_permit};
+ghost use Rattle.vt_spec.specs.Machine.Judge.{chmod_permit, chown_permit, opaque_permit};
 ghost use Rattle.vt_permits.specs.Memory.{JudgesAlike};
 ghost use Rattle.vt_tasks.specs.TaskValue.{task_of};
 
-use crate::paths::object_at;
-use vt_cred::{Mode, owns};
+use crate::paths::{directory_at, object_at};
+use vt_cred::{Caps, Mode, owns};
 use vt_looks::Look;
 use vt_node::Attr;
-use vt_permits::Grant;
-use vt_rules::{attr_at, attr_permit, may_chown};
-use vt_spec::errors::Deny;
+use vt_permits::{Grant, WriteGrant};
+use vt_rules::{attr_at, attr_permit, lacks, may_chown, may_mark};
+use vt_spec::errors::{Deny, Rule};
 use vt_tasks::Task;
 
 /// After the rules of the walk: F1 (EROFS), C2 (EPERM).
@@ -49,4 +49,21 @@ pub fn chown<L: Look>(
         mode: old.mode,
     };
     attr_permit(world, who, object, may_chown(&who.cred, &old, &new), new)
+}
+
+/// K1 (EPERM), and after the rules of the walk F1 (EROFS).
+#[tactic(auto, unfolding(vt_spec::specs::Machine::Judge::opaque_permit))]
+pub fn opaque<L: Look>(world: &L, who: &Task, path: &[u8], mark: bool) -> Result<Grant, Deny>
+    ensures { JudgesAlike (task_of who.now)
+        (opaque_permit nat_eq (L.looks world.now) (task_of who.now) path.now mark) result }
+{
+    if lacks(who, Caps::CAP_SYS_ADMIN) {
+        return Err(Rule::K1.denial());
+    }
+    let directory = directory_at(world, who, path)?;
+    may_mark(world, directory)?;
+    Ok(Grant::Write(WriteGrant::Mark {
+        directory,
+        opaque: mark,
+    }))
 }

@@ -6,10 +6,10 @@ ghost use Rattle.vt_request.specs.Requests.{call_of, descriptor_call_of, look_ca
 ghost use Rattle.vt_tasks.specs.TaskValue.{task_of};
 ghost use Rattle.vt_policy.specs.Allocating.{IsJudgedWithMemory};
 
-use crate::attributes::{chmod, chown};
+use crate::attributes::{chmod, chown, opaque};
 use crate::descriptors::{close, open, pread, pwrite};
 use crate::looking::{exec, list, lstat, read, readlink, stat};
-use crate::making::{link, mkdir, symlink, write};
+use crate::making::{link, mkdir, symlink, whiteout, write};
 use crate::mounting::{bind, lazy, mount_plain, move_mount, remount, set_type, umount};
 use crate::removing::{rename, rmdir, unlink};
 use crate::tasks::{chdir, chroot, fork, permission_bits, setns, unshare};
@@ -88,6 +88,7 @@ fn judge_make<L: LookAtMounts>(
     match call {
         MakeCall::Mkdir { path, mode } => mkdir(alloc, world, who, &path, mode),
         MakeCall::Symlink { text, path } => symlink(alloc, world, who, text, &path),
+        MakeCall::Whiteout { path } => whiteout(alloc, world, who, &path),
         MakeCall::Link { old, new } => link(alloc, world, who, &old, &new),
     }
 }
@@ -112,7 +113,7 @@ fn judge_remove<L: LookAtMounts>(
     }
 }
 
-// A call that sets the content, the owner or the mode of a file.
+// A call that sets the content, the owner or the mode of an object, or the mark of a directory.
 #[inline(always)]
 fn judge_write<L: LookAtMounts>(
     alloc: Global,
@@ -134,6 +135,7 @@ fn judge_write<L: LookAtMounts>(
         } => pwrite(world, who, descriptor, offset, bytes),
         WriteCall::Chmod { path, mode } => chmod(world, who, &path, mode),
         WriteCall::Chown { path, uid, gid } => chown(world, who, &path, uid, gid),
+        WriteCall::Opaque { path, mark } => opaque(world, who, &path, mark),
     }
 }
 

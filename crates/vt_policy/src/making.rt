@@ -1,6 +1,6 @@
-//! Calls that make a name, and write: mkdir(2), symlink(2), link(2), write(2).
+//! Calls that make a name, and write: mkdir(2), symlink(2), mknod(2), link(2), write(2).
 ghost use Rattle.std.specs.Prelude.{nat_eq};
-ghost use Rattle.vt_spec.specs.Machine.Judge.{hard_link_permit, mkdir_permit, symlink_permit, write_permit};
+ghost use Rattle.vt_spec.specs.Machine.Judge.{hard_link_permit, mkdir_permit, symlink_permit, whiteout_permit, write_permit};
 ghost use Rattle.vt_permits.specs.Memory.{Judges};
 ghost use Rattle.vt_tasks.specs.TaskValue.{task_of};
 
@@ -11,8 +11,8 @@ use vt_looks::Look;
 use vt_node::Node;
 use vt_permits::{Grant, MakeGrant, ToLink, ToMake};
 use vt_rules::{
-    empty_directory, is_directory, is_read_only, may, may_make, name_at, new_attr, new_file_permit,
-    rewrite_permit, symlink_attr,
+    empty_directory, is_directory, is_read_only, may, may_make, may_make_whiteout, name_at,
+    new_attr, new_file_permit, rewrite_permit, symlink_attr, whiteout_attr,
 };
 use vt_spec::errors::{Deny, Rule};
 use vt_tasks::Task;
@@ -74,6 +74,21 @@ pub fn symlink<L: Look>(
         directory: place.parent,
         name: name_at(alloc, place.last)?,
         node: Node::new_link(symlink_attr(who), text),
+    })))
+}
+
+/// After the rules of the walk: E1 (EEXIST), F1 (EROFS), C1 (EACCES).
+#[tactic(auto, unfolding(vt_spec::specs::Machine::Judge::whiteout_permit))]
+pub fn whiteout<L: Look>(alloc: Global, world: &L, who: &Task, path: &[u8]) -> Result<Grant, Deny>
+    ensures { Judges (task_of who.now)
+        (whiteout_permit nat_eq (L.looks world.now) (task_of who.now) path.now) result }
+{
+    let place = new_leaf_place(world, who, path)?;
+    may_make_whiteout(world, who, &place)?;
+    Ok(Grant::Make(MakeGrant::Node(ToMake {
+        directory: place.parent,
+        name: name_at(alloc, place.last)?,
+        node: Node::new_whiteout(whiteout_attr(who)),
     })))
 }
 

@@ -8,9 +8,7 @@ use crate::paths::{old_leaf_place, old_place, rename_place};
 use std::alloc::Global;
 use vt_looks::{LastWord, Look};
 use vt_permits::{Grant, LookGrant, RemoveGrant, ToRemoveDirectory, ToRename, ToUnlink};
-use vt_rules::{
-    is_directory, is_name_of, is_nonempty, is_read_only, may_remove, may_rename, may_stay, name_at,
-};
+use vt_rules::{is_directory, is_name_of, is_read_only, may_remove, may_rename, may_stay, name_at};
 use vt_spec::errors::{Deny, Rule};
 use vt_tasks::Task;
 
@@ -53,7 +51,7 @@ pub fn rmdir<L: Look>(alloc: Global, world: &L, who: &Task, path: &[u8]) -> Resu
     if !is_directory(world, directory) {
         return Err(Rule::E3.denial());
     }
-    if is_nonempty(world, directory) {
+    if world.is_nonempty(directory) {
         return Err(Rule::E4.denial());
     }
     if is_read_only(world, place.parent) {

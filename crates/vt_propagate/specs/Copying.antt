@@ -1,5 +1,5 @@
 -- What an attachment makes, as code has it: copies of mounts, and new groups.
-use Rattle.std.specs.Prelude.{List, None, Option, Some, [], find, length, map, nat_eq, not, option_map, if◌then◌else◌, ℕ, ◌*◌, ◌+◌, ◌<◌}
+use Rattle.std.specs.Prelude.{List, None, Option, Some, [], find, length, map, nat_eq, not, option_map, if◌then◌else◌, ℕ, ◌*◌, ◌+◌, ◌<◌, ◌^◌}
 use Rattle.vt_spec.specs.Lists.{Fresh, then_some, when}
 use Rattle.vt_spec.specs.Machine.Attach as meant
 use Rattle.vt_spec.specs.Machine.Attach.{Copies, Twig, copies_from, copy_number, copy_mount_point, image, is_destination}
@@ -55,7 +55,7 @@ graft_seen copying =
 abbrev pub HasRoomFor : Graft → Counts → Type 0
 HasRoomFor graft counts =
     (0 < counts.step) × (counts.first + counts.step *
-    (2 * (length graft.parts.now * length graft.tree.now)) < 18446744073709551616)
+    (2 * (length graft.parts.now * length graft.tree.now)) < 2 ^ 64)
 
 -- and the indexes are those of the graft
 pub record IsReady (copying : Copying) : Type 0 where

@@ -1,7 +1,5 @@
 //! All that an attachment makes, planned at once.
-ghost use Rattle.std.specs.Prelude.{◌≡◌, IfErr, IfOk, map, nat_eq, ℕ};
-ghost use Rattle.vt_spec.specs.declared.errors.Rule.TheVariants.{S5};
-ghost use Rattle.vt_spec.specs.Errors.{denial};
+ghost use Rattle.std.specs.Prelude.{◌≡◌, IfOk, map, nat_eq, ℕ};
 ghost use Rattle.vt_spec.specs.Machine.Attach.{parts_of};
 ghost use Rattle.vt_spec.specs.Machine.World.{World};
 ghost use Rattle.vt_location.specs.Locations.{location_of};
@@ -17,11 +15,10 @@ ghost use Rattle.vt_laws_mounts.specs.Mounts.Attaching.{OneNumberAMount};
 use crate::copying::{Counts, Graft, copies, new_groups};
 use crate::indexes::Indexes;
 use crate::pushing::pushes;
-use std::alloc::Global;
+use std::alloc::{AllocError, Global};
 use vt_group::{Groups, NewGroup};
 use vt_location::Mount;
 use vt_mount::{Mounts, NewPoint};
-use vt_spec::errors::{Deny, Rule};
 
 /// The plan of an attachment.
 #[derive(Debug, Drop)]
@@ -37,15 +34,13 @@ pub struct Plan {
 /// Plans an attachment. It changes nothing: the mounts that stood at receivers' places are to be moved, the copies to
 /// be attached, and their types and groups to be added to the groups. Where a tree moves, the first copies are its own
 /// mounts, one each: these are to be moved to the namespace and the mount point that they have there.
-///
-/// S5 (ENOMEM): an allocation failed.
 pub fn attachment(
     alloc: Global,
     mounts: &Mounts,
     groups: &Groups,
     graft: &Graft,
     counts: Counts,
-) -> Result<Plan, Deny>
+) -> Result<Plan, AllocError>
     requires { HasRoomFor graft.now counts }
     ensures ok { IfOk result (λ plan. (world : World ℕ) → IsSeen world mounts.now groups.now → OneChild world
         → map mount_of graft.now.parts.now ≡ parts_of nat_eq world (location_of graft.now.place)
@@ -54,11 +49,8 @@ pub fn attachment(
     ensures leaver { IfOk result (λ plan. KeepsLeaver graft.now (map point_of plan.points.items)) }
     ensures once { IfOk result (λ plan. OneNumberAMount (map mount_of graft.now.parts.now)
         → MovesOnce (mounts_in mounts.now) (map point_of plan.points.items)) }
-    ensures memory { IfErr result (λ deny. deny ≡ denial S5) }
 {
-    let Ok(indexes) = Indexes::new(alloc, graft) else {
-        return Err(Rule::S5.denial());
-    };
+    let indexes = Indexes::new(alloc, graft)?;
     let copies = copies(alloc, mounts, groups, graft, counts, &indexes)?;
     let new = new_groups(alloc, mounts, groups, graft, counts, &indexes)?;
     let points = pushes(alloc, mounts, graft, &copies)?;

@@ -1,14 +1,11 @@
 //! What an attachment makes: copies of a tree of mounts at its parts, and the groups that they form.
-ghost use Rattle.std.specs.Prelude.{◌≡◌, ◌<◌, ◌*◌, ◌++◌, IfErr, IfOk, OnOk, filter_map, flat_map, length, map, nat_eq, option_map, ℕ};
-ghost use Rattle.vt_spec.specs.declared.errors.Rule.TheVariants.{S5};
-ghost use Rattle.vt_spec.specs.Errors.{denial};
+ghost use Rattle.std.specs.Prelude.{◌≡◌, ◌<◌, ◌*◌, ◌++◌, IfOk, OnOk, filter_map, flat_map, length, map, nat_eq, option_map, ℕ};
 ghost use Rattle.vt_spec.specs.Machine.Attach.{copy_mount_point as copy_mount_point_of, is_top as is_top_of, parts_of, twig_master};
 ghost use Rattle.vt_spec.specs.Machine.Types.{master_after as master_after_of};
 ghost use Rattle.vt_spec.specs.Machine.World.{World};
-ghost use Rattle.vt_group.specs.Steps.{group_number};
 ghost use Rattle.vt_location.specs.Locations.{location_of};
 ghost use Rattle.vt_location.specs.MountValue.{mount_of, propagation_of};
-ghost use Rattle.vt_location.specs.Numbers.{counted};
+ghost use Rattle.vt_location.specs.Numbers.{mount_number, group_number};
 ghost use Rattle.vt_propagate.specs.Copying.{IsReady, HasRoomFor, as_kept, copied, copied_by, graft_seen, made, made_by};
 ghost use Rattle.vt_propagate.specs.Copying.{new_group, parts_seen, supply, tree_seen, twig};
 ghost use Rattle.vt_propagate.specs.Indexes.{IsIndexed};
@@ -21,7 +18,6 @@ use std::alloc::{AllocError, Global};
 use vt_group::{Groups, NewGroup};
 use vt_location::{GroupId, Location, Mount, MountId, Propagation};
 use vt_mount::Mounts;
-use vt_spec::errors::{Deny, Rule};
 
 /// A tree of mounts and where it is attached.
 #[derive(Clone, Copy, Debug)]
@@ -47,8 +43,6 @@ pub struct Counts {
 /// The copies that are attached, with their types: all at the destination, in the order of the tree, then all at each
 /// receiver. Where a tree moves, those at the destination are the mounts themselves, as they are there. The copy at the
 /// i-th part of the j-th mount of n, both from 0, is the `2·(n·i + j)`-th of the counts.
-///
-/// S5 (ENOMEM): an allocation failed.
 pub(crate) fn copies(
     alloc: Global,
     mounts: &Mounts,
@@ -56,7 +50,7 @@ pub(crate) fn copies(
     graft: &Graft,
     counts: Counts,
     indexes: &Indexes,
-) -> Result<Vec<Mount>, Deny>
+) -> Result<Vec<Mount>, AllocError>
     requires room { HasRoomFor graft.now counts }
     requires indexed { IsIndexed indexes.now graft.now }
     ensures length { IfOk result (λ copies. length copies.items
@@ -64,7 +58,6 @@ pub(crate) fn copies(
     ensures ok { IfOk result (λ copies. (world : World ℕ) → IsSeen world mounts.now groups.now
         → map mount_of graft.now.parts.now ≡ parts_of nat_eq world (location_of graft.now.place)
         → map mount_of copies.items ≡ planned_copies world graft.now counts) }
-    ensures memory { IfErr result (λ deny. deny ≡ denial S5) }
 {
     let Some(destination) = graft.parts.first() else {
         return Ok(Vec::new(alloc));
@@ -75,17 +68,12 @@ pub(crate) fn copies(
         counts,
         indexes,
     };
-    let Ok(copies) = copying.all_copies(alloc, mounts, groups) else {
-        return Err(Rule::S5.denial());
-    };
-    Ok(copies)
+    copying.all_copies(alloc, mounts, groups)
 }
 
 /// The new groups that copies form, each with its master, in the order of the copies: for each mount of the tree that
 /// joins a group at a shared destination, and for each mount and each further group that has a part. The group of the
 /// j-th mount of n for the group of the i-th part, both from 0, is the `2·(n·i + j) + 1`-th of the counts.
-///
-/// S5 (ENOMEM): an allocation failed.
 pub(crate) fn new_groups(
     alloc: Global,
     mounts: &Mounts,
@@ -93,13 +81,12 @@ pub(crate) fn new_groups(
     graft: &Graft,
     counts: Counts,
     indexes: &Indexes,
-) -> Result<Vec<NewGroup>, Deny>
+) -> Result<Vec<NewGroup>, AllocError>
     requires room { HasRoomFor graft.now counts }
     requires indexed { IsIndexed indexes.now graft.now }
     ensures ok { IfOk result (λ new. (world : World ℕ) → IsSeen world mounts.now groups.now
         → map mount_of graft.now.parts.now ≡ parts_of nat_eq world (location_of graft.now.place)
         → map new_group new.items ≡ planned_groups world graft.now counts) }
-    ensures memory { IfErr result (λ deny. deny ≡ denial S5) }
 {
     let Some(destination) = graft.parts.first() else {
         return Ok(Vec::new(alloc));
@@ -110,10 +97,7 @@ pub(crate) fn new_groups(
         counts,
         indexes,
     };
-    let Ok(new) = copying.all_groups(alloc, mounts, groups) else {
-        return Err(Rule::S5.denial());
-    };
-    Ok(new)
+    copying.all_groups(alloc, mounts, groups)
 }
 
 impl<'a> Copying<'a> {
@@ -185,7 +169,7 @@ impl<'a> Copying<'a> {
         requires parts { 0 < length self.now.graft.parts.now }
         requires tree { 0 < length self.now.graft.tree.now }
         ensures { location_of result
-            ≡ copy_mount_point_of nat_eq (supply self.now) (graft_seen self.now) (counted part.count)
+            ≡ copy_mount_point_of nat_eq (supply self.now) (graft_seen self.now) (mount_number part)
             (mount_of origin.now) }
     {
         if self.is_top(origin.number) {
@@ -205,7 +189,7 @@ impl<'a> Copying<'a> {
 
     // Whether this is the first mount of the tree.
     fn is_top(&self, origin: MountId) -> bool
-        ensures { result ≡ is_top_of nat_eq (graft_seen self.now) (counted origin.count) }
+        ensures { result ≡ is_top_of nat_eq (graft_seen self.now) (mount_number origin) }
     {
         match self.graft.tree.first() {
             Some(top) => origin == top.number,

@@ -1,12 +1,10 @@
 //! Where mounts stand once others are detached: umount(2), and the kernel's document sharedsubtree, "Unmount
 //! semantics".
-ghost use Rattle.std.specs.Prelude.{◌≡◌, ◌++◌, All, IfErr, IfOk, OnOk, filter_map, map, nat_eq, option_map, ℕ};
-ghost use Rattle.vt_spec.specs.declared.errors.Rule.TheVariants.{S5};
-ghost use Rattle.vt_spec.specs.Errors.{denial};
+ghost use Rattle.std.specs.Prelude.{◌≡◌, ◌++◌, All, IfOk, OnOk, filter_map, map, nat_eq, option_map, ℕ};
 ghost use Rattle.vt_spec.specs.Machine.Detach.{is_going, mount_point_left, mount_point_of_parent};
 ghost use Rattle.vt_spec.specs.Machine.World.{World};
 ghost use Rattle.vt_location.specs.Locations.{location_of};
-ghost use Rattle.vt_location.specs.Numbers.{counted};
+ghost use Rattle.vt_location.specs.Numbers.{mount_number};
 ghost use Rattle.vt_mount.specs.MountsValue.{mounts_in};
 ghost use Rattle.vt_propagate.specs.Falling.{FallsTo, HasJust, LeavesBy, all_points_left, of_mounts, point_left_of};
 ghost use Rattle.vt_propagate.specs.Falling.{point_of};
@@ -15,7 +13,6 @@ use indexmap::IndexSet;
 use std::alloc::{AllocError, Global};
 use vt_location::{Location, MountId};
 use vt_mount::{Mounts, NewPoint};
-use vt_spec::errors::{Deny, Rule};
 
 /// The mounts that go, and the same as a set.
 #[derive(Clone, Copy, Debug)]
@@ -26,30 +23,24 @@ pub(crate) struct Gone<'a> {
 
 /// The new mount points of the mounts that stay where these are detached. A mount on one of them takes that one's mount
 /// point; if that is on one of them too, the mount point of that, and so on.
-///
-/// S5 (ENOMEM): an allocation failed.
 pub(crate) fn points_left(
     alloc: Global,
     mounts: &Mounts,
     gone: &[MountId],
-) -> Result<Vec<NewPoint>, Deny>
+) -> Result<Vec<NewPoint>, AllocError>
     ensures ok { IfOk result (λ points. (world : World ℕ) → mounts_in mounts.now ≡ world.mounts
-        → LeavesBy world (map (λ id. counted id.count) gone.now) (map point_of points.items)) }
+        → LeavesBy world (map mount_number gone.now) (map point_of points.items)) }
     ensures each { IfOk result (λ points. (world : World ℕ) → mounts_in mounts.now ≡ world.mounts
-        → All (FallsTo world (map (λ id. counted id.count) gone.now)) (map point_of points.items)) }
-    ensures memory { IfErr result (λ deny. deny ≡ denial S5) }
+        → All (FallsTo world (map mount_number gone.now)) (map point_of points.items)) }
 {
     mounts.are_ascending();
-    let Ok(points) = all_left(alloc, mounts, gone) else {
-        return Err(Rule::S5.denial());
-    };
-    Ok(points)
+    all_left(alloc, mounts, gone)
 }
 
 // The new mount points of all mounts on these.
 fn all_left(alloc: Global, mounts: &Mounts, gone: &[MountId]) -> Result<Vec<NewPoint>, AllocError>
     ensures { IfOk result (λ points. map point_of points.items
-        ≡ all_points_left (mounts_in mounts.now) (map (λ id. counted id.count) gone.now)) }
+        ≡ all_points_left (mounts_in mounts.now) (map mount_number gone.now)) }
 {
     let set = set_of(alloc, gone)?;
     let gone = Gone {
@@ -65,7 +56,7 @@ fn all_left(alloc: Global, mounts: &Mounts, gone: &[MountId]) -> Result<Vec<NewP
 
 // The set of these mounts.
 fn set_of(alloc: Global, ids: &[MountId]) -> Result<IndexSet<MountId>, AllocError>
-    ensures { IfOk result (λ set. HasJust set.keys (map (λ id. counted id.count) ids.now)) }
+    ensures { IfOk result (λ set. HasJust set.keys (map mount_number ids.now)) }
 {
     let mut set = IndexSet::new(alloc);
     for id in ids {
@@ -81,10 +72,10 @@ fn push_left(
     children: &[MountId],
     points: &mut Vec<NewPoint>,
 ) -> Result<(), AllocError>
-    requires { HasJust gone.now.set.now.keys (map (λ id. counted id.count) gone.now.ids.now) }
+    requires { HasJust gone.now.set.now.keys (map mount_number gone.now.ids.now) }
     ensures { OnOk result (map point_of points.new.items ≡ map point_of points.old.items
-        ++ filter_map (point_left_of (mounts_in mounts.now) (map (λ id. counted id.count) gone.now.ids.now))
-        (map (λ id. counted id.count) children.now)) }
+        ++ filter_map (point_left_of (mounts_in mounts.now) (map mount_number gone.now.ids.now))
+        (map mount_number children.now)) }
 {
     for child in children {
         if let Some(point) = point_left(mounts, gone, *child) {
@@ -96,9 +87,9 @@ fn push_left(
 
 // The new mount point of a mount that stays.
 fn point_left(mounts: &Mounts, gone: &Gone, id: MountId) -> Option<NewPoint>
-    requires { HasJust gone.now.set.now.keys (map (λ id. counted id.count) gone.now.ids.now) }
+    requires { HasJust gone.now.set.now.keys (map mount_number gone.now.ids.now) }
     ensures { option_map point_of result
-        ≡ point_left_of (mounts_in mounts.now) (map (λ id. counted id.count) gone.now.ids.now) (counted id.count) }
+        ≡ point_left_of (mounts_in mounts.now) (map mount_number gone.now.ids.now) (mount_number id) }
 {
     let mount = mounts.get(id)?;
     if is_gone(gone, id) {
@@ -112,9 +103,9 @@ fn point_left(mounts: &Mounts, gone: &Gone, id: MountId) -> Option<NewPoint>
 
 /// Where a mount point is left.
 pub(crate) fn place_left(mounts: &Mounts, gone: &Gone, place: Location) -> Location
-    requires { HasJust gone.now.set.now.keys (map (λ id. counted id.count) gone.now.ids.now) }
+    requires { HasJust gone.now.set.now.keys (map mount_number gone.now.ids.now) }
     ensures { location_of result
-        ≡ mount_point_left nat_eq (of_mounts (mounts_in mounts.now)) (map (λ id. counted id.count) gone.now.ids.now)
+        ≡ mount_point_left nat_eq (of_mounts (mounts_in mounts.now)) (map mount_number gone.now.ids.now)
         (location_of place) }
 {
     let mut here = place;
@@ -129,9 +120,9 @@ pub(crate) fn place_left(mounts: &Mounts, gone: &Gone, place: Location) -> Locat
 
 // The mount point of the mount that a mount point is on, if that mount goes.
 fn below_gone(mounts: &Mounts, gone: &Gone, place: Location) -> Option<Location>
-    requires { HasJust gone.now.set.now.keys (map (λ id. counted id.count) gone.now.ids.now) }
+    requires { HasJust gone.now.set.now.keys (map mount_number gone.now.ids.now) }
     ensures { option_map location_of result
-        ≡ mount_point_of_parent nat_eq (of_mounts (mounts_in mounts.now)) (map (λ id. counted id.count) gone.now.ids.now)
+        ≡ mount_point_of_parent nat_eq (of_mounts (mounts_in mounts.now)) (map mount_number gone.now.ids.now)
         (location_of place) }
 {
     if !is_gone(gone, place.mount) {
@@ -142,8 +133,8 @@ fn below_gone(mounts: &Mounts, gone: &Gone, place: Location) -> Option<Location>
 
 /// Whether a mount is one of these.
 pub(crate) fn is_gone(gone: &Gone, id: MountId) -> bool
-    requires { HasJust gone.now.set.now.keys (map (λ id. counted id.count) gone.now.ids.now) }
-    ensures { result ≡ is_going nat_eq (map (λ id. counted id.count) gone.now.ids.now) (counted id.count) }
+    requires { HasJust gone.now.set.now.keys (map mount_number gone.now.ids.now) }
+    ensures { result ≡ is_going nat_eq (map mount_number gone.now.ids.now) (mount_number id) }
 {
     gone.set.contains(&id)
 }

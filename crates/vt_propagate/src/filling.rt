@@ -1,10 +1,8 @@
 //! How many mounts namespaces get when a tree of mounts is attached: ENOSPC of mount(2).
-ghost use Rattle.std.specs.Prelude.{◌≡◌, ◌<◌, ◌+◌, if◌then◌else◌, IfErr, IfOk, List};
+ghost use Rattle.std.specs.Prelude.{◌≡◌, ◌<◌, ◌+◌, if◌then◌else◌, IfOk, List};
 ghost use Rattle.std.specs.Prelude.{None, OnOk, false, length, map, nat_eq, true, unwrap_or, ℕ};
 ghost use Rattle.std.specs.List.{list_any};
 ghost use Rattle.std.specs.HashMap.{get};
-ghost use Rattle.vt_spec.specs.declared.errors.Rule.TheVariants.{S5};
-ghost use Rattle.vt_spec.specs.Errors.{denial};
 ghost use Rattle.vt_spec.specs.Lists.{holds_of};
 ghost use Rattle.vt_spec.specs.Machine.Attach.{Copies, attached_by, has_too_many, parts_of};
 ghost use Rattle.vt_spec.specs.Machine.Mounts as meant;
@@ -20,7 +18,6 @@ use std::alloc::{AllocError, Global};
 use std::collections::HashMap;
 use vt_location::{Mount, NamespaceId};
 use vt_mount::Mounts;
-use vt_spec::errors::{Deny, Rule};
 
 // How many mounts a namespace may have (profile).
 const MOST_MOUNTS: u64 = 4096;
@@ -33,9 +30,12 @@ pub struct Load {
 }
 
 /// Whether a namespace has more than 4,096 mounts once a tree of mounts is attached at these parts: ENOSPC of mount(2).
-///
-/// S5 (ENOMEM): an allocation failed.
-pub fn overfills(alloc: Global, mounts: &Mounts, parts: &[Mount], load: Load) -> Result<bool, Deny>
+pub fn overfills(
+    alloc: Global,
+    mounts: &Mounts,
+    parts: &[Mount],
+    load: Load,
+) -> Result<bool, AllocError>
     ensures added { IfOk result (λ too_many. (world : World ℕ) (new : Copies ℕ) (place : meant.Location ℕ)
         (tree : List (meant.Mount ℕ))
         → mounts_in mounts.now ≡ world.mounts → NamespaceInvariants nat_eq world
@@ -50,11 +50,8 @@ pub fn overfills(alloc: Global, mounts: &Mounts, parts: &[Mount], load: Load) ->
     ensures more { IfOk result (λ too_many. (world after : World ℕ)
         → mounts_in mounts.now ≡ world.mounts → NamespaceInvariants nat_eq world → load.leaves ≡ None
         → GrowsBy world after (map mount_of parts.now) load.count → too_many ≡ has_too_many nat_eq after) }
-    ensures memory { IfErr result (λ deny. deny ≡ denial S5) }
 {
-    let Ok(counts) = counts_of(alloc, parts) else {
-        return Err(Rule::S5.denial());
-    };
+    let counts = counts_of(alloc, parts)?;
     Ok(is_one_overfilled(mounts, parts, &counts, load))
 }
 

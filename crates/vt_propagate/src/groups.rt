@@ -2,9 +2,8 @@
 ghost use Rattle.std.specs.Prelude.{◌≡◌, ◌<◌, find, length, map, nat_eq, option_map};
 ghost use Rattle.vt_spec.specs.Machine.Attach.{image as image_of};
 ghost use Rattle.vt_spec.specs.Machine.Receives.{groups_up, has_members};
-ghost use Rattle.vt_group.specs.Steps.{group_number};
+ghost use Rattle.vt_location.specs.Numbers.{group_number};
 ghost use Rattle.vt_location.specs.MountValue.{mount_of, propagation_of};
-ghost use Rattle.vt_location.specs.Numbers.{counted};
 ghost use Rattle.vt_propagate.specs.Copying.{IsReady, above_of, as_kept, nearest_master_of, image_seen, parts_seen, supply, twig};
 ghost use Rattle.vt_propagate.specs.Copying.{type_by_master};
 
@@ -37,9 +36,9 @@ impl<'a> Copying<'a> {
         requires ready { IsReady self.now }
         requires parts { 0 < length self.now.graft.parts.now }
         requires tree { 0 < length self.now.graft.tree.now }
-        ensures { counted result.count
+        ensures { group_number result
             ≡ image_of nat_eq (supply self.now) (mount_of self.now.destination) (twig self.now (mount_of origin.now))
-            (counted group.count) }
+            (group_number group) }
     {
         if is_member(self.destination.propagation, group) {
             if let Propagation::Shared(own) = self.type_at(origin) {
@@ -128,7 +127,7 @@ impl<'a> Copying<'a> {
         requires { IsReady self.now }
         ensures { option_map group_number result
             ≡ find (has_members nat_eq (parts_seen self.now))
-            (groups_up (as_kept mounts.now groups.now) (counted group.count)) }
+            (groups_up (as_kept mounts.now groups.now) (group_number group)) }
     {
         let mut here = group;
         for _ in 0..mounts.len() {
@@ -143,7 +142,7 @@ impl<'a> Copying<'a> {
     // Whether a part is a member of a group.
     fn has_part(&self, group: GroupId) -> bool
         requires { IsReady self.now }
-        ensures { result ≡ has_members nat_eq (parts_seen self.now) (counted group.count) }
+        ensures { result ≡ has_members nat_eq (parts_seen self.now) (group_number group) }
     {
         self.indexes.groups.contains_key(&group)
     }

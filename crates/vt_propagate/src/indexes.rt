@@ -3,11 +3,10 @@ ghost use Rattle.std.specs.Prelude.{◌≡◌, IfOk, None, OnOk, Some, if◌then
 ghost use Rattle.std.specs.HashMap.{get};
 ghost use Rattle.vt_spec.specs.Lists.{or_else};
 ghost use Rattle.vt_spec.specs.Machine.Mounts.{group_of};
-ghost use Rattle.vt_group.specs.Steps.{group_number};
 ghost use Rattle.vt_location.specs.declared.numbers.GroupId.{GroupId};
 ghost use Rattle.vt_location.specs.declared.numbers.MountId.{MountId};
 ghost use Rattle.vt_location.specs.MountValue.{mount_of, propagation_of};
-ghost use Rattle.vt_location.specs.Numbers.{counted};
+ghost use Rattle.vt_location.specs.Numbers.{mount_number, group_number};
 ghost use Rattle.vt_mount.specs.Listed.{same_id};
 ghost use Rattle.vt_propagate.specs.Indexes.{IsIndexed, place_of, place_of_group};
 ghost use Rattle.vt_group.specs.Sets.{same_group};
@@ -41,7 +40,7 @@ impl Indexes {
 // The index of each of these mounts; of those with one number, the first.
 fn places(alloc: Global, mounts: &[Mount]) -> Result<HashMap<MountId, usize>, AllocError>
     ensures { IfOk result (λ places. (id : MountId)
-        → get same_id places id ≡ place_of (map mount_of mounts.now) (counted id.count)) }
+        → get same_id places id ≡ place_of (map mount_of mounts.now) (mount_number id)) }
 {
     let mut places = HashMap::new(alloc);
     for (index, mount) in mounts.iter().enumerate() {
@@ -53,7 +52,7 @@ fn places(alloc: Global, mounts: &[Mount]) -> Result<HashMap<MountId, usize>, Al
 // The index of the first of these mounts in each group.
 fn group_places(alloc: Global, parts: &[Mount]) -> Result<HashMap<GroupId, usize>, AllocError>
     ensures { IfOk result (λ places. (group : GroupId)
-        → get same_group places group ≡ place_of_group (map mount_of parts.now) (counted group.count)) }
+        → get same_group places group ≡ place_of_group (map mount_of parts.now) (group_number group)) }
 {
     let mut places = HashMap::new(alloc);
     for (index, part) in parts.iter().enumerate() {

@@ -3,13 +3,11 @@
 //!
 //! A lazy unmount is an unmount event for each mount of a tree, the deepest first. What an event detaches depends on
 //! those before it, so that each looks at the mounts through those that are gone.
-ghost use Rattle.std.specs.Prelude.{◌≡◌, ◌++◌, ◌∷◌, [], All, IfErr, IfOk, OnOk, is_some, length, map, nat_eq, reverse, ℕ};
-ghost use Rattle.vt_spec.specs.declared.errors.Rule.TheVariants.{S5};
-ghost use Rattle.vt_spec.specs.Errors.{denial};
+ghost use Rattle.std.specs.Prelude.{◌≡◌, ◌++◌, ◌∷◌, [], All, IfOk, OnOk, is_some, length, map, nat_eq, reverse, ℕ};
 ghost use Rattle.vt_spec.specs.Machine.Invariants.{MountInvariants};
 ghost use Rattle.vt_spec.specs.Machine.Mounts.{mount_in};
 ghost use Rattle.vt_spec.specs.Machine.World.{World};
-ghost use Rattle.vt_location.specs.Numbers.{counted};
+ghost use Rattle.vt_location.specs.Numbers.{mount_number};
 ghost use Rattle.vt_mount.specs.MountsValue.{mounts_in};
 ghost use Rattle.vt_propagate.specs.Falling.{FallsTo, HasJust, LeavesBy, point_of};
 ghost use Rattle.vt_propagate.specs.LazyEvents.{children_of, levels_from};
@@ -25,26 +23,22 @@ use std::alloc::{AllocError, Global};
 use vt_group::Groups;
 use vt_location::MountId;
 use vt_mount::Mounts;
-use vt_spec::errors::{Deny, Rule};
 
 /// Plans a lazy unmount of a mount and its descendants. It changes nothing: the mounts that stay are to be moved, those
 /// that go to be detached, and these to leave their groups at once.
-///
-/// S5 (ENOMEM): an allocation failed.
 pub fn unmount_lazily(
     alloc: Global,
     mounts: &Mounts,
     groups: &Groups,
     id: MountId,
-) -> Result<Detachment, Deny>
+) -> Result<Detachment, AllocError>
     ensures gone { IfOk result (λ plan. (world : World ℕ) → IsSeen world mounts.now groups.now
         → MountInvariants nat_eq world
-        → map (λ id. counted id.count) plan.gone.items ≡ gone_lazily world (counted id.count)) }
+        → map mount_number plan.gone.items ≡ gone_lazily world (mount_number id)) }
     ensures left { IfOk result (λ plan. (world : World ℕ) → mounts_in mounts.now ≡ world.mounts
-        → LeavesBy world (map (λ id. counted id.count) plan.gone.items) (map point_of plan.points.items)) }
+        → LeavesBy world (map mount_number plan.gone.items) (map point_of plan.points.items)) }
     ensures each { IfOk result (λ plan. (world : World ℕ) → mounts_in mounts.now ≡ world.mounts
-        → All (FallsTo world (map (λ id. counted id.count) plan.gone.items)) (map point_of plan.points.items)) }
-    ensures memory { IfErr result (λ deny. deny ≡ denial S5) }
+        → All (FallsTo world (map mount_number plan.gone.items)) (map point_of plan.points.items)) }
 {
     let gone = going_lazily(alloc, mounts, groups, id)?;
     let points = points_left(alloc, mounts, &gone)?;
@@ -57,11 +51,10 @@ fn going_lazily(
     mounts: &Mounts,
     groups: &Groups,
     id: MountId,
-) -> Result<Vec<MountId>, Deny>
+) -> Result<Vec<MountId>, AllocError>
     ensures ok { IfOk result (λ gone. (world : World ℕ) → IsSeen world mounts.now groups.now
         → MountInvariants nat_eq world
-        → map (λ id. counted id.count) gone.items ≡ gone_lazily world (counted id.count)) }
-    ensures memory { IfErr result (λ deny. deny ≡ denial S5) }
+        → map mount_number gone.items ≡ gone_lazily world (mount_number id)) }
 {
     let events = deepest_first(alloc, mounts, id)?;
     all_gone(alloc, mounts, groups, &events)
@@ -73,12 +66,11 @@ fn all_gone(
     mounts: &Mounts,
     groups: &Groups,
     events: &[MountId],
-) -> Result<Vec<MountId>, Deny>
+) -> Result<Vec<MountId>, AllocError>
     ensures ok { IfOk result (λ gone. (world : World ℕ) (number : ℕ) → IsSeen world mounts.now groups.now
         → MountInvariants nat_eq world
-        → map (λ id. counted id.count) events.now ≡ map (λ mount. mount.number) (lazy_events world number)
-        → map (λ id. counted id.count) gone.items ≡ gone_lazily world number) }
-    ensures memory { IfErr result (λ deny. deny ≡ denial S5) }
+        → map mount_number events.now ≡ map (λ mount. mount.number) (lazy_events world number)
+        → map mount_number gone.items ≡ gone_lazily world number) }
 {
     let mut ids = Vec::new(alloc);
     let mut set = IndexSet::new(alloc);
@@ -88,9 +80,7 @@ fn all_gone(
             set: &set,
         };
         let going = going_if_there(alloc, mounts, groups, &gone, *id)?;
-        let Ok(()) = note_all(&mut ids, &mut set, &going) else {
-            return Err(Rule::S5.denial());
-        };
+        note_all(&mut ids, &mut set, &going)?;
     }
     Ok(ids)
 }
@@ -102,12 +92,11 @@ fn going_if_there(
     groups: &Groups,
     gone: &Gone,
     id: MountId,
-) -> Result<Vec<MountId>, Deny>
-    requires { HasJust gone.now.set.now.keys (map (λ id. counted id.count) gone.now.ids.now) }
+) -> Result<Vec<MountId>, AllocError>
+    requires { HasJust gone.now.set.now.keys (map mount_number gone.now.ids.now) }
     ensures ok { IfOk result (λ going. (world : World ℕ) → IsSeen world mounts.now groups.now
-        → map (λ id. counted id.count) going.items
-        ≡ going_then_if_there world (map (λ id. counted id.count) gone.now.ids.now) (counted id.count)) }
-    ensures memory { IfErr result (λ deny. deny ≡ denial S5) }
+        → map mount_number going.items
+        ≡ going_then_if_there world (map mount_number gone.now.ids.now) (mount_number id)) }
 {
     if is_gone(gone, id) || !is_attached(mounts, id) {
         return Ok(Vec::new(alloc));
@@ -121,10 +110,10 @@ fn note_all(
     set: &mut IndexSet<MountId>,
     more: &[MountId],
 ) -> Result<(), AllocError>
-    ensures ids { OnOk result (map (λ id. counted id.count) ids.new.items
-        ≡ map (λ id. counted id.count) ids.old.items ++ map (λ id. counted id.count) more.now) }
-    ensures set { OnOk result (HasJust set.old.keys (map (λ id. counted id.count) ids.old.items)
-        → HasJust set.new.keys (map (λ id. counted id.count) ids.new.items)) }
+    ensures ids { OnOk result (map mount_number ids.new.items
+        ≡ map mount_number ids.old.items ++ map mount_number more.now) }
+    ensures set { OnOk result (HasJust set.old.keys (map mount_number ids.old.items)
+        → HasJust set.new.keys (map mount_number ids.new.items)) }
 {
     for id in more {
         ids.push(*id)?;
@@ -135,7 +124,7 @@ fn note_all(
 
 // Whether a mount is in a namespace.
 fn is_attached(mounts: &Mounts, id: MountId) -> bool
-    ensures { result ≡ is_some (mount_in nat_eq (mounts_in mounts.now) (counted id.count)).namespace }
+    ensures { result ≡ is_some (mount_in nat_eq (mounts_in mounts.now) (mount_number id)).namespace }
 {
     match mounts.get(id) {
         Some(mount) => mount.namespace.is_some(),
@@ -144,22 +133,19 @@ fn is_attached(mounts: &Mounts, id: MountId) -> bool
 }
 
 // A mount and all its descendants, the deepest first. Of those as deep the last one of the tree comes first.
-fn deepest_first(alloc: Global, mounts: &Mounts, id: MountId) -> Result<Vec<MountId>, Deny>
-    ensures ok { IfOk result (λ events. map (λ id. counted id.count) events.items
-        ≡ reverse (levels_from (length (mounts_in mounts.now)) (mounts_in mounts.now) (counted id.count ∷ []))) }
-    ensures memory { IfErr result (λ deny. deny ≡ denial S5) }
+fn deepest_first(alloc: Global, mounts: &Mounts, id: MountId) -> Result<Vec<MountId>, AllocError>
+    ensures ok { IfOk result (λ events. map mount_number events.items
+        ≡ reverse (levels_from (length (mounts_in mounts.now)) (mounts_in mounts.now) (mount_number id ∷ []))) }
 {
-    let Ok(mut events) = levels(alloc, mounts, id) else {
-        return Err(Rule::S5.denial());
-    };
+    let mut events = levels(alloc, mounts, id)?;
     events.reverse();
     Ok(events)
 }
 
 // A mount, its children, the children of these, and so on, level by level.
 fn levels(alloc: Global, mounts: &Mounts, id: MountId) -> Result<Vec<MountId>, AllocError>
-    ensures { IfOk result (λ all. map (λ id. counted id.count) all.items
-        ≡ levels_from (length (mounts_in mounts.now)) (mounts_in mounts.now) (counted id.count ∷ [])) }
+    ensures { IfOk result (λ all. map mount_number all.items
+        ≡ levels_from (length (mounts_in mounts.now)) (mounts_in mounts.now) (mount_number id ∷ [])) }
 {
     let mut all = Vec::new(alloc);
     let mut level = Vec::new(alloc);
@@ -181,8 +167,8 @@ fn children_of(
     mounts: &Mounts,
     level: &[MountId],
 ) -> Result<Vec<MountId>, AllocError>
-    ensures { IfOk result (λ children. map (λ id. counted id.count) children.items
-        ≡ children_of (mounts_in mounts.now) (map (λ id. counted id.count) level.now)) }
+    ensures { IfOk result (λ children. map mount_number children.items
+        ≡ children_of (mounts_in mounts.now) (map mount_number level.now)) }
 {
     let mut children = Vec::new(alloc);
     for id in level {

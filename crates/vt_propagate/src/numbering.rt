@@ -4,7 +4,7 @@ ghost use Rattle.vt_spec.specs.Machine.Attach.{copy_number as copy_number_of, in
 ghost use Rattle.vt_spec.specs.Lists.{holds_of};
 ghost use Rattle.vt_spec.specs.Machine.Mounts.{group_of, index_of as index_of_in};
 ghost use Rattle.vt_location.specs.MountValue.{mount_of, propagation_of};
-ghost use Rattle.vt_location.specs.Numbers.{counted};
+ghost use Rattle.vt_location.specs.Numbers.{group_number, mount_number};
 ghost use Rattle.vt_propagate.specs.Copying.{IsReady, graft_seen, parts_seen, supply, tree_seen};
 
 use crate::copying::{Counts, Graft};
@@ -27,9 +27,9 @@ impl<'a> Copying<'a> {
         requires ready { IsReady self.now }
         requires parts { 0 < length self.now.graft.parts.now }
         requires tree { 0 < length self.now.graft.tree.now }
-        ensures { counted result.count
-            ≡ copy_number_of nat_eq (supply self.now) (graft_seen self.now) (counted part.count)
-            (counted origin.count) }
+        ensures { mount_number result
+            ≡ copy_number_of nat_eq (supply self.now) (graft_seen self.now) (mount_number part)
+            (mount_number origin) }
     {
         if self.graft.moves && part == self.graft.place.mount {
             return origin;
@@ -42,7 +42,7 @@ impl<'a> Copying<'a> {
         requires ready { IsReady self.now }
         requires parts { 0 < length self.now.graft.parts.now }
         requires tree { 0 < length self.now.graft.tree.now }
-        ensures { counted result.count ≡ (supply self.now).image (counted group.count) (counted origin.count) }
+        ensures { group_number result ≡ (supply self.now).image (group_number group) (mount_number origin) }
     {
         GroupId::new(self.count(self.group_index(group), self.tree_index(origin), 1))
     }
@@ -63,7 +63,7 @@ impl<'a> Copying<'a> {
     // The index of the part with this number, or 0.
     fn part_index(&self, part: MountId) -> usize
         requires { IsReady self.now }
-        ensures value { result ≡ index_of_in nat_eq (parts_seen self.now) (counted part.count) }
+        ensures value { result ≡ index_of_in nat_eq (parts_seen self.now) (mount_number part) }
         ensures within { 0 < length self.now.graft.parts.now → result < length self.now.graft.parts.now }
     {
         self.indexes.parts.get(&part).copied().unwrap_or(0)
@@ -72,7 +72,7 @@ impl<'a> Copying<'a> {
     // The index of the mount of the tree with this number, or 0.
     fn tree_index(&self, origin: MountId) -> usize
         requires { IsReady self.now }
-        ensures value { result ≡ index_of_in nat_eq (tree_seen self.now) (counted origin.count) }
+        ensures value { result ≡ index_of_in nat_eq (tree_seen self.now) (mount_number origin) }
         ensures within { 0 < length self.now.graft.tree.now → result < length self.now.graft.tree.now }
     {
         self.indexes.tree.get(&origin).copied().unwrap_or(0)
@@ -81,7 +81,7 @@ impl<'a> Copying<'a> {
     // The index of the first part that is a member of this group, or 0.
     fn group_index(&self, group: GroupId) -> usize
         requires { IsReady self.now }
-        ensures value { result ≡ index_of_group_in nat_eq (parts_seen self.now) (counted group.count) }
+        ensures value { result ≡ index_of_group_in nat_eq (parts_seen self.now) (group_number group) }
         ensures within { 0 < length self.now.graft.parts.now → result < length self.now.graft.parts.now }
     {
         self.indexes.groups.get(&group).copied().unwrap_or(0)
@@ -90,7 +90,7 @@ impl<'a> Copying<'a> {
 
 /// Whether a mount of this type is a member of this group.
 pub(crate) fn is_member(propagation: Propagation, group: GroupId) -> bool
-    ensures { result ≡ holds_of (nat_eq (counted group.count)) (group_of (propagation_of propagation)) }
+    ensures { result ≡ holds_of (nat_eq (group_number group)) (group_of (propagation_of propagation)) }
 {
     match propagation {
         Propagation::Shared(own) => own == group,

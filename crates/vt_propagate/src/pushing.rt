@@ -1,16 +1,14 @@
 //! Which mounts move onto a copied tree: a mount that stood at a receiver's place goes onto the topmost mount of the
 //! copies there.
-ghost use Rattle.std.specs.Prelude.{◌≡◌, ◌*◌, ◌++◌, [], IfErr, IfOk, OnOk, length, map, nat_eq, option_map, ℕ};
+ghost use Rattle.std.specs.Prelude.{◌≡◌, ◌*◌, ◌++◌, [], IfOk, OnOk, length, map, nat_eq, option_map, ℕ};
 ghost use Rattle.std.specs.List.{cons_option};
-ghost use Rattle.vt_spec.specs.declared.errors.Rule.TheVariants.{S5};
-ghost use Rattle.vt_spec.specs.Errors.{denial};
 ghost use Rattle.vt_spec.specs.Lists.{holds_of};
 ghost use Rattle.vt_spec.specs.Machine.Attach.{parts_of, top_of_copies};
 ghost use Rattle.vt_spec.specs.Machine.Mounts.{child_at, root_of, same_location, stands_at as stands_at_place, topmost as topmost_of};
 ghost use Rattle.vt_spec.specs.Machine.World.{World};
 ghost use Rattle.vt_location.specs.Locations.{location_of};
 ghost use Rattle.vt_location.specs.MountValue.{mount_of};
-ghost use Rattle.vt_location.specs.Numbers.{counted};
+ghost use Rattle.vt_location.specs.Numbers.{mount_number};
 ghost use Rattle.vt_mount.specs.MountsValue.{mounts_in};
 ghost use Rattle.vt_propagate.specs.declared.copying.Counts.{Counts};
 ghost use Rattle.vt_propagate.specs.Falling.{point_of};
@@ -22,18 +20,15 @@ use crate::copying::Graft;
 use std::alloc::{AllocError, Global};
 use vt_location::{Location, Mount, MountId};
 use vt_mount::{Mounts, NewPoint};
-use vt_spec::errors::{Deny, Rule};
 
 /// The new mount points of the mounts that stand at the places of receivers: each goes onto the topmost mount of the
 /// copies there, which are given as `copies` returns them. Where a tree moves, its first mount leaves its place before.
-///
-/// S5 (ENOMEM): an allocation failed.
 pub(crate) fn pushes(
     alloc: Global,
     mounts: &Mounts,
     graft: &Graft,
     copies: &[Mount],
-) -> Result<Vec<NewPoint>, Deny>
+) -> Result<Vec<NewPoint>, AllocError>
     requires { length copies.now ≡ length graft.now.parts.now * length graft.now.tree.now }
     ensures ok { IfOk result (λ points. (world : World ℕ) (counts : Counts) → mounts_in mounts.now ≡ world.mounts
         → OneChild world
@@ -43,13 +38,9 @@ pub(crate) fn pushes(
     ensures leaver { IfOk result (λ points. KeepsLeaver graft.now (map point_of points.items)) }
     ensures once { IfOk result (λ points. OneNumberAMount (map mount_of graft.now.parts.now)
         → MovesOnce (mounts_in mounts.now) (map point_of points.items)) }
-    ensures memory { IfErr result (λ deny. deny ≡ denial S5) }
 {
     mounts.are_ascending();
-    let Ok(points) = all_pushes(alloc, mounts, graft, copies) else {
-        return Err(Rule::S5.denial());
-    };
-    Ok(points)
+    all_pushes(alloc, mounts, graft, copies)
 }
 
 // The new mount points at all parts.
@@ -85,7 +76,7 @@ fn add_push(
 ) -> Result<(), AllocError>
     ensures { OnOk result (map point_of points.new.items ≡ map point_of points.old.items
         ++ cons_option (pushed_at (mounts_in mounts.now) (leaver graft.now) (location_of graft.now.place)
-        (counted part.count)
+        (mount_number part)
         (map mount_of copies.now)) []) }
 {
     if let Some(point) = push_at(mounts, graft, part, copies) {
@@ -97,7 +88,7 @@ fn add_push(
 // The new mount point of the mount at the place of a receiver, if one stands there.
 fn push_at(mounts: &Mounts, graft: &Graft, part: MountId, copies: &[Mount]) -> Option<NewPoint>
     ensures { option_map point_of result
-        ≡ pushed_at (mounts_in mounts.now) (leaver graft.now) (location_of graft.now.place) (counted part.count)
+        ≡ pushed_at (mounts_in mounts.now) (leaver graft.now) (location_of graft.now.place) (mount_number part)
         (map mount_of copies.now) }
 {
     if part == graft.place.mount {
@@ -118,7 +109,7 @@ fn push_at(mounts: &Mounts, graft: &Graft, part: MountId, copies: &[Mount]) -> O
 
 // Whether a mount leaves its place: it is the first of a tree that moves.
 fn leaves(graft: &Graft, id: MountId) -> bool
-    ensures { result ≡ holds_of (nat_eq (counted id.count)) (leaver graft.now) }
+    ensures { result ≡ holds_of (nat_eq (mount_number id)) (leaver graft.now) }
 {
     if !graft.moves {
         return false;

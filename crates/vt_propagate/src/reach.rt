@@ -1,7 +1,7 @@
 //! The trait `Reach`.
 ghost use Rattle.std.specs.Prelude.{◌≡◌, Bool, ℕ};
 ghost use Rattle.vt_location.specs.Locations.{number_of};
-ghost use Rattle.vt_location.specs.Numbers.{counted};
+ghost use Rattle.vt_location.specs.Numbers.{filesystem_number};
 
 use vt_location::NodeRef;
 
@@ -12,5 +12,5 @@ pub trait Reach {
 
     /// Whether a directory is the one above, or lies under it in that one's filesystem.
     fn is_under(&self, top: NodeRef, directory: NodeRef) -> bool
-        ensures { result ≡ under self.now (counted top.filesystem.count) (number_of top) (number_of directory) };
+        ensures { result ≡ under self.now (filesystem_number top.filesystem) (number_of top) (number_of directory) };
 }

@@ -1,14 +1,12 @@
 //! Where a tree of mounts is attached: at its destination, and at the receivers of the mount there.
-ghost use Rattle.std.specs.Prelude.{◌≡◌, ◌∷◌, IfErr, IfOk, filter, map, nat_eq, true, ℕ};
-ghost use Rattle.vt_spec.specs.declared.errors.Rule.TheVariants.{S5};
-ghost use Rattle.vt_spec.specs.Errors.{denial};
+ghost use Rattle.std.specs.Prelude.{◌≡◌, ◌∷◌, IfOk, filter, map, nat_eq, true, ℕ};
 ghost use Rattle.vt_spec.specs.Machine.Attach.{parts_of, receivers_of};
 ghost use Rattle.vt_spec.specs.Machine.Mounts as meant;
 ghost use Rattle.vt_spec.specs.Machine.World.{World};
 ghost use Rattle.vt_group.specs.Grouping.{Has};
 ghost use Rattle.vt_location.specs.Locations.{location_of, number_of};
 ghost use Rattle.vt_location.specs.MountValue.{mount_of, propagation_of};
-ghost use Rattle.vt_location.specs.Numbers.{counted};
+ghost use Rattle.vt_location.specs.Numbers.{filesystem_number, mount_number};
 ghost use Rattle.vt_mount.specs.MountsValue.{mounts_in};
 ghost use Rattle.vt_propagate.specs.Seen.{IsSeen, ReachesAs, is_mounted, joins, mounts_numbered};
 ghost use Rattle.vt_laws_mounts.specs.Mounts.Attaching.{numbers_of};
@@ -19,32 +17,25 @@ use std::alloc::{AllocError, Global};
 use vt_group::Groups;
 use vt_location::{Location, Mount, MountId, NodeRef, Propagation};
 use vt_mount::Mounts;
-use vt_spec::errors::{Deny, Rule};
 
 /// The mounts at which a tree of mounts is attached: the destination's mount, then the receivers that take part, in
 /// order of attachment. A receiver takes part if it is attached and shows the destination.
-///
-/// S5 (ENOMEM): an allocation failed.
 pub fn parts<R: Reach>(
     alloc: Global,
     mounts: &Mounts,
     groups: &Groups,
     directories: &R,
     place: Location,
-) -> Result<Vec<Mount>, Deny>
-    requires { is_mounted mounts.now (counted place.mount.count) ≡ true }
+) -> Result<Vec<Mount>, AllocError>
+    requires { is_mounted mounts.now (mount_number place.mount) ≡ true }
     ensures ok { IfOk result (λ parts. (world : World ℕ) → IsSeen world mounts.now groups.now
         → ReachesAs world (R.under directories.now)
         → map mount_of parts.items ≡ parts_of nat_eq world (location_of place)) }
-    ensures memory { IfErr result (λ deny. deny ≡ denial S5) }
 {
     mounts.are_ascending();
     let parent = mounts.get(place.mount).unwrap();
     let receivers = receivers_of(alloc, groups, parent.propagation)?;
-    let Ok(parts) = with_receivers(alloc, mounts, directories, place, parent, &receivers) else {
-        return Err(Rule::S5.denial());
-    };
-    Ok(parts)
+    with_receivers(alloc, mounts, directories, place, parent, &receivers)
 }
 
 /// The mounts that receive what happens on a mount of this type, in order of attachment.
@@ -52,11 +43,10 @@ pub(crate) fn receivers_of(
     alloc: Global,
     groups: &Groups,
     propagation: Propagation,
-) -> Result<Vec<MountId>, Deny>
+) -> Result<Vec<MountId>, AllocError>
     ensures ok { IfOk result (λ ids. (world : World ℕ) (mount : meant.Mount ℕ) → Has world groups.now → AllGroupsLive world
         → mount.propagation ≡ propagation_of propagation
-        → map (λ id. counted id.count) ids.items ≡ numbers_of (receivers_of nat_eq world mount)) }
-    ensures memory { IfErr result (λ deny. deny ≡ denial S5) }
+        → map mount_number ids.items ≡ numbers_of (receivers_of nat_eq world mount)) }
 {
     match propagation {
         Propagation::Shared(group) => groups.receivers(alloc, group),
@@ -78,7 +68,7 @@ fn with_receivers<R: Reach>(
 ) -> Result<Vec<Mount>, AllocError>
     ensures { IfOk result (λ parts. map mount_of parts.items
         ≡ mount_of parent ∷ filter (joins (R.under directories.now) (location_of place) (mount_of parent))
-        (mounts_numbered (mounts_in mounts.now) (map (λ id. counted id.count) receivers.now))) }
+        (mounts_numbered (mounts_in mounts.now) (map mount_number receivers.now))) }
 {
     let mut parts = Vec::new(alloc);
     parts.push(parent)?;
@@ -105,7 +95,7 @@ fn takes_part<R: Reach>(
     shown: bool,
     mount: &Mount,
 ) -> bool
-    requires { shown ≡ R.under directories.now (counted parent.now.root.filesystem.count)
+    requires { shown ≡ R.under directories.now (filesystem_number parent.now.root.filesystem)
         (number_of parent.now.root) (number_of place.node) }
     ensures { result ≡ joins (R.under directories.now) (location_of place) (mount_of parent.now) (mount_of mount.now) }
 {
@@ -123,9 +113,9 @@ fn shows<R: Reach>(
     shown: bool,
     root: NodeRef,
 ) -> bool
-    requires { shown ≡ R.under directories.now (counted known.filesystem.count) (number_of known)
+    requires { shown ≡ R.under directories.now (filesystem_number known.filesystem) (number_of known)
         (number_of directory) }
-    ensures { result ≡ R.under directories.now (counted root.filesystem.count) (number_of root)
+    ensures { result ≡ R.under directories.now (filesystem_number root.filesystem) (number_of root)
         (number_of directory) }
 {
     if root == known {

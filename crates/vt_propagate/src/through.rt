@@ -1,14 +1,12 @@
 //! Which mounts an unmount event detaches once earlier events detached mounts. The mounts and groups are those before
 //! all events: they are looked at through the mounts that are gone. What stood on the root of such a mount has fallen
 //! into its place, and from its group nothing is received there.
-ghost use Rattle.std.specs.Prelude.{◌≡◌, IfErr, IfOk, find, is_some, map, nat_eq, not, option_map, ℕ};
-ghost use Rattle.vt_spec.specs.declared.errors.Rule.TheVariants.{S5};
-ghost use Rattle.vt_spec.specs.Errors.{denial};
+ghost use Rattle.std.specs.Prelude.{◌≡◌, IfOk, find, is_some, map, nat_eq, not, option_map, ℕ};
 ghost use Rattle.vt_spec.specs.Lists.{holds_of};
 ghost use Rattle.vt_spec.specs.Machine.World.{World};
 ghost use Rattle.vt_location.specs.Locations.{location_of, number_of};
 ghost use Rattle.vt_location.specs.MountValue.{mount_of};
-ghost use Rattle.vt_location.specs.Numbers.{counted};
+ghost use Rattle.vt_location.specs.Numbers.{group_number, mount_number};
 ghost use Rattle.vt_mount.specs.MountsValue.{mounts_in};
 ghost use Rattle.vt_propagate.specs.Falling.{HasJust};
 ghost use Rattle.vt_propagate.specs.Seen.{IsSeen};
@@ -23,7 +21,6 @@ use std::alloc::{AllocError, Global};
 use vt_group::Groups;
 use vt_location::{GroupId, Location, Mount, MountId, NodeRef};
 use vt_mount::Mounts;
-use vt_spec::errors::{Deny, Rule};
 
 /// The mounts that an event detaches once these are gone.
 pub(crate) fn going_then(
@@ -32,29 +29,25 @@ pub(crate) fn going_then(
     groups: &Groups,
     gone: &Gone,
     id: MountId,
-) -> Result<Vec<MountId>, Deny>
-    requires { HasJust gone.now.set.now.keys (map (λ id. counted id.count) gone.now.ids.now) }
+) -> Result<Vec<MountId>, AllocError>
+    requires { HasJust gone.now.set.now.keys (map mount_number gone.now.ids.now) }
     ensures ok { IfOk result (λ going. (world : World ℕ) → IsSeen world mounts.now groups.now
-        → map (λ id. counted id.count) going.items
-        ≡ going_then_of world (map (λ id. counted id.count) gone.now.ids.now) (counted id.count)) }
-    ensures memory { IfErr result (λ deny. deny ≡ denial S5) }
+        → map mount_number going.items
+        ≡ going_then_of world (map mount_number gone.now.ids.now) (mount_number id)) }
 {
     let Some((point, group)) = shared_point_then(mounts, gone, id) else {
         return alone(alloc, id);
     };
     let receivers = groups.receivers(alloc, group)?;
-    let Ok(going) = free_on_then(alloc, mounts, gone, point.node, &receivers) else {
-        return Err(Rule::S5.denial());
-    };
-    Ok(going)
+    free_on_then(alloc, mounts, gone, point.node, &receivers)
 }
 
 // The mount point of a mount whose parent is shared then, and the parent's group.
 fn shared_point_then(mounts: &Mounts, gone: &Gone, id: MountId) -> Option<(Location, GroupId)>
-    requires { HasJust gone.now.set.now.keys (map (λ id. counted id.count) gone.now.ids.now) }
-    ensures { option_map (λ found. (location_of found.0, counted found.1.count)) result
-        ≡ shared_point_then_of (mounts_in mounts.now) (map (λ id. counted id.count) gone.now.ids.now)
-        (counted id.count) }
+    requires { HasJust gone.now.set.now.keys (map mount_number gone.now.ids.now) }
+    ensures { option_map (λ found. (location_of found.0, group_number found.1)) result
+        ≡ shared_point_then_of (mounts_in mounts.now) (map mount_number gone.now.ids.now)
+        (mount_number id) }
 {
     let point = place_left(mounts, gone, mounts.get(id)?.mount_point?);
     if is_gone(gone, point.mount) {
@@ -71,10 +64,10 @@ fn free_on_then(
     node: NodeRef,
     receivers: &[MountId],
 ) -> Result<Vec<MountId>, AllocError>
-    requires { HasJust gone.now.set.now.keys (map (λ id. counted id.count) gone.now.ids.now) }
-    ensures { IfOk result (λ going. map (λ id. counted id.count) going.items
-        ≡ free_on_then (mounts_in mounts.now) (map (λ id. counted id.count) gone.now.ids.now) (number_of node)
-        (map (λ id. counted id.count) receivers.now)) }
+    requires { HasJust gone.now.set.now.keys (map mount_number gone.now.ids.now) }
+    ensures { IfOk result (λ going. map mount_number going.items
+        ≡ free_on_then (mounts_in mounts.now) (map mount_number gone.now.ids.now) (number_of node)
+        (map mount_number receivers.now)) }
 {
     let mut going = Vec::new(alloc);
     for receiver in receivers {
@@ -92,10 +85,10 @@ fn free_at_receiver(
     node: NodeRef,
     receiver: MountId,
 ) -> Option<MountId>
-    requires { HasJust gone.now.set.now.keys (map (λ id. counted id.count) gone.now.ids.now) }
-    ensures { option_map (λ id. counted id.count) result
-        ≡ free_at_receiver (mounts_in mounts.now) (map (λ id. counted id.count) gone.now.ids.now) (number_of node)
-        (counted receiver.count) }
+    requires { HasJust gone.now.set.now.keys (map mount_number gone.now.ids.now) }
+    ensures { option_map mount_number result
+        ≡ free_at_receiver (mounts_in mounts.now) (map mount_number gone.now.ids.now) (number_of node)
+        (mount_number receiver) }
 {
     if is_gone(gone, receiver) {
         return None;
@@ -109,9 +102,9 @@ fn free_at_receiver(
 
 // The mount at a location then, if it may go.
 fn free_at_then(mounts: &Mounts, gone: &Gone, place: Location) -> Option<MountId>
-    requires { HasJust gone.now.set.now.keys (map (λ id. counted id.count) gone.now.ids.now) }
-    ensures { option_map (λ id. counted id.count) result
-        ≡ free_at_then (mounts_in mounts.now) (map (λ id. counted id.count) gone.now.ids.now) (location_of place) }
+    requires { HasJust gone.now.set.now.keys (map mount_number gone.now.ids.now) }
+    ensures { option_map mount_number result
+        ≡ free_at_then (mounts_in mounts.now) (map mount_number gone.now.ids.now) (location_of place) }
 {
     let child = standing_over(mounts, gone, place)?;
     is_free_then(mounts, gone, child).then_some(child)
@@ -119,11 +112,10 @@ fn free_at_then(mounts: &Mounts, gone: &Gone, place: Location) -> Option<MountId
 
 // Whether a mount may go: nothing stands on it then, but on its root.
 fn is_free_then(mounts: &Mounts, gone: &Gone, id: MountId) -> bool
-    requires { HasJust gone.now.set.now.keys (map (λ id. counted id.count) gone.now.ids.now) }
-    ensures { result ≡ is_free_by_number (mounts_in mounts.now) (map (λ id. counted id.count) gone.now.ids.now)
-        (counted id.count) }
+    requires { HasJust gone.now.set.now.keys (map mount_number gone.now.ids.now) }
+    ensures { result ≡ is_free_by_number (mounts_in mounts.now) (map mount_number gone.now.ids.now)
+        (mount_number id) }
 {
-    mounts.are_ascending();
     let Some(mount) = mounts.get(id) else {
         return false;
     };
@@ -137,10 +129,10 @@ fn is_free_then(mounts: &Mounts, gone: &Gone, id: MountId) -> bool
 
 // Whether what stands then at the place of a child stands on the mount's root, or nothing does.
 fn rests_on_root(mounts: &Mounts, gone: &Gone, mount: &Mount, child: MountId) -> bool
-    requires { HasJust gone.now.set.now.keys (map (λ id. counted id.count) gone.now.ids.now) }
-    ensures { result ≡ holds_of (rests_on_root (mounts_in mounts.now) (map (λ id. counted id.count) gone.now.ids.now)
+    requires { HasJust gone.now.set.now.keys (map mount_number gone.now.ids.now) }
+    ensures { result ≡ holds_of (rests_on_root (mounts_in mounts.now) (map mount_number gone.now.ids.now)
         (mount_of mount.now))
-        (find (λ mount. nat_eq (counted child.count) mount.number) (mounts_in mounts.now)) }
+        (find (λ mount. nat_eq (mount_number child) mount.number) (mounts_in mounts.now)) }
 {
     match mounts.get(child) {
         Some(child) => stands_at(&child, mount.root_location())
@@ -151,9 +143,9 @@ fn rests_on_root(mounts: &Mounts, gone: &Gone, mount: &Mount, child: MountId) ->
 
 // Whether nothing stands then at the place of a mount.
 fn is_empty_then(mounts: &Mounts, gone: &Gone, mount: &Mount) -> bool
-    requires { HasJust gone.now.set.now.keys (map (λ id. counted id.count) gone.now.ids.now) }
+    requires { HasJust gone.now.set.now.keys (map mount_number gone.now.ids.now) }
     ensures { result ≡ not (holds_of (λ place. is_some (standing_over_of (mounts_in mounts.now)
-        (map (λ id. counted id.count) gone.now.ids.now) place)) (mount_of mount.now).mount_point) }
+        (map mount_number gone.now.ids.now) place)) (mount_of mount.now).mount_point) }
 {
     match mount.mount_point {
         Some(place) => standing_over(mounts, gone, place).is_none(),
@@ -163,12 +155,11 @@ fn is_empty_then(mounts: &Mounts, gone: &Gone, mount: &Mount) -> bool
 
 // The mount that stands at a place then: what stood on the root of one that is gone has fallen into its place.
 fn standing_over(mounts: &Mounts, gone: &Gone, place: Location) -> Option<MountId>
-    requires { HasJust gone.now.set.now.keys (map (λ id. counted id.count) gone.now.ids.now) }
-    ensures { option_map (λ id. counted id.count) result
-        ≡ standing_over_of (mounts_in mounts.now) (map (λ id. counted id.count) gone.now.ids.now)
+    requires { HasJust gone.now.set.now.keys (map mount_number gone.now.ids.now) }
+    ensures { option_map mount_number result
+        ≡ standing_over_of (mounts_in mounts.now) (map mount_number gone.now.ids.now)
         (location_of place) }
 {
-    mounts.are_ascending();
     let mut here = place;
     for _ in 0..mounts.len() {
         let child = mounts.child_at(here)?;

@@ -79,6 +79,7 @@ look_call_of look.ListMounts = spec.Call.ListMounts
 abbrev pub make_call_of : MakeCall → spec.Call
 make_call_of (make.Mkdir path mode) = spec.Call.Mkdir path.items mode
 make_call_of (make.Symlink text path) = spec.Call.SymlinkAt text.items path.items
+make_call_of (make.Whiteout path) = spec.Call.MakeWhiteout path.items
 make_call_of (make.Link old new) = spec.Call.LinkTo old.items new.items
 
 -- a call that takes a name away
@@ -87,12 +88,13 @@ remove_call_of (remove.Unlink path) = spec.Call.Unlink path.items
 remove_call_of (remove.Rmdir path) = spec.Call.Rmdir path.items
 remove_call_of (remove.Rename old new) = spec.Call.Rename old.items new.items
 
--- a call that sets the content, the owner or the mode of a file
+-- a call that sets the content, the owner or the mode of an object, or the mark of a directory
 abbrev pub write_call_of : WriteCall → spec.Call
 write_call_of (write.Write path bytes) = spec.Call.Write path.items bytes.items
 write_call_of (write.Pwrite descriptor offset bytes) = spec.Call.Pwrite descriptor offset bytes.items
 write_call_of (write.Chmod path mode) = spec.Call.Chmod path.items mode
 write_call_of (write.Chown path uid gid) = spec.Call.Chown path.items uid gid
+write_call_of (write.Opaque path mark) = spec.Call.Opaque path.items mark
 
 -- a call that opens or closes a file
 abbrev pub descriptor_call_of : DescriptorCall → spec.Call

@@ -21,6 +21,7 @@ pub enum CallKind {
     ListMounts,
     Mkdir,
     Symlink,
+    Whiteout,
     Link,
     Unlink,
     Rmdir,
@@ -29,6 +30,7 @@ pub enum CallKind {
     Pwrite,
     Chmod,
     Chown,
+    Opaque,
     Open,
     Close,
     Chdir,
@@ -96,6 +98,7 @@ impl MakeCall {
         match self {
             MakeCall::Mkdir { .. } => CallKind::Mkdir,
             MakeCall::Symlink { .. } => CallKind::Symlink,
+            MakeCall::Whiteout { .. } => CallKind::Whiteout,
             MakeCall::Link { .. } => CallKind::Link,
         }
     }
@@ -122,6 +125,7 @@ impl WriteCall {
             WriteCall::Pwrite { .. } => CallKind::Pwrite,
             WriteCall::Chmod { .. } => CallKind::Chmod,
             WriteCall::Chown { .. } => CallKind::Chown,
+            WriteCall::Opaque { .. } => CallKind::Opaque,
         }
     }
 }

@@ -129,6 +129,8 @@ pub enum MakeCall {
     Mkdir { path: Vec<u8>, mode: Option<Mode> },
     /// symlink(2): a link with this text at this path.
     Symlink { text: Vec<u8>, path: Vec<u8> },
+    /// mknod(2) of a whiteout, the character device 0/0.
+    Whiteout { path: Vec<u8> },
     /// link(2)
     Link { old: Vec<u8>, new: Vec<u8> },
 }
@@ -144,7 +146,7 @@ pub enum RemoveCall {
     Rename { old: Vec<u8>, new: Vec<u8> },
 }
 
-/// A call that sets the content, the owner or the mode of a file.
+/// A call that sets the content, the owner or the mode of an object, or the mark of a directory.
 #[derive(Debug, Drop)]
 pub enum WriteCall {
     /// Sets the whole content of a file, and makes a missing one: open(2) with `O_WRONLY`,
@@ -169,6 +171,11 @@ pub enum WriteCall {
         path: Vec<u8>,
         uid: Option<u32>,
         gid: Option<u32>,
+    },
+    /// setxattr(2) of `trusted.overlay.opaque`: a directory is marked, or no longer.
+    Opaque {
+        path: Vec<u8>,
+        mark: bool,
     },
 }
 

@@ -1,7 +1,6 @@
 //! What the slaves of a group get where the group ends: mount_namespaces(7).
 ghost use Rattle.std.specs.Prelude.{◌≡◌, map, option_map};
-ghost use Rattle.vt_group.specs.Steps.{group_number};
-ghost use Rattle.vt_location.specs.Numbers.{counted};
+ghost use Rattle.vt_location.specs.Numbers.{mount_number, group_number};
 ghost use Rattle.vt_mount.specs.MountsValue.{changed};
 ghost use Rattle.vt_retype.specs.Leaving.{HaveSources, OnlyTypesChange, after_end, after_end_of, once_left};
 
@@ -12,7 +11,7 @@ use vt_mount::Mounts;
 // If this mount is the last member of its group, the slaves of the group get its master, or become private.
 pub(crate) fn hand_on(mounts: &mut Mounts, groups: &Groups, id: MountId)
     ensures slaves { HaveSources groups.now mounts.old
-        → mounts.new ≡ map (once_left groups.now (counted id.count)) mounts.old }
+        → mounts.new ≡ map (once_left groups.now (mount_number id)) mounts.old }
     ensures types { OnlyTypesChange mounts.old mounts.new }
 {
     let Some(lost) = groups.ends_with(id) else {
@@ -28,7 +27,7 @@ fn hand_to_all(
     lost: GroupId,
     heir: Option<GroupId>,
 )
-    ensures { mounts.new ≡ map (after_end_of (map (λ id. counted id.count) relatives.entry) (counted lost.count)
+    ensures { mounts.new ≡ map (after_end_of (map mount_number relatives.entry) (group_number lost)
         (option_map group_number heir)) mounts.old }
 {
     for id in relatives {
@@ -37,7 +36,7 @@ fn hand_to_all(
 }
 
 fn hand_to(mounts: &mut Mounts, id: MountId, lost: GroupId, heir: Option<GroupId>)
-    ensures { mounts.new ≡ changed (counted id.count) (after_end (counted lost.count) (option_map group_number heir))
+    ensures { mounts.new ≡ changed (mount_number id) (after_end (group_number lost) (option_map group_number heir))
         mounts.old }
 {
     mounts.are_ascending();

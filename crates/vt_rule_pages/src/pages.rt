@@ -72,17 +72,17 @@ pub const RULES: [Rule; 52] = [
 ];
 
 // All calls, and those that are given a path.
-const ALL: [&str; 37] = [
-    "ls", "stat", "lstat", "readlink", "read", "write", "exec", "mkdir", "symlink", "link",
-    "unlink", "rmdir", "rename", "chmod", "chown", "open", "pread", "pwrite", "close", "chdir",
-    "chroot", "umask", "drop", "fork", "exit", "unshare", "setns", "mount", "bind", "rbind",
-    "move", "umount", "lazy", "remount", "type", "rtype", "mounts",
+const ALL: [&str; 39] = [
+    "ls", "stat", "lstat", "readlink", "read", "write", "exec", "mkdir", "symlink", "whiteout",
+    "link", "unlink", "rmdir", "rename", "chmod", "chown", "opaque", "open", "pread", "pwrite",
+    "close", "chdir", "chroot", "umask", "drop", "fork", "exit", "unshare", "setns", "mount",
+    "bind", "rbind", "move", "umount", "lazy", "remount", "type", "rtype", "mounts",
 ];
 
-const PATHS: [&str; 27] = [
-    "ls", "stat", "lstat", "readlink", "read", "write", "exec", "mkdir", "symlink", "link",
-    "unlink", "rmdir", "rename", "chmod", "chown", "open", "chdir", "chroot", "mount", "bind",
-    "rbind", "move", "umount", "lazy", "remount", "type", "rtype",
+const PATHS: [&str; 29] = [
+    "ls", "stat", "lstat", "readlink", "read", "write", "exec", "mkdir", "symlink", "whiteout",
+    "link", "unlink", "rmdir", "rename", "chmod", "chown", "opaque", "open", "chdir", "chroot",
+    "mount", "bind", "rbind", "move", "umount", "lazy", "remount", "type", "rtype",
 ];
 
 const S1: RulePage = RulePage {
@@ -130,8 +130,8 @@ const S6: RulePage = RulePage {
 const K1: RulePage = RulePage {
     meaning: "a capability is missing",
     calls: &[
-        "fork", "chroot", "unshare", "setns", "mount", "bind", "rbind", "move", "umount", "lazy",
-        "remount", "type", "rtype",
+        "opaque", "fork", "chroot", "unshare", "setns", "mount", "bind", "rbind", "move", "umount",
+        "lazy", "remount", "type", "rtype",
     ],
     manual: "capabilities(7)",
     script: "t drop *\nt unshare => deny 1 EPERM K1\n",
@@ -202,7 +202,7 @@ const W9: RulePage = RulePage {
 
 const E1: RulePage = RulePage {
     meaning: "the name exists",
-    calls: &["mkdir", "symlink", "link", "open"],
+    calls: &["mkdir", "symlink", "whiteout", "link", "open"],
     manual: "mkdir(2)",
     script: "t mkdir /d\nt mkdir /d => deny 17 EEXIST E1\n",
 };
@@ -258,15 +258,16 @@ const E8: RulePage = RulePage {
 
 const E9: RulePage = RulePage {
     meaning: "a whiteout is opened",
-    calls: &[],
-    manual: "the kernel: Documentation/filesystems/overlayfs.rst",
-    script: "",
+    calls: &["read", "write", "open"],
+    manual: "open(2), ENXIO; the kernel: Documentation/filesystems/overlayfs.rst",
+    script: "t whiteout /w\nt read /w => deny 6 ENXIO E9\n",
 };
 
 const F1: RulePage = RulePage {
     meaning: "the mount is read-only",
     calls: &[
-        "write", "mkdir", "symlink", "link", "unlink", "rmdir", "rename", "chmod", "chown", "open",
+        "write", "mkdir", "symlink", "whiteout", "link", "unlink", "rmdir", "rename", "chmod",
+        "chown", "opaque", "open",
     ],
     manual: "mount(2), MS_RDONLY",
     script: "t remount / ro\nt mkdir /d => deny 30 EROFS F1\n",
@@ -310,8 +311,8 @@ const P2: RulePage = RulePage {
 const C1: RulePage = RulePage {
     meaning: "the bits of the object refuse it to the caller",
     calls: &[
-        "ls", "read", "write", "exec", "mkdir", "symlink", "link", "unlink", "rmdir", "rename",
-        "open", "chdir", "chroot",
+        "ls", "read", "write", "exec", "mkdir", "symlink", "whiteout", "link", "unlink", "rmdir",
+        "rename", "open", "chdir", "chroot",
     ],
     manual: "path_resolution(7)",
     script: "t fork 1 1 - - => ok t.1\nt.1 mkdir /d => deny 13 EACCES C1\n",

@@ -1,3 +1,4 @@
+mod Alike
 pub mod Judged
 pub mod PlainRows
 pub mod Refusals

@@ -1,7 +1,9 @@
-//! Who may set attributes: chmod(2), chown(2).
-ghost use Rattle.std.specs.Prelude.{◌≡◌, nat_eq};
+//! Who may set attributes and marks: chmod(2), chown(2), setxattr(2).
+ghost use Rattle.std.specs.Prelude.{◌≡◌, nat_eq, Ok};
+ghost use Rattle.vt_spec.specs.Errors.{unless};
 ghost use Rattle.vt_spec.specs.Machine.Judge.{attr_permit};
 ghost use Rattle.vt_spec.specs.Machine.Attributes.{may_chown};
+ghost use Rattle.vt_spec.specs.Machine.Rules.Attributes.{opaque_rules};
 ghost use Rattle.vt_location.specs.Locations.{location_of};
 ghost use Rattle.vt_permits.specs.Memory.{JudgesAlike};
 ghost use Rattle.vt_tasks.specs.TaskValue.{task_of};
@@ -48,4 +50,17 @@ pub fn may_chown(who: &Cred, old: &Attr, new: &Attr) -> bool
         || (who.uid() == old.uid
             && new.uid == old.uid
             && (new.gid == old.gid || who.is_member(new.gid)))
+}
+
+/// The opaque mark of a directory may be set: setxattr(2) of `trusted.overlay.opaque`.
+///
+/// F1 (EROFS).
+pub fn may_mark<L: Look>(world: &L, directory: Location) -> Result<(), Deny>
+    ensures { result ≡ unless (opaque_rules (L.looks world.now) (location_of directory)) (Ok tt) }
+{
+    world.has_no_overlays();
+    if is_read_only(world, directory) {
+        return Err(Rule::F1.denial());
+    }
+    Ok(())
 }

@@ -1,9 +1,9 @@
-//! What may be made and written: mkdir(2), symlink(2), open(2) with `O_CREAT`, write(2).
+//! What may be made and written: mkdir(2), symlink(2), mknod(2), open(2) with `O_CREAT`, write(2).
 ghost use Rattle.std.specs.Prelude.{◌≡◌, nat_eq, None, Ok, Some, ℕ};
 ghost use Rattle.vt_spec.specs.Errors.{unless};
 ghost use Rattle.vt_spec.specs.Language.Changes.{Change};
 ghost use Rattle.vt_spec.specs.Machine.Judge.{written_permit};
-ghost use Rattle.vt_spec.specs.Machine.Rules.Making.{make_rules};
+ghost use Rattle.vt_spec.specs.Machine.Rules.Making.{make_rules, whiteout_rules};
 ghost use Rattle.vt_spec.specs.Machine.Walking.{Place as PlaceMeant};
 ghost use Rattle.vt_spec.specs.Tree.{new_directory};
 ghost use Rattle.vt_location.specs.Locations.{location_of, number_of};
@@ -37,6 +37,26 @@ pub fn may_make<L: Look>(world: &L, who: &Task, directory: Location) -> Result<(
         return Err(Rule::F1.denial());
     }
     if !may(world, who, directory, Rights::WRITE) {
+        return Err(Rule::C1.denial());
+    }
+    Ok(())
+}
+
+/// A whiteout may be made at a place: mknod(2).
+///
+/// E1 (EEXIST), F1 (EROFS), C1 (EACCES).
+pub fn may_make_whiteout<L: Look>(world: &L, who: &Task, place: &Place) -> Result<(), Deny>
+    ensures { (meant : PlaceMeant ℕ) → IsPlaceOf place.now meant
+        → result ≡ unless (whiteout_rules (L.looks world.now) (task_of who.now) meant) (Ok tt) }
+{
+    world.has_no_overlays();
+    if place.last.is_special() || place.object.is_some() {
+        return Err(Rule::E1.denial());
+    }
+    if is_read_only(world, place.parent) {
+        return Err(Rule::F1.denial());
+    }
+    if !may(world, who, place.parent, Rights::WRITE) {
         return Err(Rule::C1.denial());
     }
     Ok(())

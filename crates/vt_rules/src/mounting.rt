@@ -3,7 +3,7 @@ ghost use Rattle.std.specs.Prelude.{◌≡◌, is_some, Ok};
 ghost use Rattle.vt_spec.specs.Errors.{unless};
 ghost use Rattle.vt_spec.specs.Machine.Rules.Mounting.{has_shared_parent};
 ghost use Rattle.vt_location.specs.Locations.{location_of};
-ghost use Rattle.vt_location.specs.Numbers.{counted};
+ghost use Rattle.vt_location.specs.Numbers.{mount_number};
 ghost use Rattle.vt_tasks.specs.TaskValue.{task_of};
 ghost use Rattle.vt_rules.specs.Tables.{move_table};
 
@@ -16,7 +16,7 @@ use vt_tasks::Task;
 /// Whether a mount has a mount point: EINVAL of mount(2) with `MS_MOVE` and of umount(2). The root mount of a
 /// namespace has none.
 pub fn is_attached_somewhere<L: Look>(world: &L, mount: MountId) -> bool
-    ensures { result ≡ is_some ((L.looks world.now).mount (counted mount.count)).mount_point }
+    ensures { result ≡ is_some ((L.looks world.now).mount (mount_number mount)).mount_point }
 {
     match world.mount(mount) {
         Some(mount) => mount.mount_point.is_some(),

@@ -12,8 +12,7 @@ ghost use Rattle.vt_rules.specs.Places.{IsPlaceOf};
 ghost use Rattle.vt_rules.specs.Tables.{kind_rules, remove_rules, right_rules, way_rules};
 
 use crate::rights::{
-    is_directory, is_kept, is_nonempty, is_read_only, is_same_filesystem, is_same_inode,
-    is_same_location, may,
+    is_directory, is_kept, is_read_only, is_same_filesystem, is_same_inode, is_same_location, may,
 };
 use vt_cred::Rights;
 use vt_location::Location;
@@ -87,7 +86,7 @@ fn may_replace<L: Look>(world: &L, to: &Place, object: Location) -> Result<(), D
         if moves_directory && !is_directory(world, replaced) {
             return Err(Rule::E3.denial());
         }
-        if moves_directory && is_nonempty(world, replaced) {
+        if moves_directory && world.is_nonempty(replaced) {
             return Err(Rule::E4.denial());
         }
     }

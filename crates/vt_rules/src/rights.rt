@@ -7,12 +7,12 @@ ghost use Rattle.vt_spec.specs.Machine.Mounts.{is_shared, is_unbindable, same_lo
 ghost use Rattle.vt_spec.specs.Machine.Rows.{exact_attr, new_attr};
 ghost use Rattle.vt_spec.specs.Machine.Rules.Attributes.{attr_at};
 ghost use Rattle.vt_spec.specs.Machine.Rules.Conditions.{is_elsewhere, is_kept, is_no_root, is_read_only, kind_at, lacks};
-ghost use Rattle.vt_spec.specs.Machine.Rules.Removing.{is_nonempty, same_filesystem};
+ghost use Rattle.vt_spec.specs.Machine.Rules.Removing.{same_filesystem};
 ghost use Rattle.vt_spec.specs.Machine.Walking.{name_of};
 ghost use Rattle.vt_cred.specs.Caps.{capability_bits};
 ghost use Rattle.vt_cred.specs.Rights.{right_bits};
 ghost use Rattle.vt_location.specs.Locations.{location_of, number_of};
-ghost use Rattle.vt_location.specs.Numbers.{counted};
+ghost use Rattle.vt_location.specs.Numbers.{filesystem_number, mount_number};
 ghost use Rattle.vt_tasks.specs.TaskValue.{task_of};
 ghost use Rattle.vt_looks.specs.Places.{last_of};
 
@@ -44,17 +44,6 @@ pub fn is_directory<L: Look>(world: &L, at: Location) -> bool
 {
     match world.node(at) {
         Some(node) => node.is_directory(),
-        None => false,
-    }
-}
-
-/// Whether a directory with entries is there.
-#[inline(always)]
-pub fn is_nonempty<L: Look>(world: &L, at: Location) -> bool
-    ensures { result ≡ is_nonempty (L.looks world.now) (location_of at) }
-{
-    match world.node(at) {
-        Some(node) => node.is_nonempty(),
         None => false,
     }
 }
@@ -133,7 +122,7 @@ pub fn is_elsewhere<L: Look>(world: &L, who: &Task, at: Location) -> bool
 // The filesystem that a location is in.
 #[inline(always)]
 fn filesystem_at<L: Look>(world: &L, at: Location) -> FilesystemId
-    ensures { counted result.count ≡ (mount_at (L.looks world.now) (location_of at)).filesystem }
+    ensures { filesystem_number result ≡ (mount_at (L.looks world.now) (location_of at)).filesystem }
 {
     match world.mount(at.mount) {
         Some(mount) => mount.root.filesystem,
@@ -177,7 +166,7 @@ pub(crate) fn is_same_location(a: Location, b: Location) -> bool
 
 /// Whether a mount is a member of a peer group.
 pub(crate) fn is_shared<L: Look>(world: &L, id: MountId) -> bool
-    ensures { result ≡ is_shared ((L.looks world.now).mount (counted id.count)).propagation }
+    ensures { result ≡ is_shared ((L.looks world.now).mount (mount_number id)).propagation }
 {
     match world.mount(id) {
         Some(mount) => matches!(mount.propagation, Propagation::Shared(_)),
@@ -187,7 +176,7 @@ pub(crate) fn is_shared<L: Look>(world: &L, id: MountId) -> bool
 
 /// Whether a mount is unbindable.
 pub fn is_unbindable<L: Look>(world: &L, id: MountId) -> bool
-    ensures { result ≡ is_unbindable ((L.looks world.now).mount (counted id.count)).propagation }
+    ensures { result ≡ is_unbindable ((L.looks world.now).mount (mount_number id)).propagation }
 {
     match world.mount(id) {
         Some(mount) => matches!(mount.propagation, Propagation::Unbindable),
@@ -221,6 +210,17 @@ pub fn symlink_attr(task: &Task) -> Attr
         uid: task.cred.uid(),
         gid: task.cred.gid(),
         mode: Mode::new(0o777).unwrap(),
+    }
+}
+
+/// The owner, group and mode of a whiteout that the task makes: the kernel's overlayfs makes it with no permission bit.
+pub fn whiteout_attr(task: &Task) -> Attr
+    ensures { result ≡ exact_attr (task_of task.now) 0 }
+{
+    Attr {
+        uid: task.cred.uid(),
+        gid: task.cred.gid(),
+        mode: Mode::new(0).unwrap(),
     }
 }
 

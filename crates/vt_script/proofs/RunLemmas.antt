@@ -2,7 +2,7 @@
 use Rattle.std.proofs.Common.{◌≡◌, ◌≢◌, ◌<◌, ◌-◌, ℕ, suc, ◌+◌, ◌==◌, arith, drop, get_or, length, length-take, map, take, Bool, true, false, List, [], ◌∷◌, ◌++◌, Some, None, refl, sym, ap, ◌∙◌, subst, append_assoc, nat_eq}
 use Rattle.std.proofs.lemmas.Bool.Decides.{nat_tests}
 use Rattle.std.proofs.lemmas.List.{append-nil, drop_more, get_or-take, take-append-drop, take_rest}
-use Rattle.vt_spec.specs.Language.Script.{lines_of, propagation, with_line_byte}
+use Rattle.vt_spec.specs.Language.Script.{lines_of, marks, with_line_byte}
 use Rattle.vt_spec.specs.Machine.Run.{handed, later, line_step, numbers_for, step_text, step_world, text_from}
 use Rattle.vt_spec.specs.Machine.SameWorlds.{SameWorlds}
 use Rattle.vt_spec.specs.Machine.World.{World}
@@ -84,11 +84,11 @@ whole_lines-before (byte ∷ other ∷ front) next rest whole =
     ap (whole_with (byte == 10) byte) (whole_lines-before (other ∷ front) next rest whole)
     ∙ whole_with-more (byte == 10) byte other (front ++ next ∷ rest)
 
-whole_lines-append : (a b : List ℕ) → whole_lines a ≡ a → whole_lines b ≡ b → whole_lines (a ++ b) ≡ a ++ b
+pub whole_lines-append : (a b : List ℕ) → whole_lines a ≡ a → whole_lines b ≡ b → whole_lines (a ++ b) ≡ a ++ b
 whole_lines-append a [] first second = rw append-nil first
 whole_lines-append a (next ∷ rest) first second = whole_lines-before a next rest second
 
-whole_lines-newline : (line : List ℕ) → whole_lines (line ++ 10 ∷ []) ≡ line ++ 10 ∷ []
+pub whole_lines-newline : (line : List ℕ) → whole_lines (line ++ 10 ∷ []) ≡ line ++ 10 ∷ []
 whole_lines-newline line = whole_lines-before line 10 [] refl
 
 whole_tail : (b : Bool) (byte : ℕ) (rest ended : List ℕ) → whole_with b byte rest ≡ byte ∷ ended → rest ≡ ended
@@ -199,7 +199,7 @@ runs_refused moment world none takes same = record {
   refused = true ∷ [];
   may_be = subst (λ lines. MayBeRefused lines (true ∷ [])) (sym (lines_of-newline moment.line [] none)) (takes, tt);
   goes_on = λ more later rest told.
-      subst (λ lines. TellsAlike propagation may_be_given moment.world (moment.answered + 1) lines (true ∷ later)
+      subst (λ lines. TellsAlike marks may_be_given moment.world (moment.answered + 1) lines (true ∷ later)
       (step_text (moment.answered + 1) (step_of moment.world moment.line None) ++ rest))
       (sym (line_then moment.line more none))
       (world, same, rest, refl, told);
@@ -218,7 +218,7 @@ runs_spoken moment allotment world serves none same = record {
   refused = false ∷ [];
   may_be = subst (λ lines. MayBeRefused lines (false ∷ [])) (sym (lines_of-newline moment.line [] none)) tt;
   goes_on = λ more later rest told.
-      subst (λ lines. TellsAlike propagation may_be_given moment.world (moment.answered + 1) lines (false ∷ later)
+      subst (λ lines. TellsAlike marks may_be_given moment.world (moment.answered + 1) lines (false ∷ later)
       (step_text (moment.answered + 1) (step_of moment.world moment.line (Some allotment)) ++ rest))
       (sym (line_then moment.line more none))
       (allotment, serves, world, same, rest, refl, told);
@@ -226,33 +226,33 @@ runs_spoken moment allotment world serves none same = record {
 
 -- the text of the lines that ended
 pub told_whole : (old : Moment) (bytes text : List ℕ) (new : Moment) (runs : Runs old bytes text new)
-    → TellsAlike propagation may_be_given old.world (old.answered + 1) (lines_of runs.ended) runs.refused text
+    → TellsAlike marks may_be_given old.world (old.answered + 1) (lines_of runs.ended) runs.refused text
 told_whole old bytes text new runs =
-    let told : TellsAlike propagation may_be_given old.world (old.answered + 1) (lines_of (runs.ended ++ []))
+    let told : TellsAlike marks may_be_given old.world (old.answered + 1) (lines_of (runs.ended ++ []))
     (runs.refused ++ []) (text ++ []) = runs.goes_on [] [] [] refl in
     rw (append-nil runs.ended, append-nil runs.refused, append-nil text) at told
 
 -- the text of lines that are not all is a beginning of the text of all
 pub text_from-front : (world : World ℕ) (number : ℕ) (front back : List (List ℕ)) (refused : List Bool) →
-    (more : List ℕ) × (text_from propagation world number (front ++ back) refused
-    ≡ text_from propagation world number front refused ++ more)
-text_from-front world number [] back refused = (text_from propagation world number back refused, refl)
+    (more : List ℕ) × (text_from marks world number (front ++ back) refused
+    ≡ text_from marks world number front refused ++ more)
+text_from-front world number [] back refused = (text_from marks world number back refused, refl)
 text_from-front world number (line ∷ front) back refused =
-    let step = line_step nat_eq propagation world line (handed number refused) in
+    let step = line_step nat_eq marks world line (handed number refused) in
     let rest = text_from-front (step_world world step) (number + 1) front back (later refused) in
     (rest.0, ap (λ xs. step_text number step ++ xs) rest.1 ∙ sym (append_assoc (step_text number step) _ rest.0))
 
 -- what is said of lines that are not there changes no text
 pub text_from-padded : (world : World ℕ) (number : ℕ) (lines : List (List ℕ)) (refused pad : List Bool)
     → length refused ≡ length lines →
-    text_from propagation world number lines (refused ++ pad) ≡ text_from propagation world number lines refused
+    text_from marks world number lines (refused ++ pad) ≡ text_from marks world number lines refused
 text_from-padded world number [] refused pad e = refl
 text_from-padded world number (line ∷ lines) [] pad e = absurd (omega (arith, e))
 text_from-padded world number (line ∷ lines) (true ∷ refused) pad e =
-    let step = line_step nat_eq propagation world line None in
+    let step = line_step nat_eq marks world line None in
     ap (λ rest. step_text number step ++ rest)
     (text_from-padded (step_world world step) (number + 1) lines refused pad (omega (arith, e)))
 text_from-padded world number (line ∷ lines) (false ∷ refused) pad e =
-    let step = line_step nat_eq propagation world line (Some (numbers_for number)) in
+    let step = line_step nat_eq marks world line (Some (numbers_for number)) in
     ap (λ rest. step_text number step ++ rest)
     (text_from-padded (step_world world step) (number + 1) lines refused pad (omega (arith, e)))

@@ -3,12 +3,12 @@ use Rattle.std.proofs.Common.{◌≡◌, ℕ, ◌+◌, ◌-◌, ◌≤◌, Bool,
 use Rattle.std.proofs.Math.Seq.{take-append-add}
 use Rattle.std.proofs.lemmas.List.{take-append-drop}
 use Rattle.std.specs.Io.{StartsWith}
-use Rattle.vt_spec.specs.Language.Script.{lines_of, propagation}
+use Rattle.vt_spec.specs.Language.Script.{lines_of, marks}
 use Rattle.vt_spec.specs.Machine.Run.{first_world, script_text, text_from}
 use Rattle.vt_laws_runs.specs.Handed.{may_be_given}
 use Rattle.vt_laws_runs.specs.Runs.{TellsAlike}
 use Rattle.vt_laws_runs.proofs.handed.Counts.{programs_have_one_text}
-use Rattle.vt_laws_runs.proofs.runs.GrammarsPlain.{grammars_keep_overlays_out, propagation_mounts_no_overlay}
+use Rattle.vt_laws_runs.proofs.runs.GrammarsPlain.{grammars_keep_overlays_out, marks_mount_no_overlay}
 use Rattle.std.specs.Prelude.{OnOk, IsErrOf}
 use Rattle.vt_io.specs.declared.output.Sink.{Ghosts}
 use Rattle.vt_io.specs.Sink.{WroteFront}
@@ -33,13 +33,13 @@ rest_after_held held text new longer starts =
 module _ {first : Moment} (opens : IsOpening first) where
   -- what a run tells from the opening on is the text of its script
   one_text : (script : List ℕ) (refused : List Bool) (text : List ℕ) →
-      TellsAlike propagation may_be_given first.world (first.answered + 1) (lines_of script) refused text
+      TellsAlike marks may_be_given first.world (first.answered + 1) (lines_of script) refused text
       → text ≡ script_text refused script
   unfolding script_text
   one_text script refused text told =
-      programs_have_one_text propagation refused script text opens.0 opens.1
-      (grammars_keep_overlays_out propagation propagation_mounts_no_overlay (lines_of script))
-      (subst (λ (moment : Moment). TellsAlike propagation may_be_given moment.world (moment.answered + 1)
+      programs_have_one_text marks refused script text opens.0 opens.1
+      (grammars_keep_overlays_out marks marks_mount_no_overlay (lines_of script))
+      (subst (λ (moment : Moment). TellsAlike marks may_be_given moment.world (moment.answered + 1)
       (lines_of script) refused text) opens.2 told)
 
   -- what was read is what ended, and what follows it
@@ -66,12 +66,12 @@ module _ {first : Moment} (opens : IsOpening first) where
   -- the text of all lines is the policy's text
   pub all_told : (script text : List ℕ) (new : Moment) (runs : Runs first script text new) (refused : List Bool)
       (last : List ℕ) →
-      TellsAlike propagation may_be_given new.world (new.answered + 1) (lines_of new.line) refused last
+      TellsAlike marks may_be_given new.world (new.answered + 1) (lines_of new.line) refused last
       → MayBeRefused (lines_of new.line) refused →
       (all : List Bool) × MayBeRefused (lines_of script) all × (text ++ last ≡ script_text all script)
   all_told script text new runs refused last told may_be =
       let lines = ap lines_of (parts script text new runs) ∙ lines_of-whole runs.ended new.line runs.whole in
-      let all : TellsAlike propagation may_be_given first.world (first.answered + 1) (lines_of (runs.ended ++ new.line))
+      let all : TellsAlike marks may_be_given first.world (first.answered + 1) (lines_of (runs.ended ++ new.line))
       (runs.refused ++ refused) (text ++ last) = runs.goes_on new.line refused last told in (
         runs.refused ++ refused,
         rw lines (MayBeRefused-append (lines_of runs.ended) (lines_of new.line) runs.refused refused runs.may_be may_be),
@@ -95,7 +95,7 @@ module _ {first : Moment} (opens : IsOpening first) where
         runs.refused ++ pad,
         rw lines (MayBeRefused-append (lines_of runs.ended) others runs.refused pad runs.may_be (MayBeRefused-none others)),
         front.0,
-        ap (λ xs. text_from propagation first_world 1 xs (runs.refused ++ pad)) lines ∙ front.1
+        ap (λ xs. text_from marks first_world 1 xs (runs.refused ++ pad)) lines ∙ front.1
             ∙ ap (λ xs. xs ++ front.0) (text_from-padded first_world 1
             (lines_of runs.ended) runs.refused pad (MayBeRefused-length (lines_of runs.ended) runs.refused runs.may_be))
             ∙ ap (λ xs. xs ++ front.0) (sym

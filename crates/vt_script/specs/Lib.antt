@@ -1,4 +1,5 @@
 pub mod Progress
+pub mod Reached
 pub mod Refused
 pub mod Session
 pub mod SessionValue

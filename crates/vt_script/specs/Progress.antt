@@ -1,6 +1,6 @@
 -- How far a run has come: what was read and written between two moments of it.
 use Rattle.std.specs.Prelude.{◌≡◌, ℕ, ◌+◌, ◌==◌, nat_eq, Bool, true, false, List, [], ◌∷◌, ◌++◌}
-use Rattle.vt_spec.specs.Language.Script.{lines_of, propagation}
+use Rattle.vt_spec.specs.Language.Script.{lines_of, marks}
 use Rattle.vt_spec.specs.Lists.{Fresh}
 use Rattle.vt_spec.specs.Machine.World.{World, opening}
 use Rattle.vt_laws_runs.specs.Handed.{may_be_given}
@@ -41,8 +41,8 @@ pub record Runs (old : Moment) (bytes text : List ℕ) (new : Moment) : Type 0 w
   pub refused : List Bool
   pub may_be : MayBeRefused (lines_of ended) refused
   pub goes_on : (more : List ℕ) (later : List Bool) (rest : List ℕ) →
-      TellsAlike propagation may_be_given new.world (new.answered + 1) (lines_of more) later rest →
-      TellsAlike propagation may_be_given old.world (old.answered + 1) (lines_of (ended ++ more)) (refused ++ later)
+      TellsAlike marks may_be_given new.world (new.answered + 1) (lines_of more) later rest →
+      TellsAlike marks may_be_given old.world (old.answered + 1) (lines_of (ended ++ more)) (refused ++ later)
       (text ++ rest)
 
 -- no byte of the line is a newline

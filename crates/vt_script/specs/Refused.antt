@@ -2,7 +2,7 @@
 use Rattle.std.specs.Prelude.{Bool, IsSomeAnd, List, [], false, true, ℕ, ⊤, ◌∷◌, ◌⊎◌}
 use Rattle.vt_line.specs.Calls as words
 use Rattle.vt_permits.specs.Allocating as calls
-use Rattle.vt_spec.specs.Language.Script.{Request, propagation, request_of}
+use Rattle.vt_spec.specs.Language.Script.{Request, marks, request_of}
 use Rattle.vt_spec.specs.Language.Script.Request.{Asking, Calling}
 
 -- a request takes memory for its words or for its call, and a directive for what it tells
@@ -12,7 +12,7 @@ TakesMemory (Asking directive) = ⊤
 
 -- a line is of the grammar, and its request takes memory
 abbrev pub LineTakesMemory : List ℕ → Type 0
-LineTakesMemory line = IsSomeAnd (request_of propagation line) TakesMemory
+LineTakesMemory line = IsSomeAnd (request_of marks line) TakesMemory
 
 -- One truth value for each line: whether an allocation failed in it. Only a line that takes memory may say so.
 abbrev pub MayBeRefused : List (List ℕ) → List Bool → Type 0

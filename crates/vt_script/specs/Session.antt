@@ -3,7 +3,7 @@ use Rattle.std.specs.Prelude.{◌≡◌, ℕ, ◌+◌, nat_eq, Bool, List, [], �
 use Rattle.vt_io.specs.declared.output.Sink.{Ghosts}
 use Rattle.vt_io.specs.Sink.{Wrote, WroteFront}
 use Rattle.vt_io.specs.LineBuffer.{LineSoFar, Holds}
-use Rattle.vt_spec.specs.Language.Script.{lines_of, propagation}
+use Rattle.vt_spec.specs.Language.Script.{lines_of, marks}
 use Rattle.vt_spec.specs.Machine.Run.{Step, line_step, script_text, step_text, step_world}
 use Rattle.vt_spec.specs.Machine.SameWorlds.{SameWorlds}
 use Rattle.vt_spec.specs.Machine.World.{World}
@@ -44,13 +44,13 @@ IsHanded world line (Some allotment) = ServesInHand may_be_given world allotment
 
 -- the step of a line to which these numbers are handed
 abbrev pub step_of : World ℕ → List ℕ → Option Allotment → Step ℕ
-step_of world line handed = line_step nat_eq propagation world line (option_map (λ allotment. allotment.new) handed)
+step_of world line handed = line_step nat_eq marks world line (option_map (λ allotment. allotment.new) handed)
 
 -- what may be told of the last line
 pub record IsLast (old : Moment) (text : List ℕ) : Type 0 where
   pub refused : List Bool
   pub may_be : MayBeRefused (lines_of old.line) refused
-  pub tells : TellsAlike propagation may_be_given old.world (old.answered + 1) (lines_of old.line) refused text
+  pub tells : TellsAlike marks may_be_given old.world (old.answered + 1) (lines_of old.line) refused text
 
 module _ {W : Type 0} (sink : Ghosts W) where
   -- bytes were read, and the lines that ended were answered

@@ -3,6 +3,7 @@
 
 mod script;
 mod session;
+mod world;
 
 pub use script::run;
 pub use vt_answers::Calls;
@@ -16,3 +17,4 @@ pub use vt_request::{
     Access, Answer, Call, CapsWord, Creation, Directive, ForkWords, MountLine, MountPlace,
     PeerLine, Spot, StatLine, TaskName, TypeLine, TypeWord,
 };
+pub use world::world_after;

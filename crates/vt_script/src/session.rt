@@ -92,6 +92,13 @@ impl<C: Calls + Drop> Session<C> {
         })
     }
 
+    /// The world, after all lines that were answered.
+    pub fn into_world(self) -> C
+        ensures { result ≡ self.world }
+    {
+        self.world
+    }
+
     // Answers the line that a newline ends.
     fn end_line<W: Sink>(&mut self, sink: &mut W) -> Result<(), RunFault>
         requires countable { W.failures sink.old + 1 < 2 ^ 64 }

@@ -184,7 +184,7 @@ module _ (K V : Type 0) (birth : V → ℕ) where
     shown-under show [] = refl
     shown-under show (e ∷ es) = ap (λ l. (birth e.1, show e) ∷ l) (shown-under show es)
 
-    shows : (show : E → Y) (es : List E)
+    pub shows : (show : E → Y) (es : List E)
         → map show (ordered es) ≡ map (λ one. one.1) (in_order_by own (shown show es))
     shows show es =
         sym (values-changed show (sorted es))

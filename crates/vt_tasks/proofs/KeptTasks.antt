@@ -1,5 +1,5 @@
 -- Tasks as the map keeps them, in whatever order, and as contracts see them, in the order in which they were forked.
-use Rattle.std.proofs.Common.{◌≡◌, ℕ, ◌+◌, ◌≤◌, true, false, List, [], ◌∷◌, ◌++◌, ◌&&◌, nat_eq, nat_lt, Option, Some, None, option_map, refl, sym, ap, ◌∙◌, subst}
+use Rattle.std.proofs.Common.{◌≡◌, ℕ, ◌+◌, ◌≤◌, true, false, List, [], ◌∷◌, ◌++◌, ◌&&◌, map, nat_eq, nat_lt, Option, Some, None, option_map, refl, sym, ap, ◌∙◌, subst}
 use Rattle.std.specs.declared.vec.Vec.{Vec}
 use Rattle.std.specs.Cmp.{IsEquivalence}
 use Rattle.std.specs.List.{AllByRecursion, IsDistinct, list_all, list_any}
@@ -9,6 +9,7 @@ use Rattle.std.specs.Map.{IsKeyTest, keys_of, lookup, set_value}
 use Rattle.std.proofs.lemmas.Cmp.{nat_list_eq_equiv}
 use Rattle.indexmap.specs.IndexMap.{IndexMap, IsUnique, WritesThrough, get_by, insert_entry, swap_remove_entry}
 use Rattle.indexmap.proofs.CallerLemmas.{insert_entry-new}
+use Rattle.vt_location.specs.InOrder.{in_order_by}
 use Rattle.vt_spec.specs.Language.Calls.{TaskName, same_name}
 use Rattle.vt_spec.specs.Machine.Tasks.{child_name, child_of}
 use Rattle.vt_spec.specs.Machine.Mounts.{Location}
@@ -16,7 +17,7 @@ use Rattle.vt_spec.specs.Machine.World.{Task}
 use Rattle.vt_spec.specs.Rights.{Credentials}
 use Rattle.vt_tasks.specs.declared.task.Task.{Task as Held}
 use Rattle.vt_tasks.specs.TaskValue.{task_of}
-use Rattle.vt_tasks.specs.TasksValue.{AreKept, AreKeyed, AreNamedApart, are_given_once, births_of, called, changed_called, first_task_at, forked, has_files_in_order, in_order, tasks_of, without_called}
+use Rattle.vt_tasks.specs.TasksValue.{AreKept, AreKeyed, AreNamedApart, are_given_once, births_of, born_in_order, called, changed_called, first_task_at, forked, has_files_in_order, in_order, tasks_of, without_called}
 use Rattle.vt_tasks.proofs.BirthOrder as births
 use Rattle.vt_tasks.proofs.GivenOnce.{child-new}
 use Rattle.vt_tasks.proofs.TasksLemmas as listed
@@ -276,3 +277,17 @@ module _ {A S : Type 0} (next : ℕ) (name : TaskName) (m middle n : IndexMap (V
         apart = subst (IsDistinct nat_eq) (sym same_births) middle_apart;
         before = ap (list_all (λ birth. nat_lt birth (next + 1))) same_births ∙ middle_before;
       }
+
+-- The tasks alone, with their births
+
+module _ {A : Type 0} where
+  kept-shown : (kept : List (Vec ℕ A × Held))
+      → map {B = ℕ × Task ℕ} (λ (task : Held). (task.birth, task_of task)) (map (λ e. e.1) kept)
+      ≡ map (λ e. (e.1.birth, task_of e.1)) kept
+  kept-shown [] = refl
+  kept-shown (e ∷ kept) = ap (λ l. (e.1.birth, task_of e.1) ∷ l) (kept-shown kept)
+
+  pub born-kept : (kept : List (Vec ℕ A × Held)) → born_in_order (map (λ e. e.1) kept) ≡ tasks_of (in_order kept)
+  born-kept kept =
+      ap (λ l. map (λ one. one.1) (in_order_by (λ n. n) l)) (kept-shown kept)
+      ∙ sym (births.shows (Vec ℕ A) Held birth (λ e. task_of e.1) kept)

@@ -8,7 +8,6 @@ use Rattle.std.proofs.lemmas.Cmp.{nat_list_eq_equiv}
 use Rattle.std.specs.List.{AllByRecursion, IsDistinct, list_all}
 use Rattle.std.proofs.lemmas.Map.Keys.{IsDistinct-head, IsDistinct-tail}
 use Rattle.std.specs.Map.{keys_of, lookup, remove_entry, set_value}
-use Rattle.vt_spec.specs.declared.errors.Deny.{Deny}
 use Rattle.vt_spec.specs.Language.Calls.{TaskName, same_name}
 use Rattle.vt_spec.specs.Machine.Descriptors.{free_from, inserted}
 use Rattle.vt_spec.specs.Machine.Tasks.{child_name, child_of}
@@ -260,14 +259,14 @@ err-equal (Ok t) x y is _ = tt
 err-equal (Err e) x y is p = p ∙ is
 
 -- a file is opened under the number that is told
-pub opened-under : (r : Result ℕ Deny) (held : OpenFile) (free : ℕ) (old new : List (Descriptor ℕ))
+pub opened-under : {E : Type 0} (r : Result ℕ E) (held : OpenFile) (free : ℕ) (old new : List (Descriptor ℕ))
     → IfOk r (λ number. number ≡ free)
     → IfOk r (λ number. new ≡ inserted (numbered number held) old) → OnOk r (new ≡ inserted (numbered free held) old)
 opened-under (Ok number) held free old new here is = is ∙ ap (λ number. inserted (numbered number held) old) here
 opened-under (Err e) held free old new here is = tt
 
 -- and the others stay in order
-pub opened-in_order : (r : Result ℕ Deny) (held : OpenFile) (old new : List (Descriptor ℕ))
+pub opened-in_order : {E : Type 0} (r : Result ℕ E) (held : OpenFile) (old new : List (Descriptor ℕ))
     → IfOk r (λ number. number ≡ free_from 0 old)
     → IfOk r (λ number. new ≡ inserted (numbered number held) old) → OnErr r (new ≡ old)
     → are_ascending_from 0 old ≡ true → are_ascending_from 0 new ≡ true

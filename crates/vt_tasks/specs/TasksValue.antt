@@ -137,3 +137,8 @@ module _ {A : Type 0} where
     pub fit : AreFit (in_order entries)
     pub apart : IsDistinct nat_eq (births_of entries)
     pub before : list_all (λ birth. nat_lt birth next) (births_of entries) ≡ true
+
+-- kept tasks as the list that they are: in the order of their births
+abbrev pub born_in_order : List Held → Tasks
+born_in_order kept =
+    map (λ one. one.1) (in_order_by (λ birth. birth) (map (λ task. (task.birth, task_of task)) kept))

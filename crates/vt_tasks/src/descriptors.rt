@@ -3,18 +3,15 @@ ghost use Rattle.std.specs.Prelude.{◌≡◌, ◌<◌, ◌≤◌, ◌==◌, ◌
 ghost use Rattle.std.specs.Fn.{FnOnceReturnsAtMut, FnOnceTakesAtMut};
 ghost use Rattle.vt_spec.specs.Language.Calls.{opens_for_writing};
 ghost use Rattle.vt_spec.specs.Machine.Descriptors.{free_from, inserted};
-ghost use Rattle.vt_spec.specs.declared.errors.Rule.TheVariants.{S5};
-ghost use Rattle.vt_spec.specs.Errors.{denial};
 ghost use Rattle.vt_location.specs.Locations.{location_of};
 ghost use Rattle.vt_request.specs.Requests.{access_of};
 ghost use Rattle.vt_tasks.specs.Open.{numbered};
 
 use indexmap::IndexMap;
-use std::alloc::Global;
+use std::alloc::{AllocError, Global};
 use std::marker::Model;
 use vt_location::Location;
 use vt_request::Access;
-use vt_spec::errors::{Deny, Rule};
 
 /// The most files that a task has open: RLIMIT_NOFILE of setrlimit(2).
 pub const MAX_DESCRIPTORS: usize = 256;
@@ -84,48 +81,39 @@ impl Descriptors {
     }
 
     /// Opens a file under the least free number, and returns that number.
-    ///
-    /// S5 (ENOMEM): an allocation failed.
-    pub fn insert(&mut self, opened: OpenFile) -> Result<u8, Deny>
+    pub fn insert(&mut self, opened: OpenFile) -> Result<u8, AllocError>
         requires few { length self.old < MAX_DESCRIPTORS }
         ensures number { IfOk result (λ number. number ≡ free_from 0 self.old) }
         ensures ok { IfOk result (λ number. self.new ≡ inserted (numbered number opened) self.old) }
-        ensures memory { IfErr result (λ deny. deny ≡ denial S5) }
         ensures err { OnErr result (self.new ≡ self.old) }
     {
         let free = self.free_number();
         let number = free as u8;
-        let Ok(_) = self.by_number.insert_before(free, number, opened) else {
-            return Err(Rule::S5.denial());
-        };
+        self.by_number.insert_before(free, number, opened)?;
         Ok(number)
     }
 
     /// Opens a file under the least free number, and returns that number. Before that, and after all memory is
     /// reserved, it takes one more step, which may fail and change something else.
     ///
-    /// S5 (ENOMEM): an allocation failed; that step has not been taken then.
-    pub fn insert_after<S, F: FnOnce(&mut S) -> Result<(), Deny>>(
+    /// If an allocation fails, that step has not been taken.
+    pub fn insert_after<S, F: FnOnce(&mut S) -> Result<(), AllocError>>(
         &mut self,
         opened: OpenFile,
         other: &mut S,
         step: F,
-    ) -> Result<u8, Deny>
+    ) -> Result<u8, AllocError>
         requires few { length self.old < MAX_DESCRIPTORS }
         requires callable { FnOnceTakesAtMut F.FnOnce step other.old }
         ensures number { IfOk result (λ number. number ≡ free_from 0 self.old) }
         ensures ok { IfOk result (λ number. self.new ≡ inserted (numbered number opened) self.old) }
         ensures step_ok { OnOk result (FnOnceReturnsAtMut F.FnOnce step other.old (Ok tt) other.new) }
-        ensures step_err { IfErr result (λ deny. ((deny ≡ denial S5) × (other.new ≡ other.old))
-            ⊎ FnOnceReturnsAtMut F.FnOnce step other.old (Err deny) other.new) }
+        ensures step_err { IfErr result (λ refused. (other.new ≡ other.old)
+            ⊎ FnOnceReturnsAtMut F.FnOnce step other.old (Err refused) other.new) }
         ensures err { OnErr result (self.new ≡ self.old) }
     {
-        if self.by_number.reserve(1).is_err() {
-            return Err(Rule::S5.denial());
-        }
-        if let Err(deny) = step(other) {
-            return Err(deny);
-        }
+        self.by_number.reserve(1)?;
+        step(other)?;
         let free = self.free_number();
         let number = free as u8;
         // It cannot fail: room is reserved.

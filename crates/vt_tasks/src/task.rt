@@ -4,7 +4,7 @@ ghost use Rattle.vt_spec.specs.Machine.Namespaces.{pivoted_location, pivoted_tas
 ghost use Rattle.vt_spec.specs.Machine.Tasks.{child_of};
 ghost use Rattle.vt_location.specs.Locations.{location_of};
 ghost use Rattle.vt_location.specs.MountValue.{mount_of};
-ghost use Rattle.vt_location.specs.Numbers.{counted};
+ghost use Rattle.vt_location.specs.Numbers.{namespace_number};
 ghost use Rattle.vt_tasks.specs.TaskValue.{task_of};
 ghost use Rattle.vt_tasks.specs.TasksValue.{first_task_at};
 
@@ -53,7 +53,7 @@ pub struct Left {
 impl Task {
     /// The first task: user and group 0, all capabilities, umask 022, no open files. It does not allocate.
     pub fn first(alloc: Global, namespace: NamespaceId, root: Location) -> Self
-        ensures task { task_of result ≡ first_task_at (counted namespace.count) (location_of root) }
+        ensures task { task_of result ≡ first_task_at (namespace_number namespace) (location_of root) }
         ensures birth { result.birth ≡ 0 }
     {
         Task {
@@ -95,7 +95,7 @@ impl Task {
     /// the second: pivot_root(2). It does not allocate.
     pub fn pivot(&mut self, namespace: NamespaceId, root: &Mount, new: &Mount)
         ensures task { task_of self.new
-            ≡ pivoted_task nat_eq (counted namespace.count) (mount_of root.now) (mount_of new.now) (task_of self.old) }
+            ≡ pivoted_task nat_eq (namespace_number namespace) (mount_of root.now) (mount_of new.now) (task_of self.old) }
         ensures birth { self.new.birth ≡ self.old.birth }
     {
         if self.namespace == namespace {

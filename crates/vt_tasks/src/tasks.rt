@@ -7,26 +7,23 @@ ghost use Rattle.vt_spec.specs.Machine.Namespaces.{entered_at, pivoted_task};
 ghost use Rattle.vt_spec.specs.Machine.Descriptors.{free_number, without_descriptor};
 ghost use Rattle.vt_spec.specs.Machine.Tasks.{child_name, with_dropped};
 ghost use Rattle.vt_spec.specs.Machine.Rules.Descriptors.{descriptor_numbered};
-ghost use Rattle.vt_spec.specs.declared.errors.Rule.TheVariants.{S5};
-ghost use Rattle.vt_spec.specs.Errors.{denial};
 ghost use Rattle.vt_cred.specs.Caps.{capability_bits};
 ghost use Rattle.vt_location.specs.Locations.{location_of};
 ghost use Rattle.vt_location.specs.MountValue.{mount_of};
-ghost use Rattle.vt_location.specs.Numbers.{counted};
+ghost use Rattle.vt_location.specs.Numbers.{namespace_number};
 ghost use Rattle.vt_tasks.specs.Open.{numbered};
 ghost use Rattle.vt_tasks.specs.TaskValue.{task_of};
-ghost use Rattle.vt_tasks.specs.TasksValue.{MayFork, MayOpenMore, called, changed_called, first_task_at, forked, has_files_in_order, left_by, left_of, with_open, without_called};
+ghost use Rattle.vt_tasks.specs.TasksValue.{MayFork, MayOpenMore, born_in_order, called, changed_called, first_task_at, forked, has_files_in_order, left_by, left_of, with_open, without_called};
 
 use crate::descriptors::OpenFile;
 use crate::task::{Left, Task};
 use indexmap::IndexMap;
-use std::alloc::Global;
+use std::alloc::{AllocError, Global};
 use std::marker::Model;
 use std::mem;
 use vt_cred::{Caps, Cred, Mode};
 use vt_location::{Location, Mount, NamespaceId};
 use vt_request::TaskName;
-use vt_spec::errors::{Deny, Rule};
 
 /// The tasks, in the order in which they were forked.
 ///
@@ -53,24 +50,12 @@ impl Model for Tasks {
 
 impl Tasks {
     /// The first task alone, with its root and its working directory here.
-    ///
-    /// S5 (ENOMEM): an allocation failed.
-    pub fn new(alloc: Global, namespace: NamespaceId, root: Location) -> Result<Self, Deny>
-        ensures ok { IfOk result (λ tasks. tasks ≡ first_task_at (counted namespace.count) (location_of root) ∷ []) }
-        ensures memory { IfErr result (λ deny. deny ≡ denial S5) }
+    pub fn new(alloc: Global, namespace: NamespaceId, root: Location) -> Result<Self, AllocError>
+        ensures ok { IfOk result (λ tasks. tasks ≡ first_task_at (namespace_number namespace) (location_of root) ∷ []) }
     {
         let mut by_name = IndexMap::new(alloc);
-        let Ok(_) = by_name.insert(Vec::new(alloc), Task::first(alloc, namespace, root)) else {
-            return Err(Rule::S5.denial());
-        };
+        by_name.insert(Vec::new(alloc), Task::first(alloc, namespace, root))?;
         Ok(Tasks { by_name, births: 1 })
-    }
-
-    /// A theorem, which does nothing: each task has its open files in the order of their numbers.
-    pub fn files_are_in_order(&self)
-        ensures { list_all has_files_in_order self.now ≡ true }
-    {
-        let _ = &self.by_name;
     }
 
     /// The task of this name.
@@ -80,9 +65,16 @@ impl Tasks {
         self.by_name.get(name.numbers())
     }
 
+    /// The tasks, in no order. Their births tell in which order they were forked.
+    pub fn kept(&self) -> &[Task]
+        ensures { born_in_order result.now ≡ self.now }
+    {
+        self.by_name.values().as_slice()
+    }
+
     /// The namespace of the task of this name.
     pub fn namespace_called(&self, name: &TaskName) -> Option<NamespaceId>
-        ensures { option_map (λ namespace. counted namespace.count) result
+        ensures { option_map namespace_number result
             ≡ option_map (λ task. task.namespace) (called name.now self.now) }
     {
         let task = self.get(name)?;
@@ -133,7 +125,7 @@ impl Tasks {
     pub fn enter(&mut self, name: &TaskName, namespace: NamespaceId, root: Location) -> Option<Left>
         ensures left { option_map left_of result ≡ option_map left_by (called name.now self.old) }
         ensures rest { self.new
-            ≡ changed_called name.now (λ task. entered_at task (counted namespace.count) (location_of root)) self.old }
+            ≡ changed_called name.now (λ task. entered_at task (namespace_number namespace) (location_of root)) self.old }
     {
         self.move_root_and_directory(name, namespace, root, root)
     }
@@ -150,7 +142,7 @@ impl Tasks {
         ensures left { option_map left_of result ≡ option_map left_by (called name.now self.old) }
         ensures rest { self.new
             ≡ changed_called name.now
-            (λ task. record task { namespace = counted namespace.count; root = location_of root; directory = location_of directory })
+            (λ task. record task { namespace = namespace_number namespace; root = location_of root; directory = location_of directory })
             self.old }
     {
         let task = self.by_name.get_mut(name.numbers())?;
@@ -168,7 +160,7 @@ impl Tasks {
     /// Moves the roots and working directories of a namespace's tasks from the root of the first mount to that of the
     /// second: pivot_root(2). It does not allocate.
     pub fn pivot(&mut self, namespace: NamespaceId, root: &Mount, new: &Mount)
-        ensures { self.new ≡ map (pivoted_task nat_eq (counted namespace.count) (mount_of root.now)
+        ensures { self.new ≡ map (pivoted_task nat_eq (namespace_number namespace) (mount_of root.now)
             (mount_of new.now)) self.old }
     {
         for index in 0..self.by_name.len() {
@@ -179,13 +171,10 @@ impl Tasks {
     }
 
     /// Opens a file of a task under the least free number, and returns that number: open(2).
-    ///
-    /// S5 (ENOMEM): an allocation failed.
-    pub fn open(&mut self, name: &TaskName, opened: OpenFile) -> Result<u8, Deny>
+    pub fn open(&mut self, name: &TaskName, opened: OpenFile) -> Result<u8, AllocError>
         requires { MayOpenMore (called name.now self.old) }
         ensures number { IfOk result (λ number. Some number ≡ option_map free_number (called name.now self.old)) }
         ensures ok { OnOk result (self.new ≡ changed_called name.now (with_open opened) self.old) }
-        ensures memory { IfErr result (λ deny. deny ≡ denial S5) }
         ensures err { OnErr result (self.new ≡ self.old) }
     {
         let task = self.by_name.get_mut(name.numbers()).unwrap();
@@ -195,21 +184,21 @@ impl Tasks {
     /// Opens a file of a task under the least free number, and returns that number: open(2) with O_CREAT. Before that,
     /// and after all memory is reserved, it takes one more step, which may fail and change something else.
     ///
-    /// S5 (ENOMEM): an allocation failed; that step has not been taken then.
-    pub fn open_after<S, F: FnOnce(&mut S) -> Result<(), Deny>>(
+    /// If an allocation fails, that step has not been taken.
+    pub fn open_after<S, F: FnOnce(&mut S) -> Result<(), AllocError>>(
         &mut self,
         name: &TaskName,
         opened: OpenFile,
         other: &mut S,
         step: F,
-    ) -> Result<u8, Deny>
+    ) -> Result<u8, AllocError>
         requires may { MayOpenMore (called name.now self.old) }
         requires callable { FnOnceTakesAtMut F.FnOnce step other.old }
         ensures number { IfOk result (λ number. Some number ≡ option_map free_number (called name.now self.old)) }
         ensures ok { OnOk result (self.new ≡ changed_called name.now (with_open opened) self.old) }
         ensures step_ok { OnOk result (FnOnceReturnsAtMut F.FnOnce step other.old (Ok tt) other.new) }
-        ensures step_err { IfErr result (λ deny. ((deny ≡ denial S5) × (other.new ≡ other.old))
-            ⊎ FnOnceReturnsAtMut F.FnOnce step other.old (Err deny) other.new) }
+        ensures step_err { IfErr result (λ refused. (other.new ≡ other.old)
+            ⊎ FnOnceReturnsAtMut F.FnOnce step other.old (Err refused) other.new) }
         ensures err { OnErr result (self.new ≡ self.old) }
     {
         let task = self.by_name.get_mut(name.numbers()).unwrap();
@@ -221,6 +210,7 @@ impl Tasks {
         ensures value { option_map (numbered number) result
             ≡ option_and_then (λ task. descriptor_numbered task number) (called name.now self.old) }
         ensures rest { self.new ≡ changed_called name.now (λ task. without_descriptor task number) self.old }
+        ensures order { list_all has_files_in_order self.old ≡ true }
     {
         let task = self.by_name.get_mut(name.numbers())?;
         task.descriptors.remove(number)
@@ -231,12 +221,11 @@ impl Tasks {
     /// The child has these credentials, the parent's umask, namespace, root and working directory, and no open files.
     /// It comes after all other tasks.
     ///
-    /// S5 (ENOMEM): an allocation failed, or 2^64 - 1 tasks were forked.
-    pub fn fork(&mut self, name: &TaskName, cred: Cred) -> Result<TaskName, Deny>
+    /// It fails too where 2^64 - 1 tasks were forked.
+    pub fn fork(&mut self, name: &TaskName, cred: Cred) -> Result<TaskName, AllocError>
         requires { MayFork (called name.now self.old) }
         ensures name { IfOk result (λ child. Some child ≡ option_map child_name (called name.now self.old)) }
         ensures ok { OnOk result (self.new ≡ forked name.now cred self.old) }
-        ensures memory { IfErr result (λ deny. deny ≡ denial S5) }
         ensures err { OnErr result (self.new ≡ self.old) }
     {
         let alloc = *self.by_name.allocator();
@@ -244,20 +233,12 @@ impl Tasks {
         let parent = self.by_name.get(numbers).unwrap();
         let forks = parent.forks + 1;
         if self.births == u64::MAX {
-            return Err(Rule::S5.denial());
+            return Err(AllocError);
         }
-        let Ok(child) = parent.child(alloc, cred, self.births) else {
-            return Err(Rule::S5.denial());
-        };
-        let Ok(child_name) = child.name.clone() else {
-            return Err(Rule::S5.denial());
-        };
-        let Ok(key) = Vec::from_slice(alloc, child_name.numbers()) else {
-            return Err(Rule::S5.denial());
-        };
-        let Ok(_) = self.by_name.insert(key, child) else {
-            return Err(Rule::S5.denial());
-        };
+        let child = parent.child(alloc, cred, self.births)?;
+        let child_name = child.name.clone()?;
+        let key = Vec::from_slice(alloc, child_name.numbers())?;
+        self.by_name.insert(key, child)?;
         self.births += 1;
         if let Some(parent) = self.by_name.get_mut(numbers) {
             parent.forks = forks;

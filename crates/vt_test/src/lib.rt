@@ -1,7 +1,6 @@
 //! Scripts that hold the answers that they want, run and compared.
 #![tactic(auto)]
 
-pub mod answers;
 pub mod compare;
 mod json;
 mod junit;

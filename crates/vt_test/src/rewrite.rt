@@ -1,8 +1,8 @@
 //! A file of scripts with the answers that are given.
-use crate::answers::answers;
 use crate::compare::{Difference, Given, differences, given_lines};
 use crate::suite::{Entry, Script, SuiteFault, entry_of, scripts};
 use std::alloc::{AllocError, Global};
+use vt_lines::answers::answers;
 use vt_lines::lines::first_line;
 use vt_script::Calls;
 

@@ -38,7 +38,7 @@ pub enum SuiteFault {
     NothingAbove { line: u64 },
     #[error("line {line}: a script has a name; write `== NAME`")]
     NoName { line: u64 },
-    #[error("no memory is left; test fewer files at a time")]
+    #[error("no memory is left; give fewer files at a time")]
     Memory,
 }
 

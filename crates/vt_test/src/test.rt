@@ -1,10 +1,10 @@
 //! Files of scripts, tested.
-use crate::answers::answers;
 use crate::compare::{Difference, differences, given_lines};
 use crate::suite::{Script, SuiteFault, scripts};
 use crate::{json, junit, text};
 use std::alloc::{AllocError, Global};
 use std::io::{self, Write};
+use vt_lines::answers::answers;
 use vt_script::Calls;
 
 /// In how large pieces a script is read.

@@ -6,7 +6,40 @@ use anyhow::{Result, bail};
 use std::alloc::{AllocError, Global};
 use std::fs;
 use std::rt::Files;
-use vt_check::check::{Options, check as check_script};
+use vt_calls::Kernel;
+use vt_check::check::{Options as CheckOptions, check as check_script};
+use vt_lines::reached::reached_before;
+use vt_show::show::{Options as ShowOptions, show as show_world};
+
+/// What writes the text of a script, and how.
+#[derive(Clone, Copy)]
+pub enum Tool {
+    Check(CheckOptions),
+    /// The world after all lines is shown.
+    Show(ShowOptions<'static>),
+}
+
+impl Tool {
+    // The text that is written for a script.
+    fn text_of(self, alloc: Global, script: &[u8]) -> Result<Vec<u8>> {
+        let mut text = Vec::new(alloc);
+        match self {
+            Tool::Check(options) => {
+                check_script(alloc, "script.vt", script, options, &mut text)?;
+            }
+            Tool::Show(options) => {
+                let reached = reached_before::<Kernel>(alloc, script, u64::MAX)?;
+                let outcome = show_world(alloc, reached.world.world(), options, &mut text);
+                // By a call: the proof of a function that drops a world itself takes minutes.
+                drop(reached);
+                if !outcome? {
+                    bail!("there is no such task");
+                }
+            }
+        }
+        Ok(text)
+    }
+}
 
 // A script, and the text that is wanted.
 #[derive(Drop)]
@@ -56,15 +89,8 @@ impl Case {
     }
 
     // An error if another text is written.
-    fn check(&self, alloc: Global, options: Options) -> Result<()> {
-        let mut given = Vec::new(alloc);
-        check_script(
-            alloc,
-            "script.vt",
-            self.script.as_bytes(),
-            options,
-            &mut given,
-        )?;
+    fn check(&self, alloc: Global, tool: Tool) -> Result<()> {
+        let given = tool.text_of(alloc, self.script.as_bytes())?;
         if given.as_slice() != self.wanted.as_bytes() {
             let given = str::from_utf8(given.as_slice()).unwrap_or_default();
             bail!("{}: this text is written:\n{given}", self.name);
@@ -74,7 +100,7 @@ impl Case {
 }
 
 /// How many cases the file has, or an error if one of them has another text.
-pub fn check<R: Files + AllocGlobal>(rt: &R, name: &str, options: Options) -> Result<u64> {
+pub fn check<R: Files + AllocGlobal>(rt: &R, name: &str, tool: Tool) -> Result<u64> {
     let alloc = rt.alloc();
     let file = fs::read_to_string(rt, name)?;
     let Some(cases) = file.as_str().trim_end().strip_prefix("== ") else {
@@ -82,7 +108,7 @@ pub fn check<R: Files + AllocGlobal>(rt: &R, name: &str, options: Options) -> Re
     };
     let mut count: u64 = 0;
     for text in cases.split("\n== ") {
-        Case::read(alloc, text)?.check(alloc, options)?;
+        Case::read(alloc, text)?.check(alloc, tool)?;
         count = count.saturating_add(1);
     }
     Ok(count)

@@ -1,4 +1,5 @@
-//! Checks the scripts of `data/`, and compares the texts that are written with those that stand beside them.
+//! Checks the scripts of `data/`, or shows the worlds to which they lead, and compares the texts that are written with
+//! those that stand beside them.
 //!
 //! It runs in that folder, writes the name of each file whose texts are right, and ends with status 1 at the first other
 //! text.
@@ -6,11 +7,12 @@
 
 mod cases;
 
-use crate::cases::check;
+use crate::cases::{Tool, check as check_cases};
 use anyhow::Result;
 use std::fs;
 use std::rt::Runtime;
-use vt_check::check::{Format, Options};
+use vt_check::check;
+use vt_show::show;
 
 // The names of a folder's files, in order.
 fn names<R: Runtime + AllocGlobal>(rt: &R, folder: &str) -> Result<Vec<String>> {
@@ -24,22 +26,34 @@ fn names<R: Runtime + AllocGlobal>(rt: &R, folder: &str) -> Result<Vec<String>> 
 }
 
 // How the scripts of a folder are checked.
-fn options_of(folder: &str) -> Options {
-    Options {
-        format: if folder == "json" {
-            Format::Json
-        } else {
-            Format::Text
-        },
-        strict: folder == "strict",
-    }
+fn checked(format: check::Format, strict: bool) -> Tool {
+    Tool::Check(check::Options { format, strict })
+}
+
+// How the worlds of the scripts of a folder are shown.
+fn shown(format: show::Format, files: bool, task: Option<&'static str>) -> Tool {
+    Tool::Show(show::Options {
+        format,
+        files,
+        task,
+    })
 }
 
 fn main(rt: HostRuntime) -> Result<()> {
-    for folder in ["check", "json", "strict"] {
+    let tools = [
+        ("check", checked(check::Format::Text, false)),
+        ("json", checked(check::Format::Json, false)),
+        ("strict", checked(check::Format::Text, true)),
+        ("show", shown(show::Format::Text, false, None)),
+        ("show-files", shown(show::Format::Text, true, None)),
+        ("show-json", shown(show::Format::Json, true, None)),
+        ("show-dot", shown(show::Format::Dot, false, None)),
+        ("show-task", shown(show::Format::Text, true, Some("t.1"))),
+    ];
+    for (folder, tool) in tools {
         for name in &names(&rt, folder)? {
             let file = format!(in rt.alloc(); "{folder}/{name}")?;
-            let count = check(&rt, file.as_str(), options_of(folder))?;
+            let count = check_cases(&rt, file.as_str(), tool)?;
             println!(rt; "{file}: {count} texts")?;
         }
     }

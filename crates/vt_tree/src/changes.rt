@@ -1,40 +1,35 @@
 //! Changes of one inode, as the calls of a tree are made of.
-ghost use Rattle.std.specs.Prelude.{◌≡◌, ℕ, true, ◌+◌, ◌<◌, ◌^◌, Some, length, nat_eq, IsSome, IsTrue, IsOk, IfErr, OnOk, OnErr};
+ghost use Rattle.std.specs.Prelude.{◌≡◌, ℕ, true, ◌+◌, ◌<◌, ◌^◌, Some, length, nat_eq, IsSome, IsTrue, IsOk, OnOk, OnErr};
 ghost use Rattle.std.specs.FinMap.Entries.{is_sorted};
-ghost use Rattle.vt_spec.specs.Errors.{denial};
-ghost use Rattle.vt_spec.specs.declared.errors.Rule.TheVariants.{S5};
 ghost use Rattle.vt_spec.specs.declared.attributes.Kind.TheVariants.{File};
 ghost use Rattle.vt_spec.specs.FileTree.{is_kind_in};
-ghost use Rattle.vt_spec.specs.Language.Changes.{node_with_attr, node_with_parent, node_without_entry};
+ghost use Rattle.vt_spec.specs.Language.Changes.{node_with_attr, node_with_mark, node_with_parent, node_without_entry};
 ghost use Rattle.vt_spec.specs.Machine.Descriptors.{overwritten};
 ghost use Rattle.vt_spec.specs.Inodes.{with_changed, unpinned, without_replaced};
 ghost use Rattle.vt_spec.specs.Tree.{name_cmp, bytes_in, entries_in, entry_named, node_with_bytes, node_with_entry};
 ghost use Rattle.vt_tree.specs.Slots.{inodes_in, node_at};
 
 use crate::slots::Slots;
+use std::alloc::AllocError;
 use vt_node::{Attr, NodeId};
-use vt_spec::errors::{Deny, Rule};
 
-// Puts an entry into a directory. S5: an allocation failed; a name that exists needs none.
+// Puts an entry into a directory. Only a name that is new allocates.
 pub(crate) fn insert_entry(
     slots: &mut Slots,
     directory: NodeId,
     name: Vec<u8>,
     id: NodeId,
-) -> Result<(), Deny>
+) -> Result<(), AllocError>
     ensures ok { (root : ℕ) → OnOk result (inodes_in root slots.new
         ≡ with_changed nat_eq (inodes_in root slots.old) directory (node_with_entry name.items id)) }
     ensures present { IsSome (entry_named name.items (entries_in (node_at slots.old directory))) → IsOk result }
     ensures in_order { is_sorted name_cmp (entries_in (node_at slots.old directory)) ≡ true }
     ensures next { slots.new.next ≡ slots.old.next }
     ensures room { slots.new.room ≡ slots.old.room }
-    ensures memory { IfErr result (λ deny. deny ≡ denial S5) }
     ensures err { OnErr result (slots.new ≡ slots.old) }
 {
     match slots.get_mut(directory) {
-        Some(node) => node
-            .insert_entry(name, id)
-            .map_err(|_error| Rule::S5.denial()),
+        Some(node) => node.insert_entry(name, id),
         None => Ok(()),
     }
 }
@@ -69,6 +64,16 @@ pub(crate) fn set_attr(slots: &mut Slots, object: NodeId, attr: Attr)
     }
 }
 
+// Marks a directory opaque, or takes its mark away.
+pub(crate) fn set_opaque(slots: &mut Slots, directory: NodeId, opaque: bool)
+    ensures set { (root : ℕ) → inodes_in root slots.new
+        ≡ with_changed nat_eq (inodes_in root slots.old) directory (node_with_mark opaque) }
+{
+    if let Some(node) = slots.get_mut(directory) {
+        node.set_opaque(opaque);
+    }
+}
+
 // Sets the whole content of a file.
 pub(crate) fn set_bytes(slots: &mut Slots, file: NodeId, bytes: Vec<u8>)
     ensures set { (root : ℕ) → inodes_in root slots.new
@@ -79,27 +84,23 @@ pub(crate) fn set_bytes(slots: &mut Slots, file: NodeId, bytes: Vec<u8>)
     }
 }
 
-// Writes bytes into a file from an offset on. S5: an allocation failed.
+// Writes bytes into a file from an offset on.
 pub(crate) fn write_bytes(
     slots: &mut Slots,
     file: NodeId,
     offset: usize,
     bytes: &[u8],
-) -> Result<(), Deny>
+) -> Result<(), AllocError>
     requires { offset + length bytes.now < 2 ^ 64 }
     ensures ok { (root : ℕ) → OnOk result (inodes_in root slots.new
         ≡ with_changed nat_eq (inodes_in root slots.old) file
         (node_with_bytes (overwritten offset bytes.now (bytes_in (node_at slots.old file))))) }
     ensures file { OnErr result (IsTrue (is_kind_in File (node_at slots.old file))) }
     ensures longer { OnErr result (length (bytes_in (node_at slots.old file)) < offset + length bytes.now) }
-    ensures memory { IfErr result (λ deny. deny ≡ denial S5) }
     ensures err { OnErr result (slots.new ≡ slots.old) }
 {
     match slots.get_mut(file) {
-        Some(node) => match node.write_at(offset, bytes) {
-            Ok(()) => Ok(()),
-            Err(_error) => Err(Rule::S5.denial()),
-        },
+        Some(node) => node.write_at(offset, bytes),
         None => Ok(()),
     }
 }

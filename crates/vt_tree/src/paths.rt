@@ -1,7 +1,5 @@
 //! Paths from one directory of a tree down to another: mountinfo of proc(5).
-ghost use Rattle.std.specs.Prelude.{◌≡◌, IfErr, IfOk, IfSome, map, nat_eq, option_map};
-ghost use Rattle.vt_spec.specs.declared.errors.Rule.TheVariants.{S5};
-ghost use Rattle.vt_spec.specs.Errors.{denial};
+ghost use Rattle.std.specs.Prelude.{◌≡◌, IfOk, IfSome, map, nat_eq, option_map};
 ghost use Rattle.vt_spec.specs.FileTree.{named_parent, own_name};
 ghost use Rattle.vt_tree.specs.Paths.{NamesDirectoriesOnce, files_of, path_in};
 ghost use Rattle.vt_tree.specs.TreeValue.{inodes_of, tree_of};
@@ -9,32 +7,11 @@ ghost use Rattle.vt_tree.specs.TreeValue.{inodes_of, tree_of};
 use crate::trees::Tree;
 use std::alloc::{AllocError, Global};
 use vt_node::{NodeId, copied_bytes};
-use vt_spec::errors::{Deny, Rule};
 
 impl Tree {
     /// The names that lead from a directory down to another, if that one lies under it. A directory must have one name
     /// at most, as in every tree of a world.
-    ///
-    /// S5: an allocation failed.
     pub fn path_down(
-        &self,
-        alloc: Global,
-        top: NodeId,
-        directory: NodeId,
-    ) -> Result<Option<Vec<Vec<u8>>>, Deny>
-        requires { NamesDirectoriesOnce (tree_of self.now) }
-        ensures ok { IfOk result (λ path. option_map (λ names. map (λ name. name.items) names.items) path
-            ≡ path_in nat_eq (inodes_of self.now) top directory) }
-        ensures memory { IfErr result (λ deny. deny ≡ denial S5) }
-    {
-        let Ok(path) = self.climb(alloc, top, directory) else {
-            return Err(Rule::S5.denial());
-        };
-        Ok(path)
-    }
-
-    // The same: going up by parents, the names are collected. It fails only if an allocation does.
-    fn climb(
         &self,
         alloc: Global,
         top: NodeId,

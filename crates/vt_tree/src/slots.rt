@@ -1,17 +1,14 @@
 //! Inodes by number. A number keeps its inode until the last use of the inode goes, and only then is it given out
 //! again.
-ghost use Rattle.std.specs.Prelude.{◌≡◌, ℕ, ◌^◌, [], ◌+◌, ◌-◌, ◌<◌, ◌≤◌, None, Some, IsSome, IsOk, IfOk, IfErr, IsErrOf, OnOk, OnErr, ◌↔◌, option_copied, if◌then◌else◌};
+ghost use Rattle.std.specs.Prelude.{◌≡◌, ℕ, ◌^◌, [], ◌+◌, ◌-◌, ◌<◌, ◌≤◌, None, Some, IsSome, IsOk, IfOk, OnOk, OnErr, ◌↔◌, option_copied, if◌then◌else◌, IsErr};
 ghost use Rattle.std.specs.Option.{option_copied_mut};
 ghost use Rattle.std.specs.Borrow.{Lends, sem};
-ghost use Rattle.vt_spec.specs.Errors.{denial};
-ghost use Rattle.vt_spec.specs.declared.errors.Rule.TheVariants.{S5};
 ghost use Rattle.vt_spec.specs.Inodes.{uses_in, used_once_less, used_once_more};
 
 use slab::Slab;
-use std::alloc::Global;
+use std::alloc::{AllocError, Global};
 use std::marker::Model;
 use vt_node::{Node, NodeId};
-use vt_spec::errors::{Deny, Rule};
 
 // A node and how often it is in use.
 #[derive(Debug, Drop)]
@@ -138,19 +135,16 @@ impl Slots {
         NodeId::new(self.slab.vacant_key())
     }
 
-    /// Makes room for so many more nodes. S5: an allocation failed.
-    pub fn reserve(&mut self, additional: usize) -> Result<(), Deny>
+    /// Makes room for so many more nodes.
+    pub fn reserve(&mut self, additional: usize) -> Result<(), AllocError>
         ensures ok { OnOk result (additional ≤ self.new.room) }
         ensures succeeds { additional ≤ self.old.room → IsOk result }
-        ensures memory { IfErr result (λ deny. deny ≡ denial S5) }
         ensures room { self.old.room ≤ self.new.room }
         ensures rest_kept { self.new ≡ record self.old { room = self.new.room } }
     {
         // Its clause says that the nodes fit, on which `succeeds` rests.
         let _capacity = self.slab.capacity();
-        self.slab
-            .reserve(additional)
-            .map_err(|_error| Rule::S5.denial())
+        self.slab.reserve(additional)
     }
 
     /// Gives a node with one use the next number, for a caller that has made room.
@@ -166,19 +160,19 @@ impl Slots {
         NodeId::new(self.slab.insert_reserved(Slot { node, uses: 1 }))
     }
 
-    /// Counts one use more of a node that exists. It does not allocate. S5: the count is at its limit, 2^64 - 1.
-    pub fn acquire(&mut self, id: NodeId) -> Result<(), Deny>
+    /// Counts one use more of a node that exists. It does not allocate: an error says that the count is at its limit,
+    /// 2^64 - 1.
+    pub fn acquire(&mut self, id: NodeId) -> Result<(), AllocError>
         ensures acquired { OnOk result
             (slot_at self.new ≡ put_at (slot_at self.old) id (used_once_more (slot_at self.old id))) }
-        ensures limit { IsErrOf result (denial S5) ↔ (uses_in (slot_at self.old id) ≡ most_uses) }
-        ensures memory { IfErr result (λ deny. deny ≡ denial S5) }
+        ensures limit { IsErr result ↔ (uses_in (slot_at self.old id) ≡ most_uses) }
         ensures next { self.new.next ≡ self.old.next }
         ensures len { slots_len self.new ≡ slots_len self.old }
         ensures room { self.new.room ≡ self.old.room }
         ensures err { OnErr result (self.new ≡ self.old) }
     {
         if self.uses(id) == u64::MAX {
-            return Err(Rule::S5.denial());
+            return Err(AllocError);
         }
         self.count_use(id);
         Ok(())

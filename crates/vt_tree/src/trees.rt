@@ -1,13 +1,11 @@
 //! `Tree`, and what its calls change.
-ghost use Rattle.std.specs.Prelude.{◌≡◌, ℕ, ◌^◌, ◌≤◌, ◌+◌, ◌<◌, ◌↔◌, nat_eq, false, [], map, length, drop, take, None, Some, IfOk, IfErr, OnOk, OnErr, IsErrOf, IsOk, IsTrue, option_copied};
-ghost use Rattle.vt_spec.specs.Errors.{denial};
+ghost use Rattle.std.specs.Prelude.{◌≡◌, ℕ, ◌^◌, ◌≤◌, ◌+◌, ◌<◌, ◌↔◌, nat_eq, false, [], map, length, drop, take, None, Some, IfOk, OnOk, OnErr, IsOk, IsTrue, option_copied, IsErr};
 ghost use Rattle.vt_spec.specs.declared.attributes.Kind.TheVariants.{File};
-ghost use Rattle.vt_spec.specs.declared.errors.Rule.TheVariants.{S5};
 ghost use Rattle.vt_spec.specs.FileTree.{is_kind_in};
 ghost use Rattle.vt_spec.specs.Fits.{MayReplace, StaysOutside};
 ghost use Rattle.vt_spec.specs.Inodes.{changed, is_directory_under, one_directory, pinned, unpinned, uses_in};
 ghost use Rattle.vt_spec.specs.Laws.Trees.{IsNewIn};
-ghost use Rattle.vt_spec.specs.Language.Changes.Change.{AddName, Make, Move, Remove, SetAttr, SetBytes};
+ghost use Rattle.vt_spec.specs.Language.Changes.Change.{AddName, Make, Move, Remove, SetAttr, SetBytes, SetMark};
 ghost use Rattle.vt_spec.specs.Language.Limits.{largest_file};
 ghost use Rattle.vt_spec.specs.Machine.Descriptors.{overwritten};
 ghost use Rattle.vt_spec.specs.Tree.{is_directory_node, parent_in, entries_in, names_in, bytes_in};
@@ -16,14 +14,13 @@ ghost use Rattle.vt_tree.specs.TreeValue.{inodes_of, tree_of, next_number};
 ghost use Rattle.vt_tree.specs.Slots.{most_uses};
 
 use crate::changes::{
-    insert_entry, release, remove_entry, remove_object, set_attr, set_bytes, set_parent,
-    write_bytes,
+    insert_entry, release, remove_entry, remove_object, set_attr, set_bytes, set_opaque,
+    set_parent, write_bytes,
 };
 use crate::slots::Slots;
-use std::alloc::Global;
+use std::alloc::{AllocError, Global};
 use std::marker::Model;
 use vt_node::{Attr, Node, NodeId, copied_bytes};
-use vt_spec::errors::{Deny, Rule};
 
 /// A tree of directories, files, symlinks and whiteouts, each with a number, and with a count of its uses: the names
 /// that lead to it, and what a caller pins. With its last use an object goes.
@@ -43,10 +40,9 @@ impl Model for Tree {
 }
 
 impl Tree {
-    /// A tree of one empty directory, its root, with the number 0. S5: an allocation failed.
-    pub fn new(alloc: Global, attr: Attr) -> Result<Self, Deny>
+    /// A tree of one empty directory, its root, with the number 0.
+    pub fn new(alloc: Global, attr: Attr) -> Result<Self, AllocError>
         ensures ok { IfOk result (λ tree. inodes_of tree ≡ one_directory nat_eq 0 attr) }
-        ensures memory { IfErr result (λ deny. deny ≡ denial S5) }
     {
         let mut slots = Slots::new(alloc);
         slots.reserve(1)?;
@@ -111,32 +107,28 @@ impl Tree {
 
     /// The names of a directory, in the order of their bytes: readdir(3). What is no directory has none.
     ///
-    /// S5: an allocation failed. No names need none.
-    pub fn list(&self, directory: NodeId) -> Result<Vec<Vec<u8>>, Deny>
+    /// No names need no allocation.
+    pub fn list(&self, directory: NodeId) -> Result<Vec<Vec<u8>>, AllocError>
         ensures ok { IfOk result (λ names.
             map (λ name. name.items) names.items ≡ names_in ((tree_of self.now).node directory)) }
         ensures empty { entries_in ((tree_of self.now).node directory) ≡ [] → IsOk result }
-        ensures memory { IfErr result (λ deny. deny ≡ denial S5) }
     {
         let Some(node) = self.slots.get(directory) else {
             return Ok(Vec::new(self.alloc));
         };
-        node.names(self.alloc).map_err(|_error| Rule::S5.denial())
+        node.names(self.alloc)
     }
 
     /// At most `size` bytes of a file from an offset on: pread(2). Past the end there are none.
     ///
-    /// S5: an allocation failed. No bytes need none.
-    pub fn read_part(&self, file: NodeId, offset: usize, size: usize) -> Result<Vec<u8>, Deny>
+    /// No bytes need no allocation.
+    pub fn read_part(&self, file: NodeId, offset: usize, size: usize) -> Result<Vec<u8>, AllocError>
         ensures ok { IfOk result (λ bytes.
             bytes.items ≡ take size (drop offset (bytes_in ((tree_of self.now).node file)))) }
         ensures empty { take size (drop offset (bytes_in ((tree_of self.now).node file))) ≡ [] → IsOk result }
-        ensures memory { IfErr result (λ deny. deny ≡ denial S5) }
     {
         match self.slots.get(file) {
-            Some(node) => copied_bytes(self.alloc, node.bytes_part(offset, size)).map_err(
-                |_error| Rule::S5.denial(),
-            ),
+            Some(node) => copied_bytes(self.alloc, node.bytes_part(offset, size)),
             None => Ok(Vec::new(self.alloc)),
         }
     }
@@ -161,16 +153,18 @@ impl Tree {
     }
 
     /// Makes an object under a free name of a directory: mkdir(2), open(2) with O_CREAT, symlink(2), mknod(2).
-    ///
-    /// S5 (ENOMEM): an allocation failed.
-    pub fn create(&mut self, directory: NodeId, name: Vec<u8>, node: Node) -> Result<NodeId, Deny>
+    pub fn create(
+        &mut self,
+        directory: NodeId,
+        name: Vec<u8>,
+        node: Node,
+    ) -> Result<NodeId, AllocError>
         requires directory { IsDirectory (tree_of self.old) directory }
         requires free { entry_at (tree_of self.old) directory name.items ≡ None }
         requires node { IsNewIn directory node }
         ensures ok { IfOk result (λ id.
             inodes_of self.new ≡ changed nat_eq (inodes_of self.old) (Make directory name.items id node)) }
         ensures number { IfOk result (λ id. id ≡ next_number self.old) }
-        ensures memory { IfErr result (λ deny. deny ≡ denial S5) }
         ensures err { OnErr result (self.new ≡ self.old) }
     {
         self.slots.reserve(1)?;
@@ -181,18 +175,22 @@ impl Tree {
 
     /// Makes a further hard link to an object, under a free name: link(2).
     ///
-    /// S5 (ENOMEM): an allocation failed, or the object has 2^64 - 1 uses.
-    pub fn link(&mut self, directory: NodeId, name: Vec<u8>, object: NodeId) -> Result<(), Deny>
+    /// It fails too where the object has 2^64 - 1 uses.
+    pub fn link(
+        &mut self,
+        directory: NodeId,
+        name: Vec<u8>,
+        object: NodeId,
+    ) -> Result<(), AllocError>
         requires directory { IsDirectory (tree_of self.old) directory }
         requires free { entry_at (tree_of self.old) directory name.items ≡ None }
         requires object { is_directory_node ((tree_of self.old).node object) ≡ false }
         ensures ok { OnOk result
             (inodes_of self.new ≡ changed nat_eq (inodes_of self.old) (AddName directory name.items object)) }
-        ensures memory { IfErr result (λ deny. deny ≡ denial S5) }
         ensures err { OnErr result (self.new ≡ self.old) }
     {
         if self.slots.uses(object) == u64::MAX {
-            return Err(Rule::S5.denial());
+            return Err(AllocError);
         }
         insert_entry(&mut self.slots, directory, name, object)?;
         self.slots.count_use(object);
@@ -213,7 +211,7 @@ impl Tree {
 
     /// Gives an object another name, and takes the place of what had that: rename(2).
     ///
-    /// S5 (ENOMEM): an allocation failed, which only a new name needs.
+    /// Only a new name allocates.
     pub fn rename(
         &mut self,
         from: NodeId,
@@ -221,15 +219,14 @@ impl Tree {
         to: NodeId,
         new: Vec<u8>,
         object: NodeId,
-    ) -> Result<(), Deny>
+    ) -> Result<(), AllocError>
         requires named { entry_at (tree_of self.old) from old.now ≡ Some object }
         requires directory { IsDirectory (tree_of self.old) to }
         requires replaced { MayReplace (tree_of self.old) object (entry_at (tree_of self.old) to new.items) }
         requires outside { StaysOutside (inodes_of self.old) object to }
         ensures ok { OnOk result
             (inodes_of self.new ≡ changed nat_eq (inodes_of self.old) (Move from old.now to new.items object)) }
-        ensures new_name { IsErrOf result (denial S5) → entry_at (tree_of self.old) to new.items ≡ None }
-        ensures memory { IfErr result (λ deny. deny ≡ denial S5) }
+        ensures new_name { OnErr result (entry_at (tree_of self.old) to new.items ≡ None) }
         ensures err { OnErr result (self.new ≡ self.old) }
     {
         let replaced = self.look(to, &new);
@@ -254,17 +251,14 @@ impl Tree {
 
     /// Writes bytes into a file from an offset on, and zeros into a gap before them: pwrite(2). Only a file that gets
     /// longer allocates. A symlink, a whiteout and a number without an object stay as they are.
-    ///
-    /// S5 (ENOMEM): an allocation failed.
-    pub fn write_at(&mut self, file: NodeId, offset: usize, bytes: &[u8]) -> Result<(), Deny>
+    pub fn write_at(&mut self, file: NodeId, offset: usize, bytes: &[u8]) -> Result<(), AllocError>
         requires file { is_directory_node ((tree_of self.old).node file) ≡ false }
         requires size { offset + length bytes.now ≤ largest_file }
         ensures ok { OnOk result (inodes_of self.new ≡ changed nat_eq (inodes_of self.old)
             (SetBytes file (overwritten offset bytes.now (bytes_in ((tree_of self.old).node file))))) }
-        ensures file { IsErrOf result (denial S5) → IsTrue (is_kind_in File ((tree_of self.old).node file)) }
-        ensures longer { IsErrOf result (denial S5)
-            → length (bytes_in ((tree_of self.old).node file)) < offset + length bytes.now }
-        ensures memory { IfErr result (λ deny. deny ≡ denial S5) }
+        ensures file { OnErr result (IsTrue (is_kind_in File ((tree_of self.old).node file))) }
+        ensures longer { OnErr result
+            (length (bytes_in ((tree_of self.old).node file)) < offset + length bytes.now) }
         ensures err { OnErr result (self.new ≡ self.old) }
     {
         write_bytes(&mut self.slots, file, offset, bytes)
@@ -277,13 +271,20 @@ impl Tree {
         set_attr(&mut self.slots, object, attr);
     }
 
+    /// Marks a directory opaque, or takes its mark away: setxattr(2) of `trusted.overlay.opaque`. It does not allocate.
+    /// What is no directory stays as it is.
+    pub fn set_opaque(&mut self, directory: NodeId, opaque: bool)
+        ensures { inodes_of self.new ≡ changed nat_eq (inodes_of self.old) (SetMark directory opaque) }
+    {
+        set_opaque(&mut self.slots, directory, opaque);
+    }
+
     /// Counts one use more of an object, as open(2) does: it stays while it is in use. It does not allocate.
     ///
-    /// S5: the object has 2^64 - 1 uses.
-    pub fn pin(&mut self, object: NodeId) -> Result<(), Deny>
+    /// An error says that the object has 2^64 - 1 uses.
+    pub fn pin(&mut self, object: NodeId) -> Result<(), AllocError>
         ensures ok { OnOk result (inodes_of self.new ≡ pinned nat_eq (inodes_of self.old) object) }
-        ensures limit { IsErrOf result (denial S5) ↔ (uses_in ((inodes_of self.old).inode object) ≡ most_uses) }
-        ensures memory { IfErr result (λ deny. deny ≡ denial S5) }
+        ensures limit { IsErr result ↔ (uses_in ((inodes_of self.old).inode object) ≡ most_uses) }
         ensures err { OnErr result (self.new ≡ self.old) }
     {
         self.slots.acquire(object)

@@ -5,13 +5,13 @@ use Rattle.vt_spec.specs.Machine.Mounts as meant
 use Rattle.vt_spec.specs.Machine.Mounts.{same_location}
 use Rattle.vt_spec.specs.Machine.Walking.{is_lost, is_top, parent_location}
 use Rattle.vt_spec.specs.Machine.World.{Task}
-use Rattle.vt_spec.specs.Tree.{Node, entries_in, entry_named}
+use Rattle.vt_spec.specs.Tree.{entries_in, entry_named}
 use Rattle.vt_spec.proofs.Worlds.{same_location_is}
 use Rattle.vt_location.specs.declared.locations.Location.{Location}
 use Rattle.vt_location.specs.Locations.{location_of}
 use Rattle.vt_location.specs.Numbers.{counted}
-use Rattle.vt_looks.specs.Looking.{WaysStayFound, node_seen}
-use Rattle.vt_walk.specs.WalkValue.{IsFound, IsNodeAt}
+use Rattle.vt_looks.specs.Looking.{WaysStayFound}
+use Rattle.vt_walk.specs.WalkValue.{IsFound}
 
 module _ (looks : Looks ℕ) where
   -- through the mounts over a place, if there are none
@@ -39,14 +39,10 @@ module _ (looks : Looks ℕ) where
         second false b e = e
 
     -- to an entry
-    pub entry-found : (here object : Location) (name : List ℕ) (node : Node ℕ) (is_found : Bool)
-        → (is_found ≡ true → is_lost nat_eq looks (location_of here) ≡ false) → IsNodeAt looks here (Some node)
+    pub entry-found : (here object : Location) (name : List ℕ) (is_found : Bool)
+        → (is_found ≡ true → is_lost nat_eq looks (location_of here) ≡ false)
         → Some (location_of object) ≡ option_map (λ (n : ℕ). record { mount = counted here.mount.count; node = n })
-        (entry_named name (entries_in (node_seen here.node.filesystem (Some node))))
+        (entry_named name (entries_in (looks.node (location_of here))))
         → IsFound looks object is_found
-    entry-found here object name node is_found found there entry known directory =
-        ways.downward (location_of here) (location_of object) name (found known)
-        (ap (λ o. option_map (λ (n : ℕ). record { mount = counted here.mount.count; node = n })
-        (entry_named name (entries_in o))) (sym there)
-        ∙ sym entry)
-        directory
+    entry-found here object name is_found found entry known directory =
+        ways.downward (location_of here) (location_of object) name (found known) (sym entry) directory

@@ -3,7 +3,7 @@ use Rattle.std.proofs.Common.{◌≡◌, ℕ, Result, Ok, Err, refl, ap, ◌∙�
 use Rattle.vt_spec.specs.declared.errors.Deny.{Deny}
 use Rattle.vt_spec.specs.Errors.{and_then}
 use Rattle.vt_spec.specs.Machine.Mounts.{Location}
-use Rattle.vt_spec.specs.Machine.Walking.{Here, Place, Stop, walk_end}
+use Rattle.vt_spec.specs.Machine.Walking.{Here, Place, Stop, then_walk, walk_end}
 use Rattle.vt_location.specs.declared.locations.Location.{Location as CodeLocation}
 use Rattle.vt_location.specs.Locations.{location_of}
 use Rattle.vt_looks.specs.declared.places.Place.{Place as CodePlace}
@@ -27,6 +27,12 @@ module _ {A : Type 0} (walk : Result (Here ℕ) (Stop ℕ)) (after : Location �
   pub location-err : (deny : Deny) → Err deny ≡ location_end (walk_end walk)
       → Err deny ≡ and_then (walk_end walk) (λ here. after here.location)
   location-err deny e = ap (λ r. and_then r after) e ∙ location-next
+
+-- a walk that is refused stays refused, whatever comes after it
+pub location-refused : (walk : Result (Here ℕ) (Stop ℕ)) (after : Here ℕ → Result (Here ℕ) (Stop ℕ)) (deny : Deny)
+    → Err deny ≡ location_end (walk_end walk) → Err deny ≡ location_end (walk_end (then_walk walk after))
+location-refused (Ok here) after deny e = absurd cc
+location-refused (Err stop) after deny e = e
 
 -- A walk to a place, and what comes after it, which does not look at the steps
 module _ {A : Type 0} (walk : Result (Place ℕ) (Stop ℕ)) (after : Place ℕ → Result A Deny)

@@ -11,7 +11,6 @@ use Rattle.vt_location.specs.declared.locations.Location.{Location}
 use Rattle.vt_location.specs.Locations.{location_of}
 use Rattle.vt_looks.specs.declared.places.OldPlace.{OldPlace}
 use Rattle.vt_looks.specs.declared.places.Place.{Place}
-use Rattle.vt_looks.specs.Looking.{node_seen}
 use Rattle.vt_looks.specs.Places.{as_place, last_of}
 use Rattle.vt_walk.specs.declared.here.Here.{Here}
 use Rattle.vt_walk.specs.declared.upward.Step.{Step}
@@ -73,9 +72,9 @@ abbrev pub place_end : Result (PlaceMeant ℕ) Deny → Result (PlaceMeant ℕ) 
 place_end (Ok place) = Ok (without_steps place)
 place_end (Err deny) = Err deny
 
--- this is the inode at a location
-abbrev pub IsNodeAt : Looks ℕ → Location → Option (Node ℕ) → Type 0
-IsNodeAt looks location node = node_seen location.node.filesystem node ≡ looks.node (location_of location)
+-- this is what is lent for a location
+abbrev pub IsNodeAt : (LocationMeant ℕ → Option (Node ℕ)) → Location → Option (Node ℕ) → Type 0
+IsNodeAt real location node = node ≡ real (location_of location)
 
 -- What a place always is: its object is what the last word names in its parent, which is a directory where the last
 -- word is a name.

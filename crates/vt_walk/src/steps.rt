@@ -7,8 +7,8 @@ ghost use Rattle.vt_spec.specs.Machine.Walking.{follow_rules, is_lost, object_na
 ghost use Rattle.vt_spec.specs.PathText.{words};
 ghost use Rattle.vt_spec.specs.Tree.{entries_in, entry_named};
 ghost use Rattle.vt_location.specs.Locations.{location_of};
-ghost use Rattle.vt_location.specs.Numbers.{counted};
-ghost use Rattle.vt_looks.specs.Looking.{IsGround, node_seen};
+ghost use Rattle.vt_location.specs.Numbers.{mount_number};
+ghost use Rattle.vt_looks.specs.Looking.{IsGround};
 ghost use Rattle.vt_tasks.specs.TaskValue.{task_of};
 ghost use Rattle.vt_walk.specs.PendingTexts.{link_passed, walked_on_from};
 ghost use Rattle.vt_walk.specs.PlainWalks.{Follow, followed, last_walked, symlink_start, word_led, words_walked};
@@ -19,7 +19,7 @@ use crate::here::{Here, MOST_TEXTS, start_of};
 use crate::upward::{Step, entered, step_up};
 use arrayvec::ArrayVec;
 use vt_cred::{Rights, allows};
-use vt_location::{Location, NodeRef};
+use vt_location::Location;
 use vt_looks::{Ground, LastWord, Look};
 use vt_node::{Kind, Node};
 use vt_spec::errors::{Deny, Rule};
@@ -35,10 +35,10 @@ pub(crate) fn searched<'a, L: Look>(
     here: Location,
     node: Option<&'a Node>,
 ) -> Result<&'a Node, Deny>
-    requires { IsNodeAt (L.looks world.now) here (option_copied node) }
+    requires { IsNodeAt (L.real world.now) here (option_copied node) }
     ensures value { and_then {B = Unit {0}} result (λ directory. Ok tt)
         ≡ unless (search_rules nat_eq (L.looks world.now) (task_of who.now) (location_of here)) (Ok tt) }
-    ensures directory { IfOk result (λ directory. IsNodeAt (L.looks world.now) here (Some directory.now)) }
+    ensures directory { IfOk result (λ directory. IsNodeAt (L.real world.now) here (Some directory.now)) }
     ensures is { OnOk result (is_directory_at (L.looks world.now) (location_of here) ≡ true) }
 {
     world.has_no_overlays();
@@ -61,15 +61,21 @@ pub(crate) fn searched<'a, L: Look>(
 
 // The entry that a name has in a directory, on the same mount.
 #[inline(always)]
-fn entry_location(here: Location, directory: &Node, name: &[u8]) -> Option<Location>
+fn entry_location<L: Look>(
+    world: &L,
+    here: Location,
+    directory: &Node,
+    name: &[u8],
+) -> Option<Location>
+    requires { IsNodeAt (L.real world.now) here (Some directory.now) }
     ensures { option_map location_of result
-        ≡ option_map (λ object. record { mount = counted here.mount.count; node = object })
-        (entry_named name.now (entries_in (node_seen here.node.filesystem (Some directory.now)))) }
+        ≡ option_map (λ object. record { mount = mount_number here.mount; node = object })
+        (entry_named name.now (entries_in ((L.looks world.now).node (location_of here)))) }
 {
-    let node = directory.entry(name)?;
+    let node = world.entry(here, directory, name)?;
     Some(Location {
         mount: here.mount,
-        node: NodeRef::new(here.node.filesystem, node),
+        node,
     })
 }
 
@@ -85,7 +91,7 @@ fn stepped<L: Look>(
     word: LastWord,
 ) -> Result<Step, Deny>
     requires ground { IsGround (L.looks world.now) from.location.mount ground }
-    requires directory { IsNodeAt (L.looks world.now) from.location (Some directory.now) }
+    requires directory { IsNodeAt (L.real world.now) from.location (Some directory.now) }
     requires found { from.is_found ≡ true → is_lost nat_eq (L.looks world.now) (location_of from.location) ≡ false }
     ensures value { step_result result
         ≡ stepped nat_eq (L.looks world.now) (task_of who.now) (location_of from.location) (last_of word.entry) }
@@ -94,7 +100,7 @@ fn stepped<L: Look>(
     match word {
         LastWord::NoWord | LastWord::Dot => Ok(from),
         LastWord::DotDot => step_up(world, who, from.location, from.is_found),
-        LastWord::Named(name) => match entry_location(from.location, directory, name) {
+        LastWord::Named(name) => match entry_location(world, from.location, directory, name) {
             Some(entry) => {
                 world.ways_stay_found();
                 if ground.is_bare {
@@ -118,14 +124,14 @@ pub(crate) fn object_named<L: Look>(
     directory: &Node,
     last: LastWord,
 ) -> Result<Option<Location>, Deny>
-    requires { IsNodeAt (L.looks world.now) here (Some directory.now) }
+    requires { IsNodeAt (L.real world.now) here (Some directory.now) }
     ensures { named_result result
         ≡ object_named nat_eq (L.looks world.now) (task_of who.now) (location_of here) (last_of last.entry) }
 {
     match last {
         LastWord::NoWord | LastWord::Dot => Ok(Some(here)),
         LastWord::DotDot => Ok(Some(step_up(world, who, here, false)?.location)),
-        LastWord::Named(name) => Ok(entry_location(here, directory, name)),
+        LastWord::Named(name) => Ok(entry_location(world, here, directory, name)),
     }
 }
 
@@ -140,7 +146,7 @@ fn word_led<L: Look>(
     word: LastWord,
 ) -> Result<Step, Deny>
     requires ground { IsGround (L.looks world.now) from.location.mount ground }
-    requires node { IsNodeAt (L.looks world.now) from.location (option_copied node) }
+    requires node { IsNodeAt (L.real world.now) from.location (option_copied node) }
     requires found { IsFound (L.looks world.now) from.location from.is_found }
     ensures value { step_result result
         ≡ word_led (L.looks world.now) (task_of who.now) (location_of from.location) (last_of word.entry) }

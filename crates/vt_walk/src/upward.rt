@@ -83,13 +83,9 @@ fn is_top<L: Look>(world: &L, who: &Task, here: Location) -> bool
 fn parent_location<L: Look>(world: &L, here: Location) -> Location
     ensures { location_of result ≡ parent_location nat_eq (L.looks world.now) (location_of here) }
 {
-    let Some(node) = world.node(here) else {
-        return here;
-    };
-    let parent = node.parent(here.node.node());
     Location {
         mount: here.mount,
-        node: NodeRef::new(here.node.filesystem, parent),
+        node: world.parent(here),
     }
 }
 

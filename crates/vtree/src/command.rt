@@ -10,6 +10,7 @@ use std::rt::Env;
 use std::{env, io};
 use vt_check::check;
 use vt_script::RunFault;
+use vt_show::show;
 use vt_test::test;
 
 /// The version of the program and of what a script may say.
@@ -28,6 +29,22 @@ const TEST_ABOUT: &str = "Runs scripts that hold the answers that they want, and
 
 const RULES_ABOUT: &str = "Tells of the rules that refuse calls";
 
+const SHOW_ABOUT: &str =
+    "Shows tasks, mounts, peer groups and trees as they are at a line of a script";
+
+const NEW_ABOUT: &str = "Writes an example as a script that holds the answers that it wants";
+
+const NAME_HELP: &str =
+    "The example, which becomes the file NAME.vt; all are listed where it is left out";
+
+const AT_HELP: &str = "Before this line is answered; after all lines where it is left out";
+
+const TASK_HELP: &str = "This task alone, with the mounts of its namespace";
+
+const TREES_HELP: &str = "The trees of the filesystems too";
+
+const NO_LINE: &str = "`--at` takes the number of a line, from 1";
+
 const WORD_HELP: &str = "A rule, the name of an error, or a call; all rules where it is left out";
 
 const MARKDOWN_HELP: &str = "All rules as a page of the documentation";
@@ -45,6 +62,8 @@ const NO_INPUT: &str = "`--write` takes files, and not the standard input";
 const CHECK_FORMS: [&str; 2] = ["text", "json"];
 
 const TEST_FORMS: [&str; 3] = ["text", "json", "junit"];
+
+const SHOW_FORMS: [&str; 3] = ["text", "json", "dot"];
 
 const STATUSES: &str = "Exit status:
   0  all is well; of run: all was read and answered, denials included
@@ -125,6 +144,38 @@ fn test_line<'a>(alloc: Global) -> Result<Command<'a>, AllocError> {
         .arg(files(alloc))
 }
 
+// An option that takes one word.
+fn word_option<'a>(
+    alloc: Global,
+    name: &'static str,
+    word: &'static str,
+    help: &'static str,
+) -> Arg<'a> {
+    Arg::new(alloc, name).long(name).value_name(word).help(help)
+}
+
+// `vtree show [--at LINE] [--task TASK] [--files] [--format FORM] FILE`
+fn show_line<'a>(alloc: Global) -> Result<Command<'a>, AllocError> {
+    let trees = Arg::new(alloc, "files")
+        .long("files")
+        .action(ArgAction::SetTrue)
+        .help(TREES_HELP);
+    Command::new(alloc, "show")
+        .about(SHOW_ABOUT)
+        .arg(word_option(alloc, "at", "LINE", AT_HELP))?
+        .arg(word_option(alloc, "task", "TASK", TASK_HELP))?
+        .arg(trees)?
+        .arg(format_option(alloc, SHOW_FORMS.as_slice()))?
+        .arg(Arg::new(alloc, "FILE").required(true).help(FILE_HELP))
+}
+
+// `vtree new [NAME]`
+fn new_line<'a>(alloc: Global) -> Result<Command<'a>, AllocError> {
+    Command::new(alloc, "new")
+        .about(NEW_ABOUT)
+        .arg(Arg::new(alloc, "NAME").help(NAME_HELP))
+}
+
 // `vtree rules [--markdown] [WORD]`
 fn rules_line<'a>(alloc: Global) -> Result<Command<'a>, AllocError> {
     let page = Arg::new(alloc, "markdown")
@@ -148,7 +199,9 @@ fn command_line<'a>(alloc: Global) -> Result<Command<'a>, AllocError> {
         .subcommand(run_line(alloc)?)?
         .subcommand(check_line(alloc)?)?
         .subcommand(test_line(alloc)?)?
-        .subcommand(rules_line(alloc)?)
+        .subcommand(show_line(alloc)?)?
+        .subcommand(rules_line(alloc)?)?
+        .subcommand(new_line(alloc)?)
 }
 
 // The first paragraph of the error as one line, where all that is missing is named, and what is like the words.
@@ -205,6 +258,15 @@ pub(crate) enum Asked<'a> {
         /// Whether the given answers are put into the files.
         writes: bool,
     },
+    Show {
+        file: &'a str,
+        /// The line before which the world is shown, or none for that at the end.
+        line: Option<u64>,
+        options: show::Options<'a>,
+    },
+    New {
+        name: Option<&'a str>,
+    },
     Rules {
         word: Option<&'a str>,
         /// Whether all rules are written as a page.
@@ -250,6 +312,42 @@ fn test_asked<'a>(alloc: Global, given: &ArgMatches<'a>) -> Result<Asked<'a>, Al
     })
 }
 
+// The number of a line that is asked for, if there is one.
+fn line_asked(alloc: Global, given: &ArgMatches<'_>) -> Result<Option<u64>, Fault>
+    ensures { IfErr result IsOfWords }
+{
+    let Some(word) = given.get_str("at") else {
+        return Ok(None);
+    };
+    match word.parse::<u64>() {
+        Ok(line) if line > 0 => Ok(Some(line)),
+        _ => {
+            let text = String::from_str(alloc, NO_LINE).map_err(out_of_memory)?;
+            Err(Fault::Words(text))
+        }
+    }
+}
+
+// `vtree show`
+fn show_asked<'a>(alloc: Global, given: &ArgMatches<'a>) -> Result<Asked<'a>, Fault>
+    ensures { IfErr result IsOfWords }
+{
+    let format = match given.get_str("format") {
+        Some("json") => show::Format::Json,
+        Some("dot") => show::Format::Dot,
+        _ => show::Format::Text,
+    };
+    Ok(Asked::Show {
+        file: given.get_str("FILE").unwrap_or_default(),
+        line: line_asked(alloc, given)?,
+        options: show::Options {
+            format,
+            files: given.get_flag("files"),
+            task: given.get_str("task"),
+        },
+    })
+}
+
 // Refuses to put answers into the standard input.
 fn without_input<'a>(alloc: Global, asked: Asked<'a>) -> Result<Asked<'a>, Fault>
     ensures { IfErr result IsOfWords }
@@ -283,6 +381,10 @@ fn asked_of<'a>(alloc: Global, matches: &ArgMatches<'a>) -> Result<Asked<'a>, Fa
             let asked = test_asked(alloc, given).map_err(out_of_memory)?;
             without_input(alloc, asked)
         }
+        Some(("show", given)) => show_asked(alloc, given),
+        Some(("new", given)) => Ok(Asked::New {
+            name: given.get_str("NAME"),
+        }),
         Some(("rules", given)) => Ok(Asked::Rules {
             word: given.get_str("WORD"),
             page: given.get_flag("markdown"),

@@ -3,22 +3,29 @@
 #![tactic(auto)]
 
 mod command;
+mod cookbook;
 mod fault;
 mod order;
 mod rules;
+mod showing;
 #[cfg(test)]
 mod tests;
 mod tools;
 
 use crate::command::words;
 use crate::fault::{Fault, status};
-use crate::order::obey;
-use std::io;
+use crate::order::{Pace, obey};
+use std::io::{self, IsTerminal};
 use std::process::ExitCode;
 
 fn main(rt: HostRuntime) -> ExitCode {
+    let pace = if rt.stdout().is_terminal() {
+        Pace::Lines
+    } else {
+        Pace::Blocks
+    };
     let outcome = match words(&rt) {
-        Ok(words) => obey(&rt, words.as_slice(), &mut io::writer(&rt)),
+        Ok(words) => obey(&rt, words.as_slice(), pace, &mut io::writer(&rt)),
         Err(fault) => Err(fault),
     };
     // A fault of the error output changes nothing more.

@@ -7,13 +7,32 @@ ghost use Rattle.vtree.specs.Status.{comes_before_output};
 
 use crate::command::{Asked, asked_by, out_of_memory};
 use crate::fault::Fault;
-use crate::{rules, tools};
+use crate::{cookbook, rules, showing, tools};
 use std::alloc::Global;
 use std::fs::File;
 use std::io::{self, BufWriter, Read, Write};
 use std::rt::Files;
 use vt_calls::Kernel;
 use vt_script::{ReadSource, RunFault, WriteSink, run};
+
+/// When answers go out.
+#[derive(Clone, Copy, PartialEq, Eq)]
+pub enum Pace {
+    /// Each by the end of its line, as at a terminal.
+    Lines,
+    /// Several together.
+    Blocks,
+}
+
+impl Pace {
+    // How many bytes of answers are held back.
+    fn capacity(self) -> usize {
+        match self {
+            Pace::Lines => 0,
+            Pace::Blocks => 8192,
+        }
+    }
+}
 
 // A reader, with the error of its last call.
 #[derive(Drop)]
@@ -81,11 +100,13 @@ fn answer_named<R: Read + Drop, W: Write + Drop>(
     alloc: Global,
     name: &str,
     script: R,
+    pace: Pace,
     output: W,
 ) -> Result<W, Fault>
     ensures { IfErr result (λ fault. comes_before_output fault ≡ false) }
 {
-    let mut sink = WriteSink::new(BufWriter::new(alloc, output).map_err(out_of_memory)?);
+    let buffered = BufWriter::with_capacity(alloc, pace.capacity(), output);
+    let mut sink = WriteSink::new(buffered.map_err(out_of_memory)?);
     let mut reader = Watched::new(script);
     let mut source = ReadSource::new(&mut reader);
     let outcome = answer(alloc, &mut source, &mut sink);
@@ -117,16 +138,17 @@ fn read_fault(alloc: Global, name: &str, cause: Option<io::Error>) -> Fault
 fn run_named<R: Files + Input + AllocGlobal, W: Write>(
     rt: &R,
     name: &str,
+    pace: Pace,
     output: &mut W,
 ) -> Result<(), Fault>
     ensures { IfErr result (λ fault. comes_before_output fault ≡ true → output.new ≡ output.old) }
 {
     let alloc = rt.alloc();
     if name == "-" {
-        return answer_named(alloc, "standard input", rt.reader(), output).map(|_| ());
+        return answer_named(alloc, "standard input", rt.reader(), pace, output).map(|_| ());
     }
     match File::open(rt, name) {
-        Ok(file) => answer_named(alloc, name, file, output).map(|_| ()),
+        Ok(file) => answer_named(alloc, name, file, pace, output).map(|_| ()),
         Err(cause) => Err(Fault::Open {
             name: String::from_str(alloc, name).map_err(out_of_memory)?,
             cause,
@@ -135,19 +157,21 @@ fn run_named<R: Files + Input + AllocGlobal, W: Write>(
 }
 
 /// Does what the words say: `run FILE` answers the script in that file, or on the standard input where FILE is `-`;
-/// `check FILE..` and `test FILE..` tell what they find in each file, and `rules` tells of rules.
+/// `check FILE..` and `test FILE..` tell what they find in each file, `show FILE` shows a world, `rules` tells of rules,
+/// and `new NAME` writes an example.
 ///
 /// The words are read first, and then files are opened. What was answered is handed on to the output, also
 /// before a fault. What a file holds no clause can say: that FILE is what is read, tests show.
 pub fn obey<R: Files + Input + Eprint + AllocGlobal, W: Write>(
     rt: &R,
     words: &[String],
+    pace: Pace,
     output: &mut W,
 ) -> Result<(), Fault>
     ensures { IfErr result (λ fault. comes_before_output fault ≡ true → output.new ≡ output.old) }
 {
     match asked_by(rt.alloc(), words)? {
-        Asked::Run(name) => run_named(rt, name, output),
+        Asked::Run(name) => run_named(rt, name, pace, output),
         Asked::Check { files, options } => tools::check(rt, files.as_slice(), options, output),
         Asked::Test {
             files,
@@ -160,6 +184,12 @@ pub fn obey<R: Files + Input + Eprint + AllocGlobal, W: Write>(
                 tools::test(rt, files.as_slice(), format, output)
             }
         }
+        Asked::Show {
+            file,
+            line,
+            options,
+        } => showing::show(rt, file, line, options, output),
+        Asked::New { name } => cookbook::write(rt, name, output),
         Asked::Rules { word, page } => rules::tell(rt.alloc(), word, page, output),
     }
 }

@@ -1,7 +1,7 @@
 //! Tests of the program's words, faults and exit status.
 use crate::command::words;
 use crate::fault::{Fault, status};
-use crate::order::obey;
+use crate::order::{Pace, obey};
 use std::alloc::{AllocError, Global};
 use std::env::FillError;
 use std::fs::File;
@@ -62,7 +62,8 @@ const FAULTS: [(&[&str], u8, &str); 8] = [
 fn faults_name_what_failed_and_what_to_do(rt: HostRuntime) -> Result<(), Fail> {
     for (words, wanted, text) in FAULTS {
         let mut output = Vec::new(rt.alloc());
-        let outcome = obey(&rt, owned(rt.alloc(), words)?.as_slice(), &mut output);
+        let words = owned(rt.alloc(), words)?;
+        let outcome = obey(&rt, words.as_slice(), Pace::Blocks, &mut output);
         assert_eq!(rt; status(&outcome), wanted);
         assert!(rt; output.is_empty());
         let said = outcome.expect_err(&rt, "no fault").to_string(rt.alloc())?;
@@ -81,6 +82,7 @@ fn run_answers_the_script_in_the_file(rt: HostRuntime) -> Result<(), Fail> {
     let outcome = obey(
         &rt,
         owned(alloc, &["vtree", "run", file.as_str()])?.as_slice(),
+        Pace::Lines,
         &mut output,
     );
     fs::remove_file(&rt, file.as_str())?;
@@ -99,6 +101,7 @@ fn answers_that_cannot_be_written_are_a_fault(rt: HostRuntime) -> Result<(), Fai
     let outcome = obey(
         &rt,
         owned(alloc, &["vtree", "run", file.as_str()])?.as_slice(),
+        Pace::Blocks,
         &mut full,
     );
     fs::remove_file(&rt, file.as_str())?;
@@ -153,7 +156,7 @@ fn a_word_that_is_not_utf_8_is_told_so(rt: HostRuntime) -> Result<(), Fail> {
 fn ended(rt: &HostRuntime, words: &[&str]) -> Result<(u8, Vec<u8>), Fail> {
     let mut output = Vec::new(rt.alloc());
     let words = owned(rt.alloc(), words)?;
-    let outcome = obey(rt, words.as_slice(), &mut output);
+    let outcome = obey(rt, words.as_slice(), Pace::Blocks, &mut output);
     Ok((status(&outcome), output))
 }
 

@@ -15,8 +15,8 @@ use vt_test::with_given_answers;
 
 const INPUT: &str = "standard input";
 
-// The name of a file as it is told.
-fn told(name: &str) -> &str {
+/// The name of a file as it is told.
+pub fn told(name: &str) -> &str {
     if name == "-" { INPUT } else { name }
 }
 
@@ -30,8 +30,8 @@ fn content<R: Files + Input + AllocGlobal>(rt: &R, name: &str) -> io::Result<Vec
     Ok(bytes)
 }
 
-// The content of a file, or nothing where it cannot be read, which is said on the error output.
-fn readable<R: Files + Input + Eprint + AllocGlobal>(rt: &R, name: &str) -> Option<Vec<u8>> {
+/// The content of a file, or nothing where it cannot be read, which is said on the error output.
+pub fn readable<R: Files + Input + Eprint + AllocGlobal>(rt: &R, name: &str) -> Option<Vec<u8>> {
     match content(rt, name) {
         Ok(bytes) => Some(bytes),
         Err(cause) => {
@@ -44,8 +44,8 @@ fn readable<R: Files + Input + Eprint + AllocGlobal>(rt: &R, name: &str) -> Opti
     }
 }
 
-// Hands a text on to the output.
-fn hand_on<W: Write>(output: &mut W, text: &[u8]) -> Result<(), Fault>
+/// Hands a text on to the output.
+pub fn hand_on<W: Write>(output: &mut W, text: &[u8]) -> Result<(), Fault>
     ensures { IfErr result (λ fault. comes_before_output fault ≡ false) }
 {
     match output.write_all(text) {
@@ -54,8 +54,8 @@ fn hand_on<W: Write>(output: &mut W, text: &[u8]) -> Result<(), Fault>
     }
 }
 
-// Nothing, or that something was found.
-fn verdict(found: bool) -> Result<(), Fault>
+/// Nothing, or that something was found.
+pub fn verdict(found: bool) -> Result<(), Fault>
     ensures { IfErr result (λ fault. comes_before_output fault ≡ false) }
 {
     if found { Err(Fault::Found) } else { Ok(()) }

@@ -1,7 +1,7 @@
 //! Files and directories, as a shell, cp(1), mv(1), rm(1), ln(1) and open(2) have them.
 use super::Row;
 
-static ROWS: [Row; 52] = [
+static ROWS: [Row; 56] = [
     ("cat *", "read $1", ""),
     ("less *", "read $1", ""),
     ("more *", "read $1", ""),
@@ -60,9 +60,25 @@ static ROWS: [Row; 52] = [
         "it leaves a descriptor open",
     ),
     (
+        "mknod * c 0 0",
+        "whiteout $1",
+        "a whiteout is a character device 0/0",
+    ),
+    (
         "mknod ...",
         "",
         "devices, pipes and sockets are not modelled",
+    ),
+    (
+        "setfattr -n trusted.overlay.opaque -v y *",
+        "opaque $5 yes",
+        "",
+    ),
+    ("setfattr -x trusted.overlay.opaque *", "opaque $3 no", ""),
+    (
+        "setfattr ...",
+        "",
+        "of extended attributes only `trusted.overlay.opaque` is modelled: `opaque PATH yes`",
     ),
     (
         "mkfifo ...",

@@ -11,11 +11,10 @@ use Rattle.indexmap.specs.IndexSet.{insert_key}
 use Rattle.vt_spec.proofs.Lists.{chain_goes_on}
 use Rattle.vt_spec.specs.Lists.{holds_of, is_among}
 use Rattle.vt_location.specs.declared.numbers.GroupId.{GroupId}
-use Rattle.vt_location.specs.Numbers.{counted}
+use Rattle.vt_location.specs.Numbers.{counted, group_number}
 use Rattle.vt_group.specs.Grouping.{Grouping, master_in}
 use Rattle.vt_group.specs.Receiving.{IsLonger, Reaches, is_in}
 use Rattle.vt_group.specs.Sets.{same_group}
-use Rattle.vt_group.specs.Steps.{group_number}
 use Rattle.vt_group.proofs.Listing.{counted_same}
 use Rattle.vt_group.proofs.SetsLemmas.{same_id}
 use Rattle.vt_spec.proofs.Truths.{nat_eq-swapped}

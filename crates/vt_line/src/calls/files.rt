@@ -1,6 +1,6 @@
 //! The calls on files that are given more than paths.
 ghost use Rattle.std.specs.Prelude.{◌≡◌, option_map};
-ghost use Rattle.vt_spec.specs.Language.Calls.Call.{Chmod, Chown, Mkdir, OpenFile, Pwrite, Write};
+ghost use Rattle.vt_spec.specs.Language.Calls.Call.{Chmod, Chown, Mkdir, Opaque, OpenFile, Pwrite, Write};
 ghost use Rattle.vt_spec.specs.Language.Script.{creation_words};
 ghost use Rattle.vt_request.specs.Requests.{access_of, call_of, creation_of};
 ghost use Rattle.vt_line.specs.Calls.{call_named, call_worded, IsCallRead};
@@ -8,7 +8,7 @@ ghost use Rattle.vt_line.specs.Calls.{call_named, call_worded, IsCallRead};
 use crate::calls::ReadError;
 use crate::names::CallName;
 use crate::number::{descriptor_word, mode_word, offset_word};
-use crate::words::{Words, access_word, kept_or_identity, path_word};
+use crate::words::{Words, access_word, kept_or_identity, path_word, yes_or_no_word};
 use std::alloc::Global;
 use vt_request::{Access, Call, Creation, DescriptorCall, LookCall, MakeCall, WriteCall};
 use vt_spec::attributes::Mode;
@@ -58,6 +58,16 @@ fn chown_words(mut words: Words<'_>) -> Option<(&[u8], Option<u32>, Option<u32>)
     }
     words.end()?;
     Some((path, uid, gid))
+}
+
+/// The words of `opaque PATH yes` and `opaque PATH no`.
+fn opaque_words(mut words: Words<'_>) -> Option<(&[u8], bool)>
+    ensures { option_map (λ w. Opaque w.0.now w.1) result ≡ call_worded CallName.Opaque words.entry }
+{
+    let path = path_word(words.next()?)?;
+    let mark = yes_or_no_word(words.next()?)?;
+    words.end()?;
+    Some((path, mark))
 }
 
 /// The words that follow the path and the access of `open`: `create MODE`, `excl MODE` or none.
@@ -169,6 +179,17 @@ pub fn chown(alloc: Global, words: Words<'_>) -> Result<Call, ReadError>
     };
     let path = path.to_vec(alloc)?;
     Ok(Call::Write(WriteCall::Chown { path, uid, gid }))
+}
+
+/// `opaque PATH yes` or `opaque PATH no`.
+pub fn opaque(alloc: Global, words: Words<'_>) -> Result<Call, ReadError>
+    ensures { IsCallRead (call_named CallName.Opaque words.entry) result }
+{
+    let Some((path, mark)) = opaque_words(words) else {
+        return Err(ReadError::Grammar);
+    };
+    let path = path.to_vec(alloc)?;
+    Ok(Call::Write(WriteCall::Opaque { path, mark }))
 }
 
 /// `open PATH ACCESS [create MODE | excl MODE]`.

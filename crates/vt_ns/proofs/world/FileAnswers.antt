@@ -1,7 +1,7 @@
 -- What the events that change files and names answer.
 use Rattle.std.proofs.Common.{◌≡◌, sym, ap, subst, ◌∙◌, ℕ, ◌<◌, ◌&&◌, true, nat_eq, List, is_some, OnErr, OnOk}
 use Rattle.std.specs.Prelude.{Err, Ok, Result}
-use Rattle.vt_spec.specs.declared.errors.Deny.{Deny}
+use Rattle.std.specs.declared.alloc.AllocError.{AllocError}
 use Rattle.vt_spec.specs.Language.Calls.{TaskName}
 use Rattle.vt_spec.specs.Language.Changes.Change.{AddName, Remove, SetBytes}
 use Rattle.vt_spec.specs.Machine.Permits.{Permit}
@@ -24,18 +24,18 @@ use Rattle.vt_spec.proofs.Options.{OnOk_then}
 
 -- what an event that is given a permit leaves, where it may be refused memory
 pub record IsAnswered (value : WorldValue) (name : TaskName) (permit : Permit ℕ) (new : WorldValue)
-    (result : Result (Unit {0}) Deny) : Type 0 where
+    (result : Result (Unit {0}) AllocError) : Type 0 where
   pub held : IsHeld new
   pub ok : OnOk result (Becomes value name permit new)
 
 -- a change of files is answered by its event
 pub answered : (value : WorldValue) → IsHeld value → (name : TaskName) (permit : Permit ℕ) (filesystems : Filesystems)
-    (result : Result (Unit {0}) Deny)
+    (result : Result (Unit {0}) AllocError)
     → OnOk result (IsFilesEvent value name permit (with_filesystems value filesystems))
     → OnErr result (filesystems ≡ value.filesystems)
     → IsAnswered value name permit (with_filesystems value filesystems) result
 answered value held name permit filesystems (Ok done) event kept = record { held = event.held; ok = event.becomes }
-answered value held name permit filesystems (Err deny) event kept =
+answered value held name permit filesystems (Err refused) event kept =
     record { held = subst (λ fs. IsHeld (with_filesystems value fs)) (sym kept) held; ok = tt }
 
 -- write(2)
@@ -72,7 +72,7 @@ module _ (value : WorldValue) (held : IsHeld value) (name : TaskName) (directory
       object small_object linked_there
 
   -- a link is made, or the tree stays
-  pub link_is_answered : (filesystems : Filesystems) (result : Result (Unit {0}) Deny)
+  pub link_is_answered : (filesystems : Filesystems) (result : Result (Unit {0}) AllocError)
       → OnOk result (ChangesInodes directory.node.filesystem.count
       (λ inodes. changed nat_eq inodes
       (AddName (number_of directory.node) entry (number_of object))) value.filesystems filesystems)

@@ -1,7 +1,7 @@
 -- The event that writes a part of a file: pwrite(2).
 use Rattle.std.proofs.Common.{◌≡◌, refl, sym, ap, subst, ◌∙◌, inr, true≢false, ℕ, ◌+◌, ◌≤◌, Bool, true, false, nat_eq, List, [], ◌∷◌, map, length, OnErr, OnOk, ltb-false, eqb-true, eq-eqb, arith}
 use Rattle.std.specs.Prelude.{Result, ◌==◌}
-use Rattle.vt_spec.specs.declared.errors.Deny.{Deny}
+use Rattle.std.specs.declared.alloc.AllocError.{AllocError}
 use Rattle.vt_spec.specs.Language.Calls.{TaskName, same_name}
 use Rattle.vt_spec.specs.Language.Changes.{Change}
 use Rattle.vt_spec.specs.Language.Changes.Change.{SetBytes}
@@ -121,7 +121,7 @@ module _ (value : WorldValue) (held : IsHeld value) (name : TaskName) (file : Lo
         (offset + length (byte ∷ rest)) sees.1,
   )
 
-  part_is_answered : (filesystems : Filesystems) (result : Result (Unit {0}) Deny)
+  part_is_answered : (filesystems : Filesystems) (result : Result (Unit {0}) AllocError)
       → OnOk result (ChangesInodes file.node.filesystem.count
       (λ inodes. changed nat_eq inodes (SetBytes (number_of file.node)
       (overwritten offset (byte ∷ rest)
@@ -167,7 +167,7 @@ module _ (value : WorldValue) (held : IsHeld value) (name : TaskName) (file : Lo
 pub write_part_is_answered : (value : WorldValue) → IsHeld value
     → (name : TaskName) (file : Location) (offset : ℕ) (bytes : List ℕ) → IsSmall file
     → Permits value name (ToWritePart (location_of file) offset bytes) → (length bytes ≡ 0 → ⊥)
-    → (filesystems : Filesystems) (result : Result (Unit {0}) Deny)
+    → (filesystems : Filesystems) (result : Result (Unit {0}) AllocError)
     → OnOk result (ChangesInodes file.node.filesystem.count
     (λ inodes. changed nat_eq inodes (SetBytes (number_of file.node)
     (overwritten offset bytes (bytes_in

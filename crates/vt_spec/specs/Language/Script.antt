@@ -519,21 +519,13 @@ abbrev pub needs_no_layers : Call → Bool
 needs_no_layers (MountOverlay path options given) = false
 needs_no_layers call = true
 
--- the calls on files, tasks, mounts and namespaces, and the list of peer groups, which the product has today
-abbrev pub propagation : Grammar
-propagation = record {
-  version = One;
-  knows = λ name. list_any (bytes_eq name) (file_call_names ++ mounting_call_names);
-  has = needs_no_layers;
-  directs = λ name. bytes_eq name (codes "peers");
-}
-
 -- the names of the calls that make what hides lower layers: overlayfs, the kernel's document, "whiteouts and opaque
 -- directories"
 abbrev pub marking_call_names : List (List ℕ)
 marking_call_names = codes "whiteout" ∷ codes "opaque" ∷ []
 
--- the calls of `propagation`, and those that make whiteouts and opaque directories
+-- the calls on files, tasks, mounts and namespaces, those that make whiteouts and opaque directories, and the list of
+-- peer groups, which the product has today
 abbrev pub marks : Grammar
 marks = record {
   version = One;

@@ -21,5 +21,5 @@ returns-in-Some c =
     pins count (number_of node) old c.pin.new.self
     (not_refused c.pin.result (ChangesInodes count (λ inodes. pinned nat_eq inodes (number_of node)) old c.pin.new.self)
     (uses_in ((inodes_at old count).inode (number_of node)) ≡ most_counted)
-    (λ refused. c.pin.ensures.limit.0 refused) c.pin.ensures.memory c.pin.ensures.ok (λ full. omega (arith, full, few)))
+    c.pin.ensures.limit.0 c.pin.ensures.ok (λ full. omega (arith, full, few)))
     ∙ ap (λ o. pinned_at o (shown old)) (sym c.in-Some.is)

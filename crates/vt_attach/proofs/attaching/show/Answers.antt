@@ -19,7 +19,7 @@ pin_point-requires c =
     (not_refused c.pin.result (ChangesInodes root.filesystem.count
     (λ inodes. pinned nat_eq inodes (number_of root)) old c.pin.new.self)
     (uses_in ((inodes_at old root.filesystem.count).inode (number_of root)) ≡ most_counted)
-    (λ refused. c.pin.ensures.limit.0 refused) c.pin.ensures.memory c.pin.ensures.ok
+    c.pin.ensures.limit.0 c.pin.ensures.ok
     (λ full. omega (arith, full, few))) in
     subst (λ all. point_has_room 18446744073709551614 all c.args.mount.now.mount_point ≡ true) (sym first)
     (point_room_left (shown old) c.args.mount.now c.requires)
@@ -36,7 +36,7 @@ returns c =
     pins count (number_of root) old c.pin.new.self
     (not_refused c.pin.result (ChangesInodes count (λ inodes. pinned nat_eq inodes (number_of root)) old c.pin.new.self)
     (uses_in ((inodes_at old count).inode (number_of root)) ≡ most_counted)
-    (λ refused. c.pin.ensures.limit.0 refused) c.pin.ensures.memory c.pin.ensures.ok
+    c.pin.ensures.limit.0 c.pin.ensures.ok
     (λ full. omega (arith, full, few))) in
     let second : shown placed ≡ pinned_at point (pinned_in (inode_of root) (shown old)) = c.pin_point.ensures
     ∙ ap (pinned_at point) first in
@@ -48,6 +48,6 @@ returns c =
     ap shown (not_refused c.hold_mount.result
     (c.hold_mount.new.self ≡ with_changed count (λ entry. record entry { mounts = entry.mounts + 1 }) placed)
     ((entry_at placed count).mounts ≡ most_counted)
-    (λ refused. c.hold_mount.ensures.limit.0 refused) c.hold_mount.ensures.memory c.hold_mount.ensures.ok
+    c.hold_mount.ensures.limit.0 c.hold_mount.ensures.ok
     (λ full. omega (arith, full, mounts, fewer)))
     ∙ holds count placed ∙ ap (mounted_in (counted count)) second

@@ -16,14 +16,14 @@ use Rattle.vt_attach.proofs.copying.copies.Goals.{in-Some+in_ok-push, in_default
 pub copied-requires-clause-order : goal.copied-requires-clause-order
 copied-requires-clause-order c =
     rising_ids c.attached_in-originals.result.now
-    (attached_in (counted c.args.namespace.count) c.args.mounts.now) c.attached_in-originals.ensures
+    (attached_in (counted c.args.namespace.count) c.args.mounts.now) c.attached_in-originals.ensures.are
     (ascending_filter (λ mount. holds_of (nat_eq (counted c.args.namespace.count)) mount.namespace)
-    (mounts_in c.args.mounts.now) c.are_ascending.ensures)
+    (mounts_in c.args.mounts.now) c.attached_in-originals.ensures.order)
 
 pub copied-requires-clause-room : goal.copied-requires-clause-room
 copied-requires-clause-room c =
     let many = as_many c.attached_in-originals.result.now
-    (attached_in (counted c.args.namespace.count) c.args.mounts.now) c.attached_in-originals.ensures in
+    (attached_in (counted c.args.namespace.count) c.args.mounts.now) c.attached_in-originals.ensures.are in
     let room = c.requires in
     omega (arith, many, room)
 
@@ -40,7 +40,7 @@ loop-id-preserved c =
           c.loop-id.id-index _ c.attached_in-originals.result.now (let more = c.loop-id-test.true in search rules)
           c.loop-id.copies.items c.loop-id.invariant w.copied.result
           (ap (option_map change) (sym c.get.ensures ∙ ap (option_map mount_of) w.in-Some.is)
-          ∙ ap Some (sym (w.copied.ensures all c.attached_in-originals.ensures)))
+          ∙ ap Some (sym (w.copied.ensures all c.attached_in-originals.ensures.are)))
       | in_default w ↦
           ap (λ copies. map mount_of copies.items) w.copies-is
           ∙ none_made mount_of (λ id. option_map change
@@ -58,7 +58,7 @@ returns c =
     ∙ ap (filter_map (λ id. option_map change
     (find (λ mount. nat_eq (counted id.count) mount.number) (mounts_in c.args.mounts.now))))
     (all_taken c.loop-id.id-index c.attached_in-originals.result.now (let done = c.loop-id-test.false in search rules))
-    ∙ picked change (mounts_in c.args.mounts.now) all c.attached_in-originals.result.now c.attached_in-originals.ensures
-    (λ mount m. ascending_found (mounts_in c.args.mounts.now) c.are_ascending.ensures mount
+    ∙ picked change (mounts_in c.args.mounts.now) all c.attached_in-originals.result.now c.attached_in-originals.ensures.are
+    (λ mount m. ascending_found (mounts_in c.args.mounts.now) c.attached_in-originals.ensures.order mount
     (among-from_filter (λ mount. holds_of (nat_eq (counted c.args.namespace.count)) mount.namespace)
     (mounts_in c.args.mounts.now) mount m).0)

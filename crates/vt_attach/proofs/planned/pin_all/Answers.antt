@@ -11,8 +11,7 @@ loop-one-preserved c =
     pinned_next c.args.moved.now (shown c.args.filesystems.now) c.loop-one.filesystems c.pin.new.self
     c.loop-one.one-index _
     c.loop-one-test.true (omega arith) c.requires c.loop-one.invariant c.pin.result
-    (λ refused. c.pin.ensures.limit.0 refused)
-    c.pin.ensures.memory c.pin.ensures.ok
+    c.pin.ensures.limit.0 c.pin.ensures.ok
 
 pub returns : goal.returns
 returns c =

@@ -25,8 +25,8 @@ close-requires c =
 pub returns-in_err-open-in-Open : goal.returns-in_err-open-in-Open
 returns-in_err-open-in-Open c =
     let p = err_from_is_err_and c.from_residual.result c.from_residual.ensures.1 in
-    rw (p.1, p.2) (short c.args.world.now c.args.name.now (Descriptor c.args.grant) (descriptor_permit (granted.Open c.in-Open.file c.in-Open.access))
-    (λ task called. ap descriptor_permit c.in-Open.is) _ _ c.in_err-open-in-Open.ensures.memory c.in_err-open-in-Open.ensures.err refl)
+    rw p.1 (short c.args.world.now c.args.name.now (Descriptor c.args.grant) (descriptor_permit (granted.Open c.in-Open.file c.in-Open.access))
+    (λ task called. ap descriptor_permit c.in-Open.is) _ _ p.2 c.in_err-open-in-Open.ensures.err refl)
 
 pub returns-in_ok-open-in-Open : goal.returns-in_ok-open-in-Open
 returns-in_ok-open-in-Open c =
@@ -38,8 +38,8 @@ returns-in_ok-open-in-Open c =
 pub returns-in_err-open_new-in-OpenNew : goal.returns-in_err-open_new-in-OpenNew
 returns-in_err-open_new-in-OpenNew c =
     let p = err_from_is_err_and c.from_residual-in_err-open_new-in-OpenNew.result c.from_residual-in_err-open_new-in-OpenNew.ensures.1 in
-    rw (p.1, p.2) (short c.args.world.now c.args.name.now (Descriptor c.args.grant) (descriptor_permit (granted.OpenNew c.in-OpenNew.new))
-    (λ task called. ap descriptor_permit c.in-OpenNew.is) _ _ c.in_err-open_new-in-OpenNew.ensures.memory c.in_err-open_new-in-OpenNew.ensures.err refl)
+    rw p.1 (short c.args.world.now c.args.name.now (Descriptor c.args.grant) (descriptor_permit (granted.OpenNew c.in-OpenNew.new))
+    (λ task called. ap descriptor_permit c.in-OpenNew.is) _ _ p.2 c.in_err-open_new-in-OpenNew.ensures.err refl)
 
 pub returns-in_ok-open_new-in-OpenNew : goal.returns-in_ok-open_new-in-OpenNew
 returns-in_ok-open_new-in-OpenNew c =

@@ -20,6 +20,12 @@ set_attr-requires c =
     permitted c.args.world.now c.args.name.now (Write c.args.grant) (write_permit (granted.Attr c.in-Attr.object c.in-Attr.attr))
     (λ task called. ap write_permit c.in-Attr.is) tt c.requires
 
+pub set_opaque-requires : goal.set_opaque-requires
+set_opaque-requires c =
+    permitted c.args.world.now c.args.name.now (Write c.args.grant)
+    (write_permit (granted.Mark c.in-Mark.directory c.in-Mark.opaque))
+    (λ task called. ap write_permit c.in-Mark.is) tt c.requires
+
 pub returns-in-Content : goal.returns-in-Content
 returns-in-Content c =
     made c.args.world.now c.args.name.now (Write c.args.grant) (write_permit (granted.Content c.in-Content.file c.in-Content.bytes))
@@ -30,10 +36,17 @@ pub returns-in-Part : goal.returns-in-Part
 returns-in-Part c =
     changed c.args.world.now c.args.name.now (Write c.args.grant) (write_permit (granted.Part c.in-Part.part))
     (λ task called. ap write_permit c.in-Part.is) _ c.write_part.result c.done.result c.done.ensures tt
-    (λ task called. refl) refl c.write_part.ensures.ok c.write_part.ensures.memory c.write_part.ensures.err
+    (λ task called. refl) refl c.write_part.ensures.ok c.write_part.ensures.err
 
 pub returns-in-Attr : goal.returns-in-Attr
 returns-in-Attr c =
     made c.args.world.now c.args.name.now (Write c.args.grant) (write_permit (granted.Attr c.in-Attr.object c.in-Attr.attr))
     (λ task called. ap write_permit c.in-Attr.is) _ _ tt
     (λ task called. refl) c.set_attr.ensures
+
+pub returns-in-Mark : goal.returns-in-Mark
+returns-in-Mark c =
+    made c.args.world.now c.args.name.now (Write c.args.grant)
+    (write_permit (granted.Mark c.in-Mark.directory c.in-Mark.opaque))
+    (λ task called. ap write_permit c.in-Mark.is) _ _ tt
+    (λ task called. refl) c.set_opaque.ensures

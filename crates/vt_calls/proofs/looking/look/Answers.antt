@@ -35,26 +35,26 @@ mounts-requires c =
 pub returns-in_err-list-in-List : goal.returns-in_err-list-in-List
 returns-in_err-list-in-List c =
     let p = err_from_is_err_and c.from_residual.result c.from_residual.ensures.1 in
-    rw (p.1, p.2) (short c.args.world.now c.args.name.now (Look c.args.grant) (look_permit (granted.List c.in-List.directory))
-    (λ task called. ap look_permit c.in-List.is) _ _ c.in_err-list-in-List.ensures.memory refl refl)
+    rw p.1 (short c.args.world.now c.args.name.now (Look c.args.grant) (look_permit (granted.List c.in-List.directory))
+    (λ task called. ap look_permit c.in-List.is) _ _ p.2 refl refl)
 
 pub returns-in_err-read-in-Read : goal.returns-in_err-read-in-Read
 returns-in_err-read-in-Read c =
     let p = err_from_is_err_and c.from_residual-in_err-read-in-Read.result c.from_residual-in_err-read-in-Read.ensures.1 in
-    rw (p.1, p.2) (short c.args.world.now c.args.name.now (Look c.args.grant) (look_permit (granted.Read c.in-Read.file))
-    (λ task called. ap look_permit c.in-Read.is) _ _ c.in_err-read-in-Read.ensures.memory refl refl)
+    rw p.1 (short c.args.world.now c.args.name.now (Look c.args.grant) (look_permit (granted.Read c.in-Read.file))
+    (λ task called. ap look_permit c.in-Read.is) _ _ p.2 refl refl)
 
 pub returns-in_err-read_part-in-ReadPart : goal.returns-in_err-read_part-in-ReadPart
 returns-in_err-read_part-in-ReadPart c =
     let p = err_from_is_err_and c.from_residual-in_err-read_part-in-ReadPart.result c.from_residual-in_err-read_part-in-ReadPart.ensures.1 in
-    rw (p.1, p.2) (short c.args.world.now c.args.name.now (Look c.args.grant) (look_permit (granted.ReadPart c.in-ReadPart.part))
-    (λ task called. ap look_permit c.in-ReadPart.is) _ _ c.in_err-read_part-in-ReadPart.ensures.memory refl refl)
+    rw p.1 (short c.args.world.now c.args.name.now (Look c.args.grant) (look_permit (granted.ReadPart c.in-ReadPart.part))
+    (λ task called. ap look_permit c.in-ReadPart.is) _ _ p.2 refl refl)
 
 pub returns-in_err-mounts-in-ListMounts : goal.returns-in_err-mounts-in-ListMounts
 returns-in_err-mounts-in-ListMounts c =
     let p = err_from_is_err_and c.from_residual-in_err-mounts-in-ListMounts.result c.from_residual-in_err-mounts-in-ListMounts.ensures.1 in
-    rw (p.1, p.2) (short c.args.world.now c.args.name.now (Look c.args.grant) (look_permit granted.ListMounts)
-    (λ task called. ap look_permit c.in-ListMounts.is) _ _ c.in_err-mounts-in-ListMounts.ensures.memory refl refl)
+    rw p.1 (short c.args.world.now c.args.name.now (Look c.args.grant) (look_permit granted.ListMounts)
+    (λ task called. ap look_permit c.in-ListMounts.is) _ _ p.2 refl refl)
 
 pub returns-in-Nothing : goal.returns-in-Nothing
 returns-in-Nothing c =

@@ -19,10 +19,10 @@ pub returns-in-Node : goal.returns-in-Node
 returns-in-Node c =
     changed c.args.world.now c.args.name.now (Make c.args.grant) (make_permit (granted.Node c.in-Node.new))
     (λ task called. ap make_permit c.in-Node.is) _ c.make.result c.done.result c.done.ensures c.next_inode_is_vacant.ensures
-    (λ task called. refl) refl c.make.ensures.ok c.make.ensures.memory c.make.ensures.err
+    (λ task called. refl) refl c.make.ensures.ok c.make.ensures.err
 
 pub returns-in-Link : goal.returns-in-Link
 returns-in-Link c =
     changed c.args.world.now c.args.name.now (Make c.args.grant) (make_permit (granted.Link c.in-Link.new))
     (λ task called. ap make_permit c.in-Link.is) _ c.link.result c.done-in-Link.result c.done-in-Link.ensures tt
-    (λ task called. refl) refl c.link.ensures.ok c.link.ensures.memory c.link.ensures.err
+    (λ task called. refl) refl c.link.ensures.ok c.link.ensures.err

@@ -25,16 +25,16 @@ pub returns-in-Plain : goal.returns-in-Plain
 returns-in-Plain c =
     changed c.args.world.now c.args.name.now (Mount (Attach c.args.attachment)) (attachment_permit (granted.Plain c.in-Plain.destination c.in-Plain.flags))
     (λ task called. ap attachment_permit c.in-Plain.is) _ c.mount_plain.result c.done.result c.done.ensures c.next_root_is_vacant.ensures
-    (λ task called. refl) refl c.mount_plain.ensures.ok c.mount_plain.ensures.memory c.mount_plain.ensures.err
+    (λ task called. refl) refl c.mount_plain.ensures.ok c.mount_plain.ensures.err
 
 pub returns-in-Bind : goal.returns-in-Bind
 returns-in-Bind c =
     changed c.args.world.now c.args.name.now (Mount (Attach c.args.attachment)) (attachment_permit (granted.Bind c.in-Bind.bind))
     (λ task called. ap attachment_permit c.in-Bind.is) _ c.bind.result c.done-in-Bind.result c.done-in-Bind.ensures tt
-    (λ task called. refl) refl c.bind.ensures.ok c.bind.ensures.memory c.bind.ensures.err
+    (λ task called. refl) refl c.bind.ensures.ok c.bind.ensures.err
 
 pub returns-in-Move : goal.returns-in-Move
 returns-in-Move c =
     changed c.args.world.now c.args.name.now (Mount (Attach c.args.attachment)) (attachment_permit (granted.Move c.in-Move.mount c.in-Move.destination))
     (λ task called. ap attachment_permit c.in-Move.is) _ c.move_mount.result c.done-in-Move.result c.done-in-Move.ensures tt
-    (λ task called. refl) refl c.move_mount.ensures.ok c.move_mount.ensures.memory c.move_mount.ensures.err
+    (λ task called. refl) refl c.move_mount.ensures.ok c.move_mount.ensures.err

@@ -31,13 +31,13 @@ pub returns-in-Unmount : goal.returns-in-Unmount
 returns-in-Unmount c =
     changed c.args.world.now c.args.name.now (Mount c.args.grant) (mount_permit (granted.Unmount c.in-Unmount.mount))
     (λ task called. ap mount_permit c.in-Unmount.is) _ c.unmount.result c.done.result c.done.ensures tt
-    (λ task called. refl) refl c.unmount.ensures.ok c.unmount.ensures.memory c.unmount.ensures.err
+    (λ task called. refl) refl c.unmount.ensures.ok c.unmount.ensures.err
 
 pub returns-in-UnmountLazily : goal.returns-in-UnmountLazily
 returns-in-UnmountLazily c =
     changed c.args.world.now c.args.name.now (Mount c.args.grant) (mount_permit (granted.UnmountLazily c.in-UnmountLazily.mount))
     (λ task called. ap mount_permit c.in-UnmountLazily.is) _ c.unmount_lazily.result c.done-in-UnmountLazily.result c.done-in-UnmountLazily.ensures tt
-    (λ task called. refl) refl c.unmount_lazily.ensures.ok c.unmount_lazily.ensures.memory c.unmount_lazily.ensures.err
+    (λ task called. refl) refl c.unmount_lazily.ensures.ok c.unmount_lazily.ensures.err
 
 pub returns-in-SetFlags : goal.returns-in-SetFlags
 returns-in-SetFlags c =
@@ -52,4 +52,4 @@ returns-in-SetType c =
     c.done-in-SetType.result c.done-in-SetType.ensures tt (λ task called. refl)
     ((c.in-SetType.change.recursive || makes_shared (mount_permit (granted.SetType c.in-SetType.change))) ≡ true)
     (ap not)
-    c.set_type.ensures.one c.set_type.ensures.ok c.set_type.ensures.memory c.set_type.ensures.err
+    c.set_type.ensures.one c.set_type.ensures.ok c.set_type.ensures.err

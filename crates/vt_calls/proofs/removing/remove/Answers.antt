@@ -30,10 +30,10 @@ pub returns-in-Directory : goal.returns-in-Directory
 returns-in-Directory c =
     changed c.args.world.now c.args.name.now (Remove c.args.grant) (remove_permit (granted.Directory c.in-Directory.removed))
     (λ task called. ap remove_permit c.in-Directory.is) _ c.remove_directory.result c.done.result c.done.ensures tt
-    (λ task called. refl) refl c.remove_directory.ensures.ok c.remove_directory.ensures.memory c.remove_directory.ensures.err
+    (λ task called. refl) refl c.remove_directory.ensures.ok c.remove_directory.ensures.err
 
 pub returns-in-Rename : goal.returns-in-Rename
 returns-in-Rename c =
     changed c.args.world.now c.args.name.now (Remove c.args.grant) (remove_permit (granted.Rename c.in-Rename.renamed))
     (λ task called. ap remove_permit c.in-Rename.is) _ c.rename.result c.done-in-Rename.result c.done-in-Rename.ensures tt
-    (λ task called. refl) refl c.rename.ensures.ok c.rename.ensures.memory c.rename.ensures.err
+    (λ task called. refl) refl c.rename.ensures.ok c.rename.ensures.err

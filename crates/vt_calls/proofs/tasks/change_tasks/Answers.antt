@@ -60,25 +60,25 @@ pub returns-in-SetDirectory : goal.returns-in-SetDirectory
 returns-in-SetDirectory c =
     changed c.args.world.now c.args.name.now (Task c.args.grant) (ToSetDirectory (location_of c.in-SetDirectory.directory))
     (λ task called. ap (task_permit task) c.in-SetDirectory.is) _ c.set_directory.result c.done.result c.done.ensures tt
-    (λ task called. refl) refl c.set_directory.ensures.ok c.set_directory.ensures.memory c.set_directory.ensures.err
+    (λ task called. refl) refl c.set_directory.ensures.ok c.set_directory.ensures.err
 
 pub returns-in-SetRoot : goal.returns-in-SetRoot
 returns-in-SetRoot c =
     changed c.args.world.now c.args.name.now (Task c.args.grant) (ToSetRoot (location_of c.in-SetRoot.root))
     (λ task called. ap (task_permit task) c.in-SetRoot.is) _ c.set_root.result c.done-in-SetRoot.result c.done-in-SetRoot.ensures tt
-    (λ task called. refl) refl c.set_root.ensures.ok c.set_root.ensures.memory c.set_root.ensures.err
+    (λ task called. refl) refl c.set_root.ensures.ok c.set_root.ensures.err
 
 pub returns-in-Unshare : goal.returns-in-Unshare
 returns-in-Unshare c =
     changed c.args.world.now c.args.name.now (Task c.args.grant) ToUnshare
     (λ task called. ap (task_permit task) c.in-Unshare.is) _ c.unshare.result c.done-in-Unshare.result c.done-in-Unshare.ensures tt
-    (λ task called. refl) refl c.unshare.ensures.ok c.unshare.ensures.memory c.unshare.ensures.err
+    (λ task called. refl) refl c.unshare.ensures.ok c.unshare.ensures.err
 
 pub returns-in-EnterNamespace : goal.returns-in-EnterNamespace
 returns-in-EnterNamespace c =
     changed c.args.world.now c.args.name.now (Task c.args.grant) (ToEnterNamespace (counted c.in-EnterNamespace.namespace.count))
     (λ task called. ap (task_permit task) c.in-EnterNamespace.is) _ c.enter_namespace.result c.done-in-EnterNamespace.result c.done-in-EnterNamespace.ensures tt
-    (λ task called. refl) refl c.enter_namespace.ensures.ok c.enter_namespace.ensures.memory c.enter_namespace.ensures.err
+    (λ task called. refl) refl c.enter_namespace.ensures.ok c.enter_namespace.ensures.err
 
 pub returns-in-SetUmask : goal.returns-in-SetUmask
 returns-in-SetUmask c =
@@ -104,8 +104,8 @@ returns-in-DropCaps c =
 pub returns-in_err-fork-in-Fork : goal.returns-in_err-fork-in-Fork
 returns-in_err-fork-in-Fork c =
     let p = err_from_is_err_and c.from_residual.result c.from_residual.ensures.1 in
-    rw (p.1, p.2) (short c.args.world.now c.args.name.now (Task c.args.grant) (ToFork c.in-Fork.cred)
-    (λ task called. ap (task_permit task) c.in-Fork.is) _ _ c.in_err-fork-in-Fork.ensures.memory c.in_err-fork-in-Fork.ensures.err refl)
+    rw p.1 (short c.args.world.now c.args.name.now (Task c.args.grant) (ToFork c.in-Fork.cred)
+    (λ task called. ap (task_permit task) c.in-Fork.is) _ _ p.2 c.in_err-fork-in-Fork.ensures.err refl)
 
 pub returns-in_ok-fork-in-Fork : goal.returns-in_ok-fork-in-Fork
 returns-in_ok-fork-in-Fork c =

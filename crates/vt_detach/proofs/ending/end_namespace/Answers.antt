@@ -35,7 +35,7 @@ loop-last-smaller c =
     (one_detached_less namespace k _
     (attached_so namespace c.loop-last.mounts c.loop-last.filesystems c.attached_in.result.now c.in-Some.last.now
     c.detach.result
-    c.are_ascending.ensures c.attached_in.ensures
+    c.attached_in.ensures.order c.attached_in.ensures.are
     (sym c.last.ensures.value ∙ ap option_copied c.in-Some.is) c.detach.ensures.point c.detach.ensures.slot)))
 
 pub loop-last-preserved : goal.loop-last-preserved
@@ -65,7 +65,7 @@ loop-last-preserved c =
           (is_attached-alike namespace sofar.entries c.loop-last.mounts sofar.only_types
           (shown c.loop-last.filesystems) one
           (attached_so namespace c.loop-last.mounts c.loop-last.filesystems c.attached_in.result.now c.in-Some.last.now
-          point c.are_ascending.ensures c.attached_in.ensures
+          point c.attached_in.ensures.order c.attached_in.ensures.are
           (sym c.last.ensures.value ∙ ap option_copied c.in-Some.is) c.detach.ensures.point c.detach.ensures.slot)));
       only_types = λ groups.
           c.leave.ensures.types groups
@@ -93,7 +93,7 @@ returns c =
     let first = kept c.args.mounts.now c.args.filesystems.now in
     let last : Kept = record { mounts = sofar.entries; filesystems = shown c.loop-last.filesystems } in
     let none = none_alike namespace sofar.entries c.loop-last.mounts sofar.only_types
-    (none_listed c.loop-last.mounts namespace c.attached_in.result.now c.attached_in.ensures
+    (none_listed c.loop-last.mounts namespace c.attached_in.result.now c.attached_in.ensures.are
     (sym c.last.ensures.value ∙ ap option_copied c.in_default.is)) in
     record {
       entries = sofar.entries;

@@ -1,5 +1,6 @@
 use Rattle.std.proofs.Common.{ap, map, option_map, sym, ◌∙◌}
-use Rattle.vt_group.specs.Steps.{group_number, numbered_master}
+use Rattle.vt_location.specs.Numbers.{group_number}
+use Rattle.vt_group.specs.Steps.{numbered_master}
 use Rattle.vt_group.specs.Together.{with_entry_of}
 use Rattle.vt_group.proofs.CountLemmas.{inserted-numbered, removed-numbered}
 use Rattle.vt_group.proofs.additions.set_master.Goals as goal

@@ -2,8 +2,7 @@ use Rattle.std.proofs.Common.{Some, ap, option_map, ◌∙◌}
 use Rattle.std.specs.Prelude.{unwrap_or}
 use Rattle.vt_spec.specs.Machine.Mounts.Propagation.{Private}
 use Rattle.vt_location.specs.MountValue.{propagation_of}
-use Rattle.vt_location.specs.Numbers.{counted}
-use Rattle.vt_group.specs.Steps.{group_number}
+use Rattle.vt_location.specs.Numbers.{counted, group_number}
 use Rattle.vt_group.proofs.EndedTypes.{once_ended}
 use Rattle.vt_group.proofs.Handed.{kind_seen, shown_or_private}
 use Rattle.vt_group.proofs.propagation.type_after_end.Goals as goal

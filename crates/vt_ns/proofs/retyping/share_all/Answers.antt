@@ -11,5 +11,5 @@ returns-clause-types_ok c =
     c.in_ok-share.ensures.types_ok
     ∙ ap (λ numbers. map (shared_by c.share.new.groups numbers) c.args.mounts.now)
     (sym (map_twice (λ (pair : ℕ × ℕ). pair.0) pair_of c.deref.result.now)
-    ∙ ap (map (λ (pair : ℕ × ℕ). pair.0)) (ap (map pair_of) c.deref.ensures.value ∙ c.in-Ok.ensures)
+    ∙ ap (map (λ (pair : ℕ × ℕ). pair.0)) (ap (map pair_of) c.deref.ensures.value ∙ c.in_ok-named.ensures)
     ∙ each_numbered c.args.next (map (λ id. counted id.count) c.args.ids.now))

@@ -1,4 +1,5 @@
 use Rattle.std.proofs.Common.{ap, length, sym, ◌∙◌, ◌*◌}
+use Rattle.std.proofs.lemmas.Result.{IfOk-weaker}
 use Rattle.std.proofs.lemmas.List.{length-map}
 use Rattle.vt_location.specs.MountValue.{mount_of}
 use Rattle.vt_propagate.specs.Copying.{as_kept, copied, parts_seen, tree_seen}
@@ -8,16 +9,17 @@ use Rattle.vt_propagate.proofs.copying.Planning.{copies_planned, first_part}
 use Rattle.vt_propagate.proofs.copying.copies.Goals as goal
 
 pub returns-clause-ok : goal.returns-clause-ok
-returns-clause-ok c world seen are =
+returns-clause-ok c =
     let copying : Copying = record {
       graft = c.args.graft.now;
       destination = c.in-Some.destination.now;
       counts = c.args.counts;
       indexes = c.args.indexes;
     } in
-    c.in-Ok.ensures
+    IfOk-weaker c.all_copies.result _ _ (λ copies is world seen are. is
     ∙ copies_planned world c.args.mounts.now c.args.groups.now seen copying
-    (first_part c.args.graft.now.parts.now c.in-Some.destination.now c.in-Some.ensures.value _ _ are) are
+    (first_part c.args.graft.now.parts.now c.in-Some.destination.now c.in-Some.ensures.value _ _ are) are)
+    c.all_copies.ensures
 
 pub returns-clause-length : goal.returns-clause-length
 returns-clause-length c =
@@ -27,7 +29,8 @@ returns-clause-length c =
       counts = c.args.counts;
       indexes = c.args.indexes;
     } in
-    sym (length-map c.in-Ok.copies.items mount_of) ∙ ap length c.in-Ok.ensures
+    IfOk-weaker c.all_copies.result _ _ (λ copies is. sym (length-map copies.items mount_of) ∙ ap length is
     ∙ length-rows (copied (as_kept c.args.mounts.now c.args.groups.now) copying) (tree_seen copying)
     (parts_seen copying)
-    ∙ (λ i. length-map c.args.graft.now.parts.now mount_of i * length-map c.args.graft.now.tree.now mount_of i)
+    ∙ (λ i. length-map c.args.graft.now.parts.now mount_of i * length-map c.args.graft.now.tree.now mount_of i))
+    c.all_copies.ensures

@@ -1,4 +1,5 @@
 use Rattle.std.proofs.Common.{ap, subst, sym, ◌∙◌}
+use Rattle.std.proofs.lemmas.Result.{IfOk-weaker}
 use Rattle.std.specs.Prelude.{All}
 use Rattle.vt_mount.specs.MountsValue.{are_ascending}
 use Rattle.vt_propagate.specs.Falling.{FallsTo, LeavesBy, all_points_left}
@@ -7,13 +8,17 @@ use Rattle.vt_propagate.proofs.Found.{counts}
 use Rattle.vt_propagate.proofs.falling.points_left.Goals as goal
 
 pub returns-clause-ok : goal.returns-clause-ok
-returns-clause-ok c world same =
-    subst (LeavesBy world (counts c.args.gone.now)) (sym (c.in-Ok.ensures
+returns-clause-ok c =
+    IfOk-weaker c.all_left.result _ _ (λ points is world same.
+    subst (LeavesBy world (counts c.args.gone.now)) (sym (is
     ∙ ap (λ mounts. all_points_left mounts (counts c.args.gone.now)) same))
-    (leaves world (ap are_ascending (sym same) ∙ c.are_ascending.ensures) (counts c.args.gone.now))
+    (leaves world (ap are_ascending (sym same) ∙ c.are_ascending.ensures) (counts c.args.gone.now)))
+    c.all_left.ensures
 
 pub returns-clause-each : goal.returns-clause-each
-returns-clause-each c world same =
-    subst (All (FallsTo world (counts c.args.gone.now))) (sym (c.in-Ok.ensures
+returns-clause-each c =
+    IfOk-weaker c.all_left.result _ _ (λ points is world same.
+    subst (All (FallsTo world (counts c.args.gone.now))) (sym (is
     ∙ ap (λ mounts. all_points_left mounts (counts c.args.gone.now)) same))
-    (each_falls world (ap are_ascending (sym same) ∙ c.are_ascending.ensures) (counts c.args.gone.now))
+    (each_falls world (ap are_ascending (sym same) ∙ c.are_ascending.ensures) (counts c.args.gone.now)))
+    c.all_left.ensures

@@ -12,17 +12,17 @@ returns-clause-added c world new place tree same invariants are size stay =
     c.is_one_overfilled.ensures
     ∙ added_tell world place new tree invariants
     (mounts_in c.args.mounts.now) same c.args.parts.now are c.args.load size stay
-    (λ (namespace : NamespaceId). unwrap_or (get same_namespace c.in-Ok.counts namespace) 0) c.in-Ok.ensures
+    (λ (namespace : NamespaceId). unwrap_or (get same_namespace c.in_ok-counts.counts namespace) 0) c.in_ok-counts.ensures
 
 pub returns-clause-moved : goal.returns-clause-moved
 returns-clause-moved c world new place tree same invariants are size moves =
     c.is_one_overfilled.ensures
     ∙ moves_tell world place new tree invariants
     (mounts_in c.args.mounts.now) same c.args.parts.now are c.args.load size moves
-    (λ (namespace : NamespaceId). unwrap_or (get same_namespace c.in-Ok.counts namespace) 0) c.in-Ok.ensures
+    (λ (namespace : NamespaceId). unwrap_or (get same_namespace c.in_ok-counts.counts namespace) 0) c.in_ok-counts.ensures
 
 pub returns-clause-more : goal.returns-clause-more
 returns-clause-more c world after same invariants stay grows =
     c.is_one_overfilled.ensures
     ∙ more_tell world after invariants (mounts_in c.args.mounts.now) same c.args.parts.now c.args.load stay grows
-    (λ (namespace : NamespaceId). unwrap_or (get same_namespace c.in-Ok.counts namespace) 0) c.in-Ok.ensures
+    (λ (namespace : NamespaceId). unwrap_or (get same_namespace c.in_ok-counts.counts namespace) 0) c.in_ok-counts.ensures

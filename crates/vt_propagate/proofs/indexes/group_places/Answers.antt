@@ -2,8 +2,7 @@ use Rattle.std.proofs.Common.{ap, false, nat_eq, option_map, sym, ◌∙◌}
 use Rattle.std.specs.HashMap.{get}
 use Rattle.vt_spec.specs.Lists.{holds_of}
 use Rattle.vt_spec.specs.Machine.Receives.{is_member_of}
-use Rattle.vt_group.specs.Steps.{group_number}
-use Rattle.vt_location.specs.Numbers.{counted}
+use Rattle.vt_location.specs.Numbers.{counted, group_number}
 use Rattle.vt_mount.proofs.EntryLemmas.{same_count}
 use Rattle.vt_propagate.proofs.Places.{or_none, place_noted}
 use Rattle.vt_propagate.proofs.indexes.group_places.Goals as goal

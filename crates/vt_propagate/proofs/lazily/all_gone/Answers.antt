@@ -18,11 +18,11 @@ loop-id-init c = (
 
 pub loop-id-preserved : goal.loop-id-preserved
 loop-id-preserved c = (
-  c.in-Ok.ensures.set c.loop-id.invariant.0,
+  c.in_ok-note_all.ensures.set c.loop-id.invariant.0,
   λ world number kept seen are.
       taken_step world kept number c.loop-id.ids.items c.in_ok-going.going.items c.note_all.new.ids.items
       c.args.events.now c.loop-id.id-index none c.loop-id-test.true
-      (c.in-Ok.ensures.ids ∙ ap (λ more. counts c.loop-id.ids.items ++ counts more)
+      (c.in_ok-note_all.ensures.ids ∙ ap (λ more. counts c.loop-id.ids.items ++ counts more)
       c.deref-in-loop-id.ensures.value)
       (c.loop-id.invariant.1 world number kept seen are)
       (c.in_ok-going.ensures.ok world seen
@@ -30,7 +30,9 @@ loop-id-preserved c = (
       (counted (get_or c.args.events.now c.loop-id.id-index none).count)) c.deref.ensures.value),
 )
 
-pub returns-clause-ok : goal.returns-clause-ok
-returns-clause-ok c world number seen kept are =
-    taken_last world kept number c.loop-id.ids.items c.args.events.now c.loop-id.id-index
-    c.loop-id-test.false (c.loop-id.invariant.1 world number kept seen are)
+pub returns : goal.returns
+returns c = record {
+  ok = λ world number seen kept are.
+      taken_last world kept number c.loop-id.ids.items c.args.events.now c.loop-id.id-index
+      c.loop-id-test.false (c.loop-id.invariant.1 world number kept seen are);
+}

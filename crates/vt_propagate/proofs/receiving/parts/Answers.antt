@@ -1,4 +1,5 @@
 use Rattle.std.proofs.Common.{◌≡◌, ◌∙◌, Some, ap, refl, sym}
+use Rattle.std.proofs.lemmas.Result.{IfOk-weaker}
 use Rattle.vt_location.specs.Locations.{location_of}
 use Rattle.vt_location.specs.MountValue.{mount_of}
 use Rattle.vt_location.specs.Numbers.{counted}
@@ -8,14 +9,17 @@ use Rattle.vt_propagate.proofs.Found.{counts, numbered}
 use Rattle.vt_propagate.proofs.TakingPart.{parts-found}
 use Rattle.vt_propagate.proofs.receiving.parts.Goals as goal
 
-pub returns-clause-ok : goal.returns-clause-ok
-returns-clause-ok g c world seen reaches =
+pub returns : goal.returns
+returns g c =
     let parent = c.unwrap-parent.result in
     let found : Some (mount_of parent) ≡ numbered (mounts_in c.args.mounts.now) (counted c.args.place.mount.count) =
     sym (ap (option_map mount_of) c.unwrap-parent.ensures) ∙ c.get.ensures in
-    c.in-Ok.ensures
-    ∙ parts-found world c.args.mounts.now c.args.groups.now seen
-    (g.R.Reach.under c.args.directories.now) reaches c.are_ascending.ensures
-    (location_of c.args.place) (mount_of parent) found c.deref.result.now
-    (ap counts c.deref.ensures.value
-    ∙ c.in_ok-receivers.ensures.ok world (mount_of parent) seen.groups seen.living refl)
+    record {
+      ok = IfOk-weaker c.with_receivers.result _ _ (λ parts is world seen reaches. is
+          ∙ parts-found world c.args.mounts.now c.args.groups.now seen
+          (g.R.Reach.under c.args.directories.now) reaches c.are_ascending.ensures
+          (location_of c.args.place) (mount_of parent) found c.deref.result.now
+          (ap counts c.deref.ensures.value
+          ∙ c.in_ok-receivers.ensures.ok world (mount_of parent) seen.groups seen.living refl))
+          c.with_receivers.ensures;
+    }

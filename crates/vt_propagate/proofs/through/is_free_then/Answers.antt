@@ -12,15 +12,15 @@ returns-then-not-rests_on_root c =
     one_does_not mounts (counts c.args.gone.now.ids.now) (mount_of c.in-Some.mount)
     c.children-child-items.result.now c.loop-child.child-index _ c.loop-child-test.true
     (sym c.rests_on_root.ensures ∙ c.if-not-rests_on_root.true) c.loop-child.invariant
-    ∙ free_if_all mounts (counts c.args.gone.now.ids.now) c.are_ascending.ensures (counted c.args.id.count)
+    ∙ free_if_all mounts (counts c.args.gone.now.ids.now) c.children-child-items.ensures.order (counted c.args.id.count)
     (mount_of c.in-Some.mount) c.in-Some.ensures (counts c.children-child-items.result.now)
-    c.children-child-items.ensures
+    c.children-child-items.ensures.children
 
 pub returns : goal.returns
 returns c =
     let mounts = mounts_in c.args.mounts.now in
     all_rest mounts (counts c.args.gone.now.ids.now) (mount_of c.in-Some.mount) c.children-child-items.result.now
     c.loop-child.child-index c.loop-child-test.false c.loop-child.invariant
-    ∙ free_if_all mounts (counts c.args.gone.now.ids.now) c.are_ascending.ensures (counted c.args.id.count)
+    ∙ free_if_all mounts (counts c.args.gone.now.ids.now) c.children-child-items.ensures.order (counted c.args.id.count)
     (mount_of c.in-Some.mount) c.in-Some.ensures (counts c.children-child-items.result.now)
-    c.children-child-items.ensures
+    c.children-child-items.ensures.children

@@ -10,8 +10,8 @@ use Rattle.vt_propagate.proofs.through.standing_over.Goals as goal
 
 pub returns-in_err-get : goal.returns-in_err-get
 returns-in_err-get c =
-    absurd (over_lost (mounts_in c.args.mounts.now) (counts c.args.gone.now.ids.now) c.are_ascending.ensures
-    (location_of c.loop.here) (counted c.in_ok-child.child.count) c.in_ok-child.ensures c.in_err-get.ensures)
+    absurd (over_lost (mounts_in c.args.mounts.now) (counts c.args.gone.now.ids.now) c.in_ok-child.ensures.order
+    (location_of c.loop.here) (counted c.in_ok-child.child.count) c.in_ok-child.ensures.child c.in_err-get.ensures)
 
 pub loop-preserved : goal.loop-preserved
 loop-preserved c =
@@ -21,8 +21,8 @@ loop-preserved c =
     let one : c.len-end.result - c.loop.counter ≡ suc most = omega (arith, c.loop-test.true) in (
       c.loop.invariant.0,
       ap (over_from most mounts gone) c.root_location-here.ensures
-          ∙ sym (over_next mounts gone c.are_ascending.ensures most (location_of c.loop.here)
-          (counted c.in_ok-child.child.count) (mount_of c.in_ok-get.field-0) c.in_ok-child.ensures
+          ∙ sym (over_next mounts gone c.in_ok-child.ensures.order most (location_of c.loop.here)
+          (counted c.in_ok-child.child.count) (mount_of c.in_ok-get.field-0) c.in_ok-child.ensures.child
           (sym c.is_gone.ensures ∙ c.if-not-is_gone.false) c.in_ok-get.ensures)
           ∙ ap (λ n. over_from n mounts gone (location_of c.loop.here)) (sym one) ∙ c.loop.invariant.1,
     )

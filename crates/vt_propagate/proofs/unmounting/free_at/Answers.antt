@@ -16,6 +16,6 @@ pub returns : goal.returns
 returns c =
     ap (option_map (λ (id : MountId). counted id.count)) c.then_some.ensures
     ∙ taken c.is_free.result c.in_ok-child.child
-    ∙ free_at-told (mounts_in c.args.mounts.now) c.are_ascending.ensures (location_of c.args.place)
+    ∙ free_at-told (mounts_in c.args.mounts.now) c.in_ok-child.ensures.order (location_of c.args.place)
     (counted c.in_ok-child.child.count)
-    c.in_ok-child.ensures c.is_free.result c.is_free.ensures
+    c.in_ok-child.ensures.child c.is_free.result c.is_free.ensures

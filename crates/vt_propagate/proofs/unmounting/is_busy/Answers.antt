@@ -4,9 +4,11 @@ use Rattle.vt_propagate.proofs.Found.{counts}
 use Rattle.vt_propagate.proofs.Leaving.{busy-told}
 use Rattle.vt_propagate.proofs.unmounting.is_busy.Goals as goal
 
-pub returns-clause-ok : goal.returns-clause-ok
-returns-clause-ok c world seen uses =
-    c.are_used.ensures
-    ∙ busy-told world c.args.mounts.now c.args.groups.now seen uses (counted c.args.id.count)
-    (sym c.has_child.ensures ∙ c.if-has_child.false) (counts c.deref.result.now)
-    (ap counts c.deref.ensures.value ∙ c.in_ok-going.ensures.ok world seen)
+pub returns : goal.returns
+returns c = record {
+  ok = λ world seen uses.
+      c.are_used.ensures
+      ∙ busy-told world c.args.mounts.now c.args.groups.now seen uses (counted c.args.id.count)
+      (sym c.has_child.ensures ∙ c.if-has_child.false) (counts c.deref.result.now)
+      (ap counts c.deref.ensures.value ∙ c.in_ok-going.ensures.ok world seen);
+}

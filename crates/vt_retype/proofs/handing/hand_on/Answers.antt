@@ -1,6 +1,5 @@
 use Rattle.std.proofs.Common.{ap, map, option_map, subst, sym, ◌∙◌}
-use Rattle.vt_group.specs.Steps.{group_number}
-use Rattle.vt_location.specs.Numbers.{counted}
+use Rattle.vt_location.specs.Numbers.{counted, group_number}
 use Rattle.vt_retype.specs.Leaving.{OnlyTypesChange, after_end_of}
 use Rattle.vt_retype.proofs.TypesHanded.{all_left, none_left, only_types-handed}
 use Rattle.vt_retype.proofs.handing.hand_on.Goals as goal

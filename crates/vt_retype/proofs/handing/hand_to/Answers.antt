@@ -1,8 +1,7 @@
 use Rattle.std.proofs.Common.{ap, option_map, sym, ◌∙◌}
 use Rattle.vt_group.specs.Leaving.{type_after_end}
-use Rattle.vt_group.specs.Steps.{group_number}
 use Rattle.vt_location.specs.MountValue.{mount_of, propagation_of}
-use Rattle.vt_location.specs.Numbers.{counted}
+use Rattle.vt_location.specs.Numbers.{counted, group_number}
 use Rattle.vt_retype.specs.Leaving.{after_end}
 use Rattle.vt_retype.proofs.TypesHanded.{absent_unchanged, set_so}
 use Rattle.vt_retype.proofs.handing.hand_to.Goals as goal

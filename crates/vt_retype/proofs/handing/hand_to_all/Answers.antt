@@ -1,6 +1,5 @@
 use Rattle.std.proofs.Common.{ap, map, option_map, sym, ◌∙◌}
-use Rattle.vt_group.specs.Steps.{group_number}
-use Rattle.vt_location.specs.Numbers.{counted}
+use Rattle.vt_location.specs.Numbers.{counted, group_number}
 use Rattle.vt_retype.specs.Leaving.{after_end_of}
 use Rattle.vt_retype.proofs.TypesHanded.{handed_next, none_handed}
 use Rattle.vt_retype.proofs.handing.hand_to_all.Goals as goal

@@ -1,6 +1,6 @@
 use Rattle.std.proofs.Common.{◌≡◌, ◌⊎◌, ◌<◌, length, None, ap, sym, subst, ◌∙◌, IsSomeAnd, Ok, Err}
 use Rattle.vt_spec.specs.Language.Printed.{reply_line}
-use Rattle.vt_spec.specs.Language.Script.{propagation, request_of}
+use Rattle.vt_spec.specs.Language.Script.{marks, request_of}
 use Rattle.vt_io.specs.Sink.{Prints}
 use Rattle.vt_spec.specs.Language.Limits.{longest_line}
 use Rattle.vt_line.specs.Calls.{TakesMemory}
@@ -54,8 +54,8 @@ returns-in-Err-clause-replies g c = λ text held.
     let whole : c.bytes.result.now ≡ text = c.bytes.ensures
     ∙ kept_whole text c.args.line.now held (sym c.is_overlong.ensures ∙ c.if-is_overlong.false) in
     replies_unread g.W.Sink c.write_reply-in-Err.result (g.C.Calls.world c.args.world.now) text c.args.number c.in-Err.deny _ _ c.has_numbers.ensures c.in-Err.ensures.refused
-    (λ is. subst (λ l. (longest_line < length l) ⊎ (IsSpoken l × (request_of propagation l ≡ None))) whole
+    (λ is. subst (λ l. (longest_line < length l) ⊎ (IsSpoken l × (request_of marks l ≡ None))) whole
     (c.in-Err.ensures.no_request.0 (ap Err is)))
-    (λ is. subst (λ l. IsSpoken l × IsSomeAnd (request_of propagation l) TakesMemory) whole
+    (λ is. subst (λ l. IsSpoken l × IsSomeAnd (request_of marks l) TakesMemory) whole
     (c.in-Err.ensures.no_memory (ap Err is)))
     c.write_reply-in-Err.ensures.printed

@@ -35,7 +35,7 @@ returns-in-Some-symlink_text-clause-value g c follow =
     ∙ ap (word_walked looks task here) c.of.ensures)
     c.in-Some-symlink_text.text.now
     (c.in-Some-symlink_text.ensures
-    ∙ text-there looks c.in_ok-next.next.location (option_copied c.node_on-node-in-Some.result) c.node_on-node-in-Some.ensures c.moved-here.result.location c.moved-here.ensures.location)
+    ∙ text-there looks (g.L.Look.real c.args.world.now) (g.met.L.Look.alike c.args.world.now) c.in_ok-next.next.location (option_copied c.node_on-node-in-Some.result) c.node_on-node-in-Some.ensures c.moved-here.result.location c.moved-here.ensures.location)
 
 pub returns-in-Some-symlink_text-clause-left : goal.returns-in-Some-symlink_text-clause-left
 returns-in-Some-symlink_text-clause-left g c = ap (λ here. here.left) c.moved-here.ensures.value
@@ -54,7 +54,7 @@ loop-word-preserved g c =
           (location_of c.in_ok-next.next.location) next c.in_ok-next.ensures.value c.moved-here.ensures.value
           ∙ ap (word_walked looks task here) c.of.ensures)
           (c.in_default-symlink_text.ensures
-          ∙ text-there looks c.in_ok-next.next.location (option_copied c.node_on-node-in-Some.result) c.node_on-node-in-Some.ensures c.moved-here.result.location c.moved-here.ensures.location)),
+          ∙ text-there looks (g.L.Look.real c.args.world.now) (g.met.L.Look.alike c.args.world.now) c.in_ok-next.next.location (option_copied c.node_on-node-in-Some.result) c.node_on-node-in-Some.ensures c.moved-here.result.location c.moved-here.ensures.location)),
       ap (λ here. here.left) c.moved-here.ensures.value ∙ c.loop-word.invariant.1,
       rw c.moved-here.ensures.location (elim c.if-ne.branch [
         | then-ne w ↦ rw w.ground-is w.ground-ground-then-ne.ensures

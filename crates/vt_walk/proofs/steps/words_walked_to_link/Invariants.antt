@@ -12,5 +12,5 @@ invariant-loop-word g l =
     ≡ walked_on (g.L.Look.looks l.world) (task_of l.who) follow (here_of l.fn.start) l.fn.words)
     × (l.here.left ≡ l.fn.start.left)
     × IsGround (g.L.Look.looks l.world) l.here.location.mount l.ground
-    × IsNodeAt (g.L.Look.looks l.world) l.here.location (option_copied l.node)
+    × IsNodeAt (g.L.Look.real l.world) l.here.location (option_copied l.node)
     × IsFound (g.L.Look.looks l.world) l.here.location l.is_found

@@ -12,11 +12,12 @@ path_down-requires-clause-once c =
     subst (λ (filesystem : FilesystemId). NamesDirectoriesOnce (files_at c.args.self.now filesystem.count).tree)
     (sym c.in-Some.ensures.filesystem) c.requires
 
-pub returns-in-Some-clause-ok : goal.returns-in-Some-clause-ok
-returns-in-Some-clause-ok c =
-    subst (λ (found : Option (List (List ℕ))). IfOk c.path_down.result
-    (λ path. option_map (λ names. map (λ name. name.items) names.items) path ≡ found))
-    (λ i. path_down nat_eq (files_at c.args.self.now (c.in-Some.ensures.filesystem i).count)
-    (sym (root_is c.args.self.now c.args.directory.filesystem.count c.in-Some.root c.in-Some.ensures.number) i)
-    (number_of c.args.directory))
-    c.path_down.ensures.ok
+pub returns-in-Some : goal.returns-in-Some
+returns-in-Some c = record {
+  ok = subst (λ (found : Option (List (List ℕ))). IfOk c.path_down.result
+      (λ path. option_map (λ names. map (λ name. name.items) names.items) path ≡ found))
+      (λ i. path_down nat_eq (files_at c.args.self.now (c.in-Some.ensures.filesystem i).count)
+      (sym (root_is c.args.self.now c.args.directory.filesystem.count c.in-Some.root c.in-Some.ensures.number) i)
+      (number_of c.args.directory))
+      c.path_down.ensures.ok;
+}

@@ -1,8 +1,6 @@
-use Rattle.std.proofs.Common.{ap, refl, subst, sym, ◌∙◌, ◌↔◌, ◌≡◌, IsErrOf, ℕ}
+use Rattle.std.proofs.Common.{ap, refl, subst, sym, ◌∙◌, ◌↔◌, ◌≡◌, IsErr, ℕ}
 use Rattle.std.proofs.lemmas.Result.{on_err_weaker, on_ok_weaker}
 use Rattle.std.specs.Option.{option_copied_mut}
-use Rattle.vt_spec.specs.declared.errors.Rule.TheVariants.{S5}
-use Rattle.vt_spec.specs.Errors.{denial}
 use Rattle.vt_tree.specs.Slots.{most_uses}
 use Rattle.vt_fs.proofs.Standing.{kept, nothing_changes, pins, standing_of, uses_there}
 use Rattle.vt_fs.proofs.filesystems.Filesystems.pin.Goals as goal
@@ -17,7 +15,7 @@ pub returns-in-Some-clause-limit : goal.returns-in-Some-clause-limit
 returns-in-Some-clause-limit c =
     let f = c.args.object.filesystem.count in
     let standing = standing_of c.args.self.now f c.get_mut.result c.in-Some.tree c.get_mut.ensures.value c.get_mut.ensures.apart c.in-Some.is in
-    subst (λ (uses : ℕ). IsErrOf c.pin.result (denial S5) ↔ (uses ≡ most_uses))
+    subst (λ (uses : ℕ). IsErr c.pin.result ↔ (uses ≡ most_uses))
     (sym (uses_there c.args.self.now f c.in-Some.tree.now standing.found c.slot_of.result _ c.slot_of.ensures.number)) c.pin.ensures.limit
 
 pub returns-in-Some-clause-err : goal.returns-in-Some-clause-err

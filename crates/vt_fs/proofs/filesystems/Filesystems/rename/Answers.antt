@@ -77,15 +77,17 @@ returns-clause-ok c =
     c.rename.ensures.ok
 
 pub returns-clause-new_name : goal.returns-clause-new_name
-returns-clause-new_name c = λ refused.
+returns-clause-new_name c =
     let f = c.args.from.filesystem.count in
     let standing =
     standing_of c.args.self.now f c.get_mut.result c.unwrap-tree.result c.get_mut.ensures.value c.get_mut.ensures.apart
     c.unwrap-tree.ensures in
     let to =
     ap (λ id. exchanged id.count c.slot_of-2.result) (sym c.requires.one_filesystem) ∙ c.slot_of-2.ensures.number in
-    entry_there c.args.self.now f c.unwrap-tree.result.now standing.found c.slot_of-2.result _ c.args.new.items to
-    ∙ ap (option_map (exchanged f)) (c.rename.ensures.new_name refused)
+    on_err_weaker c.rename.result
+    (λ free. entry_there c.args.self.now f c.unwrap-tree.result.now standing.found c.slot_of-2.result _ c.args.new.items to
+    ∙ ap (option_map (exchanged f)) free)
+    c.rename.ensures.new_name
 
 pub returns-clause-err : goal.returns-clause-err
 returns-clause-err c =

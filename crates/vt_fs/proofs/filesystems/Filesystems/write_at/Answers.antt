@@ -31,21 +31,24 @@ returns-in-Some-clause-ok c =
     c.write_at.ensures.ok
 
 pub returns-in-Some-clause-file : goal.returns-in-Some-clause-file
-returns-in-Some-clause-file c = λ refused.
+returns-in-Some-clause-file c =
     let f = c.args.file.filesystem.count in
     let standing = standing_of c.args.self.now f c.get_mut.result c.in-Some.tree c.get_mut.ensures.value c.get_mut.ensures.apart c.in-Some.is in
-    subst (λ (is : Bool). IsTrue is)
+    on_err_weaker c.write_at.result
+    (subst (λ (is : Bool). IsTrue is)
     (sym (plain_there c.args.self.now f c.in-Some.tree.now standing.found Bool
-    (λ A node. is_kind_in File node) c.slot_of.result _ c.slot_of.ensures.number)) (c.write_at.ensures.file refused)
+    (λ A node. is_kind_in File node) c.slot_of.result _ c.slot_of.ensures.number)))
+    c.write_at.ensures.file
 
 pub returns-in-Some-clause-longer : goal.returns-in-Some-clause-longer
-returns-in-Some-clause-longer c = λ refused.
+returns-in-Some-clause-longer c =
     let f = c.args.file.filesystem.count in
     let standing = standing_of c.args.self.now f c.get_mut.result c.in-Some.tree c.get_mut.ensures.value c.get_mut.ensures.apart c.in-Some.is in
-    subst (λ (bytes : List ℕ). length bytes < c.args.offset + length c.args.bytes.now)
+    on_err_weaker c.write_at.result
+    (subst (λ (bytes : List ℕ). length bytes < c.args.offset + length c.args.bytes.now)
     (sym (plain_there c.args.self.now f c.in-Some.tree.now standing.found (List ℕ)
-    (λ A node. bytes_in node) c.slot_of.result _ c.slot_of.ensures.number))
-    (c.write_at.ensures.longer refused)
+    (λ A node. bytes_in node) c.slot_of.result _ c.slot_of.ensures.number)))
+    c.write_at.ensures.longer
 
 pub returns-in-Some-clause-err : goal.returns-in-Some-clause-err
 returns-in-Some-clause-err c =

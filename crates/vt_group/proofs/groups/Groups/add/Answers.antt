@@ -2,7 +2,8 @@ use Rattle.std.proofs.Common.{ap, map, subst, sym, ◌∙◌}
 use Rattle.vt_spec.specs.Lists.{folded}
 use Rattle.vt_group.specs.Additions.{typed_pair}
 use Rattle.vt_group.specs.Grouping.{Has}
-use Rattle.vt_group.specs.Steps.{group_number, numbered_master, numbered_peer}
+use Rattle.vt_location.specs.Numbers.{group_number}
+use Rattle.vt_group.specs.Steps.{numbered_master, numbered_peer}
 use Rattle.vt_group.specs.Together.{all_added, new_group, typed, with_master_of, with_type_of}
 use Rattle.vt_group.proofs.Adding.{grown_has}
 use Rattle.vt_group.proofs.Answering.{listed_ok}
@@ -18,7 +19,7 @@ returns-clause-ok c world after has grows =
     ∙ ap (λ es. folded with_type_of (map numbered_peer es) (map typed_pair c.as_slice-types.result.now))
     c.reserve_all.ensures.types
     ∙ ap (folded with_type_of (map numbered_peer inside.mounts.entries))
-    (ap (map typed_pair) c.as_slice-types.ensures.value ∙ c.in-Ok.ensures) in
+    (ap (map typed_pair) c.as_slice-types.ensures.value ∙ c.in_ok-types.ensures) in
     let masters = c.set_all.ensures.masters
     ∙ ap (λ es. folded with_master_of (map numbered_master es) (map new_group c.args.new.now))
     c.reserve_all.ensures.masters in
@@ -35,7 +36,7 @@ invariant_of-self-2 c =
     let peers = c.set_all.ensures.types
     ∙ ap (λ es. folded with_type_of (map numbered_peer es) (map typed_pair c.as_slice-types.result.now))
     c.reserve_all.ensures.types
-    ∙ ap (folded with_type_of old_peers) (ap (map typed_pair) c.as_slice-types.ensures.value ∙ c.in-Ok.ensures) in
+    ∙ ap (folded with_type_of old_peers) (ap (map typed_pair) c.as_slice-types.ensures.value ∙ c.in_ok-types.ensures) in
     let masters = c.set_all.ensures.masters
     ∙ ap (λ es. folded with_master_of (map numbered_master es) (map new_group c.args.new.now))
     c.reserve_all.ensures.masters in

@@ -4,13 +4,13 @@ use Rattle.vt_spec.specs.Machine.Mounts.{group_of}
 use Rattle.std.specs.Prelude.{filter_map, if◌then◌else◌}
 use Rattle.vt_location.specs.declared.numbers.GroupId.{GroupId}
 use Rattle.vt_location.specs.MountValue.{propagation_of}
-use Rattle.vt_location.specs.Numbers.{counted}
+use Rattle.vt_location.specs.Numbers.{counted, group_number}
 use Rattle.vt_group.specs.ByNumber.{value_at}
 use Rattle.vt_group.specs.Grouping.{are_rising, master_in, propagation_in}
 use Rattle.vt_group.specs.Handing.{group_handed, kind_handed}
 use Rattle.vt_group.specs.Indexed.{group_at, has_source, is_lower, mount_at}
 use Rattle.vt_group.specs.Sets.{same_group}
-use Rattle.vt_group.specs.Steps.{group_number, handed, handed_entry, handed_peer, handed_type, numbered_master}
+use Rattle.vt_group.specs.Steps.{handed, handed_entry, handed_peer, handed_type, numbered_master}
 use Rattle.vt_group.proofs.CountLemmas.{lookup-numbered}
 use Rattle.vt_group.proofs.groups.Ending.{entries_ended, held_not, none_or, not_removed, removed_at, was_handed}
 use Rattle.vt_group.proofs.EndedTypes.{lookup-changed, rising_numbers, type-ended}

@@ -3,7 +3,8 @@ use Rattle.std.specs.Map.{lookup}
 use Rattle.vt_group.specs.Grouping.{master_in}
 use Rattle.vt_group.specs.Indexed.{group_at}
 use Rattle.vt_group.specs.Receiving.{is_in}
-use Rattle.vt_group.specs.Steps.{group_number, numbered_master}
+use Rattle.vt_location.specs.Numbers.{group_number}
+use Rattle.vt_group.specs.Steps.{numbered_master}
 use Rattle.vt_group.proofs.Coming.{kept_master}
 use Rattle.vt_group.proofs.groups.Found.{groups_among}
 use Rattle.vt_group.proofs.Listing.{found_count}

@@ -1,8 +1,7 @@
 use Rattle.std.proofs.Common.{ap, sym, ◌∙◌}
 use Rattle.vt_spec.specs.Machine.Mounts.{group_of}
-use Rattle.vt_location.specs.Numbers.{counted}
+use Rattle.vt_location.specs.Numbers.{counted, group_number}
 use Rattle.vt_group.specs.Grouping.{propagation_in}
-use Rattle.vt_group.specs.Steps.{group_number}
 use Rattle.vt_group.proofs.Changes.{group_shared}
 use Rattle.vt_group.proofs.groups.LeavingTypes.{types-slave}
 use Rattle.vt_group.proofs.groups.Groups.make_slave_of_own.Goals as goal

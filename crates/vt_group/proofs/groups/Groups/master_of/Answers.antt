@@ -1,7 +1,6 @@
 use Rattle.std.proofs.Common.{ap, sym, ◌∙◌, option_map}
 use Rattle.vt_group.specs.Grouping.{master_in}
-use Rattle.vt_location.specs.Numbers.{counted}
-use Rattle.vt_group.specs.Steps.{group_number}
+use Rattle.vt_location.specs.Numbers.{counted, group_number}
 use Rattle.vt_group.proofs.CountLemmas.{lookup-numbered}
 use Rattle.vt_group.proofs.groups.Groups.master_of.Goals as goal
 

@@ -1,9 +1,13 @@
 use Rattle.std.proofs.Common.{◌∙◌}
+use Rattle.std.proofs.lemmas.Result.{IfOk-weaker}
 use Rattle.vt_location.specs.Numbers.{counted}
 use Rattle.vt_group.proofs.Receiving.{receivers_found}
 use Rattle.vt_group.proofs.groups.Groups.receivers.Goals as goal
 
-pub returns-clause-ok : goal.returns-clause-ok
-returns-clause-ok c world has live =
-    let found = c.in-Ok.ensures in
-    found.2 ∙ receivers_found c.args.self.now (counted c.args.group.count) found.0 found.1 world has live
+pub returns : goal.returns
+returns c = record {
+  ok = IfOk-weaker c.receiving.result _ _
+      (λ mounts found world has live. found.2
+      ∙ receivers_found c.args.self.now (counted c.args.group.count) found.0 found.1 world has live)
+      c.receiving.ensures;
+}

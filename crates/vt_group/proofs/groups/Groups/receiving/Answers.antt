@@ -2,10 +2,9 @@ use Rattle.std.proofs.Common.{◌≡◌, ◌<◌, ◌∷◌, ◌++◌, ◌||◌,
 use Rattle.std.proofs.lemmas.List.{take_all}
 use Rattle.vt_spec.specs.Machine.Mounts.{source_of}
 use Rattle.vt_location.specs.declared.numbers.GroupId.{GroupId}
-use Rattle.vt_location.specs.Numbers.{counted}
+use Rattle.vt_location.specs.Numbers.{counted, group_number}
 use Rattle.vt_group.specs.Grouping.{propagation_in}
 use Rattle.vt_group.specs.Receiving.{is_in, receivers_from, receives_from}
-use Rattle.vt_group.specs.Steps.{group_number}
 use Rattle.vt_group.proofs.groups.Found.{each_more, few_found, in_at, in_longer, known_more, lower_more, reaches_more, taken_more}
 use Rattle.vt_group.proofs.groups.Relatives.{receivers_noted}
 use Rattle.vt_group.proofs.groups.Groups.receiving.Goals as goal

@@ -12,7 +12,7 @@ use Rattle.vt_location.specs.MountValue.{propagation_of}
 use Rattle.vt_group.specs.Grouping.{Grouping, propagation_in}
 use Rattle.vt_group.specs.Leaving.{lost_group, type_once_ended}
 use Rattle.vt_group.specs.Steps.{ended_if_lost, numbered_peer}
-use Rattle.vt_group.proofs.Answering.{listed_ok, shown-type}
+use Rattle.vt_group.proofs.Answering.{shown-type}
 use Rattle.vt_group.proofs.CountLemmas.{inserted-numbered}
 use Rattle.vt_group.proofs.groups.Groups.set.Goals as goal
 
@@ -21,9 +21,9 @@ returns-clause-ok c =
     let es = c.self.inside.mounts.entries in
     let count = c.args.mount.count in
     let old = shown-type count es _ c.args.self.now c.self.view_is c.get-old.result
-    (c.get-old.ensures ∙ ap (lookup (is_at (nat_cmp count))) c.reserve.ensures.entries) in
+    (c.get-old.ensures ∙ ap (lookup (is_at (nat_cmp count))) c.in_ok-reserve.ensures.entries) in
     let inserted = ap (map numbered_peer) c.set.ensures.entries
-    ∙ ap (λ es. map numbered_peer (insert_entry nat_cmp es count c.args.kind)) c.reserve.ensures.entries
+    ∙ ap (λ es. map numbered_peer (insert_entry nat_cmp es count c.args.kind)) c.in_ok-reserve.ensures.entries
     ∙ inserted-numbered propagation_of count c.args.kind es
     ∙ (λ i. insert_entry nat_cmp (c.self.view_is i).peers (counted count) (propagation_of c.args.kind)) in
     c.end_if_lost.ensures.ended
@@ -34,9 +34,9 @@ returns-clause-types c other =
     let es = c.self.inside.mounts.entries in
     let count = c.args.mount.count in
     let old = shown-type count es _ c.args.self.now c.self.view_is c.get-old.result
-    (c.get-old.ensures ∙ ap (lookup (is_at (nat_cmp count))) c.reserve.ensures.entries) in
+    (c.get-old.ensures ∙ ap (lookup (is_at (nat_cmp count))) c.in_ok-reserve.ensures.entries) in
     let inserted = ap (map numbered_peer) c.set.ensures.entries
-    ∙ ap (λ es. map numbered_peer (insert_entry nat_cmp es count c.args.kind)) c.reserve.ensures.entries
+    ∙ ap (λ es. map numbered_peer (insert_entry nat_cmp es count c.args.kind)) c.in_ok-reserve.ensures.entries
     ∙ inserted-numbered propagation_of count c.args.kind es
     ∙ (λ i. insert_entry nat_cmp (c.self.view_is i).peers (counted count) (propagation_of c.args.kind)) in
     c.end_if_lost.ensures.types other
@@ -49,17 +49,17 @@ invariant_of-self-2 c = record {
       (value_at c.self.inside.mounts) (value_at c.set.new.self) c.args.mount.count c.args.kind
       (λ other. c.set.ensures.updates other
       ∙ ap (λ es. cond (is_at (nat_cmp c.args.mount.count) other) (Some c.args.kind)
-      (lookup (is_at (nat_cmp other)) es)) c.reserve.ensures.entries)
+      (lookup (is_at (nat_cmp other)) es)) c.in_ok-reserve.ensures.entries)
       (c.leave.ensures.own c.args.kind refl
-      (listed_ok c.list.result c.list.ensures.ok (sym c.is_err.ensures.value ∙ c.if-is_err.false)))
+      c.in_ok-list.ensures.ok)
       (λ mount kind apart at. c.leave.ensures.others (mount_at mount) kind apart
-      (c.list.ensures.kept (mount_at mount) kind (c.self.invariant.listed mount kind at)));
+      (c.in_ok-list.ensures.kept (mount_at mount) kind (c.self.invariant.listed mount kind at)));
   lower = λ lower upper at. c.leave.ensures.lower (group_at lower) upper
-      (c.list.ensures.lower (group_at lower) upper (c.self.invariant.lower lower upper at));
+      (c.in_ok-list.ensures.lower (group_at lower) upper (c.self.invariant.lower lower upper at));
   ordered = c.set.ensures.ordered;
   ordered_above = c.self.invariant.ordered_above;
 }
 
 pub set-requires : goal.set-requires
 set-requires c =
-    listed_ok c.reserve.result c.reserve.ensures.room (sym c.is_err-else-is_err.ensures.value ∙ c.if-is_err-2.false)
+    c.in_ok-reserve.ensures.room

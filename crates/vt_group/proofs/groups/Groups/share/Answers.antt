@@ -5,7 +5,8 @@ use Rattle.vt_spec.specs.Machine.Types.{retyped}
 use Rattle.vt_group.specs.Additions.{typed_pair}
 use Rattle.vt_group.specs.ByNumber.{value_at}
 use Rattle.vt_group.specs.Grouping.{Has}
-use Rattle.vt_group.specs.Steps.{group_number, numbered_master, numbered_peer}
+use Rattle.vt_location.specs.Numbers.{group_number}
+use Rattle.vt_group.specs.Steps.{numbered_master, numbered_peer}
 use Rattle.vt_group.specs.Together.{all_added, new_group, pair_of, shared_group, shared_type, with_master_of, with_type_of}
 use Rattle.vt_group.proofs.Answering.{listed_ok, shown-type}
 use Rattle.vt_group.proofs.Coming.{FoundListed, FoundLower, all_shared_listed, all_shared_lower}
@@ -21,12 +22,12 @@ returns-clause-ok c world group named has live there same lacks =
     ∙ ap (λ es. folded with_type_of (map numbered_peer es) (map typed_pair c.as_slice-types.result.now))
     c.reserve_all.ensures.types
     ∙ ap (folded with_type_of (map numbered_peer inside.mounts.entries))
-    (ap (map typed_pair) c.as_slice-types.ensures.value ∙ c.in-Ok.ensures) in
+    (ap (map typed_pair) c.as_slice-types.ensures.value ∙ c.in_ok-types.ensures) in
     let masters = c.set_all.ensures.masters
     ∙ ap (λ es. folded with_master_of (map numbered_master es) (map new_group c.as_slice-new.result.now))
     c.reserve_all.ensures.masters
     ∙ ap (folded with_master_of (map numbered_master inside.above.entries))
-    (ap (map new_group) c.as_slice-new.ensures.value ∙ c.in-Ok-groups_when_shared.ensures) in
+    (ap (map new_group) c.as_slice-new.ensures.value ∙ c.in_ok-new.ensures) in
     subst (Has (retyped nat_eq world group ToShared named)) (sym ((λ i. record { peers = peers i; masters = masters i })
     ∙ ap (λ groups. all_added groups (map (λ pair. shared_type c.args.self.now (pair_of pair)) c.args.named.now)
     (map (λ pair. shared_group c.args.self.now (pair_of pair)) c.args.named.now)) c.self.view_is))
@@ -46,12 +47,12 @@ invariant_of-self-2 c =
     let peers = c.set_all.ensures.types
     ∙ ap (λ es. folded with_type_of (map numbered_peer es) (map typed_pair c.as_slice-types.result.now))
     c.reserve_all.ensures.types
-    ∙ ap (folded with_type_of old_peers) (ap (map typed_pair) c.as_slice-types.ensures.value ∙ c.in-Ok.ensures) in
+    ∙ ap (folded with_type_of old_peers) (ap (map typed_pair) c.as_slice-types.ensures.value ∙ c.in_ok-types.ensures) in
     let masters = c.set_all.ensures.masters
     ∙ ap (λ es. folded with_master_of (map numbered_master es) (map new_group c.as_slice-new.result.now))
     c.reserve_all.ensures.masters
     ∙ ap (folded with_master_of old_masters)
-    (ap (map new_group) c.as_slice-new.ensures.value ∙ c.in-Ok-groups_when_shared.ensures) in
+    (ap (map new_group) c.as_slice-new.ensures.value ∙ c.in_ok-new.ensures) in
     let listed = all_shared_listed groups inside.mounts told index named old_peers each
     (found_listed inside.index index inside.mounts inside.above c.self.invariant c.share.ensures.kept) in
     let lower = all_shared_lower groups inside.mounts told index named old_masters each

@@ -9,14 +9,14 @@ use Rattle.vt_spec.specs.Machine.Receives.{has_members, regrouped}
 use Rattle.vt_spec.specs.Machine.World.{World}
 use Rattle.vt_spec.proofs.Options.{OnOk_then}
 use Rattle.vt_location.specs.MountValue.{propagation_of}
-use Rattle.vt_location.specs.Numbers.{counted}
+use Rattle.vt_location.specs.Numbers.{counted, group_number}
 use Rattle.vt_location.specs.declared.mounts.Propagation.TheVariants.{Shared as SharedIn}
 use Rattle.vt_location.specs.declared.numbers.GroupId.{GroupId}
 use Rattle.vt_group.specs.ByNumber.{value_at}
 use Rattle.vt_group.specs.Grouping.{Grouping, Has, HasGroup, below, master_in, with_propagation}
 use Rattle.vt_group.specs.Indexed.{group_at, is_listed, is_lower, mount_at}
-use Rattle.vt_group.specs.Steps.{ended_if_lost, group_number, numbered_master, numbered_peer}
-use Rattle.vt_group.proofs.Answering.{listed_ok, shown-type}
+use Rattle.vt_group.specs.Steps.{ended_if_lost, numbered_master, numbered_peer}
+use Rattle.vt_group.proofs.Answering.{shown-type}
 use Rattle.vt_group.proofs.Changes.{start_alone, start_below}
 use Rattle.vt_group.proofs.CountLemmas.{inserted-numbered}
 use Rattle.vt_group.proofs.Invariant.{put_each}
@@ -65,7 +65,7 @@ returns-clause-ok c world has live is =
     ∙ (λ i. insert_entry nat_cmp (c.self.view_is i).peers (counted count) (Shared group)) in
     let masters = ap (map numbered_master) c.set-2.ensures.entries
     ∙ ap (λ es. map numbered_master (insert_entry nat_cmp es c.args.group.count c.in-Some.master))
-    c.reserve.ensures.entries
+    c.in_ok-reserve.ensures.entries
     ∙ inserted-numbered group_number c.args.group.count c.in-Some.master c.self.inside.above.entries
     ∙ (λ i. insert_entry nat_cmp (c.self.view_is i).masters group (group_number c.in-Some.master)) in
     let new = c.end_if_lost.ensures.ended
@@ -85,26 +85,23 @@ invariant_of-self-2 c =
     let count = c.args.mount.count in
     let group = c.args.group in
     let master = c.in-Some.master in
-    let listed = listed_ok c.list.result c.list.ensures.ok (sym c.is_err.ensures.value ∙ c.if-is_err.false) in
-    let joined = listed_ok c.join.result c.join.ensures.ok
-    (sym c.is_err-else-is_err.ensures.value ∙ c.if-is_err-2.false) in
     record {
       listed = put_each (λ mount kind. is_listed c.leave.new.self (mount_at mount) kind ≡ true)
           (value_at c.self.inside.mounts) (value_at c.set-3.new.self) count (SharedIn group)
           (λ other. c.set-3.ensures.updates other ∙ ap (λ es. cond (is_at (nat_cmp count) other) (Some (SharedIn group))
           (lookup (is_at (nat_cmp other)) es)) c.reserve-2.ensures.entries)
-          (c.leave.ensures.own (SharedIn group) refl (c.join.ensures.kept c.args.mount (SharedIn group) listed))
+          (c.leave.ensures.own (SharedIn group) refl (c.in_ok-join.ensures.kept c.args.mount (SharedIn group) c.in_ok-list.ensures.ok))
           (λ mount kind apart at. c.leave.ensures.others (mount_at mount) kind apart
-          (c.join.ensures.kept (mount_at mount) kind
-          (c.list.ensures.kept (mount_at mount) kind (c.self.invariant.listed mount kind at))));
+          (c.in_ok-join.ensures.kept (mount_at mount) kind
+          (c.in_ok-list.ensures.kept (mount_at mount) kind (c.self.invariant.listed mount kind at))));
       lower = put_each (λ lower upper. is_lower c.leave.new.self (group_at lower) upper ≡ true)
           (value_at c.self.inside.above) (value_at c.set-2.new.self) group.count master
           (λ other. c.set-2.ensures.updates other ∙ ap (λ es. cond (is_at (nat_cmp group.count) other) (Some master)
-          (lookup (is_at (nat_cmp other)) es)) c.reserve.ensures.entries)
-          (c.leave.ensures.lower group master joined)
+          (lookup (is_at (nat_cmp other)) es)) c.in_ok-reserve.ensures.entries)
+          (c.leave.ensures.lower group master c.in_ok-join.ensures.ok)
           (λ lower upper apart at. c.leave.ensures.lower (group_at lower) upper
-          (c.join.ensures.lower (group_at lower) upper
-          (c.list.ensures.lower (group_at lower) upper (c.self.invariant.lower lower upper at))));
+          (c.in_ok-join.ensures.lower (group_at lower) upper
+          (c.in_ok-list.ensures.lower (group_at lower) upper (c.self.invariant.lower lower upper at))));
       ordered = c.set-3.ensures.ordered;
       ordered_above = c.set-2.ensures.ordered;
     }

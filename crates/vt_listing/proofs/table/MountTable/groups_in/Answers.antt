@@ -37,15 +37,16 @@ loop-id-preserved c =
           (ap (option_map change) (sym c.get.ensures ∙ ap (option_map mount_of) w.in_default.is))
     ]
 
-pub returns-clause-ok : goal.returns-clause-ok
-returns-clause-ok c =
-    let mounts = c.args.self.now.mounts.now in
-    let change : Mount ℕ → List ℕ = groups_shown (world_shown c.args.self.now) in
-    c.loop-id.invariant
-    ∙ ap (λ ids. each_once nat_eq (flat_map (λ more. more) (filter_map
-    (λ id. option_map change (find (λ mount. nat_eq (counted id.count) mount.number) (mounts_in mounts))) ids)))
-    (take_all c.loop-id.id-index c.attached_in-id-items.result.now (let done = c.loop-id-test.false in search rules))
-    ∙ ap (λ some. each_once nat_eq (flat_map (λ more. more) some))
-    (attached_picked (counted c.args.namespace.count) mounts c.are_ascending.ensures
-    c.attached_in-id-items.result.now c.attached_in-id-items.ensures change)
-    ∙ ap (each_once nat_eq) (flat_map-map (λ more. more) change (attached_in (counted c.args.namespace.count) mounts))
+pub returns : goal.returns
+returns c = record {
+  ok = let mounts = c.args.self.now.mounts.now in
+      let change : Mount ℕ → List ℕ = groups_shown (world_shown c.args.self.now) in
+      c.loop-id.invariant
+      ∙ ap (λ ids. each_once nat_eq (flat_map (λ more. more) (filter_map
+      (λ id. option_map change (find (λ mount. nat_eq (counted id.count) mount.number) (mounts_in mounts))) ids)))
+      (take_all c.loop-id.id-index c.attached_in-id-items.result.now (let done = c.loop-id-test.false in search rules))
+      ∙ ap (λ some. each_once nat_eq (flat_map (λ more. more) some))
+      (attached_picked (counted c.args.namespace.count) mounts c.attached_in-id-items.ensures.order
+      c.attached_in-id-items.result.now c.attached_in-id-items.ensures.are change)
+      ∙ ap (each_once nat_eq) (flat_map-map (λ more. more) change (attached_in (counted c.args.namespace.count) mounts));
+}

@@ -17,8 +17,9 @@ loop-one-preserved c =
     (world_shown c.args.self.now) one.2) c.loop-one.one-index _ c.args.placed.now
     (let more = c.loop-one-test.true in search rules))
 
-pub returns-clause-ok : goal.returns-clause-ok
-returns-clause-ok c =
-    c.loop-one.invariant
-    ∙ ap (λ some. each_once nat_eq (flat_map (λ one. groups_in_type (world_shown c.args.self.now) one.2) (all_seen some)))
-    (take_all c.loop-one.one-index c.args.placed.now (let done = c.loop-one-test.false in search rules))
+pub returns : goal.returns
+returns c = record {
+  ok = c.loop-one.invariant
+      ∙ ap (λ some. each_once nat_eq (flat_map (λ one. groups_in_type (world_shown c.args.self.now) one.2) (all_seen some)))
+      (take_all c.loop-one.one-index c.args.placed.now (let done = c.loop-one-test.false in search rules));
+}

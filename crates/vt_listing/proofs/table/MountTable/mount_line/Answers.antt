@@ -8,16 +8,18 @@ use Rattle.vt_spec.specs.Machine.World.{is_overlay}
 use Rattle.vt_listing.specs.Shown.{world_shown}
 use Rattle.vt_listing.proofs.table.MountTable.mount_line.Goals as goal
 
-pub returns-clause-ok : goal.returns-clause-ok
-returns-clause-ok c = λ mounts are seen groups i. record {
-  mount_point = c.in_ok-point_shown.ensures.ok mounts are i;
-  overlay = ap is_overlay (sym (found_by_number c.args.self.now.filesystems.now
-      c.args.mount.now.root.filesystem.count)) i;
-  filesystem = (c.filesystem_place.ensures
-      ∙ ap (λ numbers. number_among nat_eq numbers (counted c.args.mount.now.root.filesystem.count)) seen) i;
-  root = c.in_ok-root_spot.ensures.ok i;
-  flags = flags_of c.args.mount.now.flags;
-  kind = (c.type_shown.ensures
-      ∙ ap (λ numbers. type_line nat_eq (world_shown c.args.self.now) numbers
-      (propagation_of c.args.mount.now.propagation)) groups) i;
+pub returns : goal.returns
+returns c = record {
+  ok = λ mounts are seen groups i. record {
+    mount_point = c.in_ok-point_shown.ensures.ok mounts are i;
+    overlay = ap is_overlay (sym (found_by_number c.args.self.now.filesystems.now
+        c.args.mount.now.root.filesystem.count)) i;
+    filesystem = (c.filesystem_place.ensures
+        ∙ ap (λ numbers. number_among nat_eq numbers (counted c.args.mount.now.root.filesystem.count)) seen) i;
+    root = c.in_ok-root_spot.ensures.ok i;
+    flags = flags_of c.args.mount.now.flags;
+    kind = (c.type_shown.ensures
+        ∙ ap (λ numbers. type_line nat_eq (world_shown c.args.self.now) numbers
+        (propagation_of c.args.mount.now.propagation)) groups) i;
+  };
 }

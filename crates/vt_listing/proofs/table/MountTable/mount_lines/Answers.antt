@@ -13,14 +13,14 @@ use Rattle.vt_spec.specs.Machine.Mounts.{Mount}
 use Rattle.vt_listing.specs.Shown.{world_shown}
 use Rattle.vt_listing.proofs.ShownWorlds.{mounts_shown}
 use Rattle.vt_listing.proofs.table.MountTable.mount_lines.Goals as goal
-use Rattle.vt_listing.proofs.table.MountTable.mount_lines.Goals.{in-Some+in_ok-line+in-Ok, in_default}
+use Rattle.vt_listing.proofs.table.MountTable.mount_lines.Goals.{in-Some+in_ok-line+in_ok-push, in_default}
 
 pub mount_line-requires : goal.mount_line-requires
 mount_line-requires c = record {
   once = c.requires.once;
   order =
-      attached_rising (counted c.args.namespace.count) c.args.self.now.mounts.now c.are_ascending.ensures
-      c.attached_in-listed.result.now c.attached_in-listed.ensures;
+      attached_rising (counted c.args.namespace.count) c.args.self.now.mounts.now c.attached_in-listed.ensures.order
+      c.attached_in-listed.result.now c.attached_in-listed.ensures.are;
 }
 
 pub loop-id-preserved : goal.loop-id-preserved
@@ -29,15 +29,15 @@ loop-id-preserved c =
     let all = attached_in (counted c.args.namespace.count) mounts in
     let change : Mount ℕ → answers.MountLine = mount_line nat_eq (world_shown c.args.self.now) all in
     elim c.match-get.branch [
-      | in-Some+in_ok-line+in-Ok w ↦
+      | in-Some+in_ok-line+in_ok-push w ↦
           ap (λ lines. map mount_line_of lines.items) w.lines-is
-          ∙ ap (map mount_line_of) (let pushed = w.in-Ok.ensures in search rules)
+          ∙ ap (map mount_line_of) (let pushed = w.in_ok-push.ensures in search rules)
           ∙ next_made mount_line_of (λ id.
           option_map change (find (λ mount. nat_eq (counted id.count) mount.number) (mounts_in mounts)))
           c.loop-id.id-index _ c.attached_in-listed.result.now (let more = c.loop-id-test.true in search rules)
           c.loop-id.lines.items c.loop-id.invariant w.in_ok-line.line
           (ap (option_map change) (sym c.get.ensures ∙ ap (option_map mount_of) w.in-Some.is)
-          ∙ ap Some (sym (w.in_ok-line.ensures.ok all c.attached_in-listed.ensures c.in_ok-filesystems.ensures.ok
+          ∙ ap Some (sym (w.in_ok-line.ensures.ok all c.attached_in-listed.ensures.are c.in_ok-filesystems.ensures.ok
           c.in_ok-groups.ensures.ok)))
       | in_default w ↦
           ap (λ lines. map mount_line_of lines.items) w.lines-is
@@ -48,16 +48,18 @@ loop-id-preserved c =
           (ap (option_map change) (sym c.get.ensures ∙ ap (option_map mount_of) w.in_default.is))
     ]
 
-pub returns-clause-ok : goal.returns-clause-ok
-returns-clause-ok c = λ world is.
-    let mounts = c.args.self.now.mounts.now in
-    let namespace = counted c.args.namespace.count in
-    let change : Mount ℕ → answers.MountLine = mount_line nat_eq (world_shown c.args.self.now)
-    (attached_in namespace mounts) in
-    c.loop-id.invariant
-    ∙ ap (filter_map (λ id. option_map change (find (λ mount. nat_eq (counted id.count) mount.number)
-    (mounts_in mounts))))
-    (take_all c.loop-id.id-index c.attached_in-listed.result.now (let done = c.loop-id-test.false in search rules))
-    ∙ attached_picked namespace mounts c.are_ascending.ensures c.attached_in-listed.result.now
-    c.attached_in-listed.ensures change
-    ∙ mounts_shown c.args.self.now world is namespace
+pub returns : goal.returns
+returns c = record {
+  ok = λ world is.
+      let mounts = c.args.self.now.mounts.now in
+      let namespace = counted c.args.namespace.count in
+      let change : Mount ℕ → answers.MountLine = mount_line nat_eq (world_shown c.args.self.now)
+      (attached_in namespace mounts) in
+      c.loop-id.invariant
+      ∙ ap (filter_map (λ id. option_map change (find (λ mount. nat_eq (counted id.count) mount.number)
+      (mounts_in mounts))))
+      (take_all c.loop-id.id-index c.attached_in-listed.result.now (let done = c.loop-id-test.false in search rules))
+      ∙ attached_picked namespace mounts c.attached_in-listed.ensures.order c.attached_in-listed.result.now
+      c.attached_in-listed.ensures.are change
+      ∙ mounts_shown c.args.self.now world is namespace;
+}

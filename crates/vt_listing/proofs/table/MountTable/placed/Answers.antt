@@ -14,9 +14,10 @@ loop-namespace-preserved c = (
       c.in_ok-push_placed.ensures.ok c.loop-namespace.invariant.1,
 )
 
-pub returns-clause-ok : goal.returns-clause-ok
-returns-clause-ok c =
-    c.loop-namespace.invariant.1
-    ∙ ap (λ ids. placed_from (world_shown c.args.self.now) 1 (map (λ id. counted id.count) ids))
-    (take_all c.loop-namespace.namespace-index c.args.namespaces.now
-    (let done = c.loop-namespace-test.false in search rules))
+pub returns : goal.returns
+returns c = record {
+  ok = c.loop-namespace.invariant.1
+      ∙ ap (λ ids. placed_from (world_shown c.args.self.now) 1 (map (λ id. counted id.count) ids))
+      (take_all c.loop-namespace.namespace-index c.args.namespaces.now
+      (let done = c.loop-namespace-test.false in search rules));
+}

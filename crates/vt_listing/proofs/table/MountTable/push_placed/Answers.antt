@@ -10,7 +10,7 @@ use Rattle.vt_spec.specs.Machine.Mounts.{Mount}
 use Rattle.vt_listing.specs.GroupsListed.{all_seen, placed_seen}
 use Rattle.vt_listing.proofs.ListedPeers.{each_placed, mounts_next, mounts_same}
 use Rattle.vt_listing.proofs.table.MountTable.push_placed.Goals as goal
-use Rattle.vt_listing.proofs.table.MountTable.push_placed.Goals.{in-Some+in-Ok, in_default}
+use Rattle.vt_listing.proofs.table.MountTable.push_placed.Goals.{in-Some+in_ok-push, in_default}
 
 pub loop-id-preserved : goal.loop-id-preserved
 loop-id-preserved c =
@@ -19,7 +19,7 @@ loop-id-preserved c =
     let ids = c.attached_in-id-items.result.now in
     let old = c.loop-id.invariant in
     elim c.match-get.branch [
-      | in-Some+in-Ok w ↦
+      | in-Some+in_ok-push w ↦
           let next = mounts_next (λ id. option_map same (find (λ mount. nat_eq (counted id.count) mount.number) mounts))
           c.loop-id.id-index _ ids (let more = c.loop-id-test.true in search rules) c.args.number c.loop-id.place
           (all_seen c.args.placed.now.items) (all_seen c.loop-id.placed.items) old.0 old.1 old.2
@@ -28,7 +28,7 @@ loop-id-preserved c =
             omega (arith, w.place-is, next.0),
             w.place-is ∙ next.1,
             ap (λ placed. all_seen placed.items) w.placed-is
-                ∙ ap all_seen w.in-Ok.ensures.items
+                ∙ ap all_seen w.in_ok-push.ensures.items
                 ∙ map-append placed_seen c.loop-id.placed.items (_ ∷ [])
                 ∙ next.2,
           )
@@ -43,17 +43,18 @@ loop-id-preserved c =
           )
     ]
 
-pub returns-clause-ok : goal.returns-clause-ok
-returns-clause-ok c =
-    let mounts = c.args.self.now.mounts.now in
-    let namespace = counted c.args.namespace.count in
-    let same : Mount ℕ → Mount ℕ = λ mount. mount in
-    c.loop-id.invariant.2
-    ∙ ap (λ ids. all_seen c.args.placed.now.items
-    ++ each_placed c.args.number (filter_map
-    (λ id. option_map same (find (λ mount. nat_eq (counted id.count) mount.number) (mounts_in mounts))) ids))
-    (take_all c.loop-id.id-index c.attached_in-id-items.result.now (let done = c.loop-id-test.false in search rules))
-    ∙ ap (λ some. all_seen c.args.placed.now.items ++ each_placed c.args.number some)
-    (attached_picked namespace mounts c.are_ascending.ensures c.attached_in-id-items.result.now
-    c.attached_in-id-items.ensures same
-    ∙ map-id (attached_in namespace mounts))
+pub returns : goal.returns
+returns c = record {
+  ok = let mounts = c.args.self.now.mounts.now in
+      let namespace = counted c.args.namespace.count in
+      let same : Mount ℕ → Mount ℕ = λ mount. mount in
+      c.loop-id.invariant.2
+      ∙ ap (λ ids. all_seen c.args.placed.now.items
+      ++ each_placed c.args.number (filter_map
+      (λ id. option_map same (find (λ mount. nat_eq (counted id.count) mount.number) (mounts_in mounts))) ids))
+      (take_all c.loop-id.id-index c.attached_in-id-items.result.now (let done = c.loop-id-test.false in search rules))
+      ∙ ap (λ some. all_seen c.args.placed.now.items ++ each_placed c.args.number some)
+      (attached_picked namespace mounts c.attached_in-id-items.ensures.order c.attached_in-id-items.result.now
+      c.attached_in-id-items.ensures.are same
+      ∙ map-id (attached_in namespace mounts));
+}

@@ -6,7 +6,8 @@ use Rattle.vt_listing.proofs.table.MountTable.root_spot.Goals as goal
 pub path_from_root-requires : goal.path_from_root-requires
 path_from_root-requires c = c.requires.once c.args.mount.now.root.filesystem.count
 
-pub returns-clause-ok : goal.returns-clause-ok
-returns-clause-ok c =
-    c.reached.ensures ∙ ap spot_of c.in_ok-path_from_root.ensures.ok
-    ∙ root_there c.args.self.now c.args.mount.now
+pub returns : goal.returns
+returns c = record {
+  ok = c.reached.ensures ∙ ap spot_of c.in_ok-path_from_root.ensures.ok
+      ∙ root_there c.args.self.now c.args.mount.now;
+}

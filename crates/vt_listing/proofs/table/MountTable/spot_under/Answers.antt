@@ -12,10 +12,13 @@ path_down-requires c = record {
   };
 }
 
-pub returns-then-eq-clause-ok : goal.returns-then-eq-clause-ok
-returns-then-eq-clause-ok c = c.reached.ensures ∙ ap spot_of c.in_ok-path_down.ensures.ok
+pub returns-then-eq : goal.returns-then-eq
+returns-then-eq c = record {
+  ok = c.reached.ensures ∙ ap spot_of c.in_ok-path_down.ensures.ok;
+}
 
-pub returns-clause-ok : goal.returns-clause-ok
-returns-clause-ok c =
-    spot_apart c.args.self.now.filesystems.now c.args.top c.args.directory (omega arith) (omega arith)
-    (sym c.eq.ensures ∙ c.if-eq.false) c.has_own_numbers.ensures
+pub returns : goal.returns
+returns c = record {
+  ok = spot_apart c.args.self.now.filesystems.now c.args.top c.args.directory (omega arith) (omega arith)
+      (sym c.eq.ensures ∙ c.if-eq.false) c.has_own_numbers.ensures;
+}

@@ -18,8 +18,8 @@ returns-then-has_unbindable_within t c =
     sym (list_any_at (λ (id : MountId). any_within test mounts (c.args.depth - 1) (counted id.count)) kids
     c.loop-child.child-index _ c.loop-child-test.true
     (sym c.has_unbindable_within.ensures ∙ c.if-has_unbindable_within.true))
-    ∙ sym (any-children test mounts c.are_ascending.ensures c.args.depth (c.args.depth - 1) (counted c.args.id.count)
-    kids deep (sym c.is_unbindable.ensures ∙ c.if-is_unbindable.false) c.children-child-items.ensures)
+    ∙ sym (any-children test mounts c.children-child-items.ensures.order c.args.depth (c.args.depth - 1) (counted c.args.id.count)
+    kids deep (sym c.is_unbindable.ensures ∙ c.if-is_unbindable.false) c.children-child-items.ensures.children)
 
 pub returns : goal.returns
 returns t c =
@@ -30,5 +30,5 @@ returns t c =
     sym c.loop-child.invariant
     ∙ ap (list_any (λ (id : MountId). any_within test mounts (c.args.depth - 1) (counted id.count)))
     (take_all c.loop-child.child-index kids c.loop-child-test.false)
-    ∙ sym (any-children test mounts c.are_ascending.ensures c.args.depth (c.args.depth - 1) (counted c.args.id.count)
-    kids deep (sym c.is_unbindable.ensures ∙ c.if-is_unbindable.false) c.children-child-items.ensures)
+    ∙ sym (any-children test mounts c.children-child-items.ensures.order c.args.depth (c.args.depth - 1) (counted c.args.id.count)
+    kids deep (sym c.is_unbindable.ensures ∙ c.if-is_unbindable.false) c.children-child-items.ensures.children)

@@ -4,13 +4,14 @@ use Rattle.vt_spec.specs.Machine.Mounts.{child_at, stands_at}
 use Rattle.vt_location.specs.Locations.{location_of}
 use Rattle.vt_location.specs.Numbers.{counted}
 use Rattle.vt_mount.specs.Indexes.{is_at}
-use Rattle.vt_mount.specs.MountsValue.{in_order, mounts_in}
+use Rattle.vt_mount.specs.MountsValue.{are_ascending, in_order, mounts_in}
 use Rattle.vt_mount.proofs.EntryLemmas.{entries}
+use Rattle.vt_mount.proofs.MoveLemmas.{ascending-kept}
 use Rattle.vt_mount.proofs.PlaceLemmas.{at-agrees, first-count, found-first, numbers-seen, slot_limit}
 use Rattle.vt_mount.proofs.mounts.Mounts.child_at.Goals as goal
 
-pub returns : goal.returns
-returns c =
+pub returns-clause-child : goal.returns-clause-child
+returns-clause-child c =
     let place = c.args.place in
     let less : place.node.slot < slot_limit = omega arith in
     let kept = in_order c.self.inside.by_number.entries in
@@ -23,3 +24,7 @@ returns c =
     ∙ sym (found-first here (λ child. child.number) (mounts_in (entries kept)))
     ∙ ap (λ now. option_map (λ child. child.number)
     (child_at nat_eq (mounts_in now) (location_of place))) c.self.view_is
+
+pub returns-clause-order : goal.returns-clause-order
+returns-clause-order c =
+    ap (λ now. are_ascending (mounts_in now)) (sym c.self.view_is) ∙ ascending-kept c.self.inside.by_number.entries

@@ -1,9 +1,9 @@
 use Rattle.std.proofs.Common.{Some, ap, refl, subst, sym, ◌∙◌}
+use Rattle.std.proofs.lemmas.Result.{err_from_is_err_and}
 use Rattle.std.specs.Option.{option_copied_mut}
 use Rattle.vt_location.specs.Locations.{location_of}
 use Rattle.vt_mount.specs.Indexed.{IsIndexed}
 use Rattle.vt_mount.specs.MountsValue.{MountEntry, in_order}
-use Rattle.vt_mount.proofs.KeptLemmas.{is-refused, not-err}
 use Rattle.vt_mount.proofs.MoveLemmas.{indexed-placed, indexed-same, moved_kept}
 use Rattle.vt_mount.proofs.OrderLemmas.{found-in_order, in_order-changed, rises-in_order}
 use Rattle.vt_mount.proofs.WriteLemmas.{entries-unwritten, entries-written, indexed-written, is-written, not-written}
@@ -25,42 +25,37 @@ returns-in_default-clause-ok c =
     (ap (λ map. map.entries) c.get_mut.follows.holds-at-none))
     c.self.view_is
 
-pub invariant_of-self-then-is_err : goal.invariant_of-self-then-is_err
-invariant_of-self-then-is_err c =
+pub invariant_of-self-in_err-relist : goal.invariant_of-self-in_err-relist
+invariant_of-self-in_err-relist c =
     let map = c.self.inside.by_number in
-    let refused = c.if-is_err.ensures.value in
-    indexed-same _ c.self.inside.indexes c.relist.new.self c.relist.ensures.namespace
-    (is-refused c.relist.result refused c.relist.ensures.parent_err)
-    (is-refused c.relist.result refused c.relist.ensures.place_err)
-    (is-refused c.relist.result refused c.relist.ensures.inode_err)
+    indexed-same _ c.self.inside.indexes c.relist.new.self c.in_err-relist.ensures.namespace
+    c.in_err-relist.ensures.parent_err c.in_err-relist.ensures.place_err c.in_err-relist.ensures.inode_err
     (indexed-written c.args.id (λ one. one) (λ one. refl) (λ one. refl) _ map.entries _
     (is-written c.args.id (λ one. one) map _ c.in-Some.kept.now _
     (sym c.get_mut.ensures.value ∙ ap option_copied_mut c.in-Some.is) refl (c.get_mut.follows.holds _))
     c.self.invariant)
 
-pub returns-then-is_err-clause-err : goal.returns-then-is_err-clause-err
-returns-then-is_err-clause-err c =
+pub returns-in_err-relist-clause-err : goal.returns-in_err-relist-clause-err
+returns-in_err-relist-clause-err c =
     let map = c.self.inside.by_number in
-    entries-unwritten c.args.id map.entries _ _
+    let failed = err_from_is_err_and c.from_residual.result c.from_residual.ensures.1 in
+    rw failed.1 (entries-unwritten c.args.id map.entries _ _
     (is-written c.args.id (λ one. one) map _ c.in-Some.kept.now _
     (sym c.get_mut.ensures.value ∙ ap option_copied_mut c.in-Some.is) refl (c.get_mut.follows.holds _))
-    c.self.view_is
+    c.self.view_is)
 
 pub invariant_of-self-2 : goal.invariant_of-self-2
 invariant_of-self-2 c =
     let map = c.self.inside.by_number in
     let change = moved_kept c.args.place in
     let there = sym c.get_mut.ensures.value ∙ ap option_copied_mut c.in-Some.is in
-    let fine = c.if-is_err.ensures.value in
     subst (IsIndexed c.relist.new.self)
     (sym (in_order-changed c.args.id change map.entries _
     (is-written c.args.id change map _ c.in-Some.kept.now _ there refl (c.get_mut.follows.holds _))))
     (indexed-placed c.args.id (Some c.args.place) c.in-Some.kept.now (in_order map.entries)
     (rises-in_order map.entries) (found-in_order c.args.id map.entries ∙ there)
-    c.self.inside.indexes c.relist.new.self c.relist.ensures.slot c.relist.ensures.namespace
-    (not-err c.relist.result fine c.relist.ensures.parent_ok)
-    (not-err c.relist.result fine c.relist.ensures.place_ok)
-    (not-err c.relist.result fine c.relist.ensures.inode_ok)
+    c.self.inside.indexes c.relist.new.self c.in_ok-relist.ensures.slot c.in_ok-relist.ensures.namespace
+    c.in_ok-relist.ensures.parent_ok c.in_ok-relist.ensures.place_ok c.in_ok-relist.ensures.inode_ok
     c.self.invariant)
 
 pub returns-clause-ok : goal.returns-clause-ok

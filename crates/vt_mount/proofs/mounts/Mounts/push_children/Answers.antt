@@ -12,7 +12,7 @@ returns c =
     let deep : c.args.branch.depth ≡ suc (c.args.branch.depth - 1) = omega (arith, c.if-branch-eq0.false) in
     OnOk_then c.push_reversed.result
     (λ pushed. next-deep mounts c.args.waiting.now.items c.args.branch
-    (c.args.branch.depth - 1) c.children.result.now deep c.children.ensures
+    (c.args.branch.depth - 1) c.children.result.now deep c.children.ensures.children
     ∙ ap (λ waiting. counted c.args.branch.mount.count ∷ to_come mounts waiting) (sym pushed))
     c.push_reversed.ensures
 

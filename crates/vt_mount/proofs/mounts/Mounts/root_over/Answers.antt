@@ -11,7 +11,7 @@ returns-in_err-kept c =
     ap (option_map location_of) c.from_residual-in_err-kept.ensures
     ∙ ap (option_map root_of)
     (child-found (location_of c.args.place) c.self.inside.by_number.entries _ c.in_ok-child.child None c.self.view_is
-    (ap (option_map (λ id. counted id.count)) (sym c.in_ok-child.was) ∙ c.child_at.ensures)
+    (ap (option_map (λ id. counted id.count)) (sym c.in_ok-child.was) ∙ c.child_at.ensures.child)
     (sym c.kept_under.ensures ∙ ap option_copied c.in_err-kept.was))
 
 pub returns : goal.returns
@@ -19,5 +19,5 @@ returns c =
     ap (option_map root_of)
     (child-found (location_of c.args.place) c.self.inside.by_number.entries _ c.in_ok-child.child
     (Some c.in_ok-kept.kept.now) c.self.view_is
-    (ap (option_map (λ id. counted id.count)) (sym c.in_ok-child.was) ∙ c.child_at.ensures)
+    (ap (option_map (λ id. counted id.count)) (sym c.in_ok-child.was) ∙ c.child_at.ensures.child)
     (sym c.kept_under.ensures ∙ ap option_copied c.in_ok-kept.was))

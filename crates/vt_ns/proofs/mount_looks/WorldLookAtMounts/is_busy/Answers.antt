@@ -1,5 +1,4 @@
 use Rattle.std.proofs.Common.{ap, nat_eq, ◌∙◌}
-use Rattle.std.proofs.lemmas.Result.{IfOk-weaker}
 use Rattle.vt_spec.specs.Machine.Detach.{is_busy}
 use Rattle.vt_location.specs.Numbers.{counted}
 use Rattle.vt_world.specs.WorldValue.{WorldValue, world_of}
@@ -10,9 +9,6 @@ use Rattle.vt_attach.proofs.Binding.{is_seen}
 
 pub returns-clause-ok : goal.returns-clause-ok
 returns-clause-ok c =
-    IfOk-weaker c.is_busy.result _ _
-    (λ busy tells.
-    tells (world_of (the_view c.self.inside)) (is_seen (the_view c.self.inside) c.self.invariant)
+    c.in_ok-is_busy.ensures.ok (world_of (the_view c.self.inside)) (is_seen (the_view c.self.inside) c.self.invariant)
     (uses_seen (the_view c.self.inside) c.self.invariant)
-    ∙ ap (λ (value : WorldValue). is_busy nat_eq (world_of value) (counted c.args.mount.count)) c.self.view_is)
-    c.is_busy.ensures.ok
+    ∙ ap (λ (value : WorldValue). is_busy nat_eq (world_of value) (counted c.args.mount.count)) c.self.view_is

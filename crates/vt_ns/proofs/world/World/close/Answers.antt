@@ -17,7 +17,7 @@ invariant_of-self c =
     c.self.invariant
     (subst (λ value. Permits value c.args.name.now (ToClose c.args.descriptor)) (sym c.self.view_is) c.requires)
     c.leave.ensures.slot
-    (passes has_files_in_order c.self.inside.tasks c.files_are_in_order.ensures)
+    (passes has_files_in_order c.self.inside.tasks c.close.ensures.order)
     (sym (ap (option_map (numbered c.args.descriptor)) c.in-Some.is) ∙ c.close.ensures.value)
     c.close.ensures.rest
     (c.leave.ensures.left ∙ ap (λ writes.
@@ -32,7 +32,7 @@ returns-in-Some c =
     c.self.invariant
     (subst (λ value. Permits value c.args.name.now (ToClose c.args.descriptor)) (sym c.self.view_is) c.requires)
     c.leave.ensures.slot
-    (passes has_files_in_order c.self.inside.tasks c.files_are_in_order.ensures)
+    (passes has_files_in_order c.self.inside.tasks c.close.ensures.order)
     (sym (ap (option_map (numbered c.args.descriptor)) c.in-Some.is) ∙ c.close.ensures.value)
     c.close.ensures.rest
     (c.leave.ensures.left ∙ ap (λ writes.

@@ -17,7 +17,7 @@ fork-requires c =
 
 pub hold_once_more-requires-2 : goal.hold_once_more-requires-2
 hold_once_more-requires-2 c =
-    room_left c.in-Some.parent.now.root c.in-Some.parent.now.directory c.self.inside.mounts c.hold_once_more.new.mounts
+    room_left c.unwrap-parent.result.now.root c.unwrap-parent.result.now.directory c.self.inside.mounts c.hold_once_more.new.mounts
     c.self.inside.filesystems c.hold_once_more.new.filesystems
     (c.has_room-else-not-has_room.ensures.0
     (let room = c.if-not-has_room-2.false in search rules))
@@ -27,13 +27,13 @@ pub invariant_of-self-2 : goal.invariant_of-self-2
 invariant_of-self-2 c =
     (task_is_forked (the_view c.self.inside) c.self.invariant c.args.name.now c.args.cred
     (subst (λ value. Permits value c.args.name.now (ToFork c.args.cred)) (sym c.self.view_is) c.requires)
-    c.in-Some.parent.now (sym (ap (λ found. option_map task_of (option_copied found)) c.in-Some.is) ∙ c.get.ensures)
+    c.unwrap-parent.result.now (sym (ap (λ found. option_map task_of (option_copied found)) c.unwrap-parent.ensures) ∙ c.get.ensures)
     c.hold_once_more.ensures.slot c.hold_once_more-2.ensures.slot
     c.hold_once_more-2.new.mounts c.hold_once_more-2.new.filesystems
     (entries_of c.count_task.new.namespaces.entries) c.fork.new.self
     c.count_task.ensures c.in_ok-child.ensures.ok
     (c.hold_once_more-2.ensures.held
-    ∙ ap (with_location c.in-Some.parent.now.directory false) c.hold_once_more.ensures.held)).held
+    ∙ ap (with_location c.unwrap-parent.result.now.directory false) c.hold_once_more.ensures.held)).held
 
 pub returns-clause-ok : goal.returns-clause-ok
 returns-clause-ok c =
@@ -42,10 +42,10 @@ returns-clause-ok c =
     (entries_of c.count_task.new.namespaces.entries) c.fork.new.self)) c.self.view_is
     (task_is_forked (the_view c.self.inside) c.self.invariant c.args.name.now c.args.cred
     (subst (λ value. Permits value c.args.name.now (ToFork c.args.cred)) (sym c.self.view_is) c.requires)
-    c.in-Some.parent.now (sym (ap (λ found. option_map task_of (option_copied found)) c.in-Some.is) ∙ c.get.ensures)
+    c.unwrap-parent.result.now (sym (ap (λ found. option_map task_of (option_copied found)) c.unwrap-parent.ensures) ∙ c.get.ensures)
     c.hold_once_more.ensures.slot c.hold_once_more-2.ensures.slot
     c.hold_once_more-2.new.mounts c.hold_once_more-2.new.filesystems
     (entries_of c.count_task.new.namespaces.entries) c.fork.new.self
     c.count_task.ensures c.in_ok-child.ensures.ok
     (c.hold_once_more-2.ensures.held
-    ∙ ap (with_location c.in-Some.parent.now.directory false) c.hold_once_more.ensures.held)).becomes
+    ∙ ap (with_location c.unwrap-parent.result.now.directory false) c.hold_once_more.ensures.held)).becomes

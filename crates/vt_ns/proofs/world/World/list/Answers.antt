@@ -9,11 +9,12 @@ use Rattle.vt_world.specs.WorldValue.{world_of}
 use Rattle.vt_ns.proofs.world.FilesRead.{listed_node}
 use Rattle.vt_ns.proofs.world.World.list.Goals as goal
 
-pub returns-clause-ok : goal.returns-clause-ok
-returns-clause-ok c =
-    subst (λ node. IfOk c.list.result (λ names. map (λ name. name.items) names.items ≡ names_in node))
-    (listed_node (the_view c.self.inside) c.self.invariant c.args.name.now c.args.directory (omega arith)
-    (subst (λ value. Permits value c.args.name.now (ToList (location_of c.args.directory)))
-    (sym c.self.view_is) c.requires)
-    ∙ ap (λ value. node_at nat_eq (world_of value) (location_of c.args.directory)) c.self.view_is)
-    c.list.ensures.ok
+pub returns : goal.returns
+returns c = record {
+  ok = subst (λ node. IfOk c.list.result (λ names. map (λ name. name.items) names.items ≡ names_in node))
+      (listed_node (the_view c.self.inside) c.self.invariant c.args.name.now c.args.directory (omega arith)
+      (subst (λ value. Permits value c.args.name.now (ToList (location_of c.args.directory)))
+      (sym c.self.view_is) c.requires)
+      ∙ ap (λ value. node_at nat_eq (world_of value) (location_of c.args.directory)) c.self.view_is)
+      c.list.ensures.ok;
+}

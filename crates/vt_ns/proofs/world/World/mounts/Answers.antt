@@ -11,15 +11,17 @@ use Rattle.vt_ns.proofs.world.World.mounts.Goals as goal
 pub mount_lines-requires : goal.mount_lines-requires
 mount_lines-requires c = record { once = c.table.ensures.once }
 
-pub returns-in-Some-clause-ok : goal.returns-in-Some-clause-ok
-returns-in-Some-clause-ok c = λ task called.
-    let world : World ℕ = world_of c.args.self.now in
-    let namespace = same_Some (counted c.in-Some.namespace.count) task.namespace
-    (sym (ap (option_map (λ (id : NamespaceId). counted id.count)) c.in-Some.is)
-    ∙ c.namespace_called.ensures
-    ∙ ap (λ (value : WorldValue). option_map (λ (task : Task ℕ). task.namespace)
-    (task_called (world_of value) c.args.name.now)) c.self.view_is
-    ∙ ap (option_map (λ (task : Task ℕ). task.namespace)) called) in
-    IfOk-weaker c.mount_lines.result _ _
-    (λ lines told. told world c.table.ensures.shown ∙ ap (mount_lines nat_eq world) namespace)
-    c.mount_lines.ensures.ok
+pub returns-in-Some : goal.returns-in-Some
+returns-in-Some c = record {
+  ok = λ task called.
+      let world : World ℕ = world_of c.args.self.now in
+      let namespace = same_Some (counted c.in-Some.namespace.count) task.namespace
+      (sym (ap (option_map (λ (id : NamespaceId). counted id.count)) c.in-Some.is)
+      ∙ c.namespace_called.ensures
+      ∙ ap (λ (value : WorldValue). option_map (λ (task : Task ℕ). task.namespace)
+      (task_called (world_of value) c.args.name.now)) c.self.view_is
+      ∙ ap (option_map (λ (task : Task ℕ). task.namespace)) called) in
+      IfOk-weaker c.mount_lines.result _ _
+      (λ lines told. told world c.table.ensures.shown ∙ ap (mount_lines nat_eq world) namespace)
+      c.mount_lines.ensures.ok;
+}

@@ -1,4 +1,5 @@
 use Rattle.std.proofs.Common.{None, Option, Some, ap, find, is_some, map, nat_eq, refl, sym, true, unwrap_or, ℕ, ◌≡◌, ◌∙◌}
+use Rattle.std.proofs.lemmas.Result.{IfOk-weaker}
 use Rattle.std.specs.Prelude.{option_map}
 use Rattle.vt_location.specs.MountValue.{mount_of}
 use Rattle.vt_location.specs.Numbers.{counted}
@@ -26,17 +27,19 @@ unwrap-top-requires c =
     (ap (λ (v : WorldValue). is_some (mount_numbered nat_eq (world_of v) number).namespace)
     c.self.view_is ∙ c.requires)
 
-pub returns-clause-ok : goal.returns-clause-ok
-returns-clause-ok c =
-    let value = the_view c.self.inside in
-    let there : is_some (mount_numbered nat_eq (world_of value) (counted c.args.mount.count)).namespace ≡ true =
-    ap (λ (v : WorldValue). is_some (mount_numbered nat_eq (world_of v) (counted c.args.mount.count)).namespace)
-    c.self.view_is ∙ c.requires in
-    let are : AreOf c.deref.result.now
-    (mount_tree nat_eq (mounts_in value.mounts) (mount_numbered nat_eq (world_of value) (counted c.args.mount.count))) =
-    ap (map (λ id. counted id.count)) c.deref.ensures.value ∙ c.in_ok-origins.ensures.ok in
-    c.in-Ok.ensures
-    ∙ tree_below value (counted c.args.mount.count) there c.are_ascending.ensures c.unwrap-top.result
-    (sym (ap (option_map mount_of) c.unwrap-top.ensures) ∙ c.get.ensures) c.deref.result.now are
-    ∙ ap (λ (v : WorldValue). mount_tree nat_eq (mounts_in v.mounts)
-    (mount_numbered nat_eq (world_of v) (counted c.args.mount.count))) c.self.view_is
+pub returns : goal.returns
+returns c = record {
+  ok = let value = the_view c.self.inside in
+      let there : is_some (mount_numbered nat_eq (world_of value) (counted c.args.mount.count)).namespace ≡ true =
+      ap (λ (v : WorldValue). is_some (mount_numbered nat_eq (world_of v) (counted c.args.mount.count)).namespace)
+      c.self.view_is ∙ c.requires in
+      let are : AreOf c.deref.result.now
+      (mount_tree nat_eq (mounts_in value.mounts) (mount_numbered nat_eq (world_of value) (counted c.args.mount.count))) =
+      ap (map (λ id. counted id.count)) c.deref.ensures.value ∙ c.in_ok-origins.ensures.ok in
+      IfOk-weaker c.bound_mounts.result _ _ (λ tree is. is
+      ∙ tree_below value (counted c.args.mount.count) there c.are_ascending.ensures c.unwrap-top.result
+      (sym (ap (option_map mount_of) c.unwrap-top.ensures) ∙ c.get.ensures) c.deref.result.now are
+      ∙ ap (λ (v : WorldValue). mount_tree nat_eq (mounts_in v.mounts)
+      (mount_numbered nat_eq (world_of v) (counted c.args.mount.count))) c.self.view_is)
+      c.bound_mounts.ensures;
+}

@@ -1,4 +1,5 @@
 use Rattle.std.proofs.Common.{ap, arith, map, nat_eq, subst, sym, true, ◌≡◌, ◌∙◌}
+use Rattle.std.proofs.lemmas.Result.{IfOk-weaker}
 use Rattle.vt_location.specs.Locations.{location_of}
 use Rattle.vt_location.specs.Numbers.{counted}
 use Rattle.vt_spec.specs.Machine.Attach.{bind_tree}
@@ -9,18 +10,20 @@ use Rattle.vt_attach.proofs.TreeBinding.{tree_bound}
 use Rattle.vt_ns.specs.contracts.world.World.{the_view}
 use Rattle.vt_ns.proofs.world.World.mounts_bound.Goals as goal
 
-pub returns-clause-ok : goal.returns-clause-ok
-returns-clause-ok c =
-    let value = the_view c.self.inside in
-    let there : is_located_well nat_eq (world_of value) (location_of c.args.source) ≡ true =
-    subst (λ (v : WorldValue). is_located_well nat_eq (world_of v) (location_of c.args.source) ≡ true)
-    (sym c.self.view_is) c.requires in
-    let are : AreOf c.deref.result.now
-    (bind_tree nat_eq (world_of value) (location_of c.args.source) c.args.recursive) =
-    ap (map (λ id. counted id.count)) c.deref.ensures.value ∙ c.in_ok-origins.ensures.ok
-    ∙ ap (λ (v : WorldValue). map (λ mount. mount.number)
-    (bind_tree nat_eq (world_of v) (location_of c.args.source) c.args.recursive)) (sym c.self.view_is) in
-    c.in-Ok.ensures
-    ∙ tree_bound value c.self.invariant c.args.source c.args.recursive
-    (omega arith) there c.are_ascending.ensures c.deref.result.now are
-    ∙ ap (λ (v : WorldValue). bind_tree nat_eq (world_of v) (location_of c.args.source) c.args.recursive) c.self.view_is
+pub returns : goal.returns
+returns c = record {
+  ok = let value = the_view c.self.inside in
+      let there : is_located_well nat_eq (world_of value) (location_of c.args.source) ≡ true =
+      subst (λ (v : WorldValue). is_located_well nat_eq (world_of v) (location_of c.args.source) ≡ true)
+      (sym c.self.view_is) c.requires in
+      let are : AreOf c.deref.result.now
+      (bind_tree nat_eq (world_of value) (location_of c.args.source) c.args.recursive) =
+      ap (map (λ id. counted id.count)) c.deref.ensures.value ∙ c.in_ok-origins.ensures.ok
+      ∙ ap (λ (v : WorldValue). map (λ mount. mount.number)
+      (bind_tree nat_eq (world_of v) (location_of c.args.source) c.args.recursive)) (sym c.self.view_is) in
+      IfOk-weaker c.bound_mounts.result _ _ (λ tree is. is
+      ∙ tree_bound value c.self.invariant c.args.source c.args.recursive
+      (omega arith) there c.are_ascending.ensures c.deref.result.now are
+      ∙ ap (λ (v : WorldValue). bind_tree nat_eq (world_of v) (location_of c.args.source) c.args.recursive) c.self.view_is)
+      c.bound_mounts.ensures;
+}

@@ -1,12 +1,9 @@
-use Rattle.std.proofs.Common.{Ok, Err, OnOk, Result, ap, arith, nat_eq, subst, sym, ℕ, ◌<◌, ◌≡◌, ◌∙◌}
-use Rattle.std.specs.Prelude.{IfErr, IsErrOf, ◌↔◌}
+use Rattle.std.proofs.Common.{Ok, Err, OnOk, Result, ap, arith, nat_eq, refl, subst, sym, ℕ, ◌<◌, ◌≡◌, ◌∙◌}
+use Rattle.std.specs.Prelude.{IsErr, ◌↔◌}
 use Rattle.vt_fs.specs.FilesystemsValue.{shown}
 use Rattle.vt_location.specs.declared.locations.Location.{Location}
 use Rattle.vt_location.specs.Locations.{location_of, number_of}
 use Rattle.vt_location.specs.Numbers.{counted}
-use Rattle.vt_spec.specs.declared.errors.Deny.{Deny}
-use Rattle.vt_spec.specs.declared.errors.Rule.TheVariants.{S5}
-use Rattle.vt_spec.specs.Errors.{denial}
 use Rattle.vt_spec.specs.Machine.Permits.Permit.{ToMove}
 use Rattle.vt_spec.specs.Machine.Mounts.{is_shared}
 use Rattle.vt_spec.specs.Machine.World.{mount_at, mount_numbered}
@@ -21,11 +18,10 @@ use Rattle.vt_detach.proofs.Staying.{IsDone}
 use Rattle.vt_ns.proofs.world.World.move_alone.Goals as goal
 
 -- one use more is counted, where there was room
-surely : {A P : Type 0} (r : Result A Deny) (uses : ℕ) → IsErrOf r (denial S5) ↔ (uses ≡ 18446744073709551615)
-    → IfErr r (λ deny. deny ≡ denial S5)
+surely : {A E P : Type 0} (r : Result A E) (uses : ℕ) → IsErr r ↔ (uses ≡ 18446744073709551615)
     → ((uses ≡ 18446744073709551615) → ⊥) → OnOk r P → P
-surely (Ok a) uses limit memory room so = so
-surely (Err deny) uses limit memory room so = absurd (room (limit.0 (ap Err memory)))
+surely (Ok a) uses limit room so = so
+surely (Err refused) uses limit room so = absurd (room (limit.0 refl))
 
 pub invariant_of-self-in-Some : goal.invariant_of-self-in-Some
 invariant_of-self-in-Some c =
@@ -33,7 +29,7 @@ invariant_of-self-in-Some c =
     (ToMove (counted c.args.mount.count) (location_of c.args.place)) =
     subst (λ value. Permits value c.args.name.now (ToMove (counted c.args.mount.count) (location_of c.args.place)))
     (sym c.self.view_is) c.requires.permitted in
-    let pinned_so = surely c.pin.result _ c.pin.ensures.limit c.pin.ensures.memory
+    let pinned_so = surely c.pin.result _ c.pin.ensures.limit
     (λ full. absurd (omega (arith, c.if-uses.false, c.uses.ensures, full))) c.pin.ensures.ok in
     (subst (λ mounts. IsDone (the_view c.self.inside) c.args.name.now
     (ToMove (counted c.args.mount.count) (location_of c.args.place))
@@ -63,7 +59,7 @@ invariant_of-self-in_default c =
     (ToMove (counted c.args.mount.count) (location_of c.args.place)) =
     subst (λ value. Permits value c.args.name.now (ToMove (counted c.args.mount.count) (location_of c.args.place)))
     (sym c.self.view_is) c.requires.permitted in
-    let pinned_so = surely c.pin.result _ c.pin.ensures.limit c.pin.ensures.memory
+    let pinned_so = surely c.pin.result _ c.pin.ensures.limit
     (λ full. absurd (omega (arith, c.if-uses.false, c.uses.ensures, full))) c.pin.ensures.ok in
     (subst (λ mounts. IsDone (the_view c.self.inside) c.args.name.now
     (ToMove (counted c.args.mount.count) (location_of c.args.place))
@@ -89,7 +85,7 @@ returns-in-Some-clause-ok c =
     (ToMove (counted c.args.mount.count) (location_of c.args.place)) =
     subst (λ value. Permits value c.args.name.now (ToMove (counted c.args.mount.count) (location_of c.args.place)))
     (sym c.self.view_is) c.requires.permitted in
-    let pinned_so = surely c.pin.result _ c.pin.ensures.limit c.pin.ensures.memory
+    let pinned_so = surely c.pin.result _ c.pin.ensures.limit
     (λ full. absurd (omega (arith, c.if-uses.false, c.uses.ensures, full))) c.pin.ensures.ok in
     subst (λ value. Becomes value c.args.name.now (ToMove (counted c.args.mount.count) (location_of c.args.place))
     (remade (the_view c.self.inside) c.move_to.new.self c.unpin.new.self c.self.inside.tasks)) c.self.view_is
@@ -121,7 +117,7 @@ returns-in_default-clause-ok c =
     (ToMove (counted c.args.mount.count) (location_of c.args.place)) =
     subst (λ value. Permits value c.args.name.now (ToMove (counted c.args.mount.count) (location_of c.args.place)))
     (sym c.self.view_is) c.requires.permitted in
-    let pinned_so = surely c.pin.result _ c.pin.ensures.limit c.pin.ensures.memory
+    let pinned_so = surely c.pin.result _ c.pin.ensures.limit
     (λ full. absurd (omega (arith, c.if-uses.false, c.uses.ensures, full))) c.pin.ensures.ok in
     subst (λ value. Becomes value c.args.name.now (ToMove (counted c.args.mount.count) (location_of c.args.place))
     (remade (the_view c.self.inside) c.move_to.new.self c.pin.new.self c.self.inside.tasks)) c.self.view_is

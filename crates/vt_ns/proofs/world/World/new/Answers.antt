@@ -22,19 +22,20 @@ invariant_of-result c =
     ∙ tasks_made c.new-number.result c.new-namespace.result c.new-filesystem.result c.plain.result
     c.new-number.ensures c.new-namespace.ensures c.new-filesystem.ensures c.plain.ensures)
 
-pub returns-clause-opening : goal.returns-clause-opening
-returns-clause-opening c =
-    opening_seen c.in-Ok-first_mounts.mounts c.new-2.result c.in-Ok-first_filesystems.filesystems
-    (entries_of c.in-Ok.namespaces.entries)
-    c.in_ok-tasks.tasks
-    (c.in-Ok-first_mounts.ensures.ok
-    ∙ mounts_made c.new-number.result c.new-namespace.result c.new-filesystem.result c.plain.result
-    c.new-number.ensures c.new-namespace.ensures c.new-filesystem.ensures c.plain.ensures)
-    c.new-2.ensures
-    (c.in-Ok-first_filesystems.ensures.ok ∙ ap (λ (id : FilesystemId). first_shown id.count) c.new-filesystem.ensures)
-    (c.in-Ok.ensures.ok
-    ∙ namespaces_made c.new-number.result c.new-namespace.result c.new-filesystem.result c.plain.result
-    c.new-number.ensures c.new-namespace.ensures c.new-filesystem.ensures c.plain.ensures)
-    (c.in_ok-tasks.ensures.ok
-    ∙ tasks_made c.new-number.result c.new-namespace.result c.new-filesystem.result c.plain.result
-    c.new-number.ensures c.new-namespace.ensures c.new-filesystem.ensures c.plain.ensures)
+pub returns : goal.returns
+returns c = record {
+  opening = opening_seen c.in-Ok-first_mounts.mounts c.new-2.result c.in-Ok-first_filesystems.filesystems
+      (entries_of c.in-Ok.namespaces.entries)
+      c.in_ok-tasks.tasks
+      (c.in-Ok-first_mounts.ensures.ok
+      ∙ mounts_made c.new-number.result c.new-namespace.result c.new-filesystem.result c.plain.result
+      c.new-number.ensures c.new-namespace.ensures c.new-filesystem.ensures c.plain.ensures)
+      c.new-2.ensures
+      (c.in-Ok-first_filesystems.ensures.ok ∙ ap (λ (id : FilesystemId). first_shown id.count) c.new-filesystem.ensures)
+      (c.in-Ok.ensures.ok
+      ∙ namespaces_made c.new-number.result c.new-namespace.result c.new-filesystem.result c.plain.result
+      c.new-number.ensures c.new-namespace.ensures c.new-filesystem.ensures c.plain.ensures)
+      (c.in_ok-tasks.ensures.ok
+      ∙ tasks_made c.new-number.result c.new-namespace.result c.new-filesystem.result c.plain.result
+      c.new-number.ensures c.new-namespace.ensures c.new-filesystem.ensures c.plain.ensures);
+}

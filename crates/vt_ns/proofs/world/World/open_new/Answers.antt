@@ -1,8 +1,5 @@
-use Rattle.std.proofs.Common.{◌≡◌, sym, subst, ap, ◌∙◌, arith, nat_eq, rules, ℕ, Result, Ok, Err, IfErr, IfSome, OnOk}
-use Rattle.std.specs.Prelude.{IsErrOf}
-use Rattle.vt_spec.specs.declared.errors.Deny.{Deny}
-use Rattle.vt_spec.specs.declared.errors.Rule.TheVariants.{S5}
-use Rattle.vt_spec.specs.Errors.{denial}
+use Rattle.std.proofs.Common.{◌≡◌, sym, subst, ap, ◌∙◌, arith, nat_eq, rules, ℕ, Result, Ok, Err, IfSome, OnOk, refl}
+use Rattle.std.specs.Prelude.{IsErr}
 use Rattle.vt_spec.specs.Language.Changes.Change.{Make}
 use Rattle.vt_permits.specs.GrantValue.{descriptor_permit}
 use Rattle.vt_permits.specs.declared.grant.DescriptorGrant.TheVariants.{OpenNew}
@@ -23,12 +20,11 @@ use Rattle.vt_detach.proofs.Shown.{pins}
 use Rattle.vt_ns.proofs.world.World.open_new.Goals as goal
 
 -- a new inode has one use, and room for another
-new_pinned : {A P : Type 0} (r : Result A Deny) (uses : ℕ)
-    → (IsErrOf r (denial S5) → uses ≡ 18446744073709551615) → IfErr r (λ deny. deny ≡ denial S5) → uses ≡ 1
+new_pinned : {A E P : Type 0} (r : Result A E) (uses : ℕ) → (IsErr r → uses ≡ 18446744073709551615) → uses ≡ 1
     → OnOk r P → P
-new_pinned (Ok done) uses full memory once p = p
-new_pinned (Err deny) uses full memory once p =
-    let most : uses ≡ 18446744073709551615 = full (ap Err memory) in absurd (omega (arith, most, once))
+new_pinned (Ok done) uses full once p = p
+new_pinned (Err refused) uses full once p =
+    let most : uses ≡ 18446744073709551615 = full refl in absurd (omega (arith, most, once))
 
 pub unwrap-file-requires : goal.unwrap-file-requires
 unwrap-file-requires c =
@@ -91,7 +87,7 @@ invariant_of-self-2 c =
     permits c.open_next.new.filesystems c.unwrap-file.result (omega arith) inside number made in
     let room = c.mount_has_room.ensures (let room = c.if-not-mount_has_room.false in search rules) in
     let mounts = of-ok c.hold.result (c.hold.ensures.few room.0 room.1) c.hold.ensures.ok in
-    let filesystems = new_pinned c.pin.result _ c.pin.ensures.limit.0 c.pin.ensures.memory once c.pin.ensures.ok in
+    let filesystems = new_pinned c.pin.result _ c.pin.ensures.limit.0 once c.pin.ensures.ok in
     (new_opens (the_view c.self.inside) c.self.invariant c.args.name.now c.args.new.directory c.args.new.name.items c.args.new.node
     (access_of c.args.new.access) (omega arith)
     permits c.open_next.new.filesystems c.unwrap-file.result (omega arith) inside number made
@@ -125,7 +121,7 @@ returns-clause-ok c =
     permits c.open_next.new.filesystems c.unwrap-file.result (omega arith) inside number made in
     let room = c.mount_has_room.ensures (let room = c.if-not-mount_has_room.false in search rules) in
     let mounts = of-ok c.hold.result (c.hold.ensures.few room.0 room.1) c.hold.ensures.ok in
-    let filesystems = new_pinned c.pin.result _ c.pin.ensures.limit.0 c.pin.ensures.memory once c.pin.ensures.ok in
+    let filesystems = new_pinned c.pin.result _ c.pin.ensures.limit.0 once c.pin.ensures.ok in
     subst (λ value. Becomes value c.args.name.now
     (descriptor_permit (OpenNew c.args.new))
     (remade (with_filesystems (the_view c.self.inside) c.open_next.new.filesystems) c.hold.new.self c.pin.new.self

@@ -7,12 +7,13 @@ use Rattle.vt_world.specs.WorldValue.{WorldValue, namespace_of, world_of}
 use Rattle.vt_ns.proofs.world.ListedWorlds.{namespaces_kept}
 use Rattle.vt_ns.proofs.world.World.peers.Goals as goal
 
-pub returns-clause-ok : goal.returns-clause-ok
-returns-clause-ok c =
-    IfOk-weaker c.peer_lines.result _ _
-    (λ lines told. told (world_of c.args.self.now) c.table.ensures.shown
-    (ap (map (λ (id : NamespaceId). counted id.count)) (c.as_slice.ensures ∙ c.keys.ensures.rest)
-    ∙ namespaces_kept c.self.inside.namespaces.entries
-    ∙ ap (λ (value : WorldValue). map (λ (namespace : Namespace ℕ). namespace.number)
-    (map namespace_of value.namespaces)) c.self.view_is))
-    c.peer_lines.ensures.ok
+pub returns : goal.returns
+returns c = record {
+  ok = IfOk-weaker c.peer_lines.result _ _
+      (λ lines told. told (world_of c.args.self.now) c.table.ensures.shown
+      (ap (map (λ (id : NamespaceId). counted id.count)) (c.as_slice.ensures ∙ c.keys.ensures.rest)
+      ∙ namespaces_kept c.self.inside.namespaces.entries
+      ∙ ap (λ (value : WorldValue). map (λ (namespace : Namespace ℕ). namespace.number)
+      (map namespace_of value.namespaces)) c.self.view_is))
+      c.peer_lines.ensures.ok;
+}

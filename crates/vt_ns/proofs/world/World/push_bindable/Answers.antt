@@ -24,7 +24,7 @@ returns c =
     let deep : c.args.branch.depth ≡ suc (c.args.branch.depth - 1) = omega (arith, c.if-branch-eq0.false) in
     let kids = bindable_kids mounts held.in_world.mounts.one_number
     (counted c.args.branch.mount.count) c.children.result.now
-    (c.children.ensures ∙ ap (λ (value : WorldValue). numbers
+    (c.children.ensures.children ∙ ap (λ (value : WorldValue). numbers
     (children nat_eq (mounts_in value.mounts) (counted c.args.branch.mount.count))) c.self.view_is) in
     OnOk_then c.extend.result
     (λ pushed. next-deep mounts c.args.waiting.now.items c.args.branch (c.args.branch.depth - 1)

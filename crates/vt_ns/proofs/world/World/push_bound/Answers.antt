@@ -28,7 +28,7 @@ returns c =
     let deep = c.len-depth.ensures ∙ ap (λ (value : WorldValue). length value.mounts) c.self.view_is
     ∙ sym (length-map c.args.self.now.mounts (λ (entry : MountEntry). entry.mount)) in
     let kids = bound_kids mounts held.in_world.mounts.one_number number c.children.result.now
-    (c.children.ensures ∙ ap (λ (value : WorldValue). numbers
+    (c.children.ensures.children ∙ ap (λ (value : WorldValue). numbers
     (children nat_eq (mounts_in value.mounts) number)) c.self.view_is) under in
     OnOk_then c.extend.result
     (λ pushed.

@@ -10,13 +10,14 @@ use Rattle.vt_world.specs.WorldValue.{world_of}
 use Rattle.vt_ns.proofs.world.FilesRead.{read_node}
 use Rattle.vt_ns.proofs.world.World.read_part.Goals as goal
 
-pub returns-clause-ok : goal.returns-clause-ok
-returns-clause-ok c =
-    subst (λ node. IfOk c.read_part.result
-    (λ bytes. bytes.items ≡ take c.args.part.size (drop c.args.part.offset (bytes_in node))))
-    (read_node (the_view c.self.inside) c.self.invariant c.args.name.now c.args.part.file c.args.part.offset c.args.part.size
-    (omega arith)
-    (subst (λ value. Permits value c.args.name.now (look_permit (ReadPart c.args.part)))
-    (sym c.self.view_is) c.requires)
-    ∙ ap (λ value. node_at nat_eq (world_of value) (location_of c.args.part.file)) c.self.view_is)
-    c.read_part.ensures.ok
+pub returns : goal.returns
+returns c = record {
+  ok = subst (λ node. IfOk c.read_part.result
+      (λ bytes. bytes.items ≡ take c.args.part.size (drop c.args.part.offset (bytes_in node))))
+      (read_node (the_view c.self.inside) c.self.invariant c.args.name.now c.args.part.file c.args.part.offset c.args.part.size
+      (omega arith)
+      (subst (λ value. Permits value c.args.name.now (look_permit (ReadPart c.args.part)))
+      (sym c.self.view_is) c.requires)
+      ∙ ap (λ value. node_at nat_eq (world_of value) (location_of c.args.part.file)) c.self.view_is)
+      c.read_part.ensures.ok;
+}

@@ -114,7 +114,7 @@ done c =
           (ap (λ (id : NamespaceId). id.count) c.new-new.ensures);
       next = ap (λ n. c.self.inside.next + 2 * n)
           (as_many c.attached_in.result.now
-          (attached_in (counted own.namespace.count) c.self.inside.mounts) c.attached_in.ensures);
+          (attached_in (counted own.namespace.count) c.self.inside.mounts) c.attached_in.ensures.are);
     })
 
 pub invariant_of-self-2 : goal.invariant_of-self-2
@@ -128,7 +128,7 @@ pub returns-clause-counts : goal.returns-clause-counts
 returns-clause-counts c =
     let namespace = counted c.unwrap-task.result.now.namespace.count in
     let own : Mount ℕ → Bool = λ mount. holds_of (nat_eq namespace) mount.namespace in
-    let many = as_many c.attached_in.result.now (attached_in namespace c.self.inside.mounts) c.attached_in.ensures in
+    let many = as_many c.attached_in.result.now (attached_in namespace c.self.inside.mounts) c.attached_in.ensures.are in
     let parted = length-filter_both own (λ mount. not (own mount)) (λ mount. refl) (mounts_in c.self.inside.mounts) in
     let all = length-map c.self.inside.mounts (λ (entry : MountEntry). entry.mount) in
     subst (λ (value : WorldValue). c.self.inside.next + 2 * length c.attached_in.result.now

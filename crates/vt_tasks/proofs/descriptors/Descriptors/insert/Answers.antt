@@ -12,7 +12,7 @@ invariant_of-self-2 c =
     let within : free ≤ length es = omega
     (arith, c.free_number-free.ensures.limit, ap length c.self.view_is, length-opened es) in
     ap (are_ascending 0) (entries-inserted c.self.inside.by_number free _ c.args.opened _
-    (lookup-free free 0 es c.self.invariant is) within c.in-Ok.ensures.index c.in-Ok.ensures.entries)
+    (lookup-free free 0 es c.self.invariant is) within c.in_ok-insert_before.ensures.index c.in_ok-insert_before.ensures.entries)
     ∙ ascending-inserted c.args.opened free 0 free es c.self.invariant is (omega arith)
 
 pub returns-clause-ok : goal.returns-clause-ok
@@ -23,6 +23,6 @@ returns-clause-ok c =
     let within : free ≤ length es = omega
     (arith, c.free_number-free.ensures.limit, ap length c.self.view_is, length-opened es) in
     ap opened (entries-inserted c.self.inside.by_number free _ c.args.opened _
-    (lookup-free free 0 es c.self.invariant is) within c.in-Ok.ensures.index c.in-Ok.ensures.entries)
+    (lookup-free free 0 es c.self.invariant is) within c.in_ok-insert_before.ensures.index c.in_ok-insert_before.ensures.entries)
     ∙ opened-inserted c.args.opened free 0 free es c.self.invariant is (omega arith)
     ∙ ap (inserted (numbered free c.args.opened)) c.self.view_is

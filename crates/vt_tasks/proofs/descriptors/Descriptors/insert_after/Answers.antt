@@ -1,4 +1,5 @@
 use Rattle.std.proofs.Common.{IfOk, IsOk, OnOk, ap, arith, false, inr, is_err, length, refl, sym, true, true≢false, Err, Ok, Result, ◌∙◌, ◌≡◌, ◌≤◌}
+use Rattle.std.proofs.lemmas.Result.{err_from_is_err_and}
 use Rattle.vt_spec.specs.Machine.Descriptors.{free_from, inserted}
 use Rattle.vt_tasks.specs.Open.{are_ascending, numbered}
 use Rattle.vt_tasks.proofs.OpenLemmas.{ascending-inserted, entries-inserted, length-opened, lookup-free, opened, opened-inserted}
@@ -9,23 +10,20 @@ of_value : {A E : Type 0} {P Q : A → Type 0} (r : Result A E) → IsOk r → I
 of_value (Ok a) ok p q = (a, p, q)
 of_value (Err e) ok p q = absurd (true≢false (sym ok))
 
-not_failed : {A E P : Type 0} (r : Result A E) → false ≡ is_err r → OnOk r P → P
-not_failed (Ok a) fine p = p
-not_failed (Err e) fine p = absurd (true≢false (sym fine))
-
-pub returns-in-Err-clause-step_err : goal.returns-in-Err-clause-step_err
-returns-in-Err-clause-step_err g c =
-    inr (record { shown = _; shows = refl; left = _; met = c.in-Err.ensures; leaves = refl })
+pub returns-in_err-step-clause-step_err : goal.returns-in_err-step-clause-step_err
+returns-in_err-step-clause-step_err g c =
+    let failed = err_from_is_err_and c.from_residual-in_err-step.result c.from_residual-in_err-step.ensures.1 in
+    rw (failed.1, failed.2) (inr
+    (record { shown = _; shows = refl; left = _; met = c.in_err-step.ensures; leaves = refl }))
 
 pub invariant_of-self-3 : goal.invariant_of-self-3
 invariant_of-self-3 g c =
     let es = c.reserve.new.self.entries in
-    let rising : are_ascending 0 es ≡ true = ap (are_ascending 0) c.reserve.ensures.entries ∙ c.self.invariant in
+    let rising : are_ascending 0 es ≡ true = ap (are_ascending 0) c.in_ok-reserve.ensures.entries ∙ c.self.invariant in
     let free = c.free_number-free.result in
     let is : free_from 0 (opened es) ≡ free = sym c.free_number-free.ensures.value in
     let within : free ≤ length es = omega (arith, c.free_number-free.ensures.limit, length-opened es) in
-    let room = not_failed c.reserve.result c.if-is_err.ensures.value c.reserve.ensures.ok in
-    let made = of_value c.insert_before.result (c.insert_before.ensures.succeeds (omega (arith, room)))
+    let made = of_value c.insert_before.result (c.insert_before.ensures.succeeds (omega (arith, c.in_ok-reserve.ensures.ok)))
     c.insert_before.ensures.index c.insert_before.ensures.entries in
     ap (are_ascending 0) (entries-inserted c.reserve.new.self free _ c.args.opened _
     (lookup-free free 0 es rising is) within made.1 made.2)
@@ -34,15 +32,14 @@ invariant_of-self-3 g c =
 pub returns-clause-ok : goal.returns-clause-ok
 returns-clause-ok g c =
     let es = c.reserve.new.self.entries in
-    let rising : are_ascending 0 es ≡ true = ap (are_ascending 0) c.reserve.ensures.entries ∙ c.self.invariant in
+    let rising : are_ascending 0 es ≡ true = ap (are_ascending 0) c.in_ok-reserve.ensures.entries ∙ c.self.invariant in
     let free = c.free_number-free.result in
     let is : free_from 0 (opened es) ≡ free = sym c.free_number-free.ensures.value in
     let within : free ≤ length es = omega (arith, c.free_number-free.ensures.limit, length-opened es) in
-    let room = not_failed c.reserve.result c.if-is_err.ensures.value c.reserve.ensures.ok in
-    let made = of_value c.insert_before.result (c.insert_before.ensures.succeeds (omega (arith, room)))
+    let made = of_value c.insert_before.result (c.insert_before.ensures.succeeds (omega (arith, c.in_ok-reserve.ensures.ok)))
     c.insert_before.ensures.index c.insert_before.ensures.entries in
     ap opened (entries-inserted c.reserve.new.self free _ c.args.opened _
     (lookup-free free 0 es rising is) within made.1 made.2)
     ∙ opened-inserted c.args.opened free 0 free es rising is (omega arith)
-    ∙ ap (λ entries. inserted (numbered free c.args.opened) (opened entries)) c.reserve.ensures.entries
+    ∙ ap (λ entries. inserted (numbered free c.args.opened) (opened entries)) c.in_ok-reserve.ensures.entries
     ∙ ap (inserted (numbered free c.args.opened)) c.self.view_is

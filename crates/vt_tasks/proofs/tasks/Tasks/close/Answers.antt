@@ -1,11 +1,12 @@
 use Rattle.std.proofs.Common.{nat_eq, not, arith, ap, sym, refl, ◌∙◌, option_map}
+use Rattle.std.specs.List.{list_all}
 use Rattle.std.specs.Option.{option_and_then, option_copied_mut}
 use Rattle.vt_spec.specs.Machine.Descriptors.{without_descriptor}
 use Rattle.vt_spec.specs.Machine.Rules.Descriptors.{descriptor_numbered}
 use Rattle.vt_spec.specs.Machine.Invariants.{are_ascending_from}
 use Rattle.vt_tasks.specs.Open.{numbered}
 use Rattle.vt_tasks.specs.TaskValue.{task_of}
-use Rattle.vt_tasks.specs.TasksValue.{called, changed_called, in_order, tasks_of}
+use Rattle.vt_tasks.specs.TasksValue.{called, changed_called, has_files_in_order, in_order, tasks_of}
 use Rattle.vt_tasks.proofs.KeptTasks.{called-absent, called-found, changed-absent, written-change, written-fit}
 use Rattle.vt_tasks.proofs.tasks.Tasks.close.Goals as goal
 use Rattle.vt_spec.proofs.Descriptors.{ascending-filter}
@@ -54,3 +55,9 @@ returns-clause-rest c =
     (λ i. record (task_of c.in_ok-task.task.now) { descriptors = c.remove.ensures.rest i })
     ∙ (λ i. changed_called (c.numbers.ensures.value i) (λ task. without_descriptor task c.args.number)
     (c.self.view_is i))
+
+pub returns-in_err-task-clause-order : goal.returns-in_err-task-clause-order
+returns-in_err-task-clause-order c = ap (list_all has_files_in_order) (sym c.self.view_is) ∙ c.self.invariant.fit.3
+
+pub returns-clause-order : goal.returns-clause-order
+returns-clause-order c = ap (list_all has_files_in_order) (sym c.self.view_is) ∙ c.self.invariant.fit.3

@@ -15,7 +15,7 @@ use Rattle.vt_tasks.specs.TasksValue.{AreKept, Tasks, called, forked, in_order, 
 use Rattle.vt_tasks.proofs.KeptTasks.{called-absent, called-found, forked-so, kept-forked, never-absent}
 use Rattle.vt_tasks.proofs.TasksLemmas.{granted-so, granted-there, is_key, there-shared}
 use Rattle.vt_tasks.proofs.tasks.Tasks.fork.Goals as goal
-use Rattle.vt_tasks.proofs.tasks.Tasks.fork.Goals.{in-Some, in_default-get_mut}
+use Rattle.vt_tasks.proofs.tasks.Tasks.fork.Goals.{in-Some, in_default}
 
 -- the parent, under its name
 abbrev the_parent : (next : ℕ) (q name : TaskName) (tasks : Tasks)
@@ -54,21 +54,21 @@ invariant_of-self-2 c =
     let parent = c.unwrap-parent.result.now in
     let name = c.numbers-numbers.result.now in
     let is = sym c.get.ensures.value ∙ ap option_copied c.unwrap-parent.ensures in
-    let key_is : c.in-Ok-from_slice.key.items ≡ c.in-Ok.child.name = c.in-Ok-from_slice.ensures.items
-    ∙ c.numbers.ensures.value ∙ c.in-Ok-clone.ensures.cases in
-    let inserts = c.in-Ok-insert.ensures.entries in
+    let key_is : c.in_ok-key.key.items ≡ c.in_ok-child.child.name = c.in_ok-key.ensures.items
+    ∙ c.numbers.ensures.value ∙ c.in_ok-child_name.ensures.cases in
+    let inserts = c.in_ok-insert.ensures.entries in
     elim c.match-get_mut.branch [
       | in-Some w ↦
           subst (λ inside. AreKept inside.births inside.by_name.entries) (sym w.self-inside-is)
-          (kept-forked c.self.inside.births name map c.insert.new.self _ c.in-Ok-from_slice.key parent c.in-Ok.child
-          c.args.cred c.self.invariant is key_is c.in-Ok.ensures.child c.in-Ok.ensures.birth inserts
+          (kept-forked c.self.inside.births name map c.insert.new.self _ c.in_ok-key.key parent c.in_ok-child.child
+          c.args.cred c.self.invariant is key_is c.in_ok-child.ensures.child c.in_ok-child.ensures.birth inserts
           c.get_mut.ensures.unique w.in-Some.parent.now _
           (sym c.get_mut.ensures.value ∙ ap option_copied_mut w.in-Some.is) refl (c.get_mut.follows.holds _))
-      | in_default-get_mut w ↦
+      | in_default w ↦
           absurd (never-absent c.self.inside.births name map c.insert.new.self c.insert.new.self
-          c.in-Ok-from_slice.key parent c.in-Ok.child c.args.cred c.self.invariant is key_is c.in-Ok.ensures.child
-          c.in-Ok.ensures.birth inserts c.get_mut.ensures.unique
-          (sym c.get_mut.ensures.value ∙ ap option_copied_mut w.in_default-get_mut.is))
+          c.in_ok-key.key parent c.in_ok-child.child c.args.cred c.self.invariant is key_is c.in_ok-child.ensures.child
+          c.in_ok-child.ensures.birth inserts c.get_mut.ensures.unique
+          (sym c.get_mut.ensures.value ∙ ap option_copied_mut w.in_default.is))
     ]
 
 pub returns-clause-name : goal.returns-clause-name
@@ -76,7 +76,7 @@ returns-clause-name c =
     let parent = c.unwrap-parent.result.now in
     let found = the_parent _ _ _ _ c.self.inside.by_name parent c.self.invariant c.numbers-numbers.ensures.value c.self.view_is
     (sym c.get.ensures.value ∙ ap option_copied c.unwrap-parent.ensures) in
-    ap Some (c.in-Ok-clone.ensures.cases ∙ ap (λ (task : Task ℕ). task.name) c.in-Ok.ensures.child)
+    ap Some (c.in_ok-child_name.ensures.cases ∙ ap (λ (task : Task ℕ). task.name) c.in_ok-child.ensures.child)
     ∙ sym (ap (option_map child_name) found)
 
 pub returns-clause-ok : goal.returns-clause-ok
@@ -85,20 +85,20 @@ returns-clause-ok c =
     let parent = c.unwrap-parent.result.now in
     let name = c.numbers-numbers.result.now in
     let is = sym c.get.ensures.value ∙ ap option_copied c.unwrap-parent.ensures in
-    let key_is : c.in-Ok-from_slice.key.items ≡ c.in-Ok.child.name = c.in-Ok-from_slice.ensures.items
-    ∙ c.numbers.ensures.value ∙ c.in-Ok-clone.ensures.cases in
-    let inserts = c.in-Ok-insert.ensures.entries in
+    let key_is : c.in_ok-key.key.items ≡ c.in_ok-child.child.name = c.in_ok-key.ensures.items
+    ∙ c.numbers.ensures.value ∙ c.in_ok-child_name.ensures.cases in
+    let inserts = c.in_ok-insert.ensures.entries in
     elim c.match-get_mut.branch [
       | in-Some w ↦
           ap (λ inside. tasks_of (in_order inside.by_name.entries)) w.self-inside-is
-          ∙ forked-so c.self.inside.births name map c.insert.new.self _ c.in-Ok-from_slice.key parent c.in-Ok.child
-          c.args.cred c.self.invariant is key_is c.in-Ok.ensures.child c.in-Ok.ensures.birth inserts
+          ∙ forked-so c.self.inside.births name map c.insert.new.self _ c.in_ok-key.key parent c.in_ok-child.child
+          c.args.cred c.self.invariant is key_is c.in_ok-child.ensures.child c.in_ok-child.ensures.birth inserts
           c.get_mut.ensures.unique w.in-Some.parent.now _
           (sym c.get_mut.ensures.value ∙ ap option_copied_mut w.in-Some.is) refl (c.get_mut.follows.holds _)
           ∙ (λ i. forked (c.numbers-numbers.ensures.value i) c.args.cred (c.self.view_is i))
-      | in_default-get_mut w ↦
+      | in_default w ↦
           absurd (never-absent c.self.inside.births name map c.insert.new.self c.insert.new.self
-          c.in-Ok-from_slice.key parent c.in-Ok.child c.args.cred c.self.invariant is key_is c.in-Ok.ensures.child
-          c.in-Ok.ensures.birth inserts c.get_mut.ensures.unique
-          (sym c.get_mut.ensures.value ∙ ap option_copied_mut w.in_default-get_mut.is))
+          c.in_ok-key.key parent c.in_ok-child.child c.args.cred c.self.invariant is key_is c.in_ok-child.ensures.child
+          c.in_ok-child.ensures.birth inserts c.get_mut.ensures.unique
+          (sym c.get_mut.ensures.value ∙ ap option_copied_mut w.in_default.is))
     ]

@@ -1,0 +1,140 @@
+//! The examples, by `checks/cookbook --write`.
+mod build_with_bind;
+mod busy_unmount;
+mod bwrap;
+mod denials;
+mod docker_volumes;
+mod image_build;
+mod lazy_unmount;
+mod moved_mounts;
+mod nspawn;
+mod pods_share_a_volume;
+mod private_volume;
+mod release_and_service;
+mod replace_by_rename;
+mod runc_root;
+mod sandbox;
+mod secret_file;
+mod slave_root;
+mod sticky_tmp;
+mod unshare_mounts;
+mod volume_propagation;
+
+/// An example.
+#[derive(Clone, Copy)]
+pub struct Example {
+    pub name: &'static str,
+    /// What it shows.
+    pub about: &'static str,
+}
+
+/// The examples, in the order of the cookbook.
+pub const EXAMPLES: [Example; 20] = [
+    Example {
+        name: "docker-volumes",
+        about: "what docker run -v and bind-propagation=rshared show of a disk that the host mounts later",
+    },
+    Example {
+        name: "pods-share-a-volume",
+        about: "two pods share a volume with mountPropagation: Bidirectional",
+    },
+    Example {
+        name: "runc-root",
+        about: "runc's root: slaves, a private parent, a bind onto itself, a changed root",
+    },
+    Example {
+        name: "bwrap",
+        about: "bwrap: read-only /usr, a tmpfs, a work directory, and a user without capabilities",
+    },
+    Example {
+        name: "nspawn",
+        about: "systemd-nspawn moves its tree to /",
+    },
+    Example {
+        name: "unshare-mounts",
+        about: "unshare -m, with --propagation unchanged and with its default",
+    },
+    Example {
+        name: "busy-unmount",
+        about: "why an unmount is busy, and which copy stays behind",
+    },
+    Example {
+        name: "secret-file",
+        about: "who reads a secret of mode 400",
+    },
+    Example {
+        name: "sticky-tmp",
+        about: "a sticky /tmp: who removes what",
+    },
+    Example {
+        name: "build-with-bind",
+        about: "an image build with a context that is bound read-only",
+    },
+    Example {
+        name: "moved-mounts",
+        about: "which mounts move takes",
+    },
+    Example {
+        name: "lazy-unmount",
+        about: "a lazy unmount while a file is open",
+    },
+    Example {
+        name: "sandbox",
+        about: "a sandbox of a build tool",
+    },
+    Example {
+        name: "release-and-service",
+        about: "a release behind a symlink",
+    },
+    Example {
+        name: "image-build",
+        about: "an image build",
+    },
+    Example {
+        name: "replace-by-rename",
+        about: "a file replaced without a gap",
+    },
+    Example {
+        name: "volume-propagation",
+        about: "propagation of a Kubernetes volume",
+    },
+    Example {
+        name: "private-volume",
+        about: "Docker's private volumes",
+    },
+    Example {
+        name: "slave-root",
+        about: "runc's slaves",
+    },
+    Example {
+        name: "denials",
+        about: "each kind of denial",
+    },
+];
+
+/// The script of the example of this name.
+pub fn script_of(name: &str) -> Option<&'static str> {
+    match name {
+        "docker-volumes" => Some(docker_volumes::script()),
+        "pods-share-a-volume" => Some(pods_share_a_volume::script()),
+        "runc-root" => Some(runc_root::script()),
+        "bwrap" => Some(bwrap::script()),
+        "nspawn" => Some(nspawn::script()),
+        "unshare-mounts" => Some(unshare_mounts::script()),
+        "busy-unmount" => Some(busy_unmount::script()),
+        "secret-file" => Some(secret_file::script()),
+        "sticky-tmp" => Some(sticky_tmp::script()),
+        "build-with-bind" => Some(build_with_bind::script()),
+        "moved-mounts" => Some(moved_mounts::script()),
+        "lazy-unmount" => Some(lazy_unmount::script()),
+        "sandbox" => Some(sandbox::script()),
+        "release-and-service" => Some(release_and_service::script()),
+        "image-build" => Some(image_build::script()),
+        "replace-by-rename" => Some(replace_by_rename::script()),
+        "volume-propagation" => Some(volume_propagation::script()),
+        "private-volume" => Some(private_volume::script()),
+        "slave-root" => Some(slave_root::script()),
+        "denials" => Some(denials::script()),
+        _ => None,
+    }
+}

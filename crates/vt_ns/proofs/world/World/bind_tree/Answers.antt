@@ -1,0 +1,35 @@
+use Rattle.std.proofs.Common.{ap, filter, length, nat_eq, sym, [], ◌++◌, ◌∙◌, ◌∷◌}
+use Rattle.std.specs.Prelude.{flat_map}
+use Rattle.std.proofs.lemmas.List.{append-nil, nil_from_length}
+use Rattle.vt_location.specs.Locations.{location_of}
+use Rattle.vt_mount.proofs.PlaceLemmas.{counts, numbers}
+use Rattle.vt_mount.specs.MountsValue.{mounts_in}
+use Rattle.vt_laws_mounts.proofs.mounts.MountsFound.{number_found}
+use Rattle.vt_spec.specs.Machine.Attach.{bind_tree, bindable_children, bindable_tree, stands_under}
+use Rattle.vt_ns.specs.Trees.{bindable_to_come}
+use Rattle.vt_world.specs.WorldValue.{world_of}
+use Rattle.vt_ns.proofs.world.World.bind_tree.Goals as goal
+
+pub returns-then-not-recursive : goal.returns-then-not-recursive
+returns-then-not-recursive c = record {
+  ok =
+      let mounts = mounts_in c.args.self.now.mounts in
+      let source = location_of c.args.source in
+      ap counts (c.in_ok-push.ensures.items ∙ ap (λ items. items ++ c.args.source.mount ∷ []) c.new-tree.ensures.items)
+      ∙ ap (λ n. n ∷ []) (sym (number_found mounts source.mount))
+      ∙ ap (λ recursive. numbers (bind_tree nat_eq (world_of c.args.self.now) source recursive))
+      (sym c.if-not-recursive.true);
+}
+
+pub loop-next-init : goal.loop-next-init
+loop-next-init c =
+    let mounts = mounts_in c.args.self.now.mounts in
+    let source = location_of c.args.source in
+    let below = numbers (flat_map (bindable_tree nat_eq (length mounts) mounts)
+    (filter (stands_under nat_eq (world_of c.args.self.now) source) (bindable_children nat_eq mounts source.mount))) in
+    ap (λ come. counts c.push.new.self.items ++ come)
+    (c.in_ok-push_bound.ensures ∙ ap (λ waiting. below ++ bindable_to_come mounts waiting) c.new-waiting.ensures.items
+    ∙ append-nil below)
+    ∙ ap (λ tree. counts tree ++ below)
+    (c.in_ok-push.ensures.items ∙ ap (λ items. items ++ c.args.source.mount ∷ []) c.new-tree.ensures.items)
+    ∙ ap (λ n. n ∷ below) (sym (number_found mounts source.mount))

@@ -1,0 +1,38 @@
+use Rattle.std.proofs.Common.{ap, arith, length, nat_eq, sym, ◌≡◌, ◌∙◌}
+use Rattle.std.proofs.lemmas.Result.{IfOk-weaker}
+use Rattle.vt_cred.specs.MountFlags.{flags_of}
+use Rattle.vt_location.specs.Locations.{location_of}
+use Rattle.vt_permits.specs.GrantValue.{attachment_permit}
+use Rattle.vt_spec.specs.Machine.Attach.{bind_tree}
+use Rattle.vt_detach.specs.Looking.{overfills_of}
+use Rattle.vt_world.specs.WorldValue.{world_of}
+use Rattle.vt_ns.proofs.Overfilling.{bind_overfills, plain_overfills, tree_sized}
+use Rattle.vt_ns.proofs.world.World.has_too_many.Goals as goal
+
+pub returns-in-Plain : goal.returns-in-Plain
+returns-in-Plain c = record {
+  ok = IfOk-weaker c.has_too_many_with.result _ _
+      (λ too_many tells.
+      plain_overfills c.args.self.now c.is_held.ensures (location_of c.in-Plain.destination) too_many
+      (flags_of c.in-Plain.flags) tells
+      ∙ ap (λ attachment. overfills_of c.args.self.now (attachment_permit attachment)) (sym c.in-Plain.is))
+      c.has_too_many_with.ensures.ok;
+}
+
+pub returns-in_ok-tree-in-Bind : goal.returns-in_ok-tree-in-Bind
+returns-in_ok-tree-in-Bind c = record {
+  ok = let value = c.args.self.now in
+      let source = location_of c.in-Bind.bind.source in
+      let destination = location_of c.in-Bind.bind.destination in
+      let items = c.in_ok-tree-in-Bind.tree.items in
+      let sized : length (bind_tree nat_eq (world_of value) source c.in-Bind.bind.recursive) ≡ length items =
+      tree_sized items (bind_tree nat_eq (world_of value) source c.in-Bind.bind.recursive) c.in_ok-tree-in-Bind.ensures.ok in
+      IfOk-weaker c.has_too_many_with-in-Bind.result _ _
+      (λ too_many tells.
+      bind_overfills value c.is_held.ensures destination too_many source c.in-Bind.bind.recursive
+      (λ one copies added same invariants parts size.
+      tells one copies added same invariants parts
+      (omega (arith, size, sized, c.len.ensures, c.in_ok-tree-in-Bind.tree.ok.0)))
+      ∙ ap (λ attachment. overfills_of value (attachment_permit attachment)) (sym c.in-Bind.is))
+      c.has_too_many_with-in-Bind.ensures.ok;
+}

@@ -1,0 +1,6 @@
+use Rattle.std.proofs.Common.{ap}
+use Rattle.vt_world.specs.WorldValue.{WorldValue}
+use Rattle.vt_ns.proofs.world.World.tasks.Goals as goal
+
+pub returns : goal.returns
+returns c = ap (λ (value : WorldValue). value.tasks) c.self.view_is

@@ -1,0 +1,64 @@
+//! The world, as it is shown to people: what it has, and where in it things are.
+ghost use Rattle.std.specs.Prelude.{◌≡◌, IfOk, map, nat_eq};
+ghost use Rattle.vt_location.specs.Locations.{location_of};
+ghost use Rattle.vt_location.specs.MountValue.{mount_of};
+ghost use Rattle.vt_location.specs.Numbers.{namespace_number};
+ghost use Rattle.vt_request.specs.Answers.{spot_of};
+ghost use Rattle.vt_spec.specs.Machine.Listing as listing;
+ghost use Rattle.vt_world.specs.WorldValue.{world_of};
+
+use crate::world::World;
+use std::alloc::AllocError;
+use vt_fs::Filesystems;
+use vt_location::{Location, Mount, NamespaceId};
+use vt_mount::Mounts;
+use vt_request::Spot;
+use vt_tasks::Tasks;
+
+impl World {
+    /// Its tasks.
+    pub fn tasks(&self) -> &Tasks
+        ensures { result.now ≡ self.now.tasks }
+    {
+        &self.tasks
+    }
+
+    /// Its mounts, also those that were detached and are in use.
+    pub fn all_mounts(&self) -> &Mounts
+        ensures { result.now ≡ self.now.mounts }
+    {
+        &self.mounts
+    }
+
+    /// Its filesystems.
+    pub fn filesystems(&self) -> &Filesystems
+        ensures { result.now ≡ self.now.filesystems }
+    {
+        &self.filesystems
+    }
+
+    /// Its namespaces, in the order of their creation.
+    pub fn namespaces(&self) -> &[NamespaceId]
+        ensures { map namespace_number result.now
+            ≡ map (λ namespace. namespace.number) (world_of self.now).namespaces }
+    {
+        self.namespaces.keys().as_slice()
+    }
+
+    /// Where a directory is, as seen through a mount: its path from the root of the mount, as a list of mounts shows a
+    /// mount point.
+    pub fn spot_of(&self, at: Location) -> Result<Spot, AllocError>
+        ensures ok { IfOk result (λ spot. spot_of spot
+            ≡ listing.mount_point_spot nat_eq (world_of self.now) (location_of at)) }
+    {
+        self.table().mount_point_spot(at)
+    }
+
+    /// Where the tree begins that a mount shows: the path of its root from the root of its filesystem.
+    pub fn root_spot_of(&self, mount: &Mount) -> Result<Spot, AllocError>
+        ensures ok { IfOk result (λ spot. spot_of spot
+            ≡ listing.root_spot nat_eq (world_of self.now) (mount_of mount.now)) }
+    {
+        self.table().root_spot(mount)
+    }
+}

@@ -1,0 +1,41 @@
+use Rattle.std.proofs.Common.{[], Ok, nat_eq, sym, ◌∙◌}
+use Rattle.std.proofs.lemmas.Result.{err_from_is_err_and}
+use Rattle.vt_spec.specs.declared.errors.Rule.TheVariants.{K1}
+use Rattle.vt_spec.specs.Errors.{unless}
+use Rattle.vt_spec.specs.Language.Changes.Change.{SetMark}
+use Rattle.vt_spec.specs.Machine.Judge.{opaque_permit}
+use Rattle.vt_spec.specs.Machine.Permits.Permit.{ToChange}
+use Rattle.vt_spec.specs.Machine.Rules.Attributes.{opaque_rules}
+use Rattle.vt_spec.specs.Machine.Walking.{directory_walk, walk_end}
+use Rattle.vt_location.specs.Locations.{location_of}
+use Rattle.vt_tasks.specs.TaskValue.{task_of}
+use Rattle.vt_policy.proofs.MountLemmas.{reached}
+use Rattle.vt_rules.proofs.Refusals.{unless-stopped}
+use Rattle.vt_rules.proofs.Rows.{skipped}
+use Rattle.vt_policy.proofs.attributes.opaque.Goals as goal
+use Rattle.vt_spec.proofs.Refusals.{unless-let_through}
+
+pub returns-in_err-may_mark : goal.returns-in_err-may_mark
+unfolding opaque_permit
+returns-in_err-may_mark g c =
+    let looks = g.L.Look.looks c.args.world.now in
+    let task = task_of c.args.who.now in
+    let at = location_of c.in_ok-directory.directory in
+    let p = err_from_is_err_and c.from_residual-in_err-may_mark.result c.from_residual-in_err-may_mark.ensures.1 in
+    rw (p.1, p.2) (skipped _ K1 [] _ (sym c.lacks.ensures ∙ c.if-lacks.false)
+    ∙ reached (walk_end (directory_walk nat_eq looks task c.args.path.now)) at
+    (λ at. unless (opaque_rules looks at) (Ok (ToChange at (SetMark at.node c.args.mark)))) c.in_ok-directory.ensures.ok
+    ∙ unless-stopped (opaque_rules looks at) (Ok (ToChange at (SetMark at.node c.args.mark))) _
+    c.in_err-may_mark.ensures)
+
+pub returns : goal.returns
+unfolding opaque_permit
+returns g c =
+    let looks = g.L.Look.looks c.args.world.now in
+    let task = task_of c.args.who.now in
+    let at = location_of c.in_ok-directory.directory in
+    skipped _ K1 [] _ (sym c.lacks.ensures ∙ c.if-lacks.false)
+    ∙ reached (walk_end (directory_walk nat_eq looks task c.args.path.now)) at
+    (λ at. unless (opaque_rules looks at) (Ok (ToChange at (SetMark at.node c.args.mark)))) c.in_ok-directory.ensures.ok
+    ∙ unless-let_through (opaque_rules looks at) (Ok (ToChange at (SetMark at.node c.args.mark)))
+    c.in_ok-may_mark.ensures

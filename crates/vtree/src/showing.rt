@@ -1,0 +1,100 @@
+//! The command that shows the world to which a script leads.
+ghost use Rattle.std.specs.Prelude.{◌≡◌, false, IfErr};
+ghost use Rattle.vtree.specs.Status.{comes_before_output};
+
+use crate::command::out_of_memory;
+use crate::fault::Fault;
+use crate::tools::{hand_on, readable, told};
+use std::io::Write;
+use std::rt::Files;
+use vt_calls::Kernel;
+use vt_lines::reached::reached_before;
+use vt_show::show::{Options, show as show_world};
+use vt_test::suite::{Script, scripts};
+
+const NO_TASK: &str = "there is no such task; without `--task` all are shown";
+
+// The script in which a line of the file is: the last one that begins before it.
+fn script_at<'a, 'b>(all: &'b [Script<'a>], line: u64) -> Option<&'b Script<'a>> {
+    all.iter().rev().find(|script| script.before < line)
+}
+
+// Says on the error output what keeps a file from being shown.
+fn refuse<R: Eprint>(rt: &R, name: &str, why: &str) -> Fault
+    ensures { comes_before_output result ≡ false }
+{
+    let name = told(name);
+    let _ = eprintln!(rt; "vtree: {name}: {why}");
+    Fault::Found
+}
+
+// Says on the error output how many lines were refused.
+fn count_refused<R: Eprint>(rt: &R, name: &str, refused: u64) {
+    if refused > 0 {
+        let name = told(name);
+        let _ = eprintln!(rt;
+            "vtree: {name}: lines answered by S1, which change nothing: {refused}; `vtree check` tells why"
+        );
+    }
+}
+
+// Shows the world that a run of the script has before a line.
+fn show_script<R: Eprint + AllocGlobal, W: Write>(
+    rt: &R,
+    name: &str,
+    script: &[u8],
+    line: u64,
+    options: Options<'_>,
+    output: &mut W,
+) -> Result<(), Fault>
+    ensures { IfErr result (λ fault. comes_before_output fault ≡ false) }
+{
+    let alloc = rt.alloc();
+    let reached = match reached_before::<Kernel>(alloc, script, line) {
+        Ok(reached) => reached,
+        Err(fault) => return Err(Fault::Run(fault)),
+    };
+    count_refused(rt, name, reached.refused);
+    let mut shown = Vec::new(alloc);
+    let outcome = show_world(alloc, reached.world.world(), options, &mut shown);
+    // By a call: the proof of a function that drops a world itself takes minutes.
+    drop(reached);
+    match outcome {
+        Ok(true) => hand_on(output, shown.as_slice()),
+        Ok(false) => Err(refuse(rt, name, NO_TASK)),
+        Err(error) => Err(out_of_memory(error)),
+    }
+}
+
+/// Shows the world that a run of the script has after the lines before one, or after all.
+///
+/// Of a file of several scripts it is the one that has the line, or the last one.
+pub fn show<R: Files + Input + Eprint + AllocGlobal, W: Write>(
+    rt: &R,
+    name: &str,
+    line: Option<u64>,
+    options: Options<'_>,
+    output: &mut W,
+) -> Result<(), Fault>
+    ensures { IfErr result (λ fault. comes_before_output fault ≡ false) }
+{
+    let alloc = rt.alloc();
+    let Some(content) = readable(rt, name) else {
+        return Err(Fault::Found);
+    };
+    let all = match scripts(alloc, content.as_slice()) {
+        Ok(all) => all,
+        Err(fault) => {
+            let why = format!(in alloc; "{fault}").map_err(out_of_memory)?;
+            return Err(refuse(rt, name, why.as_str()));
+        }
+    };
+    let line = line.unwrap_or(u64::MAX);
+    match script_at(all.as_slice(), line) {
+        Some(script) => {
+            let line = line.saturating_sub(script.before);
+            show_script(rt, name, script.text.as_slice(), line, options, output)
+        }
+        None => show_script(rt, name, &[], 1, options, output),
+    }
+}
