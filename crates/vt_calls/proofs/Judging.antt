@@ -2,7 +2,7 @@
 use Rattle.std.proofs.Common.{◌≡◌, refl, sym, subst, ◌∙◌, ℕ, true, nat_eq, Some, None, Result, Ok, Err, arith}
 use Rattle.std.specs.Prelude.{IfErr, IfOk}
 use Rattle.std.proofs.lemmas.Grind.{common_steps}
-use Rattle.vt_spec.specs.Language.Script.{marks}
+use Rattle.vt_spec.specs.Language.Script.{needs_no_layers}
 use Rattle.vt_spec.specs.declared.errors.Deny.{Deny}
 use Rattle.vt_spec.specs.Machine.Judge.{Judgement, judge, judge_in}
 use Rattle.vt_spec.specs.Machine.World.{Task, task_called}
@@ -65,7 +65,7 @@ takes_judged (Umount path) judging = tt
 takes_judged call judging = absurd judging
 
 module _ (value : WorldValue) (name : TaskName) (asked : Call) (held : IsHeld value) (task : Task ℕ)
-    (called : task_called (world_of value) name ≡ Some task) (has : marks.has (call_of asked) ≡ true) where
+    (called : task_called (world_of value) name ≡ Some task) (has : needs_no_layers (call_of asked) ≡ true) where
   tied : judge nat_eq (looks_of_value value) (overfills_of value) task (call_of asked)
       ≡ judge_in nat_eq (counts_from value.next) (world_of value) task (call_of asked)
   tied = judged_alike value task (call_of asked) (marks_mount_no_overlay (call_of asked) has)

@@ -3,7 +3,7 @@ use Rattle.std.proofs.Common.{◌≡◌, refl, sym, ap, subst, ◌∙◌, ℕ, n
 use Rattle.std.specs.Prelude.{OnErr}
 use Rattle.vt_spec.specs.declared.errors.Deny.{Deny}
 use Rattle.vt_spec.specs.Language.Calls.{Call, TaskName}
-use Rattle.vt_spec.specs.Language.Script.{marks}
+use Rattle.vt_spec.specs.Language.Script.{needs_no_layers}
 use Rattle.vt_spec.specs.Lists.{Fresh}
 use Rattle.vt_spec.specs.Language.Answers.{PeerLine}
 use Rattle.vt_spec.specs.Language.Answers.Answer.{PeerList}
@@ -50,7 +50,7 @@ serves_numbered kernel allotment it = record {
 }
 
 -- a call ends so
-module _ (old : KernelValue) (name : TaskName) (call : Call) (has : marks.has call ≡ true) where
+module _ (old : KernelValue) (name : TaskName) (call : Call) (has : needs_no_layers call ≡ true) where
   alike : (fresh : Fresh ℕ)
       → AreAlike (policy nat_eq fresh (world_of old.world) name call) (policy nat_eq fresh (kernel_world old) name call)
   alike fresh =
@@ -83,7 +83,7 @@ module _ (old : KernelValue) (name : TaskName) (call : Call) (has : marks.has ca
 
 -- the same of a kernel as a function sees it
 pub ends_seen : (seen old new : KernelValue) → seen ≡ old → (name : TaskName) (call : Call)
-    → marks.has call ≡ true → (result : Result Answer Deny) → Ends seen.world name call result new.world
+    → needs_no_layers call ≡ true → (result : Result Answer Deny) → Ends seen.world name call result new.world
     → OnErr result (new.world ≡ seen.world → new ≡ seen) → any.Ends kernel_world old name call result new
 ends_seen seen old new is name call has result it kept =
     subst (λ kernel. any.Ends kernel_world kernel name call result new) is

@@ -4,7 +4,7 @@ use Rattle.std.proofs.lemmas.List.Elements.{All-cons}
 use Rattle.vt_laws_runs.specs.Runs.{GrammarsKeepOverlaysOut}
 use Rattle.vt_spec.specs.Language.Calls.Call.{MountOverlay}
 use Rattle.vt_spec.specs.Language.Calls.{Call, Directive, TaskName}
-use Rattle.vt_spec.specs.Language.Script.{Grammar, Who, asked_by, call_asked, call_words, directive_asked, directive_words, each_of, marks, raw_tokens, request_of, request_of_texts, token_text, who_of}
+use Rattle.vt_spec.specs.Language.Script.{Grammar, Who, asked_by, call_asked, call_words, directive_asked, directive_words, each_of, needs_no_layers, raw_tokens, request_of, request_of_texts, token_text, who_of}
 use Rattle.vt_spec.specs.Language.Script.Request.{Asking, Calling}
 use Rattle.vt_spec.specs.Language.Script.Who.{Nobody, Someone}
 use Rattle.vt_spec.specs.Lists.{then_some, when}
@@ -65,6 +65,6 @@ pub grammars_keep_overlays_out : GrammarsKeepOverlaysOut
 grammars_keep_overlays_out grammar out lines = lines_plain grammar out lines
 
 -- the grammar of the program has no mount of an overlay
-pub marks_mount_no_overlay : (call : Call) → marks.has call ≡ true → mounts_overlay call ≡ false
+pub marks_mount_no_overlay : (call : Call) → needs_no_layers call ≡ true → mounts_overlay call ≡ false
 marks_mount_no_overlay (MountOverlay path options flags) has = absurd cc
 marks_mount_no_overlay call has = refl

@@ -525,10 +525,10 @@ abbrev pub marking_call_names : List (List ℕ)
 marking_call_names = codes "whiteout" ∷ codes "opaque" ∷ []
 
 -- the calls on files, tasks, mounts and namespaces, those that make whiteouts and opaque directories, and the list of
--- peer groups, which the product has today
-abbrev pub marks : Grammar
-marks = record {
-  version = One;
+-- peer groups, which the product has today, in a version of the language: the second has the flag nosymfollow too
+abbrev pub marks : Version → Grammar
+marks version = record {
+  version = version;
   knows = λ name. list_any (bytes_eq name) (file_call_names ++ mounting_call_names ++ marking_call_names);
   has = needs_no_layers;
   directs = λ name. bytes_eq name (codes "peers");

@@ -12,6 +12,7 @@ use Rattle.vt_spec.specs.Language.Printed.{reply_line}
 use Rattle.vt_spec.specs.Language.Script.{Grammar, Request, Version, is_silent, lines_of, marks, request_of, whole}
 use Rattle.vt_spec.specs.Language.Limits.{longest_line}
 use Rattle.vt_spec.specs.Language.Script.Request.{Asking, Calling}
+use Rattle.vt_spec.specs.Language.Script.Version.{One}
 use Rattle.vt_spec.specs.Machine.Sealed.{directed, sealed}
 use Rattle.vt_spec.specs.Machine.World.{Filesystem, World, opening}
 
@@ -127,9 +128,13 @@ world_from grammar world number (line ∷ lines) =
 abbrev pub text_of : Grammar → List Bool → List ℕ → List ℕ
 text_of grammar refused script = text_from grammar first_world 1 (lines_of script) refused
 
--- the answers of the product as it is today
-unfoldable pub script_text : List Bool → List ℕ → List ℕ
-script_text refused script = text_of marks refused script
+-- the answers of the product as it is today, in a version of the script's language
+unfoldable pub script_text_as : Version → List Bool → List ℕ → List ℕ
+script_text_as version refused script = text_of (marks version) refused script
+
+-- and those to a script of the first version
+abbrev pub script_text : List Bool → List ℕ → List ℕ
+script_text refused script = script_text_as One refused script
 
 -- the answers of the whole machine, in a version of the script's language
 unfoldable pub machine_text : Version → List Bool → List ℕ → List ℕ
@@ -137,7 +142,7 @@ machine_text version refused script = text_of (whole version) refused script
 
 -- what a proof by computation opens
 unfoldable pub everything : Unit {0}
-unfolding digits script_text machine_text request_of sealed list_permit stat_permit lstat_permit readlink_permit
+unfolding digits script_text_as machine_text request_of sealed list_permit stat_permit lstat_permit readlink_permit
     read_permit exec_permit mkdir_permit symlink_permit whiteout_permit hard_link_permit write_permit
     unlink_permit rmdir_permit rename_permit chmod_permit chown_permit opaque_permit open_permit pread_permit
     pwrite_permit close_permit fork_permit chdir_permit chroot_permit unshare_permit setns_permit
