@@ -4,7 +4,7 @@ use Rattle.std.proofs.Common.{List, None, Option, Some, Result, Err, option_map,
 use Rattle.vt_spec.specs.Language.Calls.{Call}
 use Rattle.vt_spec.specs.Language.Calls as spec
 use Rattle.vt_spec.specs.Lists.{then_some, when}
-use Rattle.vt_spec.specs.Language.Script.{marks, no_more, path_alone, path_word, two_paths, word_then}
+use Rattle.vt_spec.specs.Language.Script.{Version, needs_no_layers, no_more, path_alone, path_word, two_paths, word_then}
 use Rattle.vt_request.specs.declared.request.Call.{Call as KeptCall}
 use Rattle.vt_line.specs.declared.names.CallName.{CallName}
 use Rattle.vt_line.specs.declared.names.CallName.TheVariants.{Pair, Path}
@@ -60,49 +60,49 @@ some_keeps call None keeps some = cc
 some_keeps call (Some x) keeps some = keeps x
 
 -- what the grammar has of calls that it all has
-had : {A : Type 0} (call : A → Call) (words : Option A) → ((x : A) → marks.has (call x) ≡ true) →
-    then_some (option_map call words) (λ call. when (marks.has call) call) ≡ option_map call words
+had : {A : Type 0} (call : A → Call) (words : Option A) → ((x : A) → needs_no_layers (call x) ≡ true) →
+    then_some (option_map call words) (λ call. when (needs_no_layers call) call) ≡ option_map call words
 had call None has = refl
 had call (Some x) has = ap (λ there. when there (call x)) (has x)
 
-path_had : (call : List ℕ → Call) (words : List (List ℕ)) → ((path : List ℕ) → marks.has (call path) ≡ true) →
-    then_some (path_alone call words) (λ call. when (marks.has call) call) ≡ option_map call (lone_path words)
+path_had : (call : List ℕ → Call) (words : List (List ℕ)) → ((path : List ℕ) → needs_no_layers (call path) ≡ true) →
+    then_some (path_alone call words) (λ call. when (needs_no_layers call) call) ≡ option_map call (lone_path words)
 path_had call words has =
-    ap (λ asked. then_some asked (λ call. when (marks.has call) call)) (path_alone-lone call words)
+    ap (λ asked. then_some asked (λ call. when (needs_no_layers call) call)) (path_alone-lone call words)
     ∙ had call (lone_path words) has
 
 pair_had : (call : List ℕ → List ℕ → Call) (words : List (List ℕ))
-    → ((a b : List ℕ) → marks.has (call a b) ≡ true) →
-    then_some (two_paths call words) (λ call. when (marks.has call) call)
+    → ((a b : List ℕ) → needs_no_layers (call a b) ≡ true) →
+    then_some (two_paths call words) (λ call. when (needs_no_layers call) call)
     ≡ option_map (with_pair call) (path_pair words)
 pair_had call words has =
-    ap (λ asked. then_some asked (λ call. when (marks.has call) call)) (two_paths-pair call words)
+    ap (λ asked. then_some asked (λ call. when (needs_no_layers call) call)) (two_paths-pair call words)
     ∙ had (with_pair call) (path_pair words) (λ pair. has pair.0 pair.1)
 
-path_named : (name : PathCall) (words : List (List ℕ))
-    → call_named (Path name) words ≡ option_map (path_call name) (lone_path words)
-path_named path.Ls words = path_had spec.Call.Ls words (λ path. refl)
-path_named path.Stat words = path_had spec.Call.Stat words (λ path. refl)
-path_named path.Lstat words = path_had spec.Call.Lstat words (λ path. refl)
-path_named path.Readlink words = path_had spec.Call.Readlink words (λ path. refl)
-path_named path.Read words = path_had spec.Call.Read words (λ path. refl)
-path_named path.Exec words = path_had spec.Call.Exec words (λ path. refl)
-path_named path.Unlink words = path_had spec.Call.Unlink words (λ path. refl)
-path_named path.Rmdir words = path_had spec.Call.Rmdir words (λ path. refl)
-path_named path.Chdir words = path_had spec.Call.Chdir words (λ path. refl)
-path_named path.Chroot words = path_had spec.Call.Chroot words (λ path. refl)
-path_named path.Umount words = path_had spec.Call.Umount words (λ path. refl)
-path_named path.Lazy words = path_had spec.Call.Lazy words (λ path. refl)
-path_named path.Whiteout words = path_had spec.Call.MakeWhiteout words (λ path. refl)
+path_named : (version : Version) (name : PathCall) (words : List (List ℕ))
+    → call_named version (Path name) words ≡ option_map (path_call name) (lone_path words)
+path_named version path.Ls words = path_had spec.Call.Ls words (λ path. refl)
+path_named version path.Stat words = path_had spec.Call.Stat words (λ path. refl)
+path_named version path.Lstat words = path_had spec.Call.Lstat words (λ path. refl)
+path_named version path.Readlink words = path_had spec.Call.Readlink words (λ path. refl)
+path_named version path.Read words = path_had spec.Call.Read words (λ path. refl)
+path_named version path.Exec words = path_had spec.Call.Exec words (λ path. refl)
+path_named version path.Unlink words = path_had spec.Call.Unlink words (λ path. refl)
+path_named version path.Rmdir words = path_had spec.Call.Rmdir words (λ path. refl)
+path_named version path.Chdir words = path_had spec.Call.Chdir words (λ path. refl)
+path_named version path.Chroot words = path_had spec.Call.Chroot words (λ path. refl)
+path_named version path.Umount words = path_had spec.Call.Umount words (λ path. refl)
+path_named version path.Lazy words = path_had spec.Call.Lazy words (λ path. refl)
+path_named version path.Whiteout words = path_had spec.Call.MakeWhiteout words (λ path. refl)
 
-pair_named : (name : PairCall) (words : List (List ℕ))
-    → call_named (Pair name) words ≡ option_map (with_pair (pair_call name)) (path_pair words)
-pair_named pair.Symlink words = pair_had spec.Call.SymlinkAt words (λ first second. refl)
-pair_named pair.Link words = pair_had spec.Call.LinkTo words (λ first second. refl)
-pair_named pair.Rename words = pair_had spec.Call.Rename words (λ first second. refl)
-pair_named pair.Bind words = pair_had (λ source path. spec.Call.Bind source path false) words (λ first second. refl)
-pair_named pair.Rbind words = pair_had (λ source path. spec.Call.Bind source path true) words (λ first second. refl)
-pair_named pair.Move words = pair_had spec.Call.MoveMount words (λ first second. refl)
+pair_named : (version : Version) (name : PairCall) (words : List (List ℕ))
+    → call_named version (Pair name) words ≡ option_map (with_pair (pair_call name)) (path_pair words)
+pair_named version pair.Symlink words = pair_had spec.Call.SymlinkAt words (λ first second. refl)
+pair_named version pair.Link words = pair_had spec.Call.LinkTo words (λ first second. refl)
+pair_named version pair.Rename words = pair_had spec.Call.Rename words (λ first second. refl)
+pair_named version pair.Bind words = pair_had (λ source path. spec.Call.Bind source path false) words (λ first second. refl)
+pair_named version pair.Rbind words = pair_had (λ source path. spec.Call.Bind source path true) words (λ first second. refl)
+pair_named version pair.Move words = pair_had spec.Call.MoveMount words (λ first second. refl)
 
 -- all of them keep their words
 path_keeps : (name : PathCall) (path : List ℕ) → KeepsWords (path_call name path)
@@ -129,48 +129,48 @@ pair_keeps pair.Rbind first second = tt
 pair_keeps pair.Move first second = tt
 
 -- a path alone, or two, that were not read or not kept
-path_unread : (name : PathCall) (words : List (List ℕ)) (e : ReadError) →
+path_unread : (version : Version) (name : PathCall) (words : List (List ℕ)) (e : ReadError) →
     ArePathsRead {B = Vec ℕ} (λ path. path.items) (lone_path words) (Err e)
-    → IsCallRead (call_named (Path name) words) (Err e)
-path_unread name words Grammar none = path_named name words ∙ ap (option_map (path_call name)) none
-path_unread name words Memory some =
-    subst (λ asked. IsSomeAnd asked KeepsWords) (sym (path_named name words))
+    → IsCallRead (call_named version (Path name) words) (Err e)
+path_unread version name words Grammar none = path_named version name words ∙ ap (option_map (path_call name)) none
+path_unread version name words Memory some =
+    subst (λ asked. IsSomeAnd asked KeepsWords) (sym (path_named version name words))
     (some_keeps (path_call name) (lone_path words) (path_keeps name) some)
 
-pair_unread : (name : PairCall) (words : List (List ℕ)) (e : ReadError) →
+pair_unread : (version : Version) (name : PairCall) (words : List (List ℕ)) (e : ReadError) →
     ArePathsRead {B = Vec ℕ × Vec ℕ} (λ paths. (paths.0.items, paths.1.items)) (path_pair words) (Err e) →
-    IsCallRead (call_named (Pair name) words) (Err e)
-pair_unread name words Grammar none = pair_named name words ∙ ap (option_map (with_pair (pair_call name))) none
-pair_unread name words Memory some =
-    subst (λ asked. IsSomeAnd asked KeepsWords) (sym (pair_named name words))
+    IsCallRead (call_named version (Pair name) words) (Err e)
+pair_unread version name words Grammar none = pair_named version name words ∙ ap (option_map (with_pair (pair_call name))) none
+pair_unread version name words Memory some =
+    subst (λ asked. IsSomeAnd asked KeepsWords) (sym (pair_named version name words))
     (some_keeps (with_pair (pair_call name)) (path_pair words) (λ pair. pair_keeps name pair.0 pair.1) some)
 
-pub path_refused : (name : CallName) (of : PathCall) (words : List (List ℕ)) {read : Result KeptCall ReadError}
+pub path_refused : (version : Version) (name : CallName) (of : PathCall) (words : List (List ℕ)) {read : Result KeptCall ReadError}
     (e : ReadError) →
     name ≡ Path of → read ≡ Err e → ArePathsRead {B = Vec ℕ} (λ path. path.items) (lone_path words) (Err e)
-    → IsCallRead (call_named name words) read
-path_refused name of words {read} e is error paths =
-    subst (λ read. IsCallRead (call_named name words) read) (sym error)
-    (subst (λ name. IsCallRead (call_named name words) (Err e)) (sym is) (path_unread of words e paths))
+    → IsCallRead (call_named version name words) read
+path_refused version name of words {read} e is error paths =
+    subst (λ read. IsCallRead (call_named version name words) read) (sym error)
+    (subst (λ name. IsCallRead (call_named version name words) (Err e)) (sym is) (path_unread version of words e paths))
 
-pub pair_refused : (name : CallName) (of : PairCall) (words : List (List ℕ)) {read : Result KeptCall ReadError}
+pub pair_refused : (version : Version) (name : CallName) (of : PairCall) (words : List (List ℕ)) {read : Result KeptCall ReadError}
     (e : ReadError) →
     name ≡ Pair of → read ≡ Err e → ArePathsRead {B = Vec ℕ × Vec ℕ} (λ paths. (paths.0.items, paths.1.items))
     (path_pair words) (Err e) →
-    IsCallRead (call_named name words) read
-pair_refused name of words {read} e is error paths =
-    subst (λ read. IsCallRead (call_named name words) read) (sym error)
-    (subst (λ name. IsCallRead (call_named name words) (Err e)) (sym is) (pair_unread of words e paths))
+    IsCallRead (call_named version name words) read
+pair_refused version name of words {read} e is error paths =
+    subst (λ read. IsCallRead (call_named version name words) read) (sym error)
+    (subst (λ name. IsCallRead (call_named version name words) (Err e)) (sym is) (pair_unread version of words e paths))
 
 -- and those that were
-pub path_asked : (name : CallName) (of : PathCall) (words : List (List ℕ)) (path : List ℕ) → name ≡ Path of
+pub path_asked : (version : Version) (name : CallName) (of : PathCall) (words : List (List ℕ)) (path : List ℕ) → name ≡ Path of
     → lone_path words ≡ Some path →
-    call_named name words ≡ Some (path_call of path)
-path_asked name of words path is e =
-    ap (λ name. call_named name words) is ∙ path_named of words ∙ ap (option_map (path_call of)) e
+    call_named version name words ≡ Some (path_call of path)
+path_asked version name of words path is e =
+    ap (λ name. call_named version name words) is ∙ path_named version of words ∙ ap (option_map (path_call of)) e
 
-pub pair_asked : (name : CallName) (of : PairCall) (words : List (List ℕ)) (a b : List ℕ) → name ≡ Pair of
+pub pair_asked : (version : Version) (name : CallName) (of : PairCall) (words : List (List ℕ)) (a b : List ℕ) → name ≡ Pair of
     → path_pair words ≡ Some (a, b) →
-    call_named name words ≡ Some (pair_call of a b)
-pair_asked name of words a b is e =
-    ap (λ name. call_named name words) is ∙ pair_named of words ∙ ap (option_map (with_pair (pair_call of))) e
+    call_named version name words ≡ Some (pair_call of a b)
+pair_asked version name of words a b is e =
+    ap (λ name. call_named version name words) is ∙ pair_named version of words ∙ ap (option_map (with_pair (pair_call of))) e

@@ -6,9 +6,9 @@ use Rattle.vt_spec.specs.Language.Calls.{Call, Directive, plain_flags}
 use Rattle.vt_spec.specs.Language.Calls as asked
 use Rattle.vt_spec.specs.Language.Calls.Call.{MountOverlay, MountPlain}
 use Rattle.vt_spec.specs.Lists.{then_some, when}
-use Rattle.vt_spec.specs.Language.Script.{Request, access_word, asked_by, attribute_words, bytes_word, call_asked, call_words, capabilities_word, chown_call, creation_words, descriptor_word, descriptor_words, directive_asked, each_of, flags_or_plain, flags_word, fork_words, groups_word, identity_word, kept_or_identity, marks, may_have, mode_word, mount_words, mounting_words, naming_words, no_more, offset_word, options_of, path_alone, path_word, raw_tokens, request_of, request_of_texts, some_tasks, task_word, task_words, token_text, two_paths, type_word, word_then, yes_or_no_word}
+use Rattle.vt_spec.specs.Language.Script.{Request, Version, access_word, asked_by, attribute_words, bytes_word, call_asked, call_words, capabilities_word, chown_call, creation_words, descriptor_word, descriptor_words, directive_asked, each_of, flags_or_plain, flags_word, fork_words, groups_word, identity_word, kept_or_identity, marks, may_have, mode_word, mount_words, mounting_words, naming_words, needs_no_layers, no_more, offset_word, options_of, path_alone, path_word, raw_tokens, request_of, request_of_texts, second_words, some_tasks, task_word, task_words, token_text, two_paths, type_word, word_then, yes_or_no_word}
 use Rattle.vt_spec.specs.Language.Script.Request.{Asking, Calling}
-use Rattle.vt_spec.specs.Language.Script.Version.{One}
+use Rattle.vt_spec.specs.Language.Script.Version.{One, Two}
 use Rattle.vt_spec.specs.Language.Script.Who.{Nobody, Someone}
 use Rattle.vt_line.specs.declared.calls.ReadError.{ReadError}
 use Rattle.vt_line.specs.declared.calls.ReadError.TheVariants.{Grammar, Memory}
@@ -46,7 +46,7 @@ may_have-stops read b [] h = absurd (omega arith)
 may_have-stops read b (word ∷ rest) h = none_then (read word) (λ a. no_more (b (Some a)) rest)
     (λ a. no_more-stops (b (Some a)) rest (omega arith))
 
-module _ (words : List (List ℕ)) (many : 4 < length words) where
+module _ (version : Version) (words : List (List ℕ)) (many : 4 < length words) where
   -- a branch of the grammar, and those after it
   neither : {B : Type 0} (test : Bool) (this others : Option B) → this ≡ None → others ≡ None
       → cond test this others ≡ None
@@ -67,22 +67,26 @@ module _ (words : List (List ℕ)) (many : 4 < length words) where
       (λ first. word_then-stops 0 path_word (λ second. no_more (call first second))
       (λ second. no_more-stops (call first second)))) (lit≤ tt)
 
-  mounted : (kind : List ℕ) (rest : List (List ℕ)) → 3 < length rest → mount_words One kind rest ≡ None
+  mounted : (kind : List ℕ) (rest : List (List ℕ)) → 3 < length rest → mount_words version kind rest ≡ None
   mounted kind rest h =
       neither (bytes_eq kind (codes "plain")) _ _
-      (word_then-stops 1 path_word (λ path. flags_or_plain One (λ given. MountPlain path given))
-      (λ path. may_have-stops (flags_word One) (λ given. MountPlain path (unwrap_or given plain_flags))) rest
+      (word_then-stops 1 path_word (λ path. flags_or_plain version (λ given. MountPlain path given))
+      (λ path. may_have-stops (flags_word version) (λ given. MountPlain path (unwrap_or given plain_flags))) rest
       (omega arith))
       (neither (bytes_eq kind (codes "overlay")) _ _
       (word_then-stops 2 path_word (λ path.
-      word_then bytes_word (λ options. flags_or_plain One (λ given. MountOverlay path (options_of options) given)))
+      word_then bytes_word (λ options. flags_or_plain version (λ given. MountOverlay path (options_of options) given)))
       (λ path. word_then-stops 1 bytes_word
-      (λ options. flags_or_plain One (λ given. MountOverlay path (options_of options) given))
-      (λ options. may_have-stops (flags_word One)
+      (λ options. flags_or_plain version (λ given. MountOverlay path (options_of options) given))
+      (λ options. may_have-stops (flags_word version)
       (λ given. MountOverlay path (options_of options) (unwrap_or given plain_flags)))) rest (omega arith))
       refl)
 
-  mounting-none : (name : List ℕ) → mounting_words One name words ≡ None
+  second-none : (version : Version) (name : List ℕ) → second_words version name words ≡ None
+  second-none One name = refl
+  second-none Two name = neither (bytes_eq name (codes "pivot_root")) _ _ (a_pair asked.Call.PivotRoot) refl
+
+  mounting-none : (name : List ℕ) → mounting_words version name words ≡ None
   mounting-none name =
       neither (bytes_eq name (codes "mount")) _ _ (by 4 _ (word_then-stops 3 bytes_word _ mounted) (lit≤ tt))
       (neither (bytes_eq name (codes "bind")) _ _ (a_pair _)
@@ -91,7 +95,7 @@ module _ (words : List (List ℕ)) (many : 4 < length words) where
       (neither (bytes_eq name (codes "umount")) _ _ (one_path _)
       (neither (bytes_eq name (codes "lazy")) _ _ (one_path _)
       (neither (bytes_eq name (codes "remount")) _ _
-      (by 2 _ (word_then-stops 1 path_word _ (λ path. word_then-stops 0 (flags_word One) _ (λ given. no_more-stops _)))
+      (by 2 _ (word_then-stops 1 path_word _ (λ path. word_then-stops 0 (flags_word version) _ (λ given. no_more-stops _)))
       (lit≤ tt))
       (neither (bytes_eq name (codes "type")) _ _
       (by 2 _ (word_then-stops 1 path_word _ (λ path. word_then-stops 0 type_word _ (λ word. no_more-stops _)))
@@ -99,7 +103,7 @@ module _ (words : List (List ℕ)) (many : 4 < length words) where
       (neither (bytes_eq name (codes "rtype")) _ _
       (by 2 _ (word_then-stops 1 path_word _ (λ path. word_then-stops 0 type_word _ (λ word. no_more-stops _)))
       (lit≤ tt))
-      (neither (bytes_eq name (codes "mounts")) _ _ (by 0 _ (no_more-stops _) (lit≤ tt)) refl)))))))))
+      (neither (bytes_eq name (codes "mounts")) _ _ (by 0 _ (no_more-stops _) (lit≤ tt)) (second-none version name))))))))))
 
   forked : Stops 4 fork_words
   forked [] h = absurd (omega arith)
@@ -108,7 +112,7 @@ module _ (words : List (List ℕ)) (many : 4 < length words) where
       (λ uid. word_then-stops 2 identity_word _ (λ gid. word_then-stops 1 groups_word _ (λ groups.
       word_then-stops 0 capabilities_word _ (λ capabilities. no_more-stops _)))) (word ∷ rest) h
 
-  task-none : (name : List ℕ) → task_words One name words ≡ None
+  task-none : (name : List ℕ) → task_words version name words ≡ None
   task-none name =
       neither (bytes_eq name (codes "chdir")) _ _ (one_path _)
       (neither (bytes_eq name (codes "chroot")) _ _ (one_path _)
@@ -126,7 +130,7 @@ module _ (words : List (List ℕ)) (many : 4 < length words) where
       neither (bytes_eq word (codes "create")) _ _ (word_then-stops 0 mode_word _ (λ mode. no_more-stops _) rest (omega arith))
       (neither (bytes_eq word (codes "excl")) _ _ (word_then-stops 0 mode_word _ (λ mode. no_more-stops _) rest (omega arith)) refl)
 
-  descriptor-none : (name : List ℕ) → descriptor_words One name words ≡ None
+  descriptor-none : (name : List ℕ) → descriptor_words version name words ≡ None
   descriptor-none name =
       neither (bytes_eq name (codes "open")) _ _
       (by 4 _ (word_then-stops 3 path_word _ (λ path. word_then-stops 2 access_word _
@@ -145,7 +149,7 @@ module _ (words : List (List ℕ)) (many : 4 < length words) where
   chown-stops path None (Some gid) rest h = no_more-stops _ rest h
   chown-stops path (Some uid) gid rest h = no_more-stops _ rest h
 
-  attribute-none : (name : List ℕ) → attribute_words One name words ≡ None
+  attribute-none : (name : List ℕ) → attribute_words version name words ≡ None
   attribute-none name =
       neither (bytes_eq name (codes "chmod")) _ _
       (by 2 _ (word_then-stops 1 path_word _ (λ path. word_then-stops 0 mode_word _ (λ mode. no_more-stops _)))
@@ -158,7 +162,7 @@ module _ (words : List (List ℕ)) (many : 4 < length words) where
       (lit≤ tt))
       (descriptor-none name)))
 
-  naming-none : (name : List ℕ) → naming_words One name words ≡ None
+  naming-none : (name : List ℕ) → naming_words version name words ≡ None
   naming-none name =
       neither (bytes_eq name (codes "mkdir")) _ _
       (by 2 _ (word_then-stops 1 path_word _ (λ path. may_have-stops mode_word (asked.Call.Mkdir path))) (lit≤ tt))
@@ -170,7 +174,7 @@ module _ (words : List (List ℕ)) (many : 4 < length words) where
       (neither (bytes_eq name (codes "rename")) _ _ (a_pair asked.Call.Rename) (attribute-none name)))))))
 
   -- no call has more than four words
-  call-none : (name : List ℕ) → call_words One name words ≡ None
+  call-none : (name : List ℕ) → call_words version name words ≡ None
   call-none name =
       neither (bytes_eq name (codes "ls")) _ _ (one_path asked.Call.Ls)
       (neither (bytes_eq name (codes "stat")) _ _ (one_path asked.Call.Stat)
@@ -182,133 +186,134 @@ module _ (words : List (List ℕ)) (many : 4 < length words) where
       (lit≤ tt))
       (neither (bytes_eq name (codes "exec")) _ _ (one_path asked.Call.Exec) (naming-none name)))))))
 
--- Whose line it is
-someone-asked : (task : Option (List ℕ)) (words : List (List ℕ)) →
-    asked_by marks (option_map Someone task) words ≡ then_some task (λ task. call_asked marks task words)
-someone-asked None words = refl
-someone-asked (Some task) words = refl
+module _ (version : Version) where
+  -- Whose line it is
+  someone-asked : (task : Option (List ℕ)) (words : List (List ℕ)) →
+      asked_by (marks version) (option_map Someone task) words ≡ then_some task (λ task. call_asked (marks version) task words)
+  someone-asked None words = refl
+  someone-asked (Some task) words = refl
 
-texts-someones : (text : List ℕ) (words : List (List ℕ)) → bytes_eq text (codes "!") ≡ false
-    → request_of_texts marks (text ∷ words) ≡ asked_by marks (option_map Someone (task_word text)) words
-texts-someones text words other =
-    ap (λ test. asked_by marks (cond test (Some Nobody) (option_map Someone (task_word text))) words) other
+  texts-someones : (text : List ℕ) (words : List (List ℕ)) → bytes_eq text (codes "!") ≡ false
+      → request_of_texts (marks version) (text ∷ words) ≡ asked_by (marks version) (option_map Someone (task_word text)) words
+  texts-someones text words other =
+      ap (λ test. asked_by (marks version) (cond test (Some Nobody) (option_map Someone (task_word text))) words) other
 
-texts-nobodys : (text : List ℕ) (words : List (List ℕ)) → bytes_eq text (codes "!") ≡ true
-    → request_of_texts marks (text ∷ words) ≡ directive_asked marks words
-texts-nobodys text words same =
-    ap (λ test. asked_by marks (cond test (Some Nobody) (option_map Someone (task_word text))) words) same
+  texts-nobodys : (text : List ℕ) (words : List (List ℕ)) → bytes_eq text (codes "!") ≡ true
+      → request_of_texts (marks version) (text ∷ words) ≡ directive_asked (marks version) words
+  texts-nobodys text words same =
+      ap (λ test. asked_by (marks version) (cond test (Some Nobody) (option_map Someone (task_word text))) words) same
 
--- the names of the product's calls are known
-path-known : (name : PathCall) → marks.knows (path_text name) ≡ true
-path-known path.Ls = refl
-path-known path.Stat = refl
-path-known path.Lstat = refl
-path-known path.Readlink = refl
-path-known path.Read = refl
-path-known path.Exec = refl
-path-known path.Unlink = refl
-path-known path.Rmdir = refl
-path-known path.Chdir = refl
-path-known path.Chroot = refl
-path-known path.Umount = refl
-path-known path.Lazy = refl
-path-known path.Whiteout = refl
+  -- the names of the product's calls are known
+  path-known : (name : PathCall) → (marks version).knows (path_text name) ≡ true
+  path-known path.Ls = refl
+  path-known path.Stat = refl
+  path-known path.Lstat = refl
+  path-known path.Readlink = refl
+  path-known path.Read = refl
+  path-known path.Exec = refl
+  path-known path.Unlink = refl
+  path-known path.Rmdir = refl
+  path-known path.Chdir = refl
+  path-known path.Chroot = refl
+  path-known path.Umount = refl
+  path-known path.Lazy = refl
+  path-known path.Whiteout = refl
 
-pair-known : (name : PairCall) → marks.knows (pair_text name) ≡ true
-pair-known pair.Symlink = refl
-pair-known pair.Link = refl
-pair-known pair.Rename = refl
-pair-known pair.Bind = refl
-pair-known pair.Rbind = refl
-pair-known pair.Move = refl
+  pair-known : (name : PairCall) → (marks version).knows (pair_text name) ≡ true
+  pair-known pair.Symlink = refl
+  pair-known pair.Link = refl
+  pair-known pair.Rename = refl
+  pair-known pair.Bind = refl
+  pair-known pair.Rbind = refl
+  pair-known pair.Move = refl
 
-name-known : (name : CallName) → marks.knows (name_text name) ≡ true
-name-known (Path name) = path-known name
-name-known (Pair name) = pair-known name
-name-known Write = refl
-name-known Mkdir = refl
-name-known Chmod = refl
-name-known Chown = refl
-name-known Opaque = refl
-name-known Open = refl
-name-known Pread = refl
-name-known Pwrite = refl
-name-known Close = refl
-name-known Umask = refl
-name-known Drop = refl
-name-known Fork = refl
-name-known Exit = refl
-name-known Unshare = refl
-name-known Setns = refl
-name-known Mount = refl
-name-known Remount = refl
-name-known SetType = refl
-name-known SetTypeRecursive = refl
-name-known Mounts = refl
+  name-known : (name : CallName) → (marks version).knows (name_text name) ≡ true
+  name-known (Path name) = path-known name
+  name-known (Pair name) = pair-known name
+  name-known Write = refl
+  name-known Mkdir = refl
+  name-known Chmod = refl
+  name-known Chown = refl
+  name-known Opaque = refl
+  name-known Open = refl
+  name-known Pread = refl
+  name-known Pwrite = refl
+  name-known Close = refl
+  name-known Umask = refl
+  name-known Drop = refl
+  name-known Fork = refl
+  name-known Exit = refl
+  name-known Unshare = refl
+  name-known Setns = refl
+  name-known Mount = refl
+  name-known Remount = refl
+  name-known SetType = refl
+  name-known SetTypeRecursive = refl
+  name-known Mounts = refl
 
-call-asked : (task : List ℕ) (name : CallName) (words : List (List ℕ)) →
-    call_asked marks task (name_text name ∷ words) ≡ option_map (Calling task) (call_named name words)
-call-asked task name words = ap (λ known. cond known (option_map (Calling task) (call_named name words)) None)
-    (name-known name)
+  call-asked : (task : List ℕ) (name : CallName) (words : List (List ℕ)) →
+      call_asked (marks version) task (name_text name ∷ words) ≡ option_map (Calling task) (call_named version name words)
+  call-asked task name words = ap (λ known. cond known (option_map (Calling task) (call_named version name words)) None)
+      (name-known name)
 
--- what a task asks for, once it and its call are known
-pub task-named : (first second : List ℕ) (words : List (List ℕ)) (task : List ℕ) (name : CallName)
-    → task_word first ≡ Some task → second ≡ name_text name
-    → asked_by marks (option_map Someone (task_word first)) (second ∷ words)
-    ≡ option_map (Calling task) (call_named name words)
-task-named first second words task name e f =
-    someone-asked (task_word first) (second ∷ words)
-    ∙ ap (λ task. then_some task (λ task. call_asked marks task (second ∷ words))) e
-    ∙ ap (λ second. call_asked marks task (second ∷ words)) f ∙ call-asked task name words
+  -- what a task asks for, once it and its call are known
+  pub task-named : (first second : List ℕ) (words : List (List ℕ)) (task : List ℕ) (name : CallName)
+      → task_word first ≡ Some task → second ≡ name_text name
+      → asked_by (marks version) (option_map Someone (task_word first)) (second ∷ words)
+      ≡ option_map (Calling task) (call_named version name words)
+  task-named first second words task name e f =
+      someone-asked (task_word first) (second ∷ words)
+      ∙ ap (λ task. then_some task (λ task. call_asked (marks version) task (second ∷ words))) e
+      ∙ ap (λ second. call_asked (marks version) task (second ∷ words)) f ∙ call-asked task name words
 
-asked-none : (test : Bool) (task : List ℕ) (call : Option Call) → call ≡ None
-    → cond test (option_map (Calling task) (then_some call (λ call. when (marks.has call) call))) None ≡ None
-asked-none true task call e = ap
-    (λ call. option_map (Calling task) (then_some call (λ call. when (marks.has call) call))) e
-asked-none false task call e = refl
+  asked-none : (test : Bool) (task : List ℕ) (call : Option Call) → call ≡ None
+      → cond test (option_map (Calling task) (then_some call (λ call. when (needs_no_layers call) call))) None ≡ None
+  asked-none true task call e = ap
+      (λ call. option_map (Calling task) (then_some call (λ call. when (needs_no_layers call) call))) e
+  asked-none false task call e = refl
 
--- the directive has no words
-directive-many : (name word : List ℕ) (words : List (List ℕ)) → directive_asked marks (name ∷ word ∷ words) ≡ None
-directive-many name word words = by (bytes_eq name (codes "peers")) where
-  others : Option Directive
-  others = cond (bytes_eq name (codes "sealed")) (some_tasks (word ∷ words)) None
+  -- the directive has no words
+  directive-many : (name word : List ℕ) (words : List (List ℕ)) → directive_asked (marks version) (name ∷ word ∷ words) ≡ None
+  directive-many name word words = by (bytes_eq name (codes "peers")) where
+    others : Option Directive
+    others = cond (bytes_eq name (codes "sealed")) (some_tasks (word ∷ words)) None
 
-  by : (test : Bool) → cond test (option_map Asking (cond test None others)) None ≡ None
-  by true = refl
-  by false = refl
+    by : (test : Bool) → cond test (option_map Asking (cond test None others)) None ≡ None
+    by true = refl
+    by false = refl
 
-request-many : (texts : List (List ℕ)) → 6 < length texts → request_of_texts marks texts ≡ None
-request-many [] h = absurd (omega arith)
-request-many (first ∷ []) h = absurd (omega arith)
-request-many (first ∷ name ∷ []) h = absurd (omega arith)
-request-many (first ∷ name ∷ word ∷ words) h = by_test (bytes_eq first (codes "!")) refl where
-  by_test : (test : Bool) → bytes_eq first (codes "!") ≡ test
-      → request_of_texts marks (first ∷ name ∷ word ∷ words) ≡ None
-  by_test true e = texts-nobodys first (name ∷ word ∷ words) e ∙ directive-many name word words
-  by_test false e =
-      texts-someones first (name ∷ word ∷ words) e ∙ someone-asked (task_word first) (name ∷ word ∷ words)
-      ∙ none_then (task_word first) (λ task. call_asked marks task (name ∷ word ∷ words))
-      (λ task. asked-none (marks.knows name) task
-      (call_words One name (word ∷ words)) (call-none (word ∷ words) (omega arith) name))
+  request-many : (texts : List (List ℕ)) → 6 < length texts → request_of_texts (marks version) texts ≡ None
+  request-many [] h = absurd (omega arith)
+  request-many (first ∷ []) h = absurd (omega arith)
+  request-many (first ∷ name ∷ []) h = absurd (omega arith)
+  request-many (first ∷ name ∷ word ∷ words) h = by_test (bytes_eq first (codes "!")) refl where
+    by_test : (test : Bool) → bytes_eq first (codes "!") ≡ test
+        → request_of_texts (marks version) (first ∷ name ∷ word ∷ words) ≡ None
+    by_test true e = texts-nobodys first (name ∷ word ∷ words) e ∙ directive-many name word words
+    by_test false e =
+        texts-someones first (name ∷ word ∷ words) e ∙ someone-asked (task_word first) (name ∷ word ∷ words)
+        ∙ none_then (task_word first) (λ task. call_asked (marks version) task (name ∷ word ∷ words))
+        (λ task. asked-none ((marks version).knows name) task
+        (call_words version name (word ∷ words)) (call-none version (word ∷ words) (omega arith) name))
 
--- the texts are as many as the tokens
-many_texts : (texts : Option (List (List ℕ))) → ((all : List (List ℕ)) → texts ≡ Some all → 6 < length all)
-    → then_some texts (request_of_texts marks) ≡ None
-many_texts None many = refl
-many_texts (Some all) many = request-many all (many all refl)
+  -- the texts are as many as the tokens
+  many_texts : (texts : Option (List (List ℕ))) → ((all : List (List ℕ)) → texts ≡ Some all → 6 < length all)
+      → then_some texts (request_of_texts (marks version)) ≡ None
+  many_texts None many = refl
+  many_texts (Some all) many = request-many all (many all refl)
 
-pub request-few : (line : List ℕ)
-    → request_of marks line ≡ then_some (few_texts line) (request_of_texts marks)
-unfolding request_of
-request-few line = by_test (leb (length (raw_tokens line)) 6) refl where
-  by_test : (test : Bool) → leb (length (raw_tokens line)) 6 ≡ test →
-      then_some (each_of token_text (raw_tokens line)) (request_of_texts marks)
-      ≡ then_some (cond test (each_of token_text (raw_tokens line)) None) (request_of_texts marks)
-  by_test true e = refl
-  by_test false e =
-      let many : 6 < length (raw_tokens line) = grind (arith, nat_tests) in
-      many_texts (each_of token_text (raw_tokens line))
-      (λ all is. let same = each_of-length token_text (raw_tokens line) all is in omega arith)
+  pub request-few : (line : List ℕ)
+      → request_of (marks version) line ≡ then_some (few_texts line) (request_of_texts (marks version))
+  unfolding request_of
+  request-few line = by_test (leb (length (raw_tokens line)) 6) refl where
+    by_test : (test : Bool) → leb (length (raw_tokens line)) 6 ≡ test →
+        then_some (each_of token_text (raw_tokens line)) (request_of_texts (marks version))
+        ≡ then_some (cond test (each_of token_text (raw_tokens line)) None) (request_of_texts (marks version))
+    by_test true e = refl
+    by_test false e =
+        let many : 6 < length (raw_tokens line) = grind (arith, nat_tests) in
+        many_texts (each_of token_text (raw_tokens line))
+        (λ all is. let same = each_of-length token_text (raw_tokens line) all is in omega arith)
 
 -- how a call was read is how the request was
 some_takes : (task : List ℕ) (call : Option Call) → IsSomeAnd call KeepsWords

@@ -2,9 +2,8 @@
 use Rattle.std.specs.Prelude.{List, None, Option, Some, length, ℕ, ◌<◌, ◌≡◌, ◌⊎◌, IsSome, IsSomeAnd, Result, Ok, Err}
 use Rattle.vt_spec.specs.Language.Calls as spec
 use Rattle.vt_spec.specs.Language.Calls.Call.{Close, Drop, Exit, Fork, ListMounts, Pread, Setns, Umask, Unshare}
-use Rattle.vt_spec.specs.Language.Script.{Request, call_words, marks, no_more, path_word, word_then}
+use Rattle.vt_spec.specs.Language.Script.{Request, Version, call_words, needs_no_layers, no_more, path_word, word_then}
 use Rattle.vt_spec.specs.Language.Script.Request.{Asking, Calling}
-use Rattle.vt_spec.specs.Language.Script.Version.{One}
 use Rattle.vt_spec.specs.Lists.{then_some, when}
 use Rattle.vt_request.specs.declared.request.Call.{Call}
 use Rattle.vt_request.specs.declared.task.TheConstants.{INLINE_NUMBERS}
@@ -36,12 +35,12 @@ abbrev pub TakesMemory : Request → Type 0
 TakesMemory (Calling task call) = KeepsWords call ⊎ (INLINE_NUMBERS < length task)
 TakesMemory (Asking directive) = ⊥
 
--- the call that the language has for a name and words, and the same if the grammar has it
-abbrev pub call_worded : CallName → List (List ℕ) → Option spec.Call
-call_worded name words = call_words One (name_text name) words
+-- the call that a version of the language has for a name and words, and the same if the grammar has it
+abbrev pub call_worded : Version → CallName → List (List ℕ) → Option spec.Call
+call_worded version name words = call_words version (name_text name) words
 
-abbrev pub call_named : CallName → List (List ℕ) → Option spec.Call
-call_named name words = then_some (call_worded name words) (λ call. when (marks.has call) call)
+abbrev pub call_named : Version → CallName → List (List ℕ) → Option spec.Call
+call_named version name words = then_some (call_worded version name words) (λ call. when (needs_no_layers call) call)
 
 -- a call was read, or why none was
 abbrev pub IsCallRead : Option spec.Call → Result Call ReadError → Type 0

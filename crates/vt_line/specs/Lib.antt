@@ -3,3 +3,4 @@ pub mod Lines
 pub mod Names
 pub mod Printing
 pub mod Tokens
+pub mod Versions

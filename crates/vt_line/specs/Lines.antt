@@ -1,6 +1,6 @@
 -- What a line of a script says.
 use Rattle.std.specs.Prelude.{◌≡◌, ◌≤◌, ℕ, true, false, List, length, Some}
-use Rattle.vt_spec.specs.Language.Script.{is_silent, marks, request_of}
+use Rattle.vt_spec.specs.Language.Script.{Version, is_silent, marks, request_of}
 use Rattle.vt_spec.specs.Language.Limits.{longest_line}
 use Rattle.vt_spec.specs.Language.Script.Request.{Asking, Calling}
 use Rattle.vt_line.specs.declared.line.Line.{Line}
@@ -15,10 +15,11 @@ IsSilent text = (length text ≤ longest_line) × (is_silent text ≡ true)
 abbrev pub IsSpoken : List ℕ → Type 0
 IsSpoken text = (length text ≤ longest_line) × (is_silent text ≡ false)
 
--- the line is what the text says, in the grammar of the calls on files, tasks, mounts and namespaces, of whiteouts and
--- opaque directories, and of the list of peer groups
-abbrev pub IsReadingOf : List ℕ → Line → Type 0
-IsReadingOf text Silent = IsSilent text
-IsReadingOf text (Call task call) = IsSpoken text × (request_of marks text ≡ Some (Calling task (call_of call)))
-IsReadingOf text (Ask directive) =
-    IsSpoken text × (request_of marks text ≡ Some (Asking (directive_of directive)))
+-- the line is what the text says, in a version of the grammar of the calls on files, tasks, mounts and namespaces, of
+-- whiteouts and opaque directories, and of the list of peer groups
+abbrev pub IsReadingOf : Version → List ℕ → Line → Type 0
+IsReadingOf version text Silent = IsSilent text
+IsReadingOf version text (Call task call) =
+    IsSpoken text × (request_of (marks version) text ≡ Some (Calling task (call_of call)))
+IsReadingOf version text (Ask directive) =
+    IsSpoken text × (request_of (marks version) text ≡ Some (Asking (directive_of directive)))

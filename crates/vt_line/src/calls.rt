@@ -2,12 +2,14 @@
 ghost use Rattle.std.specs.Prelude.{◌≡◌, option_map};
 ghost use Rattle.std.specs.Global.{Vec};
 ghost use Rattle.vt_line.specs.Calls.{call_named, lone_path, path_pair, ArePathsRead, IsCallRead};
+ghost use Rattle.vt_line.specs.Versions.{version_of};
 
 mod files;
 mod mounting;
 mod tasks;
 
 use crate::names::CallName;
+use crate::version::Version;
 use crate::words::{Words, path_word};
 use std::alloc::{AllocError, Global};
 use vt_request::{Call, LookCall, TaskCall};
@@ -72,9 +74,14 @@ fn paths(alloc: Global, words: Words<'_>) -> Result<(Vec<u8>, Vec<u8>), ReadErro
     Ok((first.to_vec(alloc)?, second.to_vec(alloc)?))
 }
 
-/// The call of this name with these words. What it keeps is copied last.
-pub fn call(alloc: Global, name: CallName, words: Words<'_>) -> Result<Call, ReadError>
-    ensures { IsCallRead (call_named name words.entry) result }
+/// The call of this name with these words, in a version of the language. What it keeps is copied last.
+pub fn call(
+    version: Version,
+    alloc: Global,
+    name: CallName,
+    words: Words<'_>,
+) -> Result<Call, ReadError>
+    ensures { IsCallRead (call_named (version_of version) name words.entry) result }
 {
     match name {
         CallName::Path(name) => Ok(name.call(path(alloc, words)?)),
@@ -103,8 +110,8 @@ pub fn call(alloc: Global, name: CallName, words: Words<'_>) -> Result<Call, Rea
             .map(|()| Call::Task(TaskCall::Unshare))
             .ok_or(ReadError::Grammar),
         CallName::Setns => tasks::setns(alloc, words),
-        CallName::Mount => mounting::mount(alloc, words),
-        CallName::Remount => mounting::remount(alloc, words),
+        CallName::Mount => mounting::mount(version, alloc, words),
+        CallName::Remount => mounting::remount(version, alloc, words),
         CallName::SetType => mounting::set_type(alloc, words, false),
         CallName::SetTypeRecursive => mounting::set_type(alloc, words, true),
         CallName::Mounts => words

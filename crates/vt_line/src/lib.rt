@@ -11,4 +11,5 @@ mod number;
 mod peers;
 pub mod print;
 mod token;
+pub mod version;
 mod words;

@@ -4,6 +4,7 @@ ghost use Rattle.vt_spec.specs.Errors.{denial};
 ghost use Rattle.vt_spec.specs.Language.Script.{asked_by, directive_asked, marks};
 ghost use Rattle.vt_spec.specs.Language.Script.{request_of, request_of_texts, task_word};
 ghost use Rattle.vt_spec.specs.Language.Script.Request.{Asking};
+ghost use Rattle.vt_spec.specs.Language.Script.Version.{One};
 ghost use Rattle.vt_spec.specs.Language.Script.Who.{Someone};
 ghost use Rattle.vt_spec.specs.Language.Limits.{longest_line};
 ghost use Rattle.vt_spec.specs.declared.errors.Rule.TheVariants.{S1, S5};
@@ -11,10 +12,12 @@ ghost use Rattle.vt_request.specs.Requests.{directive_of};
 ghost use Rattle.vt_line.specs.Calls.{IsRequestRead, TakesMemory};
 ghost use Rattle.vt_line.specs.Lines.{IsSilent, IsSpoken, IsReadingOf};
 ghost use Rattle.vt_line.specs.Tokens.{texts_of};
+ghost use Rattle.vt_line.specs.Versions.{version_of};
 
 use crate::calls::{ReadError, call};
 use crate::names::CallName;
 use crate::token::{Texts, Unescaped, is_silent, is_unescaped, unescaped_texts};
+use crate::version::Version;
 use crate::words::{Words, is_task, task_name};
 use std::alloc::Global;
 use vt_io::line::LONGEST_LINE;
@@ -33,9 +36,15 @@ pub enum Line {
 }
 
 /// A task's call, by their texts and the words behind them. What is kept of them is copied once all are of the grammar.
-fn task_call(alloc: Global, task: &[u8], name: &[u8], words: Words<'_>) -> Result<Line, ReadError>
+fn task_call(
+    version: Version,
+    alloc: Global,
+    task: &[u8],
+    name: &[u8],
+    words: Words<'_>,
+) -> Result<Line, ReadError>
     ensures { let task = option_map Someone (task_word task.now) in
-        IsRequestRead (asked_by marks task (name.now ∷ words.entry)) result }
+        IsRequestRead (asked_by (marks (version_of version)) task (name.now ∷ words.entry)) result }
 {
     let Some(name) = CallName::from_text(name) else {
         return Err(ReadError::Grammar);
@@ -43,15 +52,15 @@ fn task_call(alloc: Global, task: &[u8], name: &[u8], words: Words<'_>) -> Resul
     if !is_task(task) {
         return Err(ReadError::Grammar);
     }
-    let call = call(alloc, name, words)?;
+    let call = call(version, alloc, name, words)?;
     let task = task_name(alloc, task)?;
     Ok(Line::Call(task, call))
 }
 
-/// The directive of this name, with these words.
+/// The directive of this name, with these words. Both versions of the language read it alike.
 fn directive(name: &[u8], words: Words<'_>) -> Option<Directive>
     ensures { option_map (λ directive. Asking (directive_of directive)) result
-        ≡ directive_asked marks (name.now ∷ words.entry) }
+        ≡ directive_asked (marks One) (name.now ∷ words.entry) }
 {
     if name != b"peers".as_slice() {
         return None;
@@ -61,15 +70,15 @@ fn directive(name: &[u8], words: Words<'_>) -> Option<Directive>
 }
 
 /// What a line asks for, by its texts.
-fn texts_request(alloc: Global, texts: Texts<'_>) -> Result<Line, ReadError>
-    ensures { IsRequestRead (request_of_texts marks (texts_of texts.entry.items)) result }
+fn texts_request(version: Version, alloc: Global, texts: Texts<'_>) -> Result<Line, ReadError>
+    ensures { IsRequestRead (request_of_texts (marks (version_of version)) (texts_of texts.entry.items)) result }
 {
     let mut words = Words::new(texts);
     let (Some(who), Some(name)) = (words.next(), words.next()) else {
         return Err(ReadError::Grammar);
     };
     if who != b"!".as_slice() {
-        return task_call(alloc, who, name, words);
+        return task_call(version, alloc, who, name, words);
     }
     let Some(directive) = directive(name, words) else {
         return Err(ReadError::Grammar);
@@ -78,45 +87,61 @@ fn texts_request(alloc: Global, texts: Texts<'_>) -> Result<Line, ReadError>
 }
 
 /// What a line asks for that has escapes, or bytes that no token has.
-fn escaped_request(alloc: Global, line: &[u8]) -> Result<Line, ReadError>
+fn escaped_request(version: Version, alloc: Global, line: &[u8]) -> Result<Line, ReadError>
     requires { length line.now ≤ longest_line }
-    ensures { IsRequestRead (request_of marks line.now) result }
+    ensures { IsRequestRead (request_of (marks (version_of version)) line.now) result }
 {
     let Some(unescaped) = Unescaped::from_line(line) else {
         return Err(ReadError::Grammar);
     };
-    texts_request(alloc, unescaped.texts())
+    texts_request(version, alloc, unescaped.texts())
 }
 
 /// What a line asks for, if it is of the grammar.
-fn request(alloc: Global, line: &[u8]) -> Result<Line, ReadError>
+fn request(version: Version, alloc: Global, line: &[u8]) -> Result<Line, ReadError>
     requires { length line.now ≤ longest_line }
-    ensures { IsRequestRead (request_of marks line.now) result }
+    ensures { IsRequestRead (request_of (marks (version_of version)) line.now) result }
 {
     if !is_unescaped(line) {
-        return escaped_request(alloc, line);
+        return escaped_request(version, alloc, line);
     }
     let Some(texts) = unescaped_texts(line) else {
         return Err(ReadError::Grammar);
     };
-    texts_request(alloc, texts)
+    texts_request(version, alloc, texts)
 }
 
 impl Line {
-    /// Reads a line, given without its newline.
-    ///
-    /// Refused by S1 where it is too long or not of the grammar, whatever memory there is, and by S5 where there is
-    /// none for what the line's request keeps. A line without an answer does not allocate.
+    /// Reads a line of version 1, given without its newline: `parse_as` of that version.
     pub fn parse(alloc: Global, line: &[u8]) -> Result<Line, Deny>
         ensures silent { (result ≡ Ok Line.Silent) ↔ IsSilent line.now }
-        ensures reading { IfOk result (IsReadingOf line.now) }
+        ensures reading { IfOk result (IsReadingOf One line.now) }
 
         // The two refusals, and what each says of the line.
         ensures refused { IfErr result (λ deny. (deny ≡ denial S1) ⊎ (deny ≡ denial S5)) }
         ensures no_request { (result ≡ Err (denial S1))
-            ↔ ((longest_line < length line.now) ⊎ (IsSpoken line.now × (request_of marks line.now ≡ None))) }
+            ↔ ((longest_line < length line.now) ⊎ (IsSpoken line.now × (request_of (marks One) line.now ≡ None))) }
         ensures no_memory { result ≡ Err (denial S5)
-            → IsSpoken line.now × IsSomeAnd (request_of marks line.now) TakesMemory }
+            → IsSpoken line.now × IsSomeAnd (request_of (marks One) line.now) TakesMemory }
+    {
+        Line::parse_as(Version::One, alloc, line)
+    }
+
+    /// Reads a line, given without its newline, in a version of the language.
+    ///
+    /// Refused by S1 where it is too long or not of the grammar, whatever memory there is, and by S5 where there is
+    /// none for what the line's request keeps. A line without an answer does not allocate.
+    pub fn parse_as(version: Version, alloc: Global, line: &[u8]) -> Result<Line, Deny>
+        ensures silent { (result ≡ Ok Line.Silent) ↔ IsSilent line.now }
+        ensures reading { IfOk result (IsReadingOf (version_of version) line.now) }
+
+        // The two refusals, and what each says of the line.
+        ensures refused { IfErr result (λ deny. (deny ≡ denial S1) ⊎ (deny ≡ denial S5)) }
+        ensures no_request { let asked = request_of (marks (version_of version)) line.now in
+            (result ≡ Err (denial S1))
+            ↔ ((longest_line < length line.now) ⊎ (IsSpoken line.now × (asked ≡ None))) }
+        ensures no_memory { let asked = request_of (marks (version_of version)) line.now in
+            result ≡ Err (denial S5) → IsSpoken line.now × IsSomeAnd asked TakesMemory }
     {
         if line.len() > LONGEST_LINE {
             return Err(Rule::S1.denial());
@@ -124,7 +149,7 @@ impl Line {
         if is_silent(line) {
             return Ok(Line::Silent);
         }
-        match request(alloc, line) {
+        match request(version, alloc, line) {
             Ok(line) => Ok(line),
             Err(ReadError::Grammar) => Err(Rule::S1.denial()),
             Err(ReadError::Memory) => Err(Rule::S5.denial()),

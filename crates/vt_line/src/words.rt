@@ -1,13 +1,15 @@
 //! The words of a line: its task, its call and what the call is given.
 ghost use Rattle.std.specs.Prelude.{◌≡◌, ◌<◌, option_map, length, is_some, true, Some, IfOk, IfSome, OnErr};
-ghost use Rattle.vt_spec.specs.Language.Script.{task_word, path_word, capability_named, capabilities_word, access_word, first_flags, kept_or_identity, groups_word, type_word, yes_or_no_word};
+ghost use Rattle.vt_spec.specs.Language.Script.{task_word, path_word, capability_named, capabilities_word, access_word, first_flags, flags_word, second_flags, kept_or_identity, groups_word, type_word, yes_or_no_word};
 ghost use Rattle.vt_request.specs.declared.task.TheConstants.{INLINE_NUMBERS};
 ghost use Rattle.vt_cred.specs.Caps.{capability_bits};
 ghost use Rattle.vt_cred.specs.MountFlags.{flags_of};
 ghost use Rattle.vt_request.specs.Requests.{access_of, capabilities_of, type_word_of};
+ghost use Rattle.vt_line.specs.Versions.{version_of};
 
 use crate::number::{child_number, identity_word};
 use crate::token::Texts;
+use crate::version::Version;
 use arrayvec::ArrayVec;
 use std::alloc::{AllocError, Global};
 use std::marker::Model;
@@ -103,8 +105,8 @@ pub fn access_word(text: &[u8]) -> Option<Access>
     }
 }
 
-/// The flags of a mount: `rw` or `ro`, and `noexec` behind a comma.
-pub fn flags_word(text: &[u8]) -> Option<MountFlags>
+/// The flags of a mount that both versions know: `rw` or `ro`, and `noexec` behind a comma.
+fn first_flags(text: &[u8]) -> Option<MountFlags>
     ensures { option_map flags_of result ≡ first_flags text.now }
 {
     if text == b"rw".as_slice() {
@@ -117,6 +119,37 @@ pub fn flags_word(text: &[u8]) -> Option<MountFlags>
         Some(MountFlags::MS_RDONLY.union(MountFlags::MS_NOEXEC))
     } else {
         None
+    }
+}
+
+/// The flags of a mount that only version 2 knows: those of version 1, and `nosymfollow` behind a comma.
+fn second_flags(text: &[u8]) -> Option<MountFlags>
+    ensures { option_map flags_of result ≡ second_flags text.now }
+{
+    if text == b"rw,nosymfollow".as_slice() {
+        Some(MountFlags::MS_NOSYMFOLLOW)
+    } else if text == b"ro,nosymfollow".as_slice() {
+        Some(MountFlags::MS_RDONLY.union(MountFlags::MS_NOSYMFOLLOW))
+    } else if text == b"rw,noexec,nosymfollow".as_slice() {
+        Some(MountFlags::MS_NOEXEC.union(MountFlags::MS_NOSYMFOLLOW))
+    } else if text == b"ro,noexec,nosymfollow".as_slice() {
+        let read_only = MountFlags::MS_RDONLY.union(MountFlags::MS_NOEXEC);
+        Some(read_only.union(MountFlags::MS_NOSYMFOLLOW))
+    } else {
+        None
+    }
+}
+
+/// The flags of a mount, in a version of the language.
+pub fn flags_word(version: Version, text: &[u8]) -> Option<MountFlags>
+    ensures { option_map flags_of result ≡ flags_word (version_of version) text.now }
+{
+    if let Some(flags) = first_flags(text) {
+        return Some(flags);
+    }
+    match version {
+        Version::One => None,
+        Version::Two => second_flags(text),
     }
 }
 

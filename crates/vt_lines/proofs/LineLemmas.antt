@@ -3,7 +3,7 @@ use Rattle.std.proofs.Common.{◌≡◌, ◌≤◌, ◌<◌, ◌+◌, ◌==◌, 
 use Rattle.std.proofs.lemmas.Grind.{common_steps}
 use Rattle.std.specs.List.{count_by}
 use Rattle.std.proofs.lemmas.List.Sums.{count_by-le-length, sum_by-cons}
-use Rattle.vt_spec.specs.Language.Script.{lines_of, with_line_byte}
+use Rattle.vt_spec.specs.Language.Script.{Version, lines_of, with_line_byte}
 use Rattle.vt_script.specs.Progress.{HasNoNewline, whole_lines}
 use Rattle.vt_script.proofs.RunLemmas.{lines_of-newline, lines_of-last, lines_of-whole, whole_lines-append, whole_lines-newline}
 use Rattle.vt_lines.specs.Refused.{is_refused, refused_in}
@@ -22,22 +22,22 @@ length-lines_of (byte ∷ bytes) =
     let rest = length-lines_of bytes in
     omega arith
 
-pub refused_in-le : (text : List ℕ) → refused_in text ≤ length text
+pub refused_in-le : (version : Version) (text : List ℕ) → refused_in version text ≤ length text
 unfolding refused_in
-refused_in-le text =
+refused_in-le version text =
     let lines = length-lines_of text in
-    let count = count_by-le-length is_refused (lines_of text) in
+    let count = count_by-le-length (is_refused version) (lines_of text) in
     omega arith
 
-pub refused_in-line : (text line rest : List ℕ) → lines_of text ≡ line ∷ lines_of rest
-    → refused_in text ≡ cond (is_refused line) 1 0 + refused_in rest
+pub refused_in-line : (version : Version) (text line rest : List ℕ) → lines_of text ≡ line ∷ lines_of rest
+    → refused_in version text ≡ cond (is_refused version line) 1 0 + refused_in version rest
 unfolding refused_in
-refused_in-line text line rest e =
-    ap (count_by is_refused) e ∙ sum_by-cons (λ line. cond (is_refused line) 1 0) line (lines_of rest)
+refused_in-line version text line rest e =
+    ap (count_by (is_refused version)) e ∙ sum_by-cons (λ line. cond (is_refused version line) 1 0) line (lines_of rest)
 
-pub refused_in-end : refused_in [] ≡ 0
+pub refused_in-end : (version : Version) → refused_in version [] ≡ 0
 unfolding refused_in
-refused_in-end = refl
+refused_in-end version = refl
 
 -- a text that is cut at its first newline
 pub lines_of-cut : (text line rest : List ℕ) → (text ≡ line ++ 10 ∷ rest) × HasNoNewline line

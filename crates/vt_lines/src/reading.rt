@@ -1,17 +1,19 @@
-//! Whether a run takes a line, as the reader of lines decides.
+//! Whether a run takes a line, in a version of the language, as the reader of lines decides.
 ghost use Rattle.std.specs.Prelude.{◌≡◌, IfOk, is_none, not};
+ghost use Rattle.vt_line.specs.Versions.{version_of};
 ghost use Rattle.vt_lines.specs.Refused.{is_refused, refused_in};
 
 use crate::lines::first_line;
 use std::alloc::{AllocError, Global};
 use vt_line::line::Line;
+use vt_line::version::Version;
 use vt_spec::errors::Rule;
 
 /// A line as a run reads it, or nothing where a run refuses it by S1.
-pub fn reading(alloc: Global, line: &[u8]) -> Result<Option<Line>, AllocError>
-    ensures { IfOk result (λ read. is_none read ≡ is_refused line.now) }
+pub fn reading(version: Version, alloc: Global, line: &[u8]) -> Result<Option<Line>, AllocError>
+    ensures { IfOk result (λ read. is_none read ≡ is_refused (version_of version) line.now) }
 {
-    match Line::parse(alloc, line) {
+    match Line::parse_as(version, alloc, line) {
         Ok(line) => Ok(Some(line)),
         Err(deny) if deny.rule == Rule::S1 => Ok(None),
         Err(_) => Err(AllocError),
@@ -19,21 +21,21 @@ pub fn reading(alloc: Global, line: &[u8]) -> Result<Option<Line>, AllocError>
 }
 
 /// Whether a run takes the line.
-pub fn is_taken(alloc: Global, line: &[u8]) -> Result<bool, AllocError>
-    ensures { IfOk result (λ taken. not taken ≡ is_refused line.now) }
+pub fn is_taken(version: Version, alloc: Global, line: &[u8]) -> Result<bool, AllocError>
+    ensures { IfOk result (λ taken. not taken ≡ is_refused (version_of version) line.now) }
 {
-    Ok(reading(alloc, line)?.is_some())
+    Ok(reading(version, alloc, line)?.is_some())
 }
 
 /// How many lines of a text a run refuses by S1.
 #[tactic(auto, using(crate::proofs::LineLemmas::refused_lines))]
-pub fn refused_lines(alloc: Global, text: &[u8]) -> Result<u64, AllocError>
-    ensures { IfOk result (λ count. count ≡ refused_in text.now) }
+pub fn refused_lines(version: Version, alloc: Global, text: &[u8]) -> Result<u64, AllocError>
+    ensures { IfOk result (λ count. count ≡ refused_in (version_of version) text.now) }
 {
     let mut rest = text;
     let mut refused: u64 = 0;
     while let Some((line, after)) = first_line(rest) {
-        if !is_taken(alloc, line)? {
+        if !is_taken(version, alloc, line)? {
             refused += 1;
         }
         rest = after;

@@ -9,7 +9,7 @@ use Rattle.vt_spec.specs.Language.Calls.{Call, Directive, TaskName}
 use Rattle.vt_spec.specs.Language.Calls.Call.{Chmod, Chown, Close, Drop, Exec, Exit, Lstat, Opaque, Remount, SetType, Stat, Umask}
 use Rattle.vt_spec.specs.Language.Calls.TypeWord.{ToPrivate, ToShared, ToSlave, ToUnbindable}
 use Rattle.vt_spec.specs.Language.Printed.{reply_line}
-use Rattle.vt_spec.specs.Language.Script.{Request, is_silent, marks, request_of}
+use Rattle.vt_spec.specs.Language.Script.{Request, Version, is_silent, marks, request_of}
 use Rattle.vt_spec.specs.Language.Limits.{longest_line}
 use Rattle.vt_spec.specs.Language.Script.Request.{Asking, Calling}
 use Rattle.vt_spec.specs.Lists.{Fresh}
@@ -49,31 +49,32 @@ kept_whole line kept held short =
 not_long : (line : List ℕ) → length line ≤ longest_line → nat_lt longest_line (length line) ≡ false
 not_long line fits = grind (arith, nat_tests)
 
--- the step of a line by its length, and by whether it has an answer
-step_too_long : (world : World ℕ) (line : List ℕ) (handed : Option (Fresh ℕ)) → nat_lt longest_line (length line) ≡ true
-    → line_step nat_eq marks world line handed ≡ Answered (denied world (denial S1))
-step_too_long world line handed long = ap
-    (λ b. line_step_by nat_eq b (is_silent line) marks world line handed) long
+module _ (version : Version) where
+  -- the step of a line by its length, and by whether it has an answer
+  step_too_long : (world : World ℕ) (line : List ℕ) (handed : Option (Fresh ℕ)) → nat_lt longest_line (length line) ≡ true
+      → line_step nat_eq (marks version) world line handed ≡ Answered (denied world (denial S1))
+  step_too_long world line handed long = ap
+      (λ b. line_step_by nat_eq b (is_silent line) (marks version) world line handed) long
 
-step_silent : (world : World ℕ) (line : List ℕ) (handed : Option (Fresh ℕ)) → IsSilent line
-    → line_step nat_eq marks world line handed ≡ Silent
-step_silent world line handed silent =
-    ap (λ b. line_step_by nat_eq b (is_silent line) marks world line handed) (not_long line silent.0)
-    ∙ ap (λ b. line_step_by nat_eq false b marks world line handed) silent.1
+  step_silent : (world : World ℕ) (line : List ℕ) (handed : Option (Fresh ℕ)) → IsSilent line
+      → line_step nat_eq (marks version) world line handed ≡ Silent
+  step_silent world line handed silent =
+      ap (λ b. line_step_by nat_eq b (is_silent line) (marks version) world line handed) (not_long line silent.0)
+      ∙ ap (λ b. line_step_by nat_eq false b (marks version) world line handed) silent.1
 
-step_refused : (world : World ℕ) (line : List ℕ) → IsSpoken line
-    → line_step nat_eq marks world line None ≡ Answered (denied world (denial S5))
-step_refused world line spoken =
-    ap (λ b. line_step_by nat_eq b (is_silent line) marks world line None) (not_long line spoken.0)
-    ∙ ap (λ b. line_step_by nat_eq false b marks world line None) spoken.1
+  step_refused : (world : World ℕ) (line : List ℕ) → IsSpoken line
+      → line_step nat_eq (marks version) world line None ≡ Answered (denied world (denial S5))
+  step_refused world line spoken =
+      ap (λ b. line_step_by nat_eq b (is_silent line) (marks version) world line None) (not_long line spoken.0)
+      ∙ ap (λ b. line_step_by nat_eq false b (marks version) world line None) spoken.1
 
-step_spoken : (world : World ℕ) (line : List ℕ) (fresh : Fresh ℕ) (request : Option Request) → IsSpoken line
-    → request_of marks line ≡ request
-    → line_step nat_eq marks world line (Some fresh) ≡ Answered (requested nat_eq world request fresh)
-step_spoken world line fresh request spoken asks =
-    ap (λ b. line_step_by nat_eq b (is_silent line) marks world line (Some fresh)) (not_long line spoken.0)
-    ∙ ap (λ b. line_step_by nat_eq false b marks world line (Some fresh)) spoken.1
-    ∙ ap (λ r. Answered (requested nat_eq world r fresh)) asks
+  step_spoken : (world : World ℕ) (line : List ℕ) (fresh : Fresh ℕ) (request : Option Request) → IsSpoken line
+      → request_of (marks version) line ≡ request
+      → line_step nat_eq (marks version) world line (Some fresh) ≡ Answered (requested nat_eq world request fresh)
+  step_spoken world line fresh request spoken asks =
+      ap (λ b. line_step_by nat_eq b (is_silent line) (marks version) world line (Some fresh)) (not_long line spoken.0)
+      ∙ ap (λ b. line_step_by nat_eq false b (marks version) world line (Some fresh)) spoken.1
+      ∙ ap (λ r. Answered (requested nat_eq world r fresh)) asks
 
 -- what is kept of a line's words is something of it
 words_take : (asked : Option Request) → IsSomeAnd asked words.TakesMemory → IsSomeAnd asked TakesMemory
@@ -108,25 +109,25 @@ takes_or_not call = inl tt
 same_worlds : (one other : World ℕ) → one ≡ other → SameWorlds one other
 same_worlds one other e = subst (SameWorlds one) e (sameness_is_an_equivalence.itself one)
 
-module _ {W : Type 0} (sink : Ghosts W) where
+module _ {W : Type 0} (version : Version) (sink : Ghosts W) where
   -- a line without an answer
   pub replied_silent : (world : World ℕ) (line : List ℕ) (number : ℕ) (x : W) → HasNumbers world → IsSilent line
-      → Replied sink world line number world x x
+      → Replied sink version world line number world x x
   replied_silent world line number x some silent =
-      let step = step_silent world line (Some some.0.new) silent in
+      let step = step_silent version world line (Some some.0.new) silent in
       record {
         handed = Some some.0;
         serves = some.1;
-        world = same_worlds (step_world world (step_of world line (Some some.0))) world (ap (step_world world) step);
+        world = same_worlds (step_world world (step_of version world line (Some some.0))) world (ap (step_world world) step);
         wrote = subst (λ s. Wrote sink x x (step_text number s)) (sym step) (Wrote-nothing sink x);
       }
 
   -- a reply is the text of a step that leaves this world
   replies_step : {T E : Type 0} (r : Result T E) (world new : World ℕ) (line text : List ℕ) (number : ℕ)
-      (handed : Option Allotment) (x y : W) → IsHanded world line handed →
-      text ≡ step_text number (step_of world line handed)
-      → SameWorlds (step_world world (step_of world line handed)) new →
-      Prints sink text r x y → Replies sink world line number r new x y
+      (handed : Option Allotment) (x y : W) → IsHanded version world line handed →
+      text ≡ step_text number (step_of version world line handed)
+      → SameWorlds (step_world world (step_of version world line handed)) new →
+      Prints sink text r x y → Replies sink version world line number r new x y
   replies_step (Ok t) world new line text number handed x y serves same left wrote =
       record { handed = handed; serves = serves; world = left; wrote = subst (Wrote sink x y) same wrote }
   replies_step (Err fault) world new line text number handed x y serves same left wrote =
@@ -134,40 +135,40 @@ module _ {W : Type 0} (sink : Ghosts W) where
 
   -- the reply to a line that is refused, and changes nothing
   replies_denied : {T E : Type 0} (r : Result T E) (world : World ℕ) (line : List ℕ) (number : ℕ)
-      (handed : Option Allotment) (deny : Deny) (x y : W) → IsHanded world line handed →
-      step_of world line handed ≡ Answered (denied world deny) → Prints sink (reply_line number (Err deny)) r x y
-      → Replies sink world line number r world x y
+      (handed : Option Allotment) (deny : Deny) (x y : W) → IsHanded version world line handed →
+      step_of version world line handed ≡ Answered (denied world deny) → Prints sink (reply_line number (Err deny)) r x y
+      → Replies sink version world line number r world x y
   replies_denied r world line number handed deny x y serves step wrote =
       replies_step r world world line _ number handed x y serves (ap (step_text number) (sym step))
-      (same_worlds (step_world world (step_of world line handed)) world (ap (step_world world) step)) wrote
+      (same_worlds (step_world world (step_of version world line handed)) world (ap (step_world world) step)) wrote
 
   -- the reply to a line that is too long
   pub replies_too_long : {T E : Type 0} (r : Result T E) (world : World ℕ) (line : List ℕ) (kept : LineSoFar)
       (number : ℕ) (x y : W) → HasNumbers world → Holds line kept → kept.overlong ≡ true
-      → Prints sink (reply_line number (Err (denial S1))) r x y → Replies sink world line number r world x y
+      → Prints sink (reply_line number (Err (denial S1))) r x y → Replies sink version world line number r world x y
   replies_too_long r world line kept number x y some held long wrote =
       replies_denied r world line number (Some some.0) (denial S1) x y some.1
-      (step_too_long world line (Some some.0.new) (sym held.overlong ∙ long)) wrote
+      (step_too_long version world line (Some some.0.new) (sym held.overlong ∙ long)) wrote
 
   -- the reply to a line that is no request, or was refused memory
   pub replies_unread : {T E : Type 0} (r : Result T E) (world : World ℕ) (line : List ℕ) (number : ℕ) (deny : Deny)
       (x y : W) → HasNumbers world →
       (deny ≡ denial S1) ⊎ (deny ≡ denial S5) →
-      (deny ≡ denial S1 → (longest_line < length line) ⊎ (IsSpoken line × (request_of marks line ≡ None)))
-      → (deny ≡ denial S5 → IsSpoken line × IsSomeAnd (request_of marks line) words.TakesMemory) →
-      Prints sink (reply_line number (Err deny)) r x y → Replies sink world line number r world x y
+      (deny ≡ denial S1 → (longest_line < length line) ⊎ (IsSpoken line × (request_of (marks version) line ≡ None)))
+      → (deny ≡ denial S5 → IsSpoken line × IsSomeAnd (request_of (marks version) line) words.TakesMemory) →
+      Prints sink (reply_line number (Err deny)) r x y → Replies sink version world line number r world x y
   replies_unread r world line number deny x y some refused bad memory wrote =
       elim refused [
         | inl is ↦ elim (bad is) [
           | inl long ↦ replies_denied r world line number (Some some.0) deny x y some.1
-              (step_too_long world line (Some some.0.new) (grind (arith, nat_tests))
+              (step_too_long version world line (Some some.0.new) (grind (arith, nat_tests))
               ∙ ap (λ d. Answered (denied world d)) (sym is)) wrote
           | inr none ↦ replies_denied r world line number (Some some.0) deny x y some.1
-              (step_spoken world line some.0.new None none.0 none.1
+              (step_spoken version world line some.0.new None none.0 none.1
               ∙ ap (λ d. Answered (denied world d)) (sym is)) wrote
         ]
-        | inr is ↦ replies_denied r world line number None deny x y (words_take (request_of marks line) (memory is).1)
-            (step_refused world line (memory is).0 ∙ ap (λ d. Answered (denied world d)) (sym is)) wrote
+        | inr is ↦ replies_denied r world line number None deny x y (words_take (request_of (marks version) line) (memory is).1)
+            (step_refused version world line (memory is).0 ∙ ap (λ d. Answered (denied world d)) (sym is)) wrote
       ]
 
   module _ {V : Type 0} (seen : V → World ℕ) where
@@ -175,12 +176,12 @@ module _ {W : Type 0} (sink : Ghosts W) where
     replies_met : {T E : Type 0} (r : Result T E) (old new : V) (line : List ℕ) (number : ℕ) (allotment : Allotment)
         (task : TaskName) (call : Call) (answer : Result Answer Deny) (x y : W) →
         ServesInHand may_be_given (seen old) allotment → IsSpoken line
-        → request_of marks line ≡ Some (Calling task call) →
+        → request_of (marks version) line ≡ Some (Calling task call) →
         Meets seen call (policy nat_eq allotment.new (seen old) task call) answer old new →
         (¬ calls.TakesMemory call → result_of answer ≡ (policy nat_eq allotment.new (seen old) task call).answer) →
-        Prints sink (reply_line number (result_of answer)) r x y → Replies sink (seen old) line number r (seen new) x y
+        Prints sink (reply_line number (result_of answer)) r x y → Replies sink version (seen old) line number r (seen new) x y
     replies_met r old new line number allotment task call (Ok answer) x y serves spoken asks meets exact wrote =
-        let step = step_spoken (seen old) line allotment.new _ spoken asks in
+        let step = step_spoken version (seen old) line allotment.new _ spoken asks in
         replies_step r (seen old) (seen new) line _ number (Some allotment) x y serves
         (ap (reply_line number) (sym meets.0) ∙ ap (step_text number) (sym step))
         (subst (λ step. SameWorlds (step_world (seen old) step) (seen new)) (sym step) meets.1) wrote
@@ -189,31 +190,31 @@ module _ {W : Type 0} (sink : Ghosts W) where
           | inl takes ↦ elim meets.0 [
             | inl is ↦ by_rule is
             | inr memory ↦
-                let step = step_refused (seen old) line spoken in
+                let step = step_refused version (seen old) line spoken in
                 replies_step r (seen old) (seen new) line _ number None x y
                 (subst (λ asked. IsSomeAnd asked TakesMemory) (sym asks) (inr takes))
                 (ap (λ d. reply_line number (Err d)) memory.0 ∙ ap (step_text number) (sym step))
-                (same_worlds (step_world (seen old) (step_of (seen old) line None)) (seen new)
+                (same_worlds (step_world (seen old) (step_of version (seen old) line None)) (seen new)
                 (ap (step_world (seen old)) step ∙ ap seen (sym meets.1))) wrote
           ]
           | inr none ↦ by_rule (sym (exact none))
         ]
       where
         by_rule : (policy nat_eq allotment.new (seen old) task call).answer ≡ Err deny
-            → Replies sink (seen old) line number r (seen new) x y
+            → Replies sink version (seen old) line number r (seen new) x y
         by_rule is =
-            let step = step_spoken (seen old) line allotment.new _ spoken asks in
+            let step = step_spoken version (seen old) line allotment.new _ spoken asks in
             let left = denial_changes_nothing allotment.new (seen old) task call deny is in
             replies_step r (seen old) (seen new) line _ number (Some allotment) x y serves
             (ap (reply_line number) (sym is) ∙ ap (step_text number) (sym step))
-            (same_worlds (step_world (seen old) (step_of (seen old) line (Some allotment))) (seen new)
+            (same_worlds (step_world (seen old) (step_of version (seen old) line (Some allotment))) (seen new)
             (ap (step_world (seen old)) step ∙ left ∙ ap seen (sym meets.1))) wrote
 
     -- the reply to a call
     pub replies_call : {T E : Type 0} (r : Result T E) (old new : V) (line : List ℕ) (number : ℕ) (task : TaskName)
         (call : Call) (answer : Result Answer Deny) (x y : W) →
-        IsSpoken line → request_of marks line ≡ Some (Calling task call) → Ends seen old task call answer new →
-        Prints sink (reply_line number (result_of answer)) r x y → Replies sink (seen old) line number r (seen new) x y
+        IsSpoken line → request_of (marks version) line ≡ Some (Calling task call) → Ends seen old task call answer new →
+        Prints sink (reply_line number (result_of answer)) r x y → Replies sink version (seen old) line number r (seen new) x y
     replies_call r old new line number task call answer x y spoken asks ends wrote =
         replies_met r old new line number ends.allotment task call answer x y ends.serves spoken asks ends.outcome
         ends.memory wrote
@@ -221,17 +222,17 @@ module _ {W : Type 0} (sink : Ghosts W) where
   -- the reply to a directive, which changes nothing
   pub replies_direct : {T E : Type 0} (r : Result T E) (world : World ℕ) (line : List ℕ) (number : ℕ)
       (directive : Directive) (answer : Result Answer Deny) (x y : W) → HasNumbers world →
-      IsSpoken line → request_of marks line ≡ Some (Asking directive) →
+      IsSpoken line → request_of (marks version) line ≡ Some (Asking directive) →
       IfOk answer (λ answer. (directed nat_eq world directive).answer ≡ Ok (answer_of answer)) →
       IfErr answer (λ deny. deny ≡ denial S5) →
-      Prints sink (reply_line number (result_of answer)) r x y → Replies sink world line number r world x y
+      Prints sink (reply_line number (result_of answer)) r x y → Replies sink version world line number r world x y
   replies_direct r world line number directive (Ok answer) x y some spoken asks told memory wrote =
-      let step = step_spoken world line some.0.new _ spoken asks in
-      let left : step_world world (step_of world line (Some some.0)) ≡ world =
+      let step = step_spoken version world line some.0.new _ spoken asks in
+      let left : step_world world (step_of version world line (Some some.0)) ≡ world =
       ap (step_world world) step ∙ directive_changes_nothing world directive in
       replies_step r world world line _ number (Some some.0) x y some.1
       (ap (reply_line number) (sym told) ∙ ap (step_text number) (sym step))
-      (same_worlds (step_world world (step_of world line (Some some.0))) world left) wrote
+      (same_worlds (step_world world (step_of version world line (Some some.0))) world left) wrote
   replies_direct r world line number directive (Err deny) x y some spoken asks told memory wrote =
       replies_denied r world line number None deny x y (subst (λ asked. IsSomeAnd asked TakesMemory) (sym asks) tt)
-      (step_refused world line spoken ∙ ap (λ d. Answered (denied world d)) (sym memory)) wrote
+      (step_refused version world line spoken ∙ ap (λ d. Answered (denied world d)) (sym memory)) wrote

@@ -13,12 +13,13 @@ use Rattle.vt_laws_runs.specs.Handed.{may_be_given}
 use Rattle.vt_laws_runs.specs.Runs.{TellsAlike}
 use Rattle.vt_laws_runs.proofs.answered.AlikeWorlds.{sameness_is_an_equivalence}
 use Rattle.vt_script.specs.Progress.{Moment, Runs, HasNoNewline, after_line}
-use Rattle.vt_script.specs.Refused.{MayBeRefused}
+use Rattle.vt_script.specs.Refused.{MayBeRefusedIn}
 use Rattle.vt_script.specs.Session.{State, moment, IsReading, IsHanded, Fed, Feeds, Broke, begun, lines_begun, IsLast, Closed, BrokeLast, Closes, Replied, BrokeReply, Replies, step_of}
 use Rattle.vt_script.proofs.RunLemmas.{stays, runs_then, runs_bytes, runs_refused, runs_spoken, lines_of-last, HasNoNewline-append}
 
-same_moment : {a b : Moment} → a.world ≡ b.world → a.answered ≡ b.answered → a.line ≡ b.line → a ≡ b
-same_moment {a} {b} w n l = λ i. record { world = w i; answered = n i; line = l i }
+same_moment : {a b : Moment} → a.version ≡ b.version → a.world ≡ b.world → a.answered ≡ b.answered → a.line ≡ b.line
+    → a ≡ b
+same_moment {a} {b} v w n l = λ i. record { version = v i; world = w i; answered = n i; line = l i }
 
 -- a last line is the only one
 last_line : (line : List ℕ) (byte : ℕ) (bytes : List ℕ) → line ≡ byte ∷ bytes → HasNoNewline line
@@ -82,9 +83,9 @@ module _ {W : Type 0} (sink : Ghosts W) where
 
   -- bytes that go onto the line
   pub fed_bytes : (old new : State) (line bytes : List ℕ) (x : W) → IsReading old line → HasNoNewline bytes
-      → new.world ≡ old.world → new.answered ≡ old.answered → Holds (line ++ bytes) new.kept →
+      → new.version ≡ old.version → new.world ≡ old.world → new.answered ≡ old.answered → Holds (line ++ bytes) new.kept →
       Fed sink (moment old line) bytes new x x
-  fed_bytes old new line bytes x reading others world answered held =
+  fed_bytes old new line bytes x reading others version world answered held =
       let same : moment new (line ++ bytes) ≡ record (moment old line) { line = line ++ bytes } = cc in
       record {
         line = line ++ bytes;
@@ -96,8 +97,8 @@ module _ {W : Type 0} (sink : Ghosts W) where
 
   -- the run goes through the newline of a line that is answered
   runs_line : (state : State) (line : List ℕ) (handed : Option Allotment) (world : World ℕ) → HasNoNewline line
-      → IsHanded state.world line handed →
-      let step = step_of state.world line handed in
+      → IsHanded state.version state.world line handed →
+      let step = step_of state.version state.world line handed in
       SameWorlds (step_world state.world step) world →
       Runs (moment state line) (10 ∷ []) (step_text (state.answered + 1) step) (after_line (moment state line) world)
   runs_line state line None world whole handed same = runs_refused (moment state line) world whole handed same
@@ -106,12 +107,13 @@ module _ {W : Type 0} (sink : Ghosts W) where
 
   -- a line that was answered at its newline
   pub fed_line : (old new : State) (line : List ℕ) (x y : W) → IsReading old line
-      → Replied sink old.world line (old.answered + 1) new.world x y → new.answered ≡ old.answered + 1
+      → Replied sink old.version old.world line (old.answered + 1) new.world x y → new.version ≡ old.version
+      → new.answered ≡ old.answered + 1
       → Holds [] new.kept →
       Fed sink (moment old line) (10 ∷ []) new x y
-  fed_line old new line x y reading replied answered held =
-      let step = step_of old.world line replied.handed in
-      let same : moment new [] ≡ after_line (moment old line) new.world = same_moment refl answered refl in
+  fed_line old new line x y reading replied version answered held =
+      let step = step_of old.version old.world line replied.handed in
+      let same : moment new [] ≡ after_line (moment old line) new.world = same_moment version refl answered refl in
       record {
         line = [];
         text = step_text (old.answered + 1) step;
@@ -123,9 +125,9 @@ module _ {W : Type 0} (sink : Ghosts W) where
 
   -- a write failed in the answer to a line
   pub broke_line : (old : State) (line : List ℕ) (x y : W) → IsReading old line
-      → BrokeReply sink old.world line (old.answered + 1) x y → Broke sink (moment old line) (10 ∷ []) x y
+      → BrokeReply sink old.version old.world line (old.answered + 1) x y → Broke sink (moment old line) (10 ∷ []) x y
   broke_line old line x y reading broke =
-      let step = step_of old.world line broke.handed in
+      let step = step_of old.version old.world line broke.handed in
       let left = step_world old.world step in
       record {
         read = 10 ∷ [];
@@ -139,26 +141,26 @@ module _ {W : Type 0} (sink : Ghosts W) where
 
 -- what may be told of a last line of which some byte was read
 told_last : (moment : Moment) (handed : Option Allotment) (byte : ℕ) (bytes : List ℕ) → moment.line ≡ byte ∷ bytes
-    → HasNoNewline moment.line → IsHanded moment.world moment.line handed →
-    IsLast moment (step_text (moment.answered + 1) (step_of moment.world moment.line handed))
+    → HasNoNewline moment.line → IsHanded moment.version moment.world moment.line handed →
+    IsLast moment (step_text (moment.answered + 1) (step_of moment.version moment.world moment.line handed))
 told_last moment None byte bytes some whole handed =
-    let left = step_world moment.world (step_of moment.world moment.line None) in
+    let left = step_world moment.world (step_of moment.version moment.world moment.line None) in
     record {
       refused = true ∷ [];
-      may_be = subst (λ lines. MayBeRefused lines (true ∷ [])) (sym (last_line moment.line byte bytes some whole))
+      may_be = subst (λ lines. MayBeRefusedIn moment.version lines (true ∷ [])) (sym (last_line moment.line byte bytes some whole))
           (handed, tt);
-      tells = subst (λ lines. TellsAlike marks may_be_given moment.world (moment.answered + 1) lines (true ∷ [])
-          (step_text (moment.answered + 1) (step_of moment.world moment.line None)))
+      tells = subst (λ lines. TellsAlike (marks moment.version) may_be_given moment.world (moment.answered + 1) lines (true ∷ [])
+          (step_text (moment.answered + 1) (step_of moment.version moment.world moment.line None)))
           (sym (last_line moment.line byte bytes some whole))
           (left, sameness_is_an_equivalence.itself left, [], sym (append-nil _), refl);
     }
 told_last moment (Some allotment) byte bytes some whole handed =
-    let left = step_world moment.world (step_of moment.world moment.line (Some allotment)) in
+    let left = step_world moment.world (step_of moment.version moment.world moment.line (Some allotment)) in
     record {
       refused = false ∷ [];
-      may_be = subst (λ lines. MayBeRefused lines (false ∷ [])) (sym (last_line moment.line byte bytes some whole)) tt;
-      tells = subst (λ lines. TellsAlike marks may_be_given moment.world (moment.answered + 1) lines (false ∷ [])
-          (step_text (moment.answered + 1) (step_of moment.world moment.line (Some allotment))))
+      may_be = subst (λ lines. MayBeRefusedIn moment.version lines (false ∷ [])) (sym (last_line moment.line byte bytes some whole)) tt;
+      tells = subst (λ lines. TellsAlike (marks moment.version) may_be_given moment.world (moment.answered + 1) lines (false ∷ [])
+          (step_text (moment.answered + 1) (step_of moment.version moment.world moment.line (Some allotment))))
           (sym (last_line moment.line byte bytes some whole))
           (allotment, handed, left, sameness_is_an_equivalence.itself left, [], sym (append-nil _), refl);
     }
@@ -170,9 +172,9 @@ module _ {W : Type 0} (sink : Ghosts W) where
     text = [];
     told = record {
       refused = [];
-      may_be = subst (λ l. MayBeRefused (lines_of l) []) (sym none) tt;
+      may_be = subst (λ l. MayBeRefusedIn state.version (lines_of l) []) (sym none) tt;
       tells = subst
-          (λ l. TellsAlike marks may_be_given state.world (state.answered + 1) (lines_of l) [] [])
+          (λ l. TellsAlike (marks state.version) may_be_given state.world (state.answered + 1) (lines_of l) [] [])
           (sym none) refl;
     };
     wrote = Wrote-nothing sink x;
@@ -180,27 +182,27 @@ module _ {W : Type 0} (sink : Ghosts W) where
 
   -- the last line was answered
   pub closed_reply : (state : State) (line : List ℕ) (new : World ℕ) (x y : W) → line ≢ [] → IsReading state line
-      → Replied sink state.world line (state.answered + 1) new x y → Closed sink (moment state line) x y
+      → Replied sink state.version state.world line (state.answered + 1) new x y → Closed sink (moment state line) x y
   closed_reply state [] new x y some reading replied = absurd (some refl)
   closed_reply state (byte ∷ bytes) new x y some reading replied = record {
-    text = step_text (state.answered + 1) (step_of state.world (byte ∷ bytes) replied.handed);
+    text = step_text (state.answered + 1) (step_of state.version state.world (byte ∷ bytes) replied.handed);
     told = told_last (moment state (byte ∷ bytes)) replied.handed byte bytes refl reading.whole replied.serves;
     wrote = replied.wrote;
   }
 
   -- a write failed in the answer to the last line
   pub broke_last : (state : State) (line : List ℕ) (x y : W) → line ≢ [] → IsReading state line
-      → BrokeReply sink state.world line (state.answered + 1) x y → BrokeLast sink (moment state line) x y
+      → BrokeReply sink state.version state.world line (state.answered + 1) x y → BrokeLast sink (moment state line) x y
   broke_last state [] x y some reading broke = absurd (some refl)
   broke_last state (byte ∷ bytes) x y some reading broke = record {
-    text = step_text (state.answered + 1) (step_of state.world (byte ∷ bytes) broke.handed);
+    text = step_text (state.answered + 1) (step_of state.version state.world (byte ∷ bytes) broke.handed);
     told = told_last (moment state (byte ∷ bytes)) broke.handed byte bytes refl reading.whole broke.serves;
     wrote = broke.wrote;
   }
 
   -- the last line was answered, or a write failed
   pub closes_reply : {T E : Type 0} (state : State) (line : List ℕ) (new : World ℕ) (x y : W) (r : Result T E)
-      → line ≢ [] → IsReading state line → Replies sink state.world line (state.answered + 1) r new x y
+      → line ≢ [] → IsReading state line → Replies sink state.version state.world line (state.answered + 1) r new x y
       → Closes sink (moment state line) r x y
   closes_reply state line new x y (Ok t) some reading replied = closed_reply state line new x y some reading replied
   closes_reply state line new x y (Err fault) some reading broke = broke_last state line x y some reading broke

@@ -3,8 +3,8 @@ use Rattle.std.proofs.Common.{◌≡◌, ℕ, ◌+◌, ◌-◌, ◌≤◌, Bool,
 use Rattle.std.proofs.Math.Seq.{take-append-add}
 use Rattle.std.proofs.lemmas.List.{take-append-drop}
 use Rattle.std.specs.Io.{StartsWith}
-use Rattle.vt_spec.specs.Language.Script.{lines_of, marks}
-use Rattle.vt_spec.specs.Machine.Run.{first_world, script_text, text_from}
+use Rattle.vt_spec.specs.Language.Script.{Version, lines_of, marks}
+use Rattle.vt_spec.specs.Machine.Run.{first_world, script_text_as, text_from}
 use Rattle.vt_laws_runs.specs.Handed.{may_be_given}
 use Rattle.vt_laws_runs.specs.Runs.{TellsAlike}
 use Rattle.vt_laws_runs.proofs.handed.Counts.{programs_have_one_text}
@@ -13,9 +13,9 @@ use Rattle.std.specs.Prelude.{OnOk, IsErrOf}
 use Rattle.vt_io.specs.declared.output.Sink.{Ghosts}
 use Rattle.vt_io.specs.Sink.{WroteFront}
 use Rattle.vt_io.proofs.Printing.{Wrote-append, WroteFront-append}
-use Rattle.vt_script.specs.Session.{State, moment, Fed, Broke, Closed, BrokeLast, Closes, AnswersScript, BeginsToAnswer}
+use Rattle.vt_script.specs.Session.{State, moment, Fed, Broke, Closed, BrokeLast, Closes, AnswersScriptIn, BeginsToAnswerIn}
 use Rattle.vt_script.specs.Progress.{Moment, Runs, HasNoNewline, IsOpening, whole_lines}
-use Rattle.vt_script.specs.Refused.{MayBeRefused}
+use Rattle.vt_script.specs.Refused.{MayBeRefusedIn}
 use Rattle.vt_script.proofs.RunLemmas.{MayBeRefused-append, MayBeRefused-length, MayBeRefused-none, whole_lines-rest, told_whole, text_from-front, text_from-padded, lines_of-whole}
 
 -- what a sink took of a text, where it holds a beginning of all
@@ -30,16 +30,22 @@ rest_after_held held text new longer starts =
     )
 
 -- from an opening moment on
-module _ {first : Moment} (opens : IsOpening first) where
+module _ {version : Version} {first : Moment} (opens : IsOpening version first) where
+  -- what may be refused from the opening on may be so in the script
+  may_be_in : (lines : List (List ℕ)) (refused : List Bool) → MayBeRefusedIn first.version lines refused
+      → MayBeRefusedIn version lines refused
+  may_be_in lines refused may =
+      subst (λ spoken. MayBeRefusedIn spoken lines refused) (ap (λ (moment : Moment). moment.version) opens.2) may
+
   -- what a run tells from the opening on is the text of its script
   one_text : (script : List ℕ) (refused : List Bool) (text : List ℕ) →
-      TellsAlike marks may_be_given first.world (first.answered + 1) (lines_of script) refused text
-      → text ≡ script_text refused script
-  unfolding script_text
+      TellsAlike (marks first.version) may_be_given first.world (first.answered + 1) (lines_of script) refused text
+      → text ≡ script_text_as version refused script
+  unfolding script_text_as
   one_text script refused text told =
-      programs_have_one_text marks refused script text opens.0 opens.1
-      (grammars_keep_overlays_out marks marks_mount_no_overlay (lines_of script))
-      (subst (λ (moment : Moment). TellsAlike marks may_be_given moment.world (moment.answered + 1)
+      programs_have_one_text (marks version) refused script text opens.0 opens.1
+      (grammars_keep_overlays_out (marks version) marks_mount_no_overlay (lines_of script))
+      (subst (λ (moment : Moment). TellsAlike (marks moment.version) may_be_given moment.world (moment.answered + 1)
       (lines_of script) refused text) opens.2 told)
 
   -- what was read is what ended, and what follows it
@@ -54,36 +60,40 @@ module _ {first : Moment} (opens : IsOpening first) where
 
   -- the text of the lines that ended is the policy's text of the whole lines
   pub whole_told : (read text : List ℕ) (new : Moment) (runs : Runs first read text new) → HasNoNewline new.line
-      → (refused : List Bool) × MayBeRefused (lines_of (whole_lines read)) refused
-      × (text ≡ script_text refused (whole_lines read))
+      → (refused : List Bool) × MayBeRefusedIn version (lines_of (whole_lines read)) refused
+      × (text ≡ script_text_as version refused (whole_lines read))
   whole_told read text new runs none = (
     runs.refused,
-    subst (λ ended. MayBeRefused (lines_of ended) runs.refused) (sym (whole_read read text new runs none)) runs.may_be,
+    subst (λ ended. MayBeRefusedIn version (lines_of ended) runs.refused) (sym (whole_read read text new runs none))
+        (may_be_in (lines_of runs.ended) runs.refused runs.may_be),
     one_text runs.ended runs.refused text (told_whole first read text new runs)
-        ∙ ap (script_text runs.refused) (sym (whole_read read text new runs none)),
+        ∙ ap (script_text_as version runs.refused) (sym (whole_read read text new runs none)),
   )
 
   -- the text of all lines is the policy's text
   pub all_told : (script text : List ℕ) (new : Moment) (runs : Runs first script text new) (refused : List Bool)
       (last : List ℕ) →
-      TellsAlike marks may_be_given new.world (new.answered + 1) (lines_of new.line) refused last
-      → MayBeRefused (lines_of new.line) refused →
-      (all : List Bool) × MayBeRefused (lines_of script) all × (text ++ last ≡ script_text all script)
+      TellsAlike (marks new.version) may_be_given new.world (new.answered + 1) (lines_of new.line) refused last
+      → MayBeRefusedIn new.version (lines_of new.line) refused →
+      (all : List Bool) × MayBeRefusedIn version (lines_of script) all × (text ++ last ≡ script_text_as version all script)
   all_told script text new runs refused last told may_be =
       let lines = ap lines_of (parts script text new runs) ∙ lines_of-whole runs.ended new.line runs.whole in
-      let all : TellsAlike marks may_be_given first.world (first.answered + 1) (lines_of (runs.ended ++ new.line))
+      let all : TellsAlike (marks first.version) may_be_given first.world (first.answered + 1) (lines_of (runs.ended ++ new.line))
       (runs.refused ++ refused) (text ++ last) = runs.goes_on new.line refused last told in (
         runs.refused ++ refused,
-        rw lines (MayBeRefused-append (lines_of runs.ended) (lines_of new.line) runs.refused refused runs.may_be may_be),
+        rw lines (MayBeRefused-append version (lines_of runs.ended) (lines_of new.line) runs.refused refused
+            (may_be_in (lines_of runs.ended) runs.refused runs.may_be)
+            (may_be_in (lines_of new.line) refused
+            (subst (λ spoken. MayBeRefusedIn spoken (lines_of new.line) refused) runs.version may_be))),
         one_text (runs.ended ++ new.line) (runs.refused ++ refused) (text ++ last) all
-            ∙ ap (script_text (runs.refused ++ refused)) (sym (parts script text new runs)),
+            ∙ ap (script_text_as version (runs.refused ++ refused)) (sym (parts script text new runs)),
       )
 
   -- the text of the lines that ended is a beginning of the policy's text, whatever follows what was read
   pub front_told : (read unread text : List ℕ) (new : Moment) (runs : Runs first read text new) →
-      (refused : List Bool) × MayBeRefused (lines_of (read ++ unread)) refused × (more : List ℕ)
-      × (script_text refused (read ++ unread) ≡ text ++ more)
-  unfolding script_text
+      (refused : List Bool) × MayBeRefusedIn version (lines_of (read ++ unread)) refused × (more : List ℕ)
+      × (script_text_as version refused (read ++ unread) ≡ text ++ more)
+  unfolding script_text_as
   front_told read unread text new runs =
       let lines : lines_of (read ++ unread) ≡ lines_of runs.ended ++ lines_of (new.line ++ unread) =
       ap (λ xs. lines_of (xs ++ unread)) (parts read text new runs)
@@ -91,13 +101,15 @@ module _ {first : Moment} (opens : IsOpening first) where
       ∙ lines_of-whole runs.ended (new.line ++ unread) runs.whole in
       let others = lines_of (new.line ++ unread) in
       let pad : List Bool = map (λ line. false) others in
-      let front = text_from-front first_world 1 (lines_of runs.ended) others (runs.refused ++ pad) in (
+      let front = text_from-front version first_world 1 (lines_of runs.ended) others (runs.refused ++ pad) in (
         runs.refused ++ pad,
-        rw lines (MayBeRefused-append (lines_of runs.ended) others runs.refused pad runs.may_be (MayBeRefused-none others)),
+        rw lines (MayBeRefused-append version (lines_of runs.ended) others runs.refused pad
+            (may_be_in (lines_of runs.ended) runs.refused runs.may_be) (MayBeRefused-none version others)),
         front.0,
-        ap (λ xs. text_from marks first_world 1 xs (runs.refused ++ pad)) lines ∙ front.1
-            ∙ ap (λ xs. xs ++ front.0) (text_from-padded first_world 1
-            (lines_of runs.ended) runs.refused pad (MayBeRefused-length (lines_of runs.ended) runs.refused runs.may_be))
+        ap (λ xs. text_from (marks version) first_world 1 xs (runs.refused ++ pad)) lines ∙ front.1
+            ∙ ap (λ xs. xs ++ front.0) (text_from-padded version first_world 1
+            (lines_of runs.ended) runs.refused pad (MayBeRefused-length version (lines_of runs.ended) runs.refused
+            (may_be_in (lines_of runs.ended) runs.refused runs.may_be)))
             ∙ ap (λ xs. xs ++ front.0) (sym
             (one_text runs.ended runs.refused text (told_whole first read text new runs))),
       )
@@ -105,30 +117,30 @@ module _ {first : Moment} (opens : IsOpening first) where
   module _ {W : Type 0} (sink : Ghosts W) where
     -- between two lines or in one, the sink holds the text of the whole lines
     pub whole_held : (read : List ℕ) (state : State) (x y : W) → Fed sink first read state x y → sink.tells x
-        → AnswersScript sink (whole_lines read) x y
+        → AnswersScriptIn sink version (whole_lines read) x y
     whole_held read state x y fed tells =
         let told = whole_told read fed.text (moment state fed.line) fed.runs fed.reading.whole in
         (told.0, told.1, fed.wrote.appended tells ∙ ap (λ text. sink.written x ++ text) told.2)
 
     -- a beginning of the text of some of the script is one of the policy's text
     front_held : (script read unread text : List ℕ) (new : Moment) (x y : W) → script ≡ read ++ unread
-        → Runs first read text new → WroteFront sink x y text → sink.tells x → BeginsToAnswer sink script x y
+        → Runs first read text new → WroteFront sink x y text → sink.tells x → BeginsToAnswerIn sink version script x y
     front_held script read unread text new x y split runs wrote tells =
         let taken = rest_after_held (sink.written x) text (sink.written y) (wrote.no_shorter tells)
         (wrote.front tells) in
         let told = front_told read unread text new runs in (
           told.0,
-          subst (λ script. MayBeRefused (lines_of script) told.0) (sym split) told.1,
+          subst (λ script. MayBeRefusedIn version (lines_of script) told.0) (sym split) told.1,
           taken.0,
           taken.1 ++ told.2,
           taken.2,
-          ap (script_text told.0) split ∙ told.3 ∙ ap (λ xs. xs ++ told.2) taken.3
+          ap (script_text_as version told.0) split ∙ told.3 ∙ ap (λ xs. xs ++ told.2) taken.3
               ∙ append_assoc taken.0 taken.1 told.2,
         )
 
     -- a write failed while more was to come
     pub broke_held : (script read unread : List ℕ) (x y : W) → script ≡ read ++ unread → Broke sink first read x y
-        → sink.tells x → BeginsToAnswer sink script x y
+        → sink.tells x → BeginsToAnswerIn sink version script x y
     broke_held script read unread x y split broke tells =
         front_held script broke.read (broke.unread ++ unread) broke.text broke.new x y
         (split ∙ ap (λ xs. xs ++ unread) broke.split
@@ -136,7 +148,7 @@ module _ {first : Moment} (opens : IsOpening first) where
 
     -- a write failed in the answer to the last line
     broke_last_held : (read : List ℕ) (state : State) (x y z : W) (fed : Fed sink first read state x y)
-        → BrokeLast sink (moment state fed.line) y z → sink.tells x → BeginsToAnswer sink read x z
+        → BrokeLast sink (moment state fed.line) y z → sink.tells x → BeginsToAnswerIn sink version read x z
     broke_last_held read state x y z fed broke tells =
         let wrote = WroteFront-append sink fed.wrote broke.wrote in
         let taken = rest_after_held (sink.written x) (fed.text ++ broke.text) (sink.written z) (wrote.no_shorter tells)
@@ -147,7 +159,7 @@ module _ {first : Moment} (opens : IsOpening first) where
 
     -- all was answered
     closed_held : (read : List ℕ) (state : State) (x y z : W) (fed : Fed sink first read state x y)
-        → Closed sink (moment state fed.line) y z → sink.tells x → AnswersScript sink read x z
+        → Closed sink (moment state fed.line) y z → sink.tells x → AnswersScriptIn sink version read x z
     closed_held read state x y z fed closed tells =
         let told = all_told read fed.text
         (moment state fed.line) fed.runs closed.told.refused closed.text closed.told.tells closed.told.may_be in (
@@ -160,14 +172,14 @@ module _ {first : Moment} (opens : IsOpening first) where
     -- how a run ends that read all of its script
     pub ends_well : {T E A : Type 0} (r : Result T E) (script read : List ℕ) (state : State) (x y z : W)
         (fed : Fed sink first read state x y) → Closes sink (moment state fed.line) r y z → (A → script ≡ read) →
-        OnOk r (A → sink.tells x → AnswersScript sink script x z)
+        OnOk r (A → sink.tells x → AnswersScriptIn sink version script x z)
     ends_well (Ok t) script read state x y z fed closes all =
-        λ a tells. subst (λ xs. AnswersScript sink xs x z) (sym (all a)) (closed_held read state x y z fed closes tells)
+        λ a tells. subst (λ xs. AnswersScriptIn sink version xs x z) (sym (all a)) (closed_held read state x y z fed closes tells)
     ends_well (Err fault) script read state x y z fed closes all = tt
 
     pub ends_badly : {T E A : Type 0} (r : Result T E) (fault : E) (script read : List ℕ) (state : State) (x y z : W)
         (fed : Fed sink first read state x y) → Closes sink (moment state fed.line) r y z → (A → script ≡ read) →
-        IsErrOf r fault → A → sink.tells x → BeginsToAnswer sink script x z
+        IsErrOf r fault → A → sink.tells x → BeginsToAnswerIn sink version script x z
     ends_badly (Ok t) fault script read state x y z fed closes all is a tells = absurd cc
     ends_badly (Err other) fault script read state x y z fed closes all is a tells =
-        subst (λ xs. BeginsToAnswer sink xs x z) (sym (all a)) (broke_last_held read state x y z fed closes tells)
+        subst (λ xs. BeginsToAnswerIn sink version xs x z) (sym (all a)) (broke_last_held read state x y z fed closes tells)

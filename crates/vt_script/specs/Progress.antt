@@ -1,11 +1,11 @@
 -- How far a run has come: what was read and written between two moments of it.
 use Rattle.std.specs.Prelude.{◌≡◌, ℕ, ◌+◌, ◌==◌, nat_eq, Bool, true, false, List, [], ◌∷◌, ◌++◌}
-use Rattle.vt_spec.specs.Language.Script.{lines_of, marks}
+use Rattle.vt_spec.specs.Language.Script.{Version, lines_of, marks}
 use Rattle.vt_spec.specs.Lists.{Fresh}
 use Rattle.vt_spec.specs.Machine.World.{World, opening}
 use Rattle.vt_laws_runs.specs.Handed.{may_be_given}
 use Rattle.vt_laws_runs.specs.Runs.{OpensInHand, TellsAlike}
-use Rattle.vt_script.specs.Refused.{MayBeRefused}
+use Rattle.vt_script.specs.Refused.{MayBeRefusedIn}
 
 -- a text up to its last newline
 abbrev pub whole_with : Bool → ℕ → List ℕ → List ℕ
@@ -17,32 +17,35 @@ abbrev pub whole_lines : List ℕ → List ℕ
 whole_lines [] = []
 whole_lines (byte ∷ bytes) = whole_with (byte == 10) byte (whole_lines bytes)
 
--- a moment of a run: the code's world as the definitions see it, how many lines are answered, and what was read of the
--- next line
+-- a moment of a run: the version of its script's language, the code's world as the definitions see it, how many lines
+-- are answered, and what was read of the next line
 pub record Moment : Type 0 where
+  pub version : Version
   pub world : World ℕ
   pub answered : ℕ
   pub line : List ℕ
 
 -- nothing is read yet, in an opening world of these numbers
-abbrev pub opening_moment : Fresh ℕ → Moment
-opening_moment fresh = record { world = opening nat_eq fresh; answered = 0; line = [] }
+abbrev pub opening_moment : Version → Fresh ℕ → Moment
+opening_moment version fresh = record { version = version; world = opening nat_eq fresh; answered = 0; line = [] }
 
--- nothing is read yet
-abbrev pub IsOpening : Moment → Type 0
-IsOpening moment = (fresh : Fresh ℕ) × OpensInHand may_be_given fresh × (moment ≡ opening_moment fresh)
+-- nothing is read yet of a script in this version of the language
+abbrev pub IsOpening : Version → Moment → Type 0
+IsOpening version moment =
+    (fresh : Fresh ℕ) × OpensInHand may_be_given fresh × (moment ≡ opening_moment version fresh)
 
 -- From one moment to another these bytes were read and this text was written. The lines that ended among them, with
 -- what stood before, are told by the text: whatever is told of more, is told behind it.
 pub record Runs (old : Moment) (bytes text : List ℕ) (new : Moment) : Type 0 where
+  pub version : new.version ≡ old.version
   pub ended : List ℕ
   pub split : old.line ++ bytes ≡ ended ++ new.line
   pub whole : whole_lines ended ≡ ended
   pub refused : List Bool
-  pub may_be : MayBeRefused (lines_of ended) refused
+  pub may_be : MayBeRefusedIn old.version (lines_of ended) refused
   pub goes_on : (more : List ℕ) (later : List Bool) (rest : List ℕ) →
-      TellsAlike marks may_be_given new.world (new.answered + 1) (lines_of more) later rest →
-      TellsAlike marks may_be_given old.world (old.answered + 1) (lines_of (ended ++ more)) (refused ++ later)
+      TellsAlike (marks new.version) may_be_given new.world (new.answered + 1) (lines_of more) later rest →
+      TellsAlike (marks old.version) may_be_given old.world (old.answered + 1) (lines_of (ended ++ more)) (refused ++ later)
       (text ++ rest)
 
 -- no byte of the line is a newline
@@ -52,4 +55,5 @@ HasNoNewline (byte ∷ bytes) = ((byte == 10) ≡ false) × HasNoNewline bytes
 
 -- the moment after a line was answered, which left this world
 abbrev pub after_line : Moment → World ℕ → Moment
-after_line moment world = record { world = world; answered = moment.answered + 1; line = [] }
+after_line moment world =
+    record { version = moment.version; world = world; answered = moment.answered + 1; line = [] }

@@ -3,25 +3,29 @@ use Rattle.std.specs.Prelude.{◌≡◌, ℕ, ◌+◌, nat_eq, Bool, List, [], �
 use Rattle.vt_io.specs.declared.output.Sink.{Ghosts}
 use Rattle.vt_io.specs.Sink.{Wrote, WroteFront}
 use Rattle.vt_io.specs.LineBuffer.{LineSoFar, Holds}
-use Rattle.vt_spec.specs.Language.Script.{lines_of, marks}
-use Rattle.vt_spec.specs.Machine.Run.{Step, line_step, script_text, step_text, step_world}
+use Rattle.vt_spec.specs.Language.Script.{Version, lines_of, marks}
+use Rattle.vt_spec.specs.Language.Script.Version.{One}
+use Rattle.vt_spec.specs.Machine.Run.{Step, line_step, script_text_as, step_text, step_world}
 use Rattle.vt_spec.specs.Machine.SameWorlds.{SameWorlds}
 use Rattle.vt_spec.specs.Machine.World.{World}
 use Rattle.vt_laws_rules.specs.Numbers.{Allotment}
 use Rattle.vt_laws_runs.specs.Handed.{may_be_given}
 use Rattle.vt_laws_runs.specs.Runs.{ServesInHand, TellsAlike}
 use Rattle.vt_script.specs.Progress.{Moment, Runs, HasNoNewline, whole_lines}
-use Rattle.vt_script.specs.Refused.{LineTakesMemory, MayBeRefused}
+use Rattle.vt_script.specs.Refused.{LineTakesMemory, MayBeRefusedIn}
 
--- a session: the world, how many lines are answered, and what is kept of the next line
+-- a session: the version of its script's language, the world, how many lines are answered, and what is kept of the
+-- next line
 pub record State : Type 0 where
+  pub version : Version
   pub world : World ℕ
   pub answered : ℕ
   pub kept : LineSoFar
 
 -- the moment of a run at which a session stands, if it has read this of the next line
 abbrev pub moment : State → List ℕ → Moment
-moment state line = record { world = state.world; answered = state.answered; line = line }
+moment state line =
+    record { version = state.version; world = state.world; answered = state.answered; line = line }
 
 -- these bytes were read of the next line
 pub record IsReading (state : State) (line : List ℕ) : Type 0 where
@@ -38,19 +42,20 @@ abbrev pub lines_begun : State → ℕ
 lines_begun state = state.answered + begun state.kept.bytes
 
 -- a line is handed numbers that serve the world, or none where memory was refused that it takes
-abbrev pub IsHanded : World ℕ → List ℕ → Option Allotment → Type 0
-IsHanded world line None = LineTakesMemory line
-IsHanded world line (Some allotment) = ServesInHand may_be_given world allotment
+abbrev pub IsHanded : Version → World ℕ → List ℕ → Option Allotment → Type 0
+IsHanded version world line None = LineTakesMemory version line
+IsHanded version world line (Some allotment) = ServesInHand may_be_given world allotment
 
 -- the step of a line to which these numbers are handed
-abbrev pub step_of : World ℕ → List ℕ → Option Allotment → Step ℕ
-step_of world line handed = line_step nat_eq marks world line (option_map (λ allotment. allotment.new) handed)
+abbrev pub step_of : Version → World ℕ → List ℕ → Option Allotment → Step ℕ
+step_of version world line handed =
+    line_step nat_eq (marks version) world line (option_map (λ allotment. allotment.new) handed)
 
 -- what may be told of the last line
 pub record IsLast (old : Moment) (text : List ℕ) : Type 0 where
   pub refused : List Bool
-  pub may_be : MayBeRefused (lines_of old.line) refused
-  pub tells : TellsAlike marks may_be_given old.world (old.answered + 1) (lines_of old.line) refused text
+  pub may_be : MayBeRefusedIn old.version (lines_of old.line) refused
+  pub tells : TellsAlike (marks old.version) may_be_given old.world (old.answered + 1) (lines_of old.line) refused text
 
 module _ {W : Type 0} (sink : Ghosts W) where
   -- bytes were read, and the lines that ended were answered
@@ -93,35 +98,46 @@ module _ {W : Type 0} (sink : Ghosts W) where
 
   -- one line was answered by its step, which leaves this world but for change numbers and the order of numbers beside
   -- trees
-  pub record Replied (old : World ℕ) (line : List ℕ) (number : ℕ) (new : World ℕ) (before after : W) : Type 0 where
+  pub record Replied (version : Version) (old : World ℕ) (line : List ℕ) (number : ℕ) (new : World ℕ) (before after : W) : Type 0 where
     pub handed : Option Allotment
-    pub serves : IsHanded old line handed
-    pub world : SameWorlds (step_world old (step_of old line handed)) new
-    pub wrote : Wrote sink before after (step_text number (step_of old line handed))
+    pub serves : IsHanded version old line handed
+    pub world : SameWorlds (step_world old (step_of version old line handed)) new
+    pub wrote : Wrote sink before after (step_text number (step_of version old line handed))
 
   -- a write failed in the text of one line
-  pub record BrokeReply (old : World ℕ) (line : List ℕ) (number : ℕ) (before after : W) : Type 0 where
+  pub record BrokeReply (version : Version) (old : World ℕ) (line : List ℕ) (number : ℕ) (before after : W) : Type 0 where
     pub handed : Option Allotment
-    pub serves : IsHanded old line handed
-    pub wrote : WroteFront sink before after (step_text number (step_of old line handed))
+    pub serves : IsHanded version old line handed
+    pub wrote : WroteFront sink before after (step_text number (step_of version old line handed))
 
-  abbrev pub Replies : {T E : Type 0} → World ℕ → List ℕ → ℕ → Result T E → World ℕ → W → W → Type 0
-  Replies old line number (Ok t) new before after = Replied old line number new before after
-  Replies old line number (Err fault) new before after = BrokeReply old line number before after
+  abbrev pub Replies : {T E : Type 0} → Version → World ℕ → List ℕ → ℕ → Result T E → World ℕ → W → W → Type 0
+  Replies version old line number (Ok t) new before after = Replied version old line number new before after
+  Replies version old line number (Err fault) new before after = BrokeReply version old line number before after
 
-  -- the sink was given the policy's answers to the script, where allocations may have failed in lines that take memory
-  abbrev pub AnswersScript : List ℕ → W → W → Type 0
-  AnswersScript script before after =
-      (refused : List Bool) × MayBeRefused (lines_of script) refused
-      × (sink.written after ≡ sink.written before ++ script_text refused script)
+  -- the sink was given the policy's answers to the script, in a version of its language, where allocations may have
+  -- failed in lines that take memory
+  abbrev pub AnswersScriptIn : Version → List ℕ → W → W → Type 0
+  AnswersScriptIn version script before after =
+      (refused : List Bool) × MayBeRefusedIn version (lines_of script) refused
+      × (sink.written after ≡ sink.written before ++ script_text_as version refused script)
 
   -- the sink was given the policy's answers to the complete lines of what was read of the script
-  abbrev pub AnswersWholeLines : List ℕ → List ℕ → W → W → Type 0
-  AnswersWholeLines script unread before after =
-      (read : List ℕ) × (script ≡ read ++ unread) × AnswersScript (whole_lines read) before after
+  abbrev pub AnswersWholeLinesIn : Version → List ℕ → List ℕ → W → W → Type 0
+  AnswersWholeLinesIn version script unread before after =
+      (read : List ℕ) × (script ≡ read ++ unread) × AnswersScriptIn version (whole_lines read) before after
 
   -- the sink was given a beginning of the policy's answers to the script
+  abbrev pub BeginsToAnswerIn : Version → List ℕ → W → W → Type 0
+  BeginsToAnswerIn version script before after =
+      (refused : List Bool) × MayBeRefusedIn version (lines_of script) refused × (text : List ℕ) × (more : List ℕ)
+      × (sink.written after ≡ sink.written before ++ text) × (script_text_as version refused script ≡ text ++ more)
+
+  -- the same of a script of the first version
+  abbrev pub AnswersScript : List ℕ → W → W → Type 0
+  AnswersScript script before after = AnswersScriptIn One script before after
+
+  abbrev pub AnswersWholeLines : List ℕ → List ℕ → W → W → Type 0
+  AnswersWholeLines script unread before after = AnswersWholeLinesIn One script unread before after
+
   abbrev pub BeginsToAnswer : List ℕ → W → W → Type 0
-  BeginsToAnswer script before after =
-      (refused : List Bool) × MayBeRefused (lines_of script) refused × (text : List ℕ) × (more : List ℕ)
-      × (sink.written after ≡ sink.written before ++ text) × (script_text refused script ≡ text ++ more)
+  BeginsToAnswer script before after = BeginsToAnswerIn One script before after

@@ -1,6 +1,7 @@
 //! What is kept from one piece of a script to the next.
 ghost use Rattle.std.specs.Prelude.{◌≡◌, ◌+◌, ◌<◌, ◌≤◌, ◌^◌, ◌++◌, ◌∷◌, [], List, ℕ, length, IfOk, IfErr, MatchOption, OnOk, OnErr};
 ghost use Rattle.vt_io.specs.LineBuffer.{Holds};
+ghost use Rattle.vt_line.specs.Versions.{version_of};
 ghost use Rattle.vt_script.specs.Progress.{HasNoNewline, IsOpening};
 ghost use Rattle.vt_script.specs.Session.{moment, lines_begun, IsReading, Feeds, Closes, Replies};
 ghost use Rattle.vt_script.specs.SessionValue.{state_of};
@@ -13,11 +14,13 @@ use vt_io::output::Sink;
 use vt_line::fault::RunFault;
 use vt_line::line::Line;
 use vt_line::print::write_reply;
+use vt_line::version::Version;
 use vt_spec::errors::Rule;
 
-/// The world, how many lines are answered, and the line that is being read.
+/// The version of the script's language, the world, how many lines are answered, and the line that is being read.
 #[derive(Drop)]
 pub struct Session<C> {
+    pub version: Version,
     pub world: C,
     /// How many lines have ended, also those that have no answer.
     pub answered: u64,
@@ -38,6 +41,7 @@ fn split_line(bytes: &[u8]) -> Option<(&[u8], &[u8])>
 
 // Answers the line of this number.
 fn answer<C: Calls, W: Sink>(
+    version: Version,
     alloc: Global,
     world: &mut C,
     number: u64,
@@ -46,7 +50,7 @@ fn answer<C: Calls, W: Sink>(
 ) -> Result<(), RunFault>
     requires { W.failures sink.old + 1 < 2 ^ 64 }
     ensures replies { (text : List ℕ) → Holds text line.now
-        → Replies W.Sink (C.world world.old) text number result (C.world world.new) sink.old sink.new }
+        → Replies W.Sink (version_of version) (C.world world.old) text number result (C.world world.new) sink.old sink.new }
     ensures kept { OnOk result (W.failures sink.new ≡ W.failures sink.old) }
     ensures counted { OnErr result (W.failures sink.new ≡ W.failures sink.old + 1) }
     ensures fault { IfErr result (λ fault. fault ≡ RunFault.Write) }
@@ -56,7 +60,7 @@ fn answer<C: Calls, W: Sink>(
     if line.is_overlong() {
         return write_reply(sink, number, &Err(Rule::S1.denial()));
     }
-    match Line::parse(alloc, line.bytes()) {
+    match Line::parse_as(version, alloc, line.bytes()) {
         Ok(Line::Silent) => Ok(()),
         Ok(Line::Call(task, call)) => {
             let answer = world.call(&task, call);
@@ -72,8 +76,9 @@ fn answer<C: Calls, W: Sink>(
 
 impl<C: Calls + Drop> Session<C> {
     /// The opening world, before the first byte. `Memory`: the world or the line's buffer was refused.
-    pub fn new(alloc: Global) -> Result<Self, RunFault>
-        ensures opening { IfOk result (λ session. IsOpening (moment (state_of C.world session) [])) }
+    pub fn new(version: Version, alloc: Global) -> Result<Self, RunFault>
+        ensures version { IfOk result (λ session. session.version ≡ version) }
+        ensures opening { IfOk result (λ session. IsOpening (version_of version) (moment (state_of C.world session) [])) }
         ensures reading { IfOk result (λ session. IsReading (state_of C.world session) []) }
         ensures begun { IfOk result (λ session. lines_begun (state_of C.world session) ≡ 0) }
         ensures memory { IfErr result (λ fault. fault ≡ RunFault.Memory) }
@@ -85,6 +90,7 @@ impl<C: Calls + Drop> Session<C> {
             return Err(RunFault::Memory);
         };
         Ok(Session {
+            version,
             world,
             answered: 0,
             line,
@@ -113,7 +119,14 @@ impl<C: Calls + Drop> Session<C> {
         ensures fault { IfErr result (λ fault. fault ≡ RunFault.Write) }
     {
         let number = self.answered + 1;
-        answer(self.alloc, &mut self.world, number, &self.line, sink)?;
+        answer(
+            self.version,
+            self.alloc,
+            &mut self.world,
+            number,
+            &self.line,
+            sink,
+        )?;
         self.answered = number;
         self.line.clear();
         Ok(())
@@ -172,6 +185,7 @@ impl<C: Calls + Drop> Session<C> {
             return Ok(());
         }
         answer(
+            self.version,
             self.alloc,
             &mut self.world,
             self.answered + 1,

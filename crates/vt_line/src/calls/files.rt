@@ -1,7 +1,8 @@
-//! The calls on files that are given more than paths.
+//! The calls on files that are given more than paths. Both versions of the language read them alike.
 ghost use Rattle.std.specs.Prelude.{◌≡◌, option_map};
 ghost use Rattle.vt_spec.specs.Language.Calls.Call.{Chmod, Chown, Mkdir, Opaque, OpenFile, Pwrite, Write};
 ghost use Rattle.vt_spec.specs.Language.Script.{creation_words};
+ghost use Rattle.vt_spec.specs.Language.Script.Version.{One};
 ghost use Rattle.vt_request.specs.Requests.{access_of, call_of, creation_of};
 ghost use Rattle.vt_line.specs.Calls.{call_named, call_worded, IsCallRead};
 
@@ -15,7 +16,7 @@ use vt_spec::attributes::Mode;
 
 /// The words of `write PATH BYTES`.
 fn write_words(mut words: Words<'_>) -> Option<(&[u8], &[u8])>
-    ensures { option_map (λ w. Write w.0.now w.1.now) result ≡ call_worded CallName.Write words.entry }
+    ensures { option_map (λ w. Write w.0.now w.1.now) result ≡ call_worded One CallName.Write words.entry }
 {
     let path = path_word(words.next()?)?;
     let bytes = words.next()?;
@@ -25,7 +26,7 @@ fn write_words(mut words: Words<'_>) -> Option<(&[u8], &[u8])>
 
 /// The words of `mkdir PATH [MODE]`.
 fn mkdir_words(mut words: Words<'_>) -> Option<(&[u8], Option<Mode>)>
-    ensures { option_map (λ w. Mkdir w.0.now w.1) result ≡ call_worded CallName.Mkdir words.entry }
+    ensures { option_map (λ w. Mkdir w.0.now w.1) result ≡ call_worded One CallName.Mkdir words.entry }
 {
     let path = path_word(words.next()?)?;
     let Some(mode) = words.next() else {
@@ -38,7 +39,7 @@ fn mkdir_words(mut words: Words<'_>) -> Option<(&[u8], Option<Mode>)>
 
 /// The words of `chmod PATH MODE`.
 fn chmod_words(mut words: Words<'_>) -> Option<(&[u8], Mode)>
-    ensures { option_map (λ w. Chmod w.0.now w.1) result ≡ call_worded CallName.Chmod words.entry }
+    ensures { option_map (λ w. Chmod w.0.now w.1) result ≡ call_worded One CallName.Chmod words.entry }
 {
     let path = path_word(words.next()?)?;
     let mode = mode_word(words.next()?)?;
@@ -48,7 +49,7 @@ fn chmod_words(mut words: Words<'_>) -> Option<(&[u8], Mode)>
 
 /// The words of `chown PATH UID GID`, of which one may stay.
 fn chown_words(mut words: Words<'_>) -> Option<(&[u8], Option<u32>, Option<u32>)>
-    ensures { option_map (λ w. Chown w.0.now w.1 w.2) result ≡ call_worded CallName.Chown words.entry }
+    ensures { option_map (λ w. Chown w.0.now w.1 w.2) result ≡ call_worded One CallName.Chown words.entry }
 {
     let path = path_word(words.next()?)?;
     let uid = kept_or_identity(words.next()?)?;
@@ -62,7 +63,7 @@ fn chown_words(mut words: Words<'_>) -> Option<(&[u8], Option<u32>, Option<u32>)
 
 /// The words of `opaque PATH yes` and `opaque PATH no`.
 fn opaque_words(mut words: Words<'_>) -> Option<(&[u8], bool)>
-    ensures { option_map (λ w. Opaque w.0.now w.1) result ≡ call_worded CallName.Opaque words.entry }
+    ensures { option_map (λ w. Opaque w.0.now w.1) result ≡ call_worded One CallName.Opaque words.entry }
 {
     let path = path_word(words.next()?)?;
     let mark = yes_or_no_word(words.next()?)?;
@@ -93,7 +94,7 @@ fn creation_words(mut words: Words<'_>) -> Option<Creation>
 /// The words of `open PATH ACCESS`, with what is done where the name is missing.
 fn open_words(mut words: Words<'_>) -> Option<(&[u8], Access, Creation)>
     ensures { option_map (λ w. OpenFile w.0.now (access_of w.1) (creation_of w.2)) result
-        ≡ call_worded CallName.Open words.entry }
+        ≡ call_worded One CallName.Open words.entry }
 {
     let path = path_word(words.next()?)?;
     let access = access_word(words.next()?)?;
@@ -103,7 +104,7 @@ fn open_words(mut words: Words<'_>) -> Option<(&[u8], Access, Creation)>
 
 /// The words of `pwrite DESCRIPTOR OFFSET BYTES`.
 fn pwrite_words(mut words: Words<'_>) -> Option<(u8, u32, &[u8])>
-    ensures { option_map (λ w. Pwrite w.0 w.1 w.2.now) result ≡ call_worded CallName.Pwrite words.entry }
+    ensures { option_map (λ w. Pwrite w.0 w.1 w.2.now) result ≡ call_worded One CallName.Pwrite words.entry }
 {
     let descriptor = descriptor_word(words.next()?)?;
     let offset = offset_word(words.next()?)?;
@@ -114,7 +115,7 @@ fn pwrite_words(mut words: Words<'_>) -> Option<(u8, u32, &[u8])>
 
 /// `pread DESCRIPTOR OFFSET SIZE`.
 pub fn pread(mut words: Words<'_>) -> Option<Call>
-    ensures { option_map call_of result ≡ call_named CallName.Pread words.entry }
+    ensures { option_map call_of result ≡ call_named One CallName.Pread words.entry }
 {
     let descriptor = descriptor_word(words.next()?)?;
     let offset = offset_word(words.next()?)?;
@@ -129,7 +130,7 @@ pub fn pread(mut words: Words<'_>) -> Option<Call>
 
 /// `close DESCRIPTOR`.
 pub fn close(mut words: Words<'_>) -> Option<Call>
-    ensures { option_map call_of result ≡ call_named CallName.Close words.entry }
+    ensures { option_map call_of result ≡ call_named One CallName.Close words.entry }
 {
     let descriptor = descriptor_word(words.next()?)?;
     words.end()?;
@@ -138,7 +139,7 @@ pub fn close(mut words: Words<'_>) -> Option<Call>
 
 /// `write PATH BYTES`.
 pub fn write(alloc: Global, words: Words<'_>) -> Result<Call, ReadError>
-    ensures { IsCallRead (call_named CallName.Write words.entry) result }
+    ensures { IsCallRead (call_named One CallName.Write words.entry) result }
 {
     let Some((path, bytes)) = write_words(words) else {
         return Err(ReadError::Grammar);
@@ -150,7 +151,7 @@ pub fn write(alloc: Global, words: Words<'_>) -> Result<Call, ReadError>
 
 /// `mkdir PATH [MODE]`.
 pub fn mkdir(alloc: Global, words: Words<'_>) -> Result<Call, ReadError>
-    ensures { IsCallRead (call_named CallName.Mkdir words.entry) result }
+    ensures { IsCallRead (call_named One CallName.Mkdir words.entry) result }
 {
     let Some((path, mode)) = mkdir_words(words) else {
         return Err(ReadError::Grammar);
@@ -161,7 +162,7 @@ pub fn mkdir(alloc: Global, words: Words<'_>) -> Result<Call, ReadError>
 
 /// `chmod PATH MODE`.
 pub fn chmod(alloc: Global, words: Words<'_>) -> Result<Call, ReadError>
-    ensures { IsCallRead (call_named CallName.Chmod words.entry) result }
+    ensures { IsCallRead (call_named One CallName.Chmod words.entry) result }
 {
     let Some((path, mode)) = chmod_words(words) else {
         return Err(ReadError::Grammar);
@@ -172,7 +173,7 @@ pub fn chmod(alloc: Global, words: Words<'_>) -> Result<Call, ReadError>
 
 /// `chown PATH UID GID`.
 pub fn chown(alloc: Global, words: Words<'_>) -> Result<Call, ReadError>
-    ensures { IsCallRead (call_named CallName.Chown words.entry) result }
+    ensures { IsCallRead (call_named One CallName.Chown words.entry) result }
 {
     let Some((path, uid, gid)) = chown_words(words) else {
         return Err(ReadError::Grammar);
@@ -183,7 +184,7 @@ pub fn chown(alloc: Global, words: Words<'_>) -> Result<Call, ReadError>
 
 /// `opaque PATH yes` or `opaque PATH no`.
 pub fn opaque(alloc: Global, words: Words<'_>) -> Result<Call, ReadError>
-    ensures { IsCallRead (call_named CallName.Opaque words.entry) result }
+    ensures { IsCallRead (call_named One CallName.Opaque words.entry) result }
 {
     let Some((path, mark)) = opaque_words(words) else {
         return Err(ReadError::Grammar);
@@ -194,7 +195,7 @@ pub fn opaque(alloc: Global, words: Words<'_>) -> Result<Call, ReadError>
 
 /// `open PATH ACCESS [create MODE | excl MODE]`.
 pub fn open(alloc: Global, words: Words<'_>) -> Result<Call, ReadError>
-    ensures { IsCallRead (call_named CallName.Open words.entry) result }
+    ensures { IsCallRead (call_named One CallName.Open words.entry) result }
 {
     let Some((path, access, creation)) = open_words(words) else {
         return Err(ReadError::Grammar);
@@ -209,7 +210,7 @@ pub fn open(alloc: Global, words: Words<'_>) -> Result<Call, ReadError>
 
 /// `pwrite DESCRIPTOR OFFSET BYTES`.
 pub fn pwrite(alloc: Global, words: Words<'_>) -> Result<Call, ReadError>
-    ensures { IsCallRead (call_named CallName.Pwrite words.entry) result }
+    ensures { IsCallRead (call_named One CallName.Pwrite words.entry) result }
 {
     let Some((descriptor, offset, bytes)) = pwrite_words(words) else {
         return Err(ReadError::Grammar);

@@ -1,20 +1,24 @@
 //! The calls on mounts that are given more than paths.
 ghost use Rattle.std.specs.Prelude.{◌≡◌, option_map, false, true};
 ghost use Rattle.vt_spec.specs.Language.Calls.Call.{MountPlain, Remount, SetType};
+ghost use Rattle.vt_spec.specs.Language.Script.Version.{One};
 ghost use Rattle.vt_cred.specs.MountFlags.{flags_of};
 ghost use Rattle.vt_request.specs.Requests.{type_word_of};
 ghost use Rattle.vt_line.specs.Calls.{call_named, call_worded, IsCallRead};
+ghost use Rattle.vt_line.specs.Versions.{version_of};
 
 use crate::calls::ReadError;
 use crate::names::CallName;
+use crate::version::Version;
 use crate::words::{Words, flags_word, path_word, type_word};
 use std::alloc::Global;
 use vt_cred::MountFlags;
 use vt_request::{Call, MountCall, TypeWord};
 
 /// The words of `mount plain PATH [FLAGS]`. The product has no overlays.
-fn mount_words(mut words: Words<'_>) -> Option<(&[u8], MountFlags)>
-    ensures { option_map (λ w. MountPlain w.0.now (flags_of w.1)) result ≡ call_named CallName.Mount words.entry }
+fn mount_words(version: Version, mut words: Words<'_>) -> Option<(&[u8], MountFlags)>
+    ensures { option_map (λ w. MountPlain w.0.now (flags_of w.1)) result
+        ≡ call_named (version_of version) CallName.Mount words.entry }
 {
     if words.next()? != b"plain".as_slice() {
         return None;
@@ -23,17 +27,18 @@ fn mount_words(mut words: Words<'_>) -> Option<(&[u8], MountFlags)>
     let Some(flags) = words.next() else {
         return Some((path, MountFlags::plain()));
     };
-    let flags = flags_word(flags)?;
+    let flags = flags_word(version, flags)?;
     words.end()?;
     Some((path, flags))
 }
 
 /// The words of `remount PATH FLAGS`.
-fn remount_words(mut words: Words<'_>) -> Option<(&[u8], MountFlags)>
-    ensures { option_map (λ w. Remount w.0.now (flags_of w.1)) result ≡ call_worded CallName.Remount words.entry }
+fn remount_words(version: Version, mut words: Words<'_>) -> Option<(&[u8], MountFlags)>
+    ensures { option_map (λ w. Remount w.0.now (flags_of w.1)) result
+        ≡ call_worded (version_of version) CallName.Remount words.entry }
 {
     let path = path_word(words.next()?)?;
-    let flags = flags_word(words.next()?)?;
+    let flags = flags_word(version, words.next()?)?;
     words.end()?;
     Some((path, flags))
 }
@@ -41,9 +46,9 @@ fn remount_words(mut words: Words<'_>) -> Option<(&[u8], MountFlags)>
 /// The words of `type PATH TYPE` and `rtype PATH TYPE`.
 fn type_words(mut words: Words<'_>) -> Option<(&[u8], TypeWord)>
     ensures one { option_map (λ w. SetType w.0.now (type_word_of w.1) false) result
-        ≡ call_named CallName.SetType words.entry }
+        ≡ call_named One CallName.SetType words.entry }
     ensures recursive { option_map (λ w. SetType w.0.now (type_word_of w.1) true) result
-        ≡ call_named CallName.SetTypeRecursive words.entry }
+        ≡ call_named One CallName.SetTypeRecursive words.entry }
 {
     let path = path_word(words.next()?)?;
     let word = type_word(words.next()?)?;
@@ -52,10 +57,10 @@ fn type_words(mut words: Words<'_>) -> Option<(&[u8], TypeWord)>
 }
 
 /// `mount plain PATH [FLAGS]`.
-pub fn mount(alloc: Global, words: Words<'_>) -> Result<Call, ReadError>
-    ensures { IsCallRead (call_named CallName.Mount words.entry) result }
+pub fn mount(version: Version, alloc: Global, words: Words<'_>) -> Result<Call, ReadError>
+    ensures { IsCallRead (call_named (version_of version) CallName.Mount words.entry) result }
 {
-    let Some((path, flags)) = mount_words(words) else {
+    let Some((path, flags)) = mount_words(version, words) else {
         return Err(ReadError::Grammar);
     };
     let path = path.to_vec(alloc)?;
@@ -63,10 +68,10 @@ pub fn mount(alloc: Global, words: Words<'_>) -> Result<Call, ReadError>
 }
 
 /// `remount PATH FLAGS`.
-pub fn remount(alloc: Global, words: Words<'_>) -> Result<Call, ReadError>
-    ensures { IsCallRead (call_named CallName.Remount words.entry) result }
+pub fn remount(version: Version, alloc: Global, words: Words<'_>) -> Result<Call, ReadError>
+    ensures { IsCallRead (call_named (version_of version) CallName.Remount words.entry) result }
 {
-    let Some((path, flags)) = remount_words(words) else {
+    let Some((path, flags)) = remount_words(version, words) else {
         return Err(ReadError::Grammar);
     };
     let path = path.to_vec(alloc)?;
@@ -75,8 +80,8 @@ pub fn remount(alloc: Global, words: Words<'_>) -> Result<Call, ReadError>
 
 /// `type PATH TYPE`, and `rtype PATH TYPE`, which is recursive.
 pub fn set_type(alloc: Global, words: Words<'_>, recursive: bool) -> Result<Call, ReadError>
-    ensures one { recursive ≡ false → IsCallRead (call_named CallName.SetType words.entry) result }
-    ensures recursive { recursive ≡ true → IsCallRead (call_named CallName.SetTypeRecursive words.entry) result }
+    ensures one { recursive ≡ false → IsCallRead (call_named One CallName.SetType words.entry) result }
+    ensures recursive { recursive ≡ true → IsCallRead (call_named One CallName.SetTypeRecursive words.entry) result }
 {
     let Some((path, word)) = type_words(words) else {
         return Err(ReadError::Grammar);

@@ -1,7 +1,8 @@
-//! The calls of a task on itself that are given more than a path.
+//! The calls of a task on itself that are given more than a path. Both versions of the language read them alike.
 ghost use Rattle.std.specs.Prelude.{◌≡◌, option_map, is_some, true, IfSome};
 ghost use Rattle.vt_spec.specs.Language.Calls.Call.{Fork, Setns};
 ghost use Rattle.vt_spec.specs.Language.Script.{fork_words, task_word};
+ghost use Rattle.vt_spec.specs.Language.Script.Version.{One};
 ghost use Rattle.vt_spec.specs.Lists.{then_some};
 ghost use Rattle.vt_request.specs.Requests.{call_of};
 ghost use Rattle.vt_line.specs.Calls.{call_named, call_worded, child_of, IsCallRead};
@@ -46,7 +47,7 @@ fn fork_words(mut words: Words<'_>) -> Option<Option<Child>>
 fn setns_word(mut words: Words<'_>) -> Option<&[u8]>
     ensures task { IfSome result (λ task. is_some (task_word task.now) ≡ true) }
     ensures call { then_some result (λ task. option_map Setns (task_word task.now))
-        ≡ call_worded CallName.Setns words.entry }
+        ≡ call_worded One CallName.Setns words.entry }
 {
     let task = words.next()?;
     words.end()?;
@@ -55,7 +56,7 @@ fn setns_word(mut words: Words<'_>) -> Option<&[u8]>
 
 /// `umask MODE`.
 pub fn umask(mut words: Words<'_>) -> Option<Call>
-    ensures { option_map call_of result ≡ call_named CallName.Umask words.entry }
+    ensures { option_map call_of result ≡ call_named One CallName.Umask words.entry }
 {
     let mode = mode_word(words.next()?)?;
     words.end()?;
@@ -64,7 +65,7 @@ pub fn umask(mut words: Words<'_>) -> Option<Call>
 
 /// `drop CAPS`.
 pub fn drop(mut words: Words<'_>) -> Option<Call>
-    ensures { option_map call_of result ≡ call_named CallName.Drop words.entry }
+    ensures { option_map call_of result ≡ call_named One CallName.Drop words.entry }
 {
     let caps = capabilities_word(words.next()?)?;
     words.end()?;
@@ -73,7 +74,7 @@ pub fn drop(mut words: Words<'_>) -> Option<Call>
 
 /// `fork [UID GID GROUPS CAPS]`.
 pub fn fork(alloc: Global, words: Words<'_>) -> Result<Call, ReadError>
-    ensures { IsCallRead (call_named CallName.Fork words.entry) result }
+    ensures { IsCallRead (call_named One CallName.Fork words.entry) result }
 {
     let Some(child) = fork_words(words) else {
         return Err(ReadError::Grammar);
@@ -93,7 +94,7 @@ pub fn fork(alloc: Global, words: Words<'_>) -> Result<Call, ReadError>
 
 /// `setns TASK`. Only a name of many numbers can fail.
 pub fn setns(alloc: Global, words: Words<'_>) -> Result<Call, ReadError>
-    ensures { IsCallRead (call_named CallName.Setns words.entry) result }
+    ensures { IsCallRead (call_named One CallName.Setns words.entry) result }
 {
     let Some(task) = setns_word(words) else {
         return Err(ReadError::Grammar);

@@ -5,6 +5,7 @@ use Rattle.vt_spec.specs.Language.Script.Who.{Someone}
 use Rattle.vt_request.specs.Requests.{call_of}
 use Rattle.vt_line.specs.declared.calls.ReadError.TheVariants.{Memory}
 use Rattle.vt_line.specs.Calls.{IsRequestRead, call_named}
+use Rattle.vt_line.specs.Versions.{version_of}
 use Rattle.vt_line.proofs.RequestLemmas.{if_some, request-long, request-refused, task-named}
 use Rattle.vt_line.proofs.line.task_call.Goals as goal
 use Rattle.vt_spec.proofs.Options.{some_from_is_some}
@@ -14,10 +15,10 @@ returns-in_err-call c =
     let task = c.args.task.now in
     let name = c.args.name.now in
     let words = c.args.words in
-    let call = call_named c.in-Some.name words in
+    let call = call_named (version_of c.args.version) c.in-Some.name words in
     let named = some_from_is_some (task_word task) (sym c.is_task.ensures ∙ c.if-not-is_task.false) in
-    let asked = task-named task name words named.0 c.in-Some.name named.1 c.in-Some.ensures.named in
-    let all = asked_by marks (option_map Someone (task_word task)) (name ∷ words) in
+    let asked = task-named (version_of c.args.version) task name words named.0 c.in-Some.name named.1 c.in-Some.ensures.named in
+    let all = asked_by (marks (version_of c.args.version)) (option_map Someone (task_word task)) (name ∷ words) in
     let error : c.from_residual.result ≡ Err c.in_err-call.field-0.0 = search rules in
     subst (IsRequestRead all) (sym error)
     (request-refused all named.0 call c.in_err-call.field-0.0 asked c.in_err-call.ensures)
@@ -27,10 +28,10 @@ returns-in_err-task c =
     let task = c.args.task.now in
     let name = c.args.name.now in
     let words = c.args.words in
-    let call = call_named c.in-Some.name words in
+    let call = call_named (version_of c.args.version) c.in-Some.name words in
     let named = some_from_is_some (task_word task) (sym c.is_task.ensures ∙ c.if-not-is_task.false) in
-    let asked = task-named task name words named.0 c.in-Some.name named.1 c.in-Some.ensures.named in
-    let all = asked_by marks (option_map Someone (task_word task)) (name ∷ words) in
+    let asked = task-named (version_of c.args.version) task name words named.0 c.in-Some.name named.1 c.in-Some.ensures.named in
+    let all = asked_by (marks (version_of c.args.version)) (option_map Someone (task_word task)) (name ∷ words) in
     let error : c.from_residual-in_err-task.result ≡ Err Memory = search rules in
     let long = if_some (λ name. 8 < length name) (task_word task) named.0 named.1 c.in_err-task.ensures.memory in
     subst (IsRequestRead all) (sym error)
@@ -38,6 +39,6 @@ returns-in_err-task c =
 
 pub returns : goal.returns
 returns c =
-    task-named c.args.task.now c.args.name.now c.args.words c.in_ok-task.task c.in-Some.name
+    task-named (version_of c.args.version) c.args.task.now c.args.name.now c.args.words c.in_ok-task.task c.in-Some.name
     c.in_ok-task.ensures.value c.in-Some.ensures.named
     ∙ ap (option_map (Calling c.in_ok-task.task)) c.in_ok-call.ensures

@@ -10,4 +10,4 @@ returns-in_err-answer-clause-feeds g c =
 
 pub returns-clause-feeds : goal.returns-clause-feeds
 returns-clause-feeds g c = λ line reading.
-    fed_line g.W.Sink _ _ line _ _ reading (c.in_ok-answer.ensures.replies line reading.held) refl c.clear.ensures.holds
+    fed_line g.W.Sink _ _ line _ _ reading (c.in_ok-answer.ensures.replies line reading.held) refl refl c.clear.ensures.holds

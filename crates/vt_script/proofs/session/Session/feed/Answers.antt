@@ -56,7 +56,7 @@ returns-clause-feeds g c = λ begun reading.
     let old = state_of g.C.Calls.world c.loop-line.self in
     let new = state_of g.C.Calls.world (record c.loop-line.self { line = c.extend.new.self }) in
     let first = inv.feeds begun reading in
-    let last = fed_bytes g.W.Sink old new first.line rest c.loop-line.sink first.reading c.in_default.ensures refl refl
+    let last = fed_bytes g.W.Sink old new first.line rest c.loop-line.sink first.reading c.in_default.ensures refl refl refl
     (c.extend.ensures.holds first.line first.reading.held) in
     subst (λ bytes. Fed g.W.Sink (moment
     (state_of g.C.Calls.world c.args.self.now) begun) bytes new c.args.sink.now c.loop-line.sink) (sym inv.split)

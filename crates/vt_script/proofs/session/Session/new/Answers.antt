@@ -1,10 +1,12 @@
 use Rattle.std.proofs.Common.{ap, [], ℕ}
 use Rattle.vt_spec.specs.Machine.World.{World}
+use Rattle.vt_line.specs.Versions.{version_of}
 use Rattle.vt_script.specs.Progress.{Moment}
 use Rattle.vt_script.proofs.session.Session.new.Goals as goal
 
 pub returns-clause-opening : goal.returns-clause-opening
 returns-clause-opening g c =
-    let begun : World ℕ → Moment = λ world. record { world = world; answered = 0; line = [] } in
+    let begun : World ℕ → Moment = λ world.
+    record { version = version_of c.args.version; world = world; answered = 0; line = [] } in
     let opened = c.in-Ok-opening.ensures.opened in
     (opened.0, opened.1, ap begun opened.2)

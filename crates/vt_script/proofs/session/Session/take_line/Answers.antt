@@ -8,7 +8,7 @@ pub returns-clause-feeds : goal.returns-clause-feeds
 returns-clause-feeds g c = λ line reading.
     let old = state_of g.C.Calls.world c.args.self.now in
     let middle = state_of g.C.Calls.world (record c.args.self.now { line = c.extend.new.self }) in
-    let first = fed_bytes g.W.Sink old middle line c.args.rest.now c.args.sink.now reading c.requires.one refl refl
+    let first = fed_bytes g.W.Sink old middle line c.args.rest.now c.args.sink.now reading c.requires.one refl refl refl
     (c.extend.ensures.holds line reading.held) in
     feeds_then g.W.Sink (moment old line) c.args.rest.now (10 ∷ []) middle _ _ _ _ c.end_line.result first
     (c.end_line.ensures.feeds first.line first.reading)
