@@ -5,6 +5,7 @@ use crate::report::{Finding, Level, Report, report_of};
 use crate::{json, text};
 use std::alloc::{AllocError, Global};
 use std::io::{self, Write};
+use vt_line::version::Version;
 
 /// The form in which findings are written.
 #[derive(Clone, Copy, PartialEq, Eq)]
@@ -16,6 +17,8 @@ pub enum Format {
 /// How a script is checked.
 #[derive(Clone, Copy)]
 pub struct Options {
+    /// Of the scripts' language.
+    pub version: Version,
     pub format: Format,
     /// Whether warnings are errors.
     pub strict: bool,
@@ -63,14 +66,16 @@ pub fn check<W: Write>(
     options: Options,
     output: &mut W,
 ) -> io::Result<bool> {
-    let report = report_of(alloc, script)?;
+    let report = report_of(options.version, alloc, script)?;
     write_findings(alloc, name, options, &report, output)?;
     write_summary(alloc, name, options.format, &report, output)?;
     Ok(report.errors > 0 || (options.strict && report.warnings > 0))
 }
 
-/// What is wrong with a line of this number in the file of this name, as text. A run refuses the line by S1.
+/// What is wrong with a line of this number in the file of this name, as text. A run refuses the line by S1, in this
+/// version of the language.
 pub fn explained(
+    version: Version,
     alloc: Global,
     name: &str,
     number: u64,
@@ -80,7 +85,7 @@ pub fn explained(
         line: number,
         text: line.to_vec(alloc)?,
         level: Level::Error,
-        diagnosis: diagnosis(alloc, line)?,
+        diagnosis: diagnosis(version, alloc, line)?,
     };
     text::shown(alloc, name, false, &finding)
 }

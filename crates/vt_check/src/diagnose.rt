@@ -5,6 +5,7 @@ use crate::finding::{Diagnosis, Help, Span};
 use crate::repair::help;
 use crate::words::{Given, words_of};
 use std::alloc::{AllocError, Global};
+use vt_line::version::Version;
 use vt_lines::proposal::Proposal;
 
 const NOT_THIS_VERSION: &str = "not in this version";
@@ -82,6 +83,7 @@ fn lower_case(alloc: Global, rest: &str) -> Result<Option<String>, AllocError> {
 
 // The line with another text in the place of what begins at a column and has this width.
 fn with_escape(
+    version: Version,
     alloc: Global,
     line: &str,
     column: usize,
@@ -90,11 +92,16 @@ fn with_escape(
 ) -> Result<Option<Proposal>, AllocError> {
     let before = line.get(..column).unwrap_or_default();
     let after = line.get(column.saturating_add(width)..).unwrap_or_default();
-    Proposal::new(alloc, format!(in alloc; "{before}{text}{after}")?)
+    Proposal::new(
+        version,
+        alloc,
+        format!(in alloc; "{before}{text}{after}")?,
+    )
 }
 
 // The line with the escape that is meant.
 fn with_meant_escape(
+    version: Version,
     alloc: Global,
     line: &[u8],
     span: Span,
@@ -105,31 +112,37 @@ fn with_meant_escape(
     let rest = line.get(span.column..).unwrap_or_default();
     let escape = rest.get(..span.width).unwrap_or_default();
     if let Some(text) = escape_for(escape) {
-        return with_escape(alloc, line, span.column, span.width, text);
+        return with_escape(version, alloc, line, span.column, span.width, text);
     }
     match lower_case(alloc, rest)? {
-        Some(text) => with_escape(alloc, line, span.column, 4, text.as_str()),
+        Some(text) => with_escape(version, alloc, line, span.column, 4, text.as_str()),
         None => Ok(None),
     }
 }
 
 // The line with good bytes in the place of bad ones.
 fn with_good_bytes(
+    version: Version,
     alloc: Global,
     line: &[u8],
     fault: ByteFault,
 ) -> Result<Option<Proposal>, AllocError> {
     match fault.kind {
-        ByteKind::Escape => with_meant_escape(alloc, line, fault.span),
+        ByteKind::Escape => with_meant_escape(version, alloc, line, fault.span),
         ByteKind::Overlong | ByteKind::Control => Ok(None),
-        _ => Proposal::new(alloc, spelled(alloc, line)?),
+        _ => Proposal::new(version, alloc, spelled(alloc, line)?),
     }
 }
 
 // What is wrong with the bytes of a line.
-fn of_bytes(alloc: Global, line: &[u8], fault: ByteFault) -> Result<Diagnosis, AllocError> {
+fn of_bytes(
+    version: Version,
+    alloc: Global,
+    line: &[u8],
+    fault: ByteFault,
+) -> Result<Diagnosis, AllocError> {
     let (message, words) = said_of(fault.kind);
-    let help = match with_good_bytes(alloc, line, fault)? {
+    let help = match with_good_bytes(version, alloc, line, fault)? {
         Some(line) => Help::line(alloc, line, words)?,
         None => Help::words(alloc, words),
     };
@@ -156,16 +169,17 @@ fn of_escape(alloc: Global, line: &[u8], span: Span) -> Result<String, AllocErro
 }
 
 // What is wrong with the words of a line.
-fn of_words(alloc: Global, text: &str) -> Result<Diagnosis, AllocError> {
+fn of_words(version: Version, alloc: Global, text: &str) -> Result<Diagnosis, AllocError> {
     let words = words_of(alloc, text)?;
     let line = Given {
+        version,
         text,
         words: words.as_slice(),
     };
     let fault = first_fault(alloc, line)?;
     Ok(Diagnosis {
         span: fault.span(line),
-        message: fault.message(alloc)?,
+        message: fault.message(version, alloc)?,
         help: help(alloc, line, fault)?,
         note: match fault {
             Fault::Later(_, _) => NOT_THIS_VERSION,
@@ -174,10 +188,11 @@ fn of_words(alloc: Global, text: &str) -> Result<Diagnosis, AllocError> {
     })
 }
 
-/// What is wrong with a line that a run refuses by S1, where, and what to write in its place.
-pub fn diagnosis(alloc: Global, line: &[u8]) -> Result<Diagnosis, AllocError> {
+/// What is wrong with a line that a run refuses by S1 in a version of the language, where, and what to write in its
+/// place.
+pub fn diagnosis(version: Version, alloc: Global, line: &[u8]) -> Result<Diagnosis, AllocError> {
     if let Some(fault) = byte_fault(line) {
-        return of_bytes(alloc, line, fault);
+        return of_bytes(version, alloc, line, fault);
     }
-    of_words(alloc, str::from_utf8(line).unwrap_or_default())
+    of_words(version, alloc, str::from_utf8(line).unwrap_or_default())
 }

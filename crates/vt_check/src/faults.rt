@@ -4,6 +4,7 @@ use crate::grammar::{Argument, CallWords, Kind, call_named};
 use crate::unmodelled::unmodelled_in;
 use crate::words::{Given, Word};
 use std::alloc::{AllocError, Global};
+use vt_line::version::Version;
 use vt_lines::reading::is_taken;
 
 /// The directive of `!`, written as a call.
@@ -28,6 +29,8 @@ pub enum Fault<'a> {
     LacksCall,
     /// A word of a later version, of which this version has none.
     Later(&'static str, Word<'a>),
+    /// A word of version 2 of the language, where version 1 is read.
+    OfSecond(Word<'a>),
     /// A word of Linux that is not modelled, and what stands in its place.
     Unmodelled(&'static str, Word<'a>),
     /// A word that begins as an option, where calls have none.
@@ -47,7 +50,7 @@ impl<'a> Fault<'a> {
     pub fn span(self, line: Given<'a>) -> Span {
         match self {
             Fault::NoTask(word) | Fault::NoCall(word) | Fault::NoDirective(word) => word.span(),
-            Fault::Later(_, word) | Fault::Unmodelled(_, word) => word.span(),
+            Fault::Later(_, word) | Fault::Unmodelled(_, word) | Fault::OfSecond(word) => word.span(),
             Fault::NoOption(_, word) | Fault::Bad(_, _, word) | Fault::Further(_, word) => {
                 word.span()
             }
@@ -56,16 +59,17 @@ impl<'a> Fault<'a> {
     }
 
     /// The same in one sentence.
-    pub fn message(self, alloc: Global) -> Result<String, AllocError> {
+    pub fn message(self, version: Version, alloc: Global) -> Result<String, AllocError> {
         match self {
             Fault::NoTask(word) => told(alloc, "no task", word.text),
             Fault::NoCall(word) => told(alloc, "no call", word.text),
             Fault::NoDirective(word) => told(alloc, "no directive", word.text),
             Fault::LacksCall => String::from_str(alloc, "the line ends before its call"),
             Fault::Later(what, word) => told(alloc, what, word.text),
+            Fault::OfSecond(word) => of_second(alloc, word.text),
             Fault::Unmodelled(_, word) => of_unmodelled(alloc, word.text),
             Fault::NoOption(call, word) => of_option(alloc, call.name, word.text),
-            Fault::Bad(argument, word, part) => of_bad(alloc, argument, word, part),
+            Fault::Bad(argument, word, part) => of_bad(version, alloc, argument, word, part),
             Fault::Further(call, word) => of_further(alloc, call.usage, word.text),
             Fault::Lacks(call, argument) => of_lacking(alloc, call.usage, argument.name),
             Fault::Other => String::from_str(alloc, "not a line of the grammar"),
@@ -77,6 +81,10 @@ fn told(alloc: Global, what: &str, word: &str) -> Result<String, AllocError> {
     format!(in alloc; "{what} `{word}`")
 }
 
+fn of_second(alloc: Global, word: &str) -> Result<String, AllocError> {
+    format!(in alloc; "`{word}` is a flag of script version 2")
+}
+
 fn of_unmodelled(alloc: Global, word: &str) -> Result<String, AllocError> {
     format!(in alloc; "`{word}` is not modelled")
 }
@@ -86,6 +94,7 @@ fn of_option(alloc: Global, call: &str, word: &str) -> Result<String, AllocError
 }
 
 fn of_bad(
+    version: Version,
     alloc: Global,
     argument: Argument,
     word: Word<'_>,
@@ -93,7 +102,7 @@ fn of_bad(
 ) -> Result<String, AllocError> {
     let is_part = part.text.len() < word.text.len();
     let name = if is_part {
-        argument.kind.words().part
+        argument.kind.words(version).part
     } else {
         argument.name
     };
@@ -115,11 +124,16 @@ fn of_lacking(alloc: Global, usage: &str, name: &str) -> Result<String, AllocErr
 }
 
 /// Whether a word is of a kind: whether a run takes it in the line of that kind.
-pub fn fits(alloc: Global, kind: Kind, text: &str) -> Result<bool, AllocError> {
-    let words = kind.words();
+pub fn fits(
+    version: Version,
+    alloc: Global,
+    kind: Kind,
+    text: &str,
+) -> Result<bool, AllocError> {
+    let words = kind.words(version);
     let (before, after) = (words.before, words.after);
     let line = format!(in alloc; "{before}{text}{after}")?;
-    is_taken(alloc, line.as_bytes())
+    is_taken(version, alloc, line.as_bytes())
 }
 
 // Whether a word is written as an option where a path or the kind of a filesystem stands.
@@ -128,13 +142,18 @@ fn is_option(kind: Kind, text: &str) -> bool {
 }
 
 // The part of a bad word that is at fault: the word itself, or the first between commas that is bad alone.
-fn bad_part<'a>(alloc: Global, kind: Kind, word: Word<'a>) -> Result<Word<'a>, AllocError> {
-    if kind.words().part.is_empty() {
+fn bad_part<'a>(
+    version: Version,
+    alloc: Global,
+    kind: Kind,
+    word: Word<'a>,
+) -> Result<Word<'a>, AllocError> {
+    if kind.words(version).part.is_empty() {
         return Ok(word);
     }
     let mut column = word.column;
     for text in word.text.split(',') {
-        if !fits(alloc, kind, text)? {
+        if !fits(version, alloc, kind, text)? {
             return Ok(Word { column, text });
         }
         column = column.saturating_add(text.len()).saturating_add(1);
@@ -144,6 +163,7 @@ fn bad_part<'a>(alloc: Global, kind: Kind, word: Word<'a>) -> Result<Word<'a>, A
 
 // The first of these arguments that has no good word.
 fn fault_among<'a>(
+    version: Version,
     alloc: Global,
     call: &'static CallWords,
     arguments: &'static [Argument],
@@ -156,8 +176,8 @@ fn fault_among<'a>(
         if is_option(argument.kind, word.text) {
             return Ok(Some(Fault::NoOption(call, *word)));
         }
-        if !fits(alloc, argument.kind, word.text)? {
-            let part = bad_part(alloc, argument.kind, *word)?;
+        if !fits(version, alloc, argument.kind, word.text)? {
+            let part = bad_part(version, alloc, argument.kind, *word)?;
             return Ok(Some(Fault::Bad(*argument, *word, part)));
         }
     }
@@ -166,11 +186,12 @@ fn fault_among<'a>(
 
 // What is wrong with the words of a call.
 fn fault_of_call<'a>(
+    version: Version,
     alloc: Global,
     call: &'static CallWords,
     words: &[Word<'a>],
 ) -> Result<Fault<'a>, AllocError> {
-    if let Some(fault) = fault_among(alloc, call, call.needed, words)? {
+    if let Some(fault) = fault_among(version, alloc, call, call.needed, words)? {
         return Ok(fault);
     }
     let words = words.get(call.needed.len()..).unwrap_or_default();
@@ -180,7 +201,7 @@ fn fault_of_call<'a>(
     if call.optional.is_empty() {
         return Ok(Fault::Further(call, *first));
     }
-    if let Some(fault) = fault_among(alloc, call, call.optional, words)? {
+    if let Some(fault) = fault_among(version, alloc, call, call.optional, words)? {
         return Ok(fault);
     }
     Ok(match words.get(call.optional.len()) {
@@ -209,6 +230,24 @@ fn overlay_of<'a>(name: Word<'a>, words: &[Word<'a>]) -> Option<Word<'a>> {
     (name.text == "mount" && word.text == "overlay").then_some(*word)
 }
 
+// The flag among the flags of a line of version 1 that only version 2 knows.
+fn second_flag_of(version: Version, fault: Fault<'_>) -> Option<Word<'_>> {
+    let Fault::Bad(argument, word, _) = fault else {
+        return None;
+    };
+    if version == Version::Two || argument.kind != Kind::Flags {
+        return None;
+    }
+    let mut column = word.column;
+    for text in word.text.split(',') {
+        if text == "nosymfollow" {
+            return Some(Word { column, text });
+        }
+        column = column.saturating_add(text.len()).saturating_add(1);
+    }
+    None
+}
+
 // What is wrong with a task's line.
 fn fault_of_task<'a>(
     alloc: Global,
@@ -223,19 +262,22 @@ fn fault_of_task<'a>(
         return Ok(Fault::Later("no filesystem type", word));
     }
     let fault = match call_named(name.text) {
-        Some(call) => fault_of_call(alloc, call, words)?,
+        Some(call) => fault_of_call(line.version, alloc, call, words)?,
         None => Fault::NoCall(name),
     };
+    if let Some(word) = second_flag_of(line.version, fault) {
+        return Ok(Fault::OfSecond(word));
+    }
     Ok(match unmodelled_in(words) {
-        Some(word) => Fault::Unmodelled(said_of(fault), word),
+        Some(word) => Fault::Unmodelled(said_of(line.version, fault), word),
         None => fault,
     })
 }
 
 // What is said of the kind of a bad word.
-fn said_of(fault: Fault<'_>) -> &'static str {
+fn said_of(version: Version, fault: Fault<'_>) -> &'static str {
     match fault {
-        Fault::Bad(argument, _, _) => argument.kind.words().said,
+        Fault::Bad(argument, _, _) => argument.kind.words(version).said,
         _ => "",
     }
 }
@@ -246,7 +288,7 @@ pub fn first_fault<'a>(alloc: Global, line: Given<'a>) -> Result<Fault<'a>, Allo
         return Ok(Fault::Other);
     };
     let is_directive = who.text == "!";
-    if !is_directive && !fits(alloc, Kind::Task, who.text)? {
+    if !is_directive && !fits(line.version, alloc, Kind::Task, who.text)? {
         return Ok(Fault::NoTask(*who));
     }
     let Some(name) = line.words.get(1) else {

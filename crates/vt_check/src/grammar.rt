@@ -3,6 +3,8 @@
 //! Whether a word is of a kind only the reader of lines decides: each kind has a line in which no other word can be at
 //! fault, and the word is put into it.
 
+use vt_line::version::Version;
+
 /// What a word of a call may be.
 #[derive(Clone, Copy, PartialEq, Eq)]
 pub enum Kind {
@@ -66,6 +68,19 @@ pub const CAPABILITIES: [&str; 8] = [
     "CAP_SETUID",
     "CAP_SYS_CHROOT",
     "CAP_SYS_ADMIN",
+];
+
+static FIRST_FLAGS: [&str; 4] = ["rw", "ro", "rw,noexec", "ro,noexec"];
+
+static SECOND_FLAGS: [&str; 8] = [
+    "rw",
+    "ro",
+    "rw,noexec",
+    "ro,noexec",
+    "rw,nosymfollow",
+    "ro,nosymfollow",
+    "rw,noexec,nosymfollow",
+    "ro,noexec,nosymfollow",
 ];
 
 const ACCESS: Argument = Argument {
@@ -421,9 +436,31 @@ pub const CALLS: [CallWords; 39] = [
     },
 ];
 
+// What is said of the flags of a mount. Version 2 has one more.
+fn flags_words(version: Version) -> KindWords {
+    let (said, choices) = match version {
+        Version::One => (
+            "FLAGS is `rw`, `ro`, `rw,noexec` or `ro,noexec`",
+            FIRST_FLAGS.as_slice(),
+        ),
+        Version::Two => (
+            "FLAGS is `rw` or `ro`, then `,noexec` or nothing, then `,nosymfollow` or nothing",
+            SECOND_FLAGS.as_slice(),
+        ),
+    };
+    KindWords {
+        before: "t remount / ",
+        after: "",
+        said,
+        plain: "rw",
+        part: "",
+        choices,
+    }
+}
+
 impl Kind {
-    /// What is said of its words.
-    pub fn words(self) -> KindWords {
+    /// What is said of its words, in a version of the language.
+    pub fn words(self, version: Version) -> KindWords {
         match self {
             Kind::Access => KindWords {
                 before: "t open / ",
@@ -473,14 +510,7 @@ impl Kind {
                 part: "",
                 choices: &["plain"],
             },
-            Kind::Flags => KindWords {
-                before: "t remount / ",
-                after: "",
-                said: "FLAGS is `rw`, `ro`, `rw,noexec` or `ro,noexec`",
-                plain: "rw",
-                part: "",
-                choices: &["rw", "ro", "rw,noexec", "ro,noexec"],
-            },
+            Kind::Flags => flags_words(version),
             Kind::Groups => KindWords {
                 before: "t fork 0 0 ",
                 after: " -",

@@ -3,9 +3,10 @@ use crate::grammar::{CALLS, CAPABILITIES, Kind};
 use crate::unmodelled::is_unmodelled;
 use std::alloc::{AllocError, Global};
 use strsim::osa_distance;
+use vt_line::version::Version;
 
 /// Words that stand for others, each kind's.
-static SYNONYMS: [(Kind, &str, &str); 36] = [
+static SYNONYMS: [(Kind, &str, &str); 41] = [
     (Kind::Access, "O_RDONLY", "r"),
     (Kind::Access, "O_WRONLY", "w"),
     (Kind::Access, "O_RDWR", "rw"),
@@ -32,6 +33,11 @@ static SYNONYMS: [(Kind, &str, &str); 36] = [
     (Kind::Flags, "readonly", "ro"),
     (Kind::Flags, "MS_RDONLY", "ro"),
     (Kind::Flags, "MS_NOEXEC", "rw,noexec"),
+    (Kind::Flags, "nosymfollow", "rw,nosymfollow"),
+    (Kind::Flags, "MS_NOSYMFOLLOW", "rw,nosymfollow"),
+    (Kind::Flags, "nosymfollow,rw", "rw,nosymfollow"),
+    (Kind::Flags, "nosymfollow,ro", "ro,nosymfollow"),
+    (Kind::Flags, "noexec,nosymfollow", "rw,noexec,nosymfollow"),
     (Kind::Groups, "none", "-"),
     (Kind::Identity, "root", "0"),
     (Kind::KeptIdentity, "root", "0"),
@@ -147,7 +153,12 @@ fn groups(alloc: Global, text: &str) -> Result<Option<String>, AllocError> {
 }
 
 /// The word of a kind that a text means, if one is clear.
-pub fn corrected(alloc: Global, kind: Kind, text: &str) -> Result<Option<String>, AllocError> {
+pub fn corrected(
+    version: Version,
+    alloc: Global,
+    kind: Kind,
+    text: &str,
+) -> Result<Option<String>, AllocError> {
     if let Some(word) = synonym(kind, text) {
         return Ok(Some(String::from_str(alloc, word)?));
     }
@@ -156,7 +167,7 @@ pub fn corrected(alloc: Global, kind: Kind, text: &str) -> Result<Option<String>
         Kind::Mode => mode(alloc, text),
         Kind::Task => task(alloc, text),
         Kind::Groups => groups(alloc, text),
-        _ => match nearest(alloc, text, kind.words().choices)? {
+        _ => match nearest(alloc, text, kind.words(version).choices)? {
             Some(word) => Ok(Some(String::from_str(alloc, word)?)),
             None => Ok(None),
         },

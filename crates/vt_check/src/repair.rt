@@ -6,12 +6,15 @@ use crate::nearest::{corrected, nearest_call};
 use crate::rewrites::{is_known, rewritten};
 use crate::words::{Given, Word, joined, push_word, with_word};
 use std::alloc::{AllocError, Global};
+use vt_line::version::Version;
 use vt_lines::proposal::Proposal;
 
 const LINE: &str = "a line is a task, a call and its words; a comment begins with `#`";
 
 const OF_TEST: &str =
     "names of scripts and answers that are wanted stand in files for `vtree test`";
+
+const SECOND: &str = "`--script 2` reads the file in that version";
 
 const SET_ID: &str =
     "the bits of set-user-ID and set-group-ID are not modelled; MODE is at most 1777";
@@ -23,7 +26,7 @@ fn replaced(
     at: Word<'_>,
     text: &str,
 ) -> Result<Option<Proposal>, AllocError> {
-    Proposal::new(alloc, with_word(alloc, line.words, at, text)?)
+    Proposal::new(line.version, alloc, with_word(alloc, line.words, at, text)?)
 }
 
 // The line with what a word of this kind means in its place.
@@ -33,7 +36,7 @@ fn mended(
     kind: Kind,
     at: Word<'_>,
 ) -> Result<Option<Proposal>, AllocError> {
-    match corrected(alloc, kind, at.text)? {
+    match corrected(line.version, alloc, kind, at.text)? {
         Some(text) => replaced(alloc, line, at, text.as_str()),
         None => Ok(None),
     }
@@ -58,7 +61,7 @@ fn owner_and_group(
     }
     push_word(&mut text, user)?;
     push_word(&mut text, group)?;
-    Proposal::new(alloc, text)
+    Proposal::new(line.version, alloc, text)
 }
 
 // The line up to a word that begins a comment.
@@ -71,7 +74,7 @@ fn without_comment(alloc: Global, line: Given<'_>) -> Result<Option<Proposal>, A
         return Ok(None);
     };
     let words = line.words.get(..place).unwrap_or_default();
-    Proposal::new(alloc, joined(alloc, words)?)
+    Proposal::new(line.version, alloc, joined(alloc, words)?)
 }
 
 // The line with its words from one on as one word, with spaces and without the quotes around them.
@@ -92,7 +95,7 @@ fn as_one_word(
     let bare = text.as_str().trim_matches(['"', '\'']);
     let mut whole = joined(alloc, before)?;
     push_word(&mut whole, bare)?;
-    Proposal::new(alloc, whole)
+    Proposal::new(line.version, alloc, whole)
 }
 
 // The line with a plain word for each that is missing.
@@ -115,13 +118,13 @@ fn completed(
         given.saturating_sub(needed)
     };
     for argument in arguments.iter().skip(given) {
-        let plain = argument.kind.words().plain;
+        let plain = argument.kind.words(line.version).plain;
         if plain.is_empty() {
             return Ok(None);
         }
         push_word(&mut text, plain)?;
     }
-    Proposal::new(alloc, text)
+    Proposal::new(line.version, alloc, text)
 }
 
 // The line as help, or words alone.
@@ -139,17 +142,17 @@ fn for_task(alloc: Global, line: Given<'_>, at: Word<'_>) -> Result<Help, AllocE
     }
     if call_named(at.text).is_some() {
         let whole = joined(alloc, line.words)?;
-        let line = Proposal::new(alloc, format!(in alloc; "t {whole}")?)?;
+        let line = Proposal::new(line.version, alloc, format!(in alloc; "t {whole}")?)?;
         return help_of(alloc, line, LINE);
     }
     let mended = mended(alloc, line, Kind::Task, at)?;
-    help_of(alloc, mended, Kind::Task.words().said)
+    help_of(alloc, mended, Kind::Task.words(line.version).said)
 }
 
 // The line as a comment, behind what begins one elsewhere.
 fn for_comment(alloc: Global, line: Given<'_>) -> Result<Help, AllocError> {
     let rest = line.text.trim_start_matches([' ', '/', ';', '-']);
-    let line = Proposal::new(alloc, format!(in alloc; "# {rest}")?)?;
+    let line = Proposal::new(line.version, alloc, format!(in alloc; "# {rest}")?)?;
     help_of(alloc, line, LINE)
 }
 
@@ -171,15 +174,15 @@ fn for_call(alloc: Global, line: Given<'_>, at: Word<'_>) -> Result<Help, AllocE
 fn for_directive(alloc: Global, line: Given<'_>, at: Word<'_>) -> Result<Help, AllocError> {
     if call_named(at.text).is_some() {
         let rest = joined(alloc, line.request())?;
-        let line = Proposal::new(alloc, format!(in alloc; "t {rest}")?)?;
+        let line = Proposal::new(line.version, alloc, format!(in alloc; "t {rest}")?)?;
         return help_of(alloc, line, "");
     }
-    for_peers(alloc)
+    for_peers(line.version, alloc)
 }
 
 // Help where a word is not of its kind.
 fn for_word(alloc: Global, line: Given<'_>, kind: Kind, at: Word<'_>) -> Result<Help, AllocError> {
-    let said = kind.words().said;
+    let said = kind.words(line.version).said;
     if kind == Kind::Mode && has_set_id(at.text) {
         return Ok(Help::words(alloc, SET_ID));
     }
@@ -201,18 +204,18 @@ fn for_further(alloc: Global, line: Given<'_>, call: &CallWords) -> Result<Help,
     let is_of_bytes = |argument: &Argument| argument.kind == Kind::Bytes;
     if call.needed.last().is_some_and(is_of_bytes) {
         let first = call.needed.len().saturating_add(1);
-        let line = as_one_word(alloc, line, first)?;
-        return help_of(alloc, line, Kind::Bytes.words().said);
+        let whole = as_one_word(alloc, line, first)?;
+        return help_of(alloc, whole, Kind::Bytes.words(line.version).said);
     }
     if call.name == "peers" {
-        return for_peers(alloc);
+        return for_peers(line.version, alloc);
     }
     Ok(Help::words(alloc, ""))
 }
 
 // The one directive.
-fn for_peers(alloc: Global) -> Result<Help, AllocError> {
-    let line = Proposal::new(alloc, String::from_str(alloc, "! peers")?)?;
+fn for_peers(version: Version, alloc: Global) -> Result<Help, AllocError> {
+    let line = Proposal::new(version, alloc, String::from_str(alloc, "! peers")?)?;
     help_of(alloc, line, "")
 }
 
@@ -230,7 +233,7 @@ fn with_parents(alloc: Global, line: Given<'_>) -> Result<Option<Help>, AllocErr
             _ if end == path.len() => path,
             _ => continue,
         };
-        if let Some(line) = Proposal::new(alloc, format!(in alloc; "{who} mkdir {front}")?)? {
+        if let Some(line) = Proposal::new(line.version, alloc, format!(in alloc; "{who} mkdir {front}")?)? {
             lines.push(line)?;
         }
     }
@@ -262,10 +265,11 @@ fn for_fault(alloc: Global, line: Given<'_>, fault: Fault<'_>) -> Result<Help, A
         Fault::NoOption(call, _) => Ok(Help::words(alloc, call.usage)),
         Fault::Lacks(call, argument) => {
             let whole = completed(alloc, line, call)?;
-            help_of(alloc, whole, argument.kind.words().said)
+            help_of(alloc, whole, argument.kind.words(line.version).said)
         }
         Fault::Unmodelled(said, _) => Ok(Help::words(alloc, said)),
         Fault::Later(_, _) => Ok(Help::words(alloc, "")),
+        Fault::OfSecond(_) => Ok(Help::words(alloc, SECOND)),
         Fault::LacksCall | Fault::Other => Ok(Help::words(alloc, LINE)),
     }
 }
@@ -291,7 +295,7 @@ fn of_rewritten(
     fault: Fault<'_>,
 ) -> Result<Option<Help>, AllocError> {
     match fault {
-        Fault::Later(_, _) | Fault::Unmodelled(_, _) => Ok(None),
+        Fault::Later(_, _) | Fault::Unmodelled(_, _) | Fault::OfSecond(_) => Ok(None),
         Fault::NoOption(call, word) if call.name == "mkdir" && word.text == "-p" => {
             with_parents(alloc, line)
         }

@@ -1,5 +1,6 @@
 //! What is found in a whole script.
 ghost use Rattle.std.specs.Prelude.{◌≡◌, IfOk};
+ghost use Rattle.vt_line.specs.Versions.{version_of};
 ghost use Rattle.vt_lines.specs.Refused.{is_refused, refused_in};
 
 use crate::bytes::byte_fault;
@@ -10,6 +11,7 @@ use crate::words::{Word, words_of};
 use std::alloc::{AllocError, Global};
 use strsim::osa_distance;
 use vt_line::line::Line;
+use vt_line::version::Version;
 use vt_lines::lines::first_line;
 use vt_lines::reading::reading;
 use vt_request::{Call, TaskName};
@@ -101,14 +103,20 @@ impl Scan {
     }
 
     // Keeps what is wrong with a refused line.
-    fn refuse(&mut self, alloc: Global, number: u64, line: &[u8]) -> Result<(), AllocError> {
-        if let Some(name) = forking_task(alloc, line)? {
+    fn refuse(
+        &mut self,
+        version: Version,
+        alloc: Global,
+        number: u64,
+        line: &[u8],
+    ) -> Result<(), AllocError> {
+        if let Some(name) = forking_task(version, alloc, line)? {
             self.history.refused_fork(number, &name);
         }
         if self.is_told(line) || self.findings.len() >= MOST_SHOWN {
             return Ok(());
         }
-        let found = diagnosis(alloc, line)?;
+        let found = diagnosis(version, alloc, line)?;
         self.find(alloc, number, line, Level::Error, found)
     }
 
@@ -126,12 +134,18 @@ impl Scan {
     }
 
     // Goes on by a line, and says whether a run refuses it.
-    fn take(&mut self, alloc: Global, number: u64, line: &[u8]) -> Result<bool, AllocError>
-        ensures { IfOk result (λ refused. refused ≡ is_refused line.now) }
+    fn take(
+        &mut self,
+        version: Version,
+        alloc: Global,
+        number: u64,
+        line: &[u8],
+    ) -> Result<bool, AllocError>
+        ensures { IfOk result (λ refused. refused ≡ is_refused (version_of version) line.now) }
     {
-        match reading(alloc, line)? {
+        match reading(version, alloc, line)? {
             None => {
-                self.refuse(alloc, number, line)?;
+                self.refuse(version, alloc, number, line)?;
                 Ok(true)
             }
             Some(Line::Call(name, call)) => {
@@ -177,7 +191,11 @@ fn line_of(text: &[u8], number: u64) -> &[u8] {
 }
 
 // The task of a refused line that was to fork a child.
-fn forking_task(alloc: Global, line: &[u8]) -> Result<Option<TaskName>, AllocError> {
+fn forking_task(
+    version: Version,
+    alloc: Global,
+    line: &[u8],
+) -> Result<Option<TaskName>, AllocError> {
     let Ok(text) = str::from_utf8(line) else {
         return Ok(None);
     };
@@ -189,7 +207,7 @@ fn forking_task(alloc: Global, line: &[u8]) -> Result<Option<TaskName>, AllocErr
         return Ok(None);
     }
     let exit = format!(in alloc; "{who} exit")?;
-    Ok(match reading(alloc, exit.as_bytes())? {
+    Ok(match reading(version, alloc, exit.as_bytes())? {
         Some(Line::Call(task, _call)) => Some(task),
         _ => None,
     })
@@ -237,10 +255,10 @@ fn ended(mut scan: Scan, alloc: Global, text: &[u8], errors: u64) -> Result<Repo
     })
 }
 
-/// What is found in a script. As many lines are errors as a run refuses by S1.
+/// What is found in a script, in a version of its language. As many lines are errors as a run refuses by S1.
 #[tactic(auto, using(vt_lines::proofs::LineLemmas::refused_lines))]
-pub fn report_of(alloc: Global, text: &[u8]) -> Result<Report, AllocError>
-    ensures { IfOk result (λ report. report.errors ≡ refused_in text.now) }
+pub fn report_of(version: Version, alloc: Global, text: &[u8]) -> Result<Report, AllocError>
+    ensures { IfOk result (λ report. report.errors ≡ refused_in (version_of version) text.now) }
 {
     let mut scan = Scan::new(alloc)?;
     let mut rest = text;
@@ -248,7 +266,7 @@ pub fn report_of(alloc: Global, text: &[u8]) -> Result<Report, AllocError>
     let mut errors: u64 = 0;
     while let Some((line, after)) = first_line(rest) {
         number = number.saturating_add(1);
-        if scan.take(alloc, number, line)? {
+        if scan.take(version, alloc, number, line)? {
             errors += 1;
         }
         rest = after;

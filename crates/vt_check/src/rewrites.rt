@@ -14,6 +14,7 @@ mod tasks;
 use crate::finding::Help;
 use crate::words::{Given, Word, push_word};
 use std::alloc::{AllocError, Global};
+use vt_line::version::Version;
 use vt_lines::proposal::Proposal;
 
 /// A call in other words, the lines that are meant, and what is said about them.
@@ -74,6 +75,7 @@ fn line_of(alloc: Global, who: &str, text: &str, words: &[Word<'_>]) -> Result<S
 
 // The lines of a row, if a run takes all of them.
 fn lines_of(
+    version: Version,
     alloc: Global,
     who: &str,
     to: &str,
@@ -82,7 +84,7 @@ fn lines_of(
     let mut lines = Vec::new(alloc);
     for text in to.split(" | ") {
         let line = line_of(alloc, who, text, words)?;
-        let Some(line) = Proposal::new(alloc, line)? else {
+        let Some(line) = Proposal::new(version, alloc, line)? else {
             return Ok(None);
         };
         lines.push(line)?;
@@ -92,6 +94,7 @@ fn lines_of(
 
 // What a row says of the line, if it fits.
 fn of_row(
+    version: Version,
     alloc: Global,
     who: &str,
     words: &[Word<'_>],
@@ -104,7 +107,7 @@ fn of_row(
     if to.is_empty() {
         return Ok(Some(Help::words(alloc, said)));
     }
-    match lines_of(alloc, who, to, words)? {
+    match lines_of(version, alloc, who, to, words)? {
         Some(lines) => Ok(Some(Help { lines, words: said })),
         None => Ok(None),
     }
@@ -112,13 +115,14 @@ fn of_row(
 
 // What the first row of a table says that fits.
 fn of_table(
+    version: Version,
     alloc: Global,
     who: &str,
     words: &[Word<'_>],
     rows: &[Row],
 ) -> Result<Option<Help>, AllocError> {
     for row in rows {
-        if let Some(help) = of_row(alloc, who, words, row)? {
+        if let Some(help) = of_row(version, alloc, who, words, row)? {
             return Ok(Some(help));
         }
     }
@@ -131,7 +135,7 @@ pub fn rewritten(alloc: Global, line: Given<'_>) -> Result<Option<Help>, AllocEr
         return Ok(None);
     };
     for rows in tables() {
-        if let Some(help) = of_table(alloc, who.text, line.request(), rows)? {
+        if let Some(help) = of_table(line.version, alloc, who.text, line.request(), rows)? {
             return Ok(Some(help));
         }
     }

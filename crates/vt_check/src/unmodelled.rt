@@ -3,7 +3,7 @@ use crate::finding::Span;
 use crate::words::Word;
 
 /// Flags and options of mount(8), and capabilities of capabilities(7).
-const UNMODELLED: [&str; 69] = [
+const UNMODELLED: [&str; 68] = [
     "nosuid",
     "nodev",
     "noatime",
@@ -14,7 +14,6 @@ const UNMODELLED: [&str; 69] = [
     "lazytime",
     "dirsync",
     "mand",
-    "nosymfollow",
     "_netdev",
     "nofail",
     "MS_NOSUID",

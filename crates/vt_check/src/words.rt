@@ -1,6 +1,7 @@
 //! The words of a line, with their places.
 use crate::finding::Span;
 use std::alloc::{AllocError, Global};
+use vt_line::version::Version;
 
 /// A word, and the column where it begins, counted from 0.
 #[derive(Clone, Copy)]
@@ -19,9 +20,10 @@ impl<'a> Word<'a> {
     }
 }
 
-/// A line with its words.
+/// A line with its words, in a version of the language.
 #[derive(Clone, Copy)]
 pub struct Given<'a> {
+    pub version: Version,
     pub text: &'a str,
     pub words: &'a [Word<'a>],
 }

@@ -194,8 +194,8 @@ const W8: RulePage = RulePage {
 };
 
 const W9: RulePage = RulePage {
-    meaning: "a symlink on a mount that does not follow them",
-    calls: &[],
+    meaning: "a symlink that is followed is on a mount with nosymfollow, a flag of script version 2",
+    calls: &PATHS,
     manual: "mount(8), nosymfollow",
     script: "",
 };

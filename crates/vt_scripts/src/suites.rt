@@ -5,6 +5,7 @@ use std::rt::Files;
 use vt_calls::Kernel;
 use vt_lines::answers::answers;
 use vt_rule_pages::told::suite;
+use vt_script::Version;
 use vt_test::compare::{differences, given_lines};
 use vt_test::suite::{Script, scripts};
 use vt_test::text::failure;
@@ -21,7 +22,7 @@ fn check_pieces<R: Print + AllocGlobal>(
     piece: usize,
 ) -> Result<()> {
     let alloc = rt.alloc();
-    let written = answers::<Kernel>(alloc, text, piece)?;
+    let written = answers::<Kernel>(script.version, alloc, text, piece)?;
     let given = given_lines(alloc, written.bytes())?;
     let found = differences(alloc, script.wanted.as_slice(), given.as_slice())?;
     if !found.is_empty() {
@@ -46,8 +47,13 @@ fn check_text<R: Print + AllocGlobal>(
 }
 
 // How many scripts there are in a file's content, or an error if one of them has another answer.
-fn check_content<R: Print + AllocGlobal>(rt: &R, file: &str, content: &[u8]) -> Result<usize> {
-    let all = scripts(rt.alloc(), content)?;
+fn check_content<R: Print + AllocGlobal>(
+    rt: &R,
+    version: Version,
+    file: &str,
+    content: &[u8],
+) -> Result<usize> {
+    let all = scripts(version, rt.alloc(), content)?;
     for script in &all {
         let whole = script.text.as_slice();
         check_text(rt, file, script, whole)?;
@@ -56,15 +62,19 @@ fn check_content<R: Print + AllocGlobal>(rt: &R, file: &str, content: &[u8]) -> 
     Ok(all.len())
 }
 
-/// How many scripts the file has, or an error if one of them has another answer. Each is run with the newline of its last
-/// line and without it.
-pub fn check<R: Files + Print + AllocGlobal>(rt: &R, file: &str) -> Result<usize> {
+/// How many scripts the file has, or an error if one of them has another answer in a version of the language. Each is run
+/// with the newline of its last line and without it.
+pub fn check<R: Files + Print + AllocGlobal>(
+    rt: &R,
+    version: Version,
+    file: &str,
+) -> Result<usize> {
     let content = fs::read(rt, file)?;
-    check_content(rt, file, content.as_slice())
+    check_content(rt, version, file, content.as_slice())
 }
 
 /// The same of the scripts by which rules are shown.
-pub fn check_rules<R: Print + AllocGlobal>(rt: &R) -> Result<usize> {
+pub fn check_rules<R: Print + AllocGlobal>(rt: &R, version: Version) -> Result<usize> {
     let content = suite(rt.alloc())?;
-    check_content(rt, "rules", content.as_bytes())
+    check_content(rt, version, "rules", content.as_bytes())
 }

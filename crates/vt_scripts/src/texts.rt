@@ -3,6 +3,7 @@ use anyhow::{Result, bail};
 use std::fs;
 use std::rt::Files;
 use vt_calls::Kernel;
+use vt_script::Version;
 use vt_test::test::{Format, test_file};
 use vt_test::with_given_answers;
 
@@ -32,11 +33,11 @@ pub fn check<R: Files + Print + AllocGlobal>(rt: &R, file: &str) -> Result<()> {
     let name = file.trim_end_matches(".vt");
     for (end, format) in FORMS {
         let mut given = Vec::new(alloc);
-        test_file::<Kernel, _>(alloc, file, content, format, &mut given)?;
+        test_file::<Kernel, _>(Version::One, alloc, file, content, format, &mut given)?;
         let beside = format!(in alloc; "{name}.{end}")?;
         compare(rt, beside.as_str(), given.as_slice())?;
     }
-    if let Ok(new) = with_given_answers::<Kernel>(alloc, content) {
+    if let Ok(new) = with_given_answers::<Kernel>(Version::One, alloc, content) {
         let beside = format!(in alloc; "{name}.new")?;
         compare(rt, beside.as_str(), new.text.as_slice())?;
     }

@@ -4,7 +4,7 @@ use crate::suite::{Entry, Script, SuiteFault, entry_of, scripts};
 use std::alloc::{AllocError, Global};
 use vt_lines::answers::answers;
 use vt_lines::lines::first_line;
-use vt_script::Calls;
+use vt_script::{Calls, Version};
 
 // The lines of a script that are answered otherwise, by their numbers in the file, each with its answers as they are
 // written there.
@@ -38,7 +38,7 @@ fn push_changes<C: Calls + Drop>(
     changes: &mut Vec<Change>,
     script: &Script<'_>,
 ) -> Result<(), AllocError> {
-    let text = answers::<C>(alloc, script.text.as_slice(), 8192)?;
+    let text = answers::<C>(script.version, alloc, script.text.as_slice(), 8192)?;
     let given = given_lines(alloc, text.bytes())?;
     let found = differences(alloc, script.wanted.as_slice(), given.as_slice())?;
     for one in &found {
@@ -48,9 +48,13 @@ fn push_changes<C: Calls + Drop>(
 }
 
 // The changes of a file, in the order of its lines.
-fn changes_of<C: Calls + Drop>(alloc: Global, file: &[u8]) -> Result<Vec<Change>, SuiteFault> {
+fn changes_of<C: Calls + Drop>(
+    version: Version,
+    alloc: Global,
+    file: &[u8],
+) -> Result<Vec<Change>, SuiteFault> {
     let mut changes = Vec::new(alloc);
-    for script in &scripts(alloc, file)? {
+    for script in &scripts(version, alloc, file)? {
         push_changes::<C>(alloc, &mut changes, script)?;
     }
     Ok(changes)
@@ -106,12 +110,14 @@ fn ended_as(file: &[u8], mut text: Vec<u8>) -> Vec<u8> {
     text
 }
 
-/// The file with the given answers in the place of those that are wanted and are not given; all else stays.
+/// The file, whose scripts are in a version of their language, with the given answers in the place of those that are
+/// wanted and are not given; all else stays.
 pub fn with_given_answers<C: Calls + Drop>(
+    version: Version,
     alloc: Global,
     file: &[u8],
 ) -> Result<Rewritten, SuiteFault> {
-    let changes = changes_of::<C>(alloc, file)?;
+    let changes = changes_of::<C>(version, alloc, file)?;
     let mut rewriting = Rewriting {
         changes,
         made: 0,

@@ -9,6 +9,7 @@ use std::mem;
 use thiserror::Error;
 use vt_io::line::LONGEST_LINE;
 use vt_lines::lines::first_line;
+use vt_script::Version;
 
 /// An answer that is wanted, or a further line of one.
 #[derive(Clone, Copy)]
@@ -22,6 +23,8 @@ pub struct Wanted<'a> {
 #[derive(Drop)]
 pub struct Script<'a> {
     pub name: &'a [u8],
+    /// Of its language.
+    pub version: Version,
     /// How many lines of the file come before its first.
     pub before: u64,
     pub text: Vec<u8>,
@@ -121,9 +124,10 @@ pub fn entry_of(line: &[u8]) -> Entry<'_> {
 }
 
 impl<'a> Script<'a> {
-    fn new(alloc: Global, name: &'a [u8], before: u64) -> Self {
+    fn new(version: Version, alloc: Global, name: &'a [u8], before: u64) -> Self {
         Script {
             name,
+            version,
             before,
             text: Vec::new(alloc),
             wanted: Vec::new(alloc),
@@ -171,10 +175,10 @@ struct Reading<'a> {
 }
 
 impl<'a> Reading<'a> {
-    fn new(alloc: Global) -> Self {
+    fn new(version: Version, alloc: Global) -> Self {
         Reading {
             done: Vec::new(alloc),
-            script: Script::new(alloc, b"", 0),
+            script: Script::new(version, alloc, b"", 0),
             names: BTreeMap::new(alloc),
         }
     }
@@ -191,7 +195,7 @@ impl<'a> Reading<'a> {
             });
         }
         self.names.insert(name.to_vec(alloc)?, line)?;
-        self.end(Script::new(alloc, name, line))
+        self.end(Script::new(self.script.version, alloc, name, line))
     }
 
     // Ends a script, where another begins.
@@ -222,9 +226,13 @@ impl<'a> Reading<'a> {
     }
 }
 
-/// The scripts of a file.
-pub fn scripts(alloc: Global, file: &[u8]) -> Result<Vec<Script<'_>>, SuiteFault> {
-    let mut reading = Reading::new(alloc);
+/// The scripts of a file, all in this version of their language.
+pub fn scripts(
+    version: Version,
+    alloc: Global,
+    file: &[u8],
+) -> Result<Vec<Script<'_>>, SuiteFault> {
+    let mut reading = Reading::new(version, alloc);
     let mut rest = file;
     let mut number: u64 = 0;
     while let Some((line, after)) = first_line(rest) {
@@ -232,6 +240,6 @@ pub fn scripts(alloc: Global, file: &[u8]) -> Result<Vec<Script<'_>>, SuiteFault
         reading.take(alloc, number, line)?;
         rest = after;
     }
-    reading.end(Script::new(alloc, b"", 0))?;
+    reading.end(Script::new(version, alloc, b"", 0))?;
     Ok(reading.done)
 }

@@ -5,7 +5,7 @@ use crate::{json, junit, text};
 use std::alloc::{AllocError, Global};
 use std::io::{self, Write};
 use vt_lines::answers::answers;
-use vt_script::Calls;
+use vt_script::{Calls, Version};
 
 /// In how large pieces a script is read.
 const PIECE: usize = 8192;
@@ -73,7 +73,7 @@ fn test_script<C: Calls + Drop>(
     format: Format,
     script: &Script<'_>,
 ) -> Result<(bool, String), AllocError> {
-    let written = answers::<C>(alloc, script.text.as_slice(), PIECE)?;
+    let written = answers::<C>(script.version, alloc, script.text.as_slice(), PIECE)?;
     let given = given_lines(alloc, written.bytes())?;
     let found = differences(alloc, script.wanted.as_slice(), given.as_slice())?;
     let text = outcome(alloc, file, format, script, found.as_slice())?;
@@ -96,15 +96,16 @@ fn fault_text(
     }
 }
 
-/// Tests the scripts of a file, and writes what is to be said of each.
+/// Tests the scripts of a file, in a version of their language, and writes what is to be said of each.
 pub fn test_file<C: Calls + Drop, W: Write>(
+    version: Version,
     alloc: Global,
     file: &str,
     content: &[u8],
     format: Format,
     output: &mut W,
 ) -> io::Result<Totals> {
-    let all = match scripts(alloc, content) {
+    let all = match scripts(version, alloc, content) {
         Ok(all) => all,
         Err(fault) => {
             let text = fault_text(alloc, file, format, &fault)?;

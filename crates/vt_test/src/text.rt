@@ -95,7 +95,7 @@ pub fn difference(
     )?;
     push_answers(alloc, &mut text, margin, found)?;
     if is_refused(found) {
-        let why = explained(alloc, file, number, line)?;
+        let why = explained(script.version, alloc, file, number, line)?;
         text.push_str(why.as_str())?;
     }
     Ok(text)

@@ -9,14 +9,15 @@ use std::rt::Files;
 use vt_calls::Kernel;
 use vt_check::check::{Options as CheckOptions, check as check_script};
 use vt_lines::reached::reached_before;
+use vt_script::Version;
 use vt_show::show::{Options as ShowOptions, show as show_world};
 
 /// What writes the text of a script, and how.
 #[derive(Clone, Copy)]
 pub enum Tool {
     Check(CheckOptions),
-    /// The world after all lines is shown.
-    Show(ShowOptions<'static>),
+    /// The world after all lines of a script in this version of its language is shown.
+    Show(Version, ShowOptions<'static>),
 }
 
 impl Tool {
@@ -27,8 +28,8 @@ impl Tool {
             Tool::Check(options) => {
                 check_script(alloc, "script.vt", script, options, &mut text)?;
             }
-            Tool::Show(options) => {
-                let reached = reached_before::<Kernel>(alloc, script, u64::MAX)?;
+            Tool::Show(version, options) => {
+                let reached = reached_before::<Kernel>(version, alloc, script, u64::MAX)?;
                 let outcome = show_world(alloc, reached.world.world(), options, &mut text);
                 // By a call: the proof of a function that drops a world itself takes minutes.
                 drop(reached);

@@ -12,6 +12,7 @@ use anyhow::Result;
 use std::fs;
 use std::rt::Runtime;
 use vt_check::check;
+use vt_script::Version;
 use vt_show::show;
 
 // The names of a folder's files, in order.
@@ -26,29 +27,51 @@ fn names<R: Runtime + AllocGlobal>(rt: &R, folder: &str) -> Result<Vec<String>> 
 }
 
 // How the scripts of a folder are checked.
-fn checked(format: check::Format, strict: bool) -> Tool {
-    Tool::Check(check::Options { format, strict })
+fn checked(version: Version, format: check::Format, strict: bool) -> Tool {
+    Tool::Check(check::Options {
+        version,
+        format,
+        strict,
+    })
 }
 
 // How the worlds of the scripts of a folder are shown.
-fn shown(format: show::Format, files: bool, task: Option<&'static str>) -> Tool {
-    Tool::Show(show::Options {
+fn shown(version: Version, format: show::Format, files: bool, task: Option<&'static str>) -> Tool {
+    let options = show::Options {
         format,
         files,
         task,
-    })
+    };
+    Tool::Show(version, options)
 }
 
 fn main(rt: HostRuntime) -> Result<()> {
     let tools = [
-        ("check", checked(check::Format::Text, false)),
-        ("json", checked(check::Format::Json, false)),
-        ("strict", checked(check::Format::Text, true)),
-        ("show", shown(show::Format::Text, false, None)),
-        ("show-files", shown(show::Format::Text, true, None)),
-        ("show-json", shown(show::Format::Json, true, None)),
-        ("show-dot", shown(show::Format::Dot, false, None)),
-        ("show-task", shown(show::Format::Text, true, Some("t.1"))),
+        ("check", checked(Version::One, check::Format::Text, false)),
+        ("check-2", checked(Version::Two, check::Format::Text, false)),
+        ("json", checked(Version::One, check::Format::Json, false)),
+        ("strict", checked(Version::One, check::Format::Text, true)),
+        ("show", shown(Version::One, show::Format::Text, false, None)),
+        (
+            "show-2",
+            shown(Version::Two, show::Format::Text, false, None),
+        ),
+        (
+            "show-files",
+            shown(Version::One, show::Format::Text, true, None),
+        ),
+        (
+            "show-json",
+            shown(Version::One, show::Format::Json, true, None),
+        ),
+        (
+            "show-dot",
+            shown(Version::One, show::Format::Dot, false, None),
+        ),
+        (
+            "show-task",
+            shown(Version::One, show::Format::Text, true, Some("t.1")),
+        ),
     ];
     for (folder, tool) in tools {
         for name in &names(&rt, folder)? {

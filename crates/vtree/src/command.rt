@@ -9,7 +9,7 @@ use std::alloc::{AllocError, Global};
 use std::rt::Env;
 use std::{env, io};
 use vt_check::check;
-use vt_script::RunFault;
+use vt_script::{RunFault, Version};
 use vt_show::show;
 use vt_test::test;
 
@@ -51,6 +51,8 @@ const MARKDOWN_HELP: &str = "All rules as a page of the documentation";
 
 const FILES_HELP: &str = "The scripts; - is standard input";
 
+const SCRIPT_HELP: &str = "The version of the scripts' language; 2 has the flag nosymfollow too";
+
 const FORMAT_HELP: &str = "The form of what is written; json is one object a line";
 
 const WARNINGS_HELP: &str = "Warnings are errors";
@@ -58,6 +60,8 @@ const WARNINGS_HELP: &str = "Warnings are errors";
 const WRITE_HELP: &str = "Puts the given answers into the files";
 
 const NO_INPUT: &str = "`--write` takes files, and not the standard input";
+
+const VERSIONS: [&str; 2] = ["1", "2"];
 
 const CHECK_FORMS: [&str; 2] = ["text", "json"];
 
@@ -104,6 +108,16 @@ fn format_option<'a>(alloc: Global, forms: &'a [&'a str]) -> Arg<'a> {
         .help(FORMAT_HELP)
 }
 
+// The version of the language in which the scripts of a command are.
+fn script_option<'a>(alloc: Global) -> Arg<'a> {
+    Arg::new(alloc, "script")
+        .long("script")
+        .value_name("VERSION")
+        .value_parser(VERSIONS.as_slice())
+        .default_value("1")
+        .help(SCRIPT_HELP)
+}
+
 // The files of a command, of which there may be several.
 fn files<'a>(alloc: Global) -> Arg<'a> {
     Arg::new(alloc, "FILE")
@@ -112,13 +126,16 @@ fn files<'a>(alloc: Global) -> Arg<'a> {
         .help(FILES_HELP)
 }
 
-// `vtree run FILE`
+// `vtree run [--script VERSION] FILE`
 fn run_line<'a>(alloc: Global) -> Result<Command<'a>, AllocError> {
     let file = Arg::new(alloc, "FILE").required(true).help(FILE_HELP);
-    Command::new(alloc, "run").about(RUN_ABOUT).arg(file)
+    Command::new(alloc, "run")
+        .about(RUN_ABOUT)
+        .arg(script_option(alloc))?
+        .arg(file)
 }
 
-// `vtree check [-W] [--format FORM] FILE..`
+// `vtree check [-W] [--script VERSION] [--format FORM] FILE..`
 fn check_line<'a>(alloc: Global) -> Result<Command<'a>, AllocError> {
     let strict = Arg::new(alloc, "warnings")
         .short('W')
@@ -127,11 +144,12 @@ fn check_line<'a>(alloc: Global) -> Result<Command<'a>, AllocError> {
     Command::new(alloc, "check")
         .about(CHECK_ABOUT)
         .arg(strict)?
+        .arg(script_option(alloc))?
         .arg(format_option(alloc, CHECK_FORMS.as_slice()))?
         .arg(files(alloc))
 }
 
-// `vtree test [--write] [--format FORM] FILE..`
+// `vtree test [--write] [--script VERSION] [--format FORM] FILE..`
 fn test_line<'a>(alloc: Global) -> Result<Command<'a>, AllocError> {
     let write = Arg::new(alloc, "write")
         .long("write")
@@ -140,6 +158,7 @@ fn test_line<'a>(alloc: Global) -> Result<Command<'a>, AllocError> {
     Command::new(alloc, "test")
         .about(TEST_ABOUT)
         .arg(write)?
+        .arg(script_option(alloc))?
         .arg(format_option(alloc, TEST_FORMS.as_slice()))?
         .arg(files(alloc))
 }
@@ -154,7 +173,7 @@ fn word_option<'a>(
     Arg::new(alloc, name).long(name).value_name(word).help(help)
 }
 
-// `vtree show [--at LINE] [--task TASK] [--files] [--format FORM] FILE`
+// `vtree show [--at LINE] [--task TASK] [--files] [--script VERSION] [--format FORM] FILE`
 fn show_line<'a>(alloc: Global) -> Result<Command<'a>, AllocError> {
     let trees = Arg::new(alloc, "files")
         .long("files")
@@ -165,6 +184,7 @@ fn show_line<'a>(alloc: Global) -> Result<Command<'a>, AllocError> {
         .arg(word_option(alloc, "at", "LINE", AT_HELP))?
         .arg(word_option(alloc, "task", "TASK", TASK_HELP))?
         .arg(trees)?
+        .arg(script_option(alloc))?
         .arg(format_option(alloc, SHOW_FORMS.as_slice()))?
         .arg(Arg::new(alloc, "FILE").required(true).help(FILE_HELP))
 }
@@ -247,19 +267,24 @@ fn refused(alloc: Global, error: &Error) -> Result<Fault, AllocError>
 /// What the words ask for.
 #[derive(Drop)]
 pub(crate) enum Asked<'a> {
-    Run(&'a str),
+    Run {
+        file: &'a str,
+        version: Version,
+    },
     Check {
         files: Vec<&'a str>,
         options: check::Options,
     },
     Test {
         files: Vec<&'a str>,
+        version: Version,
         format: test::Format,
         /// Whether the given answers are put into the files.
         writes: bool,
     },
     Show {
         file: &'a str,
+        version: Version,
         /// The line before which the world is shown, or none for that at the end.
         line: Option<u64>,
         options: show::Options<'a>,
@@ -283,6 +308,14 @@ fn files_of<'a>(alloc: Global, given: &ArgMatches<'a>) -> Result<Vec<&'a str>, A
     Ok(files)
 }
 
+// The version of the scripts' language that is asked for.
+fn version_asked(given: &ArgMatches<'_>) -> Version {
+    match given.get_str("script") {
+        Some("2") => Version::Two,
+        _ => Version::One,
+    }
+}
+
 // `vtree check`
 fn check_asked<'a>(alloc: Global, given: &ArgMatches<'a>) -> Result<Asked<'a>, AllocError> {
     let format = match given.get_str("format") {
@@ -292,6 +325,7 @@ fn check_asked<'a>(alloc: Global, given: &ArgMatches<'a>) -> Result<Asked<'a>, A
     Ok(Asked::Check {
         files: files_of(alloc, given)?,
         options: check::Options {
+            version: version_asked(given),
             format,
             strict: given.get_flag("warnings"),
         },
@@ -307,6 +341,7 @@ fn test_asked<'a>(alloc: Global, given: &ArgMatches<'a>) -> Result<Asked<'a>, Al
     };
     Ok(Asked::Test {
         files: files_of(alloc, given)?,
+        version: version_asked(given),
         format,
         writes: given.get_flag("write"),
     })
@@ -339,6 +374,7 @@ fn show_asked<'a>(alloc: Global, given: &ArgMatches<'a>) -> Result<Asked<'a>, Fa
     };
     Ok(Asked::Show {
         file: given.get_str("FILE").unwrap_or_default(),
+        version: version_asked(given),
         line: line_asked(alloc, given)?,
         options: show::Options {
             format,
@@ -373,7 +409,10 @@ fn asked_of<'a>(alloc: Global, matches: &ArgMatches<'a>) -> Result<Asked<'a>, Fa
 {
     match matches.subcommand() {
         Some(("run", given)) => match given.get_str("FILE") {
-            Some(file) => Ok(Asked::Run(file)),
+            Some(file) => Ok(Asked::Run {
+                file,
+                version: version_asked(given),
+            }),
             None => Err(Fault::Words(String::new(alloc))),
         },
         Some(("check", given)) => check_asked(alloc, given).map_err(out_of_memory),

@@ -2,6 +2,7 @@
 ghost use Rattle.std.specs.Prelude.{◌≡◌, ◌<◌, ◌⊎◌, Some, None, IfErr, IsErr, IsErrOf, OnOk, true, false};
 ghost use Rattle.std.specs.Io.{ReadsAtMost};
 ghost use Rattle.std.specs.Io.KnownBytes.{ReadConsumes};
+ghost use Rattle.vt_line.specs.Versions.{version_of};
 ghost use Rattle.vtree.specs.Answered.{AnswersKnown, IsFresh};
 ghost use Rattle.vtree.specs.Status.{comes_before_output};
 
@@ -13,7 +14,7 @@ use std::fs::File;
 use std::io::{self, BufWriter, Read, Write};
 use std::rt::Files;
 use vt_calls::Kernel;
-use vt_script::{ReadSource, RunFault, WriteSink, run};
+use vt_script::{ReadSource, RunFault, Version, WriteSink, run_as};
 
 /// When answers go out.
 #[derive(Clone, Copy, PartialEq, Eq)]
@@ -67,17 +68,18 @@ impl<D: Read> Read for Watched<D> {
     }
 }
 
-/// Answers the script that a source gives, and flushes the sink, also before a fault.
+/// Answers the script that a source gives, in a version of its language, and flushes the sink, also before a fault.
 ///
 /// `Read` and `Write`: that device failed. `Memory`: an allocation failed before anything was read or written.
 pub fn answer<R: Read + Drop, W: Write + Drop>(
+    version: Version,
     alloc: Global,
     source: &mut ReadSource<R>,
     sink: &mut WriteSink<W>,
 ) -> Result<(), RunFault>
     requires source { IsFresh source.old }
     requires sink { sink.old.failures ≡ 0 }
-    ensures ok { OnOk result (AnswersKnown (R.remaining source.old.reader)
+    ensures ok { OnOk result (AnswersKnown (version_of version) (R.remaining source.old.reader)
         (W.contents sink.old.writer) (W.contents sink.new.writer)) }
 
     // Each failure of a device is a fault, and no fault of a device comes without one.
@@ -86,7 +88,7 @@ pub fn answer<R: Read + Drop, W: Write + Drop>(
     ensures write { IsErrOf result RunFault.Write → 0 < sink.new.failures }
     ensures no_write { IsErr result ⊎ (sink.new.failures ≡ 0) }
 {
-    let outcome = run::<Kernel, _, _>(alloc, source, sink);
+    let outcome = run_as::<Kernel, _, _>(version, alloc, source, sink);
     let flushed = sink.flush();
     outcome?;
     match flushed {
@@ -97,6 +99,7 @@ pub fn answer<R: Read + Drop, W: Write + Drop>(
 
 // Answers the script that a reader gives, with the fault that the program tells.
 fn answer_named<R: Read + Drop, W: Write + Drop>(
+    version: Version,
     alloc: Global,
     name: &str,
     script: R,
@@ -109,7 +112,7 @@ fn answer_named<R: Read + Drop, W: Write + Drop>(
     let mut sink = WriteSink::new(buffered.map_err(out_of_memory)?);
     let mut reader = Watched::new(script);
     let mut source = ReadSource::new(&mut reader);
-    let outcome = answer(alloc, &mut source, &mut sink);
+    let outcome = answer(version, alloc, &mut source, &mut sink);
     let handed_on = sink.into_inner().into_inner();
     match (outcome, handed_on) {
         (Ok(()), Ok(writer)) => Ok(writer),
@@ -137,6 +140,7 @@ fn read_fault(alloc: Global, name: &str, cause: Option<io::Error>) -> Fault
 // Answers the script in the file of this name, or on the standard input where it is `-`.
 fn run_named<R: Files + Input + AllocGlobal, W: Write>(
     rt: &R,
+    version: Version,
     name: &str,
     pace: Pace,
     output: &mut W,
@@ -145,10 +149,11 @@ fn run_named<R: Files + Input + AllocGlobal, W: Write>(
 {
     let alloc = rt.alloc();
     if name == "-" {
-        return answer_named(alloc, "standard input", rt.reader(), pace, output).map(|_| ());
+        let input = rt.reader();
+        return answer_named(version, alloc, "standard input", input, pace, output).map(|_| ());
     }
     match File::open(rt, name) {
-        Ok(file) => answer_named(alloc, name, file, pace, output).map(|_| ()),
+        Ok(file) => answer_named(version, alloc, name, file, pace, output).map(|_| ()),
         Err(cause) => Err(Fault::Open {
             name: String::from_str(alloc, name).map_err(out_of_memory)?,
             cause,
@@ -171,24 +176,26 @@ pub fn obey<R: Files + Input + Eprint + AllocGlobal, W: Write>(
     ensures { IfErr result (λ fault. comes_before_output fault ≡ true → output.new ≡ output.old) }
 {
     match asked_by(rt.alloc(), words)? {
-        Asked::Run(name) => run_named(rt, name, pace, output),
+        Asked::Run { file, version } => run_named(rt, version, file, pace, output),
         Asked::Check { files, options } => tools::check(rt, files.as_slice(), options, output),
         Asked::Test {
             files,
+            version,
             format,
             writes,
         } => {
             if writes {
-                tools::write(rt, files.as_slice(), output)
+                tools::write(rt, version, files.as_slice(), output)
             } else {
-                tools::test(rt, files.as_slice(), format, output)
+                tools::test(rt, version, files.as_slice(), format, output)
             }
         }
         Asked::Show {
             file,
+            version,
             line,
             options,
-        } => showing::show(rt, file, line, options, output),
+        } => showing::show(rt, version, file, line, options, output),
         Asked::New { name } => cookbook::write(rt, name, output),
         Asked::Rules { word, page } => rules::tell(rt.alloc(), word, page, output),
     }

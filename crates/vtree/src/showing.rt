@@ -9,6 +9,7 @@ use std::io::Write;
 use std::rt::Files;
 use vt_calls::Kernel;
 use vt_lines::reached::reached_before;
+use vt_script::Version;
 use vt_show::show::{Options, show as show_world};
 use vt_test::suite::{Script, scripts};
 
@@ -41,6 +42,7 @@ fn count_refused<R: Eprint>(rt: &R, name: &str, refused: u64) {
 // Shows the world that a run of the script has before a line.
 fn show_script<R: Eprint + AllocGlobal, W: Write>(
     rt: &R,
+    version: Version,
     name: &str,
     script: &[u8],
     line: u64,
@@ -50,7 +52,7 @@ fn show_script<R: Eprint + AllocGlobal, W: Write>(
     ensures { IfErr result (λ fault. comes_before_output fault ≡ false) }
 {
     let alloc = rt.alloc();
-    let reached = match reached_before::<Kernel>(alloc, script, line) {
+    let reached = match reached_before::<Kernel>(version, alloc, script, line) {
         Ok(reached) => reached,
         Err(fault) => return Err(Fault::Run(fault)),
     };
@@ -71,6 +73,7 @@ fn show_script<R: Eprint + AllocGlobal, W: Write>(
 /// Of a file of several scripts it is the one that has the line, or the last one.
 pub fn show<R: Files + Input + Eprint + AllocGlobal, W: Write>(
     rt: &R,
+    version: Version,
     name: &str,
     line: Option<u64>,
     options: Options<'_>,
@@ -82,7 +85,7 @@ pub fn show<R: Files + Input + Eprint + AllocGlobal, W: Write>(
     let Some(content) = readable(rt, name) else {
         return Err(Fault::Found);
     };
-    let all = match scripts(alloc, content.as_slice()) {
+    let all = match scripts(version, alloc, content.as_slice()) {
         Ok(all) => all,
         Err(fault) => {
             let why = format!(in alloc; "{fault}").map_err(out_of_memory)?;
@@ -93,8 +96,9 @@ pub fn show<R: Files + Input + Eprint + AllocGlobal, W: Write>(
     match script_at(all.as_slice(), line) {
         Some(script) => {
             let line = line.saturating_sub(script.before);
-            show_script(rt, name, script.text.as_slice(), line, options, output)
+            let text = script.text.as_slice();
+            show_script(rt, version, name, text, line, options, output)
         }
-        None => show_script(rt, name, &[], 1, options, output),
+        None => show_script(rt, version, name, &[], 1, options, output),
     }
 }

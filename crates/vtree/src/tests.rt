@@ -18,7 +18,7 @@ fn owned(alloc: Global, words: &[&str]) -> Result<Vec<String>, AllocError> {
 }
 
 // Words that are faults, the status of each, and its text.
-const FAULTS: [(&[&str], u8, &str); 8] = [
+const FAULTS: [(&[&str], u8, &str); 9] = [
     (
         &["vtree", "chek", "a"],
         2,
@@ -28,6 +28,11 @@ const FAULTS: [(&[&str], u8, &str); 8] = [
         &["vtree", "test", "--write", "a", "-"],
         2,
         "`--write` takes files, and not the standard input; `vtree --help` says what it takes",
+    ),
+    (
+        &["vtree", "run", "--script", "3", "a"],
+        2,
+        "invalid value '3' for '--script <VERSION>' [possible values: 1, 2]; `vtree --help` says what it takes",
     ),
     (
         &["vtree", "run"],
@@ -88,6 +93,35 @@ fn run_answers_the_script_in_the_file(rt: HostRuntime) -> Result<(), Fail> {
     fs::remove_file(&rt, file.as_str())?;
     assert_eq!(rt; status(&outcome), 0);
     assert_eq!(rt; output.as_slice(), b"1 ok\n2 ok d\n".as_slice());
+    Ok(())
+}
+
+#[test]
+fn script_says_the_version_of_each_command(rt: HostRuntime) -> Result<(), Fail> {
+    let folder = env::temp_dir(&rt)?;
+    let file = format!(in rt.alloc(); "{}/vtree-test-of-script.vt", folder.as_str())?;
+    let file = file.as_str();
+    fs::write(&rt, file, "t mkdir /a\nt mount plain /a ro,nosymfollow\n")?;
+    let (first, answers) = ended(&rt, &["vtree", "run", file])?;
+    assert_eq!(rt; first, 0);
+    assert_eq!(rt;
+        answers.as_slice(),
+        b"1 ok\n2 deny 22 EINVAL S1\n".as_slice()
+    );
+    let (second, answers) = ended(&rt, &["vtree", "run", "--script", "2", file])?;
+    assert_eq!(rt; second, 0);
+    assert_eq!(rt; answers.as_slice(), b"1 ok\n2 ok\n".as_slice());
+    for (command, code) in [("check", 1), ("test", 1)] {
+        assert_eq!(rt; ended(&rt, &["vtree", command, file])?.0, code);
+        assert_eq!(rt;
+            ended(&rt, &["vtree", command, "--script", "2", file])?.0,
+            0
+        );
+    }
+    let (_code, shown) = ended(&rt, &["vtree", "show", "--script", "2", file])?;
+    fs::remove_file(&rt, file)?;
+    let shown = str::from_utf8(shown.as_slice()).unwrap_or_default();
+    assert!(rt; shown.contains("ro,nosymfollow"));
     Ok(())
 }
 

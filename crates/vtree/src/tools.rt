@@ -10,6 +10,7 @@ use std::io::{self, Read, Write};
 use std::rt::Files;
 use vt_calls::Kernel;
 use vt_check::check::{Options, check as check_script};
+use vt_script::Version;
 use vt_test::test::{Format, Totals, begin, end, test_file};
 use vt_test::with_given_answers;
 
@@ -102,6 +103,7 @@ fn together(one: Totals, other: Totals) -> Totals {
 /// Runs the scripts of these files, and tells where their answers are not those that they want.
 pub fn test<R: Files + Input + Eprint + AllocGlobal, W: Write>(
     rt: &R,
+    version: Version,
     files: &[&str],
     format: Format,
     output: &mut W,
@@ -118,7 +120,14 @@ pub fn test<R: Files + Input + Eprint + AllocGlobal, W: Write>(
             continue;
         };
         let content = content.as_slice();
-        let of_file = test_file::<Kernel, _>(rt.alloc(), told(name), content, format, &mut text);
+        let of_file = test_file::<Kernel, _>(
+            version,
+            rt.alloc(),
+            told(name),
+            content,
+            format,
+            &mut text,
+        );
         totals = together(totals, of_file.map_err(out_of_memory)?);
         hand_on(output, text.as_slice())?;
         text.clear();
@@ -159,11 +168,12 @@ fn fill<R: Files + AllocGlobal>(
 // Puts the given answers into a file, and says how many lines have others.
 fn write_file<R: Files + Input + Eprint + AllocGlobal>(
     rt: &R,
+    version: Version,
     name: &str,
     content: &[u8],
 ) -> Result<usize, String> {
     let alloc = rt.alloc();
-    let new = match with_given_answers::<Kernel>(alloc, content) {
+    let new = match with_given_answers::<Kernel>(version, alloc, content) {
         Ok(new) => new,
         Err(fault) => return Err(format!(in alloc; "{fault}").unwrap_or(String::new(alloc))),
     };
@@ -179,6 +189,7 @@ fn write_file<R: Files + Input + Eprint + AllocGlobal>(
 /// Puts the answers that are given into these files, through a new file beside each.
 pub fn write<R: Files + Input + Eprint + AllocGlobal, W: Write>(
     rt: &R,
+    version: Version,
     files: &[&str],
     output: &mut W,
 ) -> Result<(), Fault>
@@ -190,7 +201,7 @@ pub fn write<R: Files + Input + Eprint + AllocGlobal, W: Write>(
             failed = true;
             continue;
         };
-        match write_file(rt, name, content.as_slice()) {
+        match write_file(rt, version, name, content.as_slice()) {
             Ok(changes) => {
                 let text = format!(in rt.alloc(); "{name}: {changes} answers written\n").map_err(
                     out_of_memory,
