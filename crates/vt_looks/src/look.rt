@@ -132,8 +132,8 @@ pub trait Look {
     fn has_lower_directory(&self, at: Location, name: &[u8]) -> bool
         ensures { result ≡ (looks self.now).has_lower_directory (location_of at) name.now };
 
-    /// Whether the object at a location is in lower layers of an overlay alone, so that it is copied up when it is opened
-    /// for writing.
+    /// Whether the object at a location is in lower layers of an overlay alone, so that it is copied up when it is
+    /// opened for writing.
     fn is_only_below(&self, at: Location) -> bool
         ensures { result ≡ is_only_below (looks self.now) (location_of at) };
 
@@ -147,8 +147,8 @@ pub trait Look {
         requires object { real self.now (location_of at) ≡ Some object.now }
         ensures { result ≡ mounter_may (looks self.now) (location_of at) (right_bits wanted) };
 
-    /// Whether the mounter of the overlay at a location may make a change there, with the copies that it needs: the first
-    /// of B1 (EACCES) and B2 (EPERM) that fails. Nobody is asked outside overlays.
+    /// Whether the mounter of the overlay at a location may make a change there, with the copies that it needs: the
+    /// first of B1 (EACCES) and B2 (EPERM) that fails. Nobody is asked outside overlays.
     fn mounter_may_change(&self, at: Location, asked: Asked) -> Result<(), Deny>
         ensures { (change : Change ℕ) → asked_by change ≡ asked_at at asked
             → result ≡ unless ((looks self.now).mounter_rules (location_of at) change) (Ok tt) };

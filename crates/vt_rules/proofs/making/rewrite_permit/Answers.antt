@@ -15,7 +15,8 @@ returns-in_err-may_rewrite g c place =
     let file = location_of c.args.file in
     let rows = rewrite_rules (g.L.Look.looks c.args.world.now) (task_of c.args.who.now) file in
     let p = err_from_is_err_and c.from_residual.result c.from_residual.ensures.1 in
-    rw (p.1, p.2) (unless-stopped (rows c.args.bytes.items) (Ok (ToChange file (SetBytes file.node c.args.bytes.items))) _
+    rw (p.1, p.2) (unless-stopped (rows c.args.bytes.items)
+    (Ok (ToChange file (SetBytes file.node c.args.bytes.items))) _
     (c.in_err-may_rewrite.ensures ∙ ap (λ bytes. unless (rows bytes) (Ok tt)) c.deref.ensures.value))
 
 pub returns : goal.returns
