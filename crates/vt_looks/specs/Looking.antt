@@ -1,7 +1,8 @@
 -- What the definitions see of what a world shows to code.
-use Rattle.std.specs.Prelude.{Bool, List, None, Option, Some, [], false, nat_eq, option_map, true, unwrap_or, ℕ, ◌≡◌}
+use Rattle.std.specs.Prelude.{Bool, List, Option, Some, false, nat_eq, option_map, true, unwrap_or, ℕ, ◌≡◌}
 use Rattle.std.specs.List.{list_any}
-use Rattle.vt_spec.specs.Language.Changes.{Change}
+use Rattle.vt_spec.specs.Machine.Filesystems.{lies_only_in_lowers}
+use Rattle.vt_spec.specs.Machine.Locked.{overlay_or}
 use Rattle.vt_spec.specs.Machine.Looks.{Looks, is_directory_at, mount_at, topmost}
 use Rattle.vt_spec.specs.Machine.Walking.{entry_location, is_lost, parent_location}
 use Rattle.vt_spec.specs.Machine.Mounts as meant
@@ -38,12 +39,9 @@ pub record WaysStayFound (looks : Looks ℕ) : Type 0 where
       → entry_location nat_eq looks here name ≡ Some object → is_directory_at looks object ≡ true
       → is_lost nat_eq looks object ≡ false
 
--- no location is in an overlay: no mounter's rights are checked, no lower layer has a directory, and nothing is locked
-pub record HasNoOverlays (looks : Looks ℕ) : Type 0 where
-  pub overlay : (location : meant.Location ℕ) → looks.overlay location ≡ None
-  pub mounter : (location : meant.Location ℕ) (change : Change ℕ) → looks.mounter_rules location change ≡ []
-  pub lower : (location : meant.Location ℕ) (name : List ℕ) → looks.has_lower_directory location name ≡ false
-  pub unlocked : (location : meant.Location ℕ) → looks.is_locked location ≡ false
+-- of an overlay, what is there lies only in lower layers
+abbrev pub is_only_below : Looks ℕ → meant.Location ℕ → Bool
+is_only_below looks at = overlay_or false (λ overlay. lies_only_in_lowers overlay at.node) (looks.overlay at)
 
 -- what an inode and its real object have in common
 pub record Front : Type 0 where

@@ -2,8 +2,10 @@
 //! where walks end, which the rules are asked of.
 #![tactic(auto)]
 
+mod asked;
 mod look;
 mod places;
 
+pub use asked::Asked;
 pub use look::{Ground, Look, LookAtMounts};
 pub use places::{LastWord, OldPlace, Place};

@@ -1,21 +1,26 @@
 //! The traits `Look` and `LookAtMounts`.
-ghost use Rattle.std.specs.Prelude.{◌≡◌, nat_eq, option_copied, option_map, Bool, IfErr, IfOk, Option, Some, ℕ};
+ghost use Rattle.std.specs.Prelude.{◌≡◌, nat_eq, option_copied, option_map, Bool, IfErr, IfOk, Ok, Option, Some, ℕ};
 ghost use Rattle.vt_spec.specs.declared.errors.Rule.TheVariants.{S5};
-ghost use Rattle.vt_spec.specs.Errors.{denial};
-ghost use Rattle.vt_spec.specs.Machine.Looks.{Looks, mount_at, topmost};
+ghost use Rattle.vt_spec.specs.Errors.{denial, unless};
+ghost use Rattle.vt_spec.specs.Language.Changes.{Change};
+ghost use Rattle.vt_spec.specs.Machine.Looks.{Looks, mount_at, mounter_may, topmost};
 ghost use Rattle.std.specs.List.{list_any};
 ghost use Rattle.vt_spec.specs.Machine.Mounts as meant;
 ghost use Rattle.vt_spec.specs.Machine.Mounts.{is_unbindable};
 ghost use Rattle.vt_spec.specs.Machine.Permits.{Permit};
-ghost use Rattle.vt_spec.specs.Machine.Rules.Conditions.{is_mount_point_anywhere, is_mount_point_in};
+ghost use Rattle.vt_spec.specs.Machine.Rules.Conditions.{has_no_upper, is_mount_point_anywhere, is_mount_point_in, is_overlay_at};
 ghost use Rattle.vt_spec.specs.Machine.Rules.Removing.{is_nonempty};
 ghost use Rattle.vt_spec.specs.Machine.Walking.{is_lost};
 ghost use Rattle.vt_spec.specs.Tree.{Node, entries_in, entry_named, parent_in};
+ghost use Rattle.vt_cred.specs.Rights.{right_bits};
 ghost use Rattle.vt_location.specs.Locations.{location_of, number_of};
 ghost use Rattle.vt_location.specs.Numbers.{mount_number, namespace_number};
 ghost use Rattle.vt_permits.specs.GrantValue.{attachment_permit};
-ghost use Rattle.vt_looks.specs.Looking.{HasNoOverlays, IsGround, WaysStayFound, front, is_at_or_below, mount_seen};
+ghost use Rattle.vt_looks.specs.Asking.{asked_at, asked_by};
+ghost use Rattle.vt_looks.specs.Looking.{IsGround, WaysStayFound, front, is_at_or_below, is_only_below, mount_seen};
 
+use crate::asked::Asked;
+use vt_cred::Rights;
 use vt_location::{FilesystemId, Location, Mount, MountId, NamespaceId, NodeRef};
 use vt_node::Node;
 use vt_permits::Attachment;
@@ -111,10 +116,42 @@ pub trait Look {
     fn ways_stay_found(&self)
         ensures { WaysStayFound (looks self.now) };
 
-    /// A theorem about every such world, which does nothing: no location is in an overlay. So no mounter's rights are
-    /// checked, no lower layer has a directory, and nothing is locked.
-    fn has_no_overlays(&self)
-        ensures { HasNoOverlays (looks self.now) };
+    /// Whether a location is in an overlay: its entries and its parent are then those of merged layers.
+    fn is_overlay(&self, at: Location) -> bool
+        ensures { result ≡ is_overlay_at (looks self.now) (location_of at) };
+
+    /// Whether a location is in an overlay without an upper layer, which is read-only: EROFS.
+    fn has_no_upper(&self, at: Location) -> bool
+        ensures { result ≡ has_no_upper (looks self.now) (location_of at) };
+
+    /// Whether what is at a location lies in a layer of a live overlay, and is locked: EBUSY.
+    fn is_locked(&self, at: Location) -> bool
+        ensures { result ≡ (looks self.now).is_locked (location_of at) };
+
+    /// Whether a lower layer has a directory under this name of the directory at a location: EXDEV of rename(2).
+    fn has_lower_directory(&self, at: Location, name: &[u8]) -> bool
+        ensures { result ≡ (looks self.now).has_lower_directory (location_of at) name.now };
+
+    /// Whether the object at a location is in lower layers of an overlay alone, so that it is copied up when it is
+    /// opened for writing.
+    fn is_only_below(&self, at: Location) -> bool
+        ensures { result ≡ is_only_below (looks self.now) (location_of at) };
+
+    /// Whether the mounter of the overlay at a location has these rights there; nobody is asked outside overlays.
+    fn mounter_may(&self, at: Location, wanted: Rights) -> bool
+        ensures { result ≡ mounter_may (looks self.now) (location_of at) (right_bits wanted) };
+
+    /// As `mounter_may`, of an object that was lent on a mount that was asked for before.
+    fn mounter_may_on(&self, ground: Ground, at: Location, object: &Node, wanted: Rights) -> bool
+        requires ground { IsGround (looks self.now) at.mount ground }
+        requires object { real self.now (location_of at) ≡ Some object.now }
+        ensures { result ≡ mounter_may (looks self.now) (location_of at) (right_bits wanted) };
+
+    /// Whether the mounter of the overlay at a location may make a change there, with the copies that it needs: the
+    /// first of B1 (EACCES) and B2 (EPERM) that fails. Nobody is asked outside overlays.
+    fn mounter_may_change(&self, at: Location, asked: Asked) -> Result<(), Deny>
+        ensures { (change : Change ℕ) → asked_by change ≡ asked_at at asked
+            → result ≡ unless ((looks self.now).mounter_rules (location_of at) change) (Ok tt) };
 
     // what is lent looks like the inode
     ghost alike: { (here : Self) (at : meant.Location ℕ) → front (real here at) ≡ front ((looks here).node at) };

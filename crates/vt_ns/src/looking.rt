@@ -7,10 +7,12 @@ ghost use Rattle.vt_detach.specs.Looking.{is_seen, looks_of_value};
 ghost use Rattle.vt_world.specs.WorldValue.{world_of};
 
 use crate::world::World;
+use vt_cred::Rights;
 use vt_location::{FilesystemId, Location, Mount, MountId, NamespaceId, NodeRef};
-use vt_looks::{Ground, Look};
+use vt_looks::{Asked, Ground, Look};
 use vt_node::Node;
 use vt_request::TaskName;
+use vt_spec::errors::Deny;
 
 impl World {
     /// The filesystem that a mount shows. A number that no mount has stands for a mount of the filesystem with that
@@ -142,5 +144,44 @@ impl Look for World {
         self.is_held();
     }
 
-    fn has_no_overlays(&self) {}
+    // No filesystem is an overlay, since no call mounts one: so nothing is locked, and no mounter is asked.
+
+    fn is_overlay(&self, _at: Location) -> bool {
+        false
+    }
+
+    fn has_no_upper(&self, _at: Location) -> bool {
+        false
+    }
+
+    fn is_locked(&self, _at: Location) -> bool {
+        false
+    }
+
+    fn has_lower_directory(&self, _at: Location, _name: &[u8]) -> bool {
+        false
+    }
+
+    fn is_only_below(&self, _at: Location) -> bool {
+        false
+    }
+
+    fn mounter_may(&self, _at: Location, _wanted: Rights) -> bool {
+        true
+    }
+
+    #[inline(always)]
+    fn mounter_may_on(
+        &self,
+        _ground: Ground,
+        _at: Location,
+        _object: &Node,
+        _wanted: Rights,
+    ) -> bool {
+        true
+    }
+
+    fn mounter_may_change(&self, _at: Location, _asked: Asked) -> Result<(), Deny> {
+        Ok(())
+    }
 }

@@ -13,7 +13,7 @@ use vt_rules::{attr_at, attr_permit, lacks, may_chown, may_mark};
 use vt_spec::errors::{Deny, Rule};
 use vt_tasks::Task;
 
-/// After the rules of the walk: F1 (EROFS), C2 (EPERM).
+/// After the rules of the walk those of `vt_rules::attr_permit`.
 #[tactic(auto, unfolding(vt_spec::specs::Machine::Judge::chmod_permit))]
 pub fn chmod<L: Look>(world: &L, who: &Task, path: &[u8], mode: Mode) -> Result<Grant, Deny>
     ensures { JudgesAlike (task_of who.now)
@@ -29,7 +29,7 @@ pub fn chmod<L: Look>(world: &L, who: &Task, path: &[u8], mode: Mode) -> Result<
     attr_permit(world, who, object, owns(&who.cred, &old), new)
 }
 
-/// After the rules of the walk: F1 (EROFS), C2 (EPERM).
+/// After the rules of the walk those of `vt_rules::attr_permit`.
 #[tactic(auto, unfolding(vt_spec::specs::Machine::Judge::chown_permit))]
 pub fn chown<L: Look>(
     world: &L,
@@ -51,7 +51,7 @@ pub fn chown<L: Look>(
     attr_permit(world, who, object, may_chown(&who.cred, &old, &new), new)
 }
 
-/// K1 (EPERM), and after the rules of the walk F1 (EROFS).
+/// K1 (EPERM), and after the rules of the walk those of `may_mark`.
 #[tactic(auto, unfolding(vt_spec::specs::Machine::Judge::opaque_permit))]
 pub fn opaque<L: Look>(world: &L, who: &Task, path: &[u8], mark: bool) -> Result<Grant, Deny>
     ensures { JudgesAlike (task_of who.now)

@@ -106,7 +106,7 @@ pub fn pread(who: &Task, descriptor: u8, offset: u32, size: u32) -> Result<Grant
     })))
 }
 
-/// S4 (EBADF), E6 (EFBIG).
+/// S4 (EBADF), E6 (EFBIG), L1 (EBUSY).
 #[tactic(auto, unfolding(vt_spec::specs::Machine::Judge::pwrite_permit))]
 pub fn pwrite<L: Look>(
     world: &L,
@@ -118,11 +118,13 @@ pub fn pwrite<L: Look>(
     ensures { JudgesAlike (task_of who.now)
         (pwrite_permit (L.looks world.now) (task_of who.now) descriptor offset bytes.items) result }
 {
-    world.has_no_overlays();
     let file = writable_file(who, descriptor)?;
     let offset = offset as usize;
     if !bytes.is_empty() && (offset > LARGEST_FILE || bytes.len() > LARGEST_FILE - offset) {
         return Err(Rule::E6.denial());
+    }
+    if world.is_locked(file) {
+        return Err(Rule::L1.denial());
     }
     Ok(Grant::Write(WriteGrant::Part(ToWritePart {
         file,

@@ -13,15 +13,17 @@ use vt_rules::{is_directory, is_kind, is_noexec, may};
 use vt_spec::errors::{Deny, Rule};
 use vt_tasks::Task;
 
-/// After the rules of the walk: C1 (EACCES).
+/// After the rules of the walk: C1 (EACCES), B1 (EACCES).
 #[tactic(auto, unfolding(vt_spec::specs::Machine::Judge::list_permit))]
 pub fn list<L: Look>(world: &L, who: &Task, path: &[u8]) -> Result<Grant, Deny>
     ensures { JudgesAlike (task_of who.now) (list_permit nat_eq (L.looks world.now) (task_of who.now) path.now) result }
 {
-    world.has_no_overlays();
     let directory = directory_at(world, who, path)?;
     if !may(world, who, directory, Rights::READ) {
         return Err(Rule::C1.denial());
+    }
+    if !world.mounter_may(directory, Rights::READ) {
+        return Err(Rule::B1.denial());
     }
     Ok(Grant::Look(LookGrant::List { directory }))
 }
@@ -58,12 +60,11 @@ pub fn readlink<L: Look>(world: &L, who: &Task, path: &[u8]) -> Result<Grant, De
     Ok(Grant::Look(LookGrant::Read { file: symlink }))
 }
 
-/// After the rules of the walk: E2 (EISDIR), E9 (ENXIO), C1 (EACCES).
+/// After the rules of the walk: E2 (EISDIR), E9 (ENXIO), C1 (EACCES), B1 (EACCES).
 #[tactic(auto, unfolding(vt_spec::specs::Machine::Judge::read_permit))]
 pub fn read<L: Look>(world: &L, who: &Task, path: &[u8]) -> Result<Grant, Deny>
     ensures { JudgesAlike (task_of who.now) (read_permit nat_eq (L.looks world.now) (task_of who.now) path.now) result }
 {
-    world.has_no_overlays();
     let file = object_at(world, who, path)?;
     if is_directory(world, file) {
         return Err(Rule::E2.denial());
@@ -74,15 +75,17 @@ pub fn read<L: Look>(world: &L, who: &Task, path: &[u8]) -> Result<Grant, Deny>
     if !may(world, who, file, Rights::READ) {
         return Err(Rule::C1.denial());
     }
+    if !world.mounter_may(file, Rights::READ) {
+        return Err(Rule::B1.denial());
+    }
     Ok(Grant::Look(LookGrant::Read { file }))
 }
 
-/// After the rules of the walk: E8 (EACCES), F3 (EACCES), C1 (EACCES).
+/// After the rules of the walk: E8 (EACCES), F3 (EACCES), C1 (EACCES), B1 (EACCES).
 #[tactic(auto, unfolding(vt_spec::specs::Machine::Judge::exec_permit))]
 pub fn exec<L: Look>(world: &L, who: &Task, path: &[u8]) -> Result<Grant, Deny>
     ensures { JudgesAlike (task_of who.now) (exec_permit nat_eq (L.looks world.now) (task_of who.now) path.now) result }
 {
-    world.has_no_overlays();
     let file = object_at(world, who, path)?;
     if !is_kind(world, file, Kind::File) {
         return Err(Rule::E8.denial());
@@ -92,6 +95,9 @@ pub fn exec<L: Look>(world: &L, who: &Task, path: &[u8]) -> Result<Grant, Deny>
     }
     if !may(world, who, file, Rights::EXECUTE) {
         return Err(Rule::C1.denial());
+    }
+    if !world.mounter_may(file, Rights::EXECUTE) {
+        return Err(Rule::B1.denial());
     }
     Ok(Grant::Look(LookGrant::Nothing))
 }

@@ -6,13 +6,13 @@ ghost use Rattle.vt_tasks.specs.TaskValue.{task_of};
 
 use crate::paths::{file_place, new_leaf_place, new_place, symlink_at};
 use std::alloc::Global;
-use vt_cred::{Mode, Rights};
+use vt_cred::Mode;
 use vt_looks::Look;
 use vt_node::Node;
 use vt_permits::{Grant, MakeGrant, ToLink, ToMake};
 use vt_rules::{
-    empty_directory, is_directory, is_read_only, may, may_make, may_make_whiteout, name_at,
-    new_attr, new_file_permit, rewrite_permit, symlink_attr, whiteout_attr,
+    empty_directory, may_link, may_make, may_make_whiteout, name_at, new_attr, new_file_permit,
+    rewrite_permit, symlink_attr, whiteout_attr,
 };
 use vt_spec::errors::{Deny, Rule};
 use vt_tasks::Task;
@@ -21,7 +21,7 @@ use vt_text::path::LONGEST_PATH;
 /// The mode that mkdir asks for where none is given, 0777: mkdir(1).
 const DIRECTORY_MODE: u16 = 0o777;
 
-/// After the rules of the walk: E1 (EEXIST), F1 (EROFS), C1 (EACCES).
+/// After the rules of the walk: E1 (EEXIST), and those of `may_make`.
 #[tactic(auto, unfolding(vt_spec::specs::Machine::Judge::mkdir_permit))]
 pub fn mkdir<L: Look>(
     alloc: Global,
@@ -47,7 +47,7 @@ pub fn mkdir<L: Look>(
 }
 
 /// Before the rules of the walk, of the symlink's text: W1 (ENOENT), W2 (ENAMETOOLONG). After them: E1 (EEXIST),
-/// F1 (EROFS), C1 (EACCES).
+/// and those of `may_make`.
 #[tactic(auto, unfolding(vt_spec::specs::Machine::Judge::symlink_permit))]
 pub fn symlink<L: Look>(
     alloc: Global,
@@ -77,7 +77,7 @@ pub fn symlink<L: Look>(
     })))
 }
 
-/// After the rules of the walk: E1 (EEXIST), F1 (EROFS), C1 (EACCES).
+/// After the rules of the walk those of `may_make_whiteout`.
 #[tactic(auto, unfolding(vt_spec::specs::Machine::Judge::whiteout_permit))]
 pub fn whiteout<L: Look>(alloc: Global, world: &L, who: &Task, path: &[u8]) -> Result<Grant, Deny>
     ensures { Judges (task_of who.now)
@@ -92,7 +92,7 @@ pub fn whiteout<L: Look>(alloc: Global, world: &L, who: &Task, path: &[u8]) -> R
     })))
 }
 
-/// After the rules of both walks: E1 (EEXIST), E7 (EPERM), F1 (EROFS), P2 (EXDEV), C1 (EACCES).
+/// After the rules of both walks: E1 (EEXIST) of a special last word, and then those of `may_link`.
 #[tactic(auto, unfolding(vt_spec::specs::Machine::Judge::hard_link_permit))]
 pub fn link<L: Look>(
     alloc: Global,
@@ -104,24 +104,12 @@ pub fn link<L: Look>(
     ensures { Judges (task_of who.now)
         (hard_link_permit nat_eq (L.looks world.now) (task_of who.now) old.now new.now) result }
 {
-    world.has_no_overlays();
     let object = symlink_at(world, who, old)?;
     let place = new_leaf_place(world, who, new)?;
-    if place.last.is_special() || place.object.is_some() {
+    if place.last.is_special() {
         return Err(Rule::E1.denial());
     }
-    if is_directory(world, object) {
-        return Err(Rule::E7.denial());
-    }
-    if is_read_only(world, place.parent) {
-        return Err(Rule::F1.denial());
-    }
-    if object.mount != place.parent.mount {
-        return Err(Rule::P2.denial());
-    }
-    if !may(world, who, place.parent, Rights::WRITE) {
-        return Err(Rule::C1.denial());
-    }
+    may_link(world, who, object, &place)?;
     Ok(Grant::Make(MakeGrant::Link(ToLink {
         directory: place.parent,
         name: name_at(alloc, place.last)?,

@@ -8,24 +8,20 @@ use crate::paths::{old_leaf_place, old_place, rename_place};
 use std::alloc::Global;
 use vt_looks::{LastWord, Look};
 use vt_permits::{Grant, LookGrant, RemoveGrant, ToRemoveDirectory, ToRename, ToUnlink};
-use vt_rules::{is_directory, is_name_of, is_read_only, may_remove, may_rename, may_stay, name_at};
+use vt_rules::{is_directory, is_name_of, may_rename, may_rmdir, may_stay, may_unlink, name_at};
 use vt_spec::errors::{Deny, Rule};
 use vt_tasks::Task;
 
-/// After the rules of the walk: E2 (EISDIR), F1 (EROFS), C1 (EACCES), C3 (EPERM).
+/// After the rules of the walk: E2 (EISDIR) of a special last word, and then those of `may_unlink`.
 #[tactic(auto, unfolding(vt_spec::specs::Machine::Judge::unlink_permit))]
 pub fn unlink<L: Look>(alloc: Global, world: &L, who: &Task, path: &[u8]) -> Result<Grant, Deny>
     ensures { Judges (task_of who.now) (unlink_permit nat_eq (L.looks world.now) (task_of who.now) path.now) result }
 {
-    world.has_no_overlays();
     let place = old_leaf_place(world, who, path)?;
-    if place.last.is_special() || is_directory(world, place.object) {
+    if place.last.is_special() {
         return Err(Rule::E2.denial());
     }
-    if is_read_only(world, place.parent) {
-        return Err(Rule::F1.denial());
-    }
-    may_remove(world, who, place.parent, place.object)?;
+    may_unlink(world, who, &place)?;
     Ok(Grant::Remove(RemoveGrant::Unlink(ToUnlink {
         directory: place.parent,
         name: name_at(alloc, place.last)?,
@@ -33,13 +29,12 @@ pub fn unlink<L: Look>(alloc: Global, world: &L, who: &Task, path: &[u8]) -> Res
     })))
 }
 
-/// After the rules of the walk the special last words, and then E3 (ENOTDIR), E4 (ENOTEMPTY), F1 (EROFS), P1 (EBUSY),
-/// C1 (EACCES), C3 (EPERM).
+/// After the rules of the walk: E4 (ENOTEMPTY), E5 (EINVAL) or P1 (EBUSY) of the special last words, and then those of
+/// `may_rmdir`.
 #[tactic(auto, unfolding(vt_spec::specs::Machine::Judge::rmdir_permit))]
 pub fn rmdir<L: Look>(alloc: Global, world: &L, who: &Task, path: &[u8]) -> Result<Grant, Deny>
     ensures { Judges (task_of who.now) (rmdir_permit nat_eq (L.looks world.now) (task_of who.now) path.now) result }
 {
-    world.has_no_overlays();
     let place = old_place(world, who, path)?;
     match place.last {
         LastWord::DotDot => return Err(Rule::E4.denial()),
@@ -47,24 +42,11 @@ pub fn rmdir<L: Look>(alloc: Global, world: &L, who: &Task, path: &[u8]) -> Resu
         LastWord::NoWord => return Err(Rule::P1.denial()),
         LastWord::Named(_) => {}
     }
-    let directory = place.object;
-    if !is_directory(world, directory) {
-        return Err(Rule::E3.denial());
-    }
-    if world.is_nonempty(directory) {
-        return Err(Rule::E4.denial());
-    }
-    if is_read_only(world, place.parent) {
-        return Err(Rule::F1.denial());
-    }
-    if world.is_mount_point_in(who.namespace, directory) {
-        return Err(Rule::P1.denial());
-    }
-    may_remove(world, who, place.parent, directory)?;
+    may_rmdir(world, who, &place)?;
     Ok(Grant::Remove(RemoveGrant::Directory(ToRemoveDirectory {
         parent: place.parent,
         name: name_at(alloc, place.last)?,
-        directory,
+        directory: place.object,
     })))
 }
 

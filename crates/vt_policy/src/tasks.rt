@@ -16,7 +16,7 @@ use vt_rules::{is_barren, lacks, may_enter, may_fork, named};
 use vt_spec::errors::{Deny, Rule};
 use vt_tasks::Task;
 
-/// After the rules of the walk: C1 (EACCES).
+/// After the rules of the walk: C1 (EACCES), B1 (EACCES).
 #[tactic(auto, unfolding(vt_spec::specs::Machine::Judge::chdir_permit))]
 pub fn chdir<L: Look>(world: &L, who: &Task, path: &[u8]) -> Result<Grant, Deny>
     ensures { JudgesAlike (task_of who.now)
@@ -27,7 +27,7 @@ pub fn chdir<L: Look>(world: &L, who: &Task, path: &[u8]) -> Result<Grant, Deny>
     Ok(Grant::Task(TaskGrant::SetDirectory { directory }))
 }
 
-/// K1 (EPERM), and after the rules of the walk C1 (EACCES).
+/// K1 (EPERM), and after the rules of the walk C1 (EACCES), B1 (EACCES).
 #[tactic(auto, unfolding(vt_spec::specs::Machine::Judge::chroot_permit))]
 pub fn chroot<L: Look>(world: &L, who: &Task, path: &[u8]) -> Result<Grant, Deny>
     ensures { JudgesAlike (task_of who.now)

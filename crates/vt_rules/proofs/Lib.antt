@@ -1,6 +1,5 @@
 mod Alike
 pub mod Judged
-pub mod PlainRows
 pub mod Refusals
 mod RenameLemmas
 pub mod Rows

@@ -3,7 +3,7 @@ ghost use Rattle.std.specs.Prelude.{◌≡◌, nat_eq, Ok};
 ghost use Rattle.vt_spec.specs.Errors.{unless};
 ghost use Rattle.vt_spec.specs.Machine.Judge.{attr_permit};
 ghost use Rattle.vt_spec.specs.Machine.Attributes.{may_chown};
-ghost use Rattle.vt_spec.specs.Machine.Rules.Attributes.{opaque_rules};
+ghost use Rattle.vt_spec.specs.Machine.Rules.Attributes.{attr_rules, opaque_rules};
 ghost use Rattle.vt_location.specs.Locations.{location_of};
 ghost use Rattle.vt_permits.specs.Memory.{JudgesAlike};
 ghost use Rattle.vt_tasks.specs.TaskValue.{task_of};
@@ -11,15 +11,40 @@ ghost use Rattle.vt_tasks.specs.TaskValue.{task_of};
 use crate::rights::is_read_only;
 use vt_cred::{Caps, Cred};
 use vt_location::Location;
-use vt_looks::Look;
+use vt_looks::{Asked, Look};
 use vt_node::Attr;
 use vt_permits::{Grant, WriteGrant};
 use vt_spec::errors::{Deny, Rule};
 use vt_tasks::Task;
 
+// The attributes of an object may be set: F1, F2, L1, C2, B1, B2.
+fn may_set_attr<L: Look>(
+    world: &L,
+    object: Location,
+    allowed: bool,
+    attr: &Attr,
+) -> Result<(), Deny>
+    ensures { result ≡ unless
+        (attr_rules (L.looks world.now) (location_of object) allowed attr.now) (Ok tt) }
+{
+    if is_read_only(world, object) {
+        return Err(Rule::F1.denial());
+    }
+    if world.has_no_upper(object) {
+        return Err(Rule::F2.denial());
+    }
+    if world.is_locked(object) {
+        return Err(Rule::L1.denial());
+    }
+    if !allowed {
+        return Err(Rule::C2.denial());
+    }
+    world.mounter_may_change(object, Asked::Object)
+}
+
 /// The permit to set the attributes of an object, to who is allowed to: chmod(2), chown(2).
 ///
-/// F1 (EROFS), C2 (EPERM).
+/// F1 (EROFS), F2 (EROFS), L1 (EBUSY), C2 (EPERM), B1 (EACCES), B2 (EPERM).
 pub fn attr_permit<L: Look>(
     world: &L,
     who: &Task,
@@ -30,13 +55,7 @@ pub fn attr_permit<L: Look>(
     ensures { JudgesAlike (task_of who.now)
         (attr_permit nat_eq (L.looks world.now) (location_of object) allowed attr) result }
 {
-    world.has_no_overlays();
-    if is_read_only(world, object) {
-        return Err(Rule::F1.denial());
-    }
-    if !allowed {
-        return Err(Rule::C2.denial());
-    }
+    may_set_attr(world, object, allowed, &attr)?;
     Ok(Grant::Write(WriteGrant::Attr { object, attr }))
 }
 
@@ -54,13 +73,21 @@ pub fn may_chown(who: &Cred, old: &Attr, new: &Attr) -> bool
 
 /// The opaque mark of a directory may be set: setxattr(2) of `trusted.overlay.opaque`.
 ///
-/// F1 (EROFS).
+/// F1 (EROFS), F2 (EROFS), L1 (EBUSY), O4 (EPERM).
 pub fn may_mark<L: Look>(world: &L, directory: Location) -> Result<(), Deny>
     ensures { result ≡ unless (opaque_rules (L.looks world.now) (location_of directory)) (Ok tt) }
 {
-    world.has_no_overlays();
     if is_read_only(world, directory) {
         return Err(Rule::F1.denial());
+    }
+    if world.has_no_upper(directory) {
+        return Err(Rule::F2.denial());
+    }
+    if world.is_locked(directory) {
+        return Err(Rule::L1.denial());
+    }
+    if world.is_overlay(directory) {
+        return Err(Rule::O4.denial());
     }
     Ok(())
 }

@@ -1,7 +1,8 @@
 //! What may be opened, and the files of descriptors: open(2), pread(2), pwrite(2).
-ghost use Rattle.std.specs.Prelude.{◌≡◌, nat_eq, ℕ};
+ghost use Rattle.std.specs.Prelude.{◌≡◌, nat_eq, Ok, ℕ};
+ghost use Rattle.vt_spec.specs.Errors.{unless};
 ghost use Rattle.vt_spec.specs.Machine.Judge.{create_file_permit, open_file_permit};
-ghost use Rattle.vt_spec.specs.Machine.Rules.Descriptors.{access_rights, descriptor_at};
+ghost use Rattle.vt_spec.specs.Machine.Rules.Descriptors.{access_rights, copy_rules, descriptor_at, is_copied_up, open_rules};
 ghost use Rattle.vt_spec.specs.Machine.Walking.{Place as PlaceMeant};
 ghost use Rattle.vt_cred.specs.Rights.{right_bits};
 ghost use Rattle.vt_location.specs.Locations.{location_of};
@@ -15,7 +16,7 @@ use crate::rights::{is_directory, is_kind, is_read_only, may, name_at, new_attr}
 use std::alloc::Global;
 use vt_cred::{Flags, Mode, Rights};
 use vt_location::Location;
-use vt_looks::{Look, Place};
+use vt_looks::{Asked, Look, Place};
 use vt_node::{Kind, Node};
 use vt_permits::{DescriptorGrant, Grant, ToOpenNew};
 use vt_request::Access;
@@ -33,9 +34,50 @@ fn rights_of(access: Access) -> Rights
     }
 }
 
+// An object that lies only in lower layers may be copied up as it is opened for writing: B1, B2.
+fn may_copy_up<L: Look>(world: &L, file: Location, access: Access) -> Result<(), Deny>
+    ensures { result ≡ unless
+        (copy_rules (is_copied_up (L.looks world.now) (location_of file) (access_of access))
+        (L.looks world.now) (location_of file)) (Ok tt) }
+{
+    if access.writes() && world.is_only_below(file) {
+        return world.mounter_may_change(file, Asked::Object);
+    }
+    Ok(())
+}
+
+// An object that exists may be opened: E2, E9, F1, F2, L1, C1, B1, B2.
+fn may_open<L: Look>(world: &L, who: &Task, file: Location, access: Access) -> Result<(), Deny>
+    ensures { result ≡ unless
+        (open_rules (L.looks world.now) (task_of who.now) (location_of file) (access_of access)) (Ok tt) }
+{
+    if is_directory(world, file) {
+        return Err(Rule::E2.denial());
+    }
+    if is_kind(world, file, Kind::White) {
+        return Err(Rule::E9.denial());
+    }
+    if access.writes() && is_read_only(world, file) {
+        return Err(Rule::F1.denial());
+    }
+    if access.writes() && world.has_no_upper(file) {
+        return Err(Rule::F2.denial());
+    }
+    if access.writes() && world.is_locked(file) {
+        return Err(Rule::L1.denial());
+    }
+    if !may(world, who, file, rights_of(access)) {
+        return Err(Rule::C1.denial());
+    }
+    if !world.mounter_may(file, rights_of(access)) {
+        return Err(Rule::B1.denial());
+    }
+    may_copy_up(world, file, access)
+}
+
 /// The permit to open an object that exists: open(2).
 ///
-/// E2 (EISDIR), E9 (ENXIO), F1 (EROFS), C1 (EACCES).
+/// E2 (EISDIR), E9 (ENXIO), F1 (EROFS), F2 (EROFS), L1 (EBUSY), C1 (EACCES), B1 (EACCES), B2 (EPERM).
 pub fn open_file_permit<L: Look>(
     world: &L,
     who: &Task,
@@ -46,25 +88,13 @@ pub fn open_file_permit<L: Look>(
         (open_file_permit nat_eq (L.looks world.now) (task_of who.now) (location_of file) (access_of access))
         result }
 {
-    world.has_no_overlays();
-    if is_directory(world, file) {
-        return Err(Rule::E2.denial());
-    }
-    if is_kind(world, file, Kind::White) {
-        return Err(Rule::E9.denial());
-    }
-    if access.writes() && is_read_only(world, file) {
-        return Err(Rule::F1.denial());
-    }
-    if !may(world, who, file, rights_of(access)) {
-        return Err(Rule::C1.denial());
-    }
+    may_open(world, who, file, access)?;
     Ok(Grant::Descriptor(DescriptorGrant::Open { file, access }))
 }
 
 /// The permit to make a file at a place, and to open it: open(2) with `O_CREAT`.
 ///
-/// F1 (EROFS), C1 (EACCES). S5 (ENOMEM): the allocation of the name failed.
+/// The rules of `may_make`. S5 (ENOMEM): the allocation of the name failed.
 pub fn create_file_permit<L: Look>(
     alloc: Global,
     world: &L,

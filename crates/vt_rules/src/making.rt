@@ -1,11 +1,11 @@
 //! What may be made and written: mkdir(2), symlink(2), mknod(2), open(2) with `O_CREAT`, write(2).
 ghost use Rattle.std.specs.Prelude.{◌≡◌, nat_eq, None, Ok, Some, ℕ};
 ghost use Rattle.vt_spec.specs.Errors.{unless};
-ghost use Rattle.vt_spec.specs.Language.Changes.{Change};
-ghost use Rattle.vt_spec.specs.Machine.Judge.{written_permit};
-ghost use Rattle.vt_spec.specs.Machine.Rules.Making.{make_rules, whiteout_rules};
+ghost use Rattle.vt_spec.specs.Machine.Judge.{unnumbered, written_permit};
+ghost use Rattle.vt_spec.specs.Machine.Rules.Making.{hard_link_rules, make_rules, rewrite_rules, whiteout_rules};
+ghost use Rattle.vt_spec.specs.Machine.Rows.{linking};
 ghost use Rattle.vt_spec.specs.Machine.Walking.{Place as PlaceMeant};
-ghost use Rattle.vt_spec.specs.Tree.{new_directory};
+ghost use Rattle.vt_spec.specs.Tree.{Node as NodeMeant, new_directory};
 ghost use Rattle.vt_location.specs.Locations.{location_of, number_of};
 ghost use Rattle.vt_permits.specs.GrantValue.{node_in};
 ghost use Rattle.vt_permits.specs.Memory.{Judges, JudgesAlike};
@@ -16,7 +16,7 @@ use crate::rights::{is_directory, is_kind, is_read_only, may, name_at, new_attr}
 use std::alloc::Global;
 use vt_cred::{Mode, Rights};
 use vt_location::Location;
-use vt_looks::{Look, Place};
+use vt_looks::{Asked, Look, Place};
 use vt_node::{Attr, Kind, LARGEST_FILE, Node};
 use vt_permits::{Grant, MakeGrant, ToMake, WriteGrant};
 use vt_spec::errors::{Deny, Rule};
@@ -27,39 +27,95 @@ const FILE_MODE: u16 = 0o666;
 
 /// A name may be made in a directory: mkdir(2), symlink(2), open(2) with `O_CREAT`.
 ///
-/// F1 (EROFS), C1 (EACCES).
+/// F1 (EROFS), F2 (EROFS), L1 (EBUSY), C1 (EACCES), B1 (EACCES), B2 (EPERM).
 pub fn may_make<L: Look>(world: &L, who: &Task, directory: Location) -> Result<(), Deny>
-    ensures { (place : PlaceMeant ℕ) → (change : Change ℕ) → place.parent ≡ location_of directory
-        → result ≡ unless (make_rules (L.looks world.now) (task_of who.now) place change) (Ok tt) }
+    ensures { (place : PlaceMeant ℕ) → (node : NodeMeant ℕ) → place.parent ≡ location_of directory
+        → result ≡ unless
+        (make_rules (L.looks world.now) (task_of who.now) place (unnumbered place node)) (Ok tt) }
 {
-    world.has_no_overlays();
     if is_read_only(world, directory) {
         return Err(Rule::F1.denial());
+    }
+    if world.has_no_upper(directory) {
+        return Err(Rule::F2.denial());
+    }
+    if world.is_locked(directory) {
+        return Err(Rule::L1.denial());
     }
     if !may(world, who, directory, Rights::WRITE) {
         return Err(Rule::C1.denial());
     }
-    Ok(())
+    if !world.mounter_may(directory, Rights::WRITE) {
+        return Err(Rule::B1.denial());
+    }
+    world.mounter_may_change(directory, Asked::Entry)
 }
 
 /// A whiteout may be made at a place: mknod(2).
 ///
-/// E1 (EEXIST), F1 (EROFS), C1 (EACCES).
+/// E1 (EEXIST), F1 (EROFS), F2 (EROFS), L1 (EBUSY), C1 (EACCES), O4 (EPERM).
 pub fn may_make_whiteout<L: Look>(world: &L, who: &Task, place: &Place) -> Result<(), Deny>
     ensures { (meant : PlaceMeant ℕ) → IsPlaceOf place.now meant
         → result ≡ unless (whiteout_rules (L.looks world.now) (task_of who.now) meant) (Ok tt) }
 {
-    world.has_no_overlays();
     if place.last.is_special() || place.object.is_some() {
         return Err(Rule::E1.denial());
     }
     if is_read_only(world, place.parent) {
         return Err(Rule::F1.denial());
     }
+    if world.has_no_upper(place.parent) {
+        return Err(Rule::F2.denial());
+    }
+    if world.is_locked(place.parent) {
+        return Err(Rule::L1.denial());
+    }
     if !may(world, who, place.parent, Rights::WRITE) {
         return Err(Rule::C1.denial());
     }
+    if world.is_overlay(place.parent) {
+        return Err(Rule::O4.denial());
+    }
     Ok(())
+}
+
+/// A further name of an object may be made at a place: link(2).
+///
+/// E1 (EEXIST), E7 (EPERM), F1 (EROFS), F2 (EROFS), L1 (EBUSY), P2 (EXDEV), C1 (EACCES), B1 (EACCES), B2 (EPERM).
+pub fn may_link<L: Look>(world: &L, who: &Task, object: Location, place: &Place) -> Result<(), Deny>
+    ensures { (meant : PlaceMeant ℕ) → IsPlaceOf place.now meant
+        → result ≡ unless
+        (hard_link_rules nat_eq (L.looks world.now) (task_of who.now) (location_of object) meant
+        (linking (location_of object) meant)) (Ok tt) }
+{
+    if place.object.is_some() {
+        return Err(Rule::E1.denial());
+    }
+    if is_directory(world, object) {
+        return Err(Rule::E7.denial());
+    }
+    if is_read_only(world, place.parent) {
+        return Err(Rule::F1.denial());
+    }
+    if world.has_no_upper(place.parent) {
+        return Err(Rule::F2.denial());
+    }
+    if world.is_locked(object) || world.is_locked(place.parent) {
+        return Err(Rule::L1.denial());
+    }
+    if object.mount != place.parent.mount {
+        return Err(Rule::P2.denial());
+    }
+    if !may(world, who, place.parent, Rights::WRITE) {
+        return Err(Rule::C1.denial());
+    }
+    if !world.mounter_may(place.parent, Rights::WRITE) {
+        return Err(Rule::B1.denial());
+    }
+    let asked = Asked::Name {
+        object: object.node,
+    };
+    world.mounter_may_change(place.parent, asked)
 }
 
 /// An empty directory whose parent is the one at a location: mkdir(2). It does not allocate.
@@ -70,21 +126,11 @@ pub fn empty_directory(alloc: Global, attr: Attr, parent: Location) -> Node
     Node::new_directory(alloc, attr, parent.node.node())
 }
 
-/// The permit to write the whole content of an object that exists: open(2) with `O_TRUNC`, write(2).
-///
-/// E2 (EISDIR), E6 (EFBIG), E9 (ENXIO), F1 (EROFS), C1 (EACCES).
-pub fn rewrite_permit<L: Look>(
-    world: &L,
-    who: &Task,
-    file: Location,
-    bytes: Vec<u8>,
-) -> Result<Grant, Deny>
-    ensures { (place : PlaceMeant ℕ) → JudgesAlike (task_of who.now)
-        (written_permit nat_eq (L.looks world.now) (task_of who.now) place bytes.items
-        (Some (location_of file)))
-        result }
+// The whole content of an object that exists may be written: E2, E6, E9, F1, F2, L1, C1, B1, B2.
+fn may_rewrite<L: Look>(world: &L, who: &Task, file: Location, bytes: &[u8]) -> Result<(), Deny>
+    ensures { result ≡ unless
+        (rewrite_rules (L.looks world.now) (task_of who.now) (location_of file) bytes.now) (Ok tt) }
 {
-    world.has_no_overlays();
     if is_directory(world, file) {
         return Err(Rule::E2.denial());
     }
@@ -97,15 +143,42 @@ pub fn rewrite_permit<L: Look>(
     if is_read_only(world, file) {
         return Err(Rule::F1.denial());
     }
+    if world.has_no_upper(file) {
+        return Err(Rule::F2.denial());
+    }
+    if world.is_locked(file) {
+        return Err(Rule::L1.denial());
+    }
     if !may(world, who, file, Rights::WRITE) {
         return Err(Rule::C1.denial());
     }
+    if !world.mounter_may(file, Rights::WRITE) {
+        return Err(Rule::B1.denial());
+    }
+    world.mounter_may_change(file, Asked::Object)
+}
+
+/// The permit to write the whole content of an object that exists: open(2) with `O_TRUNC`, write(2).
+///
+/// E2 (EISDIR), E6 (EFBIG), E9 (ENXIO), F1 (EROFS), F2 (EROFS), L1 (EBUSY), C1 (EACCES), B1 (EACCES), B2 (EPERM).
+pub fn rewrite_permit<L: Look>(
+    world: &L,
+    who: &Task,
+    file: Location,
+    bytes: Vec<u8>,
+) -> Result<Grant, Deny>
+    ensures { (place : PlaceMeant ℕ) → JudgesAlike (task_of who.now)
+        (written_permit nat_eq (L.looks world.now) (task_of who.now) place bytes.items
+        (Some (location_of file)))
+        result }
+{
+    may_rewrite(world, who, file, &bytes)?;
     Ok(Grant::Write(WriteGrant::Content { file, bytes }))
 }
 
 /// The permit to make a file with this content at a place: open(2) with `O_CREAT`, then write(2).
 ///
-/// E6 (EFBIG), F1 (EROFS), C1 (EACCES). S5 (ENOMEM): the allocation of the name failed.
+/// E6 (EFBIG), and the rules of `may_make`. S5 (ENOMEM): the allocation of the name failed.
 pub fn new_file_permit<L: Look>(
     alloc: Global,
     world: &L,

@@ -20,14 +20,16 @@ use vt_tasks::{MAX_DEPTH, MAX_FORKS, Task};
 
 /// A directory may be entered: chdir(2), chroot(2).
 ///
-/// C1 (EACCES).
+/// C1 (EACCES), B1 (EACCES).
 pub fn may_enter<L: Look>(world: &L, who: &Task, directory: Location) -> Result<(), Deny>
     ensures { result ≡ unless
         (enter_rules (L.looks world.now) (task_of who.now) (location_of directory)) (Ok tt) }
 {
-    world.has_no_overlays();
     if !may(world, who, directory, Rights::SEARCH) {
         return Err(Rule::C1.denial());
+    }
+    if !world.mounter_may(directory, Rights::SEARCH) {
+        return Err(Rule::B1.denial());
     }
     Ok(())
 }

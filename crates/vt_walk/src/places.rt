@@ -23,7 +23,7 @@ use vt_tasks::Task;
 use vt_text::link;
 use vt_text::path::PathText;
 
-// What a last word names in a directory, with no symlink followed. W3, W4: if there is a word, the directory is
+// What a last word names in a directory, with no symlink followed. W3, W4, W5: if there is a word, the directory is
 // searched; without a word there is no trailing slash either. W8: `..` of a lost directory.
 #[inline(always)]
 fn placed<'a, L: Look>(
@@ -45,7 +45,8 @@ fn placed<'a, L: Look>(
             slash: false,
         });
     }
-    let directory = searched(world, who, here, world.node(here))?;
+    let ground = world.ground(here.mount);
+    let directory = searched(world, who, ground, here, world.node_on(ground, here))?;
     let object = object_named(world, who, here, directory, last)?;
     Ok(Place {
         parent: here,
@@ -58,9 +59,10 @@ fn placed<'a, L: Look>(
 /// The parent that a path leads to, and what its last word names there; a final symlink is not followed.
 ///
 /// W2 (ENAMETOOLONG): a word of a symlink's text is too long. W3 (ENOTDIR): a word, or a trailing slash of a symlink's
-/// text, follows what is no directory. W4 (EACCES): no search permission, also on the parent. W6 (ENOENT): a missing
-/// name before the last word. W7 (ELOOP): the 41st symlink. W8 (ENOENT): `..` of a directory that is removed, or not
-/// under the root of its mount. W9 (ELOOP): a symlink on a mount with `MS_NOSYMFOLLOW`.
+/// text, follows what is no directory. W4 (EACCES): no search permission, also on the parent. W5 (EACCES): the mounter
+/// of an overlay has none. W6 (ENOENT): a missing name before the last word. W7 (ELOOP): the 41st symlink. W8 (ENOENT):
+/// `..` of a directory that is removed, or not under the root of its mount. W9 (ELOOP): a symlink on a mount with
+/// `MS_NOSYMFOLLOW`.
 pub fn place_walk<'a, L: Look>(
     world: &L,
     who: &Task,

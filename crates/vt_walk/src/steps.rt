@@ -27,21 +27,22 @@ use vt_tasks::Task;
 use vt_text::link;
 use vt_text::path::Words;
 
-// This must be a directory that the task may search: W3, W4. W5 does not occur, since no filesystem is an overlay.
+// This must be a directory that the task may search, W3 and W4, and in an overlay its mounter too, W5.
 #[inline(always)]
 pub(crate) fn searched<'a, L: Look>(
     world: &L,
     who: &Task,
+    ground: Ground,
     here: Location,
     node: Option<&'a Node>,
 ) -> Result<&'a Node, Deny>
-    requires { IsNodeAt (L.real world.now) here (option_copied node) }
+    requires ground { IsGround (L.looks world.now) here.mount ground }
+    requires node { IsNodeAt (L.real world.now) here (option_copied node) }
     ensures value { and_then {B = Unit {0}} result (λ directory. Ok tt)
         ≡ unless (search_rules nat_eq (L.looks world.now) (task_of who.now) (location_of here)) (Ok tt) }
     ensures directory { IfOk result (λ directory. IsNodeAt (L.real world.now) here (Some directory.now)) }
     ensures is { OnOk result (is_directory_at (L.looks world.now) (location_of here) ≡ true) }
 {
-    world.has_no_overlays();
     let Some(directory) = node else {
         return Err(Rule::W3.denial());
     };
@@ -55,6 +56,9 @@ pub(crate) fn searched<'a, L: Look>(
         Rights::SEARCH,
     ) {
         return Err(Rule::W4.denial());
+    }
+    if !world.mounter_may_on(ground, here, directory, Rights::SEARCH) {
+        return Err(Rule::W5.denial());
     }
     Ok(directory)
 }
@@ -152,7 +156,7 @@ fn word_led<L: Look>(
         ≡ word_led (L.looks world.now) (task_of who.now) (location_of from.location) (last_of word.entry) }
     ensures found { IfOk result (λ step. IsFound (L.looks world.now) step.location step.is_found) }
 {
-    let directory = searched(world, who, from.location, node)?;
+    let directory = searched(world, who, ground, from.location, node)?;
     stepped(world, who, from, ground, directory, word)
 }
 

@@ -19,10 +19,9 @@ use vt_text::path::PathText;
 /// The object that a path leads to, a final symlink followed. A trailing slash is accepted only if it is a directory.
 ///
 /// W2 (ENAMETOOLONG): a word of a symlink's text is too long. W3 (ENOTDIR): a word, or a trailing slash, follows what
-/// is no directory. W4 (EACCES): no search permission. W6 (ENOENT): a missing name. W7 (ELOOP): the 41st symlink. W8
-/// (ENOENT):
-/// `..` of a directory that is removed, or not under the root of its mount. W9 (ELOOP): a symlink on a mount with
-/// `MS_NOSYMFOLLOW`.
+/// is no directory. W4 (EACCES): no search permission. W5 (EACCES): the mounter of an overlay has none. W6 (ENOENT): a
+/// missing name. W7 (ELOOP): the 41st symlink. W8 (ENOENT): `..` of a directory that is removed, or not under the root
+/// of its mount. W9 (ELOOP): a symlink on a mount with `MS_NOSYMFOLLOW`.
 pub fn object_walk<L: Look>(world: &L, who: &Task, path: &PathText) -> Result<Location, Deny>
     ensures { location_result result
         ≡ location_end (walk_end (object_walk nat_eq (L.looks world.now) (task_of who.now) path.now)) }

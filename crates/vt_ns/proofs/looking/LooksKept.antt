@@ -1,15 +1,18 @@
 -- What code finds in what is kept of a world is what the definitions see of its value.
-use Rattle.std.proofs.Common.{◌≡◌, refl, sym, ap, subst, ◌∙◌, ℕ, ◌<◌, nat_eq, Bool, true, false, cond, not, ◌&&◌, ◌||◌, List, [], ◌∷◌, zero, suc, length, Option, Some, None, filter, flat_map, map, option_map, unwrap_or}
+use Rattle.std.proofs.Common.{◌≡◌, refl, sym, ap, subst, ◌∙◌, ℕ, ◌<◌, nat_eq, Bool, true, false, cond, is_some, not, ◌&&◌, ◌||◌, List, [], ◌∷◌, zero, suc, length, Option, Some, None, filter, flat_map, map, option_map, unwrap_or}
 use Rattle.std.specs.Prelude.{find, option_to_list}
 use Rattle.std.specs.List.{list_any}
+use Rattle.vt_spec.specs.Language.Changes.{Change}
 use Rattle.vt_spec.specs.FileTree.{is_directory_under, is_removed}
 use Rattle.vt_spec.specs.Machine.Detach.{mounts_on}
-use Rattle.vt_spec.specs.Machine.Filesystems.{overlay_rules, path_of_name}
+use Rattle.vt_spec.specs.Machine.Filesystems.{has_lower_directory_at, lies_only_in_lowers, mounter_rules, overlay_rules, path_of_name}
 use Rattle.vt_spec.specs.Machine.Layers.{has_lower_directory}
-use Rattle.vt_spec.specs.Machine.Locked.{lies_or_counts_under, of_overlay, overlay_or}
+use Rattle.vt_spec.specs.Machine.Locked.{is_locked_at, lies_or_counts_under, of_overlay, overlay_or}
 use Rattle.vt_spec.specs.Machine.Mounts as meant
 use Rattle.vt_spec.specs.Lists.{chain, holds_of, last_or}
-use Rattle.vt_spec.specs.Machine.Looks.{topmost}
+use Rattle.vt_spec.specs.Machine.Looks.{mounter_may, topmost}
+use Rattle.vt_spec.specs.Machine.Rightful.{mounter_allows}
+use Rattle.vt_spec.specs.Machine.Rules.Conditions.{has_no_upper, is_overlay_at}
 use Rattle.vt_spec.specs.Machine.Walking.{is_lost}
 use Rattle.vt_spec.specs.Machine.Mounts.{child_at, no_mount, root_of, same_location, stands_on}
 use Rattle.vt_spec.specs.Machine.World.{Filesystem, filesystem_at, filesystem_numbered, is_overlay, is_removed_at, layers_of, mount_at, mount_numbered, node_at, open_layer}
@@ -21,7 +24,7 @@ use Rattle.vt_location.specs.MountValue.{mount_of}
 use Rattle.vt_location.specs.Numbers.{counted}
 use Rattle.vt_location.proofs.NumberLemmas.{counted_test, nodes_test}
 use Rattle.vt_looks.specs.declared.look.Ground.{Ground}
-use Rattle.vt_looks.specs.Looking.{HasNoOverlays, IsGround}
+use Rattle.vt_looks.specs.Looking.{IsGround, is_only_below}
 use Rattle.vt_fs.proofs.Entries.{or_first, or_second}
 use Rattle.vt_fs.specs.FilesystemsValue.{Filesystems, files_at, filesystems_seen}
 use Rattle.vt_fs.specs.Laws.{is_lost_under}
@@ -220,23 +223,35 @@ no_overlays : (fs : Filesystems) → filter is_overlay (filesystems_seen fs) ≡
 no_overlays [] = refl
 no_overlays (x ∷ fs) = no_overlays fs
 
--- no filesystem that is looked at is an overlay
-pub has_no_overlays : (value : WorldValue) → HasNoOverlays (looks_of_value value)
-has_no_overlays value =
-    record {
-      overlay = λ location. plain location;
-      mounter = λ location change. ap
-          (overlay_or [] (overlay_rules nat_eq (filesystem_at nat_eq (world_of value) location) change))
-          (plain location);
-      lower = λ location name. ap (overlay_or false (λ overlay. has_lower_directory
-          (map (open_layer nat_eq (world_of value)) (option_to_list overlay.upper))
-          (map (open_layer nat_eq (world_of value)) overlay.lowers)
-          (path_of_name nat_eq (world_of value) location name))) (plain location);
-      unlocked = λ location. ap (λ all.
-          list_any (lies_or_counts_under nat_eq (world_of value)
-          (mount_at nat_eq (world_of value) location).filesystem location.node)
-          (flat_map (of_overlay [] layers_of) all)) (no_overlays value.filesystems);
-    }
-  where
-    plain : (location : meant.Location ℕ) → (filesystem_at nat_eq (world_of value) location).overlay ≡ None
-    plain location = found_plain value.filesystems (mount_at nat_eq (world_of value) location).filesystem
+-- no location is in an overlay: nothing is locked, no lower layer has a directory, and no mounter is asked
+module _ (value : WorldValue) (at : meant.Location ℕ) where
+  plain : (filesystem_at nat_eq (world_of value) at).overlay ≡ None
+  plain = found_plain value.filesystems (mount_at nat_eq (world_of value) at).filesystem
+
+  pub no_overlay : is_overlay_at (looks_of_value value) at ≡ false
+  no_overlay = ap is_some plain
+
+  pub no_missing_upper : has_no_upper (looks_of_value value) at ≡ false
+  no_missing_upper = ap (overlay_or false (λ overlay. not (is_some overlay.upper))) plain
+
+  pub unlocked : is_locked_at nat_eq (world_of value) at ≡ false
+  unlocked = ap (λ all.
+      list_any (lies_or_counts_under nat_eq (world_of value)
+      (mount_at nat_eq (world_of value) at).filesystem at.node)
+      (flat_map (of_overlay [] layers_of) all)) (no_overlays value.filesystems)
+
+  pub no_lower_directory : (name : List ℕ) → has_lower_directory_at nat_eq (world_of value) at name ≡ false
+  no_lower_directory name = ap (overlay_or false (λ overlay. has_lower_directory
+      (map (open_layer nat_eq (world_of value)) (option_to_list overlay.upper))
+      (map (open_layer nat_eq (world_of value)) overlay.lowers)
+      (path_of_name nat_eq (world_of value) at name))) plain
+
+  pub none_below : is_only_below (looks_of_value value) at ≡ false
+  none_below = ap (overlay_or false (λ overlay. lies_only_in_lowers overlay at.node)) plain
+
+  pub unmounted : (wanted : ℕ) → mounter_may (looks_of_value value) at wanted ≡ true
+  unmounted wanted = ap (λ overlay. mounter_allows overlay wanted (node_at nat_eq (world_of value) at)) plain
+
+  pub unasked : (change : Change ℕ) → mounter_rules nat_eq (world_of value) at change ≡ []
+  unasked change =
+      ap (overlay_or [] (overlay_rules nat_eq (filesystem_at nat_eq (world_of value) at) change)) plain

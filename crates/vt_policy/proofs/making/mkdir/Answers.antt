@@ -28,7 +28,7 @@ returns-in_err-may_make g c =
     let p = err_from_is_err_and c.from_residual-in_err-may_make.result c.from_residual-in_err-may_make.ensures.1 in
     rw (p.1, p.2) (refused task (mkdir_permit nat_eq looks task c.args.path.now c.args.mode) _
     (made_asked looks task (walk_end (new_walk nat_eq looks task c.args.path.now)) at.0 node at.1 special missing
-    ∙ unless-stopped rows (Ok permit) _ (c.in_err-may_make.ensures at.0 (unnumbered at.0 (node at.0)) at.2.parent)))
+    ∙ unless-stopped rows (Ok permit) _ (c.in_err-may_make.ensures at.0 (node at.0) at.2.parent)))
 
 pub returns-in_err-name_at : goal.returns-in_err-name_at
 unfolding mkdir_permit
@@ -45,7 +45,7 @@ returns-in_err-name_at g c =
     let p = err_from_is_err_and c.from_residual-in_err-name_at.result c.from_residual-in_err-name_at.ensures.1 in
     rw (p.1, p.2) (without_memory task (mkdir_permit nat_eq looks task c.args.path.now c.args.mode) permit _
     (made_asked looks task (walk_end (new_walk nat_eq looks task c.args.path.now)) at.0 node at.1 special missing
-    ∙ unless-let_through rows (Ok permit) (c.in_ok-may_make.ensures at.0 (unnumbered at.0 (node at.0)) at.2.parent))
+    ∙ unless-let_through rows (Ok permit) (c.in_ok-may_make.ensures at.0 (node at.0) at.2.parent))
     c.in_err-name_at.ensures.memory)
 
 pub returns : goal.returns
@@ -65,5 +65,5 @@ returns g c =
     let built = (λ i. record { attr = attr i; content = new_directory (at.2.parent i).node })
     ∙ sym c.empty_directory.ensures in
     made_asked looks task (walk_end (new_walk nat_eq looks task c.args.path.now)) at.0 node at.1 special missing
-    ∙ unless-let_through rows (Ok permit) (c.in_ok-may_make.ensures at.0 (unnumbered at.0 (node at.0)) at.2.parent)
+    ∙ unless-let_through rows (Ok permit) (c.in_ok-may_make.ensures at.0 (node at.0) at.2.parent)
     ∙ (λ i. Ok (ToMake (at.2.parent i) (name i) (built i)))

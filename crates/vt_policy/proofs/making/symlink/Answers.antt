@@ -36,7 +36,7 @@ returns-in_err-may_make g c =
     (skipped (is_empty c.args.text.items) W1 _ _ (search rules)
     ∙ skipped _ W2 [] _ (le-ltb 4095 (length c.args.text.items) (omega arith))
     ∙ made_asked looks task (walk_end (new_leaf_walk nat_eq looks task c.args.path.now)) at.0 node at.1 special missing
-    ∙ unless-stopped rows (Ok permit) _ (c.in_err-may_make.ensures at.0 (unnumbered at.0 (node at.0)) at.2.parent)))
+    ∙ unless-stopped rows (Ok permit) _ (c.in_err-may_make.ensures at.0 (node at.0) at.2.parent)))
 
 pub returns-in_err-name_at : goal.returns-in_err-name_at
 unfolding symlink_permit
@@ -56,7 +56,7 @@ returns-in_err-name_at g c =
     (skipped (is_empty c.args.text.items) W1 _ _ (search rules)
     ∙ skipped _ W2 [] _ (le-ltb 4095 (length c.args.text.items) (omega arith))
     ∙ made_asked looks task (walk_end (new_leaf_walk nat_eq looks task c.args.path.now)) at.0 node at.1 special missing
-    ∙ unless-let_through rows (Ok permit) (c.in_ok-may_make.ensures at.0 (unnumbered at.0 (node at.0)) at.2.parent))
+    ∙ unless-let_through rows (Ok permit) (c.in_ok-may_make.ensures at.0 (node at.0) at.2.parent))
     c.in_err-name_at.ensures.memory)
 
 pub returns : goal.returns
@@ -77,5 +77,5 @@ returns g c =
     skipped (is_empty c.args.text.items) W1 _ _ (search rules)
     ∙ skipped _ W2 [] _ (le-ltb 4095 (length c.args.text.items) (omega arith))
     ∙ made_asked looks task (walk_end (new_leaf_walk nat_eq looks task c.args.path.now)) at.0 node at.1 special missing
-    ∙ unless-let_through rows (Ok permit) (c.in_ok-may_make.ensures at.0 (unnumbered at.0 (node at.0)) at.2.parent)
+    ∙ unless-let_through rows (Ok permit) (c.in_ok-may_make.ensures at.0 (node at.0) at.2.parent)
     ∙ (λ i. Ok (ToMake (at.2.parent i) (name i) (built i)))

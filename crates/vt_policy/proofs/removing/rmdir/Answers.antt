@@ -2,53 +2,44 @@ use Rattle.std.proofs.Common.{Ok, ap, nat_eq, sym, unwrap_or, ◌∙◌}
 use Rattle.std.proofs.lemmas.Result.{err_from_is_err_and}
 use Rattle.vt_spec.specs.Machine.Judge.{rmdir_permit}
 use Rattle.vt_spec.specs.Machine.Permits.Permit.{ToRemoveDirectory}
-use Rattle.vt_spec.specs.Machine.Rules.Removing.{object_there}
+use Rattle.vt_spec.specs.Machine.Rules.Removing.{rmdir_rules}
 use Rattle.vt_looks.specs.Places.{last_of}
 use Rattle.vt_spec.specs.Machine.Walking.{name_of}
 use Rattle.vt_location.specs.Locations.{location_of}
 use Rattle.vt_tasks.specs.TaskValue.{task_of}
-use Rattle.vt_rules.specs.Tables.{remove_rules}
 use Rattle.vt_rules.proofs.Judged.{refused, without_memory}
 use Rattle.vt_policy.proofs.PlaceLemmas.{rmdir_asked}
 use Rattle.vt_rules.proofs.Refusals.{unless-stopped}
 use Rattle.vt_policy.proofs.removing.rmdir.Goals as goal
 use Rattle.vt_spec.proofs.Refusals.{unless-let_through}
 
-pub returns-in_err-may_remove : goal.returns-in_err-may_remove
-returns-in_err-may_remove g c =
+pub returns-in_err-may_rmdir : goal.returns-in_err-may_rmdir
+returns-in_err-may_rmdir g c =
     let looks = g.L.Look.looks c.args.world.now in
     let task = task_of c.args.who.now in
     let at = c.in_ok-place.ensures.ok in
-    let parent = location_of c.in_ok-place.place.parent in
     let object = location_of c.in_ok-place.place.object in
-    let there = ap (λ object. unwrap_or object at.0.parent) at.2.object in
-    let permit = ToRemoveDirectory at.0.parent (name_of at.0.last) (object_there at.0) in
-    let asked = rmdir_asked looks c.has_no_overlays.ensures task c.args.path.now at.0 parent object _ at.1
-    (at.2.last ∙ ap last_of c.in-Named.is) at.2.parent there
-    (sym c.is_directory.ensures ∙ c.if-not-is_directory.false) (sym c.is_nonempty.ensures ∙ c.if-is_nonempty.false)
-    (sym c.is_read_only.ensures ∙ c.if-is_read_only.false) (sym c.is_mount_point_in.ensures
-    ∙ c.if-is_mount_point_in.false) in
-    let p = err_from_is_err_and c.from_residual-in_err-may_remove.result c.from_residual-in_err-may_remove.ensures.1 in
+    let permit = ToRemoveDirectory at.0.parent (name_of at.0.last) object in
+    let asked = rmdir_asked looks task c.args.path.now at.0 object _ at.1 (at.2.last ∙ ap last_of c.in-Named.is)
+    (ap (λ object. unwrap_or object at.0.parent) at.2.object) in
+    let p = err_from_is_err_and c.from_residual-in_err-may_rmdir.result c.from_residual-in_err-may_rmdir.ensures.1 in
     rw (p.1, p.2) (refused task (rmdir_permit nat_eq looks task c.args.path.now) _
-    (asked ∙ unless-stopped (remove_rules looks task parent object) (Ok permit) _ c.in_err-may_remove.ensures))
+    (asked ∙ unless-stopped (rmdir_rules nat_eq looks task at.0 object) (Ok permit) _
+    (c.in_err-may_rmdir.ensures at.0 at.2)))
 
 pub returns-in_err-name_at : goal.returns-in_err-name_at
 returns-in_err-name_at g c =
     let looks = g.L.Look.looks c.args.world.now in
     let task = task_of c.args.who.now in
     let at = c.in_ok-place.ensures.ok in
-    let parent = location_of c.in_ok-place.place.parent in
     let object = location_of c.in_ok-place.place.object in
-    let there = ap (λ object. unwrap_or object at.0.parent) at.2.object in
-    let permit = ToRemoveDirectory at.0.parent (name_of at.0.last) (object_there at.0) in
-    let asked = rmdir_asked looks c.has_no_overlays.ensures task c.args.path.now at.0 parent object _ at.1
-    (at.2.last ∙ ap last_of c.in-Named.is) at.2.parent there
-    (sym c.is_directory.ensures ∙ c.if-not-is_directory.false) (sym c.is_nonempty.ensures ∙ c.if-is_nonempty.false)
-    (sym c.is_read_only.ensures ∙ c.if-is_read_only.false) (sym c.is_mount_point_in.ensures
-    ∙ c.if-is_mount_point_in.false) in
+    let permit = ToRemoveDirectory at.0.parent (name_of at.0.last) object in
+    let asked = rmdir_asked looks task c.args.path.now at.0 object _ at.1 (at.2.last ∙ ap last_of c.in-Named.is)
+    (ap (λ object. unwrap_or object at.0.parent) at.2.object) in
     let p = err_from_is_err_and c.from_residual-in_err-name_at.result c.from_residual-in_err-name_at.ensures.1 in
     rw (p.1, p.2) (without_memory task (rmdir_permit nat_eq looks task c.args.path.now) permit _
-    (asked ∙ unless-let_through (remove_rules looks task parent object) (Ok permit) c.in_ok-may_remove.ensures)
+    (asked ∙ unless-let_through (rmdir_rules nat_eq looks task at.0 object) (Ok permit)
+    (c.in_ok-may_rmdir.ensures at.0 at.2))
     c.in_err-name_at.ensures.memory)
 
 pub returns : goal.returns
@@ -56,15 +47,11 @@ returns g c =
     let looks = g.L.Look.looks c.args.world.now in
     let task = task_of c.args.who.now in
     let at = c.in_ok-place.ensures.ok in
-    let parent = location_of c.in_ok-place.place.parent in
     let object = location_of c.in_ok-place.place.object in
-    let there = ap (λ object. unwrap_or object at.0.parent) at.2.object in
-    let permit = ToRemoveDirectory at.0.parent (name_of at.0.last) (object_there at.0) in
-    let asked = rmdir_asked looks c.has_no_overlays.ensures task c.args.path.now at.0 parent object _ at.1
-    (at.2.last ∙ ap last_of c.in-Named.is) at.2.parent there
-    (sym c.is_directory.ensures ∙ c.if-not-is_directory.false) (sym c.is_nonempty.ensures ∙ c.if-is_nonempty.false)
-    (sym c.is_read_only.ensures ∙ c.if-is_read_only.false) (sym c.is_mount_point_in.ensures
-    ∙ c.if-is_mount_point_in.false) in
+    let permit = ToRemoveDirectory at.0.parent (name_of at.0.last) object in
+    let asked = rmdir_asked looks task c.args.path.now at.0 object _ at.1 (at.2.last ∙ ap last_of c.in-Named.is)
+    (ap (λ object. unwrap_or object at.0.parent) at.2.object) in
     let name = ap name_of at.2.last ∙ sym c.in_ok-name_at.ensures.ok in
-    asked ∙ unless-let_through (remove_rules looks task parent object) (Ok permit) c.in_ok-may_remove.ensures
-    ∙ (λ i. Ok (ToRemoveDirectory (at.2.parent i) (name i) (there i)))
+    asked ∙ unless-let_through (rmdir_rules nat_eq looks task at.0 object) (Ok permit)
+    (c.in_ok-may_rmdir.ensures at.0 at.2)
+    ∙ (λ i. Ok (ToRemoveDirectory (at.2.parent i) (name i) object))

@@ -3,48 +3,45 @@ use Rattle.std.proofs.lemmas.Result.{err_from_is_err_and}
 use Rattle.vt_spec.specs.Language.Changes.Change.{Remove}
 use Rattle.vt_spec.specs.Machine.Judge.{unlink_permit}
 use Rattle.vt_spec.specs.Machine.Permits.Permit.{ToChange}
-use Rattle.vt_spec.specs.Machine.Rules.Removing.{object_there, removing}
+use Rattle.vt_spec.specs.Machine.Rules.Removing.{removing, unlink_rules}
 use Rattle.vt_spec.specs.Machine.Walking.{is_special, name_of}
 use Rattle.vt_location.specs.Locations.{location_of}
 use Rattle.vt_tasks.specs.TaskValue.{task_of}
-use Rattle.vt_rules.specs.Tables.{remove_rules}
 use Rattle.vt_rules.proofs.Judged.{refused, without_memory}
 use Rattle.vt_policy.proofs.PlaceLemmas.{unlink_asked}
 use Rattle.vt_rules.proofs.Refusals.{unless-stopped}
 use Rattle.vt_policy.proofs.removing.unlink.Goals as goal
 use Rattle.vt_spec.proofs.Refusals.{unless-let_through}
 
-pub returns-in_err-may_remove : goal.returns-in_err-may_remove
-returns-in_err-may_remove g c =
+pub returns-in_err-may_unlink : goal.returns-in_err-may_unlink
+returns-in_err-may_unlink g c =
     let looks = g.L.Look.looks c.args.world.now in
     let task = task_of c.args.who.now in
     let at = c.in_ok-place.ensures.ok in
-    let parent = location_of c.in_ok-place.place.parent in
     let object = location_of c.in_ok-place.place.object in
-    let there = ap (λ object. unwrap_or object at.0.parent) at.2.object in
-    let permit = ToChange at.0.parent (removing at.0 (object_there at.0)) in
-    let asked = unlink_asked looks c.has_no_overlays.ensures task c.args.path.now at.0 parent object at.1
-    (ap is_special at.2.last ∙ sym c.is_special.ensures ∙ c.if-is_special.false) at.2.parent there
-    (sym c.is_directory.ensures ∙ c.if-is_directory.false) (sym c.is_read_only.ensures ∙ c.if-is_read_only.false) in
-    let p = err_from_is_err_and c.from_residual-in_err-may_remove.result c.from_residual-in_err-may_remove.ensures.1 in
+    let permit = ToChange at.0.parent (removing at.0 object) in
+    let asked = unlink_asked looks task c.args.path.now at.0 object at.1
+    (ap is_special at.2.last ∙ sym c.is_special.ensures ∙ c.if-is_special.false)
+    (ap (λ object. unwrap_or object at.0.parent) at.2.object) in
+    let p = err_from_is_err_and c.from_residual-in_err-may_unlink.result c.from_residual-in_err-may_unlink.ensures.1 in
     rw (p.1, p.2) (refused task (unlink_permit nat_eq looks task c.args.path.now) _
-    (asked ∙ unless-stopped (remove_rules looks task parent object) (Ok permit) _ c.in_err-may_remove.ensures))
+    (asked ∙ unless-stopped (unlink_rules looks task at.0 object) (Ok permit) _
+    (c.in_err-may_unlink.ensures at.0 at.2)))
 
 pub returns-in_err-name_at : goal.returns-in_err-name_at
 returns-in_err-name_at g c =
     let looks = g.L.Look.looks c.args.world.now in
     let task = task_of c.args.who.now in
     let at = c.in_ok-place.ensures.ok in
-    let parent = location_of c.in_ok-place.place.parent in
     let object = location_of c.in_ok-place.place.object in
-    let there = ap (λ object. unwrap_or object at.0.parent) at.2.object in
-    let permit = ToChange at.0.parent (removing at.0 (object_there at.0)) in
-    let asked = unlink_asked looks c.has_no_overlays.ensures task c.args.path.now at.0 parent object at.1
-    (ap is_special at.2.last ∙ sym c.is_special.ensures ∙ c.if-is_special.false) at.2.parent there
-    (sym c.is_directory.ensures ∙ c.if-is_directory.false) (sym c.is_read_only.ensures ∙ c.if-is_read_only.false) in
+    let permit = ToChange at.0.parent (removing at.0 object) in
+    let asked = unlink_asked looks task c.args.path.now at.0 object at.1
+    (ap is_special at.2.last ∙ sym c.is_special.ensures ∙ c.if-is_special.false)
+    (ap (λ object. unwrap_or object at.0.parent) at.2.object) in
     let p = err_from_is_err_and c.from_residual-in_err-name_at.result c.from_residual-in_err-name_at.ensures.1 in
     rw (p.1, p.2) (without_memory task (unlink_permit nat_eq looks task c.args.path.now) permit _
-    (asked ∙ unless-let_through (remove_rules looks task parent object) (Ok permit) c.in_ok-may_remove.ensures)
+    (asked ∙ unless-let_through (unlink_rules looks task at.0 object) (Ok permit)
+    (c.in_ok-may_unlink.ensures at.0 at.2))
     c.in_err-name_at.ensures.memory)
 
 pub returns : goal.returns
@@ -52,13 +49,11 @@ returns g c =
     let looks = g.L.Look.looks c.args.world.now in
     let task = task_of c.args.who.now in
     let at = c.in_ok-place.ensures.ok in
-    let parent = location_of c.in_ok-place.place.parent in
     let object = location_of c.in_ok-place.place.object in
-    let there = ap (λ object. unwrap_or object at.0.parent) at.2.object in
-    let permit = ToChange at.0.parent (removing at.0 (object_there at.0)) in
-    let asked = unlink_asked looks c.has_no_overlays.ensures task c.args.path.now at.0 parent object at.1
-    (ap is_special at.2.last ∙ sym c.is_special.ensures ∙ c.if-is_special.false) at.2.parent there
-    (sym c.is_directory.ensures ∙ c.if-is_directory.false) (sym c.is_read_only.ensures ∙ c.if-is_read_only.false) in
+    let permit = ToChange at.0.parent (removing at.0 object) in
+    let asked = unlink_asked looks task c.args.path.now at.0 object at.1
+    (ap is_special at.2.last ∙ sym c.is_special.ensures ∙ c.if-is_special.false)
+    (ap (λ object. unwrap_or object at.0.parent) at.2.object) in
     let name = ap name_of at.2.last ∙ sym c.in_ok-name_at.ensures.ok in
-    asked ∙ unless-let_through (remove_rules looks task parent object) (Ok permit) c.in_ok-may_remove.ensures
-    ∙ (λ i. Ok (ToChange (at.2.parent i) (Remove (at.2.parent i).node (name i) (there i).node)))
+    asked ∙ unless-let_through (unlink_rules looks task at.0 object) (Ok permit) (c.in_ok-may_unlink.ensures at.0 at.2)
+    ∙ (λ i. Ok (ToChange (at.2.parent i) (Remove (at.2.parent i).node (name i) object.node)))

@@ -1,21 +1,23 @@
-use Rattle.std.proofs.Common.{Ok, ap, not, sym, ◌∙◌}
-use Rattle.vt_spec.specs.declared.errors.Rule.TheVariants.{C2, F1, F2, L1}
-use Rattle.vt_spec.specs.Errors.{unless}
+use Rattle.std.proofs.Common.{Ok}
+use Rattle.std.proofs.lemmas.Result.{err_from_is_err_and}
 use Rattle.vt_spec.specs.Language.Changes.Change.{SetAttr}
 use Rattle.vt_spec.specs.Machine.Permits.Permit.{ToChange}
+use Rattle.vt_spec.specs.Machine.Rules.Attributes.{attr_rules}
 use Rattle.vt_location.specs.Locations.{location_of}
-use Rattle.vt_rules.proofs.PlainRows.{has_an_upper}
-use Rattle.vt_rules.proofs.Rows.{skipped}
+use Rattle.vt_rules.proofs.Refusals.{unless-stopped}
 use Rattle.vt_rules.proofs.attributes.attr_permit.Goals as goal
+use Rattle.vt_spec.proofs.Refusals.{unless-let_through}
+
+pub returns-in_err-may_set_attr : goal.returns-in_err-may_set_attr
+returns-in_err-may_set_attr g c =
+    let object = location_of c.args.object in
+    let p = err_from_is_err_and c.from_residual.result c.from_residual.ensures.1 in
+    rw (p.1, p.2) (unless-stopped
+    (attr_rules (g.L.Look.looks c.args.world.now) object c.args.allowed c.args.attr)
+    (Ok (ToChange object (SetAttr object.node c.args.attr))) _ c.in_err-may_set_attr.ensures)
 
 pub returns : goal.returns
 returns g c =
-    let looks = g.L.Look.looks c.args.world.now in
-    let plain = c.has_no_overlays.ensures in
-    let at = location_of c.args.object in
-    let change = SetAttr at.node c.args.attr in
-    skipped _ F1 _ _ (sym c.is_read_only.ensures ∙ c.if-is_read_only.false)
-    ∙ skipped _ F2 _ _ (has_an_upper looks plain at)
-    ∙ skipped _ L1 _ _ (plain.unlocked at)
-    ∙ skipped _ C2 _ _ (ap not c.if-not-allowed.false)
-    ∙ ap (λ rows. unless rows (Ok (ToChange at change))) (plain.mounter at change)
+    let object = location_of c.args.object in
+    unless-let_through (attr_rules (g.L.Look.looks c.args.world.now) object c.args.allowed c.args.attr)
+    (Ok (ToChange object (SetAttr object.node c.args.attr))) c.in_ok-may_set_attr.ensures

@@ -19,7 +19,7 @@ returns-in_err-may_make g c meant is =
     let p = err_from_is_err_and c.from_residual.result c.from_residual.ensures.1 in
     rw (p.1, p.2) (refused task (create_file_permit nat_eq looks task meant access c.args.mode) _
     (unless-stopped (make_rules looks task meant change) (Ok (open_new_permit task meant access c.args.mode)) _
-    (c.in_err-may_make.ensures meant change is.parent)))
+    (c.in_err-may_make.ensures meant (new_file task c.args.mode []) is.parent)))
 
 pub returns-in_err-name_at : goal.returns-in_err-name_at
 returns-in_err-name_at g c meant is =
@@ -31,7 +31,7 @@ returns-in_err-name_at g c meant is =
     rw (p.1, p.2) (without_memory task (create_file_permit nat_eq looks task meant access c.args.mode)
     (open_new_permit task meant access c.args.mode) _
     (unless-let_through (make_rules looks task meant change) (Ok (open_new_permit task meant access c.args.mode))
-    (c.in_ok-may_make.ensures meant change is.parent))
+    (c.in_ok-may_make.ensures meant (new_file task c.args.mode []) is.parent))
     c.in_err-name_at.ensures.memory)
 
 pub returns : goal.returns
@@ -41,5 +41,5 @@ returns g c meant is =
     let access = access_of c.args.access in
     let change = unnumbered meant (new_file task c.args.mode []) in
     unless-let_through (make_rules looks task meant change) (Ok (open_new_permit task meant access c.args.mode))
-    (c.in_ok-may_make.ensures meant change is.parent)
+    (c.in_ok-may_make.ensures meant (new_file task c.args.mode []) is.parent)
     ∙ search rules

@@ -20,7 +20,7 @@ returns-in_err-may_make g c meant is =
     rw (p.1, p.2) (refused task (written_permit nat_eq looks task meant c.args.bytes.items None) _
     (skipped _ E6 _ _ (le-ltb 1048576 (length c.args.bytes.items) (omega arith))
     ∙ unless-stopped (make_rules looks task meant (unnumbered meant node)) (Ok (make_permit meant node)) _
-    (c.in_err-may_make.ensures meant (unnumbered meant node) is.parent)))
+    (c.in_err-may_make.ensures meant node is.parent)))
 
 pub returns-in_err-name_at : goal.returns-in_err-name_at
 returns-in_err-name_at g c meant is =
@@ -32,7 +32,7 @@ returns-in_err-name_at g c meant is =
     (make_permit meant node) _
     (skipped _ E6 _ _ (le-ltb 1048576 (length c.args.bytes.items) (omega arith))
     ∙ unless-let_through (make_rules looks task meant (unnumbered meant node)) (Ok (make_permit meant node))
-    (c.in_ok-may_make.ensures meant (unnumbered meant node) is.parent))
+    (c.in_ok-may_make.ensures meant node is.parent))
     c.in_err-name_at.ensures.memory)
 
 pub returns : goal.returns
@@ -42,5 +42,5 @@ returns g c meant is =
     let node = new_file task file_mode c.args.bytes.items in
     skipped _ E6 _ _ (le-ltb 1048576 (length c.args.bytes.items) (omega arith))
     ∙ unless-let_through (make_rules looks task meant (unnumbered meant node)) (Ok (make_permit meant node))
-    (c.in_ok-may_make.ensures meant (unnumbered meant node) is.parent)
+    (c.in_ok-may_make.ensures meant node is.parent)
     ∙ search rules
