@@ -1,4 +1,5 @@
 mod Alike
+mod Climbing
 pub mod Judged
 pub mod PlainRows
 pub mod Refusals
