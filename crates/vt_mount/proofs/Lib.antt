@@ -10,6 +10,7 @@ pub mod PointLemmas
 pub mod TreeLemmas
 mod TreeSearchLemmas
 pub mod MoveLemmas
+pub mod PivotLemmas
 pub mod SourceLemmas
 mod RisingLemmas
 mod ReservedLemmas

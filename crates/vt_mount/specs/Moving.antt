@@ -1,18 +1,28 @@
 -- Mounts that get other mount points together.
-use Rattle.std.specs.Prelude.{Bool, List, Option, Some, [], nat_lt, option_map, option_to_list, true, unwrap_or, ℕ, ◌&&◌, ◌++◌, ◌∷◌, ◌^◌}
+use Rattle.std.specs.Prelude.{Bool, List, None, Option, Some, [], nat_eq, nat_lt, option_map, option_to_list, true, unwrap_or, ℕ, ◌&&◌, ◌++◌, ◌∷◌, ◌^◌}
 use Rattle.vt_location.specs.declared.locations.Location.{Location}
 use Rattle.vt_location.specs.Locations.{location_of}
 use Rattle.vt_location.specs.Numbers.{counted}
 use Rattle.vt_mount.specs.declared.moving.NewPoint.{NewPoint}
 use Rattle.vt_mount.specs.declared.moving.Moved.{Moved}
 use Rattle.vt_mount.specs.MountsValue.{MountEntry, changed, entry_numbered}
+use Rattle.vt_spec.specs.Machine.Mounts as meant
 use Rattle.vt_spec.specs.Machine.Mounts.{Location as Place}
+use Rattle.vt_spec.specs.Machine.Namespaces.{pivoted_mount}
 
 abbrev pub placed_entry : Location → MountEntry → MountEntry
 placed_entry place entry = record entry { mount = record entry.mount { mount_point = Some (location_of place) } }
 
 abbrev pub moved_to : NewPoint → List MountEntry → List MountEntry
 moved_to point entries = changed (counted point.mount.count) (placed_entry point.place) entries
+
+-- a mount that loses its mount point, and nothing else
+abbrev pub lifted_entry : MountEntry → MountEntry
+lifted_entry entry = record entry { mount = record entry.mount { mount_point = None } }
+
+-- one after pivot_root(2): the second mount stands where the first stood, and that one gets a mount point
+abbrev pub pivoted_entry : meant.Mount ℕ → meant.Mount ℕ → Place ℕ → MountEntry → MountEntry
+pivoted_entry root new put entry = record entry { mount = pivoted_mount nat_eq root new put entry.mount }
 
 -- the last of them first: of two for one mount the first one stays
 abbrev pub with_points : List NewPoint → List MountEntry → List MountEntry

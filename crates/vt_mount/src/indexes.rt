@@ -284,4 +284,16 @@ impl Indexes {
             self.by_inode.drop_empty(&was.node);
         }
     }
+
+    /// Removes a mount from the lists of its mount point, and drops those that get empty. It does not allocate.
+    pub(crate) fn lift(&mut self, was: Option<Location>, mount: MountId)
+        ensures namespace { (q : NamespaceId) → listed_in self.new q ≡ listed_in self.old q }
+        ensures parent { (q : MountId) → listed_on self.new q ≡ taken (stood_on q was) mount (listed_on self.old q) }
+        ensures place { (q : Location) → listed_at self.new q ≡ taken (stood_at q was) mount (listed_at self.old q) }
+        ensures inode { (q : NodeRef) → listed_over self.new q
+            ≡ taken (stood_over q was) mount (listed_over self.old q) }
+    {
+        self.take_out(was, mount);
+        self.drop_empty(was);
+    }
 }

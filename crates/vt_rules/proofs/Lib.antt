@@ -1,4 +1,5 @@
 mod Alike
+mod Climbing
 pub mod Judged
 pub mod Refusals
 mod RenameLemmas

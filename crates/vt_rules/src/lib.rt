@@ -5,6 +5,7 @@ mod attributes;
 mod descriptors;
 mod making;
 mod mounting;
+mod pivoting;
 mod removing;
 mod rights;
 mod tasks;
@@ -15,6 +16,7 @@ pub use making::{
     empty_directory, may_link, may_make, may_make_whiteout, new_file_permit, rewrite_permit,
 };
 pub use mounting::{is_attached_somewhere, may_move};
+pub use pivoting::may_pivot;
 pub use removing::{is_name_of, may_rename, may_rmdir, may_stay, may_unlink};
 pub use rights::{
     attr_at, is_directory, is_elsewhere, is_kind, is_no_root, is_noexec, is_read_only,

@@ -25,7 +25,7 @@ pub fn is_attached_somewhere<L: Look>(world: &L, mount: MountId) -> bool
 }
 
 // Whether the mount of a location stands on a shared mount.
-fn has_shared_parent<L: Look>(world: &L, at: Location) -> bool
+pub(crate) fn has_shared_parent<L: Look>(world: &L, at: Location) -> bool
     ensures { result ≡ has_shared_parent (L.looks world.now) (location_of at) }
 {
     match world.mount(at.mount) {
