@@ -4,3 +4,4 @@
 #![tactic(auto)]
 
 pub mod played;
+pub mod restarts;

@@ -11,13 +11,13 @@ use Rattle.vt_spec.proofs.Worlds.{same_name_itself, same_task_name}
 use Rattle.vt_laws_turns.specs.Commits.{Commit, CommitsAreFronts, Turn, commit_by, commit_of, commits, items_of, left_by}
 use Rattle.vt_laws_turns.proofs.played.Turning.{Turns, turn_is}
 
-same_whos : (a b : Who) → same_who a b ≡ true → a ≡ b
+pub same_whos : (a b : Who) → same_who a b ≡ true → a ≡ b
 same_whos (Someone a) (Someone b) e = ap Someone (same_task_name a b e)
 same_whos (Someone a) Nobody e = absurd (true≢false (sym e))
 same_whos Nobody (Someone b) e = absurd (true≢false (sym e))
 same_whos Nobody Nobody e = refl
 
-itself : (who : Who) → same_who who who ≡ true
+pub itself : (who : Who) → same_who who who ≡ true
 itself (Someone name) = same_name_itself name
 itself Nobody = refl
 
@@ -26,7 +26,7 @@ abbrev items : Option Queue → List Queued
 items o = unwrap_or (option_map (λ (q : Queue). q.items) o) []
 
 -- a queue's items once another, or it, is shortened
-shorter : (who other : Who) (queues : List Queue)
+pub shorter : (who other : Who) (queues : List Queue)
     → queue_of (map (shortened who) queues) other
     ≡ cond (same_who other who) (rest_of (queue_of queues other)) (queue_of queues other)
 shorter who other [] = by (same_who other who)
@@ -100,7 +100,7 @@ step sched given other (first ∷ rest) e turned is =
         ap (λ l. first ∷ rest_of l) here ∙ sym here
     by false f = refl
 
-more_items : (who : Who) (ones others : List Commit) → items_of who (ones ++ others) ≡ items_of who ones ++ items_of who others
+pub more_items : (who : Who) (ones others : List Commit) → items_of who (ones ++ others) ≡ items_of who ones ++ items_of who others
 more_items who [] others = refl
 more_items who (commit ∷ ones) others = by (same_who who commit.who) (more_items who ones others)
   where
