@@ -1,5 +1,5 @@
 -- What a turn leaves, by what stands first in its queue.
-use Rattle.std.proofs.Common.{◌≡◌, refl, sym, ap, subst, ◌∙◌, ◌⊎◌, inl, inr, ⊎_elim, ℕ, nat_eq, Bool, true, false, List, [], ◌∷◌, Option, Some, None, find, ◌+◌}
+use Rattle.std.proofs.Common.{◌≡◌, refl, sym, ap, subst, ◌∙◌, inl, inr, ℕ, nat_eq, Bool, true, false, List, [], ◌∷◌, Option, Some, None, ◌+◌}
 use Rattle.std.specs.Prelude.{nat_le}
 use Rattle.vt_spec.specs.Errors.{denial}
 use Rattle.vt_spec.specs.declared.errors.Rule.TheVariants.{S2, S5}

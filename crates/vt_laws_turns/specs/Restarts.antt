@@ -2,7 +2,7 @@
 use Rattle.std.specs.Prelude.{Bool, Contains, List, None, Option, Some, [], cond, false, filter, find, is_some, length, nat_eq, true, ℕ, ◌&&◌, ◌+◌, ◌<◌, ◌∷◌, ◌≡◌, ◌≤◌, ◌⊎◌}
 use Rattle.vt_spec.specs.Language.Calls.{Call, TaskName, same_name}
 use Rattle.vt_spec.specs.Language.Limits.{most_restarts}
-use Rattle.vt_spec.specs.Language.Script.{Version, Who, whole}
+use Rattle.vt_spec.specs.Language.Script.{Version, whole}
 use Rattle.vt_spec.specs.Language.Script.Who.{Someone}
 use Rattle.vt_spec.specs.Lists.{Fresh, first_of_list, holds_of}
 use Rattle.vt_spec.specs.Machine.Turns.{Item, Progress, Queue, Queued, Sched, Turned, first_sched, is_overtaken, queue_of, same_who, turn}

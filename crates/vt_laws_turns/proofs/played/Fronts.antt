@@ -2,10 +2,9 @@
 use Rattle.std.proofs.Common.{◌≡◌, refl, sym, ap, subst, ◌∙◌, ⊎_elim, ℕ, nat_eq, Bool, true, false, cond, true≢false, List, [], ◌∷◌, ◌++◌, Option, Some, None, find, map}
 use Rattle.std.proofs.lemmas.List.{append_assoc}
 use Rattle.std.specs.Prelude.{option_map, option_to_list, unwrap_or}
-use Rattle.vt_spec.specs.Language.Calls.{TaskName, same_name}
 use Rattle.vt_spec.specs.Language.Script.{Who}
 use Rattle.vt_spec.specs.Language.Script.Who.{Nobody, Someone}
-use Rattle.vt_spec.specs.Lists.{Fresh, first_of_list, rest_of}
+use Rattle.vt_spec.specs.Lists.{first_of_list, rest_of}
 use Rattle.vt_spec.specs.Machine.Turns.{Queue, Queued, Sched, Turned, queue_of, same_who, shortened, turn}
 use Rattle.vt_spec.proofs.Worlds.{same_name_itself, same_task_name}
 use Rattle.vt_laws_turns.specs.Commits.{Commit, CommitsAreFronts, Turn, commit_by, commit_of, commits, items_of, left_by}

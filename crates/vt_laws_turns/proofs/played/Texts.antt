@@ -3,11 +3,11 @@ use Rattle.std.proofs.Common.{◌≡◌, refl, sym, ap, ◌∙◌, ℕ, nat_eq, 
 use Rattle.std.proofs.lemmas.List.{append_assoc}
 use Rattle.std.specs.Prelude.{option_to_list}
 use Rattle.vt_spec.specs.Language.Printed.{reply_line}
-use Rattle.vt_spec.specs.Language.Script.{Who, Version, lines_of, whole}
+use Rattle.vt_spec.specs.Language.Script.{Who, lines_of, whole}
 use Rattle.vt_spec.specs.Lists.{Fresh}
-use Rattle.vt_spec.specs.Machine.Run.{first_world, handed, later}
+use Rattle.vt_spec.specs.Machine.Run.{handed, later}
 use Rattle.vt_spec.specs.Machine.Turns.{Reply, Sched, first_sched, played, reply_text, schedule_who, turn, turn_of_line, turns_text}
-use Rattle.vt_laws_turns.specs.Commits.{TextsAreOfCommits, Turn, replies, text_of_replies, turn_given, turns_given}
+use Rattle.vt_laws_turns.specs.Commits.{TextsAreOfCommits, replies, text_of_replies, turn_given, turns_given}
 use Rattle.vt_laws_turns.proofs.played.Turning.{replies_are_of_commits}
 
 more_texts : (ones others : List Reply) → text_of_replies (ones ++ others) ≡ text_of_replies ones ++ text_of_replies others

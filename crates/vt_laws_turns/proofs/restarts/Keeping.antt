@@ -1,19 +1,17 @@
 -- Each turn keeps the conditions of a scheduler's state.
-use Rattle.std.proofs.Common.{◌≡◌, refl, sym, ap, subst, ◌∙◌, ◌⊎◌, inl, inr, ⊎_elim, ℕ, suc, nat_eq, Bool, true, false, true≢false, cond, not, List, [], ◌∷◌, ◌≤◌, ◌+◌, Option, Some, None, filter, find, map, length, arith}
+use Rattle.std.proofs.Common.{◌≡◌, refl, sym, ap, subst, ◌∙◌, ⊎_elim, ℕ, suc, nat_eq, Bool, true, false, true≢false, cond, not, List, [], ◌∷◌, ◌≤◌, ◌+◌, Option, Some, filter, map, length, arith}
 use Rattle.std.specs.Prelude.{Contains, nat_le}
-use Rattle.std.proofs.lemmas.Grind.{common_steps}
-use Rattle.vt_spec.specs.Language.Calls.{Call, TaskName, same_name}
+use Rattle.vt_spec.specs.Language.Calls.{TaskName, same_name}
 use Rattle.vt_spec.specs.Language.Limits.{most_restarts}
 use Rattle.vt_spec.specs.Language.Script.{Who}
-use Rattle.vt_spec.specs.Language.Script.Who.{Nobody, Someone}
+use Rattle.vt_spec.specs.Language.Script.Who.{Someone}
 use Rattle.vt_spec.specs.Lists.{Fresh, first_of_list, holds_of, rest_of}
-use Rattle.vt_spec.specs.Machine.Turns.{Progress, Queue, Queued, Sched, Turned, call_replied, one_further, queue_of, replied, same_who, shortened, turn, without_progress}
+use Rattle.vt_spec.specs.Machine.Turns.{Progress, Queue, Queued, Sched, Turned, one_further, queue_of, same_who, shortened, turn, without_progress}
 use Rattle.vt_spec.specs.Machine.World.{Task, World}
 use Rattle.vt_spec.proofs.Found.{found_among, found_passes}
-use Rattle.vt_spec.proofs.Lists.{Among, among_from_contains, among-filter, among-from_filter, contains_from_among}
-use Rattle.vt_spec.proofs.Worlds.{same_name-swapped, same_name_itself, same_task_name}
-use Rattle.vt_laws_turns.specs.Restarts.{IsNextOf, IsSched, SchedulersBegin, ScriptsBegin, TurnsKeepSchedulers, all_under_way_of, has_call_first, is_call, under_way_of}
-use Rattle.vt_laws_turns.proofs.TurnKinds.{GoesFurther}
+use Rattle.vt_spec.proofs.Lists.{Among, among_from_contains, among-from_filter, contains_from_among}
+use Rattle.vt_spec.proofs.Worlds.{same_name-swapped, same_task_name}
+use Rattle.vt_laws_turns.specs.Restarts.{IsSched, SchedulersBegin, ScriptsBegin, TurnsKeepSchedulers, all_under_way_of, has_call_first, is_call}
 use Rattle.vt_laws_turns.proofs.TurnShapes.{Before, Shape, is_task_call, turn_shape}
 use Rattle.vt_laws_turns.proofs.TurnShapes.Before.{Again, AtStart, OnWay}
 use Rattle.vt_laws_turns.proofs.TurnShapes.Shape.{CallDone, Further, Idle, OtherDone}
