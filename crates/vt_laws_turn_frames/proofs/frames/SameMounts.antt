@@ -1,0 +1,114 @@
+-- Mounts that are the same by the tests of the policy, and show what they showed, are the same records.
+use Rattle.std.proofs.Common.{◌≡◌, ◌≢◌, refl, sym, ap, ◌∙◌, inl, inr, ℕ, nat_eq, Bool, true, false, cond, true≢false, List, [], ◌∷◌, Option, Some, None, ◌+◌, ◌&&◌, eqb-true, arith}
+use Rattle.std.specs.Prelude.{Contains, ◌==◌}
+use Rattle.std.proofs.lemmas.Bool.{and_parts}
+use Rattle.vt_spec.specs.Language.Calls.{MountFlags}
+use Rattle.vt_spec.specs.Language.Limits.{largest_change}
+use Rattle.vt_spec.specs.Lists.{holds_of, same_list, same_option}
+use Rattle.vt_spec.specs.Machine.Filesystems.{raised}
+use Rattle.vt_spec.specs.Machine.Mounts.{Location, Mount, Propagation, same_location}
+use Rattle.vt_spec.specs.Machine.Mounts.Propagation.{Private, Shared, Slave, Unbindable}
+use Rattle.vt_spec.specs.Machine.Policy.{master_above, same_bool, same_flags, same_mount, same_propagation}
+use Rattle.vt_spec.specs.Machine.World.{World}
+use Rattle.vt_spec.proofs.Lists.{Among, contains_from_among}
+
+pub rises : (n : ℕ) → n ≢ largest_change → raised n ≡ n → ⊥
+rises n h e = by (n == largest_change) refl e
+  where
+    by : (b : Bool) → (n == largest_change) ≡ b → cond b n (n + 1) ≡ n → ⊥
+    by true f e = h (eqb-true n largest_change f)
+    by false f e = omega (arith, e)
+
+same_truths : (a b : Bool) → same_bool a b ≡ true → a ≡ b
+same_truths true b e = sym e
+same_truths false true e = absurd (true≢false (sym e))
+same_truths false false e = refl
+
+flags_same : (a b : MountFlags) → same_flags a b ≡ true → a ≡ b
+flags_same a b e =
+    let last = and_parts (same_bool a.read_only b.read_only && same_bool a.noexec b.noexec)
+    (same_bool a.nosymfollow b.nosymfollow) e in
+    let both = and_parts (same_bool a.read_only b.read_only) (same_bool a.noexec b.noexec) last.0 in
+    ap (λ f. record { read_only = f; noexec = a.noexec; nosymfollow = a.nosymfollow }) (same_truths a.read_only b.read_only both.0)
+    ∙ ap (λ f. record { read_only = b.read_only; noexec = f; nosymfollow = a.nosymfollow }) (same_truths a.noexec b.noexec both.1)
+    ∙ ap (λ f. record { read_only = b.read_only; noexec = b.noexec; nosymfollow = f }) (same_truths a.nosymfollow b.nosymfollow last.1)
+
+points_same : (a b : Option (Location ℕ)) → same_option (same_location nat_eq) a b ≡ true → a ≡ b
+points_same None None e = refl
+points_same None (Some b) e = absurd (true≢false (sym e))
+points_same (Some a) None e = absurd (true≢false (sym e))
+points_same (Some a) (Some b) e =
+    let parts = and_parts (nat_eq a.mount b.mount) (nat_eq a.node b.node) e in
+    ap (λ n. Some (record { mount = n; node = a.node })) (eqb-true a.mount b.mount parts.0)
+    ∙ ap (λ n. Some (record { mount = b.mount; node = n })) (eqb-true a.node b.node parts.1)
+
+kinds_same : (a b : Propagation ℕ) → same_propagation nat_eq a b ≡ true → a ≡ b
+kinds_same (Shared a) (Shared b) e = ap Shared (eqb-true a b e)
+kinds_same (Slave a) (Slave b) e = ap Slave (eqb-true a b e)
+kinds_same Private Private e = refl
+kinds_same Unbindable Unbindable e = refl
+kinds_same (Shared a) (Slave b) e = absurd (true≢false (sym e))
+kinds_same (Shared a) Private e = absurd (true≢false (sym e))
+kinds_same (Shared a) Unbindable e = absurd (true≢false (sym e))
+kinds_same (Slave a) (Shared b) e = absurd (true≢false (sym e))
+kinds_same (Slave a) Private e = absurd (true≢false (sym e))
+kinds_same (Slave a) Unbindable e = absurd (true≢false (sym e))
+kinds_same Private (Shared b) e = absurd (true≢false (sym e))
+kinds_same Private (Slave b) e = absurd (true≢false (sym e))
+kinds_same Private Unbindable e = absurd (true≢false (sym e))
+kinds_same Unbindable (Shared b) e = absurd (true≢false (sym e))
+kinds_same Unbindable (Slave b) e = absurd (true≢false (sym e))
+kinds_same Unbindable Private e = absurd (true≢false (sym e))
+
+one_record : (a b : Mount ℕ) → a.number ≡ b.number → a.namespace ≡ b.namespace → a.mount_point ≡ b.mount_point
+    → a.filesystem ≡ b.filesystem → a.root ≡ b.root → a.flags ≡ b.flags → a.propagation ≡ b.propagation → a ≡ b
+one_record a b n s p f r g k =
+    ap (λ x. record a { number = x }) n
+    ∙ ap (λ x. record a { number = b.number; namespace = x }) s
+    ∙ ap (λ x. record a { number = b.number; namespace = b.namespace; mount_point = x }) p
+    ∙ ap (λ x. record a { number = b.number; namespace = b.namespace; mount_point = b.mount_point; filesystem = x }) f
+    ∙ ap (λ x. record b { root = x; flags = a.flags; propagation = a.propagation }) r
+    ∙ ap (λ x. record b { flags = x; propagation = a.propagation }) g
+    ∙ ap (λ x. record b { propagation = x }) k
+
+-- mounts of the two worlds that have one number show one filesystem from one root on
+abbrev pub ShowAlike : World ℕ → World ℕ → Type 0
+ShowAlike before later =
+    (one other : Mount ℕ) → Contains before.mounts one → Contains later.mounts other → one.number ≡ other.number
+    → (one.filesystem ≡ other.filesystem) × (one.root ≡ other.root)
+
+module _ (before later : World ℕ) (alike : ShowAlike before later) (number : ℕ) where
+  namespace_of : (one : Mount ℕ) → holds_of (nat_eq number) one.namespace ≡ true → one.namespace ≡ Some number
+  namespace_of one h = by one.namespace h
+    where
+      by : (o : Option ℕ) → holds_of (nat_eq number) o ≡ true → o ≡ Some number
+      by None h = absurd (true≢false (sym h))
+      by (Some n) h = ap Some (sym (eqb-true number n h))
+
+  pub lists_same : (xs ys : List (Mount ℕ))
+      → ((x : Mount ℕ) → Among x xs → Among x before.mounts × (holds_of (nat_eq number) x.namespace ≡ true))
+      → ((y : Mount ℕ) → Among y ys → Among y later.mounts × (holds_of (nat_eq number) y.namespace ≡ true))
+      → same_list (same_mount nat_eq before later) xs ys ≡ true → ys ≡ xs
+  lists_same [] [] h k e = refl
+  lists_same [] (y ∷ ys) h k e = absurd (true≢false (sym e))
+  lists_same (x ∷ xs) [] h k e = absurd (true≢false (sym e))
+  lists_same (x ∷ xs) (y ∷ ys) h k e =
+      let both = and_parts (same_mount nat_eq before later x y) _ e in
+      let numbers : Bool = nat_eq x.number y.number in
+      let points : Bool = same_option (same_location nat_eq) x.mount_point y.mount_point in
+      let flags : Bool = same_flags x.flags y.flags in
+      let kinds : Bool = same_propagation nat_eq x.propagation y.propagation in
+      let d = and_parts (numbers && points && flags && kinds)
+      (same_option nat_eq (master_above before x) (master_above later y)) both.0 in
+      let c = and_parts (numbers && points && flags) kinds d.0 in
+      let b = and_parts (numbers && points) flags c.0 in
+      let a = and_parts numbers points b.0 in
+      let number_same : x.number ≡ y.number = eqb-true x.number y.number a.0 in
+      let shown = alike x y (contains_from_among before.mounts x (h x (inl refl)).0)
+      (contains_from_among later.mounts y (k y (inl refl)).0) number_same in
+      ap (λ z. z ∷ ys)
+      (sym (one_record x y number_same
+      (namespace_of x (h x (inl refl)).1 ∙ sym (namespace_of y (k y (inl refl)).1))
+      (points_same x.mount_point y.mount_point a.1) shown.0 shown.1 (flags_same x.flags y.flags b.1)
+      (kinds_same x.propagation y.propagation c.1)))
+      ∙ ap (λ l. x ∷ l) (lists_same xs ys (λ z m. h z (inr m)) (λ z m. k z (inr m)) both.1)

@@ -1,0 +1,2 @@
+pub mod TurnKinds
+pub mod TurnShapes

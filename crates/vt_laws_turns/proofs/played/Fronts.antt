@@ -1,0 +1,121 @@
+-- Commits are fronts of queues.
+use Rattle.std.proofs.Common.{◌≡◌, refl, sym, ap, subst, ◌∙◌, ⊎_elim, ℕ, nat_eq, Bool, true, false, cond, true≢false, List, [], ◌∷◌, ◌++◌, Option, Some, None, find, map}
+use Rattle.std.proofs.lemmas.List.{append_assoc}
+use Rattle.std.specs.Prelude.{option_map, option_to_list, unwrap_or}
+use Rattle.vt_spec.specs.Language.Script.{Who}
+use Rattle.vt_spec.specs.Language.Script.Who.{Nobody, Someone}
+use Rattle.vt_spec.specs.Lists.{first_of_list, rest_of}
+use Rattle.vt_spec.specs.Machine.Turns.{Queue, Queued, Sched, Turned, queue_of, same_who, shortened, turn}
+use Rattle.vt_spec.proofs.Worlds.{same_name_itself, same_task_name}
+use Rattle.vt_laws_turns.specs.Commits.{Commit, CommitsAreFronts, Turn, commit_by, commit_of, commits, items_of, left_by}
+use Rattle.vt_laws_turns.proofs.played.Turning.{Turns, turn_is}
+
+pub same_whos : (a b : Who) → same_who a b ≡ true → a ≡ b
+same_whos (Someone a) (Someone b) e = ap Someone (same_task_name a b e)
+same_whos (Someone a) Nobody e = absurd (true≢false (sym e))
+same_whos Nobody (Someone b) e = absurd (true≢false (sym e))
+same_whos Nobody Nobody e = refl
+
+pub itself : (who : Who) → same_who who who ≡ true
+itself (Someone name) = same_name_itself name
+itself Nobody = refl
+
+-- a queue's items, by the queue that was found
+abbrev items : Option Queue → List Queued
+items o = unwrap_or (option_map (λ (q : Queue). q.items) o) []
+
+-- a queue's items once another, or it, is shortened
+pub shorter : (who other : Who) (queues : List Queue)
+    → queue_of (map (shortened who) queues) other
+    ≡ cond (same_who other who) (rest_of (queue_of queues other)) (queue_of queues other)
+shorter who other [] = by (same_who other who)
+  where
+    by : (b : Bool) → items None ≡ cond b (rest_of (items None)) (items None)
+    by true = refl
+    by false = refl
+shorter who other (queue ∷ queues) =
+    first (same_who who queue.who) refl (same_who other queue.who) refl (shorter who other queues)
+  where
+    first : (a : Bool) → same_who who queue.who ≡ a → (b : Bool) → same_who other queue.who ≡ b
+        → queue_of (map (shortened who) queues) other
+        ≡ cond (same_who other who) (rest_of (queue_of queues other)) (queue_of queues other)
+        → items (find (λ (q : Queue). same_who other q.who) (shortened who queue ∷ map (shortened who) queues))
+        ≡ cond (same_who other who)
+        (rest_of (items (cond b (Some queue) (find (λ (q : Queue). same_who other q.who) queues))))
+        (items (cond b (Some queue) (find (λ (q : Queue). same_who other q.who) queues)))
+    first true e true f later =
+        let one : other ≡ who = same_whos other queue.who f ∙ sym (same_whos who queue.who e) in
+        ap (λ (q : Queue). items (find (λ (x : Queue). same_who other x.who) (q ∷ map (shortened who) queues)))
+        (ap (λ b. cond b (record queue { items = rest_of queue.items }) queue) e)
+        ∙ ap (λ b. items (cond b (Some (record queue { items = rest_of queue.items }))
+        (find (λ (x : Queue). same_who other x.who) (map (shortened who) queues)))) f
+        ∙ ap (λ b. cond b (rest_of queue.items) queue.items) (sym (ap (same_who other) (sym one) ∙ itself other))
+    first true e false f later =
+        ap (λ (q : Queue). items (find (λ (x : Queue). same_who other x.who) (q ∷ map (shortened who) queues)))
+        (ap (λ b. cond b (record queue { items = rest_of queue.items }) queue) e)
+        ∙ ap (λ b. items (cond b (Some (record queue { items = rest_of queue.items }))
+        (find (λ (x : Queue). same_who other x.who) (map (shortened who) queues)))) f
+        ∙ later
+    first false e true f later =
+        ap (λ (q : Queue). items (find (λ (x : Queue). same_who other x.who) (q ∷ map (shortened who) queues)))
+        (ap (λ b. cond b (record queue { items = rest_of queue.items }) queue) e)
+        ∙ ap (λ b. items (cond b (Some queue) (find (λ (x : Queue). same_who other x.who) (map (shortened who) queues)))) f
+        ∙ sym (ap (λ b. cond b (rest_of queue.items) queue.items) (differ (same_who other who) refl))
+      where
+        differ : (b : Bool) → same_who other who ≡ b → same_who other who ≡ false
+        differ true g = absurd (true≢false (sym (subst (λ w. same_who w queue.who ≡ true) (same_whos other who g) f) ∙ e))
+        differ false g = g
+    first false e false f later =
+        ap (λ (q : Queue). items (find (λ (x : Queue). same_who other x.who) (q ∷ map (shortened who) queues)))
+        (ap (λ b. cond b (record queue { items = rest_of queue.items }) queue) e)
+        ∙ ap (λ b. items (cond b (Some queue) (find (λ (x : Queue). same_who other x.who) (map (shortened who) queues)))) f
+        ∙ later
+
+-- what a turn commits of a queue, and what it leaves of it
+step : (sched : Sched ℕ) (given : Turn) (other : Who) (list : List Queued) → queue_of sched.queues given.0 ≡ list
+    → (turned : Turned ℕ) → Turns sched given.0 given.1 list turned
+    → items_of other (option_to_list (commit_by given.0 given.1 (first_of_list list) turned.reply))
+    ++ queue_of turned.sched.queues other ≡ queue_of sched.queues other
+step sched given other [] e turned goes = ap (λ q. queue_of q other) goes.queues
+step sched given other (first ∷ rest) e turned is =
+    ⊎_elim
+    (λ goes.
+    ap (λ r. items_of other (option_to_list (commit_by given.0 given.1 (Some first) r)) ++ queue_of turned.sched.queues other)
+    goes.reply
+    ∙ ap (λ q. queue_of q other) goes.queues)
+    (λ done.
+    ap (λ r. items_of other (option_to_list (commit_by given.0 given.1 (Some first) r)) ++ queue_of turned.sched.queues other)
+    done.reply
+    ∙ ap (λ q. cond (same_who other given.0) (first ∷ []) [] ++ queue_of q other) done.queues
+    ∙ ap (λ l. cond (same_who other given.0) (first ∷ []) [] ++ l) (shorter given.0 other sched.queues)
+    ∙ by (same_who other given.0) refl)
+    is
+  where
+    by : (b : Bool) → same_who other given.0 ≡ b
+        → cond b (first ∷ []) [] ++ cond b (rest_of (queue_of sched.queues other)) (queue_of sched.queues other)
+        ≡ queue_of sched.queues other
+    by true f =
+        let here : queue_of sched.queues other ≡ first ∷ rest = ap (queue_of sched.queues) (same_whos other given.0 f) ∙ e in
+        ap (λ l. first ∷ rest_of l) here ∙ sym here
+    by false f = refl
+
+pub more_items : (who : Who) (ones others : List Commit) → items_of who (ones ++ others) ≡ items_of who ones ++ items_of who others
+more_items who [] others = refl
+more_items who (commit ∷ ones) others = by (same_who who commit.who) (more_items who ones others)
+  where
+    by : (b : Bool) → items_of who (ones ++ others) ≡ items_of who ones ++ items_of who others
+        → cond b (commit.queued ∷ items_of who (ones ++ others)) (items_of who (ones ++ others))
+        ≡ cond b (commit.queued ∷ items_of who ones) (items_of who ones) ++ items_of who others
+    by true rest = ap (λ l. commit.queued ∷ l) rest
+    by false rest = rest
+
+pub commits_are_fronts : CommitsAreFronts
+commits_are_fronts sched [] who = refl
+commits_are_fronts sched (given ∷ schedule) who =
+    let turned : Turned ℕ = turn nat_eq sched given.0 given.1 in
+    let made : List Commit = option_to_list (commit_of sched given) in
+    ap (λ l. l ++ queue_of (left_by turned.sched schedule).queues who) (more_items who made (commits turned.sched schedule))
+    ∙ append_assoc (items_of who made) (items_of who (commits turned.sched schedule))
+    (queue_of (left_by turned.sched schedule).queues who)
+    ∙ ap (λ l. items_of who made ++ l) (commits_are_fronts turned.sched schedule who)
+    ∙ step sched given who (queue_of sched.queues given.0) refl turned (turn_is sched given.0 given.1)

@@ -1,0 +1,54 @@
+-- The text of a schedule is that of its commits.
+use Rattle.std.proofs.Common.{◌≡◌, refl, sym, ap, ◌∙◌, ℕ, nat_eq, Bool, List, [], ◌∷◌, ◌++◌, Option, Some, None, ◌+◌}
+use Rattle.std.proofs.lemmas.List.{append_assoc}
+use Rattle.std.specs.Prelude.{option_to_list}
+use Rattle.vt_spec.specs.Language.Printed.{reply_line}
+use Rattle.vt_spec.specs.Language.Script.{Who, lines_of, whole}
+use Rattle.vt_spec.specs.Lists.{Fresh}
+use Rattle.vt_spec.specs.Machine.Run.{handed, later}
+use Rattle.vt_spec.specs.Machine.Turns.{Reply, Sched, first_sched, played, reply_text, schedule_who, turn, turn_of_line, turns_text}
+use Rattle.vt_laws_turns.specs.Commits.{TextsAreOfCommits, replies, text_of_replies, turn_given, turns_given}
+use Rattle.vt_laws_turns.proofs.played.Turning.{replies_are_of_commits}
+
+more_texts : (ones others : List Reply) → text_of_replies (ones ++ others) ≡ text_of_replies ones ++ text_of_replies others
+more_texts [] others = refl
+more_texts (reply ∷ ones) others =
+    ap (λ l. reply_line reply.line reply.answer ++ l) (more_texts ones others)
+    ∙ sym (append_assoc (reply_line reply.line reply.answer) (text_of_replies ones) (text_of_replies others))
+
+text_of_one : (reply : Option Reply) → reply_text reply ≡ text_of_replies (option_to_list reply)
+text_of_one None = refl
+text_of_one (Some reply) = append_nil (reply_line reply.line reply.answer)
+  where
+    append_nil : (l : List ℕ) → l ≡ l ++ []
+    append_nil [] = refl
+    append_nil (a ∷ rest) = ap (λ l. a ∷ l) (append_nil rest)
+
+-- what is played is the text of the replies
+plays : (number : ℕ) (sched : Sched ℕ) (lines : List (List ℕ)) (refused : List Bool)
+    → played number sched lines refused ≡ text_of_replies (replies sched (turns_given number lines refused))
+plays number sched [] refused = refl
+plays number sched (line ∷ lines) refused =
+    by (schedule_who line) (handed number refused) (λ next. plays (number + 1) next lines (later refused))
+  where
+    by : (who : Option Who) (fresh : Option (Fresh ℕ))
+        → ((next : Sched ℕ) → played (number + 1) next lines (later refused)
+        ≡ text_of_replies (replies next (turns_given (number + 1) lines (later refused))))
+        → reply_text (turn_of_line sched who fresh).reply
+        ++ played (number + 1) (turn_of_line sched who fresh).sched lines (later refused)
+        ≡ text_of_replies (replies sched (turn_given who fresh ++ turns_given (number + 1) lines (later refused)))
+    by None fresh rest = rest sched
+    by (Some who) fresh rest =
+        ap (λ t. t ++ played (number + 1) (turn nat_eq sched who fresh).sched lines (later refused))
+        (text_of_one (turn nat_eq sched who fresh).reply)
+        ∙ ap (λ t. text_of_replies (option_to_list (turn nat_eq sched who fresh).reply) ++ t)
+        (rest (turn nat_eq sched who fresh).sched)
+        ∙ sym (more_texts (option_to_list (turn nat_eq sched who fresh).reply)
+        (replies (turn nat_eq sched who fresh).sched (turns_given (number + 1) lines (later refused))))
+
+pub texts_are_of_commits : TextsAreOfCommits
+unfolding turns_text
+texts_are_of_commits version refused script schedule =
+    plays 1 (first_sched (whole version) script) (lines_of schedule) refused
+    ∙ ap text_of_replies
+    (replies_are_of_commits (first_sched (whole version) script) (turns_given 1 (lines_of schedule) refused)).0

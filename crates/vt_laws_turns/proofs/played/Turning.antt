@@ -1,0 +1,209 @@
+-- What one turn does.
+use Rattle.std.proofs.Common.{◌≡◌, refl, sym, ap, subst, ◌∙◌, ◌⊎◌, inl, inr, ⊎_elim, ℕ, nat_eq, Bool, true, false, true≢false, List, [], ◌∷◌, ◌++◌, Option, Some, None, Ok, Err, Result, map, find, ◌+◌}
+use Rattle.std.specs.Prelude.{nat_le, option_to_list, slice_get, unwrap_or}
+use Rattle.vt_spec.specs.declared.errors.Deny.{Deny}
+use Rattle.vt_spec.specs.declared.errors.Rule.TheVariants.{S5}
+use Rattle.vt_spec.specs.Errors.{denial, unless}
+use Rattle.vt_spec.specs.Language.Calls.{Call, TaskName, same_name}
+use Rattle.vt_spec.specs.Language.Limits.{most_restarts}
+use Rattle.vt_spec.specs.Language.Script.{Who}
+use Rattle.vt_spec.specs.Language.Script.Who.{Nobody, Someone}
+use Rattle.vt_spec.specs.Lists.{Fresh, first_of_list}
+use Rattle.vt_spec.specs.Machine.Looks.{looks_of}
+use Rattle.vt_spec.specs.Machine.Turns.{Item, Progress, Queued, Route, Sched, Turned, call_turn, call_turn_of, entry_rules, first_progress, first_turn, first_turn_by, is_failing, is_overtaken, item_turn, later_turn, next_word, queue_of, queue_turn, restarted, routes, run_whole, shortened, turn, turn_under_way, word_walked_by, words_of}
+use Rattle.vt_spec.specs.Machine.Turns.Item.{Asks, Calls, Refused}
+use Rattle.vt_spec.specs.Machine.World.{Task, World, task_called}
+use Rattle.vt_spec.proofs.Found.{found_passes}
+use Rattle.vt_spec.proofs.Options.{none_is_some}
+use Rattle.vt_spec.proofs.Worlds.{same_task_name}
+use Rattle.vt_laws_turns.specs.Commits.{Commit, FailedAllocationsAnswerS5, RepliesAreOfCommits, Turn, UnansweredTurnsChangeNothing, commit_by, commit_of, commits, committed, is_run, replies, replies_of, run_item, world_after}
+
+-- a turn goes on: no reply, and the world and the queues as they were
+pub record GoesOn (sched : Sched ℕ) (turned : Turned ℕ) : Type 0 where
+  pub reply : turned.reply ≡ None
+  pub world : turned.sched.world ≡ sched.world
+  pub queues : turned.sched.queues ≡ sched.queues
+
+-- a turn answers the first of a queue, which is run whole
+pub record Answers (sched : Sched ℕ) (who : Who) (first : Queued) (fresh : Option (Fresh ℕ)) (turned : Turned ℕ) : Type 0 where
+  pub reply : turned.reply
+      ≡ Some (record { line = first.line; answer = (run_item sched.world who first.item fresh).answer })
+  pub world : turned.sched.world ≡ (run_item sched.world who first.item fresh).world
+  pub queues : turned.sched.queues ≡ map (shortened who) sched.queues
+
+module _ (sched : Sched ℕ) (name : TaskName) (line : ℕ) (call : Call) (given : Fresh ℕ) where
+  abbrev Done : Turned ℕ → Type 0
+  Done turned = GoesOn sched turned
+      ⊎ Answers sched (Someone name) (record { line = line; item = Calls call }) (Some given) turned
+
+  whole : Done (run_whole nat_eq sched name line call given)
+  whole = inr (record { reply = refl; world = refl; queues = refl })
+
+  word : (fails : Bool) (progress : Progress ℕ) (met : List ℕ) → progress.task ≡ name
+      → Done (word_walked_by nat_eq fails sched line call given progress met)
+  word true progress met e = subst (λ n. Done (run_whole nat_eq sched n line call given)) (sym e) whole
+  word false progress met e = inl (record { reply = refl; world = refl; queues = refl })
+
+  next : (progress : Progress ℕ) (ways : List (Route ℕ)) (met : Option (List ℕ)) → progress.task ≡ name
+      → Done (next_word nat_eq sched line call given progress ways met)
+  next progress ways None e = subst (λ n. Done (run_whole nat_eq sched n line call given)) (sym e) whole
+  next progress ways (Some met) e = word (is_failing ways progress.walked) progress met e
+
+  first_by : (rules : Result Call Deny) (task : Task ℕ) (restarts : ℕ) → task.name ≡ name
+      → Done (first_turn_by nat_eq rules sched task line call given restarts)
+  first_by (Err deny) task restarts e = subst (λ n. Done (run_whole nat_eq sched n line call given)) (sym e) whole
+  first_by (Ok same) task restarts e =
+      next (first_progress nat_eq sched.world task restarts) (routes nat_eq (looks_of nat_eq sched.world) task call)
+      (slice_get (words_of (routes nat_eq (looks_of nat_eq sched.world) task call)) 0) e
+
+  first : (task : Task ℕ) (restarts : ℕ) → task.name ≡ name
+      → Done (first_turn nat_eq sched task line call given restarts)
+  first task restarts e = first_by (unless (entry_rules task call) (Ok call)) task restarts e
+
+  again : (most : Bool) (task : Task ℕ) (progress : Progress ℕ) → task.name ≡ name
+      → Done (restarted nat_eq most sched task line call given progress)
+  again true task progress e = subst (λ n. Done (run_whole nat_eq sched n line call given)) (sym e) whole
+  again false task progress e = first task (progress.restarts + 1) e
+
+  later_by : (stale : Bool) (task : Task ℕ) (progress : Progress ℕ) → task.name ≡ name → progress.task ≡ name
+      → Done (later_turn nat_eq stale sched task line call given progress)
+  later_by true task progress e f = again (nat_le most_restarts progress.restarts) task progress e
+  later_by false task progress e f =
+      next progress (routes nat_eq (looks_of nat_eq sched.world) task call)
+      (slice_get (words_of (routes nat_eq (looks_of nat_eq sched.world) task call)) progress.walked) f
+
+  under_way_by : (task : Task ℕ) (progress : Option (Progress ℕ)) → task.name ≡ name
+      → ((p : Progress ℕ) → progress ≡ Some p → p.task ≡ name)
+      → Done (turn_under_way nat_eq sched task line call given progress)
+  under_way_by task None e f = first task 0 e
+  under_way_by task (Some p) e f = later_by (is_overtaken nat_eq sched.world task p) task p e (f p refl)
+
+  called : (task : Option (Task ℕ)) → ((t : Task ℕ) → task ≡ Some t → t.name ≡ name)
+      → Done (call_turn_of nat_eq sched name line call given task)
+  called None e = whole
+  called (Some t) e =
+      under_way_by t (find (λ progress. same_name name progress.task) sched.under_way) (e t refl)
+      (λ p h. sym (same_task_name name p.task (found_passes (λ progress. same_name name progress.task) sched.under_way p h)))
+
+-- so does each turn
+abbrev pub Turns : Sched ℕ → Who → Option (Fresh ℕ) → List Queued → Turned ℕ → Type 0
+Turns sched who fresh [] turned = GoesOn sched turned
+Turns sched who fresh (first ∷ rest) turned = GoesOn sched turned ⊎ Answers sched who first fresh turned
+
+module _ (sched : Sched ℕ) where
+  task_of_call : (name : TaskName) (line : ℕ) (call : Call) (fresh : Option (Fresh ℕ))
+      → GoesOn sched (call_turn nat_eq sched name line call fresh)
+      ⊎ Answers sched (Someone name) (record { line = line; item = Calls call }) fresh (call_turn nat_eq sched name line call fresh)
+  task_of_call name line call None = inr (record { reply = refl; world = refl; queues = refl })
+  task_of_call name line call (Some given) =
+      called sched name line call given (task_called sched.world name)
+      (λ t h. sym (same_task_name name t.name (found_passes (λ (task : Task ℕ). same_name name task.name) sched.world.tasks t h)))
+
+  by_item : (who : Who) (line : ℕ) (item : Item) (fresh : Option (Fresh ℕ))
+      → GoesOn sched (item_turn nat_eq sched who line item fresh)
+      ⊎ Answers sched who (record { line = line; item = item }) fresh (item_turn nat_eq sched who line item fresh)
+  by_item (Someone name) line (Calls call) fresh = task_of_call name line call fresh
+  by_item Nobody line (Calls call) fresh = inr (record { reply = refl; world = refl; queues = refl })
+  by_item (Someone name) line (Asks directive) None = inr (record { reply = refl; world = refl; queues = refl })
+  by_item (Someone name) line (Asks directive) (Some given) = inr (record { reply = refl; world = refl; queues = refl })
+  by_item Nobody line (Asks directive) None = inr (record { reply = refl; world = refl; queues = refl })
+  by_item Nobody line (Asks directive) (Some given) = inr (record { reply = refl; world = refl; queues = refl })
+  by_item (Someone name) line (Refused deny) fresh = inr (record { reply = refl; world = refl; queues = refl })
+  by_item Nobody line (Refused deny) fresh = inr (record { reply = refl; world = refl; queues = refl })
+
+  by_queue : (who : Who) (items : List Queued) (fresh : Option (Fresh ℕ))
+      → Turns sched who fresh items (queue_turn nat_eq sched who items fresh)
+  by_queue who [] fresh = record { reply = refl; world = refl; queues = refl }
+  by_queue who (first ∷ rest) fresh = by_item who first.line first.item fresh
+
+  pub turn_is : (who : Who) (fresh : Option (Fresh ℕ))
+      → Turns sched who fresh (queue_of sched.queues who) (turn nat_eq sched who fresh)
+  unfolding turn
+  turn_is who fresh = by_queue who (queue_of sched.queues who) fresh
+
+-- a turn's reply and world are those of what it commits
+step : (sched : Sched ℕ) (given : Turn) (items : List Queued) (turned : Turned ℕ)
+    → Turns sched given.0 given.1 items turned
+    → let made : List Commit = option_to_list (commit_by given.0 given.1 (first_of_list items) turned.reply) in
+    (option_to_list turned.reply ≡ replies_of sched.world made) × (turned.sched.world ≡ world_after sched.world made)
+step sched given [] turned goes =
+    (ap option_to_list goes.reply, goes.world)
+step sched given (first ∷ rest) turned is =
+    ⊎_elim
+    (λ goes.
+    let none : commit_by given.0 given.1 (Some first) turned.reply ≡ None = ap (commit_by given.0 given.1 (Some first)) goes.reply in (
+      ap option_to_list goes.reply ∙ sym (ap (λ c. replies_of sched.world (option_to_list c)) none),
+      goes.world ∙ sym (ap (λ c. world_after sched.world (option_to_list c)) none),
+    ))
+    (λ done.
+    let one : commit_by given.0 given.1 (Some first) turned.reply ≡ Some (record { who = given.0; queued = first; fresh = given.1 }) =
+    ap (commit_by given.0 given.1 (Some first)) done.reply in (
+      ap option_to_list done.reply ∙ sym (ap (λ c. replies_of sched.world (option_to_list c)) one),
+      done.world ∙ sym (ap (λ c. world_after sched.world (option_to_list c)) one),
+    ))
+    is
+
+-- commits one after the other
+more_replies : (world : World ℕ) (ones others : List Commit)
+    → replies_of world (ones ++ others) ≡ replies_of world ones ++ replies_of (world_after world ones) others
+more_replies world [] others = refl
+more_replies world (commit ∷ ones) others =
+    ap (λ l. record { line = commit.queued.line; answer = (committed world commit).answer } ∷ l)
+    (more_replies (committed world commit).world ones others)
+
+more_world : (world : World ℕ) (ones others : List Commit)
+    → world_after world (ones ++ others) ≡ world_after (world_after world ones) others
+more_world world [] others = refl
+more_world world (commit ∷ ones) others = more_world (committed world commit).world ones others
+
+pub replies_are_of_commits : RepliesAreOfCommits
+replies_are_of_commits sched [] = (refl, refl)
+replies_are_of_commits sched (given ∷ rest) =
+    let turned : Turned ℕ = turn nat_eq sched given.0 given.1 in
+    let made : List Commit = option_to_list (commit_of sched given) in
+    let now = step sched given (queue_of sched.queues given.0) turned (turn_is sched given.0 given.1) in
+    let then = replies_are_of_commits turned.sched rest in (
+      ap (λ l. l ++ replies turned.sched rest) now.0
+          ∙ ap (λ l. replies_of sched.world made ++ l) (then.0 ∙ ap (λ w. replies_of w (commits turned.sched rest)) now.1)
+          ∙ sym (more_replies sched.world made (commits turned.sched rest)),
+      then.1 ∙ ap (λ w. world_after w (commits turned.sched rest)) now.1
+          ∙ sym (more_world sched.world made (commits turned.sched rest)),
+    )
+
+-- a turn without a reply
+pub unanswered_turns_change_nothing : UnansweredTurnsChangeNothing
+unanswered_turns_change_nothing sched given none =
+    by (queue_of sched.queues given.0) (turn nat_eq sched given.0 given.1) (turn_is sched given.0 given.1) none
+  where
+    by : (items : List Queued) (turned : Turned ℕ) → Turns sched given.0 given.1 items turned → turned.reply ≡ None
+        → (turned.sched.world ≡ sched.world) × (turned.sched.queues ≡ sched.queues)
+    by [] turned goes e = (goes.world, goes.queues)
+    by (first ∷ rest) turned is e =
+        ⊎_elim (λ goes. (goes.world, goes.queues))
+        (λ done. none_is_some _ (sym e ∙ done.reply)) is
+
+-- a turn in which an allocation fails
+pub failed_allocations_answer_s5 : FailedAllocationsAnswerS5
+unfolding turn
+failed_allocations_answer_s5 sched who first e run = by (queue_of sched.queues who) e
+  where
+    item : (w : Who) (line : ℕ) (i : Item) → is_run w i ≡ true
+        → ((item_turn nat_eq sched w line i None).reply ≡ Some (record { line = line; answer = Err (denial S5) }))
+        × ((item_turn nat_eq sched w line i None).sched.world ≡ sched.world)
+    item (Someone name) line (Calls call) r = (refl, refl)
+    item Nobody line (Calls call) r = absurd (true≢false (sym r))
+    item (Someone name) line (Asks directive) r = (refl, refl)
+    item Nobody line (Asks directive) r = (refl, refl)
+    item (Someone name) line (Refused deny) r = absurd (true≢false (sym r))
+    item Nobody line (Refused deny) r = absurd (true≢false (sym r))
+
+    by : (items : List Queued) → first_of_list items ≡ Some first
+        → ((queue_turn nat_eq sched who items None).reply ≡ Some (record { line = first.line; answer = Err (denial S5) }))
+        × ((queue_turn nat_eq sched who items None).sched.world ≡ sched.world)
+    by [] f = none_is_some first f
+    by (one ∷ rest) f =
+        let same : one ≡ first = ap (λ o. unwrap_or o one) f in (
+          (item who one.line one.item (ap (λ (q : Queued). is_run who q.item) same ∙ run)).0
+              ∙ ap (λ (q : Queued). Some (record { line = q.line; answer = Err (denial S5) })) same,
+          (item who one.line one.item (ap (λ (q : Queued). is_run who q.item) same ∙ run)).1,
+        )

@@ -1,0 +1,3 @@
+-- What the proofs of src/restarts.rt use.
+pub mod Counting
+pub mod Keeping

@@ -1,0 +1,187 @@
+-- Each turn keeps the conditions of a scheduler's state.
+use Rattle.std.proofs.Common.{◌≡◌, refl, sym, ap, subst, ◌∙◌, ⊎_elim, ℕ, suc, nat_eq, Bool, true, false, true≢false, cond, not, List, [], ◌∷◌, ◌≤◌, ◌+◌, Option, Some, filter, map, length, arith}
+use Rattle.std.specs.Prelude.{Contains, nat_le}
+use Rattle.vt_spec.specs.Language.Calls.{TaskName, same_name}
+use Rattle.vt_spec.specs.Language.Limits.{most_restarts}
+use Rattle.vt_spec.specs.Language.Script.{Who}
+use Rattle.vt_spec.specs.Language.Script.Who.{Someone}
+use Rattle.vt_spec.specs.Lists.{Fresh, first_of_list, holds_of, rest_of}
+use Rattle.vt_spec.specs.Machine.Turns.{Progress, Queue, Queued, Sched, Turned, one_further, queue_of, same_who, shortened, turn, without_progress}
+use Rattle.vt_spec.specs.Machine.World.{Task, World}
+use Rattle.vt_spec.proofs.Found.{found_among, found_passes}
+use Rattle.vt_spec.proofs.Lists.{Among, among_from_contains, among-from_filter, contains_from_among}
+use Rattle.vt_spec.proofs.Worlds.{same_name-swapped, same_task_name}
+use Rattle.vt_laws_turns.specs.Restarts.{IsSched, SchedulersBegin, ScriptsBegin, TurnsKeepSchedulers, all_under_way_of, has_call_first, is_call}
+use Rattle.vt_laws_turns.proofs.TurnShapes.{Before, Shape, is_task_call, turn_shape}
+use Rattle.vt_laws_turns.proofs.TurnShapes.Before.{Again, AtStart, OnWay}
+use Rattle.vt_laws_turns.proofs.TurnShapes.Shape.{CallDone, Further, Idle, OtherDone}
+use Rattle.vt_laws_turns.proofs.played.Fronts.{same_whos, shorter}
+
+-- a filter makes no list longer
+shrinks : {A : Type 0} (p q : A → Bool) (xs : List A) → length (filter p (filter q xs)) ≤ length (filter p xs)
+shrinks p q [] = omega arith
+shrinks {A = A} p q (x ∷ xs) = by (q x) (p x) refl (shrinks p q xs)
+  where
+    by : (b c : Bool) → p x ≡ c → length (filter p (filter q xs)) ≤ length (filter p xs)
+        → length (filter p (cond b (x ∷ filter q xs) (filter q xs))) ≤ length (cond c (x ∷ filter p xs) (filter p xs))
+    by true true e h =
+        subst (λ t. length (cond t (x ∷ filter p (filter q xs)) (filter p (filter q xs))) ≤ suc (length (filter p xs)))
+        (sym e) (omega (arith, h))
+    by true false e h =
+        subst (λ t. length (cond t (x ∷ filter p (filter q xs)) (filter p (filter q xs))) ≤ length (filter p xs))
+        (sym e) h
+    by false true e h = omega (arith, h)
+    by false false e h = h
+
+-- what does not pass is not left
+none_left : {A : Type 0} (p : A → Bool) (xs : List A) → filter p (filter (λ x. not (p x)) xs) ≡ []
+none_left p [] = refl
+none_left {A = A} p (x ∷ xs) = by (p x) refl (none_left p xs)
+  where
+    by : (b : Bool) → p x ≡ b → filter p (filter (λ y. not (p y)) xs) ≡ []
+        → filter p (cond (not b) (x ∷ filter (λ y. not (p y)) xs) (filter (λ y. not (p y)) xs)) ≡ []
+    by true e h = h
+    by false e h =
+        ap (λ t. cond t (x ∷ filter p (filter (λ y. not (p y)) xs)) (filter p (filter (λ y. not (p y)) xs))) e ∙ h
+
+-- a queue that is not shortened has the call first that it had
+other_first : (who : Who) (queues : List Queue) (name : TaskName) → same_who (Someone name) who ≡ false
+    → has_call_first queues name ≡ true → has_call_first (map (shortened who) queues) name ≡ true
+other_first who queues name e h =
+    ap (λ items. holds_of (λ (queued : Queued). is_call queued.item) (first_of_list items))
+    (shorter who (Someone name) queues
+    ∙ ap (λ b. cond b (rest_of (queue_of queues (Someone name))) (queue_of queues (Someone name))) e)
+    ∙ h
+
+module _ (sched : Sched ℕ) (is : IsSched sched) where
+  -- what is under way but for a task's
+  kept_among : (name : TaskName) (progress : Progress ℕ) → Among progress (without_progress name sched.under_way)
+      → Contains sched.under_way progress × (same_name name progress.task ≡ false)
+  kept_among name progress m =
+      let both = among-from_filter (λ (p : Progress ℕ). not (same_name name p.task)) sched.under_way progress m in
+      (contains_from_among sched.under_way progress both.0, turned (same_name name progress.task) both.1)
+    where
+      turned : (b : Bool) → not b ≡ true → b ≡ false
+      turned true e = absurd (true≢false (sym e))
+      turned false e = refl
+
+  -- a call is answered
+  call_done : (name : TaskName) (world : World ℕ)
+      → IsSched (record {
+        world = world;
+        queues = map (shortened (Someone name)) sched.queues;
+        under_way = without_progress name sched.under_way;
+      })
+  call_done name world = record {
+    one = λ other.
+        let less = shrinks (λ (p : Progress ℕ). same_name other p.task) (λ (p : Progress ℕ). not (same_name name p.task))
+        sched.under_way in
+        let most = is.one other in
+        omega (arith, less, most);
+    first = λ progress c.
+        let kept = kept_among name progress (among_from_contains _ progress c) in
+        other_first (Someone name) sched.queues progress.task (same_name-swapped name progress.task kept.1)
+        (is.first progress kept.0);
+    restarts = λ progress c. is.restarts progress (kept_among name progress (among_from_contains _ progress c)).0;
+  }
+
+  -- what is no call of a task is answered
+  other_done : (who : Who) (first : Queued) → first_of_list (queue_of sched.queues who) ≡ Some first
+      → is_task_call who first.item ≡ false → (world : World ℕ)
+      → IsSched (record { world = world; queues = map (shortened who) sched.queues; under_way = sched.under_way })
+  other_done who first f none world = record {
+    one = is.one;
+    first = λ progress c.
+        other_first who sched.queues progress.task (apart progress c (same_who (Someone progress.task) who) refl)
+        (is.first progress c);
+    restarts = is.restarts;
+  }
+    where
+      apart : (progress : Progress ℕ) → Contains sched.under_way progress → (b : Bool)
+          → same_who (Someone progress.task) who ≡ b → b ≡ false
+      apart progress c false e = refl
+      apart progress c true e =
+          let same : Someone progress.task ≡ who = same_whos (Someone progress.task) who e in
+          let found : first_of_list (queue_of sched.queues (Someone progress.task)) ≡ Some first =
+          ap (λ w. first_of_list (queue_of sched.queues w)) same ∙ f in
+          absurd (true≢false (sym (is.first progress c)
+          ∙ ap (holds_of (λ (queued : Queued). is_call queued.item)) found
+          ∙ ap (λ w. is_task_call w first.item) same ∙ none))
+
+  -- the number of restarts of what goes on is within the limit
+  few : (task : Task ℕ) (before : Progress ℕ) → Before sched task before → before.restarts ≤ most_restarts
+  few task before (AtStart none e) = subst (λ (p : Progress ℕ). p.restarts ≤ most_restarts) (sym e) (omega arith)
+  few task before (OnWay found current) =
+      is.restarts before (contains_from_among sched.under_way before
+      (found_among (λ (p : Progress ℕ). same_name task.name p.task) sched.under_way before found))
+  few task before (Again progress found stale fewer e) =
+      subst (λ (p : Progress ℕ). p.restarts ≤ most_restarts) (sym e) (below progress.restarts fewer)
+    where
+      below : (n : ℕ) → nat_le most_restarts n ≡ false → n + 1 ≤ most_restarts
+      below n h = grind (arith, h)
+
+  pub named : (task : Task ℕ) (before : Progress ℕ) → Before sched task before → before.task ≡ task.name
+  named task before (AtStart none e) = ap (λ (p : Progress ℕ). p.task) e
+  named task before (OnWay found current) =
+      sym (same_task_name task.name before.task (found_passes
+      (λ (p : Progress ℕ). same_name task.name p.task) sched.under_way before found))
+  named task before (Again progress found stale fewer e) = ap (λ (p : Progress ℕ). p.task) e
+
+  -- a call goes on
+  goes_on : (name : TaskName) (progress : Progress ℕ) → progress.task ≡ name → progress.restarts ≤ most_restarts
+      → has_call_first sched.queues name ≡ true
+      → IsSched (record sched { under_way = progress ∷ without_progress progress.task sched.under_way })
+  goes_on name progress e less h = record {
+    one = λ other. by other (same_name other progress.task) refl;
+    first = λ p c.
+        ⊎_elim (λ same. ap (λ (q : Progress ℕ). has_call_first sched.queues q.task) same
+        ∙ ap (has_call_first sched.queues) e ∙ h)
+        (λ m. is.first p (kept_among progress.task p m).0)
+        (among_from_contains (progress ∷ without_progress progress.task sched.under_way) p c);
+    restarts = λ p c.
+        ⊎_elim (λ same. subst (λ (q : Progress ℕ). q.restarts ≤ most_restarts) (sym same) less)
+        (λ m. is.restarts p (kept_among progress.task p m).0)
+        (among_from_contains (progress ∷ without_progress progress.task sched.under_way) p c);
+  }
+    where
+      by : (other : TaskName) (b : Bool) → same_name other progress.task ≡ b
+          → length (cond b (progress ∷ all_under_way_of (without_progress progress.task sched.under_way) other)
+          (all_under_way_of (without_progress progress.task sched.under_way) other)) ≤ 1
+      by other true f =
+          let same : other ≡ progress.task = same_task_name other progress.task f in
+          let none : all_under_way_of (without_progress progress.task sched.under_way) other ≡ [] =
+          ap (all_under_way_of (without_progress progress.task sched.under_way)) same
+          ∙ none_left (λ (p : Progress ℕ). same_name progress.task p.task) sched.under_way in
+          subst (λ l. suc (length l) ≤ 1) (sym none) (omega arith)
+      by other false f =
+          let less = shrinks (λ (p : Progress ℕ). same_name other p.task)
+          (λ (p : Progress ℕ). not (same_name progress.task p.task)) sched.under_way in
+          let most = is.one other in
+          omega (arith, less, most)
+
+  by_shape : (who : Who) (fresh : Option (Fresh ℕ)) (turned : Turned ℕ) → Shape sched who fresh turned
+      → IsSched turned.sched
+  by_shape who fresh turned (Idle e is_idle) = subst (λ (t : Turned ℕ). IsSched t.sched) (sym is_idle) is
+  by_shape who fresh turned (OtherDone first f none outcome e) =
+      subst (λ (t : Turned ℕ). IsSched t.sched) (sym e) (other_done who first f none outcome.world)
+  by_shape who fresh turned (CallDone name w line call f outcome e) =
+      subst (λ (t : Turned ℕ). IsSched t.sched) (sym e) (call_done name outcome.world)
+  by_shape who fresh turned (Further task w line call given g next before at further) =
+      subst (λ (t : Turned ℕ). IsSched t.sched) (sym further.is)
+      (goes_on task.name (one_further nat_eq sched.world further.met before)
+      (named task before at) (few task before at)
+      (ap (holds_of (λ (queued : Queued). is_call queued.item)) next.first))
+
+pub turns_keep_schedulers : TurnsKeepSchedulers
+turns_keep_schedulers sched given is =
+    by_shape sched is given.0 given.1 (turn nat_eq sched given.0 given.1) (turn_shape sched given.0 given.1)
+
+pub schedulers_begin : SchedulersBegin
+schedulers_begin world queues = record {
+  one = λ name. omega arith;
+  first = λ progress c. absurd (among_from_contains [] progress c);
+  restarts = λ progress c. absurd (among_from_contains [] progress c);
+}
+
+pub scripts_begin : ScriptsBegin
+scripts_begin version script = schedulers_begin _ _
