@@ -1,1 +1,3 @@
 pub mod TreesSeen
+pub mod InodeUses
+pub mod CopySteps

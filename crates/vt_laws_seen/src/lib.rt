@@ -4,4 +4,6 @@
 //! Each public function is a theorem of the written policy, and does nothing.
 #![tactic(auto)]
 
+pub mod copied;
 pub mod seen;
+pub mod used;
