@@ -6,4 +6,5 @@
 
 pub mod copied;
 pub mod seen;
+pub mod swept;
 pub mod used;
