@@ -1,0 +1,2 @@
+-- What the proofs of src/handed.rt use.
+pub mod Places

@@ -1,0 +1,2 @@
+pub mod LeftWorlds
+pub mod NumbersHanded

@@ -1,0 +1,3 @@
+-- What the proofs of src/copied.rt use.
+pub mod InTurn
+pub mod Stepping

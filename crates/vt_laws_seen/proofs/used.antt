@@ -1,0 +1,2 @@
+-- What the proofs of src/used.rt use.
+pub mod NoLayers

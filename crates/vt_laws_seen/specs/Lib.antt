@@ -1,0 +1,4 @@
+pub mod TreesSeen
+pub mod InodeUses
+pub mod CopySteps
+pub mod SweptBefore

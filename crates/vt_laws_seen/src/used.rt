@@ -1,0 +1,8 @@
+//! Laws of what uses an inode of an overlay.
+ghost use Rattle.vt_laws_seen.specs.InodeUses.{OverlaysAreUsedByLocations};
+
+/// In a world with all invariants names use an inode of an overlay, and locations of tasks, roots of mounts and mount
+/// points, besides that it is the root. Nothing else does: no overlay has a layer, or an upper object, in another.
+pub fn overlays_are_used_by_locations()
+    ensures { OverlaysAreUsedByLocations }
+{}
