@@ -6,10 +6,10 @@ use Rattle.std.proofs.lemmas.List.{length-map}
 use Rattle.std.proofs.lemmas.Bool.{and_from, and_parts, or_cases, or_left, or_right}
 use Rattle.std.proofs.lemmas.Option.{same_Some}
 use Rattle.vt_spec.specs.Language.Calls.{TaskName}
-use Rattle.vt_spec.specs.Lists.{chain, holds_of, when}
+use Rattle.vt_spec.specs.Lists.{chain, holds_of}
 use Rattle.vt_spec.specs.Machine.Invariants.{MountInvariants, Stands, is_nowhere_or_attached, is_private}
 use Rattle.vt_spec.specs.Machine.Mounts.{Location, Mount, child_at, mounts_over, no_mount, root_of, stands_at}
-use Rattle.vt_spec.specs.Machine.Sealed.{is_at, locations, members, own_mounts, part_of, roots_and_directories, seen_by_descriptor}
+use Rattle.vt_spec.specs.Machine.Sealed.{is_at, members, part_of, roots_and_directories}
 use Rattle.vt_spec.specs.Machine.World.{Task, World, mount_numbered}
 use Rattle.vt_spec.proofs.Found.{found_among, found_passes}
 use Rattle.vt_spec.proofs.Lists.{Among, among-filter_map, among-map, among_from_all, among_from_list_all, any_among, any_from_among, chain_ends, chain_goes_on}

@@ -1,11 +1,9 @@
 -- What two worlds show alike at some mounts is the same where the rest is covered. So a table of rules that asks for
 -- what is there alone is the same in both.
-use Rattle.std.proofs.Common.{◌≡◌, refl, sym, ap, ◌∙◌, ℕ, Bool, true, false, cond, List, [], Option, None}
-use Rattle.vt_spec.specs.Errors.{Rules}
+use Rattle.std.proofs.Common.{◌≡◌, refl, sym, ap, ◌∙◌, ℕ, Bool, true, false, cond, [], None}
 use Rattle.vt_spec.specs.Language.Changes.{Change}
 use Rattle.vt_spec.specs.Machine.Looks.{Looks}
 use Rattle.vt_spec.specs.Machine.Mounts.{Location, no_mount}
-use Rattle.vt_spec.specs.Machine.World.{Layer}
 
 same_if : {A : Type 0} (b : Bool) (x y d : A) → (b ≡ true → x ≡ y) → cond b x d ≡ cond b y d
 same_if true x y d same = same refl
@@ -14,10 +12,7 @@ same_if false x y d same = refl
 -- what two worlds show alike, to rules, on these mounts and in these filesystems
 pub record RulesSeeAlike (one other : Looks ℕ) (own uses : ℕ → Bool) : Type 0 where
   pub mount : (number : ℕ) → own number ≡ true → one.mount number ≡ other.mount number
-  pub mount_tree : (number : ℕ) → own number ≡ true → one.mount_tree number ≡ other.mount_tree number
   pub over : (here : Location ℕ) → own here.mount ≡ true → one.mounts_over here ≡ other.mounts_over here
-  pub busy : (number : ℕ) → own number ≡ true → one.is_busy number ≡ other.is_busy number
-  pub written : (number : ℕ) → own number ≡ true → one.is_written_through number ≡ other.is_written_through number
   pub node : (here : Location ℕ) → own here.mount ≡ true → one.node here ≡ other.node here
   pub removed : (here : Location ℕ) → own here.mount ≡ true → one.is_removed here ≡ other.is_removed here
   pub under : (filesystem top directory : ℕ) → uses filesystem ≡ true
@@ -25,11 +20,7 @@ pub record RulesSeeAlike (one other : Looks ℕ) (own uses : ℕ → Bool) : Typ
   pub overlay : (here : Location ℕ) → own here.mount ≡ true → one.overlay here ≡ other.overlay here
   pub mounter : (here : Location ℕ) (change : Change ℕ) → own here.mount ≡ true
       → one.mounter_rules here change ≡ other.mounter_rules here change
-  pub lower : (here : Location ℕ) (name : List ℕ) → own here.mount ≡ true
-      → one.has_lower_directory here name ≡ other.has_lower_directory here name
   pub locked : (here : Location ℕ) → own here.mount ≡ true → one.is_locked here ≡ other.is_locked here
-  pub overlaps : (others : List (Layer ℕ)) (layer : Layer ℕ) → uses layer.filesystem ≡ true
-      → one.overlaps_one_of others layer ≡ other.overlaps_one_of others layer
 
 module _ (own uses : ℕ → Bool) where
   -- the rest covered
@@ -38,19 +29,19 @@ module _ (own uses : ℕ → Bool) where
     namespace_called = λ name. None;
     mount = λ number. cond (own number) (looks.mount number) (no_mount number);
     mount_count = 0;
-    mount_tree = λ number. cond (own number) (looks.mount_tree number) [];
+    mount_tree = λ number. [];
     mounts_over = λ here. cond (own here.mount) (looks.mounts_over here) [];
     mounts_on = λ here. [];
-    is_busy = λ number. cond (own number) (looks.is_busy number) false;
-    is_written_through = λ number. cond (own number) (looks.is_written_through number) false;
+    is_busy = λ number. false;
+    is_written_through = λ number. false;
     node = λ here. cond (own here.mount) (looks.node here) None;
     is_removed = λ here. cond (own here.mount) (looks.is_removed here) false;
     is_under = λ filesystem top directory. cond (uses filesystem) (looks.is_under filesystem top directory) false;
     overlay = λ here. cond (own here.mount) (looks.overlay here) None;
     mounter_rules = λ here change. cond (own here.mount) (looks.mounter_rules here change) [];
-    has_lower_directory = λ here name. cond (own here.mount) (looks.has_lower_directory here name) false;
+    has_lower_directory = λ here name. false;
     is_locked = λ here. cond (own here.mount) (looks.is_locked here) false;
-    overlaps_one_of = λ others layer. cond (uses layer.filesystem) (looks.overlaps_one_of others layer) false;
+    overlaps_one_of = λ others layer. false;
     is_in_use = λ overlay. false;
   }
 
@@ -60,14 +51,12 @@ module _ (own uses : ℕ → Bool) where
       namespace_called = λ name. None;
       mount = λ number. same_if (own number) (one.mount number) (other.mount number) (no_mount number) (alike.mount number) i;
       mount_count = 0;
-      mount_tree = λ number.
-          same_if (own number) (one.mount_tree number) (other.mount_tree number) [] (alike.mount_tree number) i;
+      mount_tree = λ number. [];
       mounts_over = λ here.
           same_if (own here.mount) (one.mounts_over here) (other.mounts_over here) [] (alike.over here) i;
       mounts_on = λ here. [];
-      is_busy = λ number. same_if (own number) (one.is_busy number) (other.is_busy number) false (alike.busy number) i;
-      is_written_through = λ number.
-          same_if (own number) (one.is_written_through number) (other.is_written_through number) false (alike.written number) i;
+      is_busy = λ number. false;
+      is_written_through = λ number. false;
       node = λ here. same_if (own here.mount) (one.node here) (other.node here) None (alike.node here) i;
       is_removed = λ here. same_if (own here.mount) (one.is_removed here) (other.is_removed here) false (alike.removed here) i;
       is_under = λ filesystem top directory.
@@ -77,13 +66,9 @@ module _ (own uses : ℕ → Bool) where
       mounter_rules = λ here change.
           same_if (own here.mount) (one.mounter_rules here change) (other.mounter_rules here change) []
           (alike.mounter here change) i;
-      has_lower_directory = λ here name.
-          same_if (own here.mount) (one.has_lower_directory here name) (other.has_lower_directory here name) false
-          (alike.lower here name) i;
+      has_lower_directory = λ here name. false;
       is_locked = λ here. same_if (own here.mount) (one.is_locked here) (other.is_locked here) false (alike.locked here) i;
-      overlaps_one_of = λ others layer.
-          same_if (uses layer.filesystem) (one.overlaps_one_of others layer) (other.overlaps_one_of others layer) false
-          (alike.overlaps others layer) i;
+      overlaps_one_of = λ others layer. false;
       is_in_use = λ overlay. false;
     }
 
@@ -91,3 +76,7 @@ module _ (own uses : ℕ → Bool) where
     pub by_mask : {R : Type 0} (asked : Looks ℕ → R) → ((looks : Looks ℕ) → asked (masked looks) ≡ asked looks)
         → asked one ≡ asked other
     by_mask asked covered = sym (covered one) ∙ ap asked same_masked ∙ covered other
+
+    pub by_both : {R : Type 0} (asked : Looks ℕ → R) → asked (masked one) ≡ asked one
+        → asked (masked other) ≡ asked other → asked one ≡ asked other
+    by_both asked here there = sym here ∙ ap asked same_masked ∙ there

@@ -1,5 +1,5 @@
 -- What members see on the mounts that they get to is what their part shows.
-use Rattle.std.proofs.Common.{◌≡◌, refl, sym, ap, subst, ◌∙◌, inl, inr, ⊎_elim, ℕ, nat_eq, Bool, true, false, cond, true≢false, List, [], ◌∷◌, ◌++◌, Option, Some, None, map, not, ◌||◌, ◌&&◌, length, is_some, eq-eqb, eqb-true}
+use Rattle.std.proofs.Common.{◌≡◌, refl, sym, ap, subst, ◌∙◌, inl, inr, ⊎_elim, ℕ, nat_eq, Bool, true, false, cond, List, [], ◌∷◌, Option, Some, None, map, not, ◌||◌, ◌&&◌, eq-eqb, eqb-true}
 use Rattle.std.specs.Prelude.{option_to_list}
 use Rattle.std.specs.List.{list_all, list_any}
 use Rattle.std.proofs.lemmas.Bool.{and_parts}
@@ -7,16 +7,15 @@ use Rattle.vt_spec.specs.Language.Calls.{TaskName}
 use Rattle.vt_spec.specs.FileTree.{is_directory_under, is_removed}
 use Rattle.vt_spec.specs.Lists.{chain, is_among}
 use Rattle.vt_spec.specs.Machine.Invariants.{IsWorld, is_directory_seen_in, is_located_well, is_there, stands_on_directories}
-use Rattle.vt_spec.specs.Machine.Looks.{Looks, looks_of}
+use Rattle.vt_spec.specs.Machine.Looks.{looks_of}
 use Rattle.vt_spec.specs.Machine.Mounts.{Location, Mount, same_location}
 use Rattle.vt_spec.specs.Machine.Sealed.{is_at, is_member_task, is_own_mount, locations, members, own_mounts, part_of, roots_and_directories, used_filesystems}
 use Rattle.vt_spec.specs.Machine.Walking.{hop, hops}
 use Rattle.vt_spec.specs.Machine.World.{Filesystem, Task, World, all_locations, filesystem_at, filesystem_numbered, is_directory_at, locations_of, mount_at, mount_numbered}
 use Rattle.vt_spec.proofs.Lists.{Among, among-append_left, among-append_right, among-filter, among-flat_map, among-from_filter, among-from_flat_map, among-from_map, among-map, among_from_contains, among_from_list_all, any_among, any_from_among}
 use Rattle.vt_spec.proofs.Options.{none_is_some}
-use Rattle.vt_spec.proofs.Lists.{contains_from_among}
 use Rattle.vt_laws_part.specs.Walks.{AreOn}
-use Rattle.vt_laws_part.proofs.part.PartOfPart.{found, is_own, used_directly_used}
+use Rattle.vt_laws_part.proofs.part.PartOfPart.{found, used_directly_used}
 use Rattle.vt_laws_part.proofs.walks.WalksAgree.{Each}
 use Rattle.vt_laws_members.specs.Judging.{MembersSeeAlike, is_theirs}
 use Rattle.vt_laws_members.proofs.judging.Grounds.{IsGround, IsTheirs, its_mount, numbered, over_alike, over_theirs, same_mount, theirs_from, theirs_test, up_alike, up_each}
@@ -28,7 +27,7 @@ module _ (world : World ℕ) (names : List TaskName) (is : IsWorld nat_eq world)
   abbrev part : World ℕ
   part = part_of nat_eq world names
 
-  abbrev OnTheirs : Location ℕ → Type 0
+  abbrev pub OnTheirs : Location ℕ → Type 0
   OnTheirs here = IsTheirs world names is.mounts here.mount
 
   abbrev uses : ℕ → Bool
