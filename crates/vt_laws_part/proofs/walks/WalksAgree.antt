@@ -31,7 +31,7 @@ then_agree Q R (Ok x) b f g (e, q) next =
     let n = next x q in (n.0 ∙ ap (λ r. then_walk r g) e, n.1)
 then_agree Q R (Err stop) b f g (e, q) next = (ap (λ r. then_walk r g) e, tt)
 
-unless_agree : {A : Type 0} (Q : A → Type 0) (steps : List (List ℕ)) (rules : Rules) (a : A) → Q a
+pub unless_agree : {A : Type 0} (Q : A → Type 0) (steps : List (List ℕ)) (rules : Rules) (a : A) → Q a
     → IfOk (walk_unless steps rules a) Q
 unless_agree Q steps [] a q = q
 unless_agree Q steps ((true, rule) ∷ rules) a q = tt
@@ -64,13 +64,13 @@ pub record Alike (one other : Looks ℕ) (task : Task ℕ) (Own : ℕ → Type 0
   pub lost : (here : Location ℕ) → Own here.mount → is_lost nat_eq one here ≡ is_lost nat_eq other here
 
 module _ (one other : Looks ℕ) (task : Task ℕ) (Own : ℕ → Type 0) (alike : Alike one other task Own) where
-  abbrev OnOwn : Location ℕ → Type 0
+  abbrev pub OnOwn : Location ℕ → Type 0
   OnOwn here = Own here.mount
 
-  abbrev HereOwn : Here ℕ → Type 0
+  abbrev pub HereOwn : Here ℕ → Type 0
   HereOwn here = Own here.location.mount
 
-  same_search : (here : Location ℕ) → Own here.mount → search_rules nat_eq one task here ≡ search_rules nat_eq other task here
+  pub same_search : (here : Location ℕ) → Own here.mount → search_rules nat_eq one task here ≡ search_rules nat_eq other task here
   same_search here own =
       ap (λ n. (not (is_directory_node n), W3) ∷ (not (node_allows task.credentials execute_right n), W4)
       ∷ (not (mounter_allows (one.overlay here) execute_right n), W5) ∷ []) (alike.node here own)
@@ -78,7 +78,7 @@ module _ (one other : Looks ℕ) (task : Task ℕ) (Own : ℕ → Type 0) (alike
       ∷ (not (node_allows task.credentials execute_right (other.node here)), W4)
       ∷ (not (mounter_allows o execute_right (other.node here)), W5) ∷ []) (alike.overlay here own)
 
-  same_entry : (here : Location ℕ) (name : List ℕ) → Own here.mount
+  pub same_entry : (here : Location ℕ) (name : List ℕ) → Own here.mount
       → entry_location nat_eq one here name ≡ entry_location nat_eq other here name
   same_entry here name own =
       ap (λ n. option_map (λ object. record { mount = here.mount; node = object }) (entry_named name (entries_in n)))
@@ -91,10 +91,10 @@ module _ (one other : Looks ℕ) (task : Task ℕ) (Own : ℕ → Type 0) (alike
   same_top here own =
       ap (λ (m : Mount ℕ). same_location nat_eq here task.root || nat_eq here.node m.root) (alike.mount here own)
 
-  same_topmost : (here : Location ℕ) → Own here.mount → topmost one here ≡ topmost other here
+  pub same_topmost : (here : Location ℕ) → Own here.mount → topmost one here ≡ topmost other here
   same_topmost here own = ap (last_or here) (alike.over here own)
 
-  own_topmost : (here : Location ℕ) → Own here.mount → Own (topmost one here).mount
+  pub own_topmost : (here : Location ℕ) → Own here.mount → Own (topmost one here).mount
   own_topmost here own = last_each OnOwn (one.mounts_over here) here own (alike.entered here own)
 
   up_by : (t l : Bool) (here there : Location ℕ) → Own here.mount → Own there.mount
@@ -128,7 +128,7 @@ module _ (one other : Looks ℕ) (task : Task ℕ) (Own : ℕ → Type 0) (alike
     own_topmost (record { mount = here.mount; node = object }) own,
   )
 
-  stepped_agrees : (here : Location ℕ) → Own here.mount → (word : LastWord)
+  pub stepped_agrees : (here : Location ℕ) → Own here.mount → (word : LastWord)
       → Agree OnOwn (stepped nat_eq one task here word) (stepped nat_eq other task here word)
   stepped_agrees here own NoWord = (refl, own)
   stepped_agrees here own Dot = (refl, own)
@@ -143,19 +143,19 @@ module _ (one other : Looks ℕ) (task : Task ℕ) (Own : ℕ → Type 0) (alike
         by.1,
       )
 
-  same_filesystems : (list : List (Location ℕ)) → Each OnOwn list → filesystems_of nat_eq one list ≡ filesystems_of nat_eq other list
+  pub same_filesystems : (list : List (Location ℕ)) → Each OnOwn list → filesystems_of nat_eq one list ≡ filesystems_of nat_eq other list
   same_filesystems list h =
       map_each OnOwn (λ l. (mount_at one l).filesystem) (λ l. (mount_at other l).filesystem) list
       (λ l own. ap (λ (m : Mount ℕ). m.filesystem) (alike.mount l own)) h
 
-  one_each : (here : Location ℕ) → Own here.mount → (list : List (Location ℕ)) → Each OnOwn list
+  pub one_each : (here : Location ℕ) → Own here.mount → (list : List (Location ℕ)) → Each OnOwn list
       → Each OnOwn (here ∷ list)
   one_each here own list h l m = ⊎_elim (λ e. subst OnOwn (sym e) own) (λ n. h l n) m
 
-  none_each : Each OnOwn []
+  pub none_each : Each OnOwn []
   none_each l m = absurd m
 
-  both_each : (xs ys : List (Location ℕ)) → Each OnOwn xs → Each OnOwn ys → Each OnOwn (xs ++ ys)
+  pub both_each : (xs ys : List (Location ℕ)) → Each OnOwn xs → Each OnOwn ys → Each OnOwn (xs ++ ys)
   both_each xs ys h k l m = ⊎_elim (h l) (k l) (among-append xs ys l m)
 
   entered_each : (here : Location ℕ) → Own here.mount → Each OnOwn (entered_upward nat_eq one task here)
@@ -172,7 +172,7 @@ module _ (one other : Looks ℕ) (task : Task ℕ) (Own : ℕ → Type 0) (alike
       ∙ ap (cond (is_top nat_eq other task here) [])
       (alike.over (parent_location nat_eq one here) own ∙ ap other.mounts_over (same_parent here own))
 
-  over_by : (here : Location ℕ) → Own here.mount → (o : Option ℕ)
+  pub over_by : (here : Location ℕ) → Own here.mount → (o : Option ℕ)
       → (flat_map one.mounts_over (option_to_list (option_map (λ object. record { mount = here.mount; node = object }) o))
       ≡ flat_map other.mounts_over (option_to_list (option_map (λ object. record { mount = here.mount; node = object }) o)))
       × Each OnOwn
@@ -182,7 +182,7 @@ module _ (one other : Looks ℕ) (task : Task ℕ) (Own : ℕ → Type 0) (alike
       let there : Location ℕ = record { mount = here.mount; node = object } in
       (ap (λ l. l ++ []) (alike.over there own), both_each (one.mounts_over there) [] (alike.entered there own) none_each)
 
-  same_met : (here : Location ℕ) → Own here.mount → (word : LastWord)
+  pub same_met : (here : Location ℕ) → Own here.mount → (word : LastWord)
       → met_by nat_eq one task here word ≡ met_by nat_eq other task here word
   same_met here own NoWord = same_filesystems (here ∷ []) (one_each here own [] none_each)
   same_met here own Dot = same_filesystems (here ∷ []) (one_each here own [] none_each)
@@ -213,7 +213,7 @@ module _ (one other : Looks ℕ) (task : Task ℕ) (Own : ℕ → Type 0) (alike
   word_own left steps ((true, rule) ∷ rules) found own = tt
   word_own left steps ((false, rule) ∷ rules) found own = word_own left steps rules found own
 
-  word_agrees : (here : Here ℕ) → HereOwn here → (word : LastWord)
+  pub word_agrees : (here : Here ℕ) → HereOwn here → (word : LastWord)
       → Agree HereOwn (word_walked nat_eq one task here word) (word_walked nat_eq other task here word)
   word_agrees here own word =
       let step = stepped_agrees here.location own word in (
@@ -227,7 +227,7 @@ module _ (one other : Looks ℕ) (task : Task ℕ) (Own : ℕ → Type 0) (alike
       )
 
   -- walks of texts that agree
-  abbrev FollowsAgree : Follow ℕ → Follow ℕ → Type 0
+  abbrev pub FollowsAgree : Follow ℕ → Follow ℕ → Type 0
   FollowsAgree f g =
       (directory : Location ℕ) (symlink : Here ℕ) (text : List ℕ) → Own directory.mount → HereOwn symlink
       → Agree HereOwn (f directory symlink text) (g directory symlink text)
@@ -238,7 +238,7 @@ module _ (one other : Looks ℕ) (task : Task ℕ) (Own : ℕ → Type 0) (alike
   symlink_by f g agree directory from next own None = (refl, own)
   symlink_by f g agree directory from next own (Some text) = agree directory next text from own
 
-  words_agree : (f g : Follow ℕ) → FollowsAgree f g → (here : Here ℕ) → HereOwn here → (list : List (List ℕ))
+  pub words_agree : (f g : Follow ℕ) → FollowsAgree f g → (here : Here ℕ) → HereOwn here → (list : List (List ℕ))
       → Agree HereOwn (words_walked nat_eq one task f here list) (words_walked nat_eq other task g here list)
   words_agree f g agree here own [] = (refl, own)
   words_agree f g agree here own (word ∷ prefix) =
@@ -259,7 +259,7 @@ module _ (one other : Looks ℕ) (task : Task ℕ) (Own : ℕ → Type 0) (alike
       (by.0 ∙ ap (λ n. if_symlink next (symlink_text n) (g reached.location next)) (alike.node next.location after), by.1)))
 
   -- the texts of symlinks, however deep
-  texts_agree : (depth : ℕ)
+  pub texts_agree : (depth : ℕ)
       → FollowsAgree (symlink_walked nat_eq depth one task) (symlink_walked nat_eq depth other task)
   texts_agree zero directory symlink text from own = (refl, tt)
   texts_agree (suc depth) directory symlink text from own =

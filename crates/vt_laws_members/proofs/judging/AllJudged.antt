@@ -1,0 +1,225 @@
+-- Calls of members are judged in their part as in the world.
+use Rattle.std.proofs.Common.{◌≡◌, refl, sym, ap, ◌∙◌, inr, ℕ, nat_eq, Bool, true, false, cond, true≢false, List, [], ◌∷◌, filter, find, Option, Some, None, Ok, not, length, ◌&&◌, ◌||◌, ◌+◌}
+use Rattle.std.specs.Prelude.{nat_lt, ok_or, option_map, option_to_list, ◌==◌}
+use Rattle.vt_spec.specs.declared.errors.Rule.TheVariants.{E6, K1, L1, S2, S4}
+use Rattle.vt_spec.specs.Errors.{and_then, denial, unless}
+use Rattle.vt_spec.specs.FileTree.{is_removed}
+use Rattle.vt_spec.specs.Language.Calls.{Call, TaskName, same_name}
+use Rattle.vt_spec.specs.Language.Calls.Call.{Bind, Chdir, Chmod, Chown, Chroot, Close, Drop, Exec, Exit, Fork, Lazy, LinkTo, ListMounts, Ls, Lstat, MakeWhiteout, Mkdir, MountOverlay, MountPlain, MoveMount, Opaque, OpenFile, PivotRoot, Pread, Pwrite, Read, Readlink, Remount, Rename, Rmdir, SetType, Setns, Stat, SymlinkAt, Umask, Umount, Unlink, Unshare, Write}
+use Rattle.vt_spec.specs.Language.Limits.{largest_file}
+use Rattle.vt_spec.specs.Lists.{is_among}
+use Rattle.vt_spec.specs.Machine.Filesystems.{overlay_rules}
+use Rattle.vt_spec.specs.Machine.Invariants.{IsWorld}
+use Rattle.vt_spec.specs.Machine.Judge.{Judgement, judge, pwrite_permit, setns_permit}
+use Rattle.vt_spec.specs.Machine.Locked.{is_locked, is_locked_at, of_overlay}
+use Rattle.vt_spec.specs.Machine.Looks.{Looks, looks_of}
+use Rattle.vt_spec.specs.Machine.Mounts.{Location, Mount}
+use Rattle.vt_spec.specs.Machine.Permits.{Permit}
+use Rattle.vt_spec.specs.Machine.Permits.Permit.{ToEnterNamespace, ToWritePart}
+use Rattle.vt_spec.specs.Machine.Rules.Conditions.{lacks}
+use Rattle.vt_spec.specs.Machine.Rules.Descriptors.{descriptor_numbered, pwrite_rules}
+use Rattle.vt_spec.specs.Machine.Sealed.{is_member_task, locations, members, part_of, sealed, used_filesystems}
+use Rattle.vt_spec.specs.Machine.World.{Descriptor, Filesystem, Task, World, locations_of, mount_at}
+use Rattle.vt_spec.specs.PathText.{is_empty}
+use Rattle.vt_spec.specs.Rights.{cap_sys_admin, cap_sys_chroot}
+use Rattle.vt_spec.proofs.Found.{found_among}
+use Rattle.vt_spec.proofs.Lists.{Among, among-flat_map, among-map, among_from_contains, contains_from_among}
+use Rattle.vt_spec.proofs.Worlds.{same_task_name}
+use Rattle.vt_laws_part.proofs.part.PartOfPart.{located}
+use Rattle.vt_laws_part.proofs.walks.WalksAgree.{Alike, each_from}
+use Rattle.vt_laws_members.specs.Judging.{MembersAreJudgedAlike, is_compared, is_theirs}
+use Rattle.vt_laws_members.proofs.judging.Grounds.{over_alike, same_mount, theirs_from, theirs_test}
+use Rattle.vt_laws_members.proofs.judging.Judged.{JudgesAlike, chdir_alike, chroot_alike, exec_alike, list_alike, lstat_alike, read_alike, readlink_alike, stat_alike}
+use Rattle.vt_laws_members.proofs.judging.JudgedFiles.{chmod_alike, chown_alike, hard_link_alike, mkdir_alike, opaque_alike, open_alike, symlink_alike, unlink_alike, whiteout_alike, write_alike}
+use Rattle.vt_laws_members.proofs.judging.JudgedMounts.{bind_alike, lazy_alike, plain_alike, type_alike}
+use Rattle.vt_laws_members.proofs.judging.JudgedRemoving.{rmdir_alike}
+use Rattle.vt_laws_members.proofs.judging.Locks.{locked_alike}
+use Rattle.vt_laws_members.proofs.judging.Masks.{RulesSeeAlike}
+use Rattle.vt_laws_members.proofs.judging.MountPoints.{points_alike}
+use Rattle.vt_laws_members.proofs.judging.SeenInPart.{OnTheirs, directory_theirs, filesystem_alike, located_used, members_see_alike, mount_alike, theirs_used, under_alike}
+
+-- who has a name of theirs is one of them
+called_alike : (names : List TaskName) (name : TaskName) → is_among same_name name names ≡ true → (tasks : List (Task ℕ))
+    → find (λ (task : Task ℕ). same_name name task.name) (filter (is_member_task names) tasks)
+    ≡ find (λ (task : Task ℕ). same_name name task.name) tasks
+called_alike names name theirs [] = refl
+called_alike names name theirs (task ∷ rest) =
+    by (same_name name task.name) (is_member_task names task) refl refl (called_alike names name theirs rest)
+  where
+    by : (a b : Bool) → same_name name task.name ≡ a → is_member_task names task ≡ b
+        → find (λ (t : Task ℕ). same_name name t.name) (filter (is_member_task names) rest)
+        ≡ find (λ (t : Task ℕ). same_name name t.name) rest
+        → find (λ (t : Task ℕ). same_name name t.name)
+        (cond b (task ∷ filter (is_member_task names) rest) (filter (is_member_task names) rest))
+        ≡ cond a (Some task) (find (λ (t : Task ℕ). same_name name t.name) rest)
+    by true true e f later =
+        ap (λ b. cond b (Some task) (find (λ (t : Task ℕ). same_name name t.name) (filter (is_member_task names) rest))) e
+    by true false e f later =
+        absurd (true≢false (sym theirs ∙ ap (λ n. is_among same_name n names) (same_task_name name task.name e) ∙ f))
+    by false true e f later =
+        ap (λ b. cond b (Some task) (find (λ (t : Task ℕ). same_name name t.name) (filter (is_member_task names) rest))) e
+        ∙ later
+    by false false e f later = later
+
+module _ (world : World ℕ) (names : List TaskName) (is : IsWorld nat_eq world)
+    (sealed_off : sealed nat_eq world names ≡ true) (task : Task ℕ) (member : Among task (members world names)) where
+  abbrev part : World ℕ
+  part = part_of nat_eq world names
+
+  abbrev one : Looks ℕ
+  one = looks_of nat_eq world
+
+  abbrev other : Looks ℕ
+  other = looks_of nat_eq part
+
+  abbrev own : ℕ → Bool
+  own = is_theirs world names
+
+  abbrev uses : ℕ → Bool
+  uses number = is_among nat_eq number (used_filesystems nat_eq world names)
+
+  on : (here : Location ℕ) → own here.mount ≡ true → OnTheirs world names is here
+  on here e = theirs_from world names is.mounts here.mount e
+
+  locked_here : (here : Location ℕ) → uses (mount_at nat_eq world here).filesystem ≡ true
+      → (mount_at nat_eq world here).filesystem ≡ (mount_at nat_eq part here).filesystem
+      → is_locked_at nat_eq world here ≡ is_locked_at nat_eq part here
+  locked_here here used same =
+      locked_alike world names is sealed_off (mount_at nat_eq world here).filesystem used here.node
+      ∙ ap (λ n. is_locked nat_eq part n here.node) same
+
+  rules : RulesSeeAlike one other own uses
+  rules = record {
+    mount = λ number e. sym (same_mount world names is.mounts number (theirs_from world names is.mounts number e));
+    over = λ here e. sym (over_alike world names is.mounts here (on here e));
+    node = λ here e. ap (λ (f : Filesystem ℕ). f.files.tree.node here.node) (filesystem_alike world names is here (on here e));
+    removed = λ here e. ap (λ (f : Filesystem ℕ). is_removed nat_eq f.files.tree here.node)
+        (filesystem_alike world names is here (on here e));
+    under = λ filesystem top directory used. under_alike world names is filesystem used top directory;
+    overlay = λ here e. ap (λ (f : Filesystem ℕ). f.overlay) (filesystem_alike world names is here (on here e));
+    mounter = λ here change e. ap (λ (f : Filesystem ℕ). of_overlay [] (overlay_rules nat_eq f change) f)
+        (filesystem_alike world names is here (on here e));
+    locked = λ here e. locked_here here (theirs_used world names is here (on here e))
+        (ap (λ (m : Mount ℕ). m.filesystem) (mount_alike world names is here (on here e)));
+  }
+
+  walks : Alike one other task (λ number. own number ≡ true)
+  walks =
+      let alike = members_see_alike world names task is
+      (contains_from_among (members world names) task member) in
+      record {
+        root = alike.root;
+        node = alike.node;
+        mount = alike.mount;
+        overlay = alike.overlay;
+        over = alike.over;
+        entered = λ here e. each_from own _ (alike.entered here e);
+        hops_alike = alike.hops_alike;
+        hopped = λ here e. each_from own _ (alike.hopped here e);
+        lost = alike.lost;
+      }
+
+  judges : JudgesAlike one other task own uses
+  judges = record {
+    walks = walks;
+    directory = theirs_test world names is.mounts task.directory.mount
+        (directory_theirs world names is task member);
+    rules = rules;
+    seen = λ number e. theirs_used world names is (record { mount = number; node = 0 })
+        (theirs_from world names is.mounts number e);
+  }
+
+  -- a descriptor of theirs
+  descriptor_locked : (descriptor : Descriptor ℕ) → Among descriptor task.descriptors
+      → is_locked_at nat_eq world descriptor.location ≡ is_locked_at nat_eq part descriptor.location
+  descriptor_locked descriptor m =
+      let at : Among descriptor.location (locations (members world names)) =
+      among-flat_map locations_of (members world names) task descriptor.location member
+      (inr (inr (among-map (λ (d : Descriptor ℕ). d.location) task.descriptors descriptor m))) in
+      locked_here descriptor.location (located_used world names is descriptor.location at)
+      (sym (located world names descriptor.location at))
+
+  pwrite_alike : (number offset : ℕ) (bytes : List ℕ)
+      → pwrite_permit one task number offset bytes ≡ pwrite_permit other task number offset bytes
+  unfolding pwrite_permit
+  pwrite_alike number offset bytes = by (descriptor_numbered task number) refl
+    where
+      wrote : Looks ℕ → Descriptor ℕ → Judgement ℕ
+      wrote looks descriptor =
+          unless (pwrite_rules looks descriptor.location offset bytes) (Ok (ToWritePart descriptor.location offset bytes))
+
+      of_found : Looks ℕ → Option (Descriptor ℕ) → Judgement ℕ
+      of_found looks o =
+          and_then (ok_or (find (λ (d : Descriptor ℕ). d.writes) (option_to_list o)) (denial S4)) (wrote looks)
+
+      which : (descriptor : Descriptor ℕ) → Among descriptor task.descriptors → (b : Bool)
+          → and_then (ok_or (cond b (Some descriptor) None) (denial S4)) (wrote one)
+          ≡ and_then (ok_or (cond b (Some descriptor) None) (denial S4)) (wrote other)
+      which descriptor m false = refl
+      which descriptor m true =
+          ap (λ b. unless ((not (is_empty bytes) && nat_lt largest_file (offset + length bytes), E6) ∷ (b, L1) ∷ [])
+          (Ok (ToWritePart descriptor.location offset bytes))) (descriptor_locked descriptor m)
+
+      by : (o : Option (Descriptor ℕ)) → descriptor_numbered task number ≡ o → of_found one o ≡ of_found other o
+      by None e = refl
+      by (Some descriptor) e =
+          which descriptor (found_among (λ (d : Descriptor ℕ). number == d.number) task.descriptors descriptor e)
+          descriptor.writes
+
+  setns_alike : (name : TaskName) → is_among same_name name names ≡ true
+      → setns_permit one task name ≡ setns_permit other task name
+  unfolding setns_permit
+  setns_alike name theirs =
+      ap (λ o. and_then (ok_or (option_map (λ (t : Task ℕ). t.namespace) o) (denial S2)) (λ namespace.
+      unless ((lacks task cap_sys_admin || lacks task cap_sys_chroot, K1) ∷ [])
+      (Ok (ToEnterNamespace namespace))))
+      (sym (called_alike names name theirs world.tasks))
+
+  pub judged : (overfills : Permit ℕ → Bool) (call : Call) → is_compared call ≡ true
+      → ((name : TaskName) → call ≡ Setns name → is_among same_name name names ≡ true)
+      → judge nat_eq one overfills task call ≡ judge nat_eq other overfills task call
+  judged overfills (Ls path) e t = list_alike one other task own uses judges path
+  judged overfills (Stat path) e t = stat_alike one other task own uses judges path
+  judged overfills (Lstat path) e t = lstat_alike one other task own uses judges path
+  judged overfills (Readlink path) e t = readlink_alike one other task own uses judges path
+  judged overfills (Read path) e t = read_alike one other task own uses judges path
+  judged overfills (Write path bytes) e t = write_alike one other task own uses judges path bytes
+  judged overfills (Exec path) e t = exec_alike one other task own uses judges path
+  judged overfills (Mkdir path mode) e t = mkdir_alike one other task own uses judges path mode
+  judged overfills (SymlinkAt text path) e t = symlink_alike one other task own uses judges text path
+  judged overfills (MakeWhiteout path) e t = whiteout_alike one other task own uses judges path
+  judged overfills (LinkTo old new) e t = hard_link_alike one other task own uses judges old new
+  judged overfills (Unlink path) e t = unlink_alike one other task own uses judges path
+  judged overfills (Rmdir path) e t =
+      rmdir_alike one other task own uses judges (points_alike world names is task member) path
+  judged overfills (Rename old new) e t = absurd (true≢false (sym e))
+  judged overfills (Chmod path mode) e t = chmod_alike one other task own uses judges path mode
+  judged overfills (Chown path uid gid) e t = chown_alike one other task own uses judges path uid gid
+  judged overfills (Opaque path mark) e t = opaque_alike one other task own uses judges path mark
+  judged overfills (OpenFile path access creation) e t = open_alike one other task own uses judges path access creation
+  judged overfills (Pread descriptor offset size) e t = refl
+  judged overfills (Pwrite descriptor offset bytes) e t = pwrite_alike descriptor offset bytes
+  judged overfills (Close descriptor) e t = refl
+  judged overfills (Chdir path) e t = chdir_alike one other task own uses judges path
+  judged overfills (Chroot path) e t = chroot_alike one other task own uses judges path
+  judged overfills (Umask mode) e t = refl
+  judged overfills (Drop which) e t = refl
+  judged overfills (Fork words) e t = refl
+  judged overfills Exit e t = refl
+  judged overfills Unshare e t = refl
+  judged overfills (Setns name) e t = setns_alike name (t name refl)
+  judged overfills (MountPlain path flags) e t = plain_alike one other task own uses judges overfills path flags
+  judged overfills (MountOverlay path options flags) e t = absurd (true≢false (sym e))
+  judged overfills (Bind source path recursive) e t = bind_alike one other task own uses judges overfills source path recursive
+  judged overfills (MoveMount source path) e t = absurd (true≢false (sym e))
+  judged overfills (Umount path) e t = absurd (true≢false (sym e))
+  judged overfills (Lazy path) e t = lazy_alike one other task own uses judges overfills path
+  judged overfills (Remount path flags) e t = absurd (true≢false (sym e))
+  judged overfills (SetType path word recursive) e t = type_alike one other task own uses judges overfills path word recursive
+  judged overfills (PivotRoot new put) e t = absurd (true≢false (sym e))
+  judged overfills ListMounts e t = refl
+
+pub members_are_judged_alike : MembersAreJudgedAlike
+members_are_judged_alike world names task call is compared overfills =
+    judged world names is.is is.sealed_off task (among_from_contains (members world names) task is.member) overfills call
+    compared is.among_them

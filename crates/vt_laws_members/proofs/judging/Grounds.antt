@@ -1,0 +1,290 @@
+-- Where members get: their part has these mounts as they are, and no step leads to another one.
+use Rattle.std.proofs.Common.{◌≡◌, refl, sym, ap, subst, ◌∙◌, ◌⊎◌, inl, inr, ⊎_elim, ℕ, zero, suc, nat_eq, Bool, true, false, cond, true≢false, List, [], ◌∷◌, Option, Some, None, map, find, length, not, ◌||◌, ◌&&◌, ◌≤◌, arith, is_some, eq-eqb, eqb-true}
+use Rattle.std.specs.Prelude.{option_map, pred, unwrap_or}
+use Rattle.std.specs.List.{cons_option, filter_map, list_any}
+use Rattle.std.proofs.lemmas.List.{length-map}
+use Rattle.std.proofs.lemmas.Bool.{and_from, and_parts, or_cases, or_left, or_right}
+use Rattle.std.proofs.lemmas.Option.{same_Some}
+use Rattle.vt_spec.specs.Language.Calls.{TaskName}
+use Rattle.vt_spec.specs.Lists.{chain, holds_of}
+use Rattle.vt_spec.specs.Machine.Invariants.{MountInvariants, Stands, is_nowhere_or_attached, is_private}
+use Rattle.vt_spec.specs.Machine.Mounts.{Location, Mount, child_at, mounts_over, no_mount, root_of, stands_at}
+use Rattle.vt_spec.specs.Machine.Sealed.{is_at, members, part_of, roots_and_directories}
+use Rattle.vt_spec.specs.Machine.World.{Task, World, mount_numbered}
+use Rattle.vt_spec.proofs.Found.{found_among, found_passes}
+use Rattle.vt_spec.proofs.Lists.{Among, among-filter_map, among-map, among_from_all, among_from_list_all, any_among, any_from_among, chain_ends, chain_goes_on}
+use Rattle.vt_spec.proofs.Options.{none_is_some}
+use Rattle.vt_spec.proofs.Worlds.{found_or_none, number-mount_in}
+use Rattle.vt_laws_mounts.proofs.mounts.MountsPlaces.{stands_there}
+use Rattle.vt_laws_mounts.proofs.mounts.MountsReplaced.{found_itself}
+use Rattle.vt_laws_mounts.proofs.mounts.Standing.{rank, rank_bounded, rank_child}
+use Rattle.vt_laws_letting_go.proofs.Chains.{Way, chains_alike}
+use Rattle.vt_laws_letting_go.proofs.Chains.Way.{ends, goes_on}
+use Rattle.vt_laws_worlds.proofs.worlds.Reached.{namespace_below}
+use Rattle.vt_laws_part.proofs.Kept.{length-filter_map}
+use Rattle.vt_laws_part.proofs.part.MountsOver.{IsWhole, same_over}
+use Rattle.vt_laws_part.proofs.part.PartOfPart.{is_own, keep, kept_how, kept_whole}
+use Rattle.vt_laws_part.proofs.walks.WalksAgree.{Each}
+use Rattle.vt_laws_members.specs.Judging.{is_stood_on, is_theirs}
+
+-- each step of a chain is so
+pub chain_each : {A : Type 0} (Q : A → Type 0) (next : A → Option A) → ((a b : A) → Q a → next a ≡ Some b → Q b)
+    → (n : ℕ) (a : A) → Q a → Each Q (chain n next a)
+chain_each Q next on zero a q c m = ⊎_elim (λ e. subst Q (sym e) q) (λ none. absurd none) m
+chain_each {A} Q next on (suc n) a q c m = by (next a) refl (λ b r d l. chain_each Q next on n b r d l)
+  where
+    by : (o : Option A) → next a ≡ o → ((b : A) → Q b → Each Q (chain n next b)) → Q c
+    by None e rest =
+        ⊎_elim (λ same. subst Q (sym same) q) (λ none. absurd none) (subst (Among c) (chain_ends next n a e) m)
+    by (Some b) e rest =
+        ⊎_elim (λ same. subst Q (sym same) q) (rest b (on a b q e) c) (subst (Among c) (chain_goes_on next n a b e) m)
+
+module _ (world : World ℕ) (names : List TaskName) (is : MountInvariants nat_eq world) where
+  abbrev theirs : List (Task ℕ)
+  theirs = members world names
+
+  abbrev part : World ℕ
+  part = part_of nat_eq world names
+
+  abbrev kept : Mount ℕ → Option (Mount ℕ)
+  kept = keep world names theirs
+
+  -- a mount that members get to
+  abbrev pub IsGround : Mount ℕ → Type 0
+  IsGround mount =
+      (is_own world names theirs mount ≡ true)
+      ⊎ ((mount.namespace ≡ None) × (is_at nat_eq (roots_and_directories theirs) mount ≡ true))
+
+  abbrev pub IsTheirs : ℕ → Type 0
+  IsTheirs number = (mount : Mount ℕ) × Among mount world.mounts × (mount.number ≡ number) × IsGround mount
+
+  pub numbered : (mount : Mount ℕ) → Among mount world.mounts → mount_numbered nat_eq world mount.number ≡ mount
+  numbered mount m = found_itself world.mounts is.one_number mount m
+
+  -- as a test
+  pub theirs_from : (number : ℕ) → is_theirs world names number ≡ true → IsTheirs number
+  theirs_from number e =
+      let at = any_among (λ (m : Mount ℕ). nat_eq number m.number && is_stood_on world names m) world.mounts e in
+      let both = and_parts (nat_eq number at.0.number) (is_stood_on world names at.0) at.2 in (
+        at.0,
+        at.1,
+        sym (eqb-true number at.0.number both.0),
+        ⊎_elim inl
+            (λ stood.
+            let two = and_parts (not (is_some at.0.namespace)) (is_at nat_eq (roots_and_directories theirs) at.0) stood in
+            inr (nowhere at.0.namespace two.0, two.1))
+            (or_cases (is_own world names theirs at.0)
+            (not (is_some at.0.namespace) && is_at nat_eq (roots_and_directories theirs) at.0) both.1),
+      )
+    where
+      nowhere : (o : Option ℕ) → not (is_some o) ≡ true → o ≡ None
+      nowhere None e = refl
+      nowhere (Some n) e = absurd (true≢false (sym e))
+
+  pub theirs_test : (number : ℕ) → IsTheirs number → is_theirs world names number ≡ true
+  theirs_test number (mount, m, same, ground) =
+      any_from_among (λ (m : Mount ℕ). nat_eq number m.number && is_stood_on world names m) world.mounts mount m
+      (and_from (nat_eq number mount.number) (is_stood_on world names mount) (eq-eqb number mount.number (sym same))
+      (⊎_elim
+      (λ own. or_left (is_own world names theirs mount) _ own)
+      (λ stood. or_right (is_own world names theirs mount)
+      (not (is_some mount.namespace) && is_at nat_eq (roots_and_directories theirs) mount)
+      (and_from (not (is_some mount.namespace)) (is_at nat_eq (roots_and_directories theirs) mount)
+      (ap (λ o. not (is_some o)) stood.0) stood.1))
+      ground))
+
+  ground_whole : (mount : Mount ℕ) → IsGround mount → kept mount ≡ Some mount
+  ground_whole mount ground =
+      ⊎_elim
+      (λ own. kept_whole world names theirs mount
+      (or_left (is_own world names theirs mount) (is_at nat_eq (roots_and_directories theirs) mount) own))
+      (λ stood. kept_whole world names theirs mount
+      (or_right (is_own world names theirs mount) (is_at nat_eq (roots_and_directories theirs) mount) stood.1))
+      ground
+
+  pub theirs_whole : (number : ℕ) → IsTheirs number → IsWhole world names is number
+  theirs_whole number (mount, m, same, ground) =
+      (mount, m, same, ground_whole mount ground, ⊎_elim inl (λ stood. inr stood.0) ground)
+
+  -- the part has it as it is
+  module _ (number : ℕ) (own : IsTheirs number) where
+    search : (list : List (Mount ℕ)) → ((x : Mount ℕ) → Among x list → Among x world.mounts)
+        → find (λ (m : Mount ℕ). nat_eq number m.number) (filter_map kept list)
+        ≡ find (λ (m : Mount ℕ). nat_eq number m.number) list
+    search [] all = refl
+    search (x ∷ rest) all = by (nat_eq number x.number) refl (search rest (λ y m. all y (inr m)))
+      where
+        it : nat_eq number x.number ≡ true → kept x ≡ Some x
+        it e =
+            let same : own.0 ≡ x =
+            sym (numbered own.0 own.1) ∙ ap (mount_numbered nat_eq world) (own.2 ∙ eqb-true number x.number e)
+            ∙ numbered x (all x (inl refl)) in
+            subst (λ (m : Mount ℕ). kept m ≡ Some m) same (ground_whole own.0 own.3)
+
+        skip : (o : Option (Mount ℕ)) → kept x ≡ o → nat_eq number x.number ≡ false
+            → find (λ (m : Mount ℕ). nat_eq number m.number) (cons_option o (filter_map kept rest))
+            ≡ find (λ (m : Mount ℕ). nat_eq number m.number) (filter_map kept rest)
+        skip None e f = refl
+        skip (Some y) e f =
+            ap (λ b. cond b (Some y) (find (λ (m : Mount ℕ). nat_eq number m.number) (filter_map kept rest)))
+            (ap (nat_eq number)
+            (⊎_elim (λ same. ap (λ (m : Mount ℕ). m.number) (sym same))
+            (λ stub. ap (λ (m : Mount ℕ). m.number) (sym stub.0)) (kept_how world names theirs x y e)) ∙ f)
+
+        by : (b : Bool) → nat_eq number x.number ≡ b
+            → find (λ (m : Mount ℕ). nat_eq number m.number) (filter_map kept rest)
+            ≡ find (λ (m : Mount ℕ). nat_eq number m.number) rest
+            → find (λ (m : Mount ℕ). nat_eq number m.number) (cons_option (kept x) (filter_map kept rest))
+            ≡ cond b (Some x) (find (λ (m : Mount ℕ). nat_eq number m.number) rest)
+        by true e later =
+            ap (λ o. find (λ (m : Mount ℕ). nat_eq number m.number) (cons_option o (filter_map kept rest))) (it e)
+            ∙ ap (λ b. cond b (Some x) (find (λ (m : Mount ℕ). nat_eq number m.number) (filter_map kept rest))) e
+        by false e later = skip (kept x) refl e ∙ later
+
+    pub same_mount : mount_numbered nat_eq part number ≡ mount_numbered nat_eq world number
+    same_mount = ap (λ o. unwrap_or o (no_mount number)) (search world.mounts (λ x m. m))
+
+    pub its_mount : mount_numbered nat_eq world number ≡ own.0
+    its_mount = ap (mount_numbered nat_eq world) (sym own.2) ∙ numbered own.0 own.1
+
+  nowhere_stands : (mount : Mount ℕ) (at : Location ℕ) → Among mount world.mounts → mount.namespace ≡ None
+      → mount.mount_point ≡ Some at → ⊥
+  nowhere_stands mount at m n p =
+      let test = among_from_list_all is_nowhere_or_attached world.mounts is.nowhere mount m in
+      let none : (not (is_some mount.mount_point) && is_private mount.propagation) ≡ true =
+      sym (ap (λ x. is_some x || (not (is_some mount.mount_point) && is_private mount.propagation)) n) ∙ test in
+      true≢false (sym (and_parts (not (is_some mount.mount_point)) (is_private mount.propagation) none).0
+      ∙ ap (λ x. not (is_some x)) p)
+
+  stands_itself : (mount : Mount ℕ) → Among mount world.mounts → Stands nat_eq world mount.number
+  stands_itself mount m =
+      among_from_all (λ (x : Mount ℕ). Stands nat_eq world x.number) world.mounts is.standing mount m
+
+  own_by : (a b : Mount ℕ) → a.namespace ≡ b.namespace → is_own world names theirs b ≡ true
+      → is_own world names theirs a ≡ true
+  own_by a b same own =
+      ap (holds_of (λ n. list_any (λ (task : Task ℕ). nat_eq n task.namespace) theirs)) same ∙ own
+
+  -- what stands on such a mount is theirs
+  pub child_theirs : (a : Location ℕ) (child : Mount ℕ) → IsTheirs a.mount → Among child world.mounts
+      → child.mount_point ≡ Some a → is_own world names theirs child ≡ true
+  child_theirs a child (mount, m, number, ground) there at =
+      let same : child.namespace ≡ mount.namespace =
+      sym (ap (λ (x : Mount ℕ). x.namespace) (numbered child there))
+      ∙ namespace_below world child.number a (stands_itself child there)
+      (ap (λ (x : Mount ℕ). x.mount_point) (numbered child there) ∙ at)
+      ∙ ap (λ n. (mount_numbered nat_eq world n).namespace) (sym number)
+      ∙ ap (λ (x : Mount ℕ). x.namespace) (numbered mount m) in
+      ⊎_elim (λ own. own_by child mount same own)
+      (λ stood. absurd (nowhere_stands child a there (same ∙ stood.0) at)) ground
+
+  pub entered_theirs : (a b : Location ℕ) → IsTheirs a.mount
+      → option_map root_of (child_at nat_eq world.mounts a) ≡ Some b → IsTheirs b.mount
+  entered_theirs a b own e = by (child_at nat_eq world.mounts a) refl e
+    where
+      by : (o : Option (Mount ℕ)) → child_at nat_eq world.mounts a ≡ o → option_map root_of o ≡ Some b → IsTheirs b.mount
+      by None f h = none_is_some b h
+      by (Some child) f h =
+          let m = found_among (stands_at nat_eq a) world.mounts child f in
+          let at = stands_there a child (found_passes (stands_at nat_eq a) world.mounts child f) in (
+            child,
+            m,
+            ap (λ (l : Location ℕ). l.mount) (same_Some (root_of child) b h),
+            inl (child_theirs a child own m at),
+          )
+
+  -- so is what it stands on
+  pub parent_theirs : (number : ℕ) (point : Location ℕ) → IsTheirs number
+      → (mount_numbered nat_eq world number).mount_point ≡ Some point → IsTheirs point.mount
+  parent_theirs number point (mount, m, same, ground) e =
+      let it : mount_numbered nat_eq world number ≡ mount =
+      ap (mount_numbered nat_eq world) (sym same) ∙ numbered mount m in
+      let below : mount.namespace ≡ (mount_numbered nat_eq world point.mount).namespace =
+      ap (λ (x : Mount ℕ). x.namespace) (sym it)
+      ∙ namespace_below world number point (subst (Stands nat_eq world) same (stands_itself mount m)) e in
+      ⊎_elim
+      (λ own.
+      let there : is_own world names theirs (mount_numbered nat_eq world point.mount) ≡ true =
+      own_by (mount_numbered nat_eq world point.mount) mount (sym below) own in
+      ⊎_elim
+      (λ found. (mount_numbered nat_eq world point.mount, found, number-mount_in world.mounts point.mount, inl there))
+      (λ none. absurd (true≢false (sym there ∙ ap (is_own world names theirs) none)))
+      (found_or_none world.mounts point.mount))
+      (λ stood. absurd (nowhere_stands mount point m stood.0 (ap (λ (x : Mount ℕ). x.mount_point) (sym it) ∙ e)))
+      ground
+
+  pub over_alike : (here : Location ℕ) → IsTheirs here.mount
+      → mounts_over nat_eq part.mounts here ≡ mounts_over nat_eq world.mounts here
+  over_alike here own = same_over world names is here (theirs_whole here.mount own)
+
+  pub over_theirs : (here : Location ℕ) → IsTheirs here.mount
+      → Each (λ (l : Location ℕ). IsTheirs l.mount) (mounts_over nat_eq world.mounts here)
+  over_theirs here own =
+      chain_each (λ (l : Location ℕ). IsTheirs l.mount) (λ a. option_map root_of (child_at nat_eq world.mounts a))
+      entered_theirs (length world.mounts) here own
+
+  -- Chains of mount points, upwards
+  module _ (next other : Location ℕ → Option (Location ℕ))
+      (goes : (a b : Location ℕ) → next a ≡ Some b → (mount_numbered nat_eq world a.mount).mount_point ≡ Some b)
+      (alike : (a : Location ℕ) → IsTheirs a.mount → other a ≡ next a) where
+    abbrev key_by : Option (Location ℕ) → ℕ → ℕ
+    key_by None number = 0
+    key_by (Some b) number = suc number
+
+    abbrev key : Location ℕ → ℕ
+    key a = key_by (next a) a.mount
+
+    by_key : (a b : Location ℕ) → key a ≡ key b → next a ≡ next b
+    by_key a b e = by (next a) (next b) refl refl e
+      where
+        by : (o p : Option (Location ℕ)) → next a ≡ o → next b ≡ p → key_by o a.mount ≡ key_by p b.mount → o ≡ p
+        by None None f g e = refl
+        by None (Some d) f g e = absurd (omega (arith, e))
+        by (Some c) None f g e = absurd (omega (arith, e))
+        by (Some c) (Some d) f g e =
+            sym (goes a c f) ∙ ap (λ n. (mount_numbered nat_eq world n).mount_point) (ap pred e) ∙ goes b d g
+
+    abbrev there : List ℕ
+    there = map (λ (mount : Mount ℕ). suc mount.number) part.mounts
+
+    up_theirs : (a b : Location ℕ) → IsTheirs a.mount → next a ≡ Some b → IsTheirs b.mount
+    up_theirs a b own e = parent_theirs a.mount b own (goes a b e)
+
+    abbrev deep : ℕ → ℕ
+    deep = rank world is.one_number is.standing
+
+    way : (n : ℕ) (a : Location ℕ) → IsTheirs a.mount → deep a.mount ≤ n → Way next other key there a
+    way zero a own less = by (next a) refl
+      where
+        by : (o : Option (Location ℕ)) → next a ≡ o → Way next other key there a
+        by None e = ends a e (alike a own ∙ e)
+        by (Some b) e =
+            let child = rank_child world is.one_number is.standing a.mount b (goes a b e) in
+            absurd (omega (arith, child, less))
+    way (suc n) a own less = by (next a) refl (λ b o l. way n b o l)
+      where
+        by : (o : Option (Location ℕ)) → next a ≡ o
+            → ((b : Location ℕ) → IsTheirs b.mount → deep b.mount ≤ n → Way next other key there b)
+            → Way next other key there a
+        by None e rest = ends a e (alike a own ∙ e)
+        by (Some b) e rest =
+            let child = rank_child world is.one_number is.standing a.mount b (goes a b e) in
+            goes_on a b e (alike a own ∙ e)
+            (subst (λ x. Among x there) (ap suc own.2 ∙ sym (ap (λ o. key_by o a.mount) e))
+            (among-map (λ (mount : Mount ℕ). suc mount.number) part.mounts own.0
+            (among-filter_map kept world.mounts own.0 own.0 own.1 (ground_whole own.0 own.3))))
+            (rest b (up_theirs a b own e) (omega (arith, child, less)))
+
+    pub up_alike : (here : Location ℕ) → IsTheirs here.mount
+        → chain (length part.mounts) other here ≡ chain (length world.mounts) next here
+    up_alike here own =
+        let size : length there ≡ length part.mounts =
+        length-map part.mounts (λ (mount : Mount ℕ). suc mount.number) in
+        let less : length part.mounts ≤ length world.mounts = length-filter_map kept world.mounts in
+        sym (chains_alike next other key there by_key (length world.mounts) (length part.mounts) here
+        (way (length world.mounts) here own (rank_bounded world is.one_number is.standing here.mount))
+        (omega (arith, size, less)) (omega (arith, size)))
+
+    pub up_each : (here : Location ℕ) → IsTheirs here.mount
+        → Each (λ (l : Location ℕ). IsTheirs l.mount) (chain (length world.mounts) next here)
+    up_each here own = chain_each (λ (l : Location ℕ). IsTheirs l.mount) next up_theirs (length world.mounts) here own

@@ -1,0 +1,106 @@
+-- Calls that look, and calls on tasks and open files, are judged alike: by walks that agree, and tables of rules of what
+-- is reached.
+use Rattle.std.proofs.Common.{◌≡◌, refl, ap, ℕ, nat_eq, Bool, true, List, [], ◌∷◌, Ok}
+use Rattle.vt_spec.specs.declared.errors.Rule.TheVariants.{K1}
+use Rattle.vt_spec.specs.Errors.{unless}
+use Rattle.vt_spec.specs.Machine.Judge.{chdir_permit, chroot_permit, exec_permit, list_permit, lstat_permit, read_permit, readlink_permit, stat_permit}
+use Rattle.vt_spec.specs.Machine.Looks.{Looks}
+use Rattle.vt_spec.specs.Machine.Permits.Permit.{Allowed, ToList, ToRead, ToSetDirectory, ToSetRoot, ToStat}
+use Rattle.vt_spec.specs.Machine.Rules.Conditions.{lacks}
+use Rattle.vt_spec.specs.Machine.Rules.Looking.{exec_rules, list_rules, read_rules, readlink_rules}
+use Rattle.vt_spec.specs.Machine.Rules.Tasks.{enter_rules}
+use Rattle.vt_spec.specs.Machine.Walking.{directory_walk, object_walk, symlink_walk}
+use Rattle.vt_spec.specs.Machine.World.{Task}
+use Rattle.vt_spec.specs.Rights.{cap_sys_chroot}
+use Rattle.vt_laws_part.proofs.walks.WalksAgree.{Alike}
+use Rattle.vt_laws_members.proofs.judging.Masks.{RulesSeeAlike, by_mask}
+use Rattle.vt_laws_members.proofs.judging.WalksLead.{HereAt, directory_agrees, judged_alike, object_agrees, symlink_agrees}
+
+-- all that two worlds have to show alike, where calls of the task are judged alike
+pub record JudgesAlike (one other : Looks ℕ) (task : Task ℕ) (own uses : ℕ → Bool) : Type 0 where
+  pub walks : Alike one other task (λ number. own number ≡ true)
+  pub directory : own task.directory.mount ≡ true
+  pub rules : RulesSeeAlike one other own uses
+  pub seen : (number : ℕ) → own number ≡ true → uses (one.mount number).filesystem ≡ true
+
+module _ (one other : Looks ℕ) (task : Task ℕ) (own uses : ℕ → Bool) (alike : JudgesAlike one other task own uses) where
+  abbrev On : ℕ → Type 0
+  On number = own number ≡ true
+
+  abbrev pub Stands : Rattle.vt_spec.specs.Machine.Walking.Here ℕ → Type 0
+  Stands = HereAt one other task On alike.walks alike.directory alike.rules.removed
+
+  pub list_alike : (path : List ℕ) → list_permit nat_eq one task path ≡ list_permit nat_eq other task path
+  unfolding list_permit
+  list_alike path =
+      judged_alike Stands (directory_walk nat_eq one task path) (directory_walk nat_eq other task path)
+      (λ here. unless (list_rules one task here.location) (Ok (ToList here.location)))
+      (λ here. unless (list_rules other task here.location) (Ok (ToList here.location)))
+      (directory_agrees one other task On alike.walks alike.directory alike.rules.removed path)
+      (λ here on. by_mask own uses one other alike.rules
+      (λ looks. unless (list_rules looks task here.location) (Ok (ToList here.location))) (λ looks. rw on refl))
+
+  pub stat_alike : (path : List ℕ) → stat_permit nat_eq one task path ≡ stat_permit nat_eq other task path
+  unfolding stat_permit
+  stat_alike path =
+      judged_alike Stands (object_walk nat_eq one task path) (object_walk nat_eq other task path)
+      (λ here. Ok (ToStat here.location)) (λ here. Ok (ToStat here.location))
+      (object_agrees one other task On alike.walks alike.directory alike.rules.removed path) (λ here on. refl)
+
+  pub lstat_alike : (path : List ℕ) → lstat_permit nat_eq one task path ≡ lstat_permit nat_eq other task path
+  unfolding lstat_permit
+  lstat_alike path =
+      judged_alike Stands (symlink_walk nat_eq one task path) (symlink_walk nat_eq other task path)
+      (λ here. Ok (ToStat here.location)) (λ here. Ok (ToStat here.location))
+      (symlink_agrees one other task On alike.walks alike.directory alike.rules.removed path) (λ here on. refl)
+
+  pub readlink_alike : (path : List ℕ) → readlink_permit nat_eq one task path ≡ readlink_permit nat_eq other task path
+  unfolding readlink_permit
+  readlink_alike path =
+      judged_alike Stands (symlink_walk nat_eq one task path) (symlink_walk nat_eq other task path)
+      (λ here. unless (readlink_rules one here.location) (Ok (ToRead here.location)))
+      (λ here. unless (readlink_rules other here.location) (Ok (ToRead here.location)))
+      (symlink_agrees one other task On alike.walks alike.directory alike.rules.removed path)
+      (λ here on. by_mask own uses one other alike.rules
+      (λ looks. unless (readlink_rules looks here.location) (Ok (ToRead here.location))) (λ looks. rw on refl))
+
+  pub read_alike : (path : List ℕ) → read_permit nat_eq one task path ≡ read_permit nat_eq other task path
+  unfolding read_permit
+  read_alike path =
+      judged_alike Stands (object_walk nat_eq one task path) (object_walk nat_eq other task path)
+      (λ here. unless (read_rules one task here.location) (Ok (ToRead here.location)))
+      (λ here. unless (read_rules other task here.location) (Ok (ToRead here.location)))
+      (object_agrees one other task On alike.walks alike.directory alike.rules.removed path)
+      (λ here on. by_mask own uses one other alike.rules
+      (λ looks. unless (read_rules looks task here.location) (Ok (ToRead here.location))) (λ looks. rw on refl))
+
+  pub exec_alike : (path : List ℕ) → exec_permit nat_eq one task path ≡ exec_permit nat_eq other task path
+  unfolding exec_permit
+  exec_alike path =
+      judged_alike Stands (object_walk nat_eq one task path) (object_walk nat_eq other task path)
+      (λ here. unless (exec_rules one task here.location) (Ok Allowed))
+      (λ here. unless (exec_rules other task here.location) (Ok Allowed))
+      (object_agrees one other task On alike.walks alike.directory alike.rules.removed path)
+      (λ here on. by_mask own uses one other alike.rules
+      (λ looks. unless (exec_rules looks task here.location) (Ok Allowed)) (λ looks. rw on refl))
+
+  pub chdir_alike : (path : List ℕ) → chdir_permit nat_eq one task path ≡ chdir_permit nat_eq other task path
+  unfolding chdir_permit
+  chdir_alike path =
+      judged_alike Stands (directory_walk nat_eq one task path) (directory_walk nat_eq other task path)
+      (λ here. unless (enter_rules one task here.location) (Ok (ToSetDirectory here.location)))
+      (λ here. unless (enter_rules other task here.location) (Ok (ToSetDirectory here.location)))
+      (directory_agrees one other task On alike.walks alike.directory alike.rules.removed path)
+      (λ here on. by_mask own uses one other alike.rules
+      (λ looks. unless (enter_rules looks task here.location) (Ok (ToSetDirectory here.location))) (λ looks. rw on refl))
+
+  pub chroot_alike : (path : List ℕ) → chroot_permit nat_eq one task path ≡ chroot_permit nat_eq other task path
+  unfolding chroot_permit
+  chroot_alike path =
+      ap (unless ((lacks task cap_sys_chroot, K1) ∷ []))
+      (judged_alike Stands (directory_walk nat_eq one task path) (directory_walk nat_eq other task path)
+      (λ here. unless (enter_rules one task here.location) (Ok (ToSetRoot here.location)))
+      (λ here. unless (enter_rules other task here.location) (Ok (ToSetRoot here.location)))
+      (directory_agrees one other task On alike.walks alike.directory alike.rules.removed path)
+      (λ here on. by_mask own uses one other alike.rules
+      (λ looks. unless (enter_rules looks task here.location) (Ok (ToSetRoot here.location))) (λ looks. rw on refl)))

@@ -1,0 +1,237 @@
+-- rmdir(2) and rename(2) are judged alike.
+use Rattle.std.proofs.Common.{◌≡◌, refl, sym, ap, ◌∙◌, inl, inr, ℕ, nat_eq, Bool, true, false, ◌||◌, ◌&&◌, not, List, [], ◌∷◌, ◌++◌, Option, Some, None, Ok}
+use Rattle.std.specs.Prelude.{option_to_list}
+use Rattle.std.specs.List.{list_any}
+use Rattle.vt_spec.specs.declared.errors.Rule.{Rule}
+use Rattle.vt_spec.specs.declared.errors.Rule.TheVariants.{B1, C1, C3, E2, E3, E4, E5, F1, F2, L1, O1, P1, P2}
+use Rattle.vt_spec.specs.Errors.{Rules, and_then, unless}
+use Rattle.vt_spec.specs.Lists.{holds_of}
+use Rattle.vt_spec.specs.Machine.Judge.{Judgement, rename_permit, renamed_permit, rmdir_permit}
+use Rattle.vt_spec.specs.Machine.Looks.{Looks, is_directory_at, mount_at}
+use Rattle.vt_spec.specs.Machine.Mounts.{Location, Mount}
+use Rattle.vt_spec.specs.Machine.Permits.Permit.{Allowed, ToRemoveDirectory, ToRename}
+use Rattle.vt_spec.specs.Machine.Rules.Conditions.{has_no_upper, is_kept, is_mount_point_anywhere, is_mount_point_in, is_read_only, may_not, mounter_may_not}
+use Rattle.vt_spec.specs.Machine.Rules.Removing.{changes_parent, is_nonempty, is_one_object, is_stuck, moving, object_there, old_word_rules, removing, rename_new_walk, rmdir_word_rules, same_filesystem, same_object_rules}
+use Rattle.vt_spec.specs.Machine.Walking.{Place, is_directory_there, name_of, old_leaf_walk, old_walk, walk_end}
+use Rattle.vt_spec.specs.Machine.World.{Task}
+use Rattle.vt_spec.specs.Rights.{write_right}
+use Rattle.vt_laws_members.proofs.judging.Judged.{JudgesAlike}
+use Rattle.vt_laws_members.proofs.judging.JudgedFiles.{IsFound, IsPlaced, there_own}
+use Rattle.vt_spec.specs.Tree.{is_directory_node}
+use Rattle.vt_spec.proofs.Lists.{any_from_among}
+use Rattle.vt_laws_members.proofs.judging.Masks.{by_both, by_mask, masked}
+use Rattle.vt_laws_members.proofs.judging.WalksLead.{judged_alike, old_agrees, old_leaf_agrees, rename_new_agrees, same_directory_there}
+
+-- P1, as two worlds have to show it alike
+abbrev pub PointsAlike : Looks ℕ → Looks ℕ → Task ℕ → (ℕ → Bool) → Type 0
+PointsAlike one other task own =
+    (here : Location ℕ) → own here.mount ≡ true
+    → is_mount_point_in nat_eq one task.namespace here ≡ is_mount_point_in nat_eq other task.namespace here
+
+-- P1 and O1 of rename(2): of what is not locked, mount points of other namespaces too
+pub record RenamesAlike (one other : Looks ℕ) (own : ℕ → Bool) : Type 0 where
+  pub anywhere : (here : Location ℕ) → own here.mount ≡ true → one.is_locked here ≡ false
+      → is_mount_point_anywhere one here ≡ is_mount_point_anywhere other here
+  pub lower : (here : Location ℕ) (name : List ℕ) → own here.mount ≡ true
+      → one.has_lower_directory here name ≡ other.has_lower_directory here name
+
+module _ (one other : Looks ℕ) (task : Task ℕ) (own uses : ℕ → Bool) (alike : JudgesAlike one other task own uses)
+    (same_points : PointsAlike one other task own) where
+  abbrev On : ℕ → Type 0
+  On number = own number ≡ true
+
+  abbrev IsAt : Place ℕ → Type 0
+  IsAt = IsPlaced one other task own uses alike
+
+  abbrev IsFoundAt : Option (Location ℕ) → Type 0
+  IsFoundAt = IsFound one other task own uses alike
+
+  same_asked : {R : Type 0} (asked : Looks ℕ → R)
+      → ((looks : Looks ℕ) → asked (masked own uses looks) ≡ asked looks) → asked one ≡ asked other
+  same_asked asked covered = by_mask own uses one other alike.rules asked covered
+
+  -- the rules of rmdir(2), with P1 given
+  abbrev rmdir_by : Place ℕ → Location ℕ → Bool → Looks ℕ → Judgement ℕ
+  rmdir_by place object point looks =
+      unless ((not (is_directory_at looks object), E3)
+      ∷ (is_nonempty looks object, E4)
+      ∷ (is_read_only looks place.parent, F1)
+      ∷ (has_no_upper looks place.parent, F2)
+      ∷ (looks.is_locked object || looks.is_locked place.parent, L1)
+      ∷ (point, P1)
+      ∷ (may_not looks task place.parent write_right, C1)
+      ∷ (is_kept looks task place.parent object, C3)
+      ∷ (mounter_may_not looks place.parent write_right, B1)
+      ∷ looks.mounter_rules place.parent (removing place object))
+      (Ok (ToRemoveDirectory place.parent (name_of place.last) object))
+
+  rmdir_same : (place : Place ℕ) (object : Location ℕ) → On place.parent.mount → On object.mount
+      → rmdir_by place object (is_mount_point_in nat_eq one task.namespace object) one
+      ≡ rmdir_by place object (is_mount_point_in nat_eq other task.namespace object) other
+  rmdir_same place object on there =
+      same_asked (rmdir_by place object (is_mount_point_in nat_eq one task.namespace object)) (λ looks. rw (is_read_only, there, on) refl)
+      ∙ ap (λ b. rmdir_by place object b other) (same_points object there)
+
+  pub rmdir_alike : (path : List ℕ) → rmdir_permit nat_eq one task path ≡ rmdir_permit nat_eq other task path
+  unfolding rmdir_permit
+  rmdir_alike path =
+      judged_alike IsAt (old_walk nat_eq one task path) (old_walk nat_eq other task path)
+      (λ place. unless (rmdir_word_rules place) (rmdir_by place (object_there place)
+      (is_mount_point_in nat_eq one task.namespace (object_there place)) one))
+      (λ place. unless (rmdir_word_rules place) (rmdir_by place (object_there place)
+      (is_mount_point_in nat_eq other task.namespace (object_there place)) other))
+      (old_agrees one other task On alike.walks alike.directory alike.rules.removed path)
+      (λ place at. ap (unless (rmdir_word_rules place)) (rmdir_same place (object_there place) at.0 (there_own one other task own uses alike place at)))
+
+  -- Renaming
+
+  stops : (front rest others : Rules) (rule : Rule) (r : Judgement ℕ)
+      → unless (front ++ (true, rule) ∷ rest) r ≡ unless (front ++ (true, rule) ∷ others) r
+  stops [] rest others rule r = refl
+  stops ((true, first) ∷ front) rest others rule r = refl
+  stops ((false, first) ∷ front) rest others rule r = stops front rest others rule r
+
+  abbrev rename_front : Place ℕ → Place ℕ → Location ℕ → Option (Location ℕ) → Looks ℕ → Rules
+  rename_front from to old o looks =
+      (not (is_directory_at looks old) && holds_of (is_directory_at looks) o, E2)
+      ∷ (is_directory_at looks old && holds_of (λ new. not (is_directory_at looks new)) o, E3)
+      ∷ (is_directory_at looks old && holds_of (is_nonempty looks) o, E4)
+      ∷ (
+        is_directory_at looks old && same_filesystem nat_eq looks old to.parent
+            && looks.is_under (mount_at looks old).filesystem old.node to.parent.node,
+        E5,
+      )
+      ∷ (is_read_only looks from.parent || is_read_only looks to.parent, F1)
+      ∷ (has_no_upper looks from.parent || has_no_upper looks to.parent, F2)
+      ∷ []
+
+  abbrev rename_rest : Place ℕ → Place ℕ → Location ℕ → Option (Location ℕ) → (point stuck : Bool) → Looks ℕ → Rules
+  rename_rest from to old o point stuck looks =
+      (point, P1)
+      ∷ (not (nat_eq from.parent.mount to.parent.mount), P2)
+      ∷ (may_not looks task from.parent write_right || may_not looks task to.parent write_right, C1)
+      ∷ (changes_parent nat_eq looks from to old && may_not looks task old write_right, C1)
+      ∷ (is_kept looks task from.parent old || holds_of (is_kept looks task to.parent) o, C3)
+      ∷ (stuck, O1)
+      ∷ (mounter_may_not looks from.parent write_right || mounter_may_not looks to.parent write_right, B1)
+      ∷ (changes_parent nat_eq looks from to old && mounter_may_not looks old write_right, B1)
+      ∷ looks.mounter_rules from.parent (moving from to old)
+
+  -- the rules of rename(2), with P1 and O1 given
+  abbrev rename_by : Place ℕ → Place ℕ → Location ℕ → Option (Location ℕ) → (point stuck : Bool) → Looks ℕ → Judgement ℕ
+  rename_by from to old o point stuck looks =
+      unless (rename_front from to old o looks
+      ++ (list_any looks.is_locked (from.parent ∷ to.parent ∷ old ∷ option_to_list o), L1)
+      ∷ rename_rest from to old o point stuck looks)
+      (Ok (ToRename from.parent (name_of from.last) to.parent (name_of to.last) old o))
+
+  abbrev point_by : Looks ℕ → Location ℕ → Option (Location ℕ) → Bool
+  point_by looks old o =
+      is_mount_point_anywhere looks old || holds_of (is_mount_point_in nat_eq looks task.namespace) o
+
+  module _ (renames : RenamesAlike one other own) (from to : Place ℕ) (old : Location ℕ) (on_from : On from.parent.mount) (on_to : On to.parent.mount)
+      (on_old : On old.mount) where
+    used_there : uses (other.mount old.mount).filesystem ≡ true
+    used_there = ap (λ (m : Mount ℕ). uses m.filesystem) (sym (alike.rules.mount old.mount on_old)) ∙ alike.seen old.mount on_old
+
+    covered : (o : Option (Location ℕ)) → IsFoundAt o → (point stuck : Bool) (looks : Looks ℕ)
+        → uses (looks.mount old.mount).filesystem ≡ true
+        → rename_by from to old o point stuck (masked own uses looks) ≡ rename_by from to old o point stuck looks
+    covered None found point stuck looks used = rw (is_read_only, on_from, on_to, on_old, used) refl
+    covered (Some new) found point stuck looks used =
+        let on_new : own new.mount ≡ true = found new refl in
+        rw (is_read_only, on_from, on_to, on_old, on_new, used) refl
+
+    points : (o : Option (Location ℕ)) → IsFoundAt o
+        → holds_of (is_mount_point_in nat_eq one task.namespace) o ≡ holds_of (is_mount_point_in nat_eq other task.namespace) o
+    points None found = refl
+    points (Some new) found = same_points new (found new refl)
+
+    by_lock : (o : Option (Location ℕ)) → IsFoundAt o → (stuck b : Bool) → one.is_locked old ≡ b
+        → rename_by from to old o (point_by one old o) stuck other
+        ≡ rename_by from to old o (point_by other old o) stuck other
+    by_lock o found stuck true e =
+        let lock : list_any other.is_locked (from.parent ∷ to.parent ∷ old ∷ option_to_list o) ≡ true =
+        any_from_among other.is_locked (from.parent ∷ to.parent ∷ old ∷ option_to_list o) old (inr (inr (inl refl)))
+        (sym (alike.rules.locked old on_old) ∙ e) in
+        ap (λ l. unless (rename_front from to old o other ++ (l, L1) ∷ rename_rest from to old o (point_by one old o) stuck other)
+        (Ok (ToRename from.parent (name_of from.last) to.parent (name_of to.last) old o))) lock
+        ∙ stops (rename_front from to old o other) (rename_rest from to old o (point_by one old o) stuck other)
+        (rename_rest from to old o (point_by other old o) stuck other) L1
+        (Ok (ToRename from.parent (name_of from.last) to.parent (name_of to.last) old o))
+        ∙ ap (λ l. unless (rename_front from to old o other ++ (l, L1) ∷ rename_rest from to old o (point_by other old o) stuck other)
+        (Ok (ToRename from.parent (name_of from.last) to.parent (name_of to.last) old o))) (sym lock)
+    by_lock o found stuck false e =
+        ap (λ b. rename_by from to old o (b || holds_of (is_mount_point_in nat_eq one task.namespace) o) stuck other)
+        (renames.anywhere old on_old e)
+        ∙ ap (λ b. rename_by from to old o (is_mount_point_anywhere other old || b) stuck other) (points o found)
+
+    stuck_same : is_stuck one from old ≡ is_stuck other from old
+    stuck_same =
+        ap (λ n. is_directory_node n && one.has_lower_directory from.parent (name_of from.last))
+        (alike.rules.node old on_old)
+        ∙ ap (λ b. is_directory_at other old && b) (renames.lower from.parent (name_of from.last) on_from)
+
+    rename_same : (o : Option (Location ℕ)) → IsFoundAt o
+        → rename_by from to old o (point_by one old o) (is_stuck one from old) one
+        ≡ rename_by from to old o (point_by other old o) (is_stuck other from old) other
+    rename_same o found =
+        by_both own uses one other alike.rules (rename_by from to old o (point_by one old o) (is_stuck one from old))
+        (covered o found (point_by one old o) (is_stuck one from old) one (alike.seen old.mount on_old))
+        (covered o found (point_by one old o) (is_stuck one from old) other used_there)
+        ∙ by_lock o found (is_stuck one from old) (one.is_locked old) refl
+        ∙ ap (λ b. rename_by from to old o (point_by other old o) b other) stuck_same
+
+    abbrev nothing_by : Looks ℕ → Judgement ℕ
+    nothing_by looks = unless (same_object_rules nat_eq looks from to) (Ok Allowed)
+
+    nothing_same : nothing_by one ≡ nothing_by other
+    nothing_same =
+        same_asked nothing_by
+        (λ looks. rw (is_read_only, on_from, on_to) refl)
+
+    one_object : (o : Option (Location ℕ)) → IsFoundAt o → is_one_object nat_eq one old o ≡ is_one_object nat_eq other old o
+    one_object None found = refl
+    one_object (Some new) found =
+        ap (λ (m : Mount ℕ). nat_eq m.filesystem (one.mount new.mount).filesystem && nat_eq old.node new.node)
+        (alike.rules.mount old.mount on_old)
+        ∙ ap (λ (m : Mount ℕ). nat_eq (other.mount old.mount).filesystem m.filesystem && nat_eq old.node new.node)
+        (alike.rules.mount new.mount (found new refl))
+
+    renamed_by : IsFoundAt to.object → (b : Bool)
+        → renamed_permit nat_eq b one task from to old ≡ renamed_permit nat_eq b other task from to old
+    renamed_by found true = nothing_same
+    renamed_by found false = rename_same to.object found
+
+    renamed_alike : IsFoundAt to.object
+        → renamed_permit nat_eq (is_one_object nat_eq one old to.object) one task from to old
+        ≡ renamed_permit nat_eq (is_one_object nat_eq other old to.object) other task from to old
+    renamed_alike found =
+        renamed_by found (is_one_object nat_eq one old to.object)
+        ∙ ap (λ b. renamed_permit nat_eq b other task from to old) (one_object to.object found)
+
+  abbrev to_rename : Place ℕ → Looks ℕ → Place ℕ → Judgement ℕ
+  to_rename from looks to =
+      unless (old_word_rules to)
+      (renamed_permit nat_eq (is_one_object nat_eq looks (object_there from) to.object) looks task from to
+      (object_there from))
+
+  pub rename_alike : RenamesAlike one other own → (old new : List ℕ)
+      → rename_permit nat_eq one task old new ≡ rename_permit nat_eq other task old new
+  unfolding rename_permit
+  rename_alike renames old new =
+      judged_alike IsAt (old_leaf_walk nat_eq one task old) (old_leaf_walk nat_eq other task old)
+      (λ from. unless (old_word_rules from)
+      (and_then (walk_end (rename_new_walk nat_eq one task new (is_directory_there nat_eq one from))) (to_rename from one)))
+      (λ from. unless (old_word_rules from)
+      (and_then (walk_end (rename_new_walk nat_eq other task new (is_directory_there nat_eq other from))) (to_rename from other)))
+      (old_leaf_agrees one other task On alike.walks alike.directory alike.rules.removed old)
+      (λ from at. ap (unless (old_word_rules from))
+      (judged_alike IsAt (rename_new_walk nat_eq one task new (is_directory_there nat_eq one from))
+      (rename_new_walk nat_eq other task new (is_directory_there nat_eq one from))
+      (to_rename from one) (to_rename from other)
+      (rename_new_agrees one other task On alike.walks alike.directory alike.rules.removed new (is_directory_there nat_eq one from))
+      (λ to stands. ap (unless (old_word_rules to))
+      (renamed_alike renames from to (object_there from) at.0 stands.0 (there_own one other task own uses alike from at) stands.1))
+      ∙ ap (λ b. and_then (walk_end (rename_new_walk nat_eq other task new b)) (to_rename from other))
+      (same_directory_there one other task On alike.walks alike.directory alike.rules.removed from at)))

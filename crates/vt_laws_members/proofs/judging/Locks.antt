@@ -1,0 +1,325 @@
+-- What is locked in the world is locked in the part, and the other way round.
+use Rattle.std.proofs.Common.{◌≡◌, refl, sym, ap, subst, ◌∙◌, inl, inr, ⊎_elim, ℕ, nat_eq, Bool, true, false, cond, true≢false, List, [], ◌∷◌, ◌++◌, Option, Some, None, find, is_some, ◌||◌, ◌&&◌, eq-eqb, eqb-true}
+use Rattle.std.specs.Prelude.{option_to_list, unwrap_or}
+use Rattle.std.specs.List.{list_all, list_any}
+use Rattle.std.proofs.lemmas.Bool.{and_from, and_parts, or_cases, or_left, or_right}
+use Rattle.vt_spec.specs.FileTree.{FileTree, is_under}
+use Rattle.vt_spec.specs.Language.Calls.{TaskName}
+use Rattle.vt_spec.specs.Lists.{holds_of, is_among, when}
+use Rattle.vt_spec.specs.Machine.Invariants.{IsWorld, ListsNumbers, is_there}
+use Rattle.vt_spec.specs.Machine.Locked.{counts_in_layer, is_locked, is_object_of, is_real_upper, lies_in_layer, lies_or_counts_under, live_layers, of_overlay, overlay_or, overlays}
+use Rattle.vt_spec.specs.Machine.Sealed.{all_named, is_lower_root, no_outsider_on, own_lowers, part_of, part_of_filesystem, part_of_lower, sealed, used_alone, used_filesystems, wholly_locked}
+use Rattle.vt_spec.specs.Machine.Settled.{has_layer_on, named_in}
+use Rattle.vt_spec.specs.Machine.World.{Filesystem, Layer, Overlay, World, filesystem_numbered, is_overlay, layers_of, no_filesystem}
+use Rattle.vt_spec.specs.Tree.{is_directory_node}
+use Rattle.vt_spec.specs.TreeInvariant.{IsTree}
+use Rattle.vt_spec.proofs.Found.{found_among}
+use Rattle.vt_spec.proofs.Lists.{Among, among-append_left, among-append_right, among-filter, among-filter_map, among-flat_map, among-from_filter, among-from_filter_map, among-from_flat_map, among_from_all, among_from_contains, among_from_list_all, among_numbers, any_among, any_from_among, contains_from_among}
+use Rattle.vt_spec.proofs.Truths.{same_truth}
+use Rattle.vt_spec.proofs.Worlds.{upper_real}
+use Rattle.vt_laws_layers.proofs.layers.ShownDirectories.{led_is_there}
+use Rattle.vt_laws_letting_go.proofs.sweeps.OfWorlds.{found_filesystem}
+use Rattle.vt_laws_overlays.proofs.whole.ApartPaths.{under_led}
+use Rattle.vt_laws_part.proofs.locks.LockedTrees.{named_under, root_under}
+use Rattle.vt_laws_part.proofs.part.PartOfPart.{found, shown_how}
+use Rattle.vt_laws_part.proofs.seals.ByPart.{layer_directory, lower_plain, overlay_without_others, their_overlays_are_in_the_part, used_are_free}
+
+-- an overlay with one of its layers in the filesystem
+has_layer : (number : ℕ) (merged : Filesystem ℕ) (layer : Layer ℕ) → Among layer (of_overlay [] layers_of merged)
+    → nat_eq number layer.filesystem ≡ true → has_layer_on nat_eq number merged ≡ true
+has_layer number merged layer m e = by merged.overlay m
+  where
+    by : (o : Option (Overlay ℕ)) → Among layer (overlay_or [] layers_of o)
+        → overlay_or false (λ overlay. list_any (λ layer. nat_eq number layer.filesystem) (layers_of overlay)) o ≡ true
+    by None m = absurd m
+    by (Some overlay) m = any_from_among (λ (l : Layer ℕ). nat_eq number l.filesystem) (layers_of overlay) layer m e
+
+-- what counts under a layer is an object of an overlay
+pub record Counts (world : World ℕ) (number object : ℕ) (layer : Layer ℕ) (merged : Filesystem ℕ) : Type 0 where
+  pub overlay : Overlay ℕ
+  pub upper : Layer ℕ
+  pub is : merged.overlay ≡ Some overlay
+  pub has : overlay.upper ≡ Some upper
+  pub inside : number ≡ upper.filesystem
+  pub lies : lies_in_layer nat_eq world upper.filesystem upper.directory layer ≡ true
+  pub object_of : is_object_of nat_eq number object merged overlay ≡ true
+
+counts_how : (world : World ℕ) (number object : ℕ) (layer : Layer ℕ) (merged : Filesystem ℕ)
+    → counts_in_layer nat_eq world number object layer merged ≡ true → Counts world number object layer merged
+counts_how world number object layer merged h = by merged.overlay refl h
+  where
+    by_upper : (overlay : Overlay ℕ) → merged.overlay ≡ Some overlay → (u : Option (Layer ℕ)) → overlay.upper ≡ u
+        → holds_of (λ upper. lies_in_layer nat_eq world upper.filesystem upper.directory layer) u ≡ true
+        → is_object_of nat_eq number object merged overlay ≡ true → Counts world number object layer merged
+    by_upper overlay e None f h k = absurd (true≢false (sym h))
+    by_upper overlay e (Some upper) f h k = record {
+      overlay = overlay;
+      upper = upper;
+      is = e;
+      has = f;
+      inside = eqb-true number upper.filesystem
+          (sym (ap (holds_of (λ (l : Layer ℕ). nat_eq number l.filesystem)) f)
+          ∙ (and_parts (holds_of (λ (l : Layer ℕ). nat_eq number l.filesystem) overlay.upper)
+          (list_any (is_real_upper nat_eq overlay object) merged.files.numbers) k).0);
+      lies = h;
+      object_of = k;
+    }
+
+    by : (o : Option (Overlay ℕ)) → merged.overlay ≡ o
+        → overlay_or false (λ overlay.
+        holds_of (λ upper. lies_in_layer nat_eq world upper.filesystem upper.directory layer) overlay.upper
+        && is_object_of nat_eq number object merged overlay) o ≡ true → Counts world number object layer merged
+    by None e h = absurd (true≢false (sym h))
+    by (Some overlay) e h =
+        let both = and_parts
+        (holds_of (λ upper. lies_in_layer nat_eq world upper.filesystem upper.directory layer) overlay.upper)
+        (is_object_of nat_eq number object merged overlay) h in
+        by_upper overlay e overlay.upper refl both.0 both.1
+
+-- What is locked stays so where each overlay with a layer in the filesystem is.
+module _ (a b : World ℕ) (number : ℕ)
+    (same : filesystem_numbered nat_eq b number ≡ filesystem_numbered nat_eq a number)
+    (within : (merged : Filesystem ℕ) → Among merged (overlays a) → has_layer_on nat_eq number merged ≡ true
+    → Among merged (overlays b)) where
+  lies_at : (object : ℕ) (layer : Layer ℕ) → lies_in_layer nat_eq a number object layer ≡ true
+      → lies_in_layer nat_eq b number object layer ≡ true
+  lies_at object layer h =
+      ap (λ (f : Filesystem ℕ). nat_eq number layer.filesystem && is_under nat_eq f.files layer.directory object) same ∙ h
+
+  counts_at : (object : ℕ) (layer : Layer ℕ) (merged : Filesystem ℕ) → Among merged (overlays a)
+      → counts_in_layer nat_eq a number object layer merged ≡ true
+      → Among merged (overlays b) × (counts_in_layer nat_eq b number object layer merged ≡ true)
+      × (nat_eq number layer.filesystem ≡ true)
+  counts_at object layer merged m h =
+      let c = counts_how a number object layer merged h in
+      let at_upper : Among c.upper (of_overlay [] layers_of merged) =
+      subst (λ o. Among c.upper (overlay_or [] layers_of o)) (sym c.is)
+      (among-append_left (option_to_list c.overlay.upper ++ option_to_list c.overlay.work) c.overlay.lowers c.upper
+      (among-append_left (option_to_list c.overlay.upper) (option_to_list c.overlay.work) c.upper
+      (subst (λ o. Among c.upper (option_to_list o)) (sym c.has) (inl refl)))) in
+      let lies : lies_in_layer nat_eq b c.upper.filesystem c.upper.directory layer ≡ true =
+      subst (λ n. lies_in_layer nat_eq a n c.upper.directory layer ≡ true
+      → lies_in_layer nat_eq b n c.upper.directory layer ≡ true) c.inside (lies_at c.upper.directory layer) c.lies in (
+        within merged m (has_layer number merged c.upper at_upper (eq-eqb number c.upper.filesystem c.inside)),
+        ap (overlay_or false (λ (overlay : Overlay ℕ).
+            holds_of (λ upper. lies_in_layer nat_eq b upper.filesystem upper.directory layer) overlay.upper
+            && is_object_of nat_eq number object merged overlay)) c.is
+            ∙ and_from (holds_of (λ upper. lies_in_layer nat_eq b upper.filesystem upper.directory layer) c.overlay.upper)
+            (is_object_of nat_eq number object merged c.overlay)
+            (ap (holds_of (λ upper. lies_in_layer nat_eq b upper.filesystem upper.directory layer)) c.has ∙ lies)
+            c.object_of,
+        subst (λ n. nat_eq n layer.filesystem ≡ true) (sym c.inside)
+            (and_parts (nat_eq c.upper.filesystem layer.filesystem)
+            (is_under nat_eq (filesystem_numbered nat_eq a c.upper.filesystem).files layer.directory c.upper.directory)
+            c.lies).0,
+      )
+
+  under_at : (object : ℕ) (layer : Layer ℕ) → lies_or_counts_under nat_eq a number object layer ≡ true
+      → (lies_or_counts_under nat_eq b number object layer ≡ true) × (nat_eq number layer.filesystem ≡ true)
+  under_at object layer h =
+      ⊎_elim
+      (λ lies. (
+        or_left (lies_in_layer nat_eq b number object layer) _ (lies_at object layer lies),
+        (and_parts (nat_eq number layer.filesystem)
+            (is_under nat_eq (filesystem_numbered nat_eq a number).files layer.directory object) lies).0,
+      ))
+      (λ counts.
+      let at = any_among (counts_in_layer nat_eq a number object layer) (overlays a) counts in
+      let there = counts_at object layer at.0 at.1 at.2 in (
+        or_right (lies_in_layer nat_eq b number object layer)
+            (list_any (counts_in_layer nat_eq b number object layer) (overlays b))
+            (any_from_among (counts_in_layer nat_eq b number object layer) (overlays b) at.0 there.0 there.1),
+        there.2,
+      ))
+      (or_cases (lies_in_layer nat_eq a number object layer)
+      (list_any (counts_in_layer nat_eq a number object layer) (overlays a)) h)
+
+  pub locked_at : (object : ℕ) → is_locked nat_eq a number object ≡ true → is_locked nat_eq b number object ≡ true
+  locked_at object h =
+      let at = any_among (lies_or_counts_under nat_eq a number object) (live_layers a) h in
+      let from = among-from_flat_map (of_overlay [] layers_of) (overlays a) at.0 at.1 in
+      let under = under_at object at.0 at.2 in
+      any_from_among (lies_or_counts_under nat_eq b number object) (live_layers b) at.0
+      (among-flat_map (of_overlay [] layers_of) (overlays b) from.0 at.0
+      (within from.0 from.1 (has_layer number from.0 at.0 from.2 under.1)) from.2)
+      under.0
+
+-- In a world, and in the part of a sealed set
+module _ (world : World ℕ) (names : List TaskName) (is : IsWorld nat_eq world)
+    (sealed_off : sealed nat_eq world names ≡ true) where
+  abbrev part : World ℕ
+  part = part_of nat_eq world names
+
+  used_in_part : (merged : Filesystem ℕ) → Among merged (overlays world)
+      → is_among nat_eq merged.number (used_filesystems nat_eq world names) ≡ true → Among merged (overlays part)
+  used_in_part merged m used =
+      let from = among-from_filter is_overlay world.filesystems merged m in
+      among-filter is_overlay part.filesystems merged
+      (among-filter_map (part_of_filesystem nat_eq world names) world.filesystems merged merged from.0
+      (ap (λ b. cond b (Some merged) (when (list_any (λ layer. nat_eq merged.number layer.filesystem)
+      (own_lowers nat_eq world names)) (part_of_lower nat_eq world names merged))) used))
+      from.1
+
+  -- overlays with a layer in what they use alone are theirs
+  alone_in_part : (number : ℕ) → used_alone nat_eq world names number ≡ true → (merged : Filesystem ℕ)
+      → Among merged (overlays world) → has_layer_on nat_eq number merged ≡ true → Among merged (overlays part)
+  alone_in_part number alone merged m has =
+      let each = among_from_list_all
+      (λ (f : Filesystem ℕ). Rattle.std.proofs.Common.not (has_layer_on nat_eq number f)
+      || no_outsider_on nat_eq world names f.number) (overlays world)
+      (and_parts (no_outsider_on nat_eq world names number) (list_all
+      (λ (f : Filesystem ℕ). Rattle.std.proofs.Common.not (has_layer_on nat_eq number f)
+      || no_outsider_on nat_eq world names f.number) (overlays world)) alone).1 merged m in
+      let free : no_outsider_on nat_eq world names merged.number ≡ true =
+      sym (ap (λ b. Rattle.std.proofs.Common.not b || no_outsider_on nat_eq world names merged.number) has) ∙ each in
+      used_in_part merged m (overlay_without_others world names is merged m free)
+
+  -- an overlay of the part is one of the world
+  pub part_in_world : (merged : Filesystem ℕ) → Among merged (overlays part) → Among merged (overlays world)
+  part_in_world merged m =
+      let from = among-from_filter is_overlay part.filesystems merged m in
+      let kept = among-from_filter_map (part_of_filesystem nat_eq world names) world.filesystems merged from.0 in
+      among-filter is_overlay world.filesystems merged
+      (⊎_elim
+      (λ whole. subst (λ f. Among f world.filesystems) whole.0 kept.1)
+      (λ lower. absurd (true≢false (sym from.1 ∙ ap is_overlay (sym lower.0)
+      ∙ ap is_overlay (sym (found_filesystem world.filesystems is.files.one_filesystem kept.0 kept.1))
+      ∙ lower_plain world names is kept.0.number lower.2)))
+      (shown_how world names kept.0 merged kept.2))
+      from.1
+
+  abbrev files_of : ℕ → FileTree ℕ
+  files_of number = (filesystem_numbered nat_eq world number).files
+
+  -- a filesystem that has a directory is there
+  pub tree_there : (number directory : ℕ) → is_directory_node ((files_of number).tree.node directory) ≡ true
+      → IsTree (files_of number).tree × ListsNumbers nat_eq (files_of number)
+  tree_there number directory = by (find (λ (f : Filesystem ℕ). nat_eq number f.number) world.filesystems) refl
+    where
+      by : (o : Option (Filesystem ℕ)) → find (λ (f : Filesystem ℕ). nat_eq number f.number) world.filesystems ≡ o
+          → is_directory_node ((unwrap_or o (no_filesystem number)).files.tree.node directory) ≡ true
+          → IsTree (unwrap_or o (no_filesystem number)).files.tree
+          × ListsNumbers nat_eq (unwrap_or o (no_filesystem number)).files
+      by None e h = absurd (true≢false (sym h))
+      by (Some x) e h =
+          let m = found_among (λ (f : Filesystem ℕ). nat_eq number f.number) world.filesystems x e in (
+            among_from_all (λ (f : Filesystem ℕ). IsTree f.files.tree) world.filesystems is.files.trees x m,
+            among_from_all (λ (f : Filesystem ℕ). ListsNumbers nat_eq f.files) world.filesystems is.files.numbers x m,
+          )
+
+  lies_there : (number object : ℕ) (layer : Layer ℕ) (merged : Filesystem ℕ) → Among merged (overlays world)
+      → Among layer (of_overlay [] layers_of merged) → lies_in_layer nat_eq world number object layer ≡ true
+      → is_some ((files_of number).tree.node object) ≡ true
+  lies_there number object layer merged m at lies =
+      let both = and_parts (nat_eq number layer.filesystem)
+      (is_under nat_eq (files_of number) layer.directory object) lies in
+      let directory : is_directory_node ((files_of number).tree.node layer.directory) ≡ true =
+      subst (λ n. is_directory_node ((files_of n).tree.node layer.directory) ≡ true)
+      (sym (eqb-true number layer.filesystem both.0))
+      (layer_directory world names is merged (among-from_filter is_overlay world.filesystems merged m).0 layer at) in
+      let tree = tree_there number layer.directory directory in
+      let way = under_led (files_of number) tree.0 layer.directory object both.1 in
+      led_is_there (record { tree = (files_of number).tree; directory = layer.directory }) tree.0 directory way.0 object
+      way.1
+
+  counts_there : (number object : ℕ) (layer : Layer ℕ) (merged : Filesystem ℕ) → Among merged (overlays world)
+      → counts_in_layer nat_eq world number object layer merged ≡ true
+      → is_some ((files_of number).tree.node object) ≡ true
+  counts_there number object layer merged m h =
+      let c = counts_how world number object layer merged h in
+      let there = (among-from_filter is_overlay world.filesystems merged m).0 in
+      let real = any_among (is_real_upper nat_eq c.overlay object) merged.files.numbers
+      (and_parts (holds_of (λ (l : Layer ℕ). nat_eq number l.filesystem) c.overlay.upper)
+      (list_any (is_real_upper nat_eq c.overlay object) merged.files.numbers) c.object_of).1 in
+      let merge = is.overlays.overlays_merge merged.number c.overlay
+      (ap (λ (f : Filesystem ℕ). f.overlay) (found_filesystem world.filesystems is.files.one_filesystem merged there) ∙ c.is)
+      in
+      subst (λ n. is_some ((files_of n).tree.node object) ≡ true) (sym c.inside)
+      (sym (ap (holds_of (λ (l : Layer ℕ). is_there nat_eq world l.filesystem object)) c.has)
+      ∙ merge.upper_there real.0 object (upper_real (c.overlay.real real.0) object real.2))
+
+  -- what is locked is there
+  pub locked_there : (number object : ℕ) → is_locked nat_eq world number object ≡ true
+      → is_some ((files_of number).tree.node object) ≡ true
+  locked_there number object h =
+      let at = any_among (lies_or_counts_under nat_eq world number object) (live_layers world) h in
+      let from = among-from_flat_map (of_overlay [] layers_of) (overlays world) at.0 at.1 in
+      ⊎_elim
+      (λ lies. lies_there number object at.0 from.0 from.1 from.2 lies)
+      (λ counts.
+      let by = any_among (counts_in_layer nat_eq world number object at.0) (overlays world) counts in
+      counts_there number object at.0 by.0 by.1 by.2)
+      (or_cases (lies_in_layer nat_eq world number object at.0)
+      (list_any (counts_in_layer nat_eq world number object at.0) (overlays world)) at.2)
+
+  lower_layer : (number root : ℕ) (merged : Filesystem ℕ) → is_lower_root nat_eq number root merged ≡ true
+      → (layer : Layer ℕ) × Among layer (of_overlay [] layers_of merged)
+      × (number ≡ layer.filesystem) × (root ≡ layer.directory)
+  lower_layer number root merged h = by merged.overlay h
+    where
+      by : (o : Option (Overlay ℕ))
+          → overlay_or false (λ (overlay : Overlay ℕ). list_any (λ (layer : Layer ℕ). nat_eq number layer.filesystem
+          && nat_eq root layer.directory) overlay.lowers) o ≡ true
+          → (layer : Layer ℕ) × Among layer (overlay_or [] layers_of o)
+          × (number ≡ layer.filesystem) × (root ≡ layer.directory)
+      by None h = absurd (true≢false (sym h))
+      by (Some overlay) h =
+          let at = any_among (λ (layer : Layer ℕ). nat_eq number layer.filesystem && nat_eq root layer.directory)
+          overlay.lowers h in
+          let both = and_parts (nat_eq number at.0.filesystem) (nat_eq root at.0.directory) at.2 in (
+            at.0,
+            among-append_right (option_to_list overlay.upper ++ option_to_list overlay.work) overlay.lowers at.0 at.1,
+            eqb-true number at.0.filesystem both.0,
+            eqb-true root at.0.directory both.1,
+          )
+
+  -- what is wholly locked is locked in the part
+  wholly_in_part : (number object : ℕ) → is_among nat_eq number (used_filesystems nat_eq world names) ≡ true
+      → wholly_locked nat_eq world names number ≡ true → is_some ((files_of number).tree.node object) ≡ true
+      → is_locked nat_eq part number object ≡ true
+  wholly_in_part number object used whole there =
+      let both = and_parts
+      (list_any (λ merged. is_lower_root nat_eq number (files_of number).tree.root merged
+      && used_alone nat_eq world names merged.number) (overlays world)) (all_named nat_eq (files_of number)) whole in
+      let at = any_among (λ (merged : Filesystem ℕ). is_lower_root nat_eq number (files_of number).tree.root merged
+      && used_alone nat_eq world names merged.number) (overlays world) both.0 in
+      let two = and_parts (is_lower_root nat_eq number (files_of number).tree.root at.0)
+      (used_alone nat_eq world names at.0.number) at.2 in
+      let layer = lower_layer number (files_of number).tree.root at.0 two.0 in
+      let directory : is_directory_node ((files_of number).tree.node (files_of number).tree.root) ≡ true =
+      subst (λ n. is_directory_node ((files_of n).tree.node (files_of number).tree.root) ≡ true) (sym layer.2)
+      (subst (λ d. is_directory_node ((files_of layer.0.filesystem).tree.node d) ≡ true) (sym layer.3)
+      (layer_directory world names is at.0 (among-from_filter is_overlay world.filesystems at.0 at.1).0 layer.0 layer.1)) in
+      let tree = tree_there number (files_of number).tree.root directory in
+      let named = among_from_list_all (λ n. nat_eq n (files_of number).tree.root || is_among nat_eq n (named_in (files_of number)))
+      (files_of number).numbers both.1 object (among_numbers (files_of number).numbers object (tree.1 object ∙ there)) in
+      let under : is_under nat_eq (files_of number) (files_of number).tree.root object ≡ true =
+      ⊎_elim
+      (λ root. subst (λ o. is_under nat_eq (files_of number) (files_of number).tree.root o ≡ true)
+      (sym (eqb-true object (files_of number).tree.root root)) (root_under (files_of number) tree.0 tree.1))
+      (λ name. named_under (files_of number) tree.0 tree.1 object (among_numbers (named_in (files_of number)) object name))
+      (or_cases (nat_eq object (files_of number).tree.root) (is_among nat_eq object (named_in (files_of number))) named) in
+      let in_part : Among at.0 (overlays part) =
+      among_from_contains (overlays part) at.0
+      (their_overlays_are_in_the_part world names at.0 is (contains_from_among (overlays world) at.0 at.1) two.1) in
+      any_from_among (lies_or_counts_under nat_eq part number object) (live_layers part) layer.0
+      (among-flat_map (of_overlay [] layers_of) (overlays part) at.0 layer.0 in_part layer.1)
+      (or_left (lies_in_layer nat_eq part number object layer.0) _
+      (and_from (nat_eq number layer.0.filesystem)
+      (is_under nat_eq (filesystem_numbered nat_eq part number).files layer.0.directory object)
+      (eq-eqb number layer.0.filesystem layer.2)
+      (ap (λ (f : Filesystem ℕ). is_under nat_eq f.files layer.0.directory object) (found world names number used)
+      ∙ subst (λ d. is_under nat_eq (files_of number) d object ≡ true) layer.3 under)))
+
+  pub locked_alike : (number : ℕ) → is_among nat_eq number (used_filesystems nat_eq world names) ≡ true → (object : ℕ)
+      → is_locked nat_eq world number object ≡ is_locked nat_eq part number object
+  locked_alike number used object =
+      same_truth (is_locked nat_eq world number object) (is_locked nat_eq part number object)
+      (λ h. ⊎_elim
+      (λ alone. locked_at world part number (found world names number used) (alone_in_part number alone) object h)
+      (λ whole. wholly_in_part number object used whole (locked_there number object h))
+      (or_cases (used_alone nat_eq world names number) (wholly_locked nat_eq world names number)
+      (used_are_free world names sealed_off number
+      (among_numbers (used_filesystems nat_eq world names) number used))))
+      (λ h. locked_at part world number (sym (found world names number used)) (λ merged m has. part_in_world merged m)
+      object h)

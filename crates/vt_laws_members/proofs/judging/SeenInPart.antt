@@ -1,0 +1,205 @@
+-- What members see on the mounts that they get to is what their part shows.
+use Rattle.std.proofs.Common.{◌≡◌, refl, sym, ap, subst, ◌∙◌, inl, inr, ⊎_elim, ℕ, nat_eq, Bool, true, false, cond, List, [], ◌∷◌, Option, Some, None, map, not, ◌||◌, ◌&&◌, eq-eqb, eqb-true}
+use Rattle.std.specs.Prelude.{option_to_list}
+use Rattle.std.specs.List.{list_all, list_any}
+use Rattle.std.proofs.lemmas.Bool.{and_parts}
+use Rattle.vt_spec.specs.Language.Calls.{TaskName}
+use Rattle.vt_spec.specs.FileTree.{is_directory_under, is_removed}
+use Rattle.vt_spec.specs.Lists.{chain, is_among}
+use Rattle.vt_spec.specs.Machine.Invariants.{IsWorld, is_directory_seen_in, is_located_well, is_there, stands_on_directories}
+use Rattle.vt_spec.specs.Machine.Looks.{looks_of}
+use Rattle.vt_spec.specs.Machine.Mounts.{Location, Mount, same_location}
+use Rattle.vt_spec.specs.Machine.Sealed.{is_at, is_member_task, is_own_mount, locations, members, own_mounts, part_of, roots_and_directories, used_filesystems}
+use Rattle.vt_spec.specs.Machine.Walking.{hop, hops}
+use Rattle.vt_spec.specs.Machine.World.{Filesystem, Task, World, all_locations, filesystem_at, filesystem_numbered, is_directory_at, locations_of, mount_at, mount_numbered}
+use Rattle.vt_spec.proofs.Lists.{Among, among-append_left, among-append_right, among-filter, among-flat_map, among-from_filter, among-from_flat_map, among-from_map, among-map, among_from_contains, among_from_list_all, any_among, any_from_among}
+use Rattle.vt_spec.proofs.Options.{none_is_some}
+use Rattle.vt_laws_part.specs.Walks.{AreOn}
+use Rattle.vt_laws_part.proofs.part.PartOfPart.{found, used_directly_used}
+use Rattle.vt_laws_part.proofs.walks.WalksAgree.{Each}
+use Rattle.vt_laws_members.specs.Judging.{MembersSeeAlike, is_theirs}
+use Rattle.vt_laws_members.proofs.judging.Grounds.{IsGround, IsTheirs, its_mount, numbered, over_alike, over_theirs, same_mount, theirs_from, theirs_test, up_alike, up_each}
+
+module _ (world : World ℕ) (names : List TaskName) (is : IsWorld nat_eq world) where
+  abbrev theirs : List (Task ℕ)
+  theirs = members world names
+
+  abbrev part : World ℕ
+  part = part_of nat_eq world names
+
+  abbrev pub OnTheirs : Location ℕ → Type 0
+  OnTheirs here = IsTheirs world names is.mounts here.mount
+
+  abbrev uses : ℕ → Bool
+  uses number = is_among nat_eq number (used_filesystems nat_eq world names)
+
+  -- roots and working directories are locations
+  located : (l : Location ℕ) → Among l (roots_and_directories theirs) → Among l (locations theirs)
+  located l m =
+      let task = among-from_flat_map (λ (t : Task ℕ). t.root ∷ t.directory ∷ []) theirs l m in
+      among-flat_map locations_of theirs task.0 l task.1
+      (⊎_elim (λ root. inl root) (λ rest. ⊎_elim (λ directory. inr (inl directory)) (λ none. absurd none) rest) task.2)
+
+  -- the filesystem of a location that they use is used
+  pub located_used : (l : Location ℕ) → Among l (locations theirs) → uses (mount_at nat_eq world l).filesystem ≡ true
+  located_used l m =
+      used_directly_used world names (mount_at nat_eq world l).filesystem
+      (among-append_right (map (λ (mount : Mount ℕ). mount.filesystem) (own_mounts nat_eq world names))
+      (map (λ location. (mount_at nat_eq world location).filesystem) (locations theirs)) (mount_at nat_eq world l).filesystem
+      (among-map (λ location. (mount_at nat_eq world location).filesystem) (locations theirs) l m))
+
+  ground_used : (mount : Mount ℕ) → Among mount world.mounts → IsGround world names is.mounts mount
+      → uses mount.filesystem ≡ true
+  ground_used mount m ground =
+      ⊎_elim
+      (λ own. used_directly_used world names mount.filesystem
+      (among-append_left (map (λ (mount : Mount ℕ). mount.filesystem) (own_mounts nat_eq world names))
+      (map (λ location. (mount_at nat_eq world location).filesystem) (locations theirs)) mount.filesystem
+      (among-map (λ (mount : Mount ℕ). mount.filesystem) (own_mounts nat_eq world names) mount
+      (among-filter (is_own_mount nat_eq world names) world.mounts mount m own))))
+      (λ stood.
+      let at = any_among (λ (l : Location ℕ). nat_eq l.mount mount.number) (roots_and_directories theirs) stood.1 in
+      let it : mount_at nat_eq world at.0 ≡ mount =
+      ap (mount_numbered nat_eq world) (eqb-true at.0.mount mount.number at.2) ∙ numbered world names is.mounts mount m in
+      subst (λ (x : Mount ℕ). uses x.filesystem ≡ true) it (located_used at.0 (located at.0 at.1)))
+      ground
+
+  pub theirs_used : (here : Location ℕ) → OnTheirs here → uses (mount_at nat_eq world here).filesystem ≡ true
+  theirs_used here own =
+      ap (λ (x : Mount ℕ). uses x.filesystem) (its_mount world names is.mounts here.mount own)
+      ∙ ground_used own.0 own.1 own.3
+
+  pub mount_alike : (here : Location ℕ) → OnTheirs here → mount_at nat_eq world here ≡ mount_at nat_eq part here
+  mount_alike here own = sym (same_mount world names is.mounts here.mount own)
+
+  pub filesystem_alike : (here : Location ℕ) → OnTheirs here
+      → filesystem_at nat_eq world here ≡ filesystem_at nat_eq part here
+  filesystem_alike here own =
+      sym (found world names (mount_at nat_eq world here).filesystem (theirs_used here own))
+      ∙ ap (λ (m : Mount ℕ). filesystem_numbered nat_eq part m.filesystem) (mount_alike here own)
+
+  pub under_alike : (number : ℕ) → uses number ≡ true → (top directory : ℕ)
+      → is_directory_under nat_eq (filesystem_numbered nat_eq world number).files top directory
+      ≡ is_directory_under nat_eq (filesystem_numbered nat_eq part number).files top directory
+  under_alike number used top directory =
+      ap (λ (f : Filesystem ℕ). is_directory_under nat_eq f.files top directory) (sym (found world names number used))
+
+  lost_alike : (here : Location ℕ) → OnTheirs here
+      → Rattle.vt_spec.specs.Machine.Walking.is_lost nat_eq (looks_of nat_eq world) here
+      ≡ Rattle.vt_spec.specs.Machine.Walking.is_lost nat_eq (looks_of nat_eq part) here
+  lost_alike here own =
+      ap (λ (f : Filesystem ℕ). is_removed nat_eq f.files.tree here.node
+      || not (is_directory_under nat_eq f.files (mount_at nat_eq world here).root here.node)) (filesystem_alike here own)
+      ∙ ap (λ (m : Mount ℕ). is_removed nat_eq (filesystem_at nat_eq part here).files.tree here.node
+      || not (is_directory_under nat_eq (filesystem_at nat_eq part here).files m.root here.node)) (mount_alike here own)
+
+  module _ (task : Task ℕ) (member : Among task theirs) where
+    task_there : Among task world.tasks
+    task_there = (among-from_filter (is_member_task names) world.tasks task member).0
+
+    seen : (l : Location ℕ) → is_directory_seen_in nat_eq world task.namespace l ≡ true
+        → Among l (locations_of task) → Among l (roots_and_directories theirs) → OnTheirs l
+    seen l test m at =
+        let well = and_parts (is_among nat_eq l.mount (map (λ (x : Mount ℕ). x.number) world.mounts))
+        (is_there nat_eq world (mount_at nat_eq world l).filesystem l.node)
+        (among_from_list_all (is_located_well nat_eq world) (all_locations world) is.tasks.locations_live l
+        (among-flat_map locations_of world.tasks task l task_there m)) in
+        let number = any_among (nat_eq l.mount) (map (λ (x : Mount ℕ). x.number) world.mounts) well.0 in
+        let from = among-from_map (λ (x : Mount ℕ). x.number) world.mounts number.0 number.1 in
+        let same : from.0.number ≡ l.mount = sym (eqb-true l.mount number.0 number.2 ∙ from.2) in
+        let it : mount_at nat_eq world l ≡ from.0 =
+        ap (mount_numbered nat_eq world) (sym same) ∙ numbered world names is.mounts from.0 from.1 in (
+          from.0,
+          from.1,
+          same,
+          by from.0 from.0.namespace refl
+              (subst (λ (x : Mount ℕ). list_all (nat_eq task.namespace) (option_to_list x.namespace) ≡ true) it
+              (and_parts (is_directory_at nat_eq world l)
+              (list_all (nat_eq task.namespace) (option_to_list (mount_at nat_eq world l).namespace)) test).1)
+              (any_from_among (λ (k : Location ℕ). nat_eq k.mount from.0.number) (roots_and_directories theirs) l at
+              (eq-eqb l.mount from.0.number (sym same))),
+        )
+      where
+        by : (mount : Mount ℕ) (o : Option ℕ) → mount.namespace ≡ o
+            → list_all (nat_eq task.namespace) (option_to_list mount.namespace) ≡ true
+            → is_at nat_eq (roots_and_directories theirs) mount ≡ true → IsGround world names is.mounts mount
+        by mount None e h stood = inr (e, stood)
+        by mount (Some n) e h stood =
+            let in_it : (nat_eq task.namespace n && true) ≡ true =
+            sym (ap (λ o. list_all (nat_eq task.namespace) (option_to_list o)) e) ∙ h in
+            let same : task.namespace ≡ n = eqb-true task.namespace n (and_parts (nat_eq task.namespace n) true in_it).0 in
+            inl (ap (Rattle.vt_spec.specs.Lists.holds_of
+            (λ k. list_any (λ (t : Task ℕ). nat_eq k t.namespace) theirs)) e
+            ∙ any_from_among (λ (t : Task ℕ). nat_eq n t.namespace) theirs task member (eq-eqb n task.namespace (sym same)))
+
+    stood : (is_directory_seen_in nat_eq world task.namespace task.root ≡ true)
+        × (is_directory_seen_in nat_eq world task.namespace task.directory ≡ true)
+    stood =
+        and_parts (is_directory_seen_in nat_eq world task.namespace task.root)
+        (is_directory_seen_in nat_eq world task.namespace task.directory)
+        (among_from_list_all (stands_on_directories nat_eq world) world.tasks is.tasks.directories task task_there)
+
+    pub root_theirs : OnTheirs task.root
+    root_theirs =
+        seen task.root stood.0 (inl refl)
+        (among-flat_map (λ (t : Task ℕ). t.root ∷ t.directory ∷ []) theirs task task.root member (inl refl))
+
+    pub directory_theirs : OnTheirs task.directory
+    directory_theirs =
+        seen task.directory stood.1 (inr (inl refl))
+        (among-flat_map (λ (t : Task ℕ). t.root ∷ t.directory ∷ []) theirs task task.directory member (inr (inl refl)))
+
+    -- `..` from the root of a mount
+    hop_by : Location ℕ → Mount ℕ → Option (Location ℕ)
+    hop_by a mount = cond (same_location nat_eq a task.root) None (cond (nat_eq a.node mount.root) mount.mount_point None)
+
+    hop_goes : (a b : Location ℕ) → hop nat_eq (looks_of nat_eq world) task a ≡ Some b
+        → (mount_numbered nat_eq world a.mount).mount_point ≡ Some b
+    hop_goes a b e = by (same_location nat_eq a task.root) (nat_eq a.node (mount_at nat_eq world a).root) e
+      where
+        by : (p q : Bool) → cond p None (cond q (mount_at nat_eq world a).mount_point None) ≡ Some b
+            → (mount_at nat_eq world a).mount_point ≡ Some b
+        by true q h = none_is_some b h
+        by false true h = h
+        by false false h = none_is_some b h
+
+    hop_alike : (a : Location ℕ) → OnTheirs a
+        → hop nat_eq (looks_of nat_eq part) task a ≡ hop nat_eq (looks_of nat_eq world) task a
+    hop_alike a own =
+        ap (λ (m : Mount ℕ). cond (same_location nat_eq a task.root) None (cond (nat_eq a.node m.root) m.mount_point None))
+        (sym (mount_alike a own))
+
+    hops_each : (here : Location ℕ) → OnTheirs here
+        → Each (λ (l : Location ℕ). OnTheirs l) (hops nat_eq (looks_of nat_eq world) task here)
+    hops_each here own =
+        up_each world names is.mounts (hop nat_eq (looks_of nat_eq world) task) (hop nat_eq (looks_of nat_eq part) task)
+        hop_goes hop_alike here own
+
+    hops_alike : (here : Location ℕ) → OnTheirs here
+        → hops nat_eq (looks_of nat_eq world) task here ≡ hops nat_eq (looks_of nat_eq part) task here
+    hops_alike here own =
+        sym (up_alike world names is.mounts (hop nat_eq (looks_of nat_eq world) task)
+        (hop nat_eq (looks_of nat_eq part) task) hop_goes hop_alike here own)
+
+  on_from : (here : Location ℕ) → is_theirs world names here.mount ≡ true → OnTheirs here
+  on_from here e = theirs_from world names is.mounts here.mount e
+
+  are_on : (list : List (Location ℕ)) → Each (λ (l : Location ℕ). OnTheirs l) list → AreOn (is_theirs world names) list
+  are_on list each l m = theirs_test world names is.mounts l.mount (each l (among_from_contains list l m))
+
+pub members_see_alike : MembersSeeAlike
+members_see_alike world names task is member =
+    let among = among_from_contains (members world names) task member in
+    record {
+      root = theirs_test world names is.mounts task.root.mount (root_theirs world names is task among);
+      node = λ here e. ap (λ (f : Filesystem ℕ). f.files.tree.node here.node)
+          (filesystem_alike world names is here (on_from world names is here e));
+      mount = λ here e. mount_alike world names is here (on_from world names is here e);
+      overlay = λ here e. ap (λ (f : Filesystem ℕ). f.overlay)
+          (filesystem_alike world names is here (on_from world names is here e));
+      over = λ here e. sym (over_alike world names is.mounts here (on_from world names is here e));
+      entered = λ here e. are_on world names is _ (over_theirs world names is.mounts here (on_from world names is here e));
+      hops_alike = λ here e. hops_alike world names is task among here (on_from world names is here e);
+      hopped = λ here e. are_on world names is _ (hops_each world names is task among here (on_from world names is here e));
+      lost = λ here e. lost_alike world names is here (on_from world names is here e);
+    }

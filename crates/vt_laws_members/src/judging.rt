@@ -1,0 +1,14 @@
+//! How calls of members are judged in the part of their set.
+ghost use Rattle.vt_laws_members.specs.Judging.{MembersAreJudgedAlike, MembersSeeAlike};
+
+/// In a world with all invariants, the part of a set of tasks shows to each of them what the world shows, on each mount
+/// that a walk of one gets to: a mount of their namespaces, or a detached one with a root or working directory of
+/// theirs on it (`seen`). Walks, from there on, lead alike.
+///
+/// So a call of a task of a sealed set is granted or refused in its part as in the world, by the same rule and with the
+/// same permit (`judged`): of all calls but `rename`, and of mount calls those that make a mount of a new tree, bind,
+/// unmount lazily or set a type. What the set has wholly locked is locked in its part, too.
+pub fn a_call_of_theirs_is_judged_by_their_part()
+    ensures seen { MembersSeeAlike }
+    ensures judged { MembersAreJudgedAlike }
+{}
