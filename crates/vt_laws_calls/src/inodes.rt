@@ -1,38 +1,28 @@
-//! What calls leave of inodes, in worlds without overlays.
+//! What calls leave of inodes. But for `roots` these laws are of worlds without overlays and of every call but `mount
+//! overlay`. What is said of a part or an entry is said of every inode but those with handed-in numbers.
 ghost use Rattle.vt_laws_calls.specs.Inodes.{CallsChangeTheirOwn, KindsStay, LinkTextsStay, OnlyChmodChangesModes, OnlyChownChangesOwners, OnlyNamingChangesEntries, OnlyOpaqueChangesMarks, OnlyUnusedInodesEnd, OnlyWritesChangeBytes, OtherEntriesStay};
 ghost use Rattle.vt_laws_calls.specs.Reached.{CallsKeepToTheirPaths, RootsStay};
 
-/// A granted call changes no inode but those that its permit names, in the filesystem of its location: for a new
-/// object it and its directory, mkdir(2), symlink(2), mknod(2), open(2); for a link or a removal the object and its
-/// directory, link(2), unlink(2), rmdir(2); for a rename both directories, the object and what it replaces,
-/// rename(2); and the object for write(2), pwrite(2), chmod(2), chown(2) and the opaque mark. mount(2) of a tmpfs
-/// makes the root of a new filesystem.
-///
-/// Each other inode is as it was, or is gone: no call takes an inode away itself, it goes with what nothing uses
-/// when the call has been applied, unlink(2). In a directory that stays no entry is changed but those that the
-/// permit names.
+/// A granted call changes no inode but those that its permit names, in the filesystem of its location; any other is as
+/// it was or is freed (`own`). Of `mount plain` it is the root of the new filesystem. In a directory that stays it
+/// changes no entry but those that the permit names (`entries`). It frees no inode itself: the sweep does (`ends`).
 pub fn calls_change_their_own()
     ensures own { CallsChangeTheirOwn }
     ensures entries { OtherEntriesStay }
     ensures ends { OnlyUnusedInodesEnd }
 {}
 
-/// A call, granted or refused, changes no inode but those that its paths and descriptors lead it to, through mounts
-/// and symlinks, path_resolution(7), and one that it makes: the object of a path, the directory of a name, and the
-/// object that has the name where that is removed, moved or replaced. Each other inode is as it was, or is gone.
-///
-/// With overlays, too, a filesystem that is still there has the root that it had.
+/// A call, granted or refused, changes no inode but those at the locations that its paths and descriptors lead it to,
+/// through mounts and symlinks, and the one that it makes (`paths`). Any other is as it was or is freed. In every
+/// world a filesystem that still exists has the root that it had (`roots`).
 pub fn calls_keep_to_their_paths()
     ensures paths { CallsKeepToTheirPaths }
     ensures roots { RootsStay }
 {}
 
-/// Each part of an inode is changed by its own calls alone: bytes by write(2) and pwrite(2), the mode by chmod(2),
-/// owner and group by chown(2), a directory's entries by the calls that make, move or remove a name, and its opaque
-/// mark by setxattr(2) of it.
-///
-/// What kind of object it is and the text of a link never change: inode(7), symlink(7). Nor does a call make an
-/// inode but with a number that is handed in.
+/// `bytes` are changed by `write` and `pwrite` alone, `modes` by `chmod`, `owners` (and groups) by `chown`, `entries`
+/// by the calls that make, move or remove a name, opaque `marks` by `opaque`. The kind of an object (`kinds`) and the
+/// text of a symlink (`link_texts`) never change. No inode is made but with a handed-in number.
 pub fn parts_change_by_their_own_calls()
     ensures bytes { OnlyWritesChangeBytes }
     ensures modes { OnlyChmodChangesModes }

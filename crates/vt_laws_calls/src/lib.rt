@@ -1,4 +1,4 @@
-//! What calls may change: tasks and inodes, each by its own calls.
+//! What calls may change of tasks and inodes, by which rights, and which directories walks search.
 //!
 //! Each public function is a theorem of the written policy, and does nothing.
 #![tactic(auto)]

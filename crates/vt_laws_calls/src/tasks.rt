@@ -1,15 +1,16 @@
-//! What tasks are after a call: their rights, and where they stand.
+//! What tasks are after a call, in every world: their rights, and where they stand.
 ghost use Rattle.vt_laws_calls.specs.Tasks.{NewTasksAreChildren, OnlyDropTakesRights, OnlyExitLeaves, OnlyOpenGivesDescriptors, OnlyTheseMoveDirectories, OnlyTheseMoveNamespaces, OnlyTheseMoveRoots, OnlyUmaskSetsUmask, OtherTasksStay, RightsOnlyShrink};
 
-/// Who a task is stays, and each capability that it holds it held before: credentials(7), capabilities(7). Only
-/// drop takes capabilities, capset(2), and only umask sets the umask, umask(2), both the caller's. Only open gives
-/// a descriptor, for what it was asked: open(2).
+/// A task that stays has its user, group and supplementary groups, and no capability that it did not hold (`rights`).
 ///
-/// A call changes no other task, not even its change number, but by pivot_root(2) in the other's namespace: then
-/// the other's root and working directory, each where it was the old root, are the new one. A task leaves by its
-/// own exit alone, _exit(2), and one that is new is a child that the caller forked, fork(2): it holds no capability
-/// that the caller does not hold, and has another user or other groups only where the caller may set them:
-/// setuid(2), setgid(2), setgroups(2).
+/// - `drops`, `umasks`: its own `drop` alone takes capabilities, and its own `umask` alone sets its umask.
+/// - `descriptors`: a descriptor that it has it had before, or its own `open` gave it, for reading and writing as that
+///   asked.
+/// - `others`: a call leaves every other task as it was, but for a `pivot_root` in its namespace. That moves its root
+///   and its working directory, each if it was the root of the old root mount, to that of the new one.
+/// - `exits`: the caller leaves by `exit` alone.
+/// - `children`: a new task is a child of the caller's `fork`. It holds no capability that the caller does not, has
+///   another user only if the caller holds CAP_SETUID, and other groups only if it holds CAP_SETGID.
 pub fn rights_only_shrink()
     ensures rights { RightsOnlyShrink }
     ensures drops { OnlyDropTakesRights }
@@ -20,11 +21,9 @@ pub fn rights_only_shrink()
     ensures children { NewTasksAreChildren }
 {}
 
-/// A task's working directory, root directory and namespace are changed by its own calls alone, and by
-/// pivot_root(2) of a task of its namespace: the directory by chdir(2), the root by chroot(2), and all three by
-/// unshare(2) and setns(2).
-///
-/// A pivot leaves the namespace, and moves root and directory only from the old root to the new one.
+/// The working directory of a task that stays is changed by its own `chdir`, `unshare` and `setns` alone
+/// (`directories`). Its root is by its own `chroot`, `unshare` and `setns` (`roots`), its namespace by the latter two
+/// (`namespaces`). A `pivot_root` in its namespace moves root and working directory from the old root to the new one.
 pub fn tasks_are_moved_by_their_own_calls()
     ensures directories { OnlyTheseMoveDirectories }
     ensures roots { OnlyTheseMoveRoots }

@@ -1,7 +1,8 @@
 //! Looks at counted inodes.
 ghost use Rattle.vt_laws_counts.specs.Looking.{CountedTreeIsTheTree, DirectoriesLieAlike};
 
-/// What is seen of counted inodes is what the tree has.
+/// Counted inodes, uses aside, are the `tree`. One directory lies `under` another among them just where it does in the
+/// tree, if that is one, and directories without a name are their own parents.
 pub fn counted_inodes_show_the_tree()
     ensures tree { CountedTreeIsTheTree }
     ensures under { DirectoriesLieAlike }

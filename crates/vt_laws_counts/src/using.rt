@@ -3,22 +3,28 @@ ghost use Rattle.vt_laws_counts.specs.Sweeping.{SameWorldsCountAlike, UsesAreSwe
 ghost use Rattle.vt_laws_counts.specs.Using.{ExchangesFollow, ExchangesTurn, LocationsAreUses, MountIsPlaced, MountsAreUses, MountsLeaveTheirRoots, NewTreeIsCounted, OpeningIsCounted, OthersUseNothing, PlacesStand, UsesAreExchanged};
 ghost use Rattle.vt_laws_letting_go.specs.Worlds.{LocationsOfWorldsStand};
 
-/// Where inodes get some uses and lose some, those that are left with none go, and the others have the new counts. The
-/// sweep at the end of a call does the same, once mounts and filesystems without a use are gone.
-///
-/// Before, all inodes were in use; there is no overlay, and the inodes that get a use exist.
+/// Where an exchange took place, to look at the losers one by one leaves the exchanged inodes (`one_by_one`). So does
+/// the whole sweep (`swept`), if the exchange leads to the world without unused mounts and filesystems. All inodes
+/// were in use, there were trees, what gains exists, and filesystems are plain afterwards.
 pub fn uses_are_exchanged()
     ensures one_by_one { UsesAreExchanged }
     ensures swept { UsesAreSwept }
 {}
 
-/// Uses that are exchanged may be given back, and exchanged again.
+/// An exchange may be `turned` round, and one may follow another (`both`).
 pub fn exchanges_follow_one_another()
     ensures turned { ExchangesTurn }
     ensures both { ExchangesFollow }
 {}
 
-/// A location is a use of its inode; a mount is one of its root, and one of its mount point's inode.
+/// - `locations`: roots, working directories and descriptors that come and go exchange their inodes; mounts and
+///   filesystems are the same.
+/// - `mounts`: added mounts are uses of their roots and mount points. Filesystems and locations are the same, each
+///   mount has a number of its own, and all stood on mounts that existed.
+/// - `place`: a mount that gets another mount point, or loses it, exchanges the two inodes, if all else of it and of
+///   the world stays.
+/// - `others`: where other plain filesystems come and go, nothing is exchanged here; mounts and locations are the
+///   same.
 pub fn locations_and_mounts_are_uses()
     ensures locations { LocationsAreUses }
     ensures mounts { MountsAreUses }
@@ -26,22 +32,24 @@ pub fn locations_and_mounts_are_uses()
     ensures others { OthersUseNothing }
 {}
 
-/// In a world with its invariants, all locations are on mounts that exist. A mount in no namespace on which there is no
-/// location takes one use of its root with it.
+/// A mount that exists and that nothing uses takes one use of its `root` with it, where mounts and locations stand. In
+/// a world with all invariants `locations` stand; so then do roots and mount points (`places`).
 pub fn mounts_leave_their_roots()
     ensures locations { LocationsOfWorldsStand }
     ensures places { PlacesStand }
     ensures root { MountsLeaveTheirRoots }
 {}
 
-/// A new tree counts its root, and each mount that shows it. In the opening world the one task stands there, too.
+/// A new tree of one directory counts it as its root, and once for each mount that shows the tree (`shown`).
+/// Filesystems are plain; mounts have numbers of their own; the root of each that shows it is that directory; no
+/// location and no mount point is in it. In the `opening` world the root has four uses.
 pub fn a_new_tree_is_counted()
     ensures shown { NewTreeIsCounted }
     ensures opening { OpeningIsCounted }
 {}
 
-/// Worlds without overlays that differ only in change numbers and in the order of numbers beside trees have the same
-/// counts.
+/// Worlds of plain filesystems that differ in change numbers and the order of numbers alone (`SameWorlds`) have the
+/// same counted inodes.
 pub fn same_worlds_count_alike()
     ensures { SameWorldsCountAlike }
 {}

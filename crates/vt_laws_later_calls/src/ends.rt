@@ -1,14 +1,20 @@
-//! Which calls end an inode, and which let nothing go.
+//! Which calls end an inode, and which let nothing go. They are all but those that take a use away (`takes_uses`): a
+//! name (`unlink`, `rmdir`, `rename`), a descriptor (`close`, `exit`), a working directory or a root (`chdir`,
+//! `chroot`, `setns`, `unshare`), or a mount from where it stands (`umount`, `lazy`, `move`, `pivot_root`). The world
+//! has all invariants, the call is granted or refused, and the numbers handed in are unused. A worked example
+//! (`whiteout_opaque_mark_and_a_second_mounting`) has a whiteout that so goes: `mkdir /m/d` replaces it.
 ghost use Rattle.vt_laws_later_calls.specs.Ends.{OnlyTheseEndInodes, OtherCallsLeaveAll, TypesLeaveAllButMasters};
 ghost use Rattle.vt_laws_later_calls.specs.Whiteouts.{AllTypesLeaveAllButMasters, OnlyTheseEndOtherInodes, OnlyWhiteoutsAreTaken, OtherCallsKeepAll, OtherCallsLetWhiteoutsGo, PlainChangesKeepAll, ReplacedAreWhiteouts};
 
-/// In a world that has the invariants, with overlays or without, the sweep at the end of each call of a task of the
-/// world but those that take a use away (below) is to look at one inode at the most: what the upper layer of an overlay
-/// had at the name that the call gave to something, mkdir(2), symlink(2), open(2) with O_CREAT, link(2). That is a
-/// whiteout, and it goes if nothing uses it. No mount goes, no filesystem, no group and no other inode. After a change
-/// of the type of a mount, mount(2) with MS_SHARED and the like, the sweep takes masters of groups at most.
+/// The sweep at the end of such a call of a task of the world, but `type`, is to look at one inode at the most
+/// (`all`): what the upper layer of an overlay had, before the call, at the name that the call gives there to
+/// something (`replaced_by`). It goes if nothing uses it, as another name does. `mount overlay` is such a call, too.
 ///
-/// Granted or refused; the numbers handed in are not in use. `mount overlay` is such a call, too.
+/// - `whiteouts`: that inode is a whiteout, as the overlay shows nothing at the name.
+/// - `taken`: the sweep takes no mount, no filesystem, no master of a group, and no other inode.
+/// - `kept`, `plain`: if the call replaces nothing, or a granted one changes a plain filesystem, the sweep takes
+///   nothing.
+/// - `types`: after `type` it takes masters of groups at most.
 pub fn other_calls_let_whiteouts_go_at_most()
     ensures all { OtherCallsLetWhiteoutsGo }
     ensures whiteouts { ReplacedAreWhiteouts }
@@ -18,29 +24,19 @@ pub fn other_calls_let_whiteouts_go_at_most()
     ensures types { AllTypesLeaveAllButMasters }
 {}
 
-/// In a world that has the invariants, with overlays or without, an inode that is there, and is no whiteout, or is in
-/// the filesystem of no upper layer, is there after each call but those that take a use away: a name, unlink(2),
-/// rmdir(2), rename(2); a descriptor, close(2), _exit(2); a working directory or a root, chdir(2), chroot(2), setns(2),
-/// unshare(2); or a mount from where it stands, umount(2), mount(2) with MS_MOVE, pivot_root(2).
-///
-/// Granted or refused, by whatever task; the numbers handed in are not in use.
+/// An inode exists after such a call if it did before and is no whiteout, or if no overlay has its upper layer in that
+/// filesystem.
 pub fn only_these_calls_end_inodes_that_are_no_whiteouts()
     ensures { OnlyTheseEndOtherInodes }
 {}
 
-/// In a world that has the invariants, and no overlay, an inode that is there is there after each call but those, if it
-/// does not mount an overlay.
-///
-/// Granted or refused; the numbers handed in are not in use.
+/// In a world without overlays an inode exists after each such call but `mount overlay`, if it did before.
 pub fn only_these_calls_end_inodes()
     ensures { OnlyTheseEndInodes }
 {}
 
-/// In a world that has the invariants, and no overlay, each call of a task of the world but those lets nothing go, if
-/// it does not mount an overlay: the sweep at its end leaves all mounts, filesystems, inodes and groups that the call
-/// left. After a change of the type of a mount it takes masters of groups at most.
-///
-/// Granted or refused; the numbers handed in are not in use.
+/// In a world without overlays the sweep takes nothing after each such call of a task of the world but `mount overlay`
+/// and `type` (`all`). After `type` it takes masters of groups at most (`types`).
 pub fn other_calls_let_nothing_go()
     ensures all { OtherCallsLeaveAll }
     ensures types { TypesLeaveAllButMasters }

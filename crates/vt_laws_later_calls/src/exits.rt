@@ -1,11 +1,9 @@
 //! What an exit lets go of, one descriptor after the other.
 ghost use Rattle.vt_laws_later_calls.specs.Exits.{ExitLeavesOneByOne};
 
-/// In every world that has the invariants, with overlays or without: where a task closes descriptors one after the
-/// other, close(2), any of them and in whichever order, each with a sweep after it, and then ends, _exit(2), with one
-/// more sweep, the world is left that it leaves where it ends at once, with one sweep.
-///
-/// So it is also with the last task of a namespace, which ends with it.
+/// A task of a world with all invariants closes descriptors one after the other, any of them, with a sweep after each,
+/// and then ends. It leaves the world that it leaves if it ends at once, with one sweep. So it is with the last task
+/// of a namespace too.
 pub fn an_exit_leaves_descriptors_one_by_one()
     ensures { ExitLeavesOneByOne }
 {}

@@ -3,17 +3,30 @@ ghost use Rattle.vt_laws_later_calls.specs.LastUse.{CloseTakesItsFilesystem, Clo
 
 use vt_laws_letting_go::ends::a_group_ends_with_its_last_member;
 
-/// Where all is in use and one use is taken away, the thing that it was a use of goes just if the use was its last, and
-/// nothing else of its kind goes. The counts are those of the world before.
+/// All is in use in the world before, and one use is taken away: the thing goes if the use was its last, by the counts
+/// of that world, and nothing else of its kind. Each clause but the last four of this list is of one step of the
+/// sweep, or of the end of namespaces and groups before it. Each filesystem has a number of its own, where overlays
+/// are beside or inodes are meant.
 ///
-/// A mount goes with the last location on it, if it is in no namespace; a filesystem with the last mount that shows it,
-/// if no mounted overlay has a layer in it; an inode with the last name, location, mount or mount point that uses it.
-/// An overlay may take the filesystems of its layers with it, and an inode of an overlay the upper inode that was its
-/// real object. A namespace ends with its last task. A peer group ends with its last member, and hands its slaves on to
-/// its master.
-///
-/// After a close(2) the whole sweep takes the inode at the most, if the mount stays. If the mount goes, and no other
-/// one shows its filesystem, it takes these two.
+/// - `mount`: a location of a task: its mount, unless that is in a namespace (mounts have numbers of their own).
+/// - `filesystem`: a mount: what it shows (no overlay; the same filesystems). `filesystem_beside_overlays`: a plain
+///   one, unless a mounted overlay has a layer in it. `overlay`: an overlay, in which no overlay has a layer; then the
+///   filesystems of its layers are looked at.
+/// - `inode`: one use (`LosesOneUse`: it has one less, every other inode as many): that inode (plain filesystems,
+///   trees). An exchange of one use is such a loss (`exchange`).
+/// - `inode_beside_overlays`: the same of a plain tree; no upper layer is in an overlay, real objects exist, as in the
+///   next three.
+/// - `inode_of_overlay`: the same of an overlay; then the upper inode that was its real object, if any, is looked at.
+/// - `inode_over_lowers`: if that is no upper inode, the inode alone. `upper_inode`: if it is one, that too, unless it
+///   has another use (the number stands once beside the tree).
+/// - `namespace`: a task: its namespace, with its mounts (the invariants of mounts and namespaces). `exit`: so it is
+///   before the sweep, in a world with all invariants.
+/// - `group`: a member of a group that gets no master: its slaves and the groups below it get its master (the
+///   invariants of mounts). `master`: in the sweep, the master of the group.
+/// - `location`, `close`: a location in a plain tree whose mount stays, or a descriptor there that is closed: the
+///   inode, after the whole sweep, and nothing else (all invariants).
+/// - `last_location`, `last_close`: the last location on a mount in no namespace, if no other mount shows its
+///   filesystem: these two, after the whole sweep, and nothing else (all invariants, no overlay).
 pub fn each_thing_goes_with_its_last_use()
     ensures mount { MountGoesWithItsLastUse }
     ensures filesystem { FilesystemGoesWithItsLastUse }

@@ -1,6 +1,5 @@
-//! What later calls see of earlier ones, in a world without overlays; and which calls let something go, what the list
-//! of mounts tells after an unshare, what an unmount undoes, what an exit leaves, and that each thing goes with its last
-//! use, in every world.
+//! What later calls see of earlier ones; which calls let something go; what the list of mounts tells after an unshare;
+//! what an unmount undoes; what an exit leaves; and that each thing goes with its last use.
 //!
 //! Each public function is a theorem of the written policy, and does nothing.
 #![tactic(auto)]

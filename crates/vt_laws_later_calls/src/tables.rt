@@ -3,11 +3,9 @@ ghost use Rattle.vt_laws_later_calls.specs.Tables.{UnshareGivesANamespace, Unsha
 
 use vt_laws_mounts::propagation::after_unshare_the_table_reads_the_same;
 
-/// After a granted unshare(2) with CLONE_NEWNS the list of mounts tells every task what it told it before, the caller
-/// too, which is in a new namespace then: order, places, filesystems, roots, flags and types.
-///
-/// So it is in every world that has the invariants, with overlays or without, also where the caller was the last task
-/// of its namespace. The numbers handed in are not in use.
+/// After a granted `unshare` by unused numbers, in a world with all invariants, the list of mounts tells every task
+/// what it told it before (`told`). So it does if the caller was the last task of its namespace. The caller is then in
+/// a namespace of its `own`, which did not exist before.
 pub fn an_unshare_leaves_the_list_of_mounts()
     ensures told { UnshareThenMounts }
     ensures own { UnshareGivesANamespace }

@@ -1,4 +1,4 @@
-//! Laws of overlays: what their layers show, and what a change leaves as it was.
+//! What the layers of an overlay show, what locks them, and what `mount overlay` makes of them.
 //!
 //! Each public function is a theorem of the written policy, and does nothing.
 #![tactic(auto)]

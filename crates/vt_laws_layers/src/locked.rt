@@ -1,11 +1,18 @@
-//! Laws of locked layers: what lies in a layer of a live overlay is changed by nobody but that overlay, in its upper
-//! layer.
+//! What lies in a layer of a live overlay is changed by nobody but that overlay, in its upper layer. These laws are of
+//! calls on files of a task of a world with all invariants, granted or refused, before the sweep; of whole calls and
+//! scripts see `lower_layers_are_locked_over_scripts`.
 ghost use Rattle.vt_laws_layers.specs.Layers.Locked.{CallsGoThroughOne, LowerLayersAreLocked, LowerPathsAreLocked, OtherPathsStay, UpperObjectsCount};
 
-/// What lies under a lower layer of a live overlay stays as it was in every call on files, through whatever mount. Such
-/// a call goes through one filesystem at most: of every other overlay all that lies or counts under its upper and work
-/// directories, its upper objects with and without a name, stays as it was. So
-/// paths lead from a layer's directory where they led.
+/// What lies or counts under a lower layer of a live overlay keeps kind, owner, mode, names, bytes and mark, through
+/// whatever mount, if it has none of the new numbers (`calls`).
+///
+/// A call goes through one filesystem at most: all others but that of its upper layer are as they were, and what lies
+/// or counts under the upper and work directories of every other overlay stays (`others`). Upper `objects`, with and
+/// without a name, count there.
+///
+/// So every path leads from a lower layer's directory where it led, and what is there is as it was, if the new numbers
+/// are of no inode there (`paths`). So it is from the upper and work directories of every overlay that the call does
+/// not go through (`other_paths`).
 pub fn lower_layers_are_locked()
     ensures calls { LowerLayersAreLocked }
     ensures others { CallsGoThroughOne }

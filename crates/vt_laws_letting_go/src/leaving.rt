@@ -1,4 +1,5 @@
-//! What goes with the uses that a change took away.
+//! What goes with the uses that one kind of change took away: the sweep takes of the losers those that nothing uses,
+//! and nothing else.
 ghost use Rattle.vt_laws_letting_go.specs.Detaching.{DetachingLetsGo, UnmountIsOfOne};
 ghost use Rattle.vt_laws_letting_go.specs.FileChanges.{ChangesKeepNames, FileChangesLetGo, MadeKeepsAll, OpenedNewKeepsAll, RemovedDirectoriesLetGo, ReplacingLetsGo, TakenAndFileChangesLetGo, WrittenPartsKeepAll};
 ghost use Rattle.vt_laws_letting_go.specs.Keeping.{FlagsAreOfOne, FlagsKeepAll, NewMountsKeepAll, SetFlagsKeepAll, TypesKeepAll};
@@ -9,10 +10,13 @@ ghost use Rattle.vt_laws_letting_go.specs.TaskCalls.{ChangedDirectoriesLetGo, Ch
 ghost use Rattle.vt_laws_letting_go.specs.TreeChanges.{NamedStay, UnnamedGo};
 ghost use Rattle.vt_laws_letting_go.specs.TreesOverlays.{ChangedTreesKeepAll, ChangedTreesLetGo, LeftAndChangedLetsGo, OpenedKeepsAll, TakenAndChangedLetsGo, UnnamedGoWithOverlays};
 
-/// Where tasks left places, what nothing uses any more goes of what they used there, and nothing else.
+/// Tasks come, end or go to other locations, and no namespace ends (`left`): the losers are of each location that was
+/// left its mount, the filesystem and the root of that, and its inode. If none was left, nothing goes (`stayed`). The
+/// world is settled plain.
 ///
-/// Where tasks come to no new location, a sweep before makes no difference after the sweep that follows, and a sweep
-/// after each of several changes is the same as one at the end.
+/// Where tasks come to no new location, a sweep before makes no difference after the sweep that follows (`several`).
+/// One after each of any number of such changes is the same as one at the end (`each`). This asks for plain
+/// filesystems, trees, and that mounts stand.
 pub fn what_tasks_leave_goes()
     ensures left { LeavingLetsGo }
     ensures stayed { StayingKeepsAll }
@@ -20,7 +24,8 @@ pub fn what_tasks_leave_goes()
     ensures each { OneSweepForAll }
 {}
 
-/// So it is in worlds with overlays: what an overlay used goes with the overlay's last use.
+/// The same with layers: `left` and `stayed` of settled worlds; `several` and `each` of worlds that are fit for
+/// overlays and whose mounts stand.
 pub fn what_tasks_leave_goes_with_overlays()
     ensures left { LeavingOverlaysLetsGo }
     ensures stayed { StayingKeepsOverlays }
@@ -28,14 +33,17 @@ pub fn what_tasks_leave_goes_with_overlays()
     ensures each { OneSweepForAllWithOverlays }
 {}
 
-/// After a call by which a task leaves locations, that goes which nothing uses any more of what it used there.
+/// The losers are those with layers of the locations of the descriptors that are closed (`close`), of the old working
+/// directory (`chdir`), or of the old root (`chroot`). The world is settled, the task is one of it, and no two tasks
+/// have one name.
 pub fn what_a_call_of_a_task_leaves_goes()
     ensures close { ClosesLetGo }
     ensures chdir { ChangedDirectoriesLetGo }
     ensures chroot { ChangedRootsLetGo }
 {}
 
-/// After a call by which a task leaves none, nothing goes.
+/// Nothing goes after a `fork`, another `umask` or other `credentials`, and the `open` of what is not copied up;
+/// premises as in the law before.
 pub fn what_a_call_of_a_task_keeps()
     ensures fork { ForksKeepAll }
     ensures umask { NewUmasksKeepAll }
@@ -43,14 +51,26 @@ pub fn what_a_call_of_a_task_keeps()
     ensures open { OpenedFilesKeepAll }
 {}
 
-/// Where a plain tree changed, the inodes go that lost their last name and where nothing is, and nothing else.
+/// A plain tree changes: the losers are the inodes that may have lost their last name (`unnamed`). If what had a name
+/// has one, nothing goes (`named`): bytes, attributes, new names, new inodes.
+///
+/// The world is settled plain, and the filesystem exists. The new tree is one, with the same root and its numbers
+/// beside it. An inode of it existed or has a name; what had a name has one or is a loser.
 pub fn what_loses_its_name_goes()
     ensures unnamed { UnnamedGo }
     ensures named { NamedStay }
 {}
 
-/// After a call that changed a plain tree at the most the inode goes that lost a name: the one that was removed, or
-/// that another one replaced. With a directory that was removed or replaced that goes which only the mounts on it used.
+/// Each change of a tree keeps the root and all `names`, but the one that an object is given or that is removed. This
+/// asks that the tree is one before and after it, with its numbers.
+///
+/// So after a `change` of a plain tree the loser is the inode that had that name, if any; none of bytes, attributes
+/// and marks. Where mounts are taken away too (`with_mounts`) there come their losers with layers. So it is after
+/// `rmdir`, and after a `rename` that replaces an object, of the mounts on what goes, with all below them.
+///
+/// The world is settled; each filesystem has a number of its own; the changed one exists, is plain, and its tree is
+/// one afterwards. A new inode has a new number and a directory for its name; what moves has the old name and a
+/// directory for the new one. What does not look at names is said in worlds with overlays too.
 pub fn what_a_file_call_leaves_goes()
     ensures names { ChangesKeepNames }
     ensures change { FileChangesLetGo }
@@ -59,41 +79,60 @@ pub fn what_a_file_call_leaves_goes()
     ensures rename { ReplacingLetsGo }
 {}
 
-/// After a call that made an inode in a plain tree, and may have opened it, nothing goes.
+/// Nothing goes after a call that makes an inode of a new number under a free name in a plain tree: `make` (`mkdir`,
+/// `symlink`), or `open` of a new file, by a task of the world. Premises as in the law before; of `open` no two tasks
+/// have one name.
 pub fn what_is_made_keeps_all()
     ensures make { MadeKeepsAll }
     ensures open { OpenedNewKeepsAll }
 {}
 
-/// After a write of a part of a file in a plain tree nothing goes.
+/// Nothing goes after a write of a part of a file in a plain tree, or of no bytes. The world is settled, each
+/// filesystem has a number of its own, and the written one exists.
 pub fn what_is_written_keeps_all()
     ensures { WrittenPartsKeepAll }
 {}
 
-/// Where trees changed in a world with overlays, the inodes go that lost their last name or overlay and where nothing
-/// is, with their real objects, and nothing else.
+/// Filesystems change, each keeping number, root and layers (`ChangesFilesystem`): the losers are the inodes that may
+/// have lost their last name, or the overlay of which they were a real object; with inodes of overlays their real
+/// objects (`trees`). If all names and real objects stay, nothing goes (`kept`). The world is settled, and fit for
+/// overlays afterwards; an inode existed, has a name or is a real object.
+///
+/// Of a `plain` tree, which may be a layer, the losers are the inodes that may have lost their last name. The premises
+/// are those of `what_loses_its_name_goes`, of a settled world in which each filesystem has a number of its own.
 pub fn what_loses_its_name_goes_with_overlays()
     ensures trees { ChangedTreesLetGo }
     ensures kept { ChangedTreesKeepAll }
     ensures plain { UnnamedGoWithOverlays }
 {}
 
-/// Where mounts are taken away or tasks leave locations, and trees change in the same call, that goes of what both took
-/// uses from which nothing uses any more.
+/// Mounts are taken away (`removed`), or tasks leave locations (`left`), and filesystems change in one call: the
+/// losers are those of both. If no location, name or real object is lost, nothing goes (`opened`): `open` that makes
+/// or copies up a file.
+///
+/// Premises as of `trees` in the law before, but a new inode without a name is a real object of an overlay that is
+/// left once unused mounts and filesystems are gone.
 pub fn what_one_call_leaves_goes_with_overlays()
     ensures removed { TakenAndChangedLetsGo }
     ensures left { LeftAndChangedLetsGo }
     ensures opened { OpenedKeepsAll }
 {}
 
-/// Where a mount on which no other stands leaves its place, it goes with its last use, its filesystem with its last
-/// mount, and the inodes of its root and its place with theirs. Nothing else goes.
+/// A mount on which no other stands loses its mount point and namespace; types and masters may change with it
+/// (`left`). The losers are the mount, its filesystem, its root, the inode of its mount point, and the named groups.
+/// The world is settled plain; afterwards mounts in no namespace have no mount point and are private, and other groups
+/// without members have no master.
+///
+/// An `unmount` of a mount without children, whose parent is not shared, changes that one record, and then groups are
+/// handed on.
 pub fn what_a_mount_leaves_goes()
     ensures unmount { UnmountIsOfOne }
     ensures left { DetachingLetsGo }
 {}
 
-/// Where types or flags of mounts change, nothing goes.
+/// Nothing goes where `types`, masters and flags change, each mount stands where it stood and shows what it showed,
+/// all was in use, and groups without members have no master afterwards. Where each mount has a number of its own, a
+/// change of flags is of `one` record. Where all was in use nothing goes with it (`flags`, `set_flags`).
 pub fn types_and_flags_keep_all()
     ensures types { TypesKeepAll }
     ensures one { FlagsAreOfOne }
@@ -101,12 +140,15 @@ pub fn types_and_flags_keep_all()
     ensures set_flags { SetFlagsKeepAll }
 {}
 
-/// Where types of mounts change, at the most groups lose their masters: those that the mounts left, and new ones.
+/// After a change of type of an attached mount, or of all below it too, the losers are the groups of these mounts, and
+/// the new groups. All was in use, and mounts stand.
 pub fn what_a_change_of_types_leaves_goes()
     ensures { SetTypesLetGo }
 {}
 
-/// Where mounts are added, with the filesystems that they show, nothing goes.
+/// Nothing goes where mounts in a namespace are added, with filesystems that they show, overlays or not. All was in
+/// use; mounts and locations stand; each inode of a new filesystem is its root or has a name; groups without members
+/// have no master afterwards.
 pub fn new_mounts_keep_all()
     ensures { NewMountsKeepAll }
 {}

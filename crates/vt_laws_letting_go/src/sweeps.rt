@@ -5,17 +5,17 @@ ghost use Rattle.vt_laws_letting_go.specs.OneByOne.{AllGoesOneByOne, FilesystemI
 ghost use Rattle.vt_laws_letting_go.specs.Overlays.{AllInodesGoOneByOne, FilesystemsTakeTheirUses, MergedGoOneByOne, OneUpperUseLess, WithOverlaysAllGoes};
 ghost use Rattle.vt_laws_letting_go.specs.Worlds.{LocationsOfWorldsStand, MountsOfWorldsStand, PlainWorldsAreSettled, RealsOfWorldsAreThere, UppersOfWorldsArePlain, WorldsAreSettled, WorldsHaveTrees};
 
-/// Where all is in use nothing goes, and what is left is in use: one sweep is enough.
+/// Where all is in use the sweep takes `nothing`. What it leaves is in use (`left`), so a second one takes nothing
+/// (`twice`); these ask for trees, and that no upper layer is in an overlay.
 pub fn one_sweep_is_enough()
     ensures nothing { NothingGoes }
     ensures left { WhatIsLeftIsInUse }
     ensures twice { OneSweepIsEnough }
 {}
 
-/// Where all but some is in use, the sweep is to look at those one by one: a thing goes if nothing uses it.
-///
-/// Mounts go first, then filesystems, then inodes, then the masters of groups. Of inodes this is said of worlds of
-/// plain filesystems.
+/// Where all others are in use, the sweep of `mounts`, of `filesystems` (overlays among them), and of `groups` is to
+/// look at the losers one after the other. So is that of `inodes`, and the whole sweep (`all`: each kind in the world
+/// that the kinds before it left), of plain filesystems that are trees.
 pub fn things_go_one_by_one()
     ensures mounts { MountsGoOneByOne }
     ensures filesystems { FilesystemsGoOneByOne }
@@ -24,10 +24,18 @@ pub fn things_go_one_by_one()
     ensures all { AllGoesOneByOne }
 {}
 
-/// In worlds with overlays, too, the sweep is to look at the losers one by one.
+/// In worlds that are fit for overlays, and where all others are in use, too:
 ///
-/// Inodes of overlays go first, each with its real object. Then the losers in plain trees are looked at, and with them
-/// the upper inodes of what went. An inode that is not there has no real object, and no upper layer is in an overlay.
+/// - `merged`: the sweep of inodes of overlays is to look at the losers there, one after the other.
+/// - `upper`: one that goes is one use less of the upper inode that is its real object, and of no inode of another
+///   filesystem, if its number stands once beside the tree.
+/// - `inodes`: that of all inodes is to look at the losers in overlays, then at those in plain trees and at the upper
+///   inodes of the former.
+/// - `filesystems`: where filesystems go, the inodes that lose a use are the directories of layers and the upper
+///   objects of overlays among them.
+/// - `all`: the whole sweep is to look at the losers, each kind in the world that the kinds before it left.
+///
+/// `upper` and `filesystems` do not ask that the world is fit for overlays.
 pub fn things_of_overlays_go_one_by_one()
     ensures merged { MergedGoOneByOne }
     ensures upper { OneUpperUseLess }
@@ -36,8 +44,9 @@ pub fn things_of_overlays_go_one_by_one()
     ensures all { WithOverlaysAllGoes }
 {}
 
-/// A thing is in use just while the count of its uses is not zero, and what goes takes one from the counts of what it
-/// used. A peer group has members just while their count is not zero.
+/// A mount is `located`, a filesystem is `mounted`, an inode is used (`inodes`) and a group has `members` just while
+/// its count is not zero. A `location` that is left is one use less of its mount alone; a `mount` that goes is one
+/// less of its filesystem alone.
 pub fn uses_are_counted()
     ensures located { LocatedWhileCounted }
     ensures mounted { MountedWhileCounted }
@@ -47,10 +56,9 @@ pub fn uses_are_counted()
     ensures mount { OneMountLess }
 {}
 
-/// To look at a mount, a filesystem or an inode is to look it up by its number, and to take it away unless it is used;
-/// to look at a group is to take its master away unless it has members.
-///
-/// Of inodes this is said of plain trees: an inode of an overlay goes with its real object.
+/// To look at a `mount`, a `filesystem` or an `inode` of a plain tree is to look it up by its number and to take it
+/// away unless it is used. Mounts have numbers of their own, and for inodes filesystems have. To look at a `group` is
+/// to take its master away unless it has members.
 pub fn things_are_looked_up()
     ensures mount { MountIsLookedUp }
     ensures filesystem { FilesystemIsLookedUp }
@@ -58,7 +66,8 @@ pub fn things_are_looked_up()
     ensures group { GroupIsLookedUp }
 {}
 
-/// The invariants of a world have what the laws of the sweep ask.
+/// In a world with all invariants there are `trees`, `mounts` stand, no upper layer is in an overlay (`uppers`), real
+/// objects exist (`reals`), and `locations` stand. So it is `settled`, and a `plain` one is settled plain.
 pub fn worlds_are_fit_to_be_swept()
     ensures trees { WorldsHaveTrees }
     ensures mounts { MountsOfWorldsStand }

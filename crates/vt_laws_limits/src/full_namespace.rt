@@ -1,17 +1,16 @@
-//! Worked examples of full namespaces, by induction over their lines.
+//! Worked examples of full namespaces, by induction over their lines, in each version of the language.
 ghost use Rattle.vt_laws_limits.specs.FullNamespaces.{FillsItsNamespace, FullNamespaceRefuses, FullReceiverRefuses, LastOfManyMountsIsRefused};
 
-/// Mounts are stacked on one directory, each on the one before. A namespace holds at most 4,096 mounts, its root mount
-/// among them: each mount within that number is granted, and any further one is refused by M9, ENOSPC of mount(2), and
-/// changes nothing.
+/// A script that makes a directory and stacks mounts on it is answered `ok` in each line while there are at most 4,095
+/// such mounts (`within`). Each line more is answered by M9 (`beyond`); so the `last` of 4,096 mounts is.
 pub fn a_namespace_is_filled_line_by_line()
     ensures within { FillsItsNamespace }
     ensures beyond { FullNamespaceRefuses }
     ensures last { LastOfManyMountsIsRefused }
 {}
 
-/// A mount onto a shared mount is refused by M9 where the namespace of a peer is full, since it would come there too.
-/// Once a mount is unmounted in that namespace, the same call is granted.
+/// A mount onto a shared mount is refused by M9 where the namespace of its peer is full with 4,096 mounts, and granted
+/// once one of these is unmounted.
 pub fn a_full_receiver_refuses_a_mount()
     ensures { FullReceiverRefuses }
 {}

@@ -1,9 +1,12 @@
-//! Laws of merged trees: each is a function of what the layers show.
+//! Each merged tree is a function of what the layers show.
 ghost use Rattle.vt_laws_merging.specs.MergedTrees.{InodesAreThoseShown, MergedTreesAreOne, NumbersAreThoseShown, OtherInodesAreHeld, OverlaysAreMergedTrees};
 
-/// The tree of an overlay is a function of its layers, of the numbers that real objects have, and of what is held
-/// without a name: which number is at a path, what its inode is, and which inodes have no name. So two such trees are
-/// one.
+/// A path leads to the number of what the layers show there, or nowhere (`numbers`). The inode there has kind, owner,
+/// mode and bytes of that, and as entries the names that the layers show, with their numbers (`inodes`). Every other
+/// inode is just what is `held` under its number, with no names in it.
+///
+/// So two merged trees of the same layers, with the same numbers and the same held inodes, are `one` tree with the
+/// same real objects. Each of the `overlays` of a world with all invariants has a merged tree.
 pub fn a_merged_tree_is_a_function()
     ensures numbers { NumbersAreThoseShown }
     ensures inodes { InodesAreThoseShown }

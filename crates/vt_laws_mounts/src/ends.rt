@@ -1,8 +1,9 @@
-//! What takes mounts away: the invariants of mounts that it keeps, and what namespaces have left.
+//! What takes mounts away.
 ghost use Rattle.vt_laws_mounts.specs.Mounts.Ending.{UnmountKeepsMounts, LazyUnmountKeepsMounts, TreesKeepMounts, PointsKeepMounts, ReplacedKeepsMounts, EndedNamespacesKeepMounts, ByUnmount, ByLazyUnmount, ByTrees, ByPoints, ByReplaced, ByEndedNamespaces, HasNoMoreMounts, TakesNoMountsIn, UnmountKeepsRootMounts, LazyUnmountKeepsRootMounts, TreesKeepRootMounts, PointsKeepRootMounts, ReplacedKeepsRootMounts, EndedNamespacesKeepRootMounts};
 
-/// An unmount of a mount without children, any lazy unmount, and the end of trees of mounts and of namespaces keep the
-/// invariants of mounts.
+/// The invariants of mounts hold after an `unmount` of a mount without children, any `lazy` unmount, and the end of
+/// `trees` of mounts. So they do after the end of the mounts on a directory that is removed (`points`) or `replaced`,
+/// and of namespaces (`ended`).
 pub fn what_takes_mounts_away_keeps_their_invariants()
     ensures unmount { UnmountKeepsMounts }
     ensures lazy { LazyUnmountKeepsMounts }
@@ -12,8 +13,9 @@ pub fn what_takes_mounts_away_keeps_their_invariants()
     ensures ended { EndedNamespacesKeepMounts }
 {}
 
-/// Each namespace keeps its number of root mounts, where each mount has a number of its own and what is detached has a
-/// mount point; at a namespace's end, each namespace that has a task.
+/// Each namespace has as many root mounts after an `unmount`, a `lazy` one, the end of `trees`, and that of the mounts
+/// on a removed (`points`) or `replaced` directory. So has each that has tasks, after the end of others (`ended`).
+/// Each mount has a number of its own; what is unmounted, and the top of each tree, has a mount point.
 pub fn namespaces_keep_their_root_mounts()
     ensures unmount { UnmountKeepsRootMounts }
     ensures lazy { LazyUnmountKeepsRootMounts }
@@ -23,7 +25,8 @@ pub fn namespaces_keep_their_root_mounts()
     ensures ended { EndedNamespacesKeepRootMounts }
 {}
 
-/// No namespace has more mounts than before.
+/// None of these changes (`unmount`, `lazy`, `trees`, `points`, `replaced`, `ended`) leaves a namespace with more
+/// mounts.
 pub fn namespaces_have_no_more_mounts()
     ensures unmount { ByUnmount HasNoMoreMounts }
     ensures lazy { ByLazyUnmount HasNoMoreMounts }
@@ -33,7 +36,8 @@ pub fn namespaces_have_no_more_mounts()
     ensures ended { ByEndedNamespaces HasNoMoreMounts }
 {}
 
-/// Each mount stays in its namespace, or is in none.
+/// After each of these changes (`unmount`, `lazy`, `trees`, `points`, `replaced`, `ended`) a mount is in no namespace,
+/// or in that in which one with its number was.
 pub fn mounts_come_to_no_other_namespace()
     ensures unmount { ByUnmount TakesNoMountsIn }
     ensures lazy { ByLazyUnmount TakesNoMountsIn }

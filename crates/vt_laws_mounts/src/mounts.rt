@@ -1,4 +1,4 @@
-//! Mounts: where they stand, who receives, and what mount calls change.
+//! Where mounts stand, who receives, and what mount calls change.
 ghost use Rattle.vt_laws_mounts.specs.Mounts.Attaching.{NewMountsFollow, AttachKeepsMounts, AttachLeavesMounts, MoveKeepsMounts, MoveLeavesMounts, MovedMountsShow};
 ghost use Rattle.vt_laws_mounts.specs.Mounts.Changing.{FlagsAreSet, FlagsAreOfOne, TypeIsAllThatChanges, TypeIsOfTheNamed, TypeIsTaken, AloneIsPrivate, TypesAreOfMounts};
 ghost use Rattle.vt_laws_mounts.specs.Mounts.Copies.{CopiesKeepNumbers, SuppliesServeAsCopies, SuppliesServeAsImages};
@@ -11,13 +11,14 @@ ghost use Rattle.vt_laws_mounts.specs.Mounts.Receivers.{ReceivesIsComputed, Rece
 ghost use Rattle.vt_laws_mounts.specs.Mounts.Standing.{BindsKeepNumbers, BindsKeepMountPoints, BindsKeepStanding, BindsTakeEachOnce, MovesKeepNumbers, NewMountsKeepNumbers, NewMountsKeepMountPoints, NewMountsKeepStanding, StandingIsComputed, TreesHaveEachOnce};
 ghost use Rattle.vt_laws_mounts.specs.Mounts.Unmounting.{WhatGoesIsNamed, UnmountKeepsTheOrder, WhatGoesIsDetached, WhatStaysKeeps, WhatStaysKeepsItsMountPoint, RootMountsStay, WhatCoveredFalls, WhatStaysKeepsItsType, SlavesAreInherited, GroupsKeepTheirMasters, UnmountIsOfMounts, UmountUnmounts};
 
-/// No two mounts have one mount point.
+/// Where no two mounts have one mount point, each mount that has one is the mount that `child_at` finds there.
 pub fn one_mount_stands_at_a_mount_point()
     ensures { StandsAloneAtItsMountPoint }
 {}
 
-/// What receives from a group is the least set that holds its members, its slaves, and what receives from every group
-/// whose master it is.
+/// Where groups live, what receives from a group is the least set that holds its members, its slaves, and what
+/// receives from each group whose master it is: `receivers` lists it, `computed` is its test, and it is `closed`. That
+/// it is `least` holds in every world.
 pub fn receivers_are_the_closure()
     ensures computed { ReceivesIsComputed }
     ensures receivers { ReceiversReceive }
@@ -25,8 +26,19 @@ pub fn receivers_are_the_closure()
     ensures least { ReceiversAreLeast }
 {}
 
-/// An unmount takes just the mounts that propagation names, and leaves all else of every other mount but its mount
-/// point, where that was on what goes, and its master, where that lost its last member.
+/// An unmount detaches just the mounts that propagation names, where groups live (`named`). They stay listed, all in
+/// their `order`, but lose namespace, mount point and group (`gone`), until nothing uses them.
+///
+/// - `kept`, `root_mounts`: every other mount keeps number, namespace, filesystem, root and flags; a root mount stays
+///   one.
+/// - `place`: it keeps its mount point, if that is on a mount that stays.
+/// - `covered`: else it takes the first mount point along its chain of parents that is on a mount that stays, where
+///   chains end.
+/// - `kind`, `slaves`: it keeps its type, but a slave of a group that lost its last member gets the nearest group up
+///   the masters with a member left, or is private.
+/// - `masters`: a group keeps its master, unless that lost its last member.
+/// - `itself`: the named mount goes, if it has a mount point and no child, and no two mounts have one mount point.
+/// - `others`: nothing but mounts changes.
 pub fn an_unmount_takes_just_what_propagation_names()
     ensures named { WhatGoesIsNamed }
     ensures order { UnmountKeepsTheOrder }
@@ -42,40 +54,48 @@ pub fn an_unmount_takes_just_what_propagation_names()
     ensures others { UnmountIsOfMounts }
 {}
 
-/// A granted call of umount is one unmount of the mount that its path leads to.
+/// The mounts that a granted `umount` leaves are those after that unmount, of the mount that its path leads to,
+/// without those that nothing uses then.
 pub fn umount_unmounts_the_mount_of_its_path()
     ensures { UmountUnmounts }
 {}
 
-/// A call that is no mount call, removes no directory and leaves no namespace leaves each mount the record that it had.
+/// A call that is no mount call, and none of `rmdir`, `rename`, `exit`, `unshare` and `setns`, leaves each mount its
+/// record. Mounts in no namespace that nothing uses then are freed.
 pub fn calls_on_files_are_of_no_mount()
     ensures { FileCallsLeaveMounts }
 {}
 
-/// A bind or a new mount leaves each mount that was there all that it had, but for the mount point of one that had the
-/// destination's directory as mount point at a receiver. New mounts come last.
+/// A bind or a new mount leaves each mount that existed its record (`left`). One at the same location of a receiver
+/// that takes part keeps all but its mount point (`kept`). New mounts come after all others (`order`).
 pub fn a_bind_leaves_the_other_mounts()
     ensures order { NewMountsFollow }
     ensures kept { AttachKeepsMounts }
     ensures left { AttachLeavesMounts }
 {}
 
-/// A move leaves each mount that does not move all that it had, but for the mount point of one that had the
-/// destination's directory as mount point at a receiver. What moves goes on showing what it showed.
+/// A move leaves each mount that does not move its record (`left`). One at the same location of a receiver that takes
+/// part keeps all but its mount point (`kept`). What moves shows what it showed, where each mount has a number of its
+/// own (`moved`).
 pub fn a_move_leaves_the_other_mounts()
     ensures kept { MoveKeepsMounts }
     ensures left { MoveLeavesMounts }
     ensures moved { MovedMountsShow }
 {}
 
-/// A change of flags gives the named mount its flags, and leaves every other mount as it was.
+/// A change of flags gives the named mount its flags (`set`), and leaves it all else, and every other mount its record
+/// (`others`).
 pub fn a_change_of_flags_is_of_one_mount()
     ensures set { FlagsAreSet }
     ensures others { FlagsAreOfOne }
 {}
 
-/// A change of type gives the named mount the type of the table, and leaves all but types as it was. Other mounts keep
-/// their types, but for slaves of a group that lost its last member.
+/// A change of type leaves each mount all but its type (`alone`), and what is no mount as it was (`rest`).
+///
+/// - `taken`: a named mount takes the type of the table, unless that makes it a slave of a group that so lost its last
+///   member.
+/// - `others`: another one keeps its type, unless it is such a slave.
+/// - `last_member`: a shared mount that was alone in a group without a master is private after it is made a slave.
 pub fn a_change_of_type_is_of_the_named_mounts()
     ensures alone { TypeIsAllThatChanges }
     ensures others { TypeIsOfTheNamed }
@@ -84,7 +104,12 @@ pub fn a_change_of_type_is_of_the_named_mounts()
     ensures rest { TypesAreOfMounts }
 {}
 
-/// Each mount has a number of its own: changes of mounts keep that.
+/// Each mount has a number of its own after each of these changes, if it had before: `taking_away` of any mounts,
+/// `unmount`, `ended` namespaces, `inheritance` of groups, `types`, `flags`, `pivot`, `lazy` unmount and `settling`
+/// (the sweep).
+///
+/// So it is with what is attached (`attach`) and with an `unshare`, by new numbers. Copies with numbers that serve
+/// keep it (`copies`), and a supply of new ones has such numbers (`supplied_copies`, `supplied_images`).
 pub fn mounts_keep_numbers_of_their_own()
     ensures taking_away { KeptByTakingAway OneNumberEach }
     ensures unmount { KeptByUnmount OneNumberEach }
@@ -102,16 +127,20 @@ pub fn mounts_keep_numbers_of_their_own()
     ensures settling { KeptBySettling OneNumberEach }
 {}
 
-/// Each mount stands on one that stands, in its namespace; that is what the test of it computes, and so a mount with
-/// its descendants, and what a bind takes of them, are each once in their tree.
+/// Where each mount has a number of its own, the test by chains of parents computes that all stand (`computed`). Then
+/// each mount is once in the tree of a mount (`trees`), and in what a bind takes (`binds`).
 pub fn mounts_stand_on_one_another()
     ensures computed { StandingIsComputed }
     ensures trees { TreesHaveEachOnce }
     ensures binds { BindsTakeEachOnce }
 {}
 
-/// A bind and a new mount leave each mount standing and no two with one mount point, and these and a move leave each
-/// mount with a number of its own: the copies at all receivers included, and what they push up.
+/// After a bind and a new mount mounts stand, each with a number of its own, and no two with one mount point, copies
+/// at receivers and what they push up included: `bind`, `bind_numbers`, `bind_places`, `new_mount`,
+/// `new_mount_numbers`, `new_mount_places`. After a move each has a number of its own (`move_numbers`).
+///
+/// By new numbers; mounts stand, each with its own number. Standing and mount points ask that the destination's mount
+/// exists and that a mount in no namespace has no mount point; mount points, that no mount stands at the destination.
 pub fn attaching_keeps_mounts_standing()
     ensures bind { BindsKeepStanding }
     ensures bind_numbers { BindsKeepNumbers }
@@ -122,7 +151,8 @@ pub fn attaching_keeps_mounts_standing()
     ensures new_mount_places { NewMountsKeepMountPoints }
 {}
 
-/// A mount outside every namespace has no mount point and is private: changes of mounts keep that.
+/// A mount in no namespace still has no mount point and is private after these changes: `taking_away`, `unmount`,
+/// `ended`, `inheritance`, `flags` (where each mount has a number of its own), `unshare`, `lazy` and `settling`.
 pub fn mounts_outside_stay_nowhere()
     ensures taking_away { KeptByTakingAway NowhereOrAttached }
     ensures unmount { KeptByUnmount NowhereOrAttached }
@@ -134,7 +164,9 @@ pub fn mounts_outside_stay_nowhere()
     ensures settling { KeptBySettling NowhereOrAttached }
 {}
 
-/// No two mounts have one mount point: changes of mounts keep that.
+/// Where each mount has a number of its own, no two have one mount point after these changes, if so before: an
+/// `unmount` of a mount without children; the end of `trees` and of namespaces (`ended`), where chains of parents end;
+/// `inheritance`, `types`, `flags` and `settling`.
 pub fn mount_points_keep_one_mount()
     ensures unmount { UnmountLeavesOneMountAMountPoint }
     ensures trees { TreesLeaveOneMountAMountPoint }
@@ -145,8 +177,9 @@ pub fn mount_points_keep_one_mount()
     ensures settling { KeptBySettling AreApart }
 {}
 
-/// Mounts that end without propagation, with a directory or a namespace, are just those: every other mount keeps all
-/// but its mount point, where that was on one of them, and its master, where that lost its last member.
+/// Where mounts are taken away without propagation, just those are detached (`taken`). Each other mount keeps number,
+/// namespace, filesystem, root and flags (`kept`), and its mount point, if that is on a mount that stays (`places`).
+/// It keeps its type, unless it is a slave of a group that lost its last member (`types`).
 pub fn mounts_that_end_are_just_those()
     ensures taken { TakenAreDetached }
     ensures kept { OthersAreKept }
@@ -154,13 +187,16 @@ pub fn mounts_that_end_are_just_those()
     ensures types { OthersKeepTheirTypes }
 {}
 
-/// A lazy unmount detaches a mount, or leaves it all but its mount point and its type.
+/// A lazy unmount detaches a mount, or leaves it all but its mount point and its type (`mounts`). Nothing but mounts
+/// changes (`others`).
 pub fn a_lazy_unmount_detaches_or_keeps()
     ensures mounts { LazyDetachesOrKeeps }
     ensures others { LazyIsOfMounts }
 {}
 
-/// What a granted call makes of the mounts. Then those are gone that nothing uses.
+/// The mounts that a granted call of a task leaves are those after one change, of what its paths lead to, without
+/// those that nothing uses then. The calls are `bind`, `moves`, `mount`, `overlay`, `lazy`, `remount`, `kind` (of
+/// `type`), `pivot`, `rmdir`, `rename` (`rename_of_one` object does nothing), `exit`, `unshare` and `setns`.
 pub fn granted_calls_make_these_changes()
     ensures bind { BindBinds }
     ensures moves { MoveMoves }
@@ -178,8 +214,9 @@ pub fn granted_calls_make_these_changes()
     ensures setns { SetnsEnters }
 {}
 
-/// The group or master of each mount has members, and so has each group up the masters, which come to an end: changes
-/// of mounts keep that.
+/// The test by chains of masters computes that groups live (`computed`). They do after these changes, if before:
+/// `taking_away`, `unmount`, `lazy`, `ended`, `inheritance`, `pivot`, `unshare`; `types`, by new numbers; `flags`,
+/// where each mount has a number of its own; and `settling`, where a mount in no namespace is private.
 pub fn groups_live_on()
     ensures computed { LivingIsComputed }
     ensures taking_away { KeptByTakingAway GroupsLive }
@@ -194,8 +231,8 @@ pub fn groups_live_on()
     ensures settling { SettlingKeepsGroups }
 {}
 
-/// The chain of parents of a mount comes to an end, at a mount without a mount point, in its namespace: these changes
-/// of mounts keep that.
+/// Where each mount has a number of its own, chains of parents end in one namespace after a change of `types`, of
+/// `flags`, and the `inheritance` of groups, if they did before.
 pub fn chains_of_mount_points_end()
     ensures types { TypeKeepsChainsEnding }
     ensures flags { FlagsKeepChainsEnding }

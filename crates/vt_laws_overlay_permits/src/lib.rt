@@ -1,5 +1,5 @@
-//! Laws of calls through overlays and beside them: what is permitted asks for what an overlay can do, and every call
-//! keeps the invariants of a world.
+//! Permits on overlays, and every world: of every world with all invariants, with overlays or without, and every call
+//! of a task of it, by unused numbers.
 //!
 //! Each public function is a theorem of the written policy, and does nothing.
 #![tactic(auto)]

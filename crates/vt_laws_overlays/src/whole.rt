@@ -1,11 +1,11 @@
-//! Laws of overlays that stay whole: changes follow one another.
+//! Changes follow one another.
 ghost use Rattle.vt_laws_overlays.specs.LayersApart.{LayersStayApart, OverlayInvariantsStay, TreeInvariantsStay, TreesStay};
 ghost use Rattle.vt_laws_overlays.specs.WholeStays.{ChangesFollowOneAnother, ChangesKeepWhole, LinkKeepsWhole, MakeKeepsWhole};
 ghost use Rattle.vt_laws_overlays.specs.WholeStays.{MergedTreesStay, MoveKeepsWhole, NamesLeadToOwn, ObjectsAreOwn, RemoveKeepsWhole};
 ghost use Rattle.vt_laws_overlays.specs.WholeStays.{SizesStay, UpperTreesStay};
 
-/// An overlay stays whole in each change: its tree and that of its upper layer are trees, names lead to the upper
-/// layer's directory, and its tree is what its layers show. So after any number of changes, one after the other.
+/// A whole overlay stays whole in the steps `made`, `linked`, `removed` and `moved`, and in a whole change that asks
+/// for what it may (`changes`). So it does in any number of these (`rows`).
 pub fn changes_keep_overlays_whole()
     ensures made { MakeKeepsWhole }
     ensures linked { LinkKeepsWhole }
@@ -15,10 +15,12 @@ pub fn changes_keep_overlays_whole()
     ensures rows { ChangesFollowOneAnother }
 {}
 
-/// The overlay's tree and that of its upper layer stay trees, with the numbers of their inodes beside them, and what
-/// lost its name is its own parent. Each name of the upper layer's tree leads where it led, or to an object of the
-/// overlay or a new inode, and the upper object of an inode is the one that it was, or a new one. Names, texts and
-/// files stay within their limits.
+/// In such a change the trees of the `upper` layer and of the overlay (`merged`) stay trees, with their numbers, and
+/// what lost its name is its own parent.
+///
+/// Each of the `names` of the upper layer's tree leads where it led, to a new inode, or to an upper object of the
+/// overlay. That is no directory, or is led to from the upper layer's directory. The upper object of an inode is the
+/// one that it was, or new (`objects`). Limits are kept where what the change gives is within them (`sizes`).
 pub fn changes_keep_both_trees()
     ensures upper { UpperTreesStay }
     ensures merged { MergedTreesStay }
@@ -27,10 +29,11 @@ pub fn changes_keep_both_trees()
     ensures sizes { SizesStay }
 {}
 
-/// In a world that has all invariants a change of an overlay keeps those of overlays, all of them: layers of live
-/// overlays stand apart, layers are directories of plain trees, and each overlay is what its layers show. Each
-/// filesystem is still a tree, and names lead to the directory of the upper layer; all invariants of trees hold where
-/// what the change gives is within the limits.
+/// In a world with all invariants layers stand `apart` after such a change, by numbers that no inode has: no inode
+/// lies or counts under two that changes write to, nor under one of them and a lower layer of a live overlay. All
+/// invariants of `overlays` hold. Each filesystem is a tree with a number of its own, and names lead to the directory
+/// of the upper layer (`trees`). All invariants of trees hold, where what the change gives is within the limits
+/// (`files`).
 pub fn changes_keep_overlay_invariants()
     ensures apart { LayersStayApart }
     ensures overlays { OverlayInvariantsStay }

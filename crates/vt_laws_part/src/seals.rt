@@ -1,13 +1,13 @@
-//! By what a set of tasks is sealed off.
+//! By what a set of tasks is sealed off. Worlds have all invariants.
 ghost use Rattle.vt_laws_part.specs.Seals.{FewerFootholdsSealToo, SealedIsByPartAndFootholds, TheirOverlaysAreInThePart};
 
-/// In a world with all invariants, where a set holds all tasks of its namespaces, shares no events and no other task is
-/// on a mount of it, the part and the footholds of others decide whether it is sealed off: each filesystem that it
-/// uses, in the part, has no foothold of others, or its root directory is a lower layer of an overlay of the part that
-/// has none, and each other inode of it has a name (`by_part`). An overlay that has no foothold of others is in the
-/// part (`overlays`).
+/// **What decides whether a set is sealed off is its part and the footholds of others** (`by_part`), if the first
+/// three conditions of `sealed` hold: `holds_all_tasks`, `shares_no_events`, `no_outsider_on_mounts`. Each filesystem
+/// that it uses in the part has none, or is locked by an overlay of the part that has none, with a name for each inode
+/// but the root.
 ///
-/// So of two worlds with one part the one in which others have fewer footholds is sealed if the other one is
+/// One of the `overlays` on which others have no foothold is in the part. Of two worlds with one part, the one (with
+/// those conditions) in which others have no foothold where they have none in the other is sealed if the other is
 /// (`fewer`).
 pub fn sealed_is_decided_by_part_and_footholds()
     ensures by_part { SealedIsByPartAndFootholds }

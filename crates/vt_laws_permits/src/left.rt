@@ -1,12 +1,8 @@
 //! What a permit leaves is a world.
 ghost use Rattle.vt_laws_permits.specs.Left.{GivenPermitsAreUnderWay, GivenPermitsLeaveWorlds, SameIsAWorldToo};
 
-/// The permit of a call, applied in a world of plain filesystems that has all invariants, leaves such a world when what
-/// nothing uses is gone. Each world that is the same has them too. Before the sweep all invariants hold but that
-/// everything is in use.
-///
-/// The call is any but the mount of an overlay. The task exists, and the numbers handed in are unused. A fork is given
-/// at most 32 supplementary groups.
+/// The permit that a call is given, applied in a world with all invariants, leaves such a world after the sweep
+/// (`worlds`), as is each that is the `same`. Before the sweep all hold but that all is in use (`under_way`).
 pub fn given_permits_leave_worlds()
     ensures worlds { GivenPermitsLeaveWorlds }
     ensures under_way { GivenPermitsAreUnderWay }

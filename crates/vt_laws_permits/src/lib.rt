@@ -1,5 +1,9 @@
-//! Laws for code that applies each permit by a change of its own: its world stays the same as the policy's but for
-//! change numbers and the order of numbers beside trees.
+//! For code that applies each permit by a change of its own: its world stays the same as the policy's but for change
+//! numbers and the order of numbers beside trees.
+//!
+//! But for `judgements_do_not_see_supplies`, filesystems are plain, and no call mounts an overlay. If a permit is one
+//! that a call is given (`IsGiven`), the task is one of the world, the numbers handed in are unused, and a fork names
+//! at most 32 supplementary groups. A world is ungrouped if no mount of it is in a peer group.
 //!
 //! Each public function is a theorem of the written policy, and does nothing.
 #![tactic(auto)]

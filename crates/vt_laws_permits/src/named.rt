@@ -1,9 +1,8 @@
 //! Which numbers a world has after a permit.
 ghost use Rattle.vt_laws_permits.specs.Named.{PermitsKeepToNumbers, SameKeepsToNumbersToo};
 
-/// What a permit leaves, swept, has no numbers but those that the world had, those of the permit and those that were
-/// handed in; nor has any world of plain filesystems that is the same. The task exists, and the permit mounts no
-/// overlay.
+/// What a permit of a task of the world leaves, swept, has no numbers but those of the world, its own and those handed
+/// in (`numbers`); nor has a world that is the `same`.
 pub fn permits_keep_to_numbers()
     ensures numbers { PermitsKeepToNumbers }
     ensures same { SameKeepsToNumbersToo }

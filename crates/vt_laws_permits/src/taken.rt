@@ -1,9 +1,9 @@
 //! How many of the numbers handed in a permit takes.
 ghost use Rattle.vt_laws_permits.specs.Taken.{CountsGoOn, GivenCountsGoOn, GivenPermitsAreLeft, GivenPermitsKeepToTaken, GivenWithAnySupply, HandedCountsGoOn, JudgementsDoNotSeeSupplies, OnlyTheFirstAreTaken, PermitsKeepToTaken};
 
-/// In a world of plain filesystems in which no mount is in a peer group, a permit takes only the first numbers of a
-/// supply (`numbers_taken`): the rest may be any. So what it leaves keeps to the numbers of the world and of the
-/// permit, and to those that were taken.
+/// In an ungrouped world with all invariants a permit of its numbers takes only the first of those handed in, as many
+/// as its kind takes (`numbers_taken`, `first`). So what it leaves keeps to the numbers of the world and of the
+/// permit, and to those taken (`numbers`), as with `counts` and with a program's supply (`handed`).
 pub fn only_the_first_numbers_are_taken()
     ensures first { OnlyTheFirstAreTaken }
     ensures numbers { PermitsKeepToTaken }
@@ -11,14 +11,15 @@ pub fn only_the_first_numbers_are_taken()
     ensures handed { HandedCountsGoOn }
 {}
 
-/// In every world the judgement of a call but the mount of an overlay is the same, whatever numbers are handed in.
+/// In every world with all invariants, with overlays or without, a call but `mount overlay` is `judged` alike,
+/// whatever numbers are handed in. So a permit is `given` with each supply that serves.
 pub fn judgements_do_not_see_supplies()
     ensures judged { JudgementsDoNotSeeSupplies }
     ensures given { GivenWithAnySupply }
 {}
 
-/// A permit that a call is given in such a world names only numbers to which the world keeps. So what it leaves keeps
-/// to those and to the numbers that were taken.
+/// A permit that a call is given names only numbers to which the world keeps (`permits`, with overlays too). So in an
+/// ungrouped world what it leaves keeps to those and to the numbers that were taken (`numbers`, `counts`).
 pub fn given_permits_keep_to_taken()
     ensures permits { GivenPermitsAreLeft }
     ensures numbers { GivenPermitsKeepToTaken }

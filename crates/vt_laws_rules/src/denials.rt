@@ -1,17 +1,16 @@
-//! A call that is refused leaves the world as it was, and a call that only looks does too.
+//! What refused calls, and calls that only look, leave.
 ghost use Rattle.vt_laws_rules.specs.Denials.{DenialChangesNothing, DeniedLineChangesNothing, DirectiveChangesNothing, LookChangesNothing, RefusedMemoryChangesNothing};
 
-/// Whatever rule refuses a call, at whatever point, the whole world is as it was: mounts, groups, trees, namespaces,
-/// tasks and change numbers.
-///
-/// So is it after a line of a script that is answered by a denial, and after a line that was refused memory.
+/// A refused `call` leaves the whole world as it was, change numbers too. So does a `line` of a script that is
+/// answered by a denial, and one in which an allocation fails (`memory`).
 pub fn denials_change_nothing()
     ensures call { DenialChangesNothing }
     ensures line { DeniedLineChangesNothing }
     ensures memory { RefusedMemoryChangesNothing }
 {}
 
-/// Calls that only look, and directives, leave the world, granted or refused: no change number is raised.
+/// A `call` that only looks leaves the world as it was, granted or refused; so does a `directive`. No change number is
+/// raised.
 pub fn looks_change_nothing()
     ensures call { LookChangesNothing }
     ensures directive { DirectiveChangesNothing }

@@ -1,26 +1,23 @@
-//! A call is judged by what a world shows, and what it is permitted is then applied.
+//! A call is judged by what a world shows, and its permit is then applied.
 ghost use Rattle.vt_laws_rules.specs.Judged.{AlikeAreJudgedAlike, AlikeAreWalkedAlike, CallIsJudgedThenApplied, LastStepRaisesNumbersAlone, PolicyJudgesThenApplies};
 
-/// The outcome of each of the 39 calls is its judgement, then its permit applied: it is refused by the rule that
-/// `judge` gives, and the world stays, or it has the answer of `apply`, and leaves the world of `apply`.
-///
-/// So is the outcome of the policy, where what nothing uses then goes and change numbers are raised.
+/// The outcome of each of the 39 `calls` is its judgement, then its permit applied: it is refused by the rule that
+/// `judge` gives, and the world stays, or `apply` gives its answer and the world. So is the outcome of the `policy`,
+/// which then sweeps the world and raises change numbers. `Policy.antt` defines it so.
 pub fn calls_are_judged_then_applied()
     ensures calls { CallIsJudgedThenApplied }
     ensures policy { PolicyJudgesThenApplies }
 {}
 
-/// Once what is not in use is gone, the policy changes nothing but change numbers: answers, files, overlays, mounts,
-/// groups, namespaces and tasks are those that the call left. Each change number stays or is one more; `numbers_raised`
-/// says which.
+/// After a call of a task that exists, and the sweep, the policy changes change numbers alone, and the answer is the
+/// call's. Each change number stays or is one more; `numbers_raised` says which.
 pub fn the_last_step_raises_change_numbers_alone()
     ensures { LastStepRaisesNumbersAlone }
 {}
 
-/// Walks and rules look at a world through `Looks` alone: two worlds that show the same are walked alike, and every
-/// call is judged alike in both, however they are kept.
-///
-/// Whether a permit that attaches mounts leaves a namespace with too many of them is given beside it.
+/// Two worlds that show the same wherever walks and rules look (`LookAlike`) are walked alike (`walks`). Each of the
+/// `calls` is judged alike in both: the same rule, or the same permit. Whether a permit that attaches mounts leaves a
+/// namespace with too many is given beside it.
 pub fn what_looks_alike_is_judged_alike()
     ensures walks { AlikeAreWalkedAlike }
     ensures calls { AlikeAreJudgedAlike }

@@ -1,4 +1,4 @@
-//! Laws of the whole machine: refusals, rules, which calls a permit is given to, and numbers, which do not matter.
+//! Refusals, rules, which calls a permit is given to, and numbers, which do not matter.
 //!
 //! Each public function is a theorem of the written policy, and does nothing.
 #![tactic(auto)]

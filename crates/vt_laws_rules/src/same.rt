@@ -1,12 +1,13 @@
-//! The order of the numbers that stand beside trees, and change numbers, are not looked at.
+//! The order of the numbers beside trees, and change numbers, are not looked at.
 ghost use Rattle.vt_laws_rules.specs.Same.{PlainHasOneName, SameInvariantWorldsJudgeAlike, SameInvariantWorldsLookAlike, SameWorldsAreJudgedAlike, SameWorldsJudgeAlike, SameWorldsLookAlike, WorldsHaveOneName};
 
-/// Two worlds that are the same but for change numbers, and for the order of the numbers that stand beside trees
-/// (`SameWorlds`), look alike, and each call is judged alike in both.
+/// Two worlds that are the same but for change numbers, and for the order of the numbers beside trees (`SameWorlds`),
+/// look alike (`looks`). Each call is judged alike in both, whatever is said of namespaces with too many mounts
+/// (`calls`), and by what each world says of that (`judgements`).
 ///
-/// What lies only below in an overlay has a name in one directory alone there (`BelowHasOneName`): else the mounter
-/// would be asked for the directory that comes first. So it has in every world that has the invariants, with overlays
-/// or without, and in every world of plain filesystems.
+/// These ask that what lies only below in an overlay has a name in one directory alone. So it has where all
+/// filesystems are plain (`plain`), and in every world with all invariants (`names`); so such worlds need nothing more
+/// (`invariant_looks`, `invariant_judgements`).
 pub fn same_worlds_are_judged_alike()
     ensures looks { SameWorldsLookAlike }
     ensures calls { SameWorldsAreJudgedAlike }

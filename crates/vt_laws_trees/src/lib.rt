@@ -1,4 +1,4 @@
-//! Laws of trees: every call leaves trees, within their limits.
+//! Every call leaves trees, within their limits.
 //!
 //! Each public function is a theorem of the written policy, and does nothing.
 #![tactic(auto)]

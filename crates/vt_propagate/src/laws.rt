@@ -1,4 +1,4 @@
-//! Laws of mounts and groups that change together. Each function is a theorem of the definitions, and does nothing.
+//! Mounts and groups that change together. Words of the premises are those of `vt_laws_letting_go`.
 ghost use Rattle.vt_propagate.specs.EndsInTurn.{EndedGoInTurn, NamespacesEndDeepestFirst, NamespacesEndInTurn};
 ghost use Rattle.vt_propagate.specs.EndsInTurn.{OneByOneAreSweptOnce, TurnsAreSeenSwept, UnlistedNamespacesEndInTurn};
 ghost use Rattle.vt_propagate.specs.ExitsAtOnce.{ExitsAreAtOnce};
@@ -6,8 +6,9 @@ ghost use Rattle.vt_propagate.specs.Laws.{DetachingIsSeen, RetypingIsSeen, Shari
 ghost use Rattle.vt_propagate.specs.LazyUnmounts.{LazyUnmountsAreAtOnce, LazyUnmountsAreSeen, LazyUnmountsSettleAlike};
 ghost use Rattle.vt_propagate.specs.LazyUnmounts.{LazyUnmountsTakeTheTree, PartsAreSweptOnce, PartsGoAtOnce};
 
-/// Where the mounts and groups were a world's, those that `leave_all`, `make_slaves` and `share` leave are those of the
-/// world that the definitions have then. Masters of groups without members do not count.
+/// Where mounts and groups were a world's, those that `leave_all`, `make_slaves` and `share` leave are those that the
+/// definitions have then: `detaching`, `retyping`, `slaves`, `sharing`. Masters of groups without members do not
+/// count.
 pub fn what_is_seen_stays_the_world()
     ensures detaching { DetachingIsSeen }
     ensures retyping { RetypingIsSeen }
@@ -15,12 +16,13 @@ pub fn what_is_seen_stays_the_world()
     ensures sharing { SharingIsSeen }
 {}
 
-/// Mounts that are detached in parts may as well be detached at once. So a lazy unmount, which has an event for each
-/// mount of the tree, leaves the world from which all that the events detach was taken at once: it is seen so, and
-/// settles so. The whole tree is among what they detach. Masters of groups without members do not count.
+/// Mounts that are detached in `parts` may as well be detached at once. So a lazy unmount leaves the world from which
+/// all that its events detach was taken at once (`events`), the whole `tree` among it, if the mount is in a namespace.
+/// The two may differ in the masters of groups without members: they are `seen` alike, and both settle to one world
+/// (`settled`). The invariants of mounts hold.
 ///
-/// With a sweep after each part the same world is left as with one after all, where what a sweep needs holds on the
-/// way: trees, real objects, no upper layer in an overlay, and the invariants of mounts.
+/// With a sweep after each part, or one after all were taken at once, the same world is left (`swept`). The world is
+/// fit for overlays, and the invariants of mounts hold on the way.
 pub fn lazy_unmounts_detach_at_once()
     ensures parts { PartsGoAtOnce }
     ensures swept { PartsAreSweptOnce }
@@ -30,12 +32,13 @@ pub fn lazy_unmounts_detach_at_once()
     ensures settled { LazyUnmountsSettleAlike }
 {}
 
-/// Mounts are detached one after the other, with a sweep after each, and none of them has a child when its turn comes:
-/// the world is left from which all are detached at once and that is swept then. So it is with the mounts of namespaces
-/// without tasks: what is left, once these namespaces are no longer listed, is what their end and one sweep leave. They
-/// may be taken off the list first, too.
+/// Mounts are detached one by one, without propagation, with a sweep after each, and none has a child when its turn
+/// comes (`GoInTurn`): the world is left from which all are detached at once and that is swept then (`alone`). So with
+/// the mounts of namespaces without tasks, in whichever order: once these are no longer listed, what is left is what
+/// `namespaces_ended` and one sweep leave (`ended`). They may be taken off the list first (`unlisted`).
 ///
-/// There is such an order: the deepest first. That a mount has no child may be seen in the worlds that are swept.
+/// The deepest first is such an order (`order`, `deepest`). That a mount has no child may be seen in the worlds that
+/// are swept (`turns`). The world is fit for overlays, and the invariants of mounts hold.
 pub fn namespaces_end_mount_by_mount()
     ensures alone { OneByOneAreSweptOnce }
     ensures ended { NamespacesEndInTurn }
@@ -45,9 +48,9 @@ pub fn namespaces_end_mount_by_mount()
     ensures turns { TurnsAreSeenSwept }
 {}
 
-/// Tasks end one after the other, _exit(2), and with each its namespace if it is the last one there, with a sweep after
-/// each: the world is left from which all these tasks are gone at once, in which then the namespaces end that have no
-/// task, and that is swept then.
+/// Tasks end one after the other, the last ones of their namespaces too, with a sweep after each. They leave the world
+/// from which all are gone at once, namespaces without tasks then end, and one sweep is made. The world is fit for
+/// overlays, and the invariants of mounts hold.
 pub fn tasks_that_end_one_by_one_end_at_once()
     ensures { ExitsAreAtOnce }
 {}
