@@ -92,11 +92,7 @@ fn with_escape(
 ) -> Result<Option<Proposal>, AllocError> {
     let before = line.get(..column).unwrap_or_default();
     let after = line.get(column.saturating_add(width)..).unwrap_or_default();
-    Proposal::new(
-        version,
-        alloc,
-        format!(in alloc; "{before}{text}{after}")?,
-    )
+    Proposal::new(version, alloc, format!(in alloc; "{before}{text}{after}")?)
 }
 
 // The line with the escape that is meant.

@@ -50,7 +50,8 @@ impl<'a> Fault<'a> {
     pub fn span(self, line: Given<'a>) -> Span {
         match self {
             Fault::NoTask(word) | Fault::NoCall(word) | Fault::NoDirective(word) => word.span(),
-            Fault::Later(_, word) | Fault::Unmodelled(_, word) | Fault::OfSecond(word) => word.span(),
+            Fault::Later(_, word) | Fault::Unmodelled(_, word) | Fault::OfSecond(word) =>
+                word.span(),
             Fault::NoOption(_, word) | Fault::Bad(_, _, word) | Fault::Further(_, word) => {
                 word.span()
             }
@@ -124,12 +125,7 @@ fn of_lacking(alloc: Global, usage: &str, name: &str) -> Result<String, AllocErr
 }
 
 /// Whether a word is of a kind: whether a run takes it in the line of that kind.
-pub fn fits(
-    version: Version,
-    alloc: Global,
-    kind: Kind,
-    text: &str,
-) -> Result<bool, AllocError> {
+pub fn fits(version: Version, alloc: Global, kind: Kind, text: &str) -> Result<bool, AllocError> {
     let words = kind.words(version);
     let (before, after) = (words.before, words.after);
     let line = format!(in alloc; "{before}{text}{after}")?;

@@ -233,7 +233,11 @@ fn with_parents(alloc: Global, line: Given<'_>) -> Result<Option<Help>, AllocErr
             _ if end == path.len() => path,
             _ => continue,
         };
-        if let Some(line) = Proposal::new(line.version, alloc, format!(in alloc; "{who} mkdir {front}")?)? {
+        if let Some(line) = Proposal::new(
+            line.version,
+            alloc,
+            format!(in alloc; "{who} mkdir {front}")?,
+        )? {
             lines.push(line)?;
         }
     }
