@@ -2,7 +2,7 @@
 use Rattle.std.specs.Prelude.{Bool, Contains, List, false, is_some, nat_eq, not, true, ℕ, ◌&&◌, ◌||◌, ◌≡◌}
 use Rattle.std.specs.List.{list_any}
 use Rattle.vt_spec.specs.Language.Calls.{Call, TaskName, same_name}
-use Rattle.vt_spec.specs.Language.Calls.Call.{MountOverlay, MoveMount, PivotRoot, Remount, Rename, Setns, Umount}
+use Rattle.vt_spec.specs.Language.Calls.Call.{MountOverlay, MoveMount, Setns, Umount}
 use Rattle.vt_spec.specs.Lists.{is_among}
 use Rattle.vt_spec.specs.Machine.Invariants.{IsWorld}
 use Rattle.vt_spec.specs.Machine.Judge.{judge}
@@ -33,12 +33,9 @@ MembersSeeAlike =
 
 -- the calls of which the next law is proved: all but these
 abbrev pub is_compared : Call → Bool
-is_compared (Rename old new) = false
 is_compared (MountOverlay path options flags) = false
 is_compared (MoveMount source path) = false
 is_compared (Umount path) = false
-is_compared (Remount path flags) = false
-is_compared (PivotRoot new put) = false
 is_compared call = true
 
 -- a call of a task of a sealed set, which enters no namespace but one of theirs

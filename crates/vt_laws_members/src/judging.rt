@@ -6,8 +6,9 @@ ghost use Rattle.vt_laws_members.specs.Judging.{MembersAreJudgedAlike, MembersSe
 /// theirs on it (`seen`). Walks, from there on, lead alike.
 ///
 /// So a call of a task of a sealed set is granted or refused in its part as in the world, by the same rule and with the
-/// same permit (`judged`): of all calls but `rename`, and of mount calls those that make a mount of a new tree, bind,
-/// unmount lazily or set a type. What the set has wholly locked is locked in its part, too.
+/// same permit (`judged`). This is proved of each call but `overlay`, `move` and `umount`. What the set has wholly
+/// locked is locked in its part, and what others mount on it stands on locked directories alone, so that no call of
+/// theirs is refused by it (P1). Lower layers show the same in the part, which has no more of their filesystems (O1).
 pub fn a_call_of_theirs_is_judged_by_their_part()
     ensures seen { MembersSeeAlike }
     ensures judged { MembersAreJudgedAlike }

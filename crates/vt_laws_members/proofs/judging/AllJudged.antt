@@ -32,7 +32,11 @@ use Rattle.vt_laws_members.proofs.judging.Grounds.{over_alike, same_mount, their
 use Rattle.vt_laws_members.proofs.judging.Judged.{JudgesAlike, chdir_alike, chroot_alike, exec_alike, list_alike, lstat_alike, read_alike, readlink_alike, stat_alike}
 use Rattle.vt_laws_members.proofs.judging.JudgedFiles.{chmod_alike, chown_alike, hard_link_alike, mkdir_alike, opaque_alike, open_alike, symlink_alike, unlink_alike, whiteout_alike, write_alike}
 use Rattle.vt_laws_members.proofs.judging.JudgedMounts.{bind_alike, lazy_alike, plain_alike, type_alike}
-use Rattle.vt_laws_members.proofs.judging.JudgedRemoving.{rmdir_alike}
+use Rattle.vt_laws_members.proofs.judging.JudgedRemoving.{RenamesAlike, rename_alike, rmdir_alike}
+use Rattle.vt_laws_members.proofs.judging.LowersSeen.{lower_directory_alike}
+use Rattle.vt_laws_members.proofs.judging.Anywhere.{anywhere_alike}
+use Rattle.vt_laws_members.proofs.judging.JudgedPivots.{ParentsAlike, pivot_alike, remount_alike}
+use Rattle.vt_laws_members.proofs.judging.ParentsSeen.{parents_alike}
 use Rattle.vt_laws_members.proofs.judging.Locks.{locked_alike}
 use Rattle.vt_laws_members.proofs.judging.Masks.{RulesSeeAlike}
 use Rattle.vt_laws_members.proofs.judging.MountPoints.{points_alike}
@@ -175,6 +179,15 @@ module _ (world : World ℕ) (names : List TaskName) (is : IsWorld nat_eq world)
       (Ok (ToEnterNamespace namespace))))
       (sym (called_alike names name theirs world.tasks))
 
+  renames : RenamesAlike one other own
+  renames = record {
+    anywhere = λ here e free. anywhere_alike world names is sealed_off here (on here e) free;
+    lower = λ here name e. lower_directory_alike world names is here (on here e) name;
+  }
+
+  parents : ParentsAlike one other task own
+  parents = parents_alike world names is sealed_off task member
+
   pub judged : (overfills : Permit ℕ → Bool) (call : Call) → is_compared call ≡ true
       → ((name : TaskName) → call ≡ Setns name → is_among same_name name names ≡ true)
       → judge nat_eq one overfills task call ≡ judge nat_eq other overfills task call
@@ -192,7 +205,8 @@ module _ (world : World ℕ) (names : List TaskName) (is : IsWorld nat_eq world)
   judged overfills (Unlink path) e t = unlink_alike one other task own uses judges path
   judged overfills (Rmdir path) e t =
       rmdir_alike one other task own uses judges (points_alike world names is task member) path
-  judged overfills (Rename old new) e t = absurd (true≢false (sym e))
+  judged overfills (Rename old new) e t =
+      rename_alike one other task own uses judges (points_alike world names is task member) renames old new
   judged overfills (Chmod path mode) e t = chmod_alike one other task own uses judges path mode
   judged overfills (Chown path uid gid) e t = chown_alike one other task own uses judges path uid gid
   judged overfills (Opaque path mark) e t = opaque_alike one other task own uses judges path mark
@@ -214,9 +228,9 @@ module _ (world : World ℕ) (names : List TaskName) (is : IsWorld nat_eq world)
   judged overfills (MoveMount source path) e t = absurd (true≢false (sym e))
   judged overfills (Umount path) e t = absurd (true≢false (sym e))
   judged overfills (Lazy path) e t = lazy_alike one other task own uses judges overfills path
-  judged overfills (Remount path flags) e t = absurd (true≢false (sym e))
+  judged overfills (Remount path flags) e t = remount_alike one other task own uses judges parents path flags
   judged overfills (SetType path word recursive) e t = type_alike one other task own uses judges overfills path word recursive
-  judged overfills (PivotRoot new put) e t = absurd (true≢false (sym e))
+  judged overfills (PivotRoot new put) e t = pivot_alike one other task own uses judges parents new put
   judged overfills ListMounts e t = refl
 
 pub members_are_judged_alike : MembersAreJudgedAlike

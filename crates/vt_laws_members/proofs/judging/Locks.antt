@@ -188,7 +188,7 @@ module _ (world : World ℕ) (names : List TaskName) (is : IsWorld nat_eq world)
       (shown_how world names kept.0 merged kept.2))
       from.1
 
-  abbrev files_of : ℕ → FileTree ℕ
+  abbrev pub files_of : ℕ → FileTree ℕ
   files_of number = (filesystem_numbered nat_eq world number).files
 
   -- a filesystem that has a directory is there
@@ -252,8 +252,10 @@ module _ (world : World ℕ) (names : List TaskName) (is : IsWorld nat_eq world)
       (or_cases (lies_in_layer nat_eq world number object at.0)
       (list_any (counts_in_layer nat_eq world number object at.0) (overlays world)) at.2)
 
+  -- an overlay with a lower layer there
   lower_layer : (number root : ℕ) (merged : Filesystem ℕ) → is_lower_root nat_eq number root merged ≡ true
       → (layer : Layer ℕ) × Among layer (of_overlay [] layers_of merged)
+      × Among layer (of_overlay [] (λ (overlay : Overlay ℕ). overlay.lowers) merged)
       × (number ≡ layer.filesystem) × (root ≡ layer.directory)
   lower_layer number root merged h = by merged.overlay h
     where
@@ -261,6 +263,7 @@ module _ (world : World ℕ) (names : List TaskName) (is : IsWorld nat_eq world)
           → overlay_or false (λ (overlay : Overlay ℕ). list_any (λ (layer : Layer ℕ). nat_eq number layer.filesystem
           && nat_eq root layer.directory) overlay.lowers) o ≡ true
           → (layer : Layer ℕ) × Among layer (overlay_or [] layers_of o)
+          × Among layer (overlay_or [] (λ (overlay : Overlay ℕ). overlay.lowers) o)
           × (number ≡ layer.filesystem) × (root ≡ layer.directory)
       by None h = absurd (true≢false (sym h))
       by (Some overlay) h =
@@ -269,15 +272,27 @@ module _ (world : World ℕ) (names : List TaskName) (is : IsWorld nat_eq world)
           let both = and_parts (nat_eq number at.0.filesystem) (nat_eq root at.0.directory) at.2 in (
             at.0,
             among-append_right (option_to_list overlay.upper ++ option_to_list overlay.work) overlay.lowers at.0 at.1,
+            at.1,
             eqb-true number at.0.filesystem both.0,
             eqb-true root at.0.directory both.1,
           )
 
-  -- what is wholly locked is locked in the part
-  wholly_in_part : (number object : ℕ) → is_among nat_eq number (used_filesystems nat_eq world names) ≡ true
-      → wholly_locked nat_eq world names number ≡ true → is_some ((files_of number).tree.node object) ≡ true
-      → is_locked nat_eq part number object ≡ true
-  wholly_in_part number object used whole there =
+  -- what locks a filesystem wholly
+  pub record IsWhole (number : ℕ) : Type 0 where
+    pub merged : Filesystem ℕ
+    pub overlaid : Among merged (overlays world)
+    pub alone : used_alone nat_eq world names merged.number ≡ true
+    pub layer : Layer ℕ
+    pub layered : Among layer (of_overlay [] layers_of merged)
+    pub lower : Among layer (of_overlay [] (λ (overlay : Overlay ℕ). overlay.lowers) merged)
+    pub inside : number ≡ layer.filesystem
+    pub at_root : (files_of number).tree.root ≡ layer.directory
+    -- all that is there lies under the root
+    pub under : (object : ℕ) → is_some ((files_of number).tree.node object) ≡ true
+        → is_under nat_eq (files_of number) (files_of number).tree.root object ≡ true
+
+  pub whole_how : (number : ℕ) → wholly_locked nat_eq world names number ≡ true → IsWhole number
+  whole_how number whole =
       let both = and_parts
       (list_any (λ merged. is_lower_root nat_eq number (files_of number).tree.root merged
       && used_alone nat_eq world names merged.number) (overlays world)) (all_named nat_eq (files_of number)) whole in
@@ -287,29 +302,47 @@ module _ (world : World ℕ) (names : List TaskName) (is : IsWorld nat_eq world)
       (used_alone nat_eq world names at.0.number) at.2 in
       let layer = lower_layer number (files_of number).tree.root at.0 two.0 in
       let directory : is_directory_node ((files_of number).tree.node (files_of number).tree.root) ≡ true =
-      subst (λ n. is_directory_node ((files_of n).tree.node (files_of number).tree.root) ≡ true) (sym layer.2)
-      (subst (λ d. is_directory_node ((files_of layer.0.filesystem).tree.node d) ≡ true) (sym layer.3)
+      subst (λ n. is_directory_node ((files_of n).tree.node (files_of number).tree.root) ≡ true) (sym layer.3)
+      (subst (λ d. is_directory_node ((files_of layer.0.filesystem).tree.node d) ≡ true) (sym layer.4)
       (layer_directory world names is at.0 (among-from_filter is_overlay world.filesystems at.0 at.1).0 layer.0 layer.1)) in
       let tree = tree_there number (files_of number).tree.root directory in
-      let named = among_from_list_all (λ n. nat_eq n (files_of number).tree.root || is_among nat_eq n (named_in (files_of number)))
-      (files_of number).numbers both.1 object (among_numbers (files_of number).numbers object (tree.1 object ∙ there)) in
-      let under : is_under nat_eq (files_of number) (files_of number).tree.root object ≡ true =
-      ⊎_elim
-      (λ root. subst (λ o. is_under nat_eq (files_of number) (files_of number).tree.root o ≡ true)
-      (sym (eqb-true object (files_of number).tree.root root)) (root_under (files_of number) tree.0 tree.1))
-      (λ name. named_under (files_of number) tree.0 tree.1 object (among_numbers (named_in (files_of number)) object name))
-      (or_cases (nat_eq object (files_of number).tree.root) (is_among nat_eq object (named_in (files_of number))) named) in
-      let in_part : Among at.0 (overlays part) =
-      among_from_contains (overlays part) at.0
-      (their_overlays_are_in_the_part world names at.0 is (contains_from_among (overlays world) at.0 at.1) two.1) in
-      any_from_among (lies_or_counts_under nat_eq part number object) (live_layers part) layer.0
-      (among-flat_map (of_overlay [] layers_of) (overlays part) at.0 layer.0 in_part layer.1)
-      (or_left (lies_in_layer nat_eq part number object layer.0) _
-      (and_from (nat_eq number layer.0.filesystem)
-      (is_under nat_eq (filesystem_numbered nat_eq part number).files layer.0.directory object)
-      (eq-eqb number layer.0.filesystem layer.2)
-      (ap (λ (f : Filesystem ℕ). is_under nat_eq f.files layer.0.directory object) (found world names number used)
-      ∙ subst (λ d. is_under nat_eq (files_of number) d object ≡ true) layer.3 under)))
+      record {
+        merged = at.0;
+        overlaid = at.1;
+        alone = two.1;
+        layer = layer.0;
+        layered = layer.1;
+        lower = layer.2;
+        inside = layer.3;
+        at_root = layer.4;
+        under = λ object there.
+            ⊎_elim
+            (λ root. subst (λ o. is_under nat_eq (files_of number) (files_of number).tree.root o ≡ true)
+            (sym (eqb-true object (files_of number).tree.root root)) (root_under (files_of number) tree.0 tree.1))
+            (λ name. named_under (files_of number) tree.0 tree.1 object
+            (among_numbers (named_in (files_of number)) object name))
+            (or_cases (nat_eq object (files_of number).tree.root) (is_among nat_eq object (named_in (files_of number)))
+            (among_from_list_all (λ n. nat_eq n (files_of number).tree.root
+            || is_among nat_eq n (named_in (files_of number))) (files_of number).numbers both.1 object
+            (among_numbers (files_of number).numbers object (tree.1 object ∙ there))));
+      }
+
+  -- what is wholly locked is locked in the part
+  wholly_in_part : (number object : ℕ) → is_among nat_eq number (used_filesystems nat_eq world names) ≡ true
+      → IsWhole number → is_some ((files_of number).tree.node object) ≡ true → is_locked nat_eq part number object ≡ true
+  wholly_in_part number object used whole there =
+      let in_part : Among whole.merged (overlays part) =
+      among_from_contains (overlays part) whole.merged
+      (their_overlays_are_in_the_part world names whole.merged is
+      (contains_from_among (overlays world) whole.merged whole.overlaid) whole.alone) in
+      any_from_among (lies_or_counts_under nat_eq part number object) (live_layers part) whole.layer
+      (among-flat_map (of_overlay [] layers_of) (overlays part) whole.merged whole.layer in_part whole.layered)
+      (or_left (lies_in_layer nat_eq part number object whole.layer) _
+      (and_from (nat_eq number whole.layer.filesystem)
+      (is_under nat_eq (filesystem_numbered nat_eq part number).files whole.layer.directory object)
+      (eq-eqb number whole.layer.filesystem whole.inside)
+      (ap (λ (f : Filesystem ℕ). is_under nat_eq f.files whole.layer.directory object) (found world names number used)
+      ∙ subst (λ d. is_under nat_eq (files_of number) d object ≡ true) whole.at_root (whole.under object there))))
 
   pub locked_alike : (number : ℕ) → is_among nat_eq number (used_filesystems nat_eq world names) ≡ true → (object : ℕ)
       → is_locked nat_eq world number object ≡ is_locked nat_eq part number object
@@ -317,7 +350,7 @@ module _ (world : World ℕ) (names : List TaskName) (is : IsWorld nat_eq world)
       same_truth (is_locked nat_eq world number object) (is_locked nat_eq part number object)
       (λ h. ⊎_elim
       (λ alone. locked_at world part number (found world names number used) (alone_in_part number alone) object h)
-      (λ whole. wholly_in_part number object used whole (locked_there number object h))
+      (λ whole. wholly_in_part number object used (whole_how number whole) (locked_there number object h))
       (or_cases (used_alone nat_eq world names number) (wholly_locked nat_eq world names number)
       (used_are_free world names sealed_off number
       (among_numbers (used_filesystems nat_eq world names) number used))))

@@ -147,7 +147,7 @@ module _ (world : World ℕ) (names : List TaskName) (is : IsWorld nat_eq world)
           ∙ sym (ap (λ points. stands_on_one part points mount) (points_same here own)) ∙ on)) passes
 
   module _ (task : Task ℕ) (member : Among task theirs) where
-    in_own : (mount : Mount ℕ) → holds_of (nat_eq task.namespace) mount.namespace ≡ true → owns mount ≡ true
+    pub in_own : (mount : Mount ℕ) → holds_of (nat_eq task.namespace) mount.namespace ≡ true → owns mount ≡ true
     in_own mount h = by mount.namespace h
       where
         by : (o : Option ℕ) → holds_of (nat_eq task.namespace) o ≡ true

@@ -9,7 +9,7 @@ use Rattle.vt_spec.specs.Lists.{chain, is_among}
 use Rattle.vt_spec.specs.Machine.Invariants.{IsWorld, is_directory_seen_in, is_located_well, is_there, stands_on_directories}
 use Rattle.vt_spec.specs.Machine.Looks.{looks_of}
 use Rattle.vt_spec.specs.Machine.Mounts.{Location, Mount, same_location}
-use Rattle.vt_spec.specs.Machine.Sealed.{is_at, is_member_task, is_own_mount, locations, members, own_mounts, part_of, roots_and_directories, used_filesystems}
+use Rattle.vt_spec.specs.Machine.Sealed.{is_at, is_member_task, is_own_mount, locations, members, own_mounts, part_of, roots_and_directories, used_directly, used_filesystems}
 use Rattle.vt_spec.specs.Machine.Walking.{hop, hops}
 use Rattle.vt_spec.specs.Machine.World.{Filesystem, Task, World, all_locations, filesystem_at, filesystem_numbered, is_directory_at, locations_of, mount_at, mount_numbered}
 use Rattle.vt_spec.proofs.Lists.{Among, among-append_left, among-append_right, among-filter, among-flat_map, among-from_filter, among-from_flat_map, among-from_map, among-map, among_from_contains, among_from_list_all, any_among, any_from_among}
@@ -41,33 +41,40 @@ module _ (world : World ℕ) (names : List TaskName) (is : IsWorld nat_eq world)
       (⊎_elim (λ root. inl root) (λ rest. ⊎_elim (λ directory. inr (inl directory)) (λ none. absurd none) rest) task.2)
 
   -- the filesystem of a location that they use is used
-  pub located_used : (l : Location ℕ) → Among l (locations theirs) → uses (mount_at nat_eq world l).filesystem ≡ true
-  located_used l m =
-      used_directly_used world names (mount_at nat_eq world l).filesystem
-      (among-append_right (map (λ (mount : Mount ℕ). mount.filesystem) (own_mounts nat_eq world names))
+  located_directly : (l : Location ℕ) → Among l (locations theirs)
+      → Among (mount_at nat_eq world l).filesystem (used_directly nat_eq world names)
+  located_directly l m =
+      among-append_right (map (λ (mount : Mount ℕ). mount.filesystem) (own_mounts nat_eq world names))
       (map (λ location. (mount_at nat_eq world location).filesystem) (locations theirs)) (mount_at nat_eq world l).filesystem
-      (among-map (λ location. (mount_at nat_eq world location).filesystem) (locations theirs) l m))
+      (among-map (λ location. (mount_at nat_eq world location).filesystem) (locations theirs) l m)
 
-  ground_used : (mount : Mount ℕ) → Among mount world.mounts → IsGround world names is.mounts mount
-      → uses mount.filesystem ≡ true
-  ground_used mount m ground =
+  pub located_used : (l : Location ℕ) → Among l (locations theirs) → uses (mount_at nat_eq world l).filesystem ≡ true
+  located_used l m = used_directly_used world names (mount_at nat_eq world l).filesystem (located_directly l m)
+
+  ground_directly : (mount : Mount ℕ) → Among mount world.mounts → IsGround world names is.mounts mount
+      → Among mount.filesystem (used_directly nat_eq world names)
+  ground_directly mount m ground =
       ⊎_elim
-      (λ own. used_directly_used world names mount.filesystem
-      (among-append_left (map (λ (mount : Mount ℕ). mount.filesystem) (own_mounts nat_eq world names))
+      (λ own. among-append_left (map (λ (mount : Mount ℕ). mount.filesystem) (own_mounts nat_eq world names))
       (map (λ location. (mount_at nat_eq world location).filesystem) (locations theirs)) mount.filesystem
       (among-map (λ (mount : Mount ℕ). mount.filesystem) (own_mounts nat_eq world names) mount
-      (among-filter (is_own_mount nat_eq world names) world.mounts mount m own))))
+      (among-filter (is_own_mount nat_eq world names) world.mounts mount m own)))
       (λ stood.
       let at = any_among (λ (l : Location ℕ). nat_eq l.mount mount.number) (roots_and_directories theirs) stood.1 in
       let it : mount_at nat_eq world at.0 ≡ mount =
       ap (mount_numbered nat_eq world) (eqb-true at.0.mount mount.number at.2) ∙ numbered world names is.mounts mount m in
-      subst (λ (x : Mount ℕ). uses x.filesystem ≡ true) it (located_used at.0 (located at.0 at.1)))
+      subst (λ (x : Mount ℕ). Among x.filesystem (used_directly nat_eq world names)) it
+      (located_directly at.0 (located at.0 at.1)))
       ground
 
+  pub theirs_directly : (here : Location ℕ) → OnTheirs here
+      → Among (mount_at nat_eq world here).filesystem (used_directly nat_eq world names)
+  theirs_directly here own =
+      subst (λ (x : Mount ℕ). Among x.filesystem (used_directly nat_eq world names))
+      (sym (its_mount world names is.mounts here.mount own)) (ground_directly own.0 own.1 own.3)
+
   pub theirs_used : (here : Location ℕ) → OnTheirs here → uses (mount_at nat_eq world here).filesystem ≡ true
-  theirs_used here own =
-      ap (λ (x : Mount ℕ). uses x.filesystem) (its_mount world names is.mounts here.mount own)
-      ∙ ground_used own.0 own.1 own.3
+  theirs_used here own = used_directly_used world names (mount_at nat_eq world here).filesystem (theirs_directly here own)
 
   pub mount_alike : (here : Location ℕ) → OnTheirs here → mount_at nat_eq world here ≡ mount_at nat_eq part here
   mount_alike here own = sym (same_mount world names is.mounts here.mount own)
