@@ -1,6 +1,10 @@
 -- What the proofs of src/frames.rt use.
+pub mod FilesystemsGoOn
+pub mod FilesystemsUnraised
 pub mod NamespacesGoOn
 pub mod PivotsRaise
+pub mod PolicyLeaves
 pub mod SameMounts
 pub mod ShownAlike
+pub mod SweptFilesystems
 pub mod Unraised

@@ -1,5 +1,5 @@
 //! What a call left as it was, where change numbers are what they were.
-ghost use Rattle.vt_laws_turn_frames.specs.Unraised.{OtherTasksOfUnraisedNamespacesStay, UnraisedNamespacesKeepMounts};
+ghost use Rattle.vt_laws_turn_frames.specs.Unraised.{OtherTasksOfUnraisedNamespacesStay, UnraisedFilesystemsStay, UnraisedNamespacesKeepMounts};
 
 /// A namespace whose change number is what it was before a call, and not the largest one, has the mounts that it had,
 /// each the same record (`mounts`). So has each other task of such a namespace: it is what it was, since a
@@ -7,4 +7,11 @@ ghost use Rattle.vt_laws_turn_frames.specs.Unraised.{OtherTasksOfUnraisedNamespa
 pub fn unraised_namespaces_keep_their_mounts()
     ensures mounts { UnraisedNamespacesKeepMounts }
     ensures tasks { OtherTasksOfUnraisedNamespacesStay }
+{}
+
+/// A filesystem whose change number is what it was before a call, and not the largest one, has the root, the layers and
+/// the mounter that it had, and each inode that is left is what it was, with its real object. What nothing uses any
+/// longer may be gone.
+pub fn unraised_filesystems_stay()
+    ensures { UnraisedFilesystemsStay }
 {}
