@@ -4,3 +4,4 @@
 #![tactic(auto)]
 
 pub mod frames;
+pub mod in_turn;

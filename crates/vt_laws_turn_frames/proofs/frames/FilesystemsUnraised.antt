@@ -1,9 +1,8 @@
 -- A filesystem whose change number is what it was is what it was, but for what nothing uses.
-use Rattle.std.proofs.Common.{◌≡◌, ◌≢◌, refl, sym, ap, subst, ◌∙◌, ◌⊎◌, inl, inr, ⊎_elim, ℕ, nat_eq, Bool, true, false, true≢false, cond, List, [], ◌∷◌, ◌*◌, ◌||◌, Option, Some, None, find, map, eqb-true, eq-eqb}
+use Rattle.std.proofs.Common.{◌≡◌, ◌≢◌, refl, sym, ap, subst, ◌∙◌, inl, ℕ, nat_eq, Bool, true, false, true≢false, cond, List, [], ◌∷◌, ◌*◌, Option, Some, None, find, map, eqb-true, eq-eqb}
 use Rattle.std.specs.Prelude.{option_map, unwrap_or}
 use Rattle.std.specs.List.{list_any}
-use Rattle.std.proofs.lemmas.Bool.{or_parts}
-use Rattle.vt_spec.specs.Lists.{Fresh, any_pair}
+use Rattle.vt_spec.specs.Lists.{Fresh}
 use Rattle.vt_spec.specs.Machine.Apply.{apply, filesystems_changed}
 use Rattle.vt_spec.specs.Machine.Filesystems.{raised, raised_if_changed}
 use Rattle.vt_spec.specs.Machine.Permits.{Permit}
@@ -19,7 +18,7 @@ use Rattle.vt_laws_worlds.proofs.worlds.SeenTrees.{unused_by_filesystem}
 use Rattle.vt_laws_turn_frames.specs.Unraised.{IsCallIn, IsFilesystemUnraised, KeepsFilesystem, UnraisedFilesystemsStay}
 use Rattle.vt_laws_turn_frames.proofs.frames.FilesystemsGoOn.{GoesOn, filesystems_go_on}
 use Rattle.vt_laws_turn_frames.proofs.frames.FilesystemsGoOn.GoesOn.{Changed, New, Old}
-use Rattle.vt_laws_turn_frames.proofs.frames.PolicyLeaves.{left_by, policy_leaves}
+use Rattle.vt_laws_turn_frames.proofs.frames.PolicyLeaves.{policy_leaves}
 use Rattle.vt_laws_turn_frames.proofs.frames.SameMounts.{rises}
 use Rattle.vt_laws_turn_frames.proofs.frames.SweptFilesystems.{Stays, kept_on, same_kept, swept_stays}
 use Rattle.vt_laws_turn_frames.proofs.frames.Unraised.{not_stale}

@@ -1,9 +1,9 @@
 -- The sweep leaves a filesystem what it was, but for inodes that nothing uses.
-use Rattle.std.proofs.Common.{◌≡◌, refl, sym, ap, subst, ◌∙◌, ◌⊎◌, inl, inr, ⊎_elim, ℕ, nat_eq, Bool, true, false, cond, List, [], ◌∷◌, Option, Some, None, filter, map, not}
+use Rattle.std.proofs.Common.{◌≡◌, refl, sym, ap, subst, ◌∙◌, inl, inr, ⊎_elim, ℕ, nat_eq, Bool, true, false, cond, List, Option, Some, None, not}
 use Rattle.std.specs.Prelude.{option_map}
 use Rattle.std.specs.List.{list_all}
 use Rattle.vt_spec.specs.Lists.{is_among}
-use Rattle.vt_spec.specs.Machine.Settled.{filesystem_lives, only_among, only_used, only_used_by, real_among, settled, used_in, without_dead_filesystems, without_dead_in, without_dead_mounts}
+use Rattle.vt_spec.specs.Machine.Settled.{filesystem_lives, only_used, only_used_by, real_among, settled, used_in, without_dead_filesystems, without_dead_in, without_dead_mounts}
 use Rattle.vt_spec.specs.Machine.World.{Filesystem, Overlay, World, is_overlay}
 use Rattle.vt_spec.proofs.Lists.{Among, among-from_filter, among-from_map}
 use Rattle.vt_laws_turn_frames.specs.Unraised.{IsLeftOrGone, KeepsFilesystem, KeepsOverlay}

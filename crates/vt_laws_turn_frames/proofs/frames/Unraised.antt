@@ -37,11 +37,11 @@ not_stale held now e =
     turned false h = absurd (true≢false h)
 
 -- the change number of a namespace that was found, or of none
-abbrev change_in : Option (Namespace ℕ) → ℕ
+abbrev pub change_in : Option (Namespace ℕ) → ℕ
 change_in found = unwrap_or (option_map (λ (n : Namespace ℕ). n.change) found) last_number
 
 -- what is found among changed namespaces is what is found, changed
-found_map : (f : Namespace ℕ → Namespace ℕ) (number : ℕ) (list : List (Namespace ℕ))
+pub found_map : (f : Namespace ℕ → Namespace ℕ) (number : ℕ) (list : List (Namespace ℕ))
     → ((n : Namespace ℕ) → (f n).number ≡ n.number)
     → find (λ (n : Namespace ℕ). nat_eq number n.number) (map f list)
     ≡ option_map f (find (λ (n : Namespace ℕ). nat_eq number n.number) list)

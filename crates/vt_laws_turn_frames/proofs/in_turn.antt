@@ -1,0 +1,2 @@
+-- What the proofs of src/in_turn.rt use.
+pub mod NumbersRise
