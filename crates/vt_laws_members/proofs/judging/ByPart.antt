@@ -1,5 +1,5 @@
 -- Calls that attach no mount are judged by the part alone.
-use Rattle.std.proofs.Common.{◌≡◌, refl, sym, ◌∙◌, ℕ, nat_eq, Bool, true, false, true≢false}
+use Rattle.std.proofs.Common.{◌≡◌, refl, ◌∙◌, ℕ, nat_eq, Bool, false, true≢false}
 use Rattle.vt_spec.specs.Language.Calls.{Call}
 use Rattle.vt_spec.specs.Language.Calls.Call.{Bind, Chdir, Chmod, Chown, Chroot, Close, Drop, Exec, Exit, Fork, Lazy, LinkTo, ListMounts, Ls, Lstat, MakeWhiteout, Mkdir, MountOverlay, MountPlain, MoveMount, Opaque, OpenFile, PivotRoot, Pread, Pwrite, Read, Readlink, Remount, Rename, Rmdir, SetType, Setns, Stat, SymlinkAt, Umask, Umount, Unlink, Unshare, Write}
 use Rattle.vt_spec.specs.Machine.Apply.{overfills}
@@ -31,7 +31,7 @@ unasked looks task one other (Rename old new) e = refl
 unasked looks task one other (Chmod path mode) e = refl
 unasked looks task one other (Chown path uid gid) e = refl
 unasked looks task one other (Opaque path mark) e = refl
-unasked looks task one other (OpenFile path access creation) e = refl
+unasked looks task one other (OpenFile path access _) e = refl
 unasked looks task one other (Pread descriptor offset size) e = refl
 unasked looks task one other (Pwrite descriptor offset bytes) e = refl
 unasked looks task one other (Close descriptor) e = refl
