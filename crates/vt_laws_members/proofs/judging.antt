@@ -1,6 +1,7 @@
 -- What the proofs of src/judging.rt use.
 pub mod AllJudged
 pub mod Anywhere
+pub mod ByPart
 pub mod Grounds
 pub mod Judged
 pub mod JudgedFiles

@@ -2,10 +2,10 @@
 use Rattle.std.specs.Prelude.{Bool, Contains, List, false, is_some, nat_eq, not, true, ℕ, ◌&&◌, ◌||◌, ◌≡◌}
 use Rattle.std.specs.List.{list_any}
 use Rattle.vt_spec.specs.Language.Calls.{Call, TaskName, same_name}
-use Rattle.vt_spec.specs.Language.Calls.Call.{MountOverlay, MoveMount, Setns, Umount}
-use Rattle.vt_spec.specs.Lists.{is_among}
+use Rattle.vt_spec.specs.Language.Calls.Call.{Bind, MountOverlay, MountPlain, MoveMount, Setns, Umount}
+use Rattle.vt_spec.specs.Lists.{Fresh, is_among}
 use Rattle.vt_spec.specs.Machine.Invariants.{IsWorld}
-use Rattle.vt_spec.specs.Machine.Judge.{judge}
+use Rattle.vt_spec.specs.Machine.Judge.{judge, judge_in}
 use Rattle.vt_spec.specs.Machine.Looks.{looks_of}
 use Rattle.vt_spec.specs.Machine.Mounts.{Mount}
 use Rattle.vt_spec.specs.Machine.Permits.{Permit}
@@ -53,3 +53,18 @@ MembersAreJudgedAlike =
     → is_compared call ≡ true → (overfills : Permit ℕ → Bool)
     → judge nat_eq (looks_of nat_eq world) overfills task call
     ≡ judge nat_eq (looks_of nat_eq (part_of nat_eq world names)) overfills task call
+
+-- the calls of which M9 is asked: those that attach mounts
+abbrev pub attaches : Call → Bool
+attaches (MountPlain path flags) = true
+attaches (MountOverlay path options flags) = true
+attaches (Bind source path recursive) = true
+attaches (MoveMount source path) = true
+attaches call = false
+
+-- So each other call is judged in the part as in the world, whatever numbers are handed in.
+abbrev pub MembersAreJudgedByTheirPart : Type 0
+MembersAreJudgedByTheirPart =
+    (world : World ℕ) (names : List TaskName) (task : Task ℕ) (call : Call) → IsMembersCall world names task call
+    → is_compared call ≡ true → attaches call ≡ false → (fresh other : Fresh ℕ)
+    → judge_in nat_eq fresh world task call ≡ judge_in nat_eq other (part_of nat_eq world names) task call

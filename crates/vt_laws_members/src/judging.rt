@@ -1,5 +1,5 @@
 //! How calls of members are judged in the part of their set.
-ghost use Rattle.vt_laws_members.specs.Judging.{MembersAreJudgedAlike, MembersSeeAlike};
+ghost use Rattle.vt_laws_members.specs.Judging.{MembersAreJudgedAlike, MembersAreJudgedByTheirPart, MembersSeeAlike};
 
 /// In a world with all invariants, the part of a set of tasks shows to each of them what the world shows, on each mount
 /// that a walk of one gets to: a mount of their namespaces, or a detached one with a root or working directory of
@@ -9,7 +9,11 @@ ghost use Rattle.vt_laws_members.specs.Judging.{MembersAreJudgedAlike, MembersSe
 /// same permit (`judged`). This is proved of each call but `overlay`, `move` and `umount`. What the set has wholly
 /// locked is locked in its part, and what others mount on it stands on locked directories alone, so that no call of
 /// theirs is refused by it (P1). Lower layers show the same in the part, which has no more of their filesystems (O1).
+///
+/// A call that attaches no mount is not asked whether a namespace would have too many (M9), and is judged by the part
+/// alone (`by_part`).
 pub fn a_call_of_theirs_is_judged_by_their_part()
     ensures seen { MembersSeeAlike }
     ensures judged { MembersAreJudgedAlike }
+    ensures by_part { MembersAreJudgedByTheirPart }
 {}

@@ -210,7 +210,7 @@ module _ (world : World ℕ) (names : List TaskName) (is : IsWorld nat_eq world)
   judged overfills (Chmod path mode) e t = chmod_alike one other task own uses judges path mode
   judged overfills (Chown path uid gid) e t = chown_alike one other task own uses judges path uid gid
   judged overfills (Opaque path mark) e t = opaque_alike one other task own uses judges path mark
-  judged overfills (OpenFile path access creation) e t = open_alike one other task own uses judges path access creation
+  judged overfills (OpenFile path access how) e t = open_alike one other task own uses judges path access how
   judged overfills (Pread descriptor offset size) e t = refl
   judged overfills (Pwrite descriptor offset bytes) e t = pwrite_alike descriptor offset bytes
   judged overfills (Close descriptor) e t = refl

@@ -1,4 +1,5 @@
 use Rattle.vt_laws_members.proofs.judging.AllJudged.{members_are_judged_alike}
+use Rattle.vt_laws_members.proofs.judging.ByPart.{members_are_judged_by_their_part}
 use Rattle.vt_laws_members.proofs.judging.SeenInPart.{members_see_alike}
 use Rattle.vt_laws_members.proofs.judging.a_call_of_theirs_is_judged_by_their_part.Goals as goal
 
@@ -7,3 +8,6 @@ returns-clause-seen c = members_see_alike
 
 pub returns-clause-judged : goal.returns-clause-judged
 returns-clause-judged c = members_are_judged_alike
+
+pub returns-clause-by_part : goal.returns-clause-by_part
+returns-clause-by_part c = members_are_judged_by_their_part
