@@ -1,4 +1,4 @@
-//! Laws of the numbers that a call is handed by a program that counts, and gives some inodes the numbers of their slots.
+//! Laws of the numbers that a call is handed by a program that counts, and numbers inodes by their slots.
 ghost use Rattle.vt_laws_given.specs.NumbersHanded.{NumbersAtPlacesServe, NumbersAtPlacesServeNamed};
 
 /// Counts from the next one on, with even numbers, each another, at given places among them, serve in a world that has

@@ -1,4 +1,4 @@
--- Copies to the upper layer, one missing prefix at a time: the kernel's overlayfs document, "non-directories" (copy_up).
+-- Copies to the upper layer, one missing prefix at a time: the kernel's overlayfs document, "non-directories".
 use Rattle.std.specs.Prelude.{List, None, Some, [], length, map, nat_eq, option_map, unwrap_or, ℕ, ⊤, ◌++◌, ◌∷◌, ◌≡◌}
 use Rattle.vt_spec.specs.FileTree.{FileTree}
 use Rattle.vt_spec.specs.Language.Changes.{changed}

@@ -77,7 +77,8 @@ module _ (world : World ℕ) (number : ℕ) where
       let parts = or_parts (is_mounted nat_eq world filesystem.number)
       (list_any (layered world filesystem.number) world.filesystems)
       (skipped (not (nat_eq filesystem.number number)) (filesystem_lives nat_eq world filesystem) e) in
-      (λ i. mounted_before filesystem.number parts.0 i || list_any (layered mounted filesystem.number) world.filesystems)
+      ap (λ b. b || list_any (layered mounted filesystem.number) world.filesystems)
+      (mounted_before filesystem.number parts.0)
       ∙ none_passes (layered mounted filesystem.number) world.filesystems
       (λ g m. less filesystem.number g (fails (layered world filesystem.number) world.filesystems parts.1 g m))
 
