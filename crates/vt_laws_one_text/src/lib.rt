@@ -1,0 +1,4 @@
+//! Runs over the whole language, overlays among it.
+#![tactic(auto)]
+
+pub mod answered;
