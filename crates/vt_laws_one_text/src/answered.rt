@@ -5,7 +5,7 @@ ghost use Rattle.vt_laws_one_text.specs.Answered.{PermitsLeaveAlike, SameWorldsA
 /// answer with the same handed-in numbers, and leaves two such worlds before the sweep (`permits`). The sweep leaves
 /// two such worlds (`swept`). So the policy answers `calls` alike, and leaves such worlds; `directives` need no
 /// invariant.
-pub fn same_worlds_are_answered_alike()
+pub fn any_same_worlds_are_answered_alike()
     ensures permits { PermitsLeaveAlike }
     ensures swept { SameWorldsAreSweptAlike }
     ensures calls { SameWorldsAreAnsweredAlike }

@@ -65,7 +65,7 @@ peers_alike one other same =
     (peers_same one other) same
 
 -- the overlays of both
-overlays_alike : (ones others : List (Filesystem ℕ)) → Each SameFilesystem ones others
+pub overlays_alike : (ones others : List (Filesystem ℕ)) → Each SameFilesystem ones others
     → Each SameFilesystem (filter is_overlay ones) (filter is_overlay others)
 overlays_alike ones others same =
     each_filter SameFilesystem is_overlay is_overlay (λ a b alike. ap is_some alike.overlay) ones others same

@@ -139,7 +139,7 @@ module _ (one other : World ℕ) (same : Alike one other) where
       (locations_same one other same i ++ map root_of (same.mounts i)
       ++ filter_map (λ (mount : Mount ℕ). mount.mount_point) (same.mounts i)))
 
-  used_permuted : (a b : Filesystem ℕ) → SameFilesystem a b
+  pub used_permuted : (a b : Filesystem ℕ) → SameFilesystem a b
       → IsPermutation (used_in nat_eq one a) (used_in nat_eq other b)
   used_permuted a b alike =
       subst (IsPermutation (used_in nat_eq one a))
@@ -194,7 +194,7 @@ module _ (one other : World ℕ) (same : Alike one other) where
   abbrev is_shown : List (Mount ℕ) → ℕ → Bool
   is_shown mounts filesystem = list_any (λ (mount : Mount ℕ). nat_eq filesystem mount.filesystem) mounts
 
-  lives_same : (first second : Filesystem ℕ) → SameFilesystem first second
+  pub lives_same : (first second : Filesystem ℕ) → SameFilesystem first second
       → filesystem_lives nat_eq one first ≡ filesystem_lives nat_eq other second
   lives_same first second alike = λ i.
       is_shown (same.mounts i) (alike.number i)

@@ -1,5 +1,5 @@
 use Rattle.vt_laws_one_text.proofs.answered.AlikeAnswered.{permits_leave_alike, same_worlds_are_answered_alike, same_worlds_are_directed_alike, same_worlds_are_swept_alike}
-use Rattle.vt_laws_one_text.proofs.answered.same_worlds_are_answered_alike.Goals as goal
+use Rattle.vt_laws_one_text.proofs.answered.any_same_worlds_are_answered_alike.Goals as goal
 
 pub returns-clause-permits : goal.returns-clause-permits
 returns-clause-permits c = permits_leave_alike
