@@ -31,18 +31,18 @@ PermitsLeaveAlike =
     → AreAlike (apply nat_eq fresh one task permit) (apply nat_eq fresh other again permit)
 
 -- The sweep leaves two such worlds, whatever invariants they have.
-abbrev pub SameWorldsAreSweptAlike : Type 0
-SameWorldsAreSweptAlike =
+abbrev pub AnySameWorldsAreSweptAlike : Type 0
+AnySameWorldsAreSweptAlike =
     (one other : World ℕ) → SameWorlds one other → SameWorlds (settled nat_eq one) (settled nat_eq other)
 
 -- So each call has one answer, and leaves two such worlds.
-abbrev pub SameWorldsAreAnsweredAlike : Type 0
-SameWorldsAreAnsweredAlike =
+abbrev pub AnySameWorldsAreAnsweredAlike : Type 0
+AnySameWorldsAreAnsweredAlike =
     (one other : World ℕ) → SameWorlds one other → IsWorld nat_eq one → (fresh : Fresh ℕ) (name : TaskName)
     (call : Call) → AreAlike (policy nat_eq fresh one name call) (policy nat_eq fresh other name call)
 
 -- So has each directive.
-abbrev pub SameWorldsAreDirectedAlike : Type 0
-SameWorldsAreDirectedAlike =
+abbrev pub AnySameWorldsAreDirectedAlike : Type 0
+AnySameWorldsAreDirectedAlike =
     (one other : World ℕ) → SameWorlds one other → (directive : Directive)
     → AreAlike (directed nat_eq one directive) (directed nat_eq other directive)

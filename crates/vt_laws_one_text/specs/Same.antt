@@ -2,15 +2,22 @@
 -- invariants, and the same numbers in them, with overlays too.
 use Rattle.std.specs.Prelude.{Bool, nat_eq, ℕ}
 use Rattle.vt_laws_rules.specs.Numbers.{KeepsTo}
-use Rattle.vt_spec.specs.Machine.Invariants.{IsWorld}
+use Rattle.vt_laws_worlds.specs.Worlds.Kept.{IsUnderWay}
+use Rattle.vt_spec.specs.Machine.Invariants.{IsWorld, OverlayInvariants}
 use Rattle.vt_spec.specs.Machine.SameWorlds.{SameWorlds}
 use Rattle.vt_spec.specs.Machine.World.{World}
 
--- Where the one has all invariants, so has the other.
-abbrev pub SameWorldsAreWorlds : Type 0
-SameWorldsAreWorlds = (one other : World ℕ) → SameWorlds one other → IsWorld nat_eq one → IsWorld nat_eq other
+-- Where the one has all invariants, so has the other,
+abbrev pub AnySameWorldsAreWorlds : Type 0
+AnySameWorldsAreWorlds = (one other : World ℕ) → SameWorlds one other → IsWorld nat_eq one → IsWorld nat_eq other
 
--- Where the one keeps to some numbers, so does the other.
-abbrev pub SameWorldsKeepToNumbers : Type 0
-SameWorldsKeepToNumbers =
+-- also before the sweep, when something may be left that nothing uses,
+abbrev pub AnySameWorldsAreUnderWay : Type 0
+AnySameWorldsAreUnderWay =
+    (one other : World ℕ) → SameWorlds one other → IsUnderWay one → OverlayInvariants nat_eq one
+    → IsUnderWay other × OverlayInvariants nat_eq other
+
+-- and where the one keeps to some numbers, so does the other.
+abbrev pub AnySameWorldsKeepToNumbers : Type 0
+AnySameWorldsKeepToNumbers =
     (named : ℕ → Bool) (one other : World ℕ) → SameWorlds one other → KeepsTo named one → KeepsTo named other

@@ -1,5 +1,5 @@
 //! Worlds that are the same but for change numbers and the order of numbers beside trees (`SameWorlds`).
-ghost use Rattle.vt_laws_one_text.specs.Answered.{PermitsLeaveAlike, SameWorldsAreAnsweredAlike, SameWorldsAreDirectedAlike, SameWorldsAreSweptAlike};
+ghost use Rattle.vt_laws_one_text.specs.Answered.{PermitsLeaveAlike, AnySameWorldsAreAnsweredAlike, AnySameWorldsAreDirectedAlike, AnySameWorldsAreSweptAlike};
 
 /// In two such worlds, one of which has all invariants, with overlays or without, every permit of a task has one
 /// answer with the same handed-in numbers, and leaves two such worlds before the sweep (`permits`). The sweep leaves
@@ -7,7 +7,7 @@ ghost use Rattle.vt_laws_one_text.specs.Answered.{PermitsLeaveAlike, SameWorldsA
 /// invariant.
 pub fn any_same_worlds_are_answered_alike()
     ensures permits { PermitsLeaveAlike }
-    ensures swept { SameWorldsAreSweptAlike }
-    ensures calls { SameWorldsAreAnsweredAlike }
-    ensures directives { SameWorldsAreDirectedAlike }
+    ensures swept { AnySameWorldsAreSweptAlike }
+    ensures calls { AnySameWorldsAreAnsweredAlike }
+    ensures directives { AnySameWorldsAreDirectedAlike }
 {}

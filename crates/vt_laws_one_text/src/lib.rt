@@ -9,5 +9,6 @@
 #![tactic(auto)]
 
 pub mod answered;
+pub mod in_use;
 pub mod runs;
 pub mod same;

@@ -6,7 +6,7 @@ use Rattle.vt_laws_one_text.proofs.answered.AlikeDirected.{directed_alike}
 use Rattle.vt_laws_one_text.proofs.answered.AlikeSettled.{raised_alike, settled_alike}
 use Rattle.vt_laws_one_text.proofs.answered.AlikeWorlds.{Alike, alike_from_same, same_from_alike}
 use Rattle.vt_laws_one_text.proofs.answered.CopiesOfWorlds.{copies_of_worlds}
-use Rattle.vt_laws_one_text.specs.Answered.{PermitsLeaveAlike, SameWorldsAreAnsweredAlike, SameWorldsAreDirectedAlike, SameWorldsAreSweptAlike}
+use Rattle.vt_laws_one_text.specs.Answered.{PermitsLeaveAlike, AnySameWorldsAreAnsweredAlike, AnySameWorldsAreDirectedAlike, AnySameWorldsAreSweptAlike}
 use Rattle.vt_laws_rules.proofs.judged.CallsJudged.{policy_judges_then_applies}
 use Rattle.vt_laws_rules.proofs.same.SameNames.{invariant_worlds_judge_alike}
 use Rattle.vt_laws_runs.proofs.answered.AlikeWorlds.{SameTask}
@@ -97,16 +97,16 @@ permits_leave_alike one other same is fresh task again alike permit =
     (copies_of_worlds one other (alike_from_same one other same) is) task again alike permit in
     record { answer = left.answer; worlds = same_from_alike _ _ left.worlds }
 
-pub same_worlds_are_swept_alike : SameWorldsAreSweptAlike
-same_worlds_are_swept_alike one other same =
+pub any_same_worlds_are_swept_alike : AnySameWorldsAreSweptAlike
+any_same_worlds_are_swept_alike one other same =
     same_from_alike _ _ (settled_alike one other (alike_from_same one other same))
 
-pub same_worlds_are_answered_alike : SameWorldsAreAnsweredAlike
-same_worlds_are_answered_alike one other same is fresh name call =
+pub any_same_worlds_are_answered_alike : AnySameWorldsAreAnsweredAlike
+any_same_worlds_are_answered_alike one other same is fresh name call =
     let alike = policy_alike fresh one other (alike_from_same one other same) is call name in
     record { answer = alike.answer; worlds = same_from_alike _ _ alike.worlds }
 
-pub same_worlds_are_directed_alike : SameWorldsAreDirectedAlike
-same_worlds_are_directed_alike one other same directive =
+pub any_same_worlds_are_directed_alike : AnySameWorldsAreDirectedAlike
+any_same_worlds_are_directed_alike one other same directive =
     let alike = directed_alike one other (alike_from_same one other same) directive in
     record { answer = alike.answer; worlds = same_from_alike _ _ alike.worlds }

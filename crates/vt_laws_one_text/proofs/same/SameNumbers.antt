@@ -3,7 +3,7 @@ use Rattle.std.proofs.Common.{◌≡◌, refl, sym, ap, ◌∙◌, ℕ, nat_eq, 
 use Rattle.std.proofs.lemmas.List.Sorted.{list_any-IsPermutation}
 use Rattle.vt_laws_letting_go.proofs.Lists.{Among, among_numbers, is_among_numbers, map_same}
 use Rattle.vt_laws_rules.specs.Renaming.{Renaming}
-use Rattle.vt_laws_one_text.specs.Same.{SameWorldsKeepToNumbers}
+use Rattle.vt_laws_one_text.specs.Same.{AnySameWorldsKeepToNumbers}
 use Rattle.vt_spec.specs.Machine.SameWorlds.{SameFilesystem}
 use Rattle.vt_laws_rules.proofs.judged.NumbersRaised.{bare_task}
 use Rattle.vt_laws_one_text.proofs.answered.AlikeWorlds.{Alike, alike_from_same}
@@ -92,6 +92,6 @@ module _ (renaming : Renaming ℕ ℕ) where
     change = other.change;
   }
 
-pub same_worlds_keep_to_numbers : SameWorldsKeepToNumbers
-same_worlds_keep_to_numbers named one other same keeps renaming leaves =
+pub any_same_worlds_keep_to_numbers : AnySameWorldsKeepToNumbers
+any_same_worlds_keep_to_numbers named one other same keeps renaming leaves =
     left_alike renaming one other (alike_from_same one other same) (keeps renaming leaves)

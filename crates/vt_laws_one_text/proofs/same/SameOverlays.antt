@@ -1,21 +1,22 @@
 -- The invariants of overlays go along worlds that are the same.
-use Rattle.std.proofs.Common.{◌≡◌, sym, ap, subst, ◌∙◌, ℕ, nat_eq, true, not, ◌&&◌, List, [], ◌∷◌, map, flat_map, Option, is_some, option_map, slice_get}
+use Rattle.std.proofs.Common.{◌≡◌, sym, ap, subst, ◌∙◌, ℕ, nat_eq, true, false, not, ◌&&◌, ◌||◌, List, [], ◌∷◌, map, flat_map, Option, is_some, option_map, slice_get}
 use Rattle.std.specs.List.{list_all, list_any}
+use Rattle.std.proofs.lemmas.List.Sorted.{list_any-IsPermutation}
 use Rattle.vt_laws_one_text.proofs.answered.AlikeChanges.{found_alike, opened_same}
 use Rattle.vt_laws_one_text.proofs.answered.AlikeDirected.{overlays_alike}
-use Rattle.vt_laws_one_text.proofs.answered.AlikeWorlds.{Alike, same_from_alike}
+use Rattle.vt_laws_one_text.proofs.answered.AlikeWorlds.{Alike}
 use Rattle.vt_laws_permits.proofs.same.EachHas.{each_all}
-use Rattle.vt_laws_rules.proofs.same.SameNames.{invariant_worlds_look_alike}
-use Rattle.vt_laws_runs.proofs.Each.{each_flat}
+use Rattle.vt_laws_rules.proofs.same.SameFiles.{under_same}
+use Rattle.vt_laws_runs.proofs.Each.{each_any, each_flat}
 use Rattle.vt_spec.specs.declared.attributes.Kind.TheVariants.{White}
 use Rattle.vt_spec.specs.FileTree.{is_kind_in, is_opaque_in}
 use Rattle.vt_spec.specs.Lists.{any_pair, holds_of, then_some}
-use Rattle.vt_spec.specs.Machine.Invariants.{IsMerged, IsWorld, OverlayInvariants, SameObject, has_fit_layers, is_plain_layer, live_lowers, real_node}
+use Rattle.vt_spec.specs.Machine.Invariants.{IsMerged, OverlayInvariants, SameObject, has_fit_layers, is_plain_layer, live_lowers, real_node}
 use Rattle.vt_spec.specs.Machine.Layers.{node_at_path, shown}
-use Rattle.vt_spec.specs.Machine.Locked.{live_upper_and_work, of_overlay, overlaps_one_of, overlay_or, overlays, upper_and_work}
+use Rattle.vt_spec.specs.Machine.Locked.{counts_in_layer, is_real_upper, lies_in_layer, lies_or_counts_under, live_upper_and_work, of_overlay, overlaps_one_of, overlay_or, overlays, upper_and_work}
 use Rattle.vt_spec.specs.Machine.Merging.{layer_node, merged_at, real_object}
 use Rattle.vt_spec.specs.Machine.SameWorlds.{SameFilesystem}
-use Rattle.vt_spec.specs.Machine.World.{Layer, Overlay, Real, World, filesystem_numbered, layers_of, shown_layers}
+use Rattle.vt_spec.specs.Machine.World.{Filesystem, Layer, Overlay, Real, World, filesystem_numbered, layers_of, shown_layers}
 use Rattle.vt_spec.specs.Machine.World.Real.{Lower, Upper}
 use Rattle.vt_spec.specs.Tree.{Node, is_directory_node}
 use Rattle.vt_spec.specs.TreeInvariant.{IsReached, led}
@@ -83,38 +84,71 @@ module _ (one other : World ℕ) (same : Alike one other) where
       (λ a b alike. ap (overlay_or [] some) alike.overlay) (overlays one) (overlays other)
       (overlays_alike one.filesystems other.filesystems same.filesystems)
 
-  module _ (is : IsWorld nat_eq one) where
-    overlaps_same : (others : List (Layer ℕ)) (layer : Layer ℕ)
-        → overlaps_one_of nat_eq one others layer ≡ overlaps_one_of nat_eq other others layer
-    overlaps_same others layer =
-        (invariant_worlds_look_alike one other (same_from_alike one other same) is).overlaps_one_of others layer
+  -- What lies or counts under a layer: that is told by the trees, and by which upper objects there are.
+  lies_same : (filesystem object : ℕ) (layer : Layer ℕ)
+      → lies_in_layer nat_eq one filesystem object layer ≡ lies_in_layer nat_eq other filesystem object layer
+  lies_same filesystem object layer =
+      ap (λ b. nat_eq filesystem layer.filesystem && b)
+      (under_same _ _ (found_alike one other same filesystem).files layer.directory object)
 
-    pub overlays_keep : OverlayInvariants nat_eq other
-    overlays_keep = record {
-      overlays_merge = λ number overlay e.
-          merged_alike number overlay
-          (is.overlays.overlays_merge number overlay ((found_alike one other same number).overlay ∙ e));
-      fit_layers =
-          sym (each_all SameFilesystem (of_overlay true has_fit_layers) (of_overlay true has_fit_layers)
-          (λ a b alike. ap (overlay_or true has_fit_layers) alike.overlay) one.filesystems other.filesystems
-          same.filesystems)
-          ∙ is.overlays.fit_layers;
-      plain_layers =
-          sym (each_all SameFilesystem
-          (of_overlay true (λ overlay. list_all (is_plain_layer nat_eq one) (layers_of overlay)))
-          (of_overlay true (λ overlay. list_all (is_plain_layer nat_eq other) (layers_of overlay)))
-          (λ a b alike. λ i. overlay_or true (λ overlay. list_all (λ layer. plain_same layer i) (layers_of overlay))
-          (alike.overlay i)) one.filesystems other.filesystems same.filesystems)
-          ∙ is.overlays.plain_layers;
-      changed_apart =
-          sym (λ i. any_pair (λ a b. overlaps_same (b ∷ []) a i) (layers_same upper_and_work i))
-          ∙ is.overlays.changed_apart;
-      lowers_apart =
-          sym ((λ i. list_any (λ layer. overlaps_same (live_lowers nat_eq one) layer i) (live_upper_and_work one))
-          ∙ (λ i. list_any (overlaps_one_of nat_eq other (layers_same (λ overlay. overlay.lowers) i))
-          (layers_same upper_and_work i)))
-          ∙ is.overlays.lowers_apart;
-      uppers_reached = λ number overlay upper e has.
-          subst (λ tree. IsReached tree upper.directory) (tree_same upper.filesystem)
-          (is.overlays.uppers_reached number overlay upper ((found_alike one other same number).overlay ∙ e) has);
-    }
+  counts_same : (filesystem object : ℕ) (layer : Layer ℕ) (merged again : Filesystem ℕ)
+      → SameFilesystem merged again
+      → counts_in_layer nat_eq one filesystem object layer merged
+      ≡ counts_in_layer nat_eq other filesystem object layer again
+  counts_same filesystem object layer merged again alike = λ i.
+      overlay_or false (λ overlay.
+      holds_of (λ upper. lies_same upper.filesystem upper.directory layer i) overlay.upper
+      && (holds_of (λ upper. nat_eq filesystem upper.filesystem) overlay.upper
+      && list_any-IsPermutation (is_real_upper nat_eq overlay object) merged.files.numbers again.files.numbers
+      alike.files.numbers i)) (alike.overlay i)
+
+  lies_or_counts_same : (filesystem object : ℕ) (layer : Layer ℕ)
+      → lies_or_counts_under nat_eq one filesystem object layer
+      ≡ lies_or_counts_under nat_eq other filesystem object layer
+  lies_or_counts_same filesystem object layer = λ i.
+      lies_same filesystem object layer i
+      || each_any SameFilesystem (counts_in_layer nat_eq one filesystem object layer)
+      (counts_in_layer nat_eq other filesystem object layer) (counts_same filesystem object layer) (overlays one)
+      (overlays other) (overlays_alike one.filesystems other.filesystems same.filesystems) i
+
+  overlaps_same : (others : List (Layer ℕ)) (layer : Layer ℕ)
+      → overlaps_one_of nat_eq one others layer ≡ overlaps_one_of nat_eq other others layer
+  overlaps_same others layer =
+      list_any-IsPermutation (λ object. lies_or_counts_under nat_eq one layer.filesystem object layer
+      && list_any (lies_or_counts_under nat_eq one layer.filesystem object) others)
+      (filesystem_numbered nat_eq one layer.filesystem).files.numbers
+      (filesystem_numbered nat_eq other layer.filesystem).files.numbers
+      (found_alike one other same layer.filesystem).files.numbers
+      ∙ (λ i. list_any (λ object. lies_or_counts_same layer.filesystem object layer i
+      && list_any (λ other_layer. lies_or_counts_same layer.filesystem object other_layer i) others)
+      (filesystem_numbered nat_eq other layer.filesystem).files.numbers)
+
+  pub overlays_keep : OverlayInvariants nat_eq one → OverlayInvariants nat_eq other
+  overlays_keep is = record {
+    overlays_merge = λ number overlay e.
+        merged_alike number overlay
+        (is.overlays_merge number overlay ((found_alike one other same number).overlay ∙ e));
+    fit_layers =
+        sym (each_all SameFilesystem (of_overlay true has_fit_layers) (of_overlay true has_fit_layers)
+        (λ a b alike. ap (overlay_or true has_fit_layers) alike.overlay) one.filesystems other.filesystems
+        same.filesystems)
+        ∙ is.fit_layers;
+    plain_layers =
+        sym (each_all SameFilesystem
+        (of_overlay true (λ overlay. list_all (is_plain_layer nat_eq one) (layers_of overlay)))
+        (of_overlay true (λ overlay. list_all (is_plain_layer nat_eq other) (layers_of overlay)))
+        (λ a b alike. λ i. overlay_or true (λ overlay. list_all (λ layer. plain_same layer i) (layers_of overlay))
+        (alike.overlay i)) one.filesystems other.filesystems same.filesystems)
+        ∙ is.plain_layers;
+    changed_apart =
+        sym (λ i. any_pair (λ a b. overlaps_same (b ∷ []) a i) (layers_same upper_and_work i))
+        ∙ is.changed_apart;
+    lowers_apart =
+        sym ((λ i. list_any (λ layer. overlaps_same (live_lowers nat_eq one) layer i) (live_upper_and_work one))
+        ∙ (λ i. list_any (overlaps_one_of nat_eq other (layers_same (λ overlay. overlay.lowers) i))
+        (layers_same upper_and_work i)))
+        ∙ is.lowers_apart;
+    uppers_reached = λ number overlay upper e has.
+        subst (λ tree. IsReached tree upper.directory) (tree_same upper.filesystem)
+        (is.uppers_reached number overlay upper ((found_alike one other same number).overlay ∙ e) has);
+  }

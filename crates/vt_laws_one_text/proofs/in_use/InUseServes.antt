@@ -1,0 +1,41 @@
+-- Which numbers a world keeps to, and which supplies serve it.
+use Rattle.std.proofs.Common.{◌≡◌, refl, sym, ap, ◌∙◌, true≢false, ℕ, ◌==◌, Bool, true, false, not, ◌&&◌, ◌||◌, List, [], ◌∷◌, eqb-true}
+use Rattle.std.specs.List.{list_any}
+use Rattle.std.proofs.lemmas.Bool.{or_parts}
+use Rattle.vt_laws_given.proofs.handed.Places.{numbers_at_places_serve}
+use Rattle.vt_laws_given.specs.NumbersHanded.{Placed}
+use Rattle.vt_laws_one_text.proofs.in_use.InUseNamed.{any_worlds_have_numbers_in_use}
+use Rattle.vt_laws_one_text.specs.InUse.{AnyWorldsKeepToNumbersInUse, UnusedNumbersServe}
+use Rattle.vt_laws_permits.specs.InUse.{is_in_use}
+use Rattle.vt_laws_rules.proofs.numbers.NamedWorlds.{named_is_kept}
+use Rattle.vt_spec.specs.Machine.World.{World}
+
+pub any_worlds_keep_to_numbers_in_use : AnyWorldsKeepToNumbersInUse
+any_worlds_keep_to_numbers_in_use named world whole among renaming leaves =
+    named_is_kept (is_in_use world) world (any_worlds_have_numbers_in_use world whole) renaming
+    (λ number used. leaves number (among number used))
+
+-- what is in use is none of some numbers that are not
+none_of : (world : World ℕ) (all : List Placed) → list_any (λ (placed : Placed). is_in_use world placed.1) all ≡ false
+    → (number : ℕ) → is_in_use world number ≡ true
+    → list_any (λ (placed : Placed). number == placed.1) all ≡ false
+none_of world [] unused number used = refl
+none_of world (placed ∷ rest) unused number used =
+    by (number == placed.1) refl (none_of world rest parts.1 number used)
+  where
+    parts : (is_in_use world placed.1 ≡ false)
+        × (list_any (λ (other : Placed). is_in_use world other.1) rest ≡ false)
+    parts = or_parts (is_in_use world placed.1) (list_any (λ (other : Placed). is_in_use world other.1) rest) unused
+
+    by : (same : Bool) → (number == placed.1) ≡ same
+        → list_any (λ (other : Placed). number == other.1) rest ≡ false
+        → (same || list_any (λ (other : Placed). number == other.1) rest) ≡ false
+    by true e later =
+        absurd (true≢false (sym used ∙ ap (is_in_use world) (eqb-true number placed.1 e) ∙ parts.0))
+    by false e later = later
+
+pub unused_numbers_serve : UnusedNumbersServe
+unused_numbers_serve next all world whole counted apart unused =
+    numbers_at_places_serve next all apart world
+    (any_worlds_keep_to_numbers_in_use _ world whole
+    (λ number used. λ i. counted number used i && not (none_of world all unused number used i)))
