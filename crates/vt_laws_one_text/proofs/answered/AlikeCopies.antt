@@ -1,6 +1,7 @@
 -- A change of an overlay, with the copies that it needs, in two overlays that are the same but for the order of the
 -- numbers beside trees.
-use Rattle.std.proofs.Common.{◌≡◌, refl, sym, ap, subst, ◌∙◌, ◌⊎◌, inl, inr, ⊎_elim, true≢false, ℕ, nat_eq, ◌+◌, Bool, true, false, cond, List, [], ◌∷◌, ◌++◌, reverse, Option, Some, None, is_some, unwrap_or}
+use Rattle.std.proofs.lemmas.Grind.{common_steps}
+use Rattle.std.proofs.Common.{arith, ◌≡◌, refl, sym, ap, subst, ◌∙◌, ◌⊎◌, inl, inr, ⊎_elim, true≢false, ℕ, nat_eq, ◌+◌, Bool, true, false, cond, List, [], ◌∷◌, ◌++◌, reverse, Option, Some, None, is_some, unwrap_or}
 use Rattle.std.specs.Prelude.{⊤}
 use Rattle.std.proofs.lemmas.List.Sorted.{IsPermutation-cons}
 use Rattle.vt_laws_rules.proofs.same.SameFiles.{ancestors_same, path_same}
@@ -12,7 +13,7 @@ use Rattle.vt_spec.specs.Lists.{Fresh, evens, odds, then_some}
 use Rattle.vt_spec.specs.Machine.CopyUp.{Merge, Stack, changed_both, copied_content, copied_each, copied_up, copy_named, copy_of, copy_of_node, copy_parent, hides_directory, is_directory_shown, is_in_upper, line_by, line_to, merge_changed, merge_with_link, merge_with_moved, merge_with_new, merge_without_name, name_left, name_left_by, shown_in_lowers_at, upper_directory_named, upper_of, whiteout_of, with_mark, with_real, without_contents}
 use Rattle.vt_spec.specs.Machine.Layers.{shown_in_lowers}
 use Rattle.vt_spec.specs.Machine.SameWorlds.{SameFiles}
-use Rattle.vt_spec.specs.Machine.World.{Real, upper_object}
+use Rattle.vt_spec.specs.Machine.World.{upper_object}
 use Rattle.vt_spec.specs.Machine.World.Real.{Upper}
 use Rattle.vt_spec.specs.Tree.{Node, entries_in, entry_named, is_directory_node, node_with_bytes, node_with_entry, with_node}
 
@@ -58,45 +59,32 @@ name_added one other same directory again number also name here there =
     (subst (λ n. SameFiles (with_name nat_eq one directory name number) (with_name nat_eq other directory name n)) there
     (node_changed one other same directory (node_with_entry name number)))
 
--- Copies of objects that stand in the upper layer are none.
+-- What stands in the upper layer is not copied, and stands there after each copy.
+copy_stays : (merge : Merge ℕ) (object copy : ℕ) (seen : Option (Node ℕ)) → is_in_upper merge object ≡ true
+    → copy_of nat_eq merge object copy seen (is_in_upper merge object) ≡ merge
+copy_stays merge object copy seen is = grind (arith, common_steps)
+
 all_stay : (fresh : Fresh ℕ) (k : ℕ) (merge : Merge ℕ) (list : List ℕ) → AllUpper merge list
     → copied_each nat_eq fresh k merge list ≡ merge
 all_stay fresh k merge [] all = refl
 all_stay fresh k merge (object ∷ rest) all =
-    ap (λ m. copied_each nat_eq fresh (k + 1) m rest) (stays (merge.files.tree.node object) (is_in_upper merge object) all.0)
+    ap (λ m. copied_each nat_eq fresh (k + 1) m rest)
+    (copy_stays merge object (fresh k) (merge.files.tree.node object) all.0)
     ∙ all_stay fresh (k + 1) merge rest all.1
-  where
-    stays : (node : Option (Node ℕ)) (b : Bool) → b ≡ true → copy_of nat_eq merge object (fresh k) node b ≡ merge
-    stays None b is = refl
-    stays (Some node) true is = refl
-    stays (Some node) false is = absurd (true≢false (sym is))
 
--- What stands in the upper layer stands there after a copy.
-real_grows : (real : ℕ → Option (Real ℕ)) (object copy number : ℕ) → is_some (upper_object (real number)) ≡ true
-    → is_some (upper_object (with_real nat_eq real object (Upper copy) number)) ≡ true
-real_grows real object copy number is = by (nat_eq number object)
-  where
-    by : (b : Bool) → is_some (upper_object (cond b (Some (Upper copy)) (real number))) ≡ true
-    by true = refl
-    by false = is
+copy_grows : (merge : Merge ℕ) (object copy : ℕ) (seen : Option (Node ℕ)) (b : Bool) (number : ℕ)
+    → is_in_upper merge number ≡ true → is_in_upper (copy_of nat_eq merge object copy seen b) number ≡ true
+copy_grows merge object copy seen b number is = grind (arith, common_steps)
 
-copy_grows : (merge : Merge ℕ) (object copy : ℕ) (node : Option (Node ℕ)) (b : Bool) (number : ℕ)
-    → is_in_upper merge number ≡ true → is_in_upper (copy_of nat_eq merge object copy node b) number ≡ true
-copy_grows merge object copy None b number is = is
-copy_grows merge object copy (Some node) true number is = is
-copy_grows merge object copy (Some node) false number is = real_grows merge.real object copy number is
+copy_files : (merge : Merge ℕ) (object copy : ℕ) (seen : Option (Node ℕ)) (b : Bool)
+    → (copy_of nat_eq merge object copy seen b).files ≡ merge.files
+copy_files merge object copy seen b = grind (arith, common_steps)
 
 -- whatever grows
 all_grow : (one other : Merge ℕ) → ((number : ℕ) → is_in_upper one number ≡ true → is_in_upper other number ≡ true)
     → (list : List ℕ) → AllUpper one list → AllUpper other list
 all_grow one other grows [] all = tt
 all_grow one other grows (object ∷ rest) all = (grows object all.0, all_grow one other grows rest all.1)
-
-copy_files : (merge : Merge ℕ) (object copy : ℕ) (node : Option (Node ℕ)) (b : Bool)
-    → (copy_of nat_eq merge object copy node b).files ≡ merge.files
-copy_files merge object copy None b = refl
-copy_files merge object copy (Some node) true = refl
-copy_files merge object copy (Some node) false = refl
 
 -- the last of a line is the object
 line_ends : (files : FileTree ℕ) (merge : Merge ℕ) (object : ℕ) (named : Option (ℕ × List ℕ))

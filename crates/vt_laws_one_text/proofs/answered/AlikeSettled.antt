@@ -1,6 +1,7 @@
 -- What nothing uses goes alike in two worlds that are alike.
-use Rattle.std.proofs.Common.{◌≡◌, refl, ap, subst, ◌∙◌, ℕ, nat_eq, Bool, true, false, cond, not, ◌&&◌, ◌||◌, List, [], ◌∷◌, ◌++◌, map, filter, filter_map, flat_map, Option, Some, None, is_some, option_map, option_to_list, if◌then◌else◌}
-use Rattle.std.specs.List.{cons_option, list_all, list_any}
+use Rattle.std.proofs.lemmas.Grind.{common_steps}
+use Rattle.std.proofs.Common.{arith, ◌≡◌, refl, ap, subst, ◌∙◌, ℕ, nat_eq, Bool, true, false, cond, not, ◌&&◌, ◌||◌, List, [], ◌∷◌, ◌++◌, map, filter, filter_map, flat_map, Option, Some, None, is_some, option_map, option_to_list, if◌then◌else◌}
+use Rattle.std.specs.List.{list_all, list_any}
 use Rattle.std.specs.List.Sorted.{IsPermutation}
 use Rattle.std.proofs.lemmas.List.Sorted.{IsPermutation-append_left, IsPermutation-append_right, IsPermutation-cons, IsPermutation-refl, IsPermutation-trans, list_any-IsPermutation}
 use Rattle.vt_laws_one_text.proofs.answered.AlikeChanges.{locations_same}
@@ -24,12 +25,7 @@ use Rattle.vt_spec.specs.Machine.World.{Filesystem, Namespace, Overlay, Task, Wo
 filter_map_as_flat_map : {A B : Type 0} (h : A → Option B) (xs : List A)
     → filter_map h xs ≡ flat_map (λ x. option_to_list (h x)) xs
 filter_map_as_flat_map h [] = refl
-filter_map_as_flat_map {B = B} h (x ∷ xs) = by (h x) (filter_map_as_flat_map h xs)
-  where
-    by : (found : Option B) → filter_map h xs ≡ flat_map (λ x. option_to_list (h x)) xs
-        → cons_option found (filter_map h xs) ≡ option_to_list found ++ flat_map (λ x. option_to_list (h x)) xs
-    by None rest = rest
-    by (Some b) rest = ap (λ l. b ∷ l) rest
+filter_map_as_flat_map h (x ∷ xs) = grind (arith, common_steps, filter_map_as_flat_map h xs)
 
 filter_map_permuted : {A B : Type 0} (h : A → Option B) (xs ys : List A) → IsPermutation xs ys
     → IsPermutation (filter_map h xs) (filter_map h ys)

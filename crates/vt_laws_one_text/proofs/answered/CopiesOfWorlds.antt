@@ -1,8 +1,8 @@
 -- What lies only below in an overlay of a world with all invariants has a name in one directory, and what stands in the
 -- upper layer is under directories that stand there. So what is copied up does not depend on the order of the numbers.
-use Rattle.std.proofs.Common.{◌≡◌, refl, sym, ap, subst, ◌∙◌, ◌⊎◌, inl, inr, ℕ, zero, suc, nat_eq, Bool, true, false, cond, not, ◌||◌, List, [], ◌∷◌, ◌++◌, length, map, find, filter_map, reverse, Option, Some, None, is_some, option_map}
+use Rattle.std.proofs.lemmas.Grind.{common_steps}
+use Rattle.std.proofs.Common.{arith, ◌≡◌, refl, sym, ap, subst, ◌∙◌, ◌⊎◌, inl, inr, ℕ, zero, suc, nat_eq, Bool, true, false, not, List, [], ◌∷◌, ◌++◌, length, map, find, filter_map, reverse, Option, Some, None, is_some, option_map}
 use mathlib.Core.List.{reverse-cons}
-use Rattle.std.specs.List.{cons_option}
 use Rattle.std.proofs.lemmas.Option.{same_Some}
 use Rattle.vt_laws_layers.proofs.layers.UpperLine.{named_so}
 use Rattle.vt_laws_layers.proofs.layers.UpperWorld.{above_upper, overlay_tree}
@@ -12,27 +12,20 @@ use Rattle.vt_laws_one_text.proofs.answered.AlikeWorlds.{Alike}
 use Rattle.vt_laws_rules.proofs.same.SameFiles.{one_found}
 use Rattle.vt_laws_rules.proofs.same.SameNames.{worlds_have_one_name}
 use Rattle.vt_spec.proofs.NodeChanges.{entry_from}
-use Rattle.vt_spec.proofs.Options.{none_is_some}
 use Rattle.vt_spec.specs.FileTree.{FileTree, a_name, ancestors, has_entry_to, name_in, named_parent}
-use Rattle.vt_spec.specs.Lists.{chain, first_of_list, is_among, then_some, when}
+use Rattle.vt_spec.specs.Lists.{chain, first_of_list, is_among, then_some}
 use Rattle.vt_spec.specs.Machine.CopyUp.{Merge, is_in_upper, line_by, line_to}
 use Rattle.vt_spec.specs.Machine.Invariants.{IsWorld}
 use Rattle.vt_spec.specs.Machine.SameWorlds.{SameFiles}
 use Rattle.vt_spec.specs.Machine.World.{Real, World, filesystem_numbered, upper_object}
-use Rattle.vt_spec.specs.Tree.{Tree, entries_in, parent_in}
+use Rattle.vt_spec.specs.Tree.{Tree, entries_in}
 use Rattle.vt_spec.specs.TreeInvariant.{IsTree, entry_at}
 
 -- The first thing that is told of a list is told of the first element of which something is told.
 first_told : {A B : Type 0} (h : A → Option B) (list : List A)
     → first_of_list (filter_map h list) ≡ then_some (find (λ a. is_some (h a)) list) h
 first_told h [] = refl
-first_told {B = B} h (a ∷ rest) = by (h a) refl (first_told h rest)
-  where
-    by : (told : Option B) → h a ≡ told → first_of_list (filter_map h rest) ≡ then_some (find (λ a. is_some (h a)) rest) h
-        → first_of_list (cons_option told (filter_map h rest))
-        ≡ then_some (cond (is_some told) (Some a) (find (λ a. is_some (h a)) rest)) h
-    by None is later = later
-    by (Some b) is later = sym is
+first_told h (a ∷ rest) = grind (arith, common_steps, first_told h rest)
 
 -- an entry as a name in a directory
 abbrev name_by : ℕ → List ℕ × ℕ → ℕ × List ℕ
@@ -47,15 +40,7 @@ name_told files object directory = among (entries_in (files.tree.node directory)
         → is_some (option_map (name_by directory) (find (λ entry. nat_eq object entry.1) entries))
         ≡ is_among nat_eq object (map (λ entry. entry.1) entries)
     among [] = refl
-    among (entry ∷ entries) = by (nat_eq object entry.1) (among entries)
-      where
-        by : (b : Bool)
-            → is_some (option_map (name_by directory) (find (λ entry. nat_eq object entry.1) entries))
-            ≡ is_among nat_eq object (map (λ entry. entry.1) entries)
-            → is_some (option_map (name_by directory) (cond b (Some entry) (find (λ entry. nat_eq object entry.1) entries)))
-            ≡ (b || is_among nat_eq object (map (λ entry. entry.1) entries))
-        by true later = refl
-        by false later = later
+    among (entry ∷ entries) = grind (arith, common_steps, among entries)
 
 -- what has a name in one directory alone has the same name whatever the order of the numbers
 name_same : (one other : FileTree ℕ) → SameFiles one other → (object : ℕ)
@@ -78,26 +63,17 @@ HasUppersAbove tree real =
     (directory : ℕ) (name : List ℕ) (object : ℕ) → entry_at tree directory name ≡ Some object
     → is_some (upper_object (real object)) ≡ true → is_some (upper_object (real directory)) ≡ true
 
+parent_has : (tree : Tree ℕ) (directory parent : ℕ) → named_parent nat_eq tree directory ≡ Some parent
+    → has_entry_to nat_eq tree parent directory ≡ true
+parent_has tree directory parent e = grind (arith, common_steps)
+
 -- So the whole line to it stands there.
 module _ (merge : Merge ℕ) (tree : IsTree merge.files.tree) (above : HasUppersAbove merge.files.tree merge.real) where
   parent_upper : (directory parent : ℕ) → named_parent nat_eq merge.files.tree directory ≡ Some parent
       → is_in_upper merge directory ≡ true → is_in_upper merge parent ≡ true
   parent_upper directory parent e stands =
-      by (nat_eq directory merge.files.tree.root)
-      (has_entry_to nat_eq merge.files.tree (parent_in directory (merge.files.tree.node directory)) directory) refl e
-    where
-      by : (root has : Bool)
-          → has_entry_to nat_eq merge.files.tree (parent_in directory (merge.files.tree.node directory)) directory ≡ has
-          → cond root None (when has (parent_in directory (merge.files.tree.node directory))) ≡ Some parent
-          → is_in_upper merge parent ≡ true
-      by true has is e = none_is_some parent e
-      by false false is e = none_is_some parent e
-      by false true is e =
-          let entry = entry_from merge.files.tree tree
-          (parent_in directory (merge.files.tree.node directory)) directory is in
-          subst (λ n. is_in_upper merge n ≡ true)
-          (same_Some (parent_in directory (merge.files.tree.node directory)) parent e)
-          (above (parent_in directory (merge.files.tree.node directory)) entry.0 directory entry.1 stands)
+      let entry = entry_from merge.files.tree tree parent directory (parent_has merge.files.tree directory parent e) in
+      above parent entry.0 directory entry.1 stands
 
   chain_upper : (most directory : ℕ) → is_in_upper merge directory ≡ true
       → AllUpper merge (chain most (named_parent nat_eq merge.files.tree) directory)

@@ -1,5 +1,6 @@
 -- Which numbers a world keeps to, and which supplies serve it.
-use Rattle.std.proofs.Common.{◌≡◌, refl, sym, ap, ◌∙◌, true≢false, ℕ, ◌==◌, Bool, true, false, not, ◌&&◌, ◌||◌, List, [], ◌∷◌, eqb-true}
+use Rattle.std.proofs.lemmas.Grind.{common_steps}
+use Rattle.std.proofs.Common.{arith, ◌≡◌, refl, ℕ, ◌==◌, true, false, not, ◌&&◌, List, [], ◌∷◌, eqb-true}
 use Rattle.std.specs.List.{list_any}
 use Rattle.std.proofs.lemmas.Bool.{or_parts}
 use Rattle.vt_laws_given.proofs.handed.Places.{numbers_at_places_serve}
@@ -21,18 +22,8 @@ none_of : (world : World ℕ) (all : List Placed) → list_any (λ (placed : Pla
     → list_any (λ (placed : Placed). number == placed.1) all ≡ false
 none_of world [] unused number used = refl
 none_of world (placed ∷ rest) unused number used =
-    by (number == placed.1) refl (none_of world rest parts.1 number used)
-  where
-    parts : (is_in_use world placed.1 ≡ false)
-        × (list_any (λ (other : Placed). is_in_use world other.1) rest ≡ false)
-    parts = or_parts (is_in_use world placed.1) (list_any (λ (other : Placed). is_in_use world other.1) rest) unused
-
-    by : (same : Bool) → (number == placed.1) ≡ same
-        → list_any (λ (other : Placed). number == other.1) rest ≡ false
-        → (same || list_any (λ (other : Placed). number == other.1) rest) ≡ false
-    by true e later =
-        absurd (true≢false (sym used ∙ ap (is_in_use world) (eqb-true number placed.1 e) ∙ parts.0))
-    by false e later = later
+    let parts = or_parts (is_in_use world placed.1) (list_any (λ (other : Placed). is_in_use world other.1) rest) unused
+    in grind (arith, common_steps, none_of world rest parts.1 number used, parts.0, eqb-true, used)
 
 pub unused_numbers_serve : UnusedNumbersServe
 unused_numbers_serve next all world whole counted apart unused =
