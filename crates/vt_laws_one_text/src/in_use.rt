@@ -4,9 +4,9 @@ ghost use Rattle.vt_laws_one_text.specs.InUse.{AnyWorldsHaveNumbersInUse, AnyWor
 /// Each number that a world with all invariants has anywhere, with overlays or without, is in use (`named`). So it
 /// keeps to all numbers among which those are (`kept`).
 ///
-/// If those in use are even or counted before the next count, what `every_run_has_one_text` asks of each line holds of
-/// counts from that one on, with even numbers at given places among them (`serve`). These are not in use, each another:
-/// as many as a call makes inodes whose slots are known.
+/// Let those in use be even or counted before the next count. Then counts from that one on, with even numbers at given
+/// places among them, are what `every_run_has_one_text` asks of a line (`serve`). The even numbers are not in use, each
+/// another: as many as a call makes inodes whose slots are known.
 pub fn any_worlds_have_numbers_in_use()
     ensures named { AnyWorldsHaveNumbersInUse }
     ensures kept { AnyWorldsKeepToNumbersInUse }
