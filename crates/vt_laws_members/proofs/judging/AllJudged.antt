@@ -49,7 +49,7 @@ use Rattle.vt_laws_members.proofs.judging.Overlaps.{overlaps_alike, overlaps_liv
 use Rattle.vt_laws_members.proofs.judging.SeenInPart.{OnTheirs, directory_theirs, filesystem_alike, located_used, members_see_alike, mount_alike, theirs_used, under_alike}
 
 -- who has a name of theirs is one of them
-called_alike : (names : List TaskName) (name : TaskName) → is_among same_name name names ≡ true → (tasks : List (Task ℕ))
+pub called_alike : (names : List TaskName) (name : TaskName) → is_among same_name name names ≡ true → (tasks : List (Task ℕ))
     → find (λ (task : Task ℕ). same_name name task.name) (filter (is_member_task names) tasks)
     ≡ find (λ (task : Task ℕ). same_name name task.name) tasks
 called_alike names name theirs [] = refl
@@ -113,7 +113,7 @@ module _ (world : World ℕ) (names : List TaskName) (is : IsWorld nat_eq world)
         (ap (λ (m : Mount ℕ). m.filesystem) (mount_alike world names is here (on here e)));
   }
 
-  walks : Alike one other task (λ number. own number ≡ true)
+  pub walks : Alike one other task (λ number. own number ≡ true)
   walks =
       let alike = members_see_alike world names task is
       (contains_from_among (members world names) task member) in
@@ -129,7 +129,7 @@ module _ (world : World ℕ) (names : List TaskName) (is : IsWorld nat_eq world)
         lost = alike.lost;
       }
 
-  judges : JudgesAlike one other task own uses
+  pub judges : JudgesAlike one other task own uses
   judges = record {
     walks = walks;
     directory = theirs_test world names is.mounts task.directory.mount
