@@ -2,7 +2,7 @@
 use Rattle.std.specs.Prelude.{Bool, Contains, List, false, is_some, nat_eq, not, true, ℕ, ◌&&◌, ◌||◌, ◌≡◌}
 use Rattle.std.specs.List.{list_any}
 use Rattle.vt_spec.specs.Language.Calls.{Call, TaskName, same_name}
-use Rattle.vt_spec.specs.Language.Calls.Call.{Bind, MountOverlay, MountPlain, MoveMount, Setns, Umount}
+use Rattle.vt_spec.specs.Language.Calls.Call.{Bind, MountOverlay, MountPlain, MoveMount, Setns}
 use Rattle.vt_spec.specs.Lists.{Fresh, is_among}
 use Rattle.vt_spec.specs.Machine.Invariants.{IsWorld}
 use Rattle.vt_spec.specs.Machine.Judge.{judge, judge_in}
@@ -31,13 +31,6 @@ MembersSeeAlike =
     → Contains (members world names) task
     → ShowAlike (looks_of nat_eq world) (looks_of nat_eq (part_of nat_eq world names)) task (is_theirs world names)
 
--- the calls of which the next law is proved: all but these
-abbrev pub is_compared : Call → Bool
-is_compared (MountOverlay path options flags) = false
-is_compared (MoveMount source path) = false
-is_compared (Umount path) = false
-is_compared call = true
-
 -- a call of a task of a sealed set, which enters no namespace but one of theirs
 pub record IsMembersCall (world : World ℕ) (names : List TaskName) (task : Task ℕ) (call : Call) : Type 0 where
   pub is : IsWorld nat_eq world
@@ -50,7 +43,7 @@ pub record IsMembersCall (world : World ℕ) (names : List TaskName) (task : Tas
 abbrev pub MembersAreJudgedAlike : Type 0
 MembersAreJudgedAlike =
     (world : World ℕ) (names : List TaskName) (task : Task ℕ) (call : Call) → IsMembersCall world names task call
-    → is_compared call ≡ true → (overfills : Permit ℕ → Bool)
+    → (overfills : Permit ℕ → Bool)
     → judge nat_eq (looks_of nat_eq world) overfills task call
     ≡ judge nat_eq (looks_of nat_eq (part_of nat_eq world names)) overfills task call
 
@@ -66,5 +59,5 @@ attaches call = false
 abbrev pub MembersAreJudgedByTheirPart : Type 0
 MembersAreJudgedByTheirPart =
     (world : World ℕ) (names : List TaskName) (task : Task ℕ) (call : Call) → IsMembersCall world names task call
-    → is_compared call ≡ true → attaches call ≡ false → (fresh other : Fresh ℕ)
+    → attaches call ≡ false → (fresh other : Fresh ℕ)
     → judge_in nat_eq fresh world task call ≡ judge_in nat_eq other (part_of nat_eq world names) task call

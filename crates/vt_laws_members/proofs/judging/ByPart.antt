@@ -55,7 +55,7 @@ unasked looks task one other (PivotRoot new put) e = refl
 unasked looks task one other ListMounts e = refl
 
 pub members_are_judged_by_their_part : MembersAreJudgedByTheirPart
-members_are_judged_by_their_part world names task call is compared apart fresh other =
-    members_are_judged_alike world names task call is compared (overfills nat_eq fresh world task)
+members_are_judged_by_their_part world names task call is apart fresh other =
+    members_are_judged_alike world names task call is (overfills nat_eq fresh world task)
     ∙ unasked (looks_of nat_eq (part_of nat_eq world names)) task (overfills nat_eq fresh world task)
     (overfills nat_eq other (part_of nat_eq world names) task) call apart

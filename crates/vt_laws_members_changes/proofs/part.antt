@@ -1,0 +1,3 @@
+-- What the proofs of src/part.rt use.
+pub mod CutTrees
+pub mod PartAgain
