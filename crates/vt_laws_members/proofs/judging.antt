@@ -16,6 +16,7 @@ pub mod LowersSeen
 pub mod Masks
 pub mod MountPoints
 pub mod MountTrees
+pub mod Overfilled
 pub mod Overlaps
 pub mod ParentsSeen
 pub mod SeenInPart

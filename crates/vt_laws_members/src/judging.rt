@@ -12,8 +12,8 @@ ghost use Rattle.vt_laws_members.specs.Judging.{MembersAreJudgedAlike, MembersAr
 /// layers show the same in the part, which has no more of their filesystems (O1). A mount of theirs has the same
 /// descendants there (M5, M6), and its unmount would detach the same mounts (M8).
 ///
-/// A call that attaches no mount is not asked whether a namespace would have too many (M9), and is judged by the part
-/// alone (`by_part`).
+/// Nor would what it attaches leave a namespace with too many mounts (M9) in one of the two alone: it comes to the same
+/// mounts in both, all of them theirs. So the part alone judges the call, whatever numbers are handed in (`by_part`).
 pub fn a_call_of_theirs_is_judged_by_their_part()
     ensures seen { MembersSeeAlike }
     ensures judged { MembersAreJudgedAlike }

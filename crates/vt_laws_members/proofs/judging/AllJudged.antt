@@ -195,7 +195,7 @@ module _ (world : World ℕ) (names : List TaskName) (is : IsWorld nat_eq world)
   parents = parents_alike world names is sealed_off task member
 
   -- a mount of the task's namespace is theirs
-  owned : (here : Location ℕ) → is_elsewhere nat_eq one task here ≡ false
+  pub owned : (here : Location ℕ) → is_elsewhere nat_eq one task here ≡ false
       → is_own world names (members world names) (mount_at nat_eq world here) ≡ true
   owned here e =
       in_own world names is task member (mount_at nat_eq world here)

@@ -1,14 +1,16 @@
 -- Children of mounts of theirs, and trees of mounts, are the same in the part.
-use Rattle.std.proofs.Common.{◌≡◌, refl, sym, ap, subst, ◌∙◌, inl, ⊎_elim, ℕ, zero, suc, nat_eq, Bool, true, false, true≢false, List, [], ◌∷◌, Option, Some, None, flat_map, length, ◌⊎◌, ◌+◌, ◌≤◌, arith, eqb-true}
+use Rattle.std.proofs.Common.{◌≡◌, refl, sym, ap, subst, ◌∙◌, inl, ⊎_elim, ℕ, zero, suc, nat_eq, Bool, true, false, true≢false, List, [], ◌∷◌, Option, Some, None, filter, flat_map, length, not, ◌⊎◌, ◌+◌, ◌≤◌, arith, eqb-true}
 use Rattle.std.specs.List.{cons_option, filter_map, list_any}
 use Rattle.std.proofs.lemmas.Bool.{or_from, or_left, or_parts}
 use Rattle.vt_spec.specs.Language.Calls.{TaskName}
 use Rattle.vt_spec.specs.Lists.{any_pair, holds_of}
+use Rattle.vt_spec.specs.FileTree.{is_directory_under}
+use Rattle.vt_spec.specs.Machine.Attach.{bind_tree, bindable_children, bindable_tree, bound, stands_under}
 use Rattle.vt_spec.specs.Machine.Invariants.{IsWorld, Stands}
 use Rattle.vt_spec.specs.Machine.Invariants.Stands.{at_root, on_parent}
-use Rattle.vt_spec.specs.Machine.Mounts.{Location, Mount, children, mount_tree, stands_on, tree_from}
+use Rattle.vt_spec.specs.Machine.Mounts.{Location, Mount, children, is_unbindable, mount_tree, stands_on, tree_from}
 use Rattle.vt_spec.specs.Machine.Sealed.{is_at, locations, members, part_of, roots_and_directories, seen_by_descriptor}
-use Rattle.vt_spec.specs.Machine.World.{Task, World}
+use Rattle.vt_spec.specs.Machine.World.{Filesystem, Task, World}
 use Rattle.vt_spec.proofs.Lists.{Among, all_from_among, among-from_filter, among-from_filter_map, among_from_all, none_among, none_from_among}
 use Rattle.vt_spec.proofs.Options.{none_is_some}
 use Rattle.vt_laws_letting_go.proofs.Lists.{flat_map_alike}
@@ -20,6 +22,7 @@ use Rattle.vt_laws_part.proofs.Kept.{filter_both}
 use Rattle.vt_laws_part.proofs.part.PartOfPart.{is_own, keep, kept_how, kept_whole}
 use Rattle.vt_laws_members.proofs.judging.Grounds.{IsTheirs, child_theirs, nowhere_stands, parent_theirs, same_mount}
 use Rattle.vt_laws_members.proofs.judging.MountPoints.{part_mount}
+use Rattle.vt_laws_members.proofs.judging.SeenInPart.{filesystem_alike}
 
 -- the mount point of a child
 pub stands_where : (number : ℕ) (mount : Mount ℕ) → stands_on nat_eq number mount ≡ true
@@ -33,7 +36,7 @@ stands_where number mount h = by mount.mount_point refl h
     by (Some point) e h = (point, e, eqb-true number point.mount h)
 
 -- a child lies one mount deeper
-child_deeper : (world : World ℕ) (one : OneNumberEach world) (all : AllStand world) (mount child : Mount ℕ)
+pub child_deeper : (world : World ℕ) (one : OneNumberEach world) (all : AllStand world) (mount child : Mount ℕ)
     → Among child (children nat_eq world.mounts mount.number)
     → rank world one all child.number ≡ suc (rank world one all mount.number)
 child_deeper world one all mount child m =
@@ -128,7 +131,7 @@ module _ (world : World ℕ) (names : List TaskName) (is : IsWorld nat_eq world)
       ∙ ap (λ (m : Mount ℕ). m.namespace) (sym (same_mount world names is.mounts point.mount under)))
       (stands_too point.mount under below)
 
-  part_stands : AllStand part
+  pub part_stands : AllStand part
   part_stands = all_from_among (λ (mount : Mount ℕ). Stands nat_eq part mount.number) part.mounts (λ y m.
       let from = among-from_filter_map kept world.mounts y m in
       ⊎_elim (λ own. by from.0 y from.1 from.2 own)
@@ -214,3 +217,68 @@ module _ (world : World ℕ) (names : List TaskName) (is : IsWorld nat_eq world)
       → mount_tree nat_eq part.mounts mount ≡ mount_tree nat_eq world.mounts mount
   tree_alike mount own =
       trees_alike (length world.mounts) (length part.mounts) mount own (omega arith) (omega arith)
+
+  -- what a bind copies below a mount
+  bindable_alike : (number : ℕ) → IsTheirs world names is.mounts number
+      → bindable_children nat_eq part.mounts number ≡ bindable_children nat_eq world.mounts number
+  bindable_alike number own =
+      ap (filter (λ (mount : Mount ℕ). not (is_unbindable mount.propagation))) (children_alike number own)
+
+  bindables_alike : (n k : ℕ) (mount : Mount ℕ) → IsTheirs world names is.mounts mount.number
+      → length world.mounts ≤ n + deep mount.number → length part.mounts ≤ k + deep_in_part mount.number
+      → bindable_tree nat_eq k part.mounts mount ≡ bindable_tree nat_eq n world.mounts mount
+  bindables_alike zero zero mount own l m = refl
+  bindables_alike zero (suc k) mount own l m =
+      ap (λ list. mount ∷ flat_map (bindable_tree nat_eq k part.mounts)
+      (filter (λ (x : Mount ℕ). not (is_unbindable x.propagation)) list))
+      (children_alike mount.number own ∙ none_below mount (omega (arith, l)))
+  bindables_alike (suc n) zero mount own l m =
+      ap (λ list. mount ∷ flat_map (bindable_tree nat_eq n world.mounts)
+      (filter (λ (x : Mount ℕ). not (is_unbindable x.propagation)) list))
+      (sym (none_below_in_part mount (omega (arith, m))) ∙ children_alike mount.number own)
+  bindables_alike (suc n) (suc k) mount own l m =
+      ap (λ list. mount ∷ flat_map (bindable_tree nat_eq k part.mounts) list) (bindable_alike mount.number own)
+      ∙ ap (λ list. mount ∷ list)
+      (flat_map_alike (bindable_tree nat_eq k part.mounts) (bindable_tree nat_eq n world.mounts)
+      (bindable_children nat_eq world.mounts mount.number) (λ child chosen.
+      let at = (among-from_filter (λ (x : Mount ℕ). not (is_unbindable x.propagation))
+      (children nat_eq world.mounts mount.number) child chosen).0 in
+      let it = children_own mount.number child own at in
+      let below = child_deeper world is.mounts.one_number is.mounts.standing mount child at in
+      let below_in_part = child_deeper part part_one_number part_stands mount child
+      (subst (Among child) (sym (children_alike mount.number own)) at) in
+      bindables_alike n k child (own_theirs child it.0 it.1) (omega (arith, l, below)) (omega (arith, m, below_in_part))))
+
+  under_alike : (source : Location ℕ) → IsTheirs world names is.mounts source.mount
+      → filter (stands_under nat_eq part source) (bindable_children nat_eq part.mounts source.mount)
+      ≡ filter (stands_under nat_eq world source) (bindable_children nat_eq world.mounts source.mount)
+  under_alike source own =
+      ap (filter (stands_under nat_eq part source)) (bindable_alike source.mount own)
+      ∙ ap (λ (f : Filesystem ℕ). filter (λ (mount : Mount ℕ). holds_of (λ (point : Location ℕ).
+      is_directory_under nat_eq f.files source.node point.node) mount.mount_point)
+      (bindable_children nat_eq world.mounts source.mount))
+      (sym (filesystem_alike world names is source own))
+
+  pub bind_alike : (source : Location ℕ) (recursive : Bool) → IsTheirs world names is.mounts source.mount
+      → bind_tree nat_eq part source recursive ≡ bind_tree nat_eq world source recursive
+  bind_alike source false own =
+      ap (λ (mount : Mount ℕ). record mount { root = source.node } ∷ [])
+      (same_mount world names is.mounts source.mount own)
+  bind_alike source true own =
+      ap (λ (mount : Mount ℕ). record mount { root = source.node }
+      ∷ flat_map (bindable_tree nat_eq (length part.mounts) part.mounts)
+      (filter (stands_under nat_eq part source) (bindable_children nat_eq part.mounts source.mount)))
+      (same_mount world names is.mounts source.mount own)
+      ∙ ap (λ list. bound nat_eq world source ∷ flat_map (bindable_tree nat_eq (length part.mounts) part.mounts) list)
+      (under_alike source own)
+      ∙ ap (λ list. bound nat_eq world source ∷ list)
+      (flat_map_alike (bindable_tree nat_eq (length part.mounts) part.mounts)
+      (bindable_tree nat_eq (length world.mounts) world.mounts)
+      (filter (stands_under nat_eq world source) (bindable_children nat_eq world.mounts source.mount)) (λ child chosen.
+      let at = (among-from_filter (λ (x : Mount ℕ). not (is_unbindable x.propagation))
+      (children nat_eq world.mounts source.mount) child
+      (among-from_filter (stands_under nat_eq world source)
+      (bindable_children nat_eq world.mounts source.mount) child chosen).0).0 in
+      let it = children_own source.mount child own at in
+      bindables_alike (length world.mounts) (length part.mounts) child (own_theirs child it.0 it.1)
+      (omega arith) (omega arith)))

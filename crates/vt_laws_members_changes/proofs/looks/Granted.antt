@@ -21,7 +21,7 @@ use Rattle.vt_spec.specs.Machine.World.{Descriptor, Task, World, locations_of}
 use Rattle.vt_spec.proofs.Found.{found_among}
 use Rattle.vt_spec.proofs.Lists.{Among, among-flat_map, among-map}
 use Rattle.vt_laws_members_changes.specs.Changes.{left}
-use Rattle.vt_laws_members.specs.Judging.{attaches, is_theirs}
+use Rattle.vt_laws_members.specs.Judging.{is_theirs}
 use Rattle.vt_laws_members.proofs.judging.AllJudged.{judges}
 use Rattle.vt_laws_members.proofs.judging.Judged.{JudgesAlike}
 use Rattle.vt_laws_members.proofs.judging.WalksLead.{HereAt, directory_agrees, object_agrees, symlink_agrees}
@@ -104,46 +104,40 @@ module _ (world : World ℕ) (names : List TaskName) (is : IsWorld nat_eq world)
           task.descriptors descriptor e) descriptor.reads
 
   pub looked : (overfills : Permit ℕ → Bool) (set : List TaskName) (name : TaskName) (call : Call) → only_looks call ≡ true
-      → IfOk (judge nat_eq one overfills task call) Looked × (attaches call ≡ false) × (left set name call ≡ set)
+      → IfOk (judge nat_eq one overfills task call) Looked × (left set name call ≡ set)
   unfolding list_permit stat_permit lstat_permit readlink_permit read_permit exec_permit
   looked overfills set name (Ls path) e = (
     of_walk StandsHere Looked (directory_walk nat_eq one task path) (λ here. unless (list_rules one task here.location) (Ok (ToList here.location))) (at_directory path)
         (λ here on. of_rules Looked (list_rules one task here.location) (Ok (ToList here.location)) on),
-    refl,
     refl,
   )
   looked overfills set name (Stat path) e = (
     of_walk StandsHere Looked (object_walk nat_eq one task path) (λ here. Ok (ToStat here.location)) (at_object path)
         (λ here on. on),
     refl,
-    refl,
   )
   looked overfills set name (Lstat path) e = (
     of_walk StandsHere Looked (symlink_walk nat_eq one task path) (λ here. Ok (ToStat here.location)) (at_symlink path)
         (λ here on. on),
-    refl,
     refl,
   )
   looked overfills set name (Readlink path) e = (
     of_walk StandsHere Looked (symlink_walk nat_eq one task path) (λ here. unless (readlink_rules one here.location) (Ok (ToRead here.location))) (at_symlink path)
         (λ here on. of_rules Looked (readlink_rules one here.location) (Ok (ToRead here.location)) on),
     refl,
-    refl,
   )
   looked overfills set name (Read path) e = (
     of_walk StandsHere Looked (object_walk nat_eq one task path) (λ here. unless (read_rules one task here.location) (Ok (ToRead here.location))) (at_object path)
         (λ here on. of_rules Looked (read_rules one task here.location) (Ok (ToRead here.location)) on),
-    refl,
     refl,
   )
   looked overfills set name (Exec path) e = (
     of_walk StandsHere Looked (object_walk nat_eq one task path) (λ here. unless (exec_rules one task here.location) (Ok Allowed)) (at_object path)
         (λ here on. of_rules Looked (exec_rules one task here.location) (Ok Allowed) tt),
     refl,
-    refl,
   )
-  looked overfills set name (Pread descriptor offset size) e = (pread_looks descriptor offset size, refl, refl)
-  looked overfills set name ListMounts e = (tt, refl, refl)
+  looked overfills set name (Pread descriptor offset size) e = (pread_looks descriptor offset size, refl)
+  looked overfills set name ListMounts e = (tt, refl)
   looked overfills set name (Bind source path recursive) e = absurd (true≢false (sym e))
   looked overfills set name (Chdir path) e = absurd (true≢false (sym e))
   looked overfills set name (Chmod path mode) e = absurd (true≢false (sym e))

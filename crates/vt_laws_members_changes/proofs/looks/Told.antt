@@ -153,7 +153,7 @@ looks_end_alike world names name call it looks fresh other =
           member = contains_from_among (members world names) task member;
           among_them = it.among_them;
         })
-        granted.1 fresh other in
+        fresh other in
         also (Some task) e
         (subst (λ p. EndAlike (grown names name call (ran name call world fresh (Some task)).answer)
         (ran name call world fresh (Some task)) p)
@@ -161,5 +161,5 @@ looks_end_alike world names name call it looks fresh other =
         (subst (λ o. EndAlike (grown names name call o.answer) o
         (after part (judge_in nat_eq fresh world task call) (apply nat_eq other part task)))
         (sym (looking world fresh task))
-        (looks_by world names it.is it.sealed_off task member fresh other name call granted.2
+        (looks_by world names it.is it.sealed_off task member fresh other name call granted.1
         (judge_in nat_eq fresh world task call) granted.0)))

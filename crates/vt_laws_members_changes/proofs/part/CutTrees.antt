@@ -6,10 +6,10 @@ use Rattle.std.proofs.lemmas.Option.{same_Some}
 use Rattle.vt_spec.specs.FileTree.{FileTree, has_entry_to, is_directory_under, is_file_under, is_under, named_parent, targets_in}
 use Rattle.vt_spec.specs.Lists.{chain, is_among, when}
 use Rattle.vt_spec.specs.Machine.Invariants.{ListsNumbers}
-use Rattle.vt_spec.specs.Machine.Settled.{only_among}
+use Rattle.vt_spec.specs.Machine.Settled.{named_in, only_among}
 use Rattle.vt_spec.specs.Tree.{Node, is_directory_node, parent_in}
 use Rattle.vt_spec.specs.TreeInvariant.{IsDirectory, IsTree}
-use Rattle.vt_spec.proofs.Lists.{Among, among-filter, among_numbers, any_among, any_from_among}
+use Rattle.vt_spec.proofs.Lists.{Among, among-filter, among-flat_map, among_numbers, any_among, any_from_among}
 use Rattle.vt_spec.proofs.NodeChanges.{entry_from}
 use Rattle.vt_spec.proofs.Nodes.{directory_used}
 use Rattle.vt_spec.proofs.Options.{none_is_some}
@@ -198,3 +198,45 @@ module _ (files : FileTree ℕ) (chosen : List ℕ) (tree : IsTree files.tree) (
           (and_from (has_entry_to nat_eq cut.tree at.0 object) (is_directory_under nat_eq cut top at.0)
           (ap (λ (node : Option (Node ℕ)). is_among nat_eq object (targets_in node)) (node_kept at.0 kept) ∙ both.0)
           (directory_in_cut at.0 directory both.1))
+
+  -- and what lies below it has a name there
+  named_by : (b object : ℕ) → IsDirectory files.tree b → is_among nat_eq b chosen ≡ true
+      → has_entry_to nat_eq files.tree b object ≡ true → Among object (named_in cut)
+  named_by b object directory kept entry =
+      among-flat_map (λ d. targets_in (cut.tree.node d)) cut.numbers b object
+      (in_cut b (directory_used files.tree b directory) kept)
+      (among_numbers (targets_in (cut.tree.node b)) object
+      (ap (λ (node : Option (Node ℕ)). is_among nat_eq object (targets_in node)) (node_kept b kept) ∙ entry))
+
+  pub named_in_cut : (object : ℕ) → nat_eq top object ≡ false → is_under nat_eq files top object ≡ true
+      → Among object (named_in cut)
+  named_in_cut object apart h = by (is_directory_node (files.tree.node object)) h
+    where
+      up : (n : ℕ) → n ≤ length files.numbers → (o : Option ℕ) → named_parent nat_eq files.tree object ≡ o
+          → is_among nat_eq top
+          (elim o [ None ↦ object ∷ [] | Some b ↦ object ∷ chain n (named_parent nat_eq files.tree) b ]) ≡ true
+          → Among object (named_in cut)
+      up n less None e g = absurd (true≢false (sym g ∙ ap (λ b. b || false) apart))
+      up n less (Some b) e g =
+          let how = parent_how object b e in
+          let above : reaches top n (named_parent nat_eq files.tree) b ≡ true =
+          ⊎_elim (λ same. absurd (true≢false (sym same ∙ apart))) (λ later. later)
+          (or_cases (nat_eq top object) (reaches top n (named_parent nat_eq files.tree) b) g) in
+          let directory = entered b object how.1 in
+          named_by b object directory
+          (directory_kept b directory (more top (named_parent nat_eq files.tree) n (length files.numbers) b less above)) how.1
+
+      long : (n : ℕ) → n ≤ length files.numbers → reaches top n (named_parent nat_eq files.tree) object ≡ true
+          → Among object (named_in cut)
+      long zero less g = absurd (true≢false (sym g ∙ ap (λ b. b || false) apart))
+      long (suc n) less g = up n (omega (arith, less)) (named_parent nat_eq files.tree object) refl g
+
+      by : (b : Bool) → cond b (is_directory_under nat_eq files top object) (is_file_under nat_eq files top object) ≡ true
+          → Among object (named_in cut)
+      by true g = long (length files.numbers) (omega arith) g
+      by false g =
+          let at = any_among (λ d. has_entry_to nat_eq files.tree d object && is_directory_under nat_eq files top d)
+          files.numbers g in
+          let both = and_parts (has_entry_to nat_eq files.tree at.0 object) (is_directory_under nat_eq files top at.0) at.2 in
+          let directory = entered at.0 object both.0 in
+          named_by at.0 object directory (directory_kept at.0 directory both.1) both.0

@@ -126,13 +126,13 @@ module _ (world : World ℕ) (names : List TaskName) (is : IsWorld nat_eq world)
     abbrev y : Filesystem ℕ
     y = part_of_lower nat_eq world names x
 
-    tree : IsTree x.files.tree
+    pub tree : IsTree x.files.tree
     tree = among_from_all (λ (f : Filesystem ℕ). IsTree f.files.tree) world.filesystems is.files.trees x m
 
-    listed : ListsNumbers nat_eq x.files
+    pub listed : ListsNumbers nat_eq x.files
     listed = among_from_all (λ (f : Filesystem ℕ). ListsNumbers nat_eq f.files) world.filesystems is.files.numbers x m
 
-    itself : filesystem_numbered nat_eq world x.number ≡ x
+    pub itself : filesystem_numbered nat_eq world x.number ≡ x
     itself = found_filesystem world.filesystems is.files.one_filesystem x m
 
     shown_so : shown x ≡ Some y
@@ -142,7 +142,7 @@ module _ (world : World ℕ) (names : List TaskName) (is : IsWorld nat_eq world)
     abbrev chosen : List ℕ
     chosen = filter (lies_in_own_lower nat_eq world names x.number) x.files.numbers
 
-    in_chosen : (layer : Layer ℕ) → Among layer lowers → nat_eq x.number layer.filesystem ≡ true → (object : ℕ)
+    pub in_chosen : (layer : Layer ℕ) → Among layer lowers → nat_eq x.number layer.filesystem ≡ true → (object : ℕ)
         → is_some (x.files.tree.node object) ≡ true → is_under nat_eq x.files layer.directory object ≡ true
         → is_among nat_eq object chosen ≡ true
     in_chosen layer at on object there under =
@@ -201,7 +201,7 @@ module _ (world : World ℕ) (names : List TaskName) (is : IsWorld nat_eq world)
       ∙ ap Some (subst (λ (f : Filesystem ℕ). part_of_lower nat_eq part names f ≡ f) low.0 (lower_again x m low.1 low.2)))
       (shown_how world names x y e)
 
-  same_shown : filter_map (part_of_filesystem nat_eq part names) part.filesystems ≡ part.filesystems
+  pub same_shown : filter_map (part_of_filesystem nat_eq part names) part.filesystems ≡ part.filesystems
   same_shown = search world.filesystems (λ x m. m)
     where
       search : (list : List (Filesystem ℕ)) → ((x : Filesystem ℕ) → Among x list → Among x world.filesystems)
@@ -219,7 +219,7 @@ module _ (world : World ℕ) (names : List TaskName) (is : IsWorld nat_eq world)
               (shown_again x y (all x (inl refl)) e)
               ∙ ap (λ l. y ∷ l) later
 
-  same_mounts : filter_map (part_of_mount nat_eq part names) part.mounts ≡ part.mounts
+  pub same_mounts : filter_map (part_of_mount nat_eq part names) part.mounts ≡ part.mounts
   same_mounts =
       ap (λ tasks. filter_map (keep world names tasks) (filter_map (keep world names theirs) world.mounts))
       (same_members world names)
@@ -248,7 +248,7 @@ module _ (world : World ℕ) (names : List TaskName) (is : IsWorld nat_eq world)
   kept_namespaces tasks list =
       filter (λ (n : Namespace ℕ). list_any (λ (task : Task ℕ). nat_eq n.number task.namespace) tasks) list
 
-  same_namespaces : kept_namespaces (members part names) part.namespaces ≡ part.namespaces
+  pub same_namespaces : kept_namespaces (members part names) part.namespaces ≡ part.namespaces
   same_namespaces =
       ap (λ tasks. kept_namespaces tasks part.namespaces) (same_members world names)
       ∙ filter_again (λ (n : Namespace ℕ). list_any (λ (task : Task ℕ). nat_eq n.number task.namespace) theirs)
