@@ -1,0 +1,4 @@
+-- What the proofs of src/by_words.rt use.
+pub mod Depths
+pub mod Files
+pub mod Meanings
