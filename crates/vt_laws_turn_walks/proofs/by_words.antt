@@ -2,3 +2,5 @@
 pub mod Depths
 pub mod Files
 pub mod Meanings
+pub mod Counting
+pub mod Whole

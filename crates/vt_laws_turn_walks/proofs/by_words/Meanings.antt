@@ -11,10 +11,11 @@ use Rattle.vt_spec.specs.Language.Limits.{longest_name, most_symlinks}
 use Rattle.vt_spec.specs.Lists.{is_empty_list, rest_of}
 use Rattle.vt_spec.specs.Machine.Looks.{Looks, is_directory_at, mount_at}
 use Rattle.vt_spec.specs.Machine.Mounts.{Location}
-use Rattle.vt_spec.specs.Machine.Walking.{Follow, Here, LastWord, Place, Stop, entered, file_or_symlink, file_walked, final_word, follow_rules, followed, if_symlink, last_walked, last_word, placed, prefix_walked, slash_rules, stopped_by, symlink_of, symlink_start, symlink_there, symlink_walked, then_walk, walk_unless, word_walked, words_walked}
+use Rattle.vt_spec.specs.Machine.Walking.{Follow, Here, LastWord, Place, Stop, entered, file_or_symlink, file_walked, final_word, follow_rules, followed, if_symlink, is_no_word, last_walked, last_word, placed, prefix_walked, slash_rules, start_of, stopped_by, symlink_of, symlink_start, symlink_there, symlink_walked, then_walk, walk_unless, word_walked, words_walked}
 use Rattle.vt_spec.specs.Machine.Walking.LastWord.{Dot, DotDot, Named, NoWord}
 use Rattle.vt_spec.specs.Machine.World.{Task}
-use Rattle.vt_spec.specs.PathText.{ends_in_slash, words}
+use Rattle.vt_spec.specs.PathText.{ends_in_slash, is_absolute, words}
+use Rattle.vt_laws_worlds.proofs.worlds.Reached.{directory_no_link}
 use Rattle.vt_laws_turn_walks.specs.ByWords.{last_taken, names, reaches, rest_walked, texts_walked}
 use Rattle.vt_laws_turn_walks.specs.Walkers.{Last, Pending, Walk, Walker, all_words, arrived, end_rules, ended, first_words, gone_on, has_no_word, last_of, last_step, one_word, opened, text_word}
 use Rattle.vt_laws_turn_walks.specs.Walkers.Last.{AsFile, AsName, AsOthers, NotFollowed}
@@ -203,7 +204,7 @@ module _ (looks : Looks ℕ) (task : Task ℕ) where
   -- The last word
 
   -- the first words of a text, and then its last
-  first_words_mean : (text : List ℕ) (start : Here ℕ) (last : Last)
+  pub first_words_mean : (text : List ℕ) (start : Here ℕ) (last : Last)
       → left_from start (first_words text ∷ []) last
       ≡ then_walk (prefix_walked nat_eq looks task follow start (reverse (words text))) (λ here. taken here last)
   first_words_mean text start last =
@@ -252,9 +253,111 @@ module _ (looks : Looks ℕ) (task : Task ℕ) where
           ∙ ap (λ d. file_walked nat_eq d looks task next inside behind) (sym e)
 
   -- where a name is looked up, a directory is
-  searched : {A B : Type 0} (here : Here ℕ) (steps : List (List ℕ)) (found : Result A Deny) (make : A → B) (b c : B)
-      (rules : Rules) (is : Bool)
-      → stopped_by steps (and_then (unless ((not is, W3) ∷ rules) found) (λ a. Ok (make a))) ≡ Ok b
+  named_found : {A B : Type 0} (steps : List (List ℕ)) (rules : Rules) (found : Result A Deny) (make : A → B) (made : B)
+      (is : Bool) → stopped_by steps (and_then (unless ((not is, W3) ∷ rules) found) (λ a. Ok (make a))) ≡ Ok made
       → is ≡ true
-  searched here steps found make b c rules true e = refl
-  searched here steps found make b c rules false e = cc
+  named_found steps rules found make made true e = refl
+  named_found steps rules found make made false e = cc
+
+  searched : (here : Here ℕ) (word : LastWord) (slash : Bool) (place : Place ℕ) → is_no_word word ≡ false
+      → placed nat_eq looks task here word slash ≡ Ok place → is_directory_at looks here.location ≡ true
+  searched here NoWord slash place some e = absurd (true≢false some)
+  searched here Dot slash place some e = named_found _ _ _ _ place (is_directory_at looks here.location) e
+  searched here DotDot slash place some e = named_found _ _ _ _ place (is_directory_at looks here.location) e
+  searched here (Named name) slash place some e = named_found _ _ _ _ place (is_directory_at looks here.location) e
+
+  pub quiet_at : (here : Here ℕ) (word : LastWord) (slash : Bool) → is_directory_at looks here.location ≡ true
+      → IsQuiet here (AsFile word slash)
+  quiet_at here NoWord slash is = directory_no_link (looks.node here.location) is
+  quiet_at here Dot slash is = tt
+  quiet_at here DotDot slash is = tt
+  quiet_at here (Named name) slash is = tt
+
+  pub directory_at : is_directory_at looks task.root ≡ true → (directory : Location ℕ)
+      → is_directory_at looks directory ≡ true → (text : List ℕ)
+      → is_directory_at looks (start_of task directory text) ≡ true
+  directory_at root directory is text = by (is_absolute text)
+    where
+      by : (b : Bool) → is_directory_at looks (cond b task.root directory) ≡ true
+      by true = root
+      by false = is
+
+  -- what was found, and then what is left
+  reached_rest : (a : Result (Here ℕ) (Stop ℕ)) → then_walk (reaches nat_eq a) rest ≡ reaches nat_eq a
+  reached_rest (Ok here) = refl
+  reached_rest (Err stop) = refl
+
+  named_rest : (a : Result (Place ℕ) (Stop ℕ)) → then_walk (names nat_eq a) rest ≡ names nat_eq a
+  named_rest (Ok place) = refl
+  named_rest (Err stop) = refl
+
+  opened_means : is_directory_at looks task.root ≡ true → (here : Here ℕ) → here.left ≤ most_symlinks
+      → is_directory_at looks here.location ≡ true → (place : Place ℕ) (slash : Bool) (text : Option (List ℕ))
+      → then_walk (opened nat_eq looks task here place slash text) rest
+      ≡ names nat_eq (file_from looks task most_symlinks here place slash text)
+  opened_means root here few is place slash None = refl
+  opened_means root here few is place slash (Some text) =
+      then_then unless_refused (λ begin. gone_on nat_eq looks task begin (first_words text ∷ [])
+      (AsFile (last_of text) (slash || ends_in_slash text))) rest
+      ∙ followed_same place.steps start (λ begin. then_walk (gone_on nat_eq looks task begin (first_words text ∷ [])
+      (AsFile (last_of text) (slash || ends_in_slash text))) rest)
+      (λ begin. names nat_eq (file_walked nat_eq most_symlinks looks task begin text slash))
+      (mount_at looks (symlink_of here place).location).flags.nosymfollow (here.left == 0)
+      (list_any (λ word. nat_lt longest_name (length word)) (words text))
+      (λ some_left. file_means less (omega arith) text slash start
+      (fewer (one_left here.left most_symlinks few some_left))
+      (quiet_at start (last_of text) (slash || ends_in_slash text) (directory_at root here.location is text)))
+      ∙ sym (then_then unless_refused (λ begin. file_walked nat_eq most_symlinks looks task begin text slash)
+      (λ found. Ok (Names found)))
+    where
+      start : Here ℕ
+      start = symlink_start nat_eq looks task here.location (symlink_of here place) text
+
+      unless_refused : Result (Here ℕ) (Stop ℕ)
+      unless_refused = walk_unless place.steps (follow_rules nat_eq looks (symlink_of here place) text) start
+
+      fewer : (n : ℕ) × (most_symlinks ≡ suc n) × (here.left - 1 ≤ n) → here.left - 1 ≤ less
+      fewer one = omega (arith, one.1, one.2)
+
+  then_where : {A B : Type 0} (a : Result A (Stop ℕ)) (f g : A → Result B (Stop ℕ))
+      → ((x : A) → a ≡ Ok x → f x ≡ g x) → then_walk a f ≡ then_walk a g
+  then_where (Ok x) f g same = same x refl
+  then_where (Err stop) f g same = refl
+
+  last_word_means : is_directory_at looks task.root ≡ true → (here : Here ℕ) (last : Last) → here.left ≤ most_symlinks
+      → has_no_word last ≡ false → then_walk (last_step nat_eq looks task here last) rest ≡ taken here last
+  last_word_means root here AsOthers few some = refl
+  last_word_means root here (NotFollowed word) few some = reached_rest (last_walked nat_eq looks task here word)
+  last_word_means root here (AsName word slash) few some = named_rest (placed nat_eq looks task here word slash)
+  last_word_means root here (AsFile word slash) few some =
+      then_then (placed nat_eq looks task here word slash)
+      (λ place. opened nat_eq looks task here place slash (symlink_there nat_eq looks place)) rest
+      ∙ then_where (placed nat_eq looks task here word slash)
+      (λ place. then_walk (opened nat_eq looks task here place slash (symlink_there nat_eq looks place)) rest)
+      (λ place. names nat_eq (file_from looks task most_symlinks here place slash (symlink_there nat_eq looks place)))
+      (λ place e. opened_means root here few (searched here word slash place some e) place slash
+      (symlink_there nat_eq looks place))
+      ∙ sym (then_then (placed nat_eq looks task here word slash)
+      (λ place. file_from looks task most_symlinks here place slash (symlink_there nat_eq looks place))
+      (λ found. Ok (Names found)))
+
+  -- one word of a walk, and what is then left of it
+  pub one_word_means : is_directory_at looks task.root ≡ true → (walker : Walker ℕ) → walker.here.left ≤ most_symlinks
+      → ((there : Here ℕ) → IsQuiet there walker.last)
+      → (walker.pending ≡ [] → has_no_word walker.last ≡ false)
+      → then_walk (one_word nat_eq looks task walker) rest ≡ rest (Goes walker)
+  one_word_means root walker few quiet some = by walker.pending some
+    where
+      text_by : (list : List (List ℕ)) (slash : Bool) (others : List Pending)
+          → then_walk (text_word nat_eq looks task walker.here list slash others walker.last) rest
+          ≡ left_from walker.here (record { words = list; slash = slash } ∷ others) walker.last
+      text_by [] slash others =
+          gone_on_means (record { words = []; slash = slash } ∷ others) walker.here walker.last (quiet walker.here)
+      text_by (word ∷ list) slash others =
+          text_word_means walker.here list slash others walker.last quiet few word
+
+      by : (pending : List Pending) → (pending ≡ [] → has_no_word walker.last ≡ false)
+          → then_walk (one_word nat_eq looks task (record { here = walker.here; pending = pending; last = walker.last }))
+          rest ≡ left_from walker.here pending walker.last
+      by [] none = last_word_means root walker.here walker.last few (none refl)
+      by (text ∷ others) none = text_by text.words text.slash others
