@@ -76,8 +76,8 @@ module _ {N : Type 0} (eq : N → N → Bool) where
       else Ok (Goes (record { here = here; pending = []; last = last }))
   gone_on looks task here (text ∷ others) last =
       if is_empty_list text.words then
-        then_walk (walk_unless here.steps (end_rules looks text.slash here.location) here) (λ reached.
-        gone_on looks task reached others last)
+      then_walk (walk_unless here.steps (end_rules looks text.slash here.location) here) (λ reached.
+      gone_on looks task reached others last)
       else Ok (Goes (record { here = here; pending = text ∷ others; last = last }))
 
   -- where a word leads: a symlink is followed, from the directory that it stands in

@@ -170,13 +170,13 @@ module _ (looks : Looks ℕ) (task : Task ℕ) where
       → Same most least (text_walked f text start) (text_walked g text start)
   text_same less most fewer f g alike text start least few long =
       let s = same_then less least (words_walked nat_eq looks task f start (reverse (words text)))
-          (words_walked nat_eq looks task g start (reverse (words text)))
-          (λ reached. walk_unless reached.steps (slash_rules nat_eq looks text reached.location) reached)
-          (λ reached. walk_unless reached.steps (slash_rules nat_eq looks text reached.location) reached)
-          (words_same less f g alike start least few long (reverse (words text)))
-          (λ reached few_left longer.
-          unless_same less least reached.steps (slash_rules nat_eq looks text reached.location) reached few_left longer
-          longer) in
+      (words_walked nat_eq looks task g start (reverse (words text)))
+      (λ reached. walk_unless reached.steps (slash_rules nat_eq looks text reached.location) reached)
+      (λ reached. walk_unless reached.steps (slash_rules nat_eq looks text reached.location) reached)
+      (words_same less f g alike start least few long (reverse (words text)))
+      (λ reached few_left longer.
+      unless_same less least reached.steps (slash_rules nat_eq looks text reached.location) reached few_left longer
+      longer) in
       (s.0, within_more less most least (text_walked f text start) fewer s.1)
 
   -- a symlink followed in two ways that are alike where one symlink less is left

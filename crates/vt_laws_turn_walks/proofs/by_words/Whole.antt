@@ -148,10 +148,10 @@ module _ (looks : Looks ℕ) (task : Task ℕ) where
         → walked_on nat_eq count looks task walk ≡ rest looks task walk
     walked_all zero n (Goes walker) has few =
         let long = after_long (suc (length walker.here.steps)) (one_word nat_eq looks task walker)
-            (one_word_steps looks task walker has.0) in
+        (one_word_steps looks task walker has.0) in
         let same : length (steps_of (then_walk (one_word nat_eq looks task walker) (rest looks task)))
-            ≡ length (steps_of (rest looks task (Goes walker))) =
-            ap (λ r. length (steps_of r)) (word_means walker has.0) in
+        ≡ length (steps_of (rest looks task (Goes walker))) =
+        ap (λ r. length (steps_of r)) (word_means walker has.0) in
         absurd (omega (arith, long, same, few, has.1))
     walked_all (suc count) n (Goes walker) has few =
         after_steps_in (one_word nat_eq looks task walker) (one_word_steps looks task walker has.0)
