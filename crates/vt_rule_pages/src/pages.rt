@@ -72,17 +72,17 @@ pub const RULES: [Rule; 52] = [
 ];
 
 // All calls, and those that are given a path.
-const ALL: [&str; 39] = [
+const ALL: [&str; 40] = [
     "ls", "stat", "lstat", "readlink", "read", "write", "exec", "mkdir", "symlink", "whiteout",
     "link", "unlink", "rmdir", "rename", "chmod", "chown", "opaque", "open", "pread", "pwrite",
     "close", "chdir", "chroot", "umask", "drop", "fork", "exit", "unshare", "setns", "mount",
-    "bind", "rbind", "move", "umount", "lazy", "remount", "type", "rtype", "mounts",
+    "bind", "rbind", "move", "umount", "lazy", "remount", "type", "rtype", "mounts", "pivot_root",
 ];
 
-const PATHS: [&str; 29] = [
+const PATHS: [&str; 30] = [
     "ls", "stat", "lstat", "readlink", "read", "write", "exec", "mkdir", "symlink", "whiteout",
     "link", "unlink", "rmdir", "rename", "chmod", "chown", "opaque", "open", "chdir", "chroot",
-    "mount", "bind", "rbind", "move", "umount", "lazy", "remount", "type", "rtype",
+    "mount", "bind", "rbind", "move", "umount", "lazy", "remount", "type", "rtype", "pivot_root",
 ];
 
 const S1: RulePage = RulePage {
@@ -131,7 +131,7 @@ const K1: RulePage = RulePage {
     meaning: "a capability is missing",
     calls: &[
         "opaque", "fork", "chroot", "unshare", "setns", "mount", "bind", "rbind", "move", "umount",
-        "lazy", "remount", "type", "rtype",
+        "lazy", "remount", "type", "rtype", "pivot_root",
     ],
     manual: "capabilities(7)",
     script: "t drop *\nt unshare => deny 1 EPERM K1\n",
@@ -385,6 +385,7 @@ const M2: RulePage = RulePage {
     meaning: "the mount is not in the namespace of the caller",
     calls: &[
         "mount", "bind", "rbind", "move", "umount", "lazy", "remount", "type", "rtype",
+        "pivot_root",
     ],
     manual: "mount(2), EINVAL",
     script: "t mkdir /d\nt mount plain /d\nt chdir /d\nt lazy /d\nt bind . / => deny 22 EINVAL M2\n",
@@ -420,7 +421,7 @@ const M6: RulePage = RulePage {
 
 const M7: RulePage = RulePage {
     meaning: "the location is not the root of a mount",
-    calls: &["move", "umount", "lazy", "remount", "type", "rtype"],
+    calls: &["move", "umount", "lazy", "remount", "type", "rtype", "pivot_root"],
     manual: "umount(2), EINVAL",
     script: "t mkdir /d\nt umount /d => deny 22 EINVAL M7\n",
 };
@@ -447,16 +448,16 @@ const M10: RulePage = RulePage {
 };
 
 const M11: RulePage = RulePage {
-    meaning: "`pivot_root` at a location in use",
-    calls: &[],
-    manual: "pivot_root(2)",
+    meaning: "NEW or PUT of `pivot_root`, a call of script version 2, is on the root mount",
+    calls: &["pivot_root"],
+    manual: "pivot_root(2), EBUSY",
     script: "",
 };
 
 const M12: RulePage = RulePage {
-    meaning: "`pivot_root` of locations that do not fit",
-    calls: &[],
-    manual: "pivot_root(2)",
+    meaning: "NEW of `pivot_root` is not below the root mount, PUT not under NEW, or a mount is shared",
+    calls: &["pivot_root"],
+    manual: "pivot_root(2), EINVAL",
     script: "",
 };
 
