@@ -5,7 +5,7 @@ use Rattle.vt_spec.specs.Language.Calls.{Call}
 use Rattle.vt_spec.specs.Language.Calls as spec
 use Rattle.vt_spec.specs.Lists.{then_some, when}
 use Rattle.vt_spec.specs.Language.Script.{Version, needs_no_layers, no_more, path_alone, path_word, two_paths, word_then}
-use Rattle.vt_spec.specs.Language.Script.Version.{Two}
+use Rattle.vt_spec.specs.Language.Script.Version.{One, Two}
 use Rattle.vt_request.specs.declared.request.Call.{Call as KeptCall}
 use Rattle.vt_line.specs.declared.names.CallName.{CallName}
 use Rattle.vt_line.specs.declared.names.CallName.TheVariants.{Pair, Path, PivotRoot}
@@ -189,11 +189,22 @@ pivot_named : (words : List (List ℕ))
     → call_named Two PivotRoot words ≡ option_map (with_pair spec.Call.PivotRoot) (path_pair words)
 pivot_named words = pair_had spec.Call.PivotRoot words (λ new put. refl)
 
-pub pivot_unread : (words : List (List ℕ)) (e : ReadError)
-    → ArePathsRead {B = Vec ℕ × Vec ℕ} (λ paths. (paths.0.items, paths.1.items)) (path_pair words) (Err e)
-    → IsCallRead (call_named Two PivotRoot words) (Err e)
-pivot_unread words = two_unread spec.Call.PivotRoot (λ new put. tt) words (call_named Two PivotRoot words) (pivot_named words)
+pub pivot_lacking : (version : Version) (words : List (List ℕ)) → version ≡ One
+    → call_named version PivotRoot words ≡ None
+pivot_lacking version words is = ap (λ version. call_named version PivotRoot words) is
 
-pub pivot_asked : (words : List (List ℕ)) (new put : List ℕ) → path_pair words ≡ Some (new, put)
-    → call_named Two PivotRoot words ≡ Some (spec.Call.PivotRoot new put)
-pivot_asked words new put e = pivot_named words ∙ ap (option_map (with_pair spec.Call.PivotRoot)) e
+pub pivot_refused : (version : Version) (words : List (List ℕ)) {read : Result KeptCall ReadError} (e : ReadError)
+    → version ≡ Two → read ≡ Err e
+    → ArePathsRead {B = Vec ℕ × Vec ℕ} (λ paths. (paths.0.items, paths.1.items)) (path_pair words) (Err e)
+    → IsCallRead (call_named version PivotRoot words) read
+pivot_refused version words {read} e is error paths =
+    subst (λ read. IsCallRead (call_named version PivotRoot words) read) (sym error)
+    (two_unread spec.Call.PivotRoot (λ new put. tt) words (call_named version PivotRoot words)
+    (ap (λ version. call_named version PivotRoot words) is ∙ pivot_named words) e paths)
+
+pub pivot_asked : (version : Version) (words : List (List ℕ)) (new put : List ℕ) → version ≡ Two
+    → path_pair words ≡ Some (new, put)
+    → call_named version PivotRoot words ≡ Some (spec.Call.PivotRoot new put)
+pivot_asked version words new put is e =
+    ap (λ version. call_named version PivotRoot words) is ∙ pivot_named words
+    ∙ ap (option_map (with_pair spec.Call.PivotRoot)) e

@@ -98,9 +98,11 @@ pub fn set_type(alloc: Global, words: Words<'_>, recursive: bool) -> Result<Call
 pub fn pivot_root(version: Version, alloc: Global, words: Words<'_>) -> Result<Call, ReadError>
     ensures { IsCallRead (call_named (version_of version) CallName.PivotRoot words.entry) result }
 {
-    if version == Version::One {
-        return Err(ReadError::Grammar);
+    match version {
+        Version::One => Err(ReadError::Grammar),
+        Version::Two => {
+            let (new, put) = paths(alloc, words)?;
+            Ok(Call::Mount(MountCall::Pivot { new, put }))
+        }
     }
-    let (new, put) = paths(alloc, words)?;
-    Ok(Call::Mount(MountCall::Pivot { new, put }))
 }
