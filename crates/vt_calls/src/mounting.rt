@@ -1,4 +1,4 @@
-//! Grants to change mounts: mount(2), umount(2).
+//! Grants to change mounts: mount(2), umount(2), pivot_root(2).
 ghost use Rattle.vt_permits.specs.declared.grant.Grant.TheVariants.{Mount};
 ghost use Rattle.vt_permits.specs.declared.grant.MountGrant.TheVariants.{Attach};
 ghost use Rattle.vt_calls.specs.Permitted.{EndsGiven, IsGiven};
@@ -28,6 +28,7 @@ pub(crate) fn change_mounts(
             Ok(Answer::Done)
         }
         MountGrant::SetType(change) => done(world.set_type(name, change)),
+        MountGrant::Pivot { new, put } => done(world.pivot_root(name, new, put)),
     }
 }
 

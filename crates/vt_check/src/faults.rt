@@ -15,8 +15,8 @@ pub const PEERS: CallWords = CallWords {
     optional: &[],
 };
 
-/// Calls and directives of a later version.
-const LATER: [&str; 2] = ["pivot_root", "sealed"];
+/// The directive of a later version.
+const SEALED: &str = "sealed";
 
 /// What is wrong.
 #[derive(Clone, Copy)]
@@ -29,8 +29,8 @@ pub enum Fault<'a> {
     LacksCall,
     /// A word of a later version, of which this version has none.
     Later(&'static str, Word<'a>),
-    /// A word of version 2 of the language, where version 1 is read.
-    OfSecond(Word<'a>),
+    /// A word of version 2 of the language, where version 1 is read, and what it is there.
+    OfSecond(&'static str, Word<'a>),
     /// A word of Linux that is not modelled, and what stands in its place.
     Unmodelled(&'static str, Word<'a>),
     /// A word that begins as an option, where calls have none.
@@ -50,8 +50,9 @@ impl<'a> Fault<'a> {
     pub fn span(self, line: Given<'a>) -> Span {
         match self {
             Fault::NoTask(word) | Fault::NoCall(word) | Fault::NoDirective(word) => word.span(),
-            Fault::Later(_, word) | Fault::Unmodelled(_, word) | Fault::OfSecond(word) =>
-                word.span(),
+            Fault::Later(_, word) | Fault::Unmodelled(_, word) | Fault::OfSecond(_, word) => {
+                word.span()
+            }
             Fault::NoOption(_, word) | Fault::Bad(_, _, word) | Fault::Further(_, word) => {
                 word.span()
             }
@@ -67,7 +68,7 @@ impl<'a> Fault<'a> {
             Fault::NoDirective(word) => told(alloc, "no directive", word.text),
             Fault::LacksCall => String::from_str(alloc, "the line ends before its call"),
             Fault::Later(what, word) => told(alloc, what, word.text),
-            Fault::OfSecond(word) => of_second(alloc, word.text),
+            Fault::OfSecond(what, word) => of_second(alloc, what, word.text),
             Fault::Unmodelled(_, word) => of_unmodelled(alloc, word.text),
             Fault::NoOption(call, word) => of_option(alloc, call.name, word.text),
             Fault::Bad(argument, word, part) => of_bad(version, alloc, argument, word, part),
@@ -82,8 +83,8 @@ fn told(alloc: Global, what: &str, word: &str) -> Result<String, AllocError> {
     format!(in alloc; "{what} `{word}`")
 }
 
-fn of_second(alloc: Global, word: &str) -> Result<String, AllocError> {
-    format!(in alloc; "`{word}` is a flag of script version 2")
+fn of_second(alloc: Global, what: &str, word: &str) -> Result<String, AllocError> {
+    format!(in alloc; "`{word}` is a {what} of script version 2")
 }
 
 fn of_unmodelled(alloc: Global, word: &str) -> Result<String, AllocError> {
@@ -208,7 +209,7 @@ fn fault_of_call<'a>(
 
 // What is wrong with a line of nobody.
 fn fault_of_directive<'a>(line: Given<'a>, name: Word<'a>) -> Fault<'a> {
-    if name.text == "sealed" {
+    if name.text == SEALED {
         return Fault::Later("no directive", name);
     }
     if name.text != PEERS.name {
@@ -244,6 +245,11 @@ fn second_flag_of(version: Version, fault: Fault<'_>) -> Option<Word<'_>> {
     None
 }
 
+// Whether version 2 has the call of this name, and the version of the line has not.
+fn is_second_call(version: Version, name: &str) -> bool {
+    call_named(version, name).is_none() && call_named(Version::Two, name).is_some()
+}
+
 // What is wrong with a task's line.
 fn fault_of_task<'a>(
     alloc: Global,
@@ -251,18 +257,21 @@ fn fault_of_task<'a>(
     name: Word<'a>,
 ) -> Result<Fault<'a>, AllocError> {
     let words = line.arguments();
-    if LATER.contains(&name.text) {
+    if name.text == SEALED {
         return Ok(Fault::Later("no call", name));
+    }
+    if is_second_call(line.version, name.text) {
+        return Ok(Fault::OfSecond("call", name));
     }
     if let Some(word) = overlay_of(name, words) {
         return Ok(Fault::Later("no filesystem type", word));
     }
-    let fault = match call_named(name.text) {
+    let fault = match call_named(line.version, name.text) {
         Some(call) => fault_of_call(line.version, alloc, call, words)?,
         None => Fault::NoCall(name),
     };
     if let Some(word) = second_flag_of(line.version, fault) {
-        return Ok(Fault::OfSecond(word));
+        return Ok(Fault::OfSecond("flag", word));
     }
     Ok(match unmodelled_in(words) {
         Some(word) => Fault::Unmodelled(said_of(line.version, fault), word),

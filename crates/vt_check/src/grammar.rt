@@ -178,6 +178,11 @@ const NEW: Argument = Argument {
     kind: Kind::Path,
 };
 
+const PUT: Argument = Argument {
+    name: "PUT",
+    kind: Kind::Path,
+};
+
 const TEXT: Argument = Argument {
     name: "TEXT",
     kind: Kind::Path,
@@ -198,7 +203,7 @@ const YES_OR_NO: Argument = Argument {
     kind: Kind::YesOrNo,
 };
 
-/// The calls of tasks.
+/// The calls of tasks that both versions of the language have.
 pub const CALLS: [CallWords; 39] = [
     CallWords {
         name: "ls",
@@ -436,6 +441,14 @@ pub const CALLS: [CallWords; 39] = [
     },
 ];
 
+/// Those that version 2 alone has.
+const SECOND_CALLS: [CallWords; 1] = [CallWords {
+    name: "pivot_root",
+    usage: "`pivot_root NEW PUT`",
+    needed: &[NEW, PUT],
+    optional: &[],
+}];
+
 // What is said of the flags of a mount. Version 2 has one more.
 fn flags_words(version: Version) -> KindWords {
     let (said, choices) = match version {
@@ -587,7 +600,19 @@ impl Kind {
     }
 }
 
-/// The words of the call of this name.
-pub fn call_named(name: &str) -> Option<&'static CallWords> {
-    CALLS.iter().find(|call| call.name == name)
+/// The calls that a version of the language has beside those of both.
+pub fn further_calls(version: Version) -> &'static [CallWords] {
+    match version {
+        Version::One => &[],
+        Version::Two => SECOND_CALLS.as_slice(),
+    }
+}
+
+/// The words of the call of this name, in a version of the language.
+pub fn call_named(version: Version, name: &str) -> Option<&'static CallWords> {
+    let both = CALLS.iter().find(|call| call.name == name);
+    if both.is_some() {
+        return both;
+    }
+    further_calls(version).iter().find(|call| call.name == name)
 }

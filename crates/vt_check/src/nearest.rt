@@ -1,5 +1,5 @@
 //! Words that are like a given one.
-use crate::grammar::{CALLS, CAPABILITIES, Kind};
+use crate::grammar::{CALLS, CAPABILITIES, Kind, further_calls};
 use crate::unmodelled::is_unmodelled;
 use std::alloc::{AllocError, Global};
 use strsim::osa_distance;
@@ -68,10 +68,14 @@ pub fn nearest(
     Ok(found)
 }
 
-/// The name of the call that is like the text.
-pub fn nearest_call(alloc: Global, text: &str) -> Result<Option<&'static str>, AllocError> {
+/// The name of the call that is like the text, in a version of the language.
+pub fn nearest_call(
+    version: Version,
+    alloc: Global,
+    text: &str,
+) -> Result<Option<&'static str>, AllocError> {
     let mut names = Vec::new(alloc);
-    for call in &CALLS {
+    for call in CALLS.iter().chain(further_calls(version)) {
         names.push(call.name)?;
     }
     nearest(alloc, text, names.as_slice())

@@ -140,7 +140,7 @@ fn for_task(alloc: Global, line: Given<'_>, at: Word<'_>) -> Result<Help, AllocE
     if at.text.starts_with("//") || at.text.starts_with(';') || at.text.starts_with("--") {
         return for_comment(alloc, line);
     }
-    if call_named(at.text).is_some() {
+    if call_named(line.version, at.text).is_some() {
         let whole = joined(alloc, line.words)?;
         let line = Proposal::new(line.version, alloc, format!(in alloc; "t {whole}")?)?;
         return help_of(alloc, line, LINE);
@@ -162,17 +162,17 @@ fn for_call(alloc: Global, line: Given<'_>, at: Word<'_>) -> Result<Help, AllocE
         return Ok(Help::words(alloc, ""));
     }
     let name = at.text.to_ascii_lowercase(alloc)?;
-    let Some(near) = nearest_call(alloc, name.as_str())? else {
+    let Some(near) = nearest_call(line.version, alloc, name.as_str())? else {
         return Ok(Help::words(alloc, ""));
     };
-    let usage = call_named(near).map_or("", |call| call.usage);
+    let usage = call_named(line.version, near).map_or("", |call| call.usage);
     let line = replaced(alloc, line, at, near)?;
     help_of(alloc, line, usage)
 }
 
 // Help where a word is no directive: the task's call of that name, or the one directive.
 fn for_directive(alloc: Global, line: Given<'_>, at: Word<'_>) -> Result<Help, AllocError> {
-    if call_named(at.text).is_some() {
+    if call_named(line.version, at.text).is_some() {
         let rest = joined(alloc, line.request())?;
         let line = Proposal::new(line.version, alloc, format!(in alloc; "t {rest}")?)?;
         return help_of(alloc, line, "");
@@ -273,7 +273,7 @@ fn for_fault(alloc: Global, line: Given<'_>, fault: Fault<'_>) -> Result<Help, A
         }
         Fault::Unmodelled(said, _) => Ok(Help::words(alloc, said)),
         Fault::Later(_, _) => Ok(Help::words(alloc, "")),
-        Fault::OfSecond(_) => Ok(Help::words(alloc, SECOND)),
+        Fault::OfSecond(_, _) => Ok(Help::words(alloc, SECOND)),
         Fault::LacksCall | Fault::Other => Ok(Help::words(alloc, LINE)),
     }
 }
@@ -299,7 +299,7 @@ fn of_rewritten(
     fault: Fault<'_>,
 ) -> Result<Option<Help>, AllocError> {
     match fault {
-        Fault::Later(_, _) | Fault::Unmodelled(_, _) | Fault::OfSecond(_) => Ok(None),
+        Fault::Later(_, _) | Fault::Unmodelled(_, _) | Fault::OfSecond(_, _) => Ok(None),
         Fault::NoOption(call, word) if call.name == "mkdir" && word.text == "-p" => {
             with_parents(alloc, line)
         }

@@ -2,16 +2,19 @@
 mod build_with_bind;
 mod busy_unmount;
 mod bwrap;
+mod bwrap_pivots;
 mod denials;
 mod docker_volumes;
 mod image_build;
 mod lazy_unmount;
 mod moved_mounts;
 mod nspawn;
+mod nspawn_pivot;
 mod pods_share_a_volume;
 mod private_volume;
 mod release_and_service;
 mod replace_by_rename;
+mod runc_pivot;
 mod runc_root;
 mod sandbox;
 mod secret_file;
@@ -29,7 +32,7 @@ pub struct Example {
 }
 
 /// The examples, in the order of the cookbook.
-pub const EXAMPLES: [Example; 20] = [
+pub const EXAMPLES: [Example; 23] = [
     Example {
         name: "docker-volumes",
         about: "what docker run -v and bind-propagation=rshared show of a disk that the host mounts later",
@@ -39,16 +42,28 @@ pub const EXAMPLES: [Example; 20] = [
         about: "two pods share a volume with mountPropagation: Bidirectional",
     },
     Example {
+        name: "runc-pivot",
+        about: "runc's root by pivot_root(\".\", \".\"), and the lazy unmount of the old one",
+    },
+    Example {
         name: "runc-root",
-        about: "runc's root: slaves, a private parent, a bind onto itself, a changed root",
+        about: "the same with --no-pivot: a moved mount and a changed root",
     },
     Example {
         name: "bwrap",
         about: "bwrap: read-only /usr, a tmpfs, a work directory, and a user without capabilities",
     },
     Example {
+        name: "bwrap-pivots",
+        about: "its two pivots",
+    },
+    Example {
+        name: "nspawn-pivot",
+        about: "systemd-nspawn makes its tree the root by a pivot",
+    },
+    Example {
         name: "nspawn",
-        about: "systemd-nspawn moves its tree to /",
+        about: "it moves it to / where there is none",
     },
     Example {
         name: "unshare-mounts",
@@ -117,8 +132,11 @@ pub fn script_of(name: &str) -> Option<&'static str> {
     match name {
         "docker-volumes" => Some(docker_volumes::script()),
         "pods-share-a-volume" => Some(pods_share_a_volume::script()),
+        "runc-pivot" => Some(runc_pivot::script()),
         "runc-root" => Some(runc_root::script()),
         "bwrap" => Some(bwrap::script()),
+        "bwrap-pivots" => Some(bwrap_pivots::script()),
+        "nspawn-pivot" => Some(nspawn_pivot::script()),
         "nspawn" => Some(nspawn::script()),
         "unshare-mounts" => Some(unshare_mounts::script()),
         "busy-unmount" => Some(busy_unmount::script()),
@@ -136,5 +154,13 @@ pub fn script_of(name: &str) -> Option<&'static str> {
         "slave-root" => Some(slave_root::script()),
         "denials" => Some(denials::script()),
         _ => None,
+    }
+}
+
+/// The options by which the example of this name is read, with a space behind them.
+pub fn options_of(name: &str) -> &'static str {
+    match name {
+        "runc-pivot" | "bwrap-pivots" | "nspawn-pivot" => "--script 2 ",
+        _ => "",
     }
 }

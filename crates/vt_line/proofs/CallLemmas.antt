@@ -5,9 +5,10 @@ use Rattle.vt_spec.specs.Language.Calls.{Call}
 use Rattle.vt_spec.specs.Language.Calls as spec
 use Rattle.vt_spec.specs.Lists.{then_some, when}
 use Rattle.vt_spec.specs.Language.Script.{Version, needs_no_layers, no_more, path_alone, path_word, two_paths, word_then}
+use Rattle.vt_spec.specs.Language.Script.Version.{One, Two}
 use Rattle.vt_request.specs.declared.request.Call.{Call as KeptCall}
 use Rattle.vt_line.specs.declared.names.CallName.{CallName}
-use Rattle.vt_line.specs.declared.names.CallName.TheVariants.{Pair, Path}
+use Rattle.vt_line.specs.declared.names.CallName.TheVariants.{Pair, Path, PivotRoot}
 use Rattle.vt_line.specs.declared.names.PairCall.{PairCall}
 use Rattle.vt_line.specs.declared.names.PairCall.TheVariants as pair
 use Rattle.vt_line.specs.declared.names.PathCall.{PathCall}
@@ -137,13 +138,21 @@ path_unread version name words Memory some =
     subst (λ asked. IsSomeAnd asked KeepsWords) (sym (path_named version name words))
     (some_keeps (path_call name) (lone_path words) (path_keeps name) some)
 
+two_unread : (call : List ℕ → List ℕ → Call) → ((a b : List ℕ) → KeepsWords (call a b)) → (words : List (List ℕ))
+    (asked : Option Call) → asked ≡ option_map (with_pair call) (path_pair words) → (e : ReadError)
+    → ArePathsRead {B = Vec ℕ × Vec ℕ} (λ paths. (paths.0.items, paths.1.items)) (path_pair words) (Err e)
+    → IsCallRead asked (Err e)
+two_unread call keeps words asked is Grammar none = is ∙ ap (option_map (with_pair call)) none
+two_unread call keeps words asked is Memory some =
+    subst (λ asked. IsSomeAnd asked KeepsWords) (sym is)
+    (some_keeps (with_pair call) (path_pair words) (λ pair. keeps pair.0 pair.1) some)
+
 pair_unread : (version : Version) (name : PairCall) (words : List (List ℕ)) (e : ReadError) →
     ArePathsRead {B = Vec ℕ × Vec ℕ} (λ paths. (paths.0.items, paths.1.items)) (path_pair words) (Err e) →
     IsCallRead (call_named version (Pair name) words) (Err e)
-pair_unread version name words Grammar none = pair_named version name words ∙ ap (option_map (with_pair (pair_call name))) none
-pair_unread version name words Memory some =
-    subst (λ asked. IsSomeAnd asked KeepsWords) (sym (pair_named version name words))
-    (some_keeps (with_pair (pair_call name)) (path_pair words) (λ pair. pair_keeps name pair.0 pair.1) some)
+pair_unread version name words =
+    two_unread (pair_call name) (pair_keeps name) words (call_named version (Pair name) words)
+    (pair_named version name words)
 
 pub path_refused : (version : Version) (name : CallName) (of : PathCall) (words : List (List ℕ)) {read : Result KeptCall ReadError}
     (e : ReadError) →
@@ -174,3 +183,28 @@ pub pair_asked : (version : Version) (name : CallName) (of : PairCall) (words : 
     call_named version name words ≡ Some (pair_call of a b)
 pair_asked version name of words a b is e =
     ap (λ name. call_named version name words) is ∙ pair_named version of words ∙ ap (option_map (with_pair (pair_call of))) e
+
+-- pivot_root has its words in the second version alone
+pivot_named : (words : List (List ℕ))
+    → call_named Two PivotRoot words ≡ option_map (with_pair spec.Call.PivotRoot) (path_pair words)
+pivot_named words = pair_had spec.Call.PivotRoot words (λ new put. refl)
+
+pub pivot_lacking : (version : Version) (words : List (List ℕ)) → version ≡ One
+    → call_named version PivotRoot words ≡ None
+pivot_lacking version words is = ap (λ version. call_named version PivotRoot words) is
+
+pub pivot_refused : (version : Version) (words : List (List ℕ)) {read : Result KeptCall ReadError} (e : ReadError)
+    → version ≡ Two → read ≡ Err e
+    → ArePathsRead {B = Vec ℕ × Vec ℕ} (λ paths. (paths.0.items, paths.1.items)) (path_pair words) (Err e)
+    → IsCallRead (call_named version PivotRoot words) read
+pivot_refused version words {read} e is error paths =
+    subst (λ read. IsCallRead (call_named version PivotRoot words) read) (sym error)
+    (two_unread spec.Call.PivotRoot (λ new put. tt) words (call_named version PivotRoot words)
+    (ap (λ version. call_named version PivotRoot words) is ∙ pivot_named words) e paths)
+
+pub pivot_asked : (version : Version) (words : List (List ℕ)) (new put : List ℕ) → version ≡ Two
+    → path_pair words ≡ Some (new, put)
+    → call_named version PivotRoot words ≡ Some (spec.Call.PivotRoot new put)
+pivot_asked version words new put is e =
+    ap (λ version. call_named version PivotRoot words) is ∙ pivot_named words
+    ∙ ap (option_map (with_pair spec.Call.PivotRoot)) e

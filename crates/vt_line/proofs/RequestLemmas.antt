@@ -13,7 +13,7 @@ use Rattle.vt_spec.specs.Language.Script.Who.{Nobody, Someone}
 use Rattle.vt_line.specs.declared.calls.ReadError.{ReadError}
 use Rattle.vt_line.specs.declared.calls.ReadError.TheVariants.{Grammar, Memory}
 use Rattle.vt_line.specs.declared.names.CallName.{CallName}
-use Rattle.vt_line.specs.declared.names.CallName.TheVariants.{Chmod, Chown, Close, Drop, Exit, Fork, Mkdir, Mount, Mounts, Opaque, Open, Pair, Path, Pread, Pwrite, Remount, SetType, SetTypeRecursive, Setns, Umask, Unshare, Write}
+use Rattle.vt_line.specs.declared.names.CallName.TheVariants.{Chmod, Chown, Close, Drop, Exit, Fork, Mkdir, Mount, Mounts, Opaque, Open, Pair, Path, PivotRoot, Pread, Pwrite, Remount, SetType, SetTypeRecursive, Setns, Umask, Unshare, Write}
 use Rattle.vt_line.specs.declared.names.PairCall.{PairCall}
 use Rattle.vt_line.specs.declared.names.PairCall.TheVariants as pair
 use Rattle.vt_line.specs.declared.names.PathCall.{PathCall}
@@ -250,6 +250,7 @@ module _ (version : Version) where
   name-known SetType = refl
   name-known SetTypeRecursive = refl
   name-known Mounts = refl
+  name-known PivotRoot = refl
 
   call-asked : (task : List ℕ) (name : CallName) (words : List (List ℕ)) →
       call_asked (marks version) task (name_text name ∷ words) ≡ option_map (Calling task) (call_named version name words)

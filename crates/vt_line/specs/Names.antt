@@ -2,7 +2,7 @@
 use Rattle.std.specs.Prelude.{List, [], codes, false, true, ℕ, ◌∷◌}
 use Rattle.vt_spec.specs.Language.Calls as spec
 use Rattle.vt_line.specs.declared.names.CallName.{CallName}
-use Rattle.vt_line.specs.declared.names.CallName.TheVariants.{Chmod, Chown, Close, Drop, Exit, Fork, Mkdir, Mount, Mounts, Opaque, Open, Pair, Path, Pread, Pwrite, Remount, Setns, SetType, SetTypeRecursive, Umask, Unshare, Write}
+use Rattle.vt_line.specs.declared.names.CallName.TheVariants.{Chmod, Chown, Close, Drop, Exit, Fork, Mkdir, Mount, Mounts, Opaque, Open, Pair, Path, PivotRoot, Pread, Pwrite, Remount, Setns, SetType, SetTypeRecursive, Umask, Unshare, Write}
 use Rattle.vt_line.specs.declared.names.PairCall.{PairCall}
 use Rattle.vt_line.specs.declared.names.PairCall.TheVariants as pair
 use Rattle.vt_line.specs.declared.names.PathCall.{PathCall}
@@ -54,6 +54,7 @@ name_text Remount = codes "remount"
 name_text SetType = codes "type"
 name_text SetTypeRecursive = codes "rtype"
 name_text Mounts = codes "mounts"
+name_text PivotRoot = codes "pivot_root"
 
 -- The names of the calls on files and tasks, in their order: those on names, and those on files and of a task on
 -- itself.

@@ -118,5 +118,6 @@ pub fn call(
             .end()
             .map(|()| Call::Look(LookCall::ListMounts))
             .ok_or(ReadError::Grammar),
+        CallName::PivotRoot => mounting::pivot_root(version, alloc, words),
     }
 }

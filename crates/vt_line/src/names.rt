@@ -1,6 +1,6 @@
 //! The names of the calls.
 ghost use Rattle.std.specs.Prelude.{◌≡◌, ◌++◌, None, false, IfSome};
-ghost use Rattle.vt_spec.specs.Language.Script.{file_call_names, marking_call_names, mounting_call_names};
+ghost use Rattle.vt_spec.specs.Language.Script.{file_call_names, marking_call_names, mounting_call_names, pivoting_call_names};
 
 use vt_request::{Call, LookCall, MakeCall, MountCall, RemoveCall, TaskCall};
 
@@ -118,6 +118,7 @@ pub enum CallName {
     SetType,
     SetTypeRecursive,
     Mounts,
+    PivotRoot,
 }
 
 impl CallName {
@@ -128,8 +129,8 @@ impl CallName {
     /// The call that a text names.
     pub fn from_text(text: &[u8]) -> Option<Self>
         ensures named { IfSome result (λ name. text.now ≡ name_text name) }
-        ensures unknown { result ≡ None
-            → list_any (bytes_eq text.now) (file_call_names ++ mounting_call_names ++ marking_call_names) ≡ false }
+        ensures unknown { result ≡ None → list_any (bytes_eq text.now)
+            (file_call_names ++ mounting_call_names ++ marking_call_names ++ pivoting_call_names) ≡ false }
     {
         if let Some(name) = CallName::on_names(text) {
             return Some(name);
@@ -140,7 +141,10 @@ impl CallName {
         if let Some(name) = CallName::on_mounts(text) {
             return Some(name);
         }
-        CallName::on_marks(text)
+        if let Some(name) = CallName::on_marks(text) {
+            return Some(name);
+        }
+        CallName::on_root_mounts(text)
     }
 
     // The call on a name of a directory that a text names.
@@ -218,6 +222,17 @@ impl CallName {
         Some(match text {
             b"whiteout" => CallName::Path(PathCall::Whiteout),
             b"opaque" => CallName::Opaque,
+            _ => return None,
+        })
+    }
+
+    // The call that exchanges root mounts that a text names.
+    fn on_root_mounts(text: &[u8]) -> Option<Self>
+        ensures named { IfSome result (λ name. text.now ≡ name_text name) }
+        ensures unknown { result ≡ None → list_any (bytes_eq text.now) pivoting_call_names ≡ false }
+    {
+        Some(match text {
+            b"pivot_root" => CallName::PivotRoot,
             _ => return None,
         })
     }

@@ -6,6 +6,6 @@
 #[derive(Clone, Copy, Debug, PartialEq, Eq)]
 pub enum Version {
     One,
-    /// Knows `nosymfollow` among the flags of a mount.
+    /// Knows `nosymfollow` among the flags of a mount, and the call `pivot_root`.
     Two,
 }

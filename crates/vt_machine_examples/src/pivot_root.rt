@@ -1,7 +1,7 @@
 //! Worked examples: pivot root.
 ghost use Rattle.std.specs.Prelude.{◌≡◌, [], codes, ◌++◌};
-ghost use Rattle.vt_spec.specs.Machine.Run.{machine_text};
-ghost use Rattle.vt_spec.specs.Language.Script.Version.{Two};
+ghost use Rattle.vt_spec.specs.Machine.Run.{machine_text, script_text_as};
+ghost use Rattle.vt_spec.specs.Language.Script.Version.{One, Two};
 
 /// The root mount is exchanged and the old one unmounted.
 pub fn old_root_below_the_new_one()
@@ -18,4 +18,11 @@ pub fn old_root_stacked_on_the_new_one()
         ++ codes "t type / private\nt pivot_root /n /n\nt ls /\nt umount /old/..\nt mounts\n")
         ≡ codes "1 ok\n2 ok\n3 ok\n4 ok\n5 deny 22 EINVAL M12\n6 ok\n7 ok\n8 ok old\n9 ok\n10 ok 1\n"
         ++ codes "10 1 - - plain:1 / rw private\n" }
+{}
+
+/// The first version of the language has no such call. The product has it in the second.
+#[tactic(auto, unfolding(crate::specs::Opened::computed))]
+pub fn pivot_root_by_version()
+    ensures first { script_text_as One [] (codes "t pivot_root / /\n") ≡ codes "1 deny 22 EINVAL S1\n" }
+    ensures second { script_text_as Two [] (codes "t pivot_root / /\n") ≡ codes "1 deny 16 EBUSY M11\n" }
 {}

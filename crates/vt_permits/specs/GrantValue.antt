@@ -3,7 +3,7 @@ use Rattle.std.specs.Prelude.{option_map, ℕ}
 use Rattle.vt_spec.specs.Language.Changes.Change.{AddName, Remove, SetAttr, SetBytes, SetMark}
 use Rattle.vt_spec.specs.Machine.Tasks.{with_dropped}
 use Rattle.vt_spec.specs.Machine.Permits.{Permit}
-use Rattle.vt_spec.specs.Machine.Permits.Permit.{Allowed, ToBind, ToChange, ToClose, ToEnterNamespace, ToExit, ToFork, ToList, ToListMounts, ToMake, ToMountPlain, ToMove, ToOpen, ToOpenNew, ToRead, ToReadPart, ToRemoveDirectory, ToRename, ToSetCredentials, ToSetDirectory, ToSetFlags, ToSetRoot, ToSetType, ToSetUmask, ToStat, ToUnmount, ToUnmountLazily, ToUnshare, ToWritePart}
+use Rattle.vt_spec.specs.Machine.Permits.Permit.{Allowed, ToBind, ToChange, ToClose, ToEnterNamespace, ToExit, ToFork, ToList, ToListMounts, ToMake, ToMountPlain, ToMove, ToOpen, ToOpenNew, ToPivot, ToRead, ToReadPart, ToRemoveDirectory, ToRename, ToSetCredentials, ToSetDirectory, ToSetFlags, ToSetRoot, ToSetType, ToSetUmask, ToStat, ToUnmount, ToUnmountLazily, ToUnshare, ToWritePart}
 use Rattle.vt_spec.specs.Machine.Renaming.{renamed_node}
 use Rattle.vt_spec.specs.Machine.World.{Task}
 use Rattle.vt_spec.specs.Tree.{Node}
@@ -104,6 +104,7 @@ mount_permit (mount.UnmountLazily id) = ToUnmountLazily (counted id.count)
 mount_permit (mount.SetFlags id flags) = ToSetFlags (counted id.count) (flags_of flags)
 mount_permit (mount.SetType change) =
     ToSetType (counted change.mount.count) (type_word_of change.word) change.recursive
+mount_permit (mount.Pivot new put) = ToPivot (counted new.count) (location_of put)
 
 -- what a task is granted
 abbrev pub permit_of : Task ℕ → Grant → Permit ℕ

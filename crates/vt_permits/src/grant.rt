@@ -179,6 +179,8 @@ pub enum MountGrant {
     SetFlags { mount: MountId, flags: MountFlags },
     /// mount(2) with a propagation type, and `MS_REC`
     SetType(ToSetType),
+    /// The mount becomes the root mount, and the old root mount stands at `put`: pivot_root(2).
+    Pivot { new: MountId, put: Location },
 }
 
 /// Mounts that are attached, and where.

@@ -4,13 +4,13 @@ use Rattle.vt_spec.specs.declared.errors.Deny.{Deny}
 use Rattle.vt_spec.specs.declared.errors.Rule.TheVariants.{K1, M2, M7}
 use Rattle.vt_spec.specs.Errors.{Rules, and_then, unless}
 use Rattle.vt_spec.specs.Language.Calls.{MountFlags}
-use Rattle.vt_spec.specs.Machine.Judge.{bind_permit, mount_plain_permit, move_permit}
+use Rattle.vt_spec.specs.Machine.Judge.{bind_permit, mount_plain_permit, move_permit, pivot_permit}
 use Rattle.vt_spec.specs.Machine.Looks.{Looks}
 use Rattle.vt_spec.specs.Machine.Mounts.{Location}
 use Rattle.vt_spec.specs.Machine.Permits.{Permit}
-use Rattle.vt_spec.specs.Machine.Permits.Permit.{ToBind, ToMountPlain, ToMove}
+use Rattle.vt_spec.specs.Machine.Permits.Permit.{ToBind, ToMountPlain, ToMove, ToPivot}
 use Rattle.vt_spec.specs.Machine.Rules.Conditions.{is_elsewhere, is_no_root, lacks}
-use Rattle.vt_spec.specs.Machine.Rules.Mounting.{bind_rules, destination_walk, move_rules, new_mount_rules, source_walk}
+use Rattle.vt_spec.specs.Machine.Rules.Mounting.{bind_rules, destination_walk, move_rules, new_mount_rules, pivot_rules, source_walk}
 use Rattle.vt_spec.specs.Machine.Walking.{Here, directory_walk, walk_end}
 use Rattle.vt_spec.specs.Machine.World.{Task}
 use Rattle.vt_spec.specs.Rights.{cap_sys_admin}
@@ -74,6 +74,21 @@ move_asked looks overfills task old new source place admin from there =
     ∙ reached (walk_end (source_walk nat_eq looks task old)) source
     (λ from. and_then (walk_end (destination_walk nat_eq looks task new)) (λ here. asked from here.location)) from
     ∙ reached (walk_end (destination_walk nat_eq looks task new)) place (asked source) there
+
+pub pivot_asked : (looks : Looks ℕ) (task : Task ℕ) (new put : List ℕ) (root place : Location ℕ)
+    → lacks task cap_sys_admin ≡ false
+    → Reaches (walk_end (source_walk nat_eq looks task new)) root
+    → Reaches (walk_end (destination_walk nat_eq looks task put)) place
+    → pivot_permit nat_eq looks task new put
+    ≡ unless (pivot_rules nat_eq looks task root place) (Ok (ToPivot root.mount place))
+unfolding pivot_permit
+pivot_asked looks task new put root place admin from there =
+    let asked : Location ℕ → Location ℕ → Result (Permit ℕ) Deny = λ from. λ at.
+    unless (pivot_rules nat_eq looks task from at) (Ok (ToPivot from.mount at)) in
+    skipped _ K1 [] _ admin
+    ∙ reached (walk_end (source_walk nat_eq looks task new)) root
+    (λ from. and_then (walk_end (destination_walk nat_eq looks task put)) (λ here. asked from here.location)) from
+    ∙ reached (walk_end (destination_walk nat_eq looks task put)) place (asked root) there
 
 rows_refused : {A B : Type 0} (elsewhere no_root : Bool) (more : Rules) (here : A) (answer : Result B Deny)
     (deny : Deny)

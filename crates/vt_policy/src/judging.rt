@@ -10,7 +10,7 @@ use crate::attributes::{chmod, chown, opaque};
 use crate::descriptors::{close, open, pread, pwrite};
 use crate::looking::{exec, list, lstat, read, readlink, stat};
 use crate::making::{link, mkdir, symlink, whiteout, write};
-use crate::mounting::{bind, lazy, mount_plain, move_mount, remount, set_type, umount};
+use crate::mounting::{bind, lazy, mount_plain, move_mount, pivot_root, remount, set_type, umount};
 use crate::removing::{rename, rmdir, unlink};
 use crate::tasks::{chdir, chroot, fork, permission_bits, setns, unshare};
 use std::alloc::Global;
@@ -210,5 +210,6 @@ fn judge_mount<L: LookAtMounts>(world: &L, who: &Task, call: MountCall) -> Resul
             word,
             recursive,
         } => set_type(world, who, &path, word, recursive),
+        MountCall::Pivot { new, put } => pivot_root(world, who, &new, &put),
     }
 }

@@ -17,7 +17,7 @@ pub use attributes::{chmod, chown};
 pub use descriptors::{close, open, pread, pwrite};
 pub use looking::{exec, list, lstat, read, readlink, stat};
 pub use making::{link, mkdir, symlink, write};
-pub use mounting::{bind, lazy, mount_plain, move_mount, remount, set_type, umount};
+pub use mounting::{bind, lazy, mount_plain, move_mount, pivot_root, remount, set_type, umount};
 pub use permit::{Permit, judge};
 pub use removing::{rename, rmdir, unlink};
 pub use tasks::{chdir, chroot, fork, permission_bits, setns, unshare};

@@ -1,7 +1,7 @@
-//! Mount calls: mount(2) in its forms, umount(2).
+//! Mount calls: mount(2) in its forms, umount(2), pivot_root(2).
 ghost use Rattle.std.specs.Prelude.{◌≡◌, nat_eq, Err, IfErr, IfOk};
 ghost use Rattle.vt_spec.specs.Language.Calls.Call.{Bind, MountPlain, MoveMount, Umount};
-ghost use Rattle.vt_spec.specs.Machine.Judge.{bind_permit, lazy_permit, mount_plain_permit, move_permit, remount_permit, type_permit, umount_permit};
+ghost use Rattle.vt_spec.specs.Machine.Judge.{bind_permit, lazy_permit, mount_plain_permit, move_permit, pivot_permit, remount_permit, type_permit, umount_permit};
 ghost use Rattle.vt_cred.specs.MountFlags.{flags_of};
 ghost use Rattle.vt_permits.specs.Memory.{JudgesAlike, JudgesByReceivers};
 ghost use Rattle.vt_request.specs.Requests.{type_word_of};
@@ -14,7 +14,9 @@ use vt_location::Location;
 use vt_looks::{Look, LookAtMounts};
 use vt_permits::{Attachment, Grant, MountGrant, ToBind, ToSetType};
 use vt_request::TypeWord;
-use vt_rules::{is_attached_somewhere, is_elsewhere, is_no_root, is_unbindable, lacks, may_move};
+use vt_rules::{
+    is_attached_somewhere, is_elsewhere, is_no_root, is_unbindable, lacks, may_move, may_pivot,
+};
 use vt_spec::errors::{Deny, Rule};
 use vt_tasks::Task;
 
@@ -194,4 +196,22 @@ pub fn set_type<L: Look>(
         word,
         recursive,
     })))
+}
+
+/// K1 (EPERM), and after the rules of both walks M2 (EINVAL), M7 (EINVAL), M11 (EBUSY), M12 (EINVAL).
+#[tactic(auto, unfolding(vt_spec::specs::Machine::Judge::pivot_permit))]
+pub fn pivot_root<L: Look>(world: &L, who: &Task, new: &[u8], put: &[u8]) -> Result<Grant, Deny>
+    ensures { JudgesAlike (task_of who.now)
+        (pivot_permit nat_eq (L.looks world.now) (task_of who.now) new.now put.now) result }
+{
+    if lacks(who, Caps::CAP_SYS_ADMIN) {
+        return Err(Rule::K1.denial());
+    }
+    let root = source_at(world, who, new)?;
+    let put = destination_at(world, who, put)?;
+    may_pivot(world, who, root, put)?;
+    Ok(Grant::Mount(MountGrant::Pivot {
+        new: root.mount,
+        put,
+    }))
 }

@@ -43,4 +43,5 @@ kind_of (spec.Call.Umount path) = Some kind.Umount
 kind_of (spec.Call.Lazy path) = Some kind.Lazy
 kind_of (spec.Call.Remount path flags) = Some kind.Remount
 kind_of (spec.Call.SetType path word recursive) = Some kind.SetType
+kind_of (spec.Call.PivotRoot new put) = Some kind.PivotRoot
 kind_of other = None

@@ -122,6 +122,7 @@ mount_call_of (mount.Umount path) = spec.Call.Umount path.items
 mount_call_of (mount.Lazy path) = spec.Call.Lazy path.items
 mount_call_of (mount.Remount path flags) = spec.Call.Remount path.items (flags_of flags)
 mount_call_of (mount.SetType path word recursive) = spec.Call.SetType path.items (type_word_of word) recursive
+mount_call_of (mount.Pivot new put) = spec.Call.PivotRoot new.items put.items
 
 -- the call, in the policy's words
 abbrev pub call_of : Call → spec.Call

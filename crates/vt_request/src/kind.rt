@@ -48,6 +48,7 @@ pub enum CallKind {
     Lazy,
     Remount,
     SetType,
+    PivotRoot,
 }
 
 impl Call {
@@ -170,6 +171,7 @@ impl MountCall {
             MountCall::Lazy { .. } => CallKind::Lazy,
             MountCall::Remount { .. } => CallKind::Remount,
             MountCall::SetType { .. } => CallKind::SetType,
+            MountCall::Pivot { .. } => CallKind::PivotRoot,
         }
     }
 }

@@ -253,6 +253,11 @@ pub enum MountCall {
         word: TypeWord,
         recursive: bool,
     },
+    /// pivot_root(2)
+    Pivot {
+        new: Vec<u8>,
+        put: Vec<u8>,
+    },
 }
 
 /// What a line asks of all namespaces together. It is no task's, and needs no right.

@@ -5,7 +5,8 @@
 //! compared.
 //!
 //! The scripts of `suites` and `examples`, and those by which rules are shown, are run in both versions of the language,
-//! and have the same answers in both. Those of `version-1` and `version-2` are run in that version alone.
+//! and have the same answers in both. Those of `version-1` and `version-2`, and of `examples/version-2`, are run in that
+//! version alone.
 #![tactic(auto)]
 
 mod suites;
@@ -33,13 +34,14 @@ fn files<R: Runtime + AllocGlobal>(rt: &R, folder: &str, end: &str) -> Result<Ve
     Ok(files)
 }
 
-// Runs the scripts of a folder's files in each of these versions.
+// Runs the scripts of a folder's files whose names end in this, in each of these versions.
 fn check_suites<R: Runtime + AllocGlobal>(
     rt: &R,
     folder: &str,
+    end: &str,
     versions: &[Version],
 ) -> Result<()> {
-    for file in &files(rt, folder, "")? {
+    for file in &files(rt, folder, end)? {
         let mut scripts = 0;
         for version in versions {
             scripts = suites::check(rt, *version, file.as_str())?;
@@ -50,10 +52,11 @@ fn check_suites<R: Runtime + AllocGlobal>(
 }
 
 fn main(rt: HostRuntime) -> Result<()> {
-    check_suites(&rt, "examples", BOTH.as_slice())?;
-    check_suites(&rt, "suites", BOTH.as_slice())?;
-    check_suites(&rt, "version-1", &[Version::One])?;
-    check_suites(&rt, "version-2", &[Version::Two])?;
+    check_suites(&rt, "examples", ".vt", BOTH.as_slice())?;
+    check_suites(&rt, "examples/version-2", ".vt", &[Version::Two])?;
+    check_suites(&rt, "suites", "", BOTH.as_slice())?;
+    check_suites(&rt, "version-1", "", &[Version::One])?;
+    check_suites(&rt, "version-2", "", &[Version::Two])?;
     suites::check_rules(&rt, Version::Two)?;
     println!(rt;
         "rules: {} scripts",

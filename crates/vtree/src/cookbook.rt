@@ -9,7 +9,7 @@ use std::alloc::{AllocError, Global};
 use std::fs::File;
 use std::io::{self, Write};
 use std::rt::Files;
-use vt_cookbook::examples::script_of;
+use vt_cookbook::examples::{options_of, script_of};
 use vt_cookbook::list;
 
 // That a word is the name of no example.
@@ -48,8 +48,9 @@ pub fn write<R: Files + Eprint + AllocGlobal, W: Write>(
         );
         return Err(Fault::Found);
     }
-    let text = format!(in alloc; "{file} is written; `vtree test {file}` runs it\n").map_err(
-        out_of_memory,
-    )?;
+    let options = options_of(name);
+    let text = format!(in alloc;
+        "{file} is written; `vtree test {options}{file}` runs it\n"
+    ).map_err(out_of_memory)?;
     hand_on(output, text.as_bytes())
 }

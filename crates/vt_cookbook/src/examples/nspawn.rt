@@ -3,7 +3,8 @@
 /// The script.
 pub fn script() -> &'static str {
     "\
-# systemd-nspawn: all mounts become slaves, the tree of the container is bound onto itself and moved to `/`, then `chroot`.\n\
+# systemd-nspawn where the kernel refuses pivot_root: all mounts become slaves, the tree of the container is bound onto\n\
+# itself and moved to `/`, then `chroot`. `version-2/nspawn-pivot.vt` has the pivot.\n\
 \n\
 t mkdir /var\n\
 t mkdir /var/lib\n\

@@ -3,8 +3,9 @@
 /// The script.
 pub fn script() -> &'static str {
     "\
-# How runc makes a root: slaves first, the mount of the bundle private, the bundle bound onto itself, then `chroot`, since\n\
-# this version has no `pivot_root`. A mount that is moved to `/` covers the root of its namespace.\n\
+# How runc makes a root with `--no-pivot`: slaves first, the mount of the bundle private, the bundle bound onto itself,\n\
+# then moved to `/`, and `chroot`. A mount that is moved to `/` covers the root of its namespace. The usual way, by\n\
+# `pivot_root`, is `version-2/runc-pivot.vt`.\n\
 \n\
 t mkdir /run\n\
 t mkdir /run/bundle\n\
@@ -27,7 +28,6 @@ t.1 mkdir /run/bundle/rootfs/dev/shm\n\
 t.1 mount plain /run/bundle/rootfs/dev/shm rw,noexec\n\
 t.1 remount /run/bundle/rootfs/proc ro\n\
 t.1 chdir /run/bundle/rootfs\n\
-t.1 pivot_root . .                      => deny 22 EINVAL S1\n\
 t.1 umount .                            => deny 16 EBUSY M8\n\
 t.1 move . /\n\
 t.1 chroot .\n\

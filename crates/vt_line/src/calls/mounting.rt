@@ -1,4 +1,4 @@
-//! The calls on mounts that are given more than paths.
+//! The calls on mounts that are given more than paths, or that one version has.
 ghost use Rattle.std.specs.Prelude.{◌≡◌, option_map, false, true};
 ghost use Rattle.vt_spec.specs.Language.Calls.Call.{MountPlain, Remount, SetType};
 ghost use Rattle.vt_spec.specs.Language.Script.Version.{One};
@@ -7,7 +7,7 @@ ghost use Rattle.vt_request.specs.Requests.{type_word_of};
 ghost use Rattle.vt_line.specs.Calls.{call_named, call_worded, IsCallRead};
 ghost use Rattle.vt_line.specs.Versions.{version_of};
 
-use crate::calls::ReadError;
+use crate::calls::{ReadError, paths};
 use crate::names::CallName;
 use crate::version::Version;
 use crate::words::{Words, flags_word, path_word, type_word};
@@ -92,4 +92,17 @@ pub fn set_type(alloc: Global, words: Words<'_>, recursive: bool) -> Result<Call
         word,
         recursive,
     }))
+}
+
+/// `pivot_root NEW PUT`, which version 1 does not have.
+pub fn pivot_root(version: Version, alloc: Global, words: Words<'_>) -> Result<Call, ReadError>
+    ensures { IsCallRead (call_named (version_of version) CallName.PivotRoot words.entry) result }
+{
+    match version {
+        Version::One => Err(ReadError::Grammar),
+        Version::Two => {
+            let (new, put) = paths(alloc, words)?;
+            Ok(Call::Mount(MountCall::Pivot { new, put }))
+        }
+    }
 }

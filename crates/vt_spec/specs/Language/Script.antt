@@ -524,12 +524,18 @@ needs_no_layers call = true
 abbrev pub marking_call_names : List (List ℕ)
 marking_call_names = codes "whiteout" ∷ codes "opaque" ∷ []
 
+-- the name of the call that exchanges root mounts: pivot_root(2). The first version has no words for it
+abbrev pub pivoting_call_names : List (List ℕ)
+pivoting_call_names = codes "pivot_root" ∷ []
+
 -- the calls on files, tasks, mounts and namespaces, those that make whiteouts and opaque directories, and the list of
--- peer groups, which the product has today, in a version of the language: the second has the flag nosymfollow too
+-- peer groups, which the product has today, in a version of the language: the second has the flag nosymfollow and
+-- pivot_root too
 abbrev pub marks : Version → Grammar
 marks version = record {
   version = version;
-  knows = λ name. list_any (bytes_eq name) (file_call_names ++ mounting_call_names ++ marking_call_names);
+  knows = λ name. list_any (bytes_eq name)
+      (file_call_names ++ mounting_call_names ++ marking_call_names ++ pivoting_call_names);
   has = needs_no_layers;
   directs = λ name. bytes_eq name (codes "peers");
 }

@@ -27,6 +27,11 @@ set_type-requires c =
     permitted c.args.world.now c.args.name.now (Mount c.args.grant) (mount_permit (granted.SetType c.in-SetType.change))
     (λ task called. ap mount_permit c.in-SetType.is) tt c.requires
 
+pub pivot_root-requires : goal.pivot_root-requires
+pivot_root-requires c =
+    permitted c.args.world.now c.args.name.now (Mount c.args.grant) (mount_permit (granted.Pivot c.in-Pivot.new c.in-Pivot.put))
+    (λ task called. ap mount_permit c.in-Pivot.is) tt c.requires
+
 pub returns-in-Unmount : goal.returns-in-Unmount
 returns-in-Unmount c =
     changed c.args.world.now c.args.name.now (Mount c.args.grant) (mount_permit (granted.Unmount c.in-Unmount.mount))
@@ -53,3 +58,9 @@ returns-in-SetType c =
     ((c.in-SetType.change.recursive || makes_shared (mount_permit (granted.SetType c.in-SetType.change))) ≡ true)
     (ap not)
     c.set_type.ensures.one c.set_type.ensures.ok c.set_type.ensures.err
+
+pub returns-in-Pivot : goal.returns-in-Pivot
+returns-in-Pivot c =
+    changed c.args.world.now c.args.name.now (Mount c.args.grant) (mount_permit (granted.Pivot c.in-Pivot.new c.in-Pivot.put))
+    (λ task called. ap mount_permit c.in-Pivot.is) _ c.pivot_root.result c.done-in-Pivot.result c.done-in-Pivot.ensures tt
+    (λ task called. refl) refl c.pivot_root.ensures.ok c.pivot_root.ensures.err
