@@ -49,7 +49,8 @@ pub fn write<R: Files + Eprint + AllocGlobal, W: Write>(
         return Err(Fault::Found);
     }
     let options = options_of(name);
-    let text = format!(in alloc; "{file} is written; `vtree test {options}{file}` runs it\n")
-        .map_err(out_of_memory)?;
+    let text = format!(in alloc;
+        "{file} is written; `vtree test {options}{file}` runs it\n"
+    ).map_err(out_of_memory)?;
     hand_on(output, text.as_bytes())
 }
