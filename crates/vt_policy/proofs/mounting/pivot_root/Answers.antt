@@ -11,7 +11,7 @@ use Rattle.vt_policy.proofs.mounting.pivot_root.Goals as goal
 
 pub returns-in_err-may_pivot : goal.returns-in_err-may_pivot
 returns-in_err-may_pivot g c =
-    let looks = g.L.looks c.args.world.now in
+    let looks = g.L.Look.looks c.args.world.now in
     let task = task_of c.args.who.now in
     let root = location_of c.in_ok-root.root in
     let put = location_of c.in_ok-put.put in
@@ -22,7 +22,7 @@ returns-in_err-may_pivot g c =
 
 pub returns : goal.returns
 returns g c =
-    let looks = g.L.looks c.args.world.now in
+    let looks = g.L.Look.looks c.args.world.now in
     let task = task_of c.args.who.now in
     let root = location_of c.in_ok-root.root in
     let put = location_of c.in_ok-put.put in
