@@ -4,6 +4,7 @@ pub mod OpenLemmas
 pub mod OrderLemmas
 pub mod PivotCounts
 pub mod PivotLemmas
+pub mod PlacesCounted
 pub mod TasksLemmas
 pub mod BirthOrder
 pub mod KeptTasks

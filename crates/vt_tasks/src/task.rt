@@ -1,10 +1,12 @@
 //! A task: credentials(7), umask(2), fork(2).
 ghost use Rattle.std.specs.Prelude.{◌≡◌, ◌<◌, nat_eq, IfOk};
+ghost use Rattle.vt_spec.specs.Machine.Mounts.{same_location};
 ghost use Rattle.vt_spec.specs.Machine.Namespaces.{pivoted_location, pivoted_task};
 ghost use Rattle.vt_spec.specs.Machine.Tasks.{child_of};
 ghost use Rattle.vt_location.specs.Locations.{location_of};
 ghost use Rattle.vt_location.specs.MountValue.{mount_of};
 ghost use Rattle.vt_location.specs.Numbers.{namespace_number};
+ghost use Rattle.vt_tasks.specs.Counts.{places_at};
 ghost use Rattle.vt_tasks.specs.TaskValue.{task_of};
 ghost use Rattle.vt_tasks.specs.TasksValue.{first_task_at};
 
@@ -91,6 +93,16 @@ impl Task {
         })
     }
 
+    /// How many of its root and its working directory are at a location, if it is in this namespace.
+    pub fn places_at(&self, namespace: NamespaceId, at: Location) -> u64
+        ensures { result ≡ places_at (namespace_number namespace) (location_of at) (task_of self.now) }
+    {
+        if self.namespace != namespace {
+            return 0;
+        }
+        u64::from(is_same(self.root, at)) + u64::from(is_same(self.directory, at))
+    }
+
     /// If it is in this namespace, moves its root and its working directory from the root of the first mount to that of
     /// the second: pivot_root(2). It does not allocate.
     pub fn pivot(&mut self, namespace: NamespaceId, root: &Mount, new: &Mount)
@@ -103,6 +115,13 @@ impl Task {
             self.directory = pivoted(self.directory, root, new);
         }
     }
+}
+
+// Whether two locations are the same.
+fn is_same(a: Location, b: Location) -> bool
+    ensures { result ≡ same_location nat_eq (location_of a) (location_of b) }
+{
+    a == b
 }
 
 /// A location, or the root of the second mount where it is the root of the first.

@@ -1,5 +1,5 @@
 //! All tasks, by their names.
-ghost use Rattle.std.specs.Prelude.{◌≡◌, ◌⊎◌, [], ◌∷◌, Err, Ok, map, nat_eq, true, Some, IfOk, IfErr, OnOk, OnErr, option_map, option_copied};
+ghost use Rattle.std.specs.Prelude.{◌<◌, ◌≡◌, ◌⊎◌, [], ◌∷◌, Err, Ok, map, nat_eq, true, Some, IfOk, IfErr, OnOk, OnErr, option_map, option_copied};
 ghost use Rattle.std.specs.Fn.{FnOnceReturnsAtMut, FnOnceTakesAtMut};
 ghost use Rattle.std.specs.List.{list_all};
 ghost use Rattle.std.specs.Option.{option_and_then};
@@ -11,6 +11,7 @@ ghost use Rattle.vt_cred.specs.Caps.{capability_bits};
 ghost use Rattle.vt_location.specs.Locations.{location_of};
 ghost use Rattle.vt_location.specs.MountValue.{mount_of};
 ghost use Rattle.vt_location.specs.Numbers.{namespace_number};
+ghost use Rattle.vt_tasks.specs.Counts.{all_places_at};
 ghost use Rattle.vt_tasks.specs.Open.{numbered};
 ghost use Rattle.vt_tasks.specs.TaskValue.{task_of};
 ghost use Rattle.vt_tasks.specs.TasksValue.{MayFork, MayOpenMore, born_in_order, called, changed_called, first_task_at, forked, has_files_in_order, left_by, left_of, with_open, without_called};
@@ -155,6 +156,18 @@ impl Tasks {
         task.root = root;
         task.directory = directory;
         Some(left)
+    }
+
+    /// How many roots and working directories of a namespace's tasks are at a location. It does not allocate.
+    pub fn places_at(&self, namespace: NamespaceId, at: Location) -> u64
+        ensures count { result ≡ all_places_at (namespace_number namespace) (location_of at) self.now }
+        ensures few { result < u64.MAX }
+    {
+        let mut count = 0;
+        for task in self.by_name.values().as_slice() {
+            count += task.places_at(namespace, at);
+        }
+        count
     }
 
     /// Moves the roots and working directories of a namespace's tasks from the root of the first mount to that of the
