@@ -4,7 +4,7 @@
 
 mod asked;
 mod changes;
-mod explain;
+mod explaining;
 mod holders;
 mod known;
 mod lines;
@@ -13,6 +13,6 @@ mod report;
 mod rights;
 mod walked;
 
-pub use explain::{Numbered, explain};
+pub use explaining::{Numbered, explain};
 pub use lines::{is_spoken, line_at, nearest_call};
 pub use report::Format;

@@ -108,7 +108,8 @@ fn push_object(view: &View<'_>, row: &mut Vec<String>, node: &Node) -> Result<()
     let (uid, gid) = (attr.uid, attr.gid);
     row.push(names::mode_text(alloc, node.kind(), attr.mode)?)?;
     row.push(format!(in alloc; "{uid}:{gid}")?)?;
-    row.push(rights_of(alloc, &view.who.cred, &attr, node.kind())?)
+    row.push(rights_of(alloc, &view.who.cred, &attr, node.kind())?)?;
+    Ok(())
 }
 
 // The row of a word that leads to a location.
@@ -144,22 +145,27 @@ fn push_nowhere(
     section.push(row)
 }
 
-// What a word does beside leading to an object of the same mount.
-fn note(view: &View<'_>, from: Location, to: Location) -> Result<String, AllocError> {
+// Which mount a word enters or leaves.
+fn note(view: &View<'_>, word: &[u8], from: Location, to: Location) -> Result<String, AllocError> {
     let alloc = view.alloc;
     if from.mount == to.mount {
         return Ok(String::new(alloc));
     }
-    let Some(place) = view.places.of(to.mount) else {
+    let (what, mount) = if word == b"..".as_slice() {
+        ("leaves", from.mount)
+    } else {
+        ("enters", to.mount)
+    };
+    let Some(place) = view.places.of(mount) else {
         return Ok(String::new(alloc));
     };
     let name = names::mount(alloc, place)?;
     let name = name.as_str();
-    format!(in alloc; "enters {name}")
+    format!(in alloc; "{what} {name}")
 }
 
 // The text of a symlink.
-fn link_text(view: &View<'_>, at: Location) -> Option<&[u8]> {
+fn link_text<'a>(view: &View<'a>, at: Location) -> Option<&'a [u8]> {
     let node = view.world.node(at)?;
     if node.kind() == Kind::Symlink {
         Some(node.bytes())
@@ -283,7 +289,7 @@ fn passed(
     section: &mut Section,
 ) -> Result<Turn, AllocError> {
     let mut row = row_at(view, path.bytes(word), at)?;
-    let note = note(view, path.here, at)?;
+    let note = note(view, path.bytes(word), path.here, at)?;
     if !note.is_empty() {
         row.push(note)?;
     }
