@@ -1,9 +1,9 @@
 //! The mounts that come, go and change in a call.
 use crate::known::{Known, find, is_known};
+use crate::names;
 use crate::report::{Heads, Section};
 use std::alloc::{AllocError, Global};
 use vt_location::MountId;
-use vt_show::names;
 
 const HEADS: Heads = Heads {
     section: "change",
@@ -24,7 +24,7 @@ fn reached(alloc: Global, parent: &Known, aim: Option<MountId>) -> Result<String
     if Some(parent.mount.number) == aim {
         return String::from_str(alloc, "asked for");
     }
-    let kind = names::kind(alloc, parent.kind)?;
+    let kind = names::propagation(alloc, parent.kind)?;
     let (name, kind) = (parent.name.as_str(), kind.as_str());
     format!(in alloc; "{name} receives as {kind}")
 }
@@ -82,8 +82,8 @@ fn what_it_was(alloc: Global, old: &Known, new: &Known) -> Result<String, AllocE
     let mut text = String::new(alloc);
     push_was(&mut text, old.target.as_str(), new.target.as_str())?;
     push_was(&mut text, old.flags.as_str(), new.flags.as_str())?;
-    let was = names::kind(alloc, old.kind)?;
-    let is = names::kind(alloc, new.kind)?;
+    let was = names::propagation(alloc, old.kind)?;
+    let is = names::propagation(alloc, new.kind)?;
     push_was(&mut text, was.as_str(), is.as_str())?;
     Ok(text)
 }
@@ -101,7 +101,7 @@ fn push_row(
     row.push(String::from_str(alloc, known.name.as_str())?)?;
     row.push(String::from_str(alloc, known.target.as_str())?)?;
     row.push(String::from_str(alloc, known.flags.as_str())?)?;
-    row.push(names::kind(alloc, known.kind)?)?;
+    row.push(names::propagation(alloc, known.kind)?)?;
     if !why.is_empty() {
         row.push(why)?;
     }

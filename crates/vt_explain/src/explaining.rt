@@ -7,7 +7,8 @@ use crate::asked::{PathAsked, paths_of};
 use crate::changes::{Sides, changes};
 use crate::holders::{Look, of_name, of_remount, of_umount};
 use crate::known::{Known, known_mounts};
-use crate::report::{Format, Section};
+use crate::names;
+use crate::report::Format;
 use crate::walked::{View, walked};
 use serde_json::Value;
 use std::alloc::{AllocError, Global};
@@ -21,9 +22,9 @@ use vt_ns::World;
 use vt_request::{Answer, Call, CallKind, TaskName};
 use vt_rule_pages::pages::page_of;
 use vt_script::{Calls, Version, write_reply};
-use vt_show::picture::{Picture, picture_of};
+use vt_show::picture::picture_of;
 use vt_show::places::Places;
-use vt_show::{json, text as shown_text};
+use vt_show::show::{self, show};
 use vt_spec::errors::{Deny, Rule};
 
 /// How much of an answer is kept at a time.
@@ -69,6 +70,13 @@ fn answer_text(asked: Asked<'_>, outcome: &Result<Answer, Deny>) -> Result<Strin
     shown(asked.alloc, words)
 }
 
+// Appends a line of the head: what is told, and in which words.
+fn push_line(text: &mut String, what: &str, words: &str) -> Result<(), AllocError> {
+    text.push_str(what)?;
+    text.push_str(words)?;
+    text.push('\n')
+}
+
 // The line, its answer, and the rule that refuses it, as text.
 fn head_text(
     asked: Asked<'_>,
@@ -78,11 +86,11 @@ fn head_text(
 ) -> Result<String, AllocError> {
     let number = asked.line.number;
     let mut text = format!(in asked.alloc; "LINE {number}: {line}\n")?;
-    shown_text::push_line(&mut text, "answer", answer)?;
+    push_line(&mut text, "  answer       ", answer)?;
     if let Some(rule) = rule {
         let page = page_of(rule);
-        shown_text::push_line(&mut text, "rule", page.meaning)?;
-        shown_text::push_line(&mut text, "manual", page.manual)?;
+        push_line(&mut text, "  rule         ", page.meaning)?;
+        push_line(&mut text, "  manual       ", page.manual)?;
     }
     Ok(text)
 }
@@ -126,22 +134,45 @@ fn head(asked: Asked<'_>, outcome: &Result<Answer, Deny>) -> Result<String, Allo
     }
 }
 
-// Appends who calls.
+// What `show` writes of a task and what is about it.
+fn task_shown(asked: Asked<'_>, world: &World, name: &TaskName) -> Result<Vec<u8>, AllocError> {
+    let name = names::task(asked.alloc, name)?;
+    let options = show::Options {
+        format: match asked.format {
+            Format::Text => show::Format::Text,
+            Format::Json => show::Format::Json,
+        },
+        files: false,
+        task: Some(name.as_str()),
+    };
+    let mut output = Vec::new(asked.alloc);
+    match show(asked.alloc, world, options, &mut output) {
+        Ok(_) => Ok(output),
+        Err(_) => Err(AllocError),
+    }
+}
+
+// Appends who calls: the lines that `show` writes of the task, up to an empty one; of objects the first.
 fn push_caller(
     asked: Asked<'_>,
-    picture: &Picture<'_>,
+    world: &World,
     name: &TaskName,
     text: &mut String,
 ) -> Result<(), AllocError> {
-    for shown in &picture.tasks {
-        if shown.task.name == *name {
-            if asked.format == Format::Text {
-                text.push('\n')?;
-                return shown_text::push_task(asked.alloc, text, shown);
-            }
-            let line = json::task(asked.alloc, shown)?;
-            return text.push_str(line.as_str());
+    let output = task_shown(asked, world, name)?;
+    let mut rest = output.as_slice();
+    for _ in 0..output.len() {
+        let Some((line, after)) = first_line(rest) else {
+            return Ok(());
+        };
+        if line.is_empty() {
+            return Ok(());
         }
+        push_line(text, "", str::from_utf8(line).unwrap_or_default())?;
+        if asked.format == Format::Json {
+            return Ok(());
+        }
+        rest = after;
     }
     Ok(())
 }
@@ -157,7 +188,7 @@ fn push_path(
         return Ok(None);
     };
     let walked = walked(view, path)?;
-    walked.section.write(asked.alloc, asked.format, text)?;
+    walked.section.write(asked.format, text)?;
     Ok(walked.end)
 }
 
@@ -179,7 +210,10 @@ fn before(
     let Some(who) = world.task(name) else {
         return Ok(before);
     };
-    push_caller(asked, &picture, name, &mut before.text)?;
+    if asked.format == Format::Text {
+        before.text.push('\n')?;
+    }
+    push_caller(asked, world, name, &mut before.text)?;
     let places = Places::new(alloc, world)?;
     let view = View {
         alloc,
@@ -209,7 +243,7 @@ fn push_held(
         CallKind::Remount => of_remount(look, end)?,
         _ => of_name(look, end)?,
     };
-    section.write(asked.alloc, asked.format, text)
+    section.write(asked.format, text)
 }
 
 // Appends who holds what is busy.
@@ -254,7 +288,7 @@ fn push_changes(
             None => None,
         },
     };
-    changes(asked.alloc, sides)?.write(asked.alloc, asked.format, text)
+    changes(asked.alloc, sides)?.write(asked.format, text)
 }
 
 // A call explained, and made.

@@ -1,12 +1,12 @@
 //! Who holds what is busy: tasks with roots, directories and open files on a mount, and mounts that stand there.
 use crate::known::{Known, find};
+use crate::names;
 use crate::receiving::receives;
 use crate::report::{Heads, Section};
 use std::alloc::{AllocError, Global};
 use vt_location::{Location, MountId};
 use vt_ns::World;
 use vt_request::{PeerLine, TypeLine};
-use vt_show::names;
 use vt_show::places::Places;
 use vt_tasks::Task;
 

@@ -1,9 +1,9 @@
 //! The attached mounts, as they are told.
+use crate::names;
 use std::alloc::{AllocError, Global};
 use vt_location::{Mount, MountId, NamespaceId};
 use vt_ns::World;
 use vt_request::TypeLine;
-use vt_show::names;
 use vt_show::picture::{MountShown, NamespaceShown, Picture};
 
 /// A mount, and how it is told.

@@ -8,6 +8,7 @@ mod explaining;
 mod holders;
 mod known;
 mod lines;
+mod names;
 mod receiving;
 mod report;
 mod rights;

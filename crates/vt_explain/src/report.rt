@@ -2,7 +2,9 @@
 use serde_json::Value;
 use std::alloc::{AllocError, Global};
 use vt_check::object::{Members, line_of, put, put_text};
-use vt_show::columns::Table;
+
+/// What stands between two columns.
+const GAP: usize = 2;
 
 /// The form in which a line is explained.
 #[derive(Clone, Copy, PartialEq, Eq)]
@@ -16,7 +18,7 @@ pub enum Format {
 pub struct Heads {
     /// The member `section` of each row.
     pub section: &'static str,
-    /// The words above the columns.
+    /// The words above the columns; the last column has none.
     pub words: &'static [&'static str],
     /// The members for the columns.
     pub members: &'static [&'static str],
@@ -25,52 +27,102 @@ pub struct Heads {
 /// A table under a title. A row may end before the last column.
 #[derive(Drop)]
 pub struct Section {
+    alloc: Global,
     heads: Heads,
     title: String,
-    table: Table,
+    rows: Vec<Vec<String>>,
+    widths: Vec<usize>,
 }
 
 impl Section {
     /// A table without rows.
     pub fn new(alloc: Global, heads: Heads, title: String) -> Result<Self, AllocError> {
+        let mut widths = Vec::new(alloc);
+        for word in heads.words {
+            widths.push(word.len())?;
+        }
         Ok(Section {
+            alloc,
             heads,
             title,
-            table: Table::new(alloc, heads.words)?,
+            rows: Vec::new(alloc),
+            widths,
         })
     }
 
     /// Adds a row.
     pub fn push(&mut self, row: Vec<String>) -> Result<(), AllocError> {
-        self.table.push(row)
+        for (column, width) in self.widths.iter_mut().enumerate() {
+            if let Some(word) = row.get(column) {
+                *width = (*width).max(word.len());
+            }
+        }
+        self.rows.push(row)?;
+        Ok(())
     }
 
-    /// Appends the table, if it has rows.
-    pub fn write(
-        &self,
-        alloc: Global,
-        format: Format,
-        text: &mut String,
-    ) -> Result<(), AllocError> {
-        if self.table.rows().is_empty() {
-            return Ok(());
+    // Appends a word, and spaces up to the next column.
+    fn push_word(&self, text: &mut String, column: usize, word: &str) -> Result<(), AllocError> {
+        text.push_str(word)?;
+        let width = self.widths.get(column).copied().unwrap_or_default();
+        let spaces = width.saturating_sub(word.len()).saturating_add(GAP);
+        text.push_str(" ".repeat(self.alloc, spaces)?.as_str())
+    }
+
+    // Appends the words above the columns.
+    fn push_heads(&self, text: &mut String) -> Result<(), AllocError> {
+        let last = self.heads.words.len().saturating_sub(1);
+        for (column, word) in self.heads.words.iter().enumerate() {
+            if column < last {
+                self.push_word(text, column, word)?;
+            } else {
+                text.push_str(word)?;
+            }
         }
-        if format == Format::Json {
-            return self.push_objects(alloc, text);
+        text.push('\n')
+    }
+
+    // Appends a row; its last word is not padded.
+    fn push_row(&self, text: &mut String, row: &[String]) -> Result<(), AllocError> {
+        let last = row.len().saturating_sub(1);
+        for (column, word) in row.iter().enumerate() {
+            if column < last {
+                self.push_word(text, column, word.as_str())?;
+            } else {
+                text.push_str(word.as_str())?;
+            }
         }
+        text.push('\n')
+    }
+
+    // Appends the table as text.
+    fn push_text(&self, text: &mut String) -> Result<(), AllocError> {
         text.push('\n')?;
         text.push_str(self.title.as_str())?;
         text.push('\n')?;
-        self.table.write(text)
+        self.push_heads(text)?;
+        for row in &self.rows {
+            self.push_row(text, row)?;
+        }
+        Ok(())
     }
 
     // Appends the rows, each as an object.
-    fn push_objects(&self, alloc: Global, text: &mut String) -> Result<(), AllocError> {
-        for row in self.table.rows() {
-            let line = object(alloc, self.heads, row)?;
+    fn push_objects(&self, text: &mut String) -> Result<(), AllocError> {
+        for row in &self.rows {
+            let line = object(self.alloc, self.heads, row)?;
             text.push_str(line.as_str())?;
         }
         Ok(())
+    }
+
+    /// Appends the table, if it has rows.
+    pub fn write(&self, format: Format, text: &mut String) -> Result<(), AllocError> {
+        match format {
+            _ if self.rows.is_empty() => Ok(()),
+            Format::Text => self.push_text(text),
+            Format::Json => self.push_objects(text),
+        }
     }
 }
 

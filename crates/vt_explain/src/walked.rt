@@ -1,15 +1,16 @@
 //! Where a path leads, word by word.
 use crate::asked::{Last, PathAsked};
+use crate::names;
 use crate::report::{Heads, Section};
 use crate::rights::rights_of;
 use std::alloc::{AllocError, Global};
+use vt_check::object::shown;
 use vt_cred::Kind;
 use vt_location::Location;
 use vt_looks::Look;
 use vt_node::{Node, copied_bytes};
 use vt_ns::World;
 use vt_rule_pages::pages::page_of;
-use vt_show::names;
 use vt_show::places::Places;
 use vt_spec::errors::{Deny, Rule};
 use vt_tasks::Task;
@@ -18,7 +19,7 @@ use vt_walk::{place_walk, symlink_walk};
 
 const HEADS: Heads = Heads {
     section: "path",
-    words: &["WORD", "LEADS TO", "MODE", "OWNER", "CALLER", ""],
+    words: &["WORD", "LEADS TO", "MODE", "OWNER", "CALLER"],
     members: &["word", "leads_to", "mode", "owner", "caller", "note"],
 };
 
@@ -106,7 +107,8 @@ fn push_object(view: &View<'_>, row: &mut Vec<String>, node: &Node) -> Result<()
     let alloc = view.alloc;
     let attr = node.attr();
     let (uid, gid) = (attr.uid, attr.gid);
-    row.push(names::mode_text(alloc, node.kind(), attr.mode)?)?;
+    let (kind, bits) = (names::kind(node.kind()), attr.mode.bits());
+    row.push(format!(in alloc; "{kind} {bits:o}")?)?;
     row.push(format!(in alloc; "{uid}:{gid}")?)?;
     row.push(rights_of(alloc, &view.who.cred, &attr, node.kind())?)?;
     Ok(())
@@ -116,20 +118,13 @@ fn push_object(view: &View<'_>, row: &mut Vec<String>, node: &Node) -> Result<()
 fn row_at(view: &View<'_>, word: &[u8], at: Location) -> Result<Vec<String>, AllocError> {
     let alloc = view.alloc;
     let mut row = Vec::new(alloc);
-    row.push(spelled(alloc, word)?)?;
+    row.push(shown(alloc, word)?)?;
     let place = view.places.place_of(at)?;
     row.push(names::place(alloc, &place)?)?;
     if let Some(node) = view.world.node(at) {
         push_object(view, &mut row, node)?;
     }
     Ok(row)
-}
-
-// A word as a script spells it.
-fn spelled(alloc: Global, word: &[u8]) -> Result<String, AllocError> {
-    let mut text = String::new(alloc);
-    names::push_name(&mut text, word)?;
-    Ok(text)
 }
 
 // Adds a row of a word that leads nowhere.
@@ -140,7 +135,7 @@ fn push_nowhere(
     why: &str,
 ) -> Result<(), AllocError> {
     let mut row = Vec::new(view.alloc);
-    row.push(spelled(view.alloc, word)?)?;
+    row.push(shown(view.alloc, word)?)?;
     row.push(String::from_str(view.alloc, why)?)?;
     section.push(row)
 }
@@ -267,7 +262,7 @@ fn followed(
 ) -> Result<Turn, AllocError> {
     let mut row = row_at(view, path.bytes(word), at)?;
     let mut arrow = String::from_str(view.alloc, "-> ")?;
-    names::push_name(&mut arrow, link)?;
+    arrow.push_str(shown(view.alloc, link)?.as_str())?;
     row.push(arrow)?;
     section.push(row)?;
     if is_nosymfollow(view, at) {
@@ -346,9 +341,9 @@ fn over(
 // Adds where a path begins.
 fn push_start(view: &View<'_>, path: &Path, section: &mut Section) -> Result<(), AllocError> {
     let word: &[u8] = if path.text.first() == Some(&b'/') {
-        b"/"
+        b"(root)"
     } else {
-        b"."
+        b"(directory)"
     };
     section.push(row_at(view, word, path.here)?)
 }
@@ -356,7 +351,7 @@ fn push_start(view: &View<'_>, path: &Path, section: &mut Section) -> Result<(),
 /// Where a path leads, word by word: each by the walk of the path up to it.
 pub fn walked(view: &View<'_>, asked: PathAsked<'_>) -> Result<Walked, AllocError> {
     let mut title = String::from_str(view.alloc, "PATH ")?;
-    names::push_name(&mut title, asked.text)?;
+    title.push_str(shown(view.alloc, asked.text)?.as_str())?;
     let mut section = Section::new(view.alloc, HEADS, title)?;
     if asked.text.is_empty() {
         return Ok(Walked { section, end: None });

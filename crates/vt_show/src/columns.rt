@@ -35,11 +35,6 @@ impl Table {
         Ok(())
     }
 
-    /// The rows behind that of the heads.
-    pub fn rows(&self) -> &[Vec<String>] {
-        self.rows.get(1..).unwrap_or_default()
-    }
-
     // Each column is as wide as the word that it gets.
     fn widen(&mut self, row: &[String]) -> Result<(), AllocError> {
         for (column, word) in row.iter().enumerate() {

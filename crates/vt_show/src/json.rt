@@ -81,8 +81,8 @@ fn put_credentials(
     put_text(alloc, members, "umask", umask.as_str())
 }
 
-/// A task as an object and a newline.
-pub fn task(alloc: Global, shown: &TaskShown<'_>) -> Result<String, AllocError> {
+// A task as an object and a newline.
+fn task(alloc: Global, shown: &TaskShown<'_>) -> Result<String, AllocError> {
     let name = names::task(alloc, &shown.task.name)?;
     let mut members = Members::new(alloc);
     put_text(alloc, &mut members, "task", name.as_str())?;

@@ -2,14 +2,14 @@
 #![tactic(auto)]
 
 mod branches;
-pub mod columns;
+mod columns;
 mod dot;
 mod groups;
-pub mod json;
-pub mod names;
+mod json;
+mod names;
 pub mod picture;
 pub mod places;
 pub mod show;
-pub mod text;
+mod text;
 mod tree_text;
 mod tree_walk;

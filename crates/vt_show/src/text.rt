@@ -19,8 +19,8 @@ const MOUNT_HEADS: [&str; 6] = [
 
 const GROUP_HEADS: [&str; 4] = ["GROUP", "MASTER", "MEMBERS", "SLAVES"];
 
-/// Appends a line of a task: what is told, and in which words.
-pub fn push_line(text: &mut String, what: &str, words: &str) -> Result<(), AllocError> {
+// Appends a line of a task: what is told, and in which words.
+fn push_line(text: &mut String, what: &str, words: &str) -> Result<(), AllocError> {
     let line = format!(in *text.allocator(); "  {what:<13}{words}\n")?;
     text.push_str(line.as_str())
 }
@@ -65,8 +65,8 @@ fn push_credentials(
     push_line(text, "umask", umask.as_str())
 }
 
-/// Appends a task.
-pub fn push_task(alloc: Global, text: &mut String, shown: &TaskShown<'_>) -> Result<(), AllocError> {
+// Appends a task.
+fn push_task(alloc: Global, text: &mut String, shown: &TaskShown<'_>) -> Result<(), AllocError> {
     let name = names::task(alloc, &shown.task.name)?;
     let (name, namespace) = (name.as_str(), shown.namespace);
     let head = format!(in alloc; "TASK {name} in namespace {namespace}\n")?;
