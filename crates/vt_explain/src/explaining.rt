@@ -5,11 +5,11 @@ ghost use Rattle.vt_request.specs.Requests.{call_of};
 
 use crate::asked::{PathAsked, paths_of};
 use crate::changes::{Sides, changes};
-use crate::holders::{Look, of_name, of_remount, of_umount};
+use crate::holders::{Look, holders};
 use crate::known::{Known, known_mounts};
 use crate::names;
 use crate::report::Format;
-use crate::walked::{View, walked};
+use crate::walked::{View, path_walked};
 use serde_json::Value;
 use std::alloc::{AllocError, Global};
 use vt_calls::Kernel;
@@ -187,13 +187,13 @@ fn push_path(
     let Some(path) = path else {
         return Ok(None);
     };
-    let walked = walked(view, path)?;
+    let walked = path_walked(view, path)?;
     walked.section.write(asked.format, text)?;
     Ok(walked.end)
 }
 
 // What is told before a call is made.
-fn before(
+fn told_before(
     asked: Asked<'_>,
     world: &World,
     name: &TaskName,
@@ -238,11 +238,7 @@ fn push_held(
     let Some(end) = end else {
         return Ok(());
     };
-    let section = match call {
-        CallKind::Umount => of_umount(look, end)?,
-        CallKind::Remount => of_remount(look, end)?,
-        _ => of_name(look, end)?,
-    };
+    let section = holders(look, call, end)?;
     section.write(asked.format, text)
 }
 
@@ -300,7 +296,7 @@ fn explain_call(
 ) -> Result<String, AllocError>
     requires { needs_no_layers (call_of call) ≡ true }
 {
-    let before = before(asked, kernel.world(), name, &call)?;
+    let before = told_before(asked, kernel.world(), name, &call)?;
     let kind = call.kind();
     let outcome = kernel.call(name, call);
     let mut text = head(asked, &outcome)?;

@@ -6,7 +6,7 @@ use crate::report::{Heads, Section};
 use std::alloc::{AllocError, Global};
 use vt_location::{Location, MountId};
 use vt_ns::World;
-use vt_request::{PeerLine, TypeLine};
+use vt_request::{CallKind, PeerLine, TypeLine};
 use vt_show::places::Places;
 use vt_tasks::Task;
 
@@ -150,39 +150,34 @@ fn push_copies(look: &Look<'_>, section: &mut Section, busy: &Known) -> Result<(
     Ok(())
 }
 
-fn section_of(alloc: Global) -> Result<Section, AllocError> {
-    Section::new(alloc, HEADS, String::from_str(alloc, "WHO HOLDS IT")?)
-}
-
-/// Who holds a mount that is unmounted: mounts on it; else tasks, on it or on a copy that would go with it.
-pub fn of_umount(look: &Look<'_>, at: Location) -> Result<Section, AllocError> {
-    let mut section = section_of(look.alloc)?;
-    if let Some(busy) = find(look.mounts, at.mount) {
-        let children = look.world.all_mounts().children(at.mount);
-        push_mounts(look, &mut section, busy.name.as_str(), children)?;
-        push_tasks(look, &mut section, busy)?;
-        push_copies(look, &mut section, busy)?;
+// Adds who has files open for writing through a mount.
+fn push_writers(look: &Look<'_>, section: &mut Section, busy: &Known) -> Result<(), AllocError> {
+    for task in look.world.tasks().kept() {
+        push_files(look, section, busy, task, true)?;
     }
-    Ok(section)
+    Ok(())
 }
 
-/// Who has files open for writing through a mount that would become read-only.
-pub fn of_remount(look: &Look<'_>, at: Location) -> Result<Section, AllocError> {
-    let mut section = section_of(look.alloc)?;
-    if let Some(busy) = find(look.mounts, at.mount) {
-        for task in look.world.tasks().kept() {
-            push_files(look, &mut section, busy, task, true)?;
+// Adds who keeps a mount from being unmounted: mounts on it, and tasks, on it or on a copy that would go with it.
+fn push_users(look: &Look<'_>, section: &mut Section, busy: &Known) -> Result<(), AllocError> {
+    let children = look.world.all_mounts().children(busy.mount.number);
+    push_mounts(look, section, busy.name.as_str(), children)?;
+    push_tasks(look, section, busy)?;
+    push_copies(look, section, busy)
+}
+
+/// Who holds what is busy where a path of a call ends: the mount that is unmounted or would become read-only, or a name
+/// at which mounts stand.
+pub fn holders(look: &Look<'_>, call: CallKind, at: Location) -> Result<Section, AllocError> {
+    let title = String::from_str(look.alloc, "WHO HOLDS IT")?;
+    let mut section = Section::new(look.alloc, HEADS, title)?;
+    match (call, find(look.mounts, at.mount)) {
+        (CallKind::Umount, Some(busy)) => push_users(look, &mut section, busy)?,
+        (CallKind::Remount, Some(busy)) => push_writers(look, &mut section, busy)?,
+        _ => {
+            let ids = look.world.all_mounts().mounts_on(at.node);
+            push_mounts(look, &mut section, "the name", ids)?;
         }
     }
-    Ok(section)
-}
-
-/// The mounts that stand on a name.
-pub fn of_name(look: &Look<'_>, at: Location) -> Result<Section, AllocError> {
-    let mut section = section_of(look.alloc)?;
-    let place = look.places.place_of(at)?;
-    let place = names::place(look.alloc, &place)?;
-    let ids = look.world.all_mounts().mounts_on(at.node);
-    push_mounts(look, &mut section, place.as_str(), ids)?;
     Ok(section)
 }

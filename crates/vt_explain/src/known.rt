@@ -18,7 +18,7 @@ pub struct Known {
 }
 
 // A mount that is shown.
-fn known(alloc: Global, mount: Mount, shown: &MountShown) -> Result<Known, AllocError> {
+fn known_of(alloc: Global, mount: Mount, shown: &MountShown) -> Result<Known, AllocError> {
     let target = match &shown.target {
         Some(path) => path.as_str(),
         None => names::GONE,
@@ -45,7 +45,7 @@ fn push_namespace(
         let place = one.place.place.saturating_sub(1);
         if let Some(id) = listed.get(place) {
             if let Some(mount) = world.all_mounts().get(*id) {
-                all.push(known(alloc, mount, one)?)?;
+                all.push(known_of(alloc, mount, one)?)?;
             }
         }
     }

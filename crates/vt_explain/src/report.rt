@@ -30,24 +30,29 @@ pub struct Section {
     alloc: Global,
     heads: Heads,
     title: String,
+    // The heads, and then what was added.
     rows: Vec<Vec<String>>,
     widths: Vec<usize>,
 }
 
 impl Section {
-    /// A table without rows.
+    /// A table with its heads alone.
     pub fn new(alloc: Global, heads: Heads, title: String) -> Result<Self, AllocError> {
+        let mut row = Vec::new(alloc);
         let mut widths = Vec::new(alloc);
         for word in heads.words {
-            widths.push(word.len())?;
+            row.push(String::from_str(alloc, word)?)?;
+            widths.push(0)?;
         }
-        Ok(Section {
+        let mut section = Section {
             alloc,
             heads,
             title,
             rows: Vec::new(alloc),
             widths,
-        })
+        };
+        section.push(row)?;
+        Ok(section)
     }
 
     /// Adds a row.
@@ -69,19 +74,6 @@ impl Section {
         text.push_str(" ".repeat(self.alloc, spaces)?.as_str())
     }
 
-    // Appends the words above the columns.
-    fn push_heads(&self, text: &mut String) -> Result<(), AllocError> {
-        let last = self.heads.words.len().saturating_sub(1);
-        for (column, word) in self.heads.words.iter().enumerate() {
-            if column < last {
-                self.push_word(text, column, word)?;
-            } else {
-                text.push_str(word)?;
-            }
-        }
-        text.push('\n')
-    }
-
     // Appends a row; its last word is not padded.
     fn push_row(&self, text: &mut String, row: &[String]) -> Result<(), AllocError> {
         let last = row.len().saturating_sub(1);
@@ -100,7 +92,6 @@ impl Section {
         text.push('\n')?;
         text.push_str(self.title.as_str())?;
         text.push('\n')?;
-        self.push_heads(text)?;
         for row in &self.rows {
             self.push_row(text, row)?;
         }
@@ -109,7 +100,7 @@ impl Section {
 
     // Appends the rows, each as an object.
     fn push_objects(&self, text: &mut String) -> Result<(), AllocError> {
-        for row in &self.rows {
+        for row in self.rows.get(1..).unwrap_or_default() {
             let line = object(self.alloc, self.heads, row)?;
             text.push_str(line.as_str())?;
         }
@@ -119,7 +110,7 @@ impl Section {
     /// Appends the table, if it has rows.
     pub fn write(&self, format: Format, text: &mut String) -> Result<(), AllocError> {
         match format {
-            _ if self.rows.is_empty() => Ok(()),
+            _ if self.rows.len() <= 1 => Ok(()),
             Format::Text => self.push_text(text),
             Format::Json => self.push_objects(text),
         }

@@ -10,7 +10,6 @@ use vt_location::Location;
 use vt_looks::Look;
 use vt_node::{Node, copied_bytes};
 use vt_ns::World;
-use vt_rule_pages::pages::page_of;
 use vt_show::places::Places;
 use vt_spec::errors::{Deny, Rule};
 use vt_tasks::Task;
@@ -245,8 +244,8 @@ fn push_rule(
     word: &[u8],
     rule: Rule,
 ) -> Result<Turn, AllocError> {
-    let (name, meaning) = (rule.name(), page_of(rule).meaning);
-    let why = format!(in view.alloc; "{name}: {meaning}")?;
+    let rule = rule.name();
+    let why = format!(in view.alloc; "stopped by {rule}")?;
     push_nowhere(view, section, word, why.as_str())?;
     Ok(Turn::End(None))
 }
@@ -349,7 +348,7 @@ fn push_start(view: &View<'_>, path: &Path, section: &mut Section) -> Result<(),
 }
 
 /// Where a path leads, word by word: each by the walk of the path up to it.
-pub fn walked(view: &View<'_>, asked: PathAsked<'_>) -> Result<Walked, AllocError> {
+pub fn path_walked(view: &View<'_>, asked: PathAsked<'_>) -> Result<Walked, AllocError> {
     let mut title = String::from_str(view.alloc, "PATH ")?;
     title.push_str(shown(view.alloc, asked.text)?.as_str())?;
     let mut section = Section::new(view.alloc, HEADS, title)?;
