@@ -4,6 +4,7 @@ use crate::names;
 use crate::report::{Heads, Section};
 use std::alloc::{AllocError, Global};
 use vt_location::MountId;
+use vt_request::CallKind;
 
 const HEADS: Heads = Heads {
     section: "change",
@@ -14,6 +15,7 @@ const HEADS: Heads = Heads {
 /// The mounts before a call and after it, and the one that it is about: on which another is put, or which goes.
 #[derive(Clone, Copy)]
 pub struct Sides<'a> {
+    pub call: CallKind,
     pub before: &'a [Known],
     pub after: &'a [Known],
     pub aim: Option<MountId>,
@@ -51,6 +53,9 @@ fn why_it_comes(alloc: Global, sides: Sides<'_>, new: &Known) -> Result<String, 
 fn why_it_goes(alloc: Global, sides: Sides<'_>, old: &Known) -> Result<String, AllocError> {
     if !is_known(sides.after, old.mount.namespace) {
         return String::from_str(alloc, "its namespace ends");
+    }
+    if sides.call != CallKind::Umount && sides.call != CallKind::Lazy {
+        return String::from_str(alloc, "its mount point is removed");
     }
     if Some(old.mount.number) == sides.aim {
         return String::from_str(alloc, "asked for");

@@ -267,6 +267,7 @@ fn push_holders(
 fn push_changes(
     asked: Asked<'_>,
     world: &World,
+    call: CallKind,
     before: &Before,
     text: &mut String,
 ) -> Result<(), AllocError> {
@@ -277,6 +278,7 @@ fn push_changes(
         None => before.first,
     };
     let sides = Sides {
+        call,
         before: before.mounts.as_slice(),
         after: after.as_slice(),
         aim: match end {
@@ -302,7 +304,7 @@ fn explain_call(
     let mut text = head(asked, &outcome)?;
     text.push_str(before.text.as_str())?;
     match &outcome {
-        Ok(_) => push_changes(asked, kernel.world(), &before, &mut text)?,
+        Ok(_) => push_changes(asked, kernel.world(), kind, &before, &mut text)?,
         Err(deny) if deny.rule == Rule::M8 || deny.rule == Rule::P1 => {
             push_holders(asked, kernel.world(), kind, &before, &mut text)?
         }

@@ -1,5 +1,5 @@
-//! Laws of what a permit leaves that a call is given, in worlds with overlays too, and of the numbers that such a call
-//! is handed.
+//! Laws of the permits that calls are given in worlds with overlays: what they leave, and the numbers that a call is
+//! handed.
 //!
 //! Each public function is a theorem of the written policy, and does nothing.
 #![tactic(auto)]

@@ -1,6 +1,5 @@
-//! A namespace holds at most 4,096 mounts (`most_mounts`), its root mount among them: what would attach more is
-//! refused, and changes nothing. The parts of an attachment are the destination's mount and the receivers that take
-//! part.
+//! A namespace holds at most 4,096 mounts (`most_mounts`), its root mount among them. The parts of an attachment are
+//! the destination's mount and the receivers that take part.
 //!
 //! Each public function is a theorem of the written policy, and does nothing.
 #![tactic(auto)]

@@ -1,17 +1,23 @@
 -- What the proofs of src/judging.rt use.
 pub mod AllJudged
 pub mod Anywhere
+pub mod Busy
 pub mod ByPart
 pub mod Grounds
 pub mod Judged
 pub mod JudgedFiles
 pub mod JudgedMounts
+pub mod JudgedMoves
+pub mod JudgedOverlays
 pub mod JudgedPivots
 pub mod JudgedRemoving
 pub mod Locks
 pub mod LowersSeen
 pub mod Masks
 pub mod MountPoints
+pub mod MountTrees
+pub mod Overfilled
+pub mod Overlaps
 pub mod ParentsSeen
 pub mod SeenInPart
 pub mod WalksLead

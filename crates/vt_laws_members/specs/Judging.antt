@@ -1,8 +1,8 @@
 -- Where members of a sealed set get, and how their calls are judged in their part (profile).
-use Rattle.std.specs.Prelude.{Bool, Contains, List, false, is_some, nat_eq, not, true, ℕ, ◌&&◌, ◌||◌, ◌≡◌}
+use Rattle.std.specs.Prelude.{Bool, Contains, List, is_some, nat_eq, not, true, ℕ, ◌&&◌, ◌||◌, ◌≡◌}
 use Rattle.std.specs.List.{list_any}
 use Rattle.vt_spec.specs.Language.Calls.{Call, TaskName, same_name}
-use Rattle.vt_spec.specs.Language.Calls.Call.{Bind, MountOverlay, MountPlain, MoveMount, Setns, Umount}
+use Rattle.vt_spec.specs.Language.Calls.Call.{Setns}
 use Rattle.vt_spec.specs.Lists.{Fresh, is_among}
 use Rattle.vt_spec.specs.Machine.Invariants.{IsWorld}
 use Rattle.vt_spec.specs.Machine.Judge.{judge, judge_in}
@@ -31,13 +31,6 @@ MembersSeeAlike =
     → Contains (members world names) task
     → ShowAlike (looks_of nat_eq world) (looks_of nat_eq (part_of nat_eq world names)) task (is_theirs world names)
 
--- the calls of which the next law is proved: all but these
-abbrev pub is_compared : Call → Bool
-is_compared (MountOverlay path options flags) = false
-is_compared (MoveMount source path) = false
-is_compared (Umount path) = false
-is_compared call = true
-
 -- a call of a task of a sealed set, which enters no namespace but one of theirs
 pub record IsMembersCall (world : World ℕ) (names : List TaskName) (task : Task ℕ) (call : Call) : Type 0 where
   pub is : IsWorld nat_eq world
@@ -46,25 +39,17 @@ pub record IsMembersCall (world : World ℕ) (names : List TaskName) (task : Tas
   pub among_them : (name : TaskName) → call ≡ Setns name → is_among same_name name names ≡ true
 
 -- It is granted or refused alike in the world and in their part: by the same first rule, with the same permit. Whether
--- a permit would leave a namespace with too many mounts (M9) is given.
+-- a permit would leave a namespace with too many mounts (M9) is given, and by the next law is the same.
 abbrev pub MembersAreJudgedAlike : Type 0
 MembersAreJudgedAlike =
     (world : World ℕ) (names : List TaskName) (task : Task ℕ) (call : Call) → IsMembersCall world names task call
-    → is_compared call ≡ true → (overfills : Permit ℕ → Bool)
+    → (overfills : Permit ℕ → Bool)
     → judge nat_eq (looks_of nat_eq world) overfills task call
     ≡ judge nat_eq (looks_of nat_eq (part_of nat_eq world names)) overfills task call
 
--- the calls of which M9 is asked: those that attach mounts
-abbrev pub attaches : Call → Bool
-attaches (MountPlain path flags) = true
-attaches (MountOverlay path options flags) = true
-attaches (Bind source path recursive) = true
-attaches (MoveMount source path) = true
-attaches call = false
-
--- So each other call is judged in the part as in the world, whatever numbers are handed in.
+-- So it is with the limit of mounts (M9), whatever numbers are handed in.
 abbrev pub MembersAreJudgedByTheirPart : Type 0
 MembersAreJudgedByTheirPart =
     (world : World ℕ) (names : List TaskName) (task : Task ℕ) (call : Call) → IsMembersCall world names task call
-    → is_compared call ≡ true → attaches call ≡ false → (fresh other : Fresh ℕ)
+    → (fresh other : Fresh ℕ)
     → judge_in nat_eq fresh world task call ≡ judge_in nat_eq other (part_of nat_eq world names) task call

@@ -1,11 +1,11 @@
 //! What the part of a set depends on, and what it shows of the world.
 ghost use Rattle.vt_laws_part.specs.Parts.{DeadMountsAreInNoPart, MountsOverAreThoseOfThePart, OnlyTheirFlagsChangeThePart, PartIsByObservations, PartOfThePartIsThePart, UnusedFilesystemsMayChange};
 
-/// Two worlds have one part if they have the same members, mounts of the part, masters of groups with a mount of
-/// theirs, filesystems that they use directly, filesystems of the part, and namespaces of theirs (`observations`).
-/// Then mounts, used filesystems and lower layers of the set are the same too.
+/// Two worlds have one part if they have the same members, namespaces of theirs, mounts of the part, and masters of
+/// groups with a mount of theirs. The filesystems that they use directly, and those of the part, must be the same too
+/// (`observations`). Then mounts, used filesystems and lower layers of the set are the same.
 ///
-/// So the part stays if a filesystem is replaced that they do not use, and in which no lower layer of theirs is
+/// So the part stays if a filesystem is replaced that they do not use and that holds no lower layer of theirs
 /// (`unused`), and if mounts go that nothing uses (`dead`).
 pub fn a_part_is_what_its_tasks_see()
     ensures observations { PartIsByObservations }
@@ -13,10 +13,11 @@ pub fn a_part_is_what_its_tasks_see()
     ensures dead { DeadMountsAreInNoPart }
 {}
 
-/// The part of the part is the part, if each lower layer of theirs is in a filesystem that they use (`again`). The
-/// mounts `over` a location are the same in the world and in the part, if it is on a mount of theirs, or on one in no
-/// namespace with a root or working directory of theirs. To set the `flags` of a mount of theirs and to take the part
-/// is to take the part and to set them. The latter two ask for the invariants of mounts.
+/// The part of the part is the part, if each lower layer of theirs is in a filesystem that they use (`again`).
+///
+/// The other two ask for the invariants of mounts. The mounts `over` a location are the same in the world and in the
+/// part if it is on a mount of theirs, or on a mount in no namespace with a root or working directory of theirs.
+/// Setting the `flags` of a mount of theirs and taking the part commute.
 pub fn a_part_shows_what_the_world_shows()
     ensures again { PartOfThePartIsThePart }
     ensures over { MountsOverAreThoseOfThePart }

@@ -1,5 +1,5 @@
-//! Laws of overlays, for code that keeps no merged tree: the tree as a function of layers and held objects, what uses
-//! its inodes, and copies made one prefix at a time.
+//! Laws of overlays for code that keeps no merged tree: the tree as a function of the layers, what uses its inodes,
+//! copies made one prefix at a time, and what may go before the sweep.
 //!
 //! Each public function is a theorem of the written policy, and does nothing.
 #![tactic(auto)]

@@ -1,7 +1,8 @@
 //! Laws of what goes before the sweep at the end of a call.
 ghost use Rattle.vt_laws_seen.specs.SweptBefore.{AnyMayGoBefore, AnyOrderIsTheSweep, FilesystemsMayGoBefore, GroupsMayGoBefore, InodesMayGoBefore, MountsMayGoBefore};
 
-/// What nothing uses may go before the sweep, whichever it is: the sweep then leaves what it would have left.
+/// `mounts`, `filesystems`, `inodes` and `groups` that nothing uses may go before the sweep, which then leaves the same
+/// world.
 pub fn what_nothing_uses_may_go_before()
     ensures mounts { MountsMayGoBefore }
     ensures filesystems { FilesystemsMayGoBefore }
@@ -9,9 +10,9 @@ pub fn what_nothing_uses_may_go_before()
     ensures groups { GroupsMayGoBefore }
 {}
 
-/// Where all mounts are in use, filesystems, inodes and groups may be looked at in any order, some of them or all, and
-/// more than once: those that nothing uses go, and the sweep then leaves what it would have left. If all is in use
-/// then, that is the world that the sweep leaves.
+/// Where all mounts are in use, filesystems, inodes and groups that nothing uses may go in any order, some or all,
+/// before the sweep. The sweep then leaves the same world (`before`). Once all that is left is in use, that is the
+/// world that the sweep leaves (`whole`).
 pub fn things_go_in_any_order()
     ensures before { AnyMayGoBefore }
     ensures whole { AnyOrderIsTheSweep }

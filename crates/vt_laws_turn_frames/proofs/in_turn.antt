@@ -1,2 +1,3 @@
 -- What the proofs of src/in_turn.rt use.
 pub mod NumbersRise
+pub mod FilesystemsRise

@@ -5,9 +5,9 @@ use Rattle.vt_spec.specs.Lists.{Fresh}
 use Rattle.vt_spec.specs.Machine.Invariants.{IsWorld}
 use Rattle.vt_spec.specs.Machine.Policy.{policy}
 use Rattle.vt_spec.specs.Machine.Run.{Serves}
-use Rattle.vt_spec.specs.Machine.World.{Task, World, mounts_of, task_called}
+use Rattle.vt_spec.specs.Machine.World.{Task, World, filesystem_numbered, mounts_of, task_called}
 use Rattle.vt_laws_trees.specs.Trees.Limits.{names_few_groups}
-use Rattle.vt_laws_turn_frames.specs.Unraised.{IsNamespaceUnraised}
+use Rattle.vt_laws_turn_frames.specs.Unraised.{IsFilesystemUnraised, IsNamespaceUnraised, KeepsFilesystem}
 
 -- a call of a task, with the numbers that are handed in for it
 pub record CallBetween : Type 0 where
@@ -54,3 +54,11 @@ OtherTasksStayInTurn =
     → AreBeside task.namespace world calls → AreOfOthers other calls → task_called world other ≡ Some task
     → IsNamespaceUnraised world (after_calls world calls) task.namespace
     → task_called (after_calls world calls) other ≡ Some task
+
+-- A filesystem whose change number is after several calls what it was is what it was, but for what nothing uses.
+abbrev pub UnraisedFilesystemsStayInTurn : Type 0
+UnraisedFilesystemsStayInTurn =
+    (world : World ℕ) (calls : List CallBetween) (number : ℕ) → IsWorld nat_eq world
+    → AreBeside number world calls → IsFilesystemUnraised world (after_calls world calls) number
+    → KeepsFilesystem (filesystem_numbered nat_eq world number)
+    (filesystem_numbered nat_eq (after_calls world calls) number)

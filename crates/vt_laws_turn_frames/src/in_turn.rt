@@ -1,5 +1,5 @@
 //! What several calls left as it was, where change numbers are what they were.
-ghost use Rattle.vt_laws_turn_frames.specs.InTurn.{OtherTasksStayInTurn, UnraisedNamespacesKeepMountsInTurn};
+ghost use Rattle.vt_laws_turn_frames.specs.InTurn.{OtherTasksStayInTurn, UnraisedFilesystemsStayInTurn, UnraisedNamespacesKeepMountsInTurn};
 
 /// However many calls follow one another: a namespace whose change number is after them what it was before has the
 /// mounts that it had (`mounts`), and a task of it that made none of these calls is what it was (`tasks`). No number
@@ -7,4 +7,11 @@ ghost use Rattle.vt_laws_turn_frames.specs.InTurn.{OtherTasksStayInTurn, Unraise
 pub fn unraised_namespaces_keep_their_mounts_in_turn()
     ensures mounts { UnraisedNamespacesKeepMountsInTurn }
     ensures tasks { OtherTasksStayInTurn }
+{}
+
+/// However many calls follow one another: a filesystem whose change number is after them what it was before has the
+/// root, the layers and the mounter that it had, and each inode that is left is what it was, with its real object. None
+/// of the numbers handed in is that of the filesystem.
+pub fn unraised_filesystems_stay_in_turn()
+    ensures { UnraisedFilesystemsStayInTurn }
 {}

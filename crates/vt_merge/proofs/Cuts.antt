@@ -6,7 +6,7 @@ use Rattle.vt_spec.specs.Machine.Layers.{OpenLayer, view_of}
 use Rattle.vt_spec.specs.Machine.Views.{cuts, hides, node_led}
 use Rattle.vt_spec.specs.Tree.{Tree}
 use Rattle.vt_spec.specs.TreeInvariant.{entry_at}
-use Rattle.vt_merge.specs.LayerValue.{cut_by, cut_on}
+use Rattle.vt_merge.specs.LayerValue.{cut_on}
 
 abbrev pub layer_in : Tree ℕ → ℕ → OpenLayer ℕ
 layer_in tree directory = record { tree = tree; directory = directory }

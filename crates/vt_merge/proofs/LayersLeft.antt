@@ -3,7 +3,7 @@ use Rattle.std.proofs.Common.{◌≡◌, ◌∙◌, ◌+◌, ◌<◌, Bool, List
 use Rattle.std.proofs.lemmas.List.{drop_more}
 use Rattle.std.proofs.lemmas.Option.{slice_get-get_or}
 use Rattle.std.specs.Prelude.{IfSome, slice_get}
-use Rattle.vt_spec.specs.Machine.Layers.{OpenLayer, at_path, view_of}
+use Rattle.vt_spec.specs.Machine.Layers.{at_path, view_of}
 use Rattle.vt_spec.specs.Machine.Views.{Shown, View, cuts, shown_from, shown_over, visible}
 use Rattle.vt_location.specs.declared.locations.NodeRef.{NodeRef}
 use Rattle.vt_location.specs.declared.numbers.FilesystemId.{FilesystemId}

@@ -1,5 +1,6 @@
 pub mod Cuts
 pub mod EntriesSeen
+pub mod GoingUp
 pub mod LayersLeft
 pub mod NamesFollowed
 pub mod NamesHad

@@ -1,5 +1,5 @@
 -- Names that are sorted, each once, are those that layers show.
-use Rattle.std.proofs.Common.{◌≡◌, ◌∙◌, ◌++◌, ◌∷◌, ◌&&◌, ◌||◌, [], Bool, Contains, List, None, Option, Ordering, Some, T, ap, cond, false, is_some, map, nat_eq, refl, subst, sym, true, true≢false, ℕ}
+use Rattle.std.proofs.Common.{◌≡◌, ◌∙◌, ◌++◌, ◌∷◌, ◌&&◌, ◌||◌, [], Bool, List, None, Option, Ordering, Some, T, ap, cond, false, is_some, map, nat_eq, refl, subst, sym, true, true≢false, ℕ}
 use Rattle.std.specs.declared.cmp.Ordering.TheVariants.{Less}
 use Rattle.std.specs.declared.vec.Vec.{Vec}
 use Rattle.std.specs.Cmp.{IsTotalOrder}

@@ -1,5 +1,5 @@
 -- The tree of a filesystem, as it is lent, and what a merged directory has in it under a name.
-use Rattle.std.proofs.Common.{◌≡◌, ◌∙◌, ◌++◌, ◌∷◌, [], Bool, List, None, Option, Some, ap, cond, false, option_map, refl, sym, true, ℕ}
+use Rattle.std.proofs.Common.{◌≡◌, ◌∙◌, ◌++◌, ◌∷◌, [], Bool, List, None, Option, Some, ap, false, option_map, refl, sym, true, ℕ}
 use Rattle.std.specs.Prelude.{if◌then◌else◌, option_to_list}
 use Rattle.vt_spec.specs.Machine.Views.{hides}
 use Rattle.vt_spec.specs.Tree.{Node, Tree, is_directory_node}

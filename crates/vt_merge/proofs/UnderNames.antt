@@ -1,9 +1,9 @@
 -- What layers show under a name is what the directories show that are merged under it, in whatever trees.
-use Rattle.std.proofs.Common.{◌≡◌, ◌≢◌, ◌∙◌, ◌+◌, ◌++◌, ◌∷◌, ◌<◌, ◌≤◌, ◌||◌, [], Bool, List, None, Option, Some, ap, append_assoc, cond, drop, false, get_or, length, map, not, option_and_then, refl, sym, true, ℕ}
+use Rattle.std.proofs.Common.{◌≡◌, ◌≢◌, ◌∙◌, ◌+◌, ◌++◌, ◌∷◌, ◌<◌, ◌≤◌, ◌||◌, [], Bool, List, None, Option, Some, ap, append_assoc, drop, false, get_or, length, map, option_and_then, refl, sym, true, ℕ}
 use Rattle.std.proofs.lemmas.List.{append-nil, at_drop_all, drop_more, map-append}
 use Rattle.std.specs.Prelude.{if◌then◌else◌, option_to_list}
 use Rattle.vt_spec.specs.declared.attributes.Attr.{Attr}
-use Rattle.vt_spec.specs.Machine.Layers.{OpenLayer, view_of}
+use Rattle.vt_spec.specs.Machine.Layers.{view_of}
 use Rattle.vt_spec.specs.Machine.Views.{Shown, cuts, hides, shown_over}
 use Rattle.vt_spec.specs.Tree.{Content, Node, Tree, entries_in, entry_named, is_directory_node}
 use Rattle.vt_spec.specs.Tree.Content.{Directory, Regular, Symlink, Whiteout}

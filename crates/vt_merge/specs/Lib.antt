@@ -1,1 +1,2 @@
 pub mod LayerValue
+pub mod Climbed

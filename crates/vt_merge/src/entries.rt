@@ -17,7 +17,7 @@ use vt_node::{Kind, Node, NodeId};
 use vt_tree::Tree;
 
 // The number of an inode in the tree of its filesystem.
-fn slot_of(inode: NodeRef) -> NodeId
+pub(crate) fn slot_of(inode: NodeRef) -> NodeId
     ensures value { result ≡ inode.slot }
     ensures number { exchanged inode.filesystem.count result ≡ number_of inode }
 {

@@ -2,6 +2,7 @@
 //! trees of the layers.
 #![tactic(auto)]
 
+mod climbing;
 mod entries;
 mod following;
 mod layers;
@@ -10,6 +11,7 @@ mod naming;
 mod showing;
 mod ways;
 
+pub use climbing::{WayDown, way_down};
 pub use layers::{LayerRef, MergedDirectory, Real};
 pub use merging::{MOST_LAYERS, MergedDirectories, merged_dirs, merged_dirs_at};
 pub use naming::merged_names;

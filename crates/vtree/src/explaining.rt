@@ -23,15 +23,15 @@ pub struct Options {
     pub format: Format,
 }
 
-// Why a line is not explained: what it is, and the nearest call.
-fn no_call(alloc: Global, what: &str, line: u64, nearest: Option<u64>) -> Result<String, Fault>
+// Why a line is not explained, and the nearest call.
+fn no_call(alloc: Global, line: u64, nearest: Option<u64>) -> Result<String, Fault>
     ensures { IfErr result (λ fault. comes_before_output fault ≡ false) }
 {
     let told = match nearest {
         Some(nearest) => format!(in alloc;
-            "line {line} {what}; the nearest call is in line {nearest}"
+            "line {line} is no call; the nearest is in line {nearest}"
         ),
-        None => format!(in alloc; "line {line} {what}; there is no call near it"),
+        None => format!(in alloc; "line {line} is no call, and there is none near it"),
     };
     told.map_err(out_of_memory)
 }
@@ -85,21 +85,19 @@ fn explain_script<R: Eprint + AllocGlobal, W: Write>(
     let alloc = rt.alloc();
     let line = options.line.saturating_sub(before);
     let found = line_at(alloc, script, line).map_err(out_of_memory)?;
-    let what = match found {
-        None => "is behind the end",
-        Some(text) if is_spoken(options.version, alloc, text) => {
+    if let Some(text) = found {
+        if is_spoken(options.version, alloc, text) {
             let (told, refused) = explained(alloc, options, script, before, text)?;
             count_refused(rt, name, refused);
             return hand_on(output, told.as_bytes());
         }
-        Some(_) => "is blank, a comment, or a name",
-    };
+    }
     let nearest = nearest_call(options.version, alloc, script, line);
     let nearest = match nearest {
         Some(nearest) => Some(nearest.saturating_add(before)),
         None => None,
     };
-    let why = no_call(alloc, what, options.line, nearest)?;
+    let why = no_call(alloc, options.line, nearest)?;
     Err(refuse(rt, name, why.as_str()))
 }
 

@@ -244,7 +244,11 @@ fn test_writes_the_given_answers_into_a_file(rt: HostRuntime) -> Result<(), Fail
 const EXPLAINED: [(&str, u8, &[u8]); 4] = [
     ("2", 0, b"LINE 2: t mkdir /d\n  answer       ok\n"),
     ("1", 1, b""),
-    ("3", 0, b"LINE 3: t mkdir /d\n  answer       deny 17 EEXIST E1\n"),
+    (
+        "3",
+        0,
+        b"LINE 3: t mkdir /d\n  answer       deny 17 EEXIST E1\n",
+    ),
     ("4", 1, b""),
 ];
 

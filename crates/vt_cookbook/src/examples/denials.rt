@@ -6,7 +6,7 @@ pub fn script() -> &'static str {
 # One denial after another, each with its rule. A denied call changes nothing.\n\
 #\n\
 # Rules are checked in the order S, K, W, E, F, L, P, C, O, B, M, and by number within a letter; the first\n\
-# that fails answers. docs/definitions.md has all of them.\n\
+# that fails answers. docs/RULES.md has all of them.\n\
 \n\
 t mkdir /d\n\
 t write /d/f text\n\

@@ -1,5 +1,5 @@
 -- Calls of members are judged in their part as in the world.
-use Rattle.std.proofs.Common.{◌≡◌, refl, sym, ap, ◌∙◌, inr, ℕ, nat_eq, Bool, true, false, cond, true≢false, List, [], ◌∷◌, filter, find, Option, Some, None, Ok, not, length, ◌&&◌, ◌||◌, ◌+◌}
+use Rattle.std.proofs.Common.{◌≡◌, refl, sym, ap, subst, ◌∙◌, inr, ℕ, nat_eq, Bool, true, false, cond, true≢false, List, [], ◌∷◌, filter, find, Option, Some, None, Ok, not, length, ◌&&◌, ◌||◌, ◌+◌}
 use Rattle.std.specs.Prelude.{nat_lt, ok_or, option_map, option_to_list, ◌==◌}
 use Rattle.vt_spec.specs.declared.errors.Rule.TheVariants.{E6, K1, L1, S2, S4}
 use Rattle.vt_spec.specs.Errors.{and_then, denial, unless}
@@ -7,31 +7,35 @@ use Rattle.vt_spec.specs.FileTree.{is_removed}
 use Rattle.vt_spec.specs.Language.Calls.{Call, TaskName, same_name}
 use Rattle.vt_spec.specs.Language.Calls.Call.{Bind, Chdir, Chmod, Chown, Chroot, Close, Drop, Exec, Exit, Fork, Lazy, LinkTo, ListMounts, Ls, Lstat, MakeWhiteout, Mkdir, MountOverlay, MountPlain, MoveMount, Opaque, OpenFile, PivotRoot, Pread, Pwrite, Read, Readlink, Remount, Rename, Rmdir, SetType, Setns, Stat, SymlinkAt, Umask, Umount, Unlink, Unshare, Write}
 use Rattle.vt_spec.specs.Language.Limits.{largest_file}
-use Rattle.vt_spec.specs.Lists.{is_among}
+use Rattle.vt_spec.specs.Lists.{holds_of, is_among}
+use Rattle.vt_spec.specs.Machine.Detach.{is_busy}
 use Rattle.vt_spec.specs.Machine.Filesystems.{overlay_rules}
 use Rattle.vt_spec.specs.Machine.Invariants.{IsWorld}
 use Rattle.vt_spec.specs.Machine.Judge.{Judgement, judge, pwrite_permit, setns_permit}
-use Rattle.vt_spec.specs.Machine.Locked.{is_locked, is_locked_at, of_overlay}
+use Rattle.vt_spec.specs.Machine.Locked.{is_locked, is_locked_at, live_layers, live_upper_and_work, of_overlay, overlaps_one_of, upper_and_work}
 use Rattle.vt_spec.specs.Machine.Looks.{Looks, looks_of}
-use Rattle.vt_spec.specs.Machine.Mounts.{Location, Mount}
+use Rattle.vt_spec.specs.Machine.Mounts.{Location, Mount, mount_tree}
 use Rattle.vt_spec.specs.Machine.Permits.{Permit}
 use Rattle.vt_spec.specs.Machine.Permits.Permit.{ToEnterNamespace, ToWritePart}
-use Rattle.vt_spec.specs.Machine.Rules.Conditions.{lacks}
+use Rattle.vt_spec.specs.Machine.Rules.Conditions.{is_elsewhere, lacks}
 use Rattle.vt_spec.specs.Machine.Rules.Descriptors.{descriptor_numbered, pwrite_rules}
 use Rattle.vt_spec.specs.Machine.Sealed.{is_member_task, locations, members, part_of, sealed, used_filesystems}
 use Rattle.vt_spec.specs.Machine.World.{Descriptor, Filesystem, Task, World, locations_of, mount_at}
 use Rattle.vt_spec.specs.PathText.{is_empty}
 use Rattle.vt_spec.specs.Rights.{cap_sys_admin, cap_sys_chroot}
 use Rattle.vt_spec.proofs.Found.{found_among}
-use Rattle.vt_spec.proofs.Lists.{Among, among-flat_map, among-map, among_from_contains, contains_from_among}
-use Rattle.vt_spec.proofs.Worlds.{same_task_name}
-use Rattle.vt_laws_part.proofs.part.PartOfPart.{located}
+use Rattle.vt_spec.proofs.Lists.{Among, among-append_left, among-append_right, among-flat_map, among-map, among_from_contains, contains_from_among}
+use Rattle.vt_spec.proofs.Worlds.{number-mount_in, same_task_name}
+use Rattle.vt_laws_part.proofs.part.PartOfPart.{is_own, located}
 use Rattle.vt_laws_part.proofs.walks.WalksAgree.{Alike, each_from}
-use Rattle.vt_laws_members.specs.Judging.{MembersAreJudgedAlike, is_compared, is_theirs}
-use Rattle.vt_laws_members.proofs.judging.Grounds.{over_alike, same_mount, theirs_from, theirs_test}
+use Rattle.vt_laws_members.specs.Judging.{MembersAreJudgedAlike, is_theirs}
+use Rattle.vt_laws_members.proofs.judging.Busy.{busy_alike}
+use Rattle.vt_laws_members.proofs.judging.Grounds.{IsTheirs, its_mount, over_alike, same_mount, theirs_from, theirs_test}
 use Rattle.vt_laws_members.proofs.judging.Judged.{JudgesAlike, chdir_alike, chroot_alike, exec_alike, list_alike, lstat_alike, read_alike, readlink_alike, stat_alike}
 use Rattle.vt_laws_members.proofs.judging.JudgedFiles.{chmod_alike, chown_alike, hard_link_alike, mkdir_alike, opaque_alike, open_alike, symlink_alike, unlink_alike, whiteout_alike, write_alike}
 use Rattle.vt_laws_members.proofs.judging.JudgedMounts.{bind_alike, lazy_alike, plain_alike, type_alike}
+use Rattle.vt_laws_members.proofs.judging.JudgedMoves.{TreesAlike, move_alike, umount_alike}
+use Rattle.vt_laws_members.proofs.judging.JudgedOverlays.{LayersAlike, any_same, overlay_alike}
 use Rattle.vt_laws_members.proofs.judging.JudgedRemoving.{RenamesAlike, rename_alike, rmdir_alike}
 use Rattle.vt_laws_members.proofs.judging.LowersSeen.{lower_directory_alike}
 use Rattle.vt_laws_members.proofs.judging.Anywhere.{anywhere_alike}
@@ -39,11 +43,13 @@ use Rattle.vt_laws_members.proofs.judging.JudgedPivots.{ParentsAlike, pivot_alik
 use Rattle.vt_laws_members.proofs.judging.ParentsSeen.{parents_alike}
 use Rattle.vt_laws_members.proofs.judging.Locks.{locked_alike}
 use Rattle.vt_laws_members.proofs.judging.Masks.{RulesSeeAlike}
-use Rattle.vt_laws_members.proofs.judging.MountPoints.{points_alike}
+use Rattle.vt_laws_members.proofs.judging.MountPoints.{in_own, points_alike}
+use Rattle.vt_laws_members.proofs.judging.MountTrees.{tree_alike}
+use Rattle.vt_laws_members.proofs.judging.Overlaps.{overlaps_alike, overlaps_live, overlaps_written}
 use Rattle.vt_laws_members.proofs.judging.SeenInPart.{OnTheirs, directory_theirs, filesystem_alike, located_used, members_see_alike, mount_alike, theirs_used, under_alike}
 
 -- who has a name of theirs is one of them
-called_alike : (names : List TaskName) (name : TaskName) → is_among same_name name names ≡ true → (tasks : List (Task ℕ))
+pub called_alike : (names : List TaskName) (name : TaskName) → is_among same_name name names ≡ true → (tasks : List (Task ℕ))
     → find (λ (task : Task ℕ). same_name name task.name) (filter (is_member_task names) tasks)
     ≡ find (λ (task : Task ℕ). same_name name task.name) tasks
 called_alike names name theirs [] = refl
@@ -107,7 +113,7 @@ module _ (world : World ℕ) (names : List TaskName) (is : IsWorld nat_eq world)
         (ap (λ (m : Mount ℕ). m.filesystem) (mount_alike world names is here (on here e)));
   }
 
-  walks : Alike one other task (λ number. own number ≡ true)
+  pub walks : Alike one other task (λ number. own number ≡ true)
   walks =
       let alike = members_see_alike world names task is
       (contains_from_among (members world names) task member) in
@@ -123,7 +129,7 @@ module _ (world : World ℕ) (names : List TaskName) (is : IsWorld nat_eq world)
         lost = alike.lost;
       }
 
-  judges : JudgesAlike one other task own uses
+  pub judges : JudgesAlike one other task own uses
   judges = record {
     walks = walks;
     directory = theirs_test world names is.mounts task.directory.mount
@@ -188,52 +194,90 @@ module _ (world : World ℕ) (names : List TaskName) (is : IsWorld nat_eq world)
   parents : ParentsAlike one other task own
   parents = parents_alike world names is sealed_off task member
 
-  pub judged : (overfills : Permit ℕ → Bool) (call : Call) → is_compared call ≡ true
+  -- a mount of the task's namespace is theirs
+  pub owned : (here : Location ℕ) → is_elsewhere nat_eq one task here ≡ false
+      → is_own world names (members world names) (mount_at nat_eq world here) ≡ true
+  owned here e =
+      in_own world names is task member (mount_at nat_eq world here)
+      (by (holds_of (nat_eq task.namespace) (mount_at nat_eq world here).namespace) e)
+    where
+      by : (b : Bool) → not b ≡ false → b ≡ true
+      by true h = refl
+      by false h = absurd (true≢false h)
+
+  trees : TreesAlike one other task own
+  trees = record {
+    busy = λ here e apart. let at = on here e in
+        subst (λ n. is_busy nat_eq world n ≡ is_busy nat_eq part n) at.2
+        (busy_alike world names is sealed_off at.0 at.1
+        (ap (is_own world names (members world names)) (sym (its_mount world names is.mounts here.mount at))
+        ∙ owned here apart));
+    tree = λ here e. let at = on here e in
+        sym (ap (mount_tree nat_eq part.mounts) (same_mount world names is.mounts here.mount at)
+        ∙ tree_alike world names is (mount_at nat_eq world here)
+        (subst (IsTheirs world names is.mounts) (sym (number-mount_in world.mounts here.mount)) at));
+  }
+
+  layers : LayersAlike one other uses
+  layers = record {
+    overlaps = λ layer used others. overlaps_alike world names is sealed_off layer.filesystem used layer.directory others;
+    in_use = λ overlay used i.
+        any_same (overlaps_one_of nat_eq world (live_layers world)) (overlaps_one_of nat_eq part (live_layers part))
+        (upper_and_work overlay) (λ layer m. overlaps_live world names is sealed_off layer.filesystem
+        (used layer (among-append_left (upper_and_work overlay) overlay.lowers layer m)) layer.directory) i
+        || any_same (overlaps_one_of nat_eq world (live_upper_and_work world))
+        (overlaps_one_of nat_eq part (live_upper_and_work part)) overlay.lowers
+        (λ layer m. overlaps_written world names is sealed_off layer.filesystem
+        (used layer (among-append_right (upper_and_work overlay) overlay.lowers layer m)) layer.directory) i;
+  }
+
+  pub judged : (overfills : Permit ℕ → Bool) (call : Call)
       → ((name : TaskName) → call ≡ Setns name → is_among same_name name names ≡ true)
       → judge nat_eq one overfills task call ≡ judge nat_eq other overfills task call
-  judged overfills (Ls path) e t = list_alike one other task own uses judges path
-  judged overfills (Stat path) e t = stat_alike one other task own uses judges path
-  judged overfills (Lstat path) e t = lstat_alike one other task own uses judges path
-  judged overfills (Readlink path) e t = readlink_alike one other task own uses judges path
-  judged overfills (Read path) e t = read_alike one other task own uses judges path
-  judged overfills (Write path bytes) e t = write_alike one other task own uses judges path bytes
-  judged overfills (Exec path) e t = exec_alike one other task own uses judges path
-  judged overfills (Mkdir path mode) e t = mkdir_alike one other task own uses judges path mode
-  judged overfills (SymlinkAt text path) e t = symlink_alike one other task own uses judges text path
-  judged overfills (MakeWhiteout path) e t = whiteout_alike one other task own uses judges path
-  judged overfills (LinkTo old new) e t = hard_link_alike one other task own uses judges old new
-  judged overfills (Unlink path) e t = unlink_alike one other task own uses judges path
-  judged overfills (Rmdir path) e t =
+  judged overfills (Ls path) t = list_alike one other task own uses judges path
+  judged overfills (Stat path) t = stat_alike one other task own uses judges path
+  judged overfills (Lstat path) t = lstat_alike one other task own uses judges path
+  judged overfills (Readlink path) t = readlink_alike one other task own uses judges path
+  judged overfills (Read path) t = read_alike one other task own uses judges path
+  judged overfills (Write path bytes) t = write_alike one other task own uses judges path bytes
+  judged overfills (Exec path) t = exec_alike one other task own uses judges path
+  judged overfills (Mkdir path mode) t = mkdir_alike one other task own uses judges path mode
+  judged overfills (SymlinkAt text path) t = symlink_alike one other task own uses judges text path
+  judged overfills (MakeWhiteout path) t = whiteout_alike one other task own uses judges path
+  judged overfills (LinkTo old new) t = hard_link_alike one other task own uses judges old new
+  judged overfills (Unlink path) t = unlink_alike one other task own uses judges path
+  judged overfills (Rmdir path) t =
       rmdir_alike one other task own uses judges (points_alike world names is task member) path
-  judged overfills (Rename old new) e t =
+  judged overfills (Rename old new) t =
       rename_alike one other task own uses judges (points_alike world names is task member) renames old new
-  judged overfills (Chmod path mode) e t = chmod_alike one other task own uses judges path mode
-  judged overfills (Chown path uid gid) e t = chown_alike one other task own uses judges path uid gid
-  judged overfills (Opaque path mark) e t = opaque_alike one other task own uses judges path mark
-  judged overfills (OpenFile path access how) e t = open_alike one other task own uses judges path access how
-  judged overfills (Pread descriptor offset size) e t = refl
-  judged overfills (Pwrite descriptor offset bytes) e t = pwrite_alike descriptor offset bytes
-  judged overfills (Close descriptor) e t = refl
-  judged overfills (Chdir path) e t = chdir_alike one other task own uses judges path
-  judged overfills (Chroot path) e t = chroot_alike one other task own uses judges path
-  judged overfills (Umask mode) e t = refl
-  judged overfills (Drop which) e t = refl
-  judged overfills (Fork words) e t = refl
-  judged overfills Exit e t = refl
-  judged overfills Unshare e t = refl
-  judged overfills (Setns name) e t = setns_alike name (t name refl)
-  judged overfills (MountPlain path flags) e t = plain_alike one other task own uses judges overfills path flags
-  judged overfills (MountOverlay path options flags) e t = absurd (true≢false (sym e))
-  judged overfills (Bind source path recursive) e t = bind_alike one other task own uses judges overfills source path recursive
-  judged overfills (MoveMount source path) e t = absurd (true≢false (sym e))
-  judged overfills (Umount path) e t = absurd (true≢false (sym e))
-  judged overfills (Lazy path) e t = lazy_alike one other task own uses judges overfills path
-  judged overfills (Remount path flags) e t = remount_alike one other task own uses judges parents path flags
-  judged overfills (SetType path word recursive) e t = type_alike one other task own uses judges overfills path word recursive
-  judged overfills (PivotRoot new put) e t = pivot_alike one other task own uses judges parents new put
-  judged overfills ListMounts e t = refl
+  judged overfills (Chmod path mode) t = chmod_alike one other task own uses judges path mode
+  judged overfills (Chown path uid gid) t = chown_alike one other task own uses judges path uid gid
+  judged overfills (Opaque path mark) t = opaque_alike one other task own uses judges path mark
+  judged overfills (OpenFile path access how) t = open_alike one other task own uses judges path access how
+  judged overfills (Pread descriptor offset size) t = refl
+  judged overfills (Pwrite descriptor offset bytes) t = pwrite_alike descriptor offset bytes
+  judged overfills (Close descriptor) t = refl
+  judged overfills (Chdir path) t = chdir_alike one other task own uses judges path
+  judged overfills (Chroot path) t = chroot_alike one other task own uses judges path
+  judged overfills (Umask mode) t = refl
+  judged overfills (Drop which) t = refl
+  judged overfills (Fork words) t = refl
+  judged overfills Exit t = refl
+  judged overfills Unshare t = refl
+  judged overfills (Setns name) t = setns_alike name (t name refl)
+  judged overfills (MountPlain path flags) t = plain_alike one other task own uses judges overfills path flags
+  judged overfills (MountOverlay path options flags) t =
+      overlay_alike one other task own uses judges layers overfills path options flags
+  judged overfills (Bind source path recursive) t = bind_alike one other task own uses judges overfills source path recursive
+  judged overfills (MoveMount source path) t = move_alike one other task own uses judges parents trees overfills source path
+  judged overfills (Umount path) t = umount_alike one other task own uses judges parents trees path
+  judged overfills (Lazy path) t = lazy_alike one other task own uses judges overfills path
+  judged overfills (Remount path flags) t = remount_alike one other task own uses judges parents path flags
+  judged overfills (SetType path word recursive) t = type_alike one other task own uses judges overfills path word recursive
+  judged overfills (PivotRoot new put) t = pivot_alike one other task own uses judges parents new put
+  judged overfills ListMounts t = refl
 
 pub members_are_judged_alike : MembersAreJudgedAlike
-members_are_judged_alike world names task call is compared overfills =
+members_are_judged_alike world names task call is overfills =
     judged world names is.is is.sealed_off task (among_from_contains (members world names) task is.member) overfills call
-    compared is.among_them
+    is.among_them

@@ -91,14 +91,9 @@ module _ (world : World ℕ) (names : List TaskName) (is : IsWorld nat_eq world)
         all_locked world names shows tree.0 tree.1 (whole used) point.node
         (directory_used (filesystem_numbered nat_eq world shows).files.tree point.node directory)
 
-  -- an upper layer is in nothing that is wholly locked
+  -- an upper or work directory is in nothing that is wholly locked
   module _ (merged : Filesystem ℕ) (there : Among merged world.filesystems) (overlay : Overlay ℕ)
-      (e : merged.overlay ≡ Some overlay) (upper : Layer ℕ) (u : overlay.upper ≡ Some upper) where
-    its : Among upper (upper_and_work overlay)
-    its =
-        among-append_left (option_to_list overlay.upper) (option_to_list overlay.work) upper
-        (subst (λ o. Among upper (option_to_list o)) (sym u) (inl refl))
-
+      (e : merged.overlay ≡ Some overlay) (upper : Layer ℕ) (its : Among upper (upper_and_work overlay)) where
     upper_apart : overlaps_one_of nat_eq world (live_lowers nat_eq world) upper ≡ false
     upper_apart =
         none_among (overlaps_one_of nat_eq world (live_lowers nat_eq world)) (live_upper_and_work world) is.overlays.lowers_apart
@@ -114,7 +109,7 @@ module _ (world : World ℕ) (names : List TaskName) (is : IsWorld nat_eq world)
         (subst (λ o. Among upper (overlay_or [] layers_of o)) (sym e)
         (among-append_left (option_to_list overlay.upper ++ option_to_list overlay.work) overlay.lowers upper its))
 
-    not_whole : wholly_locked nat_eq world names upper.filesystem ≡ true → ⊥
+    pub not_whole : wholly_locked nat_eq world names upper.filesystem ≡ true → ⊥
     not_whole wholly =
         let how = whole_how world names is sealed_off upper.filesystem wholly in
         let tree = tree_there world names is sealed_off upper.filesystem upper.directory upper_directory in
@@ -190,7 +185,9 @@ module _ (world : World ℕ) (names : List TaskName) (is : IsWorld nat_eq world)
               let same : p ≡ (upper.filesystem, object) = ⊎_elim (λ s. s) (λ none. absurd none) m in
               let at = at_point p.0 p.1 h in
               let shows : (mount_at nat_eq world at.0).filesystem ≡ upper.filesystem = at.3 ∙ ap (λ (q : ℕ × ℕ). q.0) same in
-              not_whole (filesystem_at nat_eq world here) (overlay_there world names is number overlay e) overlay e upper u
+              not_whole (filesystem_at nat_eq world here) (overlay_there world names is number overlay e) overlay e upper
+              (among-append_left (option_to_list overlay.upper) (option_to_list overlay.work) upper
+              (subst (λ o. Among upper (option_to_list o)) (sym u) (inl refl)))
               (subst (λ g. wholly_locked nat_eq world names g ≡ true) shows
               (whole mount there n placed outside at.0 at.1
               (ap uses shows

@@ -1,61 +1,239 @@
--- Calls that attach no mount are judged by the part alone.
-use Rattle.std.proofs.Common.{◌≡◌, refl, ◌∙◌, ℕ, nat_eq, Bool, false, true≢false}
-use Rattle.vt_spec.specs.Language.Calls.{Call}
+-- Calls of theirs are judged by the part alone, with the limit of mounts.
+use Rattle.std.proofs.Common.{◌≡◌, refl, sym, ap, subst, ◌∙◌, ℕ, nat_eq, Bool, true, false, not, List, [], ◌∷◌, Option, Some, None, Ok, ◌&&◌, ◌||◌, is_some}
+use Rattle.std.specs.List.{list_any}
+use Rattle.std.proofs.lemmas.Bool.{or_parts}
+use Rattle.vt_spec.specs.declared.errors.Rule.TheVariants.{M2, M3, M4, M5, M6, M7, M9, M10}
+use Rattle.vt_spec.specs.Errors.{Rules, and_then, unless}
+use Rattle.vt_spec.specs.Language.Calls.{Call, MountFlags, OverlayWords, TaskName}
 use Rattle.vt_spec.specs.Language.Calls.Call.{Bind, Chdir, Chmod, Chown, Chroot, Close, Drop, Exec, Exit, Fork, Lazy, LinkTo, ListMounts, Ls, Lstat, MakeWhiteout, Mkdir, MountOverlay, MountPlain, MoveMount, Opaque, OpenFile, PivotRoot, Pread, Pwrite, Read, Readlink, Remount, Rename, Rmdir, SetType, Setns, Stat, SymlinkAt, Umask, Umount, Unlink, Unshare, Write}
+use Rattle.vt_spec.specs.Lists.{Fresh, is_among}
 use Rattle.vt_spec.specs.Machine.Apply.{overfills}
-use Rattle.vt_spec.specs.Machine.Judge.{judge}
-use Rattle.vt_spec.specs.Machine.Looks.{Looks, looks_of}
+use Rattle.vt_spec.specs.Machine.Invariants.{IsWorld}
+use Rattle.vt_spec.specs.Machine.Judge.{Judgement, attach_permit, bind_permit, judge, mount_overlay_permit, mount_plain_permit, move_permit, overlay_permit_by}
+use Rattle.vt_spec.specs.Machine.Looks.{Looks, looks_of, mount_at}
+use Rattle.vt_spec.specs.Machine.Mounts.{Location, Mount, is_shared, is_unbindable}
 use Rattle.vt_spec.specs.Machine.Permits.{Permit}
-use Rattle.vt_spec.specs.Machine.Sealed.{part_of}
-use Rattle.vt_spec.specs.Machine.World.{Task}
-use Rattle.vt_laws_members.specs.Judging.{MembersAreJudgedByTheirPart, attaches}
-use Rattle.vt_laws_members.proofs.judging.AllJudged.{members_are_judged_alike}
+use Rattle.vt_spec.specs.Machine.Permits.Permit.{ToBind, ToMountOverlay, ToMountPlain, ToMove}
+use Rattle.vt_spec.specs.Machine.Rules.Conditions.{is_elsewhere, is_no_root}
+use Rattle.vt_spec.specs.Machine.Rules.Mounting.{LayerLocations, admin_rules, bind_rules, destination_walk, has_shared_parent, layer_rules, layers_walked, move_rules, new_mount_rules, overlay_at, source_walk}
+use Rattle.vt_spec.specs.Machine.Sealed.{members, part_of, sealed, used_filesystems}
+use Rattle.vt_spec.specs.Machine.Walking.{Here, walk_end}
+use Rattle.vt_spec.specs.Machine.World.{Task, World, mount_numbered}
+use Rattle.vt_spec.proofs.Lists.{Among, among_from_contains}
+use Rattle.vt_laws_part.proofs.part.PartOfPart.{is_own}
+use Rattle.vt_laws_part.proofs.walks.WalksAgree.{Agree}
+use Rattle.vt_laws_members.specs.Judging.{MembersAreJudgedByTheirPart, is_theirs}
+use Rattle.vt_laws_members.proofs.judging.AllJudged.{judges, members_are_judged_alike, owned}
+use Rattle.vt_laws_members.proofs.judging.Grounds.{IsTheirs, its_mount, theirs_from}
+use Rattle.vt_laws_members.proofs.judging.Judged.{JudgesAlike}
+use Rattle.vt_laws_members.proofs.judging.Overfilled.{bind_overfills, move_overfills, overlay_overfills, plain_overfills}
+use Rattle.vt_laws_members.proofs.judging.WalksLead.{HereAt, destination_agrees, judged_alike, source_agrees}
 
--- they do not ask for the limit of mounts
-unasked : (looks : Looks ℕ) (task : Task ℕ) (one other : Permit ℕ → Bool) (call : Call) → attaches call ≡ false
-    → judge nat_eq looks one task call ≡ judge nat_eq looks other task call
-unasked looks task one other (Ls path) e = refl
-unasked looks task one other (Stat path) e = refl
-unasked looks task one other (Lstat path) e = refl
-unasked looks task one other (Readlink path) e = refl
-unasked looks task one other (Read path) e = refl
-unasked looks task one other (Write path bytes) e = refl
-unasked looks task one other (Exec path) e = refl
-unasked looks task one other (Mkdir path mode) e = refl
-unasked looks task one other (SymlinkAt text path) e = refl
-unasked looks task one other (MakeWhiteout path) e = refl
-unasked looks task one other (LinkTo old new) e = refl
-unasked looks task one other (Unlink path) e = refl
-unasked looks task one other (Rmdir path) e = refl
-unasked looks task one other (Rename old new) e = refl
-unasked looks task one other (Chmod path mode) e = refl
-unasked looks task one other (Chown path uid gid) e = refl
-unasked looks task one other (Opaque path mark) e = refl
-unasked looks task one other (OpenFile path access _) e = refl
-unasked looks task one other (Pread descriptor offset size) e = refl
-unasked looks task one other (Pwrite descriptor offset bytes) e = refl
-unasked looks task one other (Close descriptor) e = refl
-unasked looks task one other (Chdir path) e = refl
-unasked looks task one other (Chroot path) e = refl
-unasked looks task one other (Umask mode) e = refl
-unasked looks task one other (Drop which) e = refl
-unasked looks task one other (Fork words) e = refl
-unasked looks task one other Exit e = refl
-unasked looks task one other Unshare e = refl
-unasked looks task one other (Setns name) e = refl
-unasked looks task one other (MountPlain path flags) e = absurd (true≢false e)
-unasked looks task one other (MountOverlay path options flags) e = absurd (true≢false e)
-unasked looks task one other (Bind source path recursive) e = absurd (true≢false e)
-unasked looks task one other (MoveMount source path) e = absurd (true≢false e)
-unasked looks task one other (Umount path) e = refl
-unasked looks task one other (Lazy path) e = refl
-unasked looks task one other (Remount path flags) e = refl
-unasked looks task one other (SetType path word recursive) e = refl
-unasked looks task one other (PivotRoot new put) e = refl
-unasked looks task one other ListMounts e = refl
+-- a later rule is not asked where the first one fails
+asked_later : (first : Bool) (a b : Bool) (rest : Bool → Rules) (r : Judgement ℕ) → (first ≡ false → a ≡ b)
+    → unless ((first, M2) ∷ rest a) r ≡ unless ((first, M2) ∷ rest b) r
+asked_later true a b rest r same = refl
+asked_later false a b rest r same = ap (λ c. unless (rest c) r) (same refl)
+
+module _ (world : World ℕ) (names : List TaskName) (is : IsWorld nat_eq world)
+    (sealed_off : sealed nat_eq world names ≡ true) (task : Task ℕ) (member : Among task (members world names))
+    (fresh other : Fresh ℕ) where
+  abbrev part : World ℕ
+  part = part_of nat_eq world names
+
+  abbrev one : Looks ℕ
+  one = looks_of nat_eq world
+
+  abbrev own : ℕ → Bool
+  own = is_theirs world names
+
+  abbrev On : ℕ → Type 0
+  On number = own number ≡ true
+
+  abbrev full : Permit ℕ → Bool
+  full = overfills nat_eq fresh world task
+
+  abbrev full_too : Permit ℕ → Bool
+  full_too = overfills nat_eq other part task
+
+  alike : JudgesAlike one (looks_of nat_eq part) task own
+      (λ number. is_among nat_eq number (used_filesystems nat_eq world names))
+  alike = judges world names is sealed_off task member
+
+  abbrev StandsThere : Here ℕ → Type 0
+  StandsThere = HereAt one (looks_of nat_eq part) task On alike.walks alike.directory alike.rules.removed
+
+  at_source : (path : List ℕ) → Agree StandsThere (source_walk nat_eq one task path) (source_walk nat_eq one task path)
+  at_source path =
+      (refl, (source_agrees one (looks_of nat_eq part) task On alike.walks alike.directory alike.rules.removed path).1)
+
+  at_destination : (path : List ℕ)
+      → Agree StandsThere (destination_walk nat_eq one task path) (destination_walk nat_eq one task path)
+  at_destination path =
+      (refl, (destination_agrees one (looks_of nat_eq part) task On alike.walks alike.directory alike.rules.removed path).1)
+
+  theirs : (here : Location ℕ) → On here.mount → IsTheirs world names is.mounts here.mount
+  theirs here on = theirs_from world names is.mounts here.mount on
+
+  there : (here : Location ℕ) → On here.mount → Among (mount_numbered nat_eq world here.mount) world.mounts
+  there here on =
+      let at = theirs here on in
+      subst (λ m. Among m world.mounts) (sym (its_mount world names is.mounts here.mount at)) at.1
+
+  its : (here : Location ℕ) → is_elsewhere nat_eq one task here ≡ false
+      → is_own world names (members world names) (mount_numbered nat_eq world here.mount) ≡ true
+  its here apart = owned world names is sealed_off task member here apart
+
+  plain_limited : (path : List ℕ) (flags : MountFlags)
+      → mount_plain_permit nat_eq one full task path flags ≡ mount_plain_permit nat_eq one full_too task path flags
+  unfolding mount_plain_permit
+  plain_limited path flags =
+      ap (unless (admin_rules task))
+      (judged_alike StandsThere (destination_walk nat_eq one task path) (destination_walk nat_eq one task path)
+      (λ here. attach_permit (new_mount_rules nat_eq one task here.location) full (ToMountPlain here.location flags))
+      (λ here. attach_permit (new_mount_rules nat_eq one task here.location) full_too (ToMountPlain here.location flags))
+      (at_destination path)
+      (λ here on.
+      asked_later (is_elsewhere nat_eq one task here.location) (full (ToMountPlain here.location flags))
+      (full_too (ToMountPlain here.location flags)) (λ b. (b, M9) ∷ []) (Ok (ToMountPlain here.location flags))
+      (λ apart. plain_overfills world names is sealed_off here.location (there here.location on) (its here.location apart)
+      fresh other task flags)))
+
+  overlay_limited_by : (here : Location ℕ) → On here.mount → (options : Option OverlayWords) (flags : MountFlags)
+      → overlay_permit_by nat_eq one full task here options flags ≡ overlay_permit_by nat_eq one full_too task here options flags
+  overlay_limited_by here on None flags = refl
+  overlay_limited_by here on (Some words) flags =
+      λ i. and_then (layers_walked nat_eq one task words) (λ layers.
+      unless (layer_rules nat_eq one layers (overlay_at one task layers)) (same layers i))
+    where
+      same : (layers : LayerLocations ℕ)
+          → attach_permit (new_mount_rules nat_eq one task here) full
+          (ToMountOverlay here (overlay_at one task layers) flags)
+          ≡ attach_permit (new_mount_rules nat_eq one task here) full_too
+          (ToMountOverlay here (overlay_at one task layers) flags)
+      same layers =
+          asked_later (is_elsewhere nat_eq one task here) (full (ToMountOverlay here (overlay_at one task layers) flags))
+          (full_too (ToMountOverlay here (overlay_at one task layers) flags)) (λ b. (b, M9) ∷ [])
+          (Ok (ToMountOverlay here (overlay_at one task layers) flags))
+          (λ apart. overlay_overfills world names is sealed_off here (there here on) (its here apart) fresh other task
+          (overlay_at one task layers) flags)
+
+  overlay_limited : (path : List ℕ) (options : Option OverlayWords) (flags : MountFlags)
+      → mount_overlay_permit nat_eq one full task path options flags
+      ≡ mount_overlay_permit nat_eq one full_too task path options flags
+  unfolding mount_overlay_permit
+  overlay_limited path options flags =
+      ap (unless (admin_rules task))
+      (judged_alike StandsThere (destination_walk nat_eq one task path) (destination_walk nat_eq one task path)
+      (λ here. overlay_permit_by nat_eq one full task here.location options flags)
+      (λ here. overlay_permit_by nat_eq one full_too task here.location options flags)
+      (at_destination path) (λ here on. overlay_limited_by here.location on options flags))
+
+  bind_limited : (source path : List ℕ) (recursive : Bool)
+      → bind_permit nat_eq one full task source path recursive ≡ bind_permit nat_eq one full_too task source path recursive
+  unfolding bind_permit
+  bind_limited source path recursive =
+      ap (unless (admin_rules task))
+      (judged_alike StandsThere (source_walk nat_eq one task source) (source_walk nat_eq one task source)
+      (λ from. and_then (walk_end (destination_walk nat_eq one task path)) (bound_by full from))
+      (λ from. and_then (walk_end (destination_walk nat_eq one task path)) (bound_by full_too from))
+      (at_source source)
+      (λ from at.
+      judged_alike StandsThere (destination_walk nat_eq one task path) (destination_walk nat_eq one task path)
+      (bound_by full from) (bound_by full_too from) (at_destination path)
+      (λ here on.
+      asked_later (is_elsewhere nat_eq one task from.location || is_elsewhere nat_eq one task here.location)
+      (full (ToBind from.location here.location recursive)) (full_too (ToBind from.location here.location recursive))
+      (λ b. (is_unbindable (mount_at one from.location).propagation, M3) ∷ (b, M9) ∷ [])
+      (Ok (ToBind from.location here.location recursive))
+      (λ apart. bind_overfills world names is sealed_off here.location (there here.location on)
+      (its here.location (or_parts (is_elsewhere nat_eq one task from.location)
+      (is_elsewhere nat_eq one task here.location) apart).1) fresh other task from.location recursive
+      (theirs from.location at)))))
+    where
+      bound_by : (Permit ℕ → Bool) → Here ℕ → Here ℕ → Judgement ℕ
+      bound_by overfull from here =
+          attach_permit (bind_rules nat_eq one task from.location here.location) overfull
+          (ToBind from.location here.location recursive)
+
+  move_limited : (source path : List ℕ)
+      → move_permit nat_eq one full task source path ≡ move_permit nat_eq one full_too task source path
+  unfolding move_permit
+  move_limited source path =
+      ap (unless (admin_rules task))
+      (judged_alike StandsThere (source_walk nat_eq one task source) (source_walk nat_eq one task source)
+      (λ from. and_then (walk_end (destination_walk nat_eq one task path)) (moved_by full from))
+      (λ from. and_then (walk_end (destination_walk nat_eq one task path)) (moved_by full_too from))
+      (at_source source)
+      (λ from at.
+      judged_alike StandsThere (destination_walk nat_eq one task path) (destination_walk nat_eq one task path)
+      (moved_by full from) (moved_by full_too from) (at_destination path)
+      (λ here on.
+      asked_later (is_elsewhere nat_eq one task from.location || is_elsewhere nat_eq one task here.location)
+      (full (ToMove from.location.mount here.location)) (full_too (ToMove from.location.mount here.location))
+      (λ b. (has_shared_parent one from.location, M4)
+      ∷ (
+        is_shared (mount_at one here.location).propagation
+            && list_any (λ (mount : Mount ℕ). is_unbindable mount.propagation) (one.mount_tree from.location.mount),
+        M5,
+      )
+      ∷ (list_any (λ (mount : Mount ℕ). nat_eq mount.number here.location.mount) (one.mount_tree from.location.mount), M6)
+      ∷ (is_no_root nat_eq one from.location, M7) ∷ (b, M9)
+      ∷ (not (is_some (mount_at one from.location).mount_point), M10) ∷ [])
+      (Ok (ToMove from.location.mount here.location))
+      (λ apart.
+      let both = or_parts (is_elsewhere nat_eq one task from.location) (is_elsewhere nat_eq one task here.location) apart in
+      move_overfills world names is sealed_off here.location (there here.location on) (its here.location both.1)
+      from.location.mount (there from.location at) (its from.location both.0) fresh other task))))
+    where
+      moved_by : (Permit ℕ → Bool) → Here ℕ → Here ℕ → Judgement ℕ
+      moved_by overfull from here =
+          attach_permit (move_rules nat_eq one task from.location here.location) overfull
+          (ToMove from.location.mount here.location)
+
+  -- the limit of mounts is the same, and no other call asks for it
+  limited : (call : Call) → judge nat_eq one full task call ≡ judge nat_eq one full_too task call
+  limited (Ls path) = refl
+  limited (Stat path) = refl
+  limited (Lstat path) = refl
+  limited (Readlink path) = refl
+  limited (Read path) = refl
+  limited (Write path bytes) = refl
+  limited (Exec path) = refl
+  limited (Mkdir path mode) = refl
+  limited (SymlinkAt text path) = refl
+  limited (MakeWhiteout path) = refl
+  limited (LinkTo old new) = refl
+  limited (Unlink path) = refl
+  limited (Rmdir path) = refl
+  limited (Rename old new) = refl
+  limited (Chmod path mode) = refl
+  limited (Chown path uid gid) = refl
+  limited (Opaque path mark) = refl
+  limited (OpenFile path access how) = refl
+  limited (Pread descriptor offset size) = refl
+  limited (Pwrite descriptor offset bytes) = refl
+  limited (Close descriptor) = refl
+  limited (Chdir path) = refl
+  limited (Chroot path) = refl
+  limited (Umask mode) = refl
+  limited (Drop which) = refl
+  limited (Fork words) = refl
+  limited Exit = refl
+  limited Unshare = refl
+  limited (Setns name) = refl
+  limited (MountPlain path flags) = plain_limited path flags
+  limited (MountOverlay path options flags) = overlay_limited path options flags
+  limited (Bind source path recursive) = bind_limited source path recursive
+  limited (MoveMount source path) = move_limited source path
+  limited (Umount path) = refl
+  limited (Lazy path) = refl
+  limited (Remount path flags) = refl
+  limited (SetType path word recursive) = refl
+  limited (PivotRoot new put) = refl
+  limited ListMounts = refl
 
 pub members_are_judged_by_their_part : MembersAreJudgedByTheirPart
-members_are_judged_by_their_part world names task call is compared apart fresh other =
-    members_are_judged_alike world names task call is compared (overfills nat_eq fresh world task)
-    ∙ unasked (looks_of nat_eq (part_of nat_eq world names)) task (overfills nat_eq fresh world task)
-    (overfills nat_eq other (part_of nat_eq world names) task) call apart
+members_are_judged_by_their_part world names task call is fresh other =
+    limited world names is.is is.sealed_off task (among_from_contains (members world names) task is.member) fresh other call
+    ∙ members_are_judged_alike world names task call is (overfills nat_eq other (part_of nat_eq world names) task)

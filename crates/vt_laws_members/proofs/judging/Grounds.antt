@@ -147,7 +147,7 @@ module _ (world : World ℕ) (names : List TaskName) (is : MountInvariants nat_e
     pub its_mount : mount_numbered nat_eq world number ≡ own.0
     its_mount = ap (mount_numbered nat_eq world) (sym own.2) ∙ numbered own.0 own.1
 
-  nowhere_stands : (mount : Mount ℕ) (at : Location ℕ) → Among mount world.mounts → mount.namespace ≡ None
+  pub nowhere_stands : (mount : Mount ℕ) (at : Location ℕ) → Among mount world.mounts → mount.namespace ≡ None
       → mount.mount_point ≡ Some at → ⊥
   nowhere_stands mount at m n p =
       let test = among_from_list_all is_nowhere_or_attached world.mounts is.nowhere mount m in
@@ -156,11 +156,11 @@ module _ (world : World ℕ) (names : List TaskName) (is : MountInvariants nat_e
       true≢false (sym (and_parts (not (is_some mount.mount_point)) (is_private mount.propagation) none).0
       ∙ ap (λ x. not (is_some x)) p)
 
-  stands_itself : (mount : Mount ℕ) → Among mount world.mounts → Stands nat_eq world mount.number
+  pub stands_itself : (mount : Mount ℕ) → Among mount world.mounts → Stands nat_eq world mount.number
   stands_itself mount m =
       among_from_all (λ (x : Mount ℕ). Stands nat_eq world x.number) world.mounts is.standing mount m
 
-  own_by : (a b : Mount ℕ) → a.namespace ≡ b.namespace → is_own world names theirs b ≡ true
+  pub own_by : (a b : Mount ℕ) → a.namespace ≡ b.namespace → is_own world names theirs b ≡ true
       → is_own world names theirs a ≡ true
   own_by a b same own =
       ap (holds_of (λ n. list_any (λ (task : Task ℕ). nat_eq n task.namespace) theirs)) same ∙ own

@@ -25,7 +25,7 @@ use Rattle.vt_laws_part.proofs.part.PartOfPart.{found, shown_how}
 use Rattle.vt_laws_part.proofs.seals.ByPart.{layer_directory, lower_plain, overlay_without_others, their_overlays_are_in_the_part, used_are_free}
 
 -- an overlay with one of its layers in the filesystem
-has_layer : (number : ℕ) (merged : Filesystem ℕ) (layer : Layer ℕ) → Among layer (of_overlay [] layers_of merged)
+pub has_layer : (number : ℕ) (merged : Filesystem ℕ) (layer : Layer ℕ) → Among layer (of_overlay [] layers_of merged)
     → nat_eq number layer.filesystem ≡ true → has_layer_on nat_eq number merged ≡ true
 has_layer number merged layer m e = by merged.overlay m
   where
@@ -44,7 +44,7 @@ pub record Counts (world : World ℕ) (number object : ℕ) (layer : Layer ℕ) 
   pub lies : lies_in_layer nat_eq world upper.filesystem upper.directory layer ≡ true
   pub object_of : is_object_of nat_eq number object merged overlay ≡ true
 
-counts_how : (world : World ℕ) (number object : ℕ) (layer : Layer ℕ) (merged : Filesystem ℕ)
+pub counts_how : (world : World ℕ) (number object : ℕ) (layer : Layer ℕ) (merged : Filesystem ℕ)
     → counts_in_layer nat_eq world number object layer merged ≡ true → Counts world number object layer merged
 counts_how world number object layer merged h = by merged.overlay refl h
   where
@@ -81,7 +81,7 @@ module _ (a b : World ℕ) (number : ℕ)
     (same : filesystem_numbered nat_eq b number ≡ filesystem_numbered nat_eq a number)
     (within : (merged : Filesystem ℕ) → Among merged (overlays a) → has_layer_on nat_eq number merged ≡ true
     → Among merged (overlays b)) where
-  lies_at : (object : ℕ) (layer : Layer ℕ) → lies_in_layer nat_eq a number object layer ≡ true
+  pub lies_at : (object : ℕ) (layer : Layer ℕ) → lies_in_layer nat_eq a number object layer ≡ true
       → lies_in_layer nat_eq b number object layer ≡ true
   lies_at object layer h =
       ap (λ (f : Filesystem ℕ). nat_eq number layer.filesystem && is_under nat_eq f.files layer.directory object) same ∙ h
@@ -114,7 +114,7 @@ module _ (a b : World ℕ) (number : ℕ)
             c.lies).0,
       )
 
-  under_at : (object : ℕ) (layer : Layer ℕ) → lies_or_counts_under nat_eq a number object layer ≡ true
+  pub under_at : (object : ℕ) (layer : Layer ℕ) → lies_or_counts_under nat_eq a number object layer ≡ true
       → (lies_or_counts_under nat_eq b number object layer ≡ true) × (nat_eq number layer.filesystem ≡ true)
   under_at object layer h =
       ⊎_elim
@@ -161,7 +161,7 @@ module _ (world : World ℕ) (names : List TaskName) (is : IsWorld nat_eq world)
       from.1
 
   -- overlays with a layer in what they use alone are theirs
-  alone_in_part : (number : ℕ) → used_alone nat_eq world names number ≡ true → (merged : Filesystem ℕ)
+  pub alone_in_part : (number : ℕ) → used_alone nat_eq world names number ≡ true → (merged : Filesystem ℕ)
       → Among merged (overlays world) → has_layer_on nat_eq number merged ≡ true → Among merged (overlays part)
   alone_in_part number alone merged m has =
       let each = among_from_list_all

@@ -76,7 +76,7 @@ module _ (world : World ℕ) (names : List TaskName) (is : IsWorld nat_eq world)
       of.2
 
   -- a mount of the part is theirs, or detached
-  part_mount : (x y : Mount ℕ) → Among x world.mounts → keep world names theirs x ≡ Some y
+  pub part_mount : (x y : Mount ℕ) → Among x world.mounts → keep world names theirs x ≡ Some y
       → (owns y ≡ true) ⊎ (y.namespace ≡ None)
   part_mount x y m e = by (owns x) (is_at nat_eq (roots_and_directories theirs) x) refl refl
     where

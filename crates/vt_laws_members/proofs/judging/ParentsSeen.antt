@@ -21,7 +21,7 @@ use Rattle.vt_laws_members.proofs.judging.MountPoints.{in_own}
 use Rattle.vt_laws_members.proofs.judging.SeenInPart.{OnTheirs, mount_alike, theirs_used, under_alike}
 
 -- what passes is kept
-any_filter : {A : Type 0} (p q : A → Bool) (xs : List A) → ((x : A) → Among x xs → q x ≡ false → p x ≡ false)
+pub any_filter : {A : Type 0} (p q : A → Bool) (xs : List A) → ((x : A) → Among x xs → q x ≡ false → p x ≡ false)
     → list_any p (filter q xs) ≡ list_any p xs
 any_filter p q [] none = refl
 any_filter {A} p q (x ∷ xs) none = by (q x) refl (any_filter p q xs (λ y m. none y (inr m)))

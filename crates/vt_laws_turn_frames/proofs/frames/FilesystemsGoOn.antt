@@ -1,5 +1,5 @@
 -- The filesystems after a permit are those before it, but for those that it changes, or new.
-use Rattle.std.proofs.Common.{◌≡◌, refl, sym, ap, subst, ◌∙◌, ◌⊎◌, inl, inr, ⊎_elim, ℕ, nat_eq, Bool, true, false, cond, List, [], ◌∷◌, ◌++◌, ◌*◌, ◌||◌, Option, Some, None, map, not}
+use Rattle.std.proofs.Common.{◌≡◌, refl, sym, ap, subst, ◌∙◌, ◌⊎◌, inl, inr, ⊎_elim, ℕ, nat_eq, Bool, true, false, cond, List, [], ◌∷◌, ◌++◌, ◌*◌, ◌||◌, Option, Some, None, map, not, eqb-true}
 use Rattle.std.specs.List.{list_any}
 use Rattle.vt_spec.specs.PathText.{is_empty}
 use Rattle.vt_spec.specs.Language.Changes.{Change}
@@ -15,7 +15,7 @@ use Rattle.vt_spec.specs.Machine.NewMounts.{overlay_filesystem, plain_filesystem
 use Rattle.vt_spec.specs.Machine.Permits.{Permit}
 use Rattle.vt_spec.specs.Machine.Permits.Permit.{ToChange, ToEnterNamespace, ToExit, ToMake, ToMountOverlay, ToMountPlain, ToOpen, ToOpenNew, ToRemoveDirectory, ToRename, ToSetType, ToUnmount, ToUnmountLazily, ToUnshare, ToWritePart}
 use Rattle.vt_spec.specs.Machine.World.{Filesystem, Layer, Overlay, Task, World, filesystem_at, filesystem_numbered, mount_at, mount_numbered, replaced_if_numbered, without_task}
-use Rattle.vt_spec.proofs.Lists.{Among, among-append}
+use Rattle.vt_spec.proofs.Lists.{Among, among-append, among-from_map}
 use Rattle.vt_spec.proofs.Truths.{nat_eq_itself}
 use Rattle.vt_spec.proofs.Worlds.{filesystems-taken_away, filesystems-without_replaced}
 use Rattle.vt_laws_layers.proofs.layers.LowersCalls.{same_filesystem}
@@ -23,35 +23,66 @@ use Rattle.vt_laws_layers.proofs.layers.LowersWorld.{number_of_filesystem}
 use Rattle.vt_laws_mounts.proofs.mounts.MountsRetyped.{types_are_of_mounts}
 use Rattle.vt_laws_mounts.proofs.ends.UnmountingEnds.{lazy_is_of_mounts}
 
+-- a filesystem of a list has this number
+abbrev pub Has : List (Filesystem ℕ) → ℕ → Type 0
+Has list number = (was : Filesystem ℕ) × Among was list × (was.number ≡ number)
+
 -- It is one of a world's, or is in the place of one whose number is to be raised, or has a number that was handed in.
 pub data GoesOn (world : World ℕ) (changed : List ℕ) (new : ℕ) (filesystem : Filesystem ℕ) : Type 0 where
   Old : Among filesystem world.filesystems → GoesOn world changed new filesystem
   Changed : list_any (λ number. nat_eq number filesystem.number) changed ≡ true
+      → Has world.filesystems filesystem.number
       → filesystem.change ≡ (filesystem_numbered nat_eq world filesystem.number).change
       → GoesOn world changed new filesystem
   New : filesystem.number ≡ new → GoesOn world changed new filesystem
 
 -- one in the place of another
 in_replaced : (new : Filesystem ℕ) (list : List (Filesystem ℕ)) (f : Filesystem ℕ)
-    → Among f (map (replaced_if_numbered nat_eq new) list) → (f ≡ new) ⊎ Among f list
+    → Among f (map (replaced_if_numbered nat_eq new) list) → ((f ≡ new) × Has list f.number) ⊎ Among f list
 in_replaced new [] f m = absurd m
 in_replaced new (first ∷ rest) f m =
-    ⊎_elim (λ e. by (nat_eq new.number first.number) e)
-    (λ later. ⊎_elim inl (λ n. inr (inr n)) (in_replaced new rest f later)) m
+    ⊎_elim (λ e. by (nat_eq new.number first.number) refl e)
+    (λ later. ⊎_elim (λ r. inl (r.0, (r.1.0, inr r.1.1, r.1.2))) (λ n. inr (inr n)) (in_replaced new rest f later)) m
   where
-    by : (b : Bool) → f ≡ cond b new first → (f ≡ new) ⊎ Among f (first ∷ rest)
-    by true e = inl e
-    by false e = inr (inl e)
+    by : (b : Bool) → nat_eq new.number first.number ≡ b → f ≡ cond b new first
+        → ((f ≡ new) × Has (first ∷ rest) f.number) ⊎ Among f (first ∷ rest)
+    by true same e =
+        inl (
+          e,
+          (
+            first,
+            inl refl,
+            sym (eqb-true new.number first.number same)
+                ∙ ap (λ (g : Filesystem ℕ). g.number) (sym e),
+          ),
+        )
+    by false same e = inr (inl e)
+
+-- a number that is there is there before one is in the place of another
+has_before : (new : Filesystem ℕ) (list : List (Filesystem ℕ)) (number : ℕ)
+    → Has (map (replaced_if_numbered nat_eq new) list) number → Has list number
+has_before new list number (was, m, e) =
+    let from = among-from_map (replaced_if_numbered nat_eq new) list was m in (
+      from.0,
+      from.1,
+      by from.0 (nat_eq new.number from.0.number) refl ∙ ap (λ (g : Filesystem ℕ). g.number) (sym from.2)
+          ∙ e,
+    )
+  where
+    by : (old : Filesystem ℕ) (b : Bool) → nat_eq new.number old.number ≡ b → old.number ≡ (cond b new old).number
+    by old true same = sym (eqb-true new.number old.number same)
+    by old false same = refl
 
 module _ (world middle : World ℕ) (same : middle.filesystems ≡ world.filesystems) (new : ℕ) where
   -- one that is like a filesystem of the world but for its files
-  like : (n : ℕ) (changed : List ℕ) (f : Filesystem ℕ)
+  like : (n : ℕ) (changed : List ℕ) (f : Filesystem ℕ) → Has middle.filesystems f.number
       → f.number ≡ (filesystem_numbered nat_eq middle n).number
       → f.change ≡ (filesystem_numbered nat_eq middle n).change
       → list_any (λ number. nat_eq number (filesystem_numbered nat_eq middle n).number) changed ≡ true
       → GoesOn world changed new f
-  like n changed f number change raised =
+  like n changed f has number change raised =
       Changed (ap (λ k. list_any (λ other. nat_eq other k) changed) number ∙ raised)
+      (subst (λ list. Has list f.number) same has)
       (change
       ∙ ap (λ (g : Filesystem ℕ). g.change)
       (sym (ap (filesystem_numbered nat_eq middle) (number ∙ number_of_filesystem middle n))
@@ -77,11 +108,12 @@ module _ (world middle : World ℕ) (same : middle.filesystems ≡ world.filesys
           let changed : List ℕ = (filesystem_at nat_eq middle location).number
           ∷ (filesystem_numbered nat_eq middle upper.filesystem).number ∷ [] in
           ⊎_elim
-          (λ e. like upper.filesystem changed f (ap (λ (g : Filesystem ℕ). g.number) e)
-          (ap (λ (g : Filesystem ℕ). g.change) e)
+          (λ r. like upper.filesystem changed f (has_before _ middle.filesystems f.number r.1)
+          (ap (λ (g : Filesystem ℕ). g.number) r.0) (ap (λ (g : Filesystem ℕ). g.change) r.0)
           (second _ _ (nat_eq_itself (filesystem_numbered nat_eq middle upper.filesystem).number)))
           (λ rest. ⊎_elim
-          (λ e. like here changed f (ap (λ (g : Filesystem ℕ). g.number) e) (ap (λ (g : Filesystem ℕ). g.change) e)
+          (λ r. like here changed f r.1 (ap (λ (g : Filesystem ℕ). g.number) r.0)
+          (ap (λ (g : Filesystem ℕ). g.change) r.0)
           (first _ _ (nat_eq_itself (filesystem_at nat_eq middle location).number)))
           (λ l. old changed l) (in_replaced _ middle.filesystems f rest))
           (in_replaced _ _ f n)
@@ -98,8 +130,8 @@ module _ (world middle : World ℕ) (same : middle.filesystems ≡ world.filesys
           → GoesOn world (numbers_of_change nat_eq middle (filesystem_at nat_eq middle location) o) new f
       by None n =
           ⊎_elim
-          (λ e. like here ((filesystem_at nat_eq middle location).number ∷ []) f
-          (ap (λ (g : Filesystem ℕ). g.number) e) (ap (λ (g : Filesystem ℕ). g.change) e)
+          (λ r. like here ((filesystem_at nat_eq middle location).number ∷ []) f r.1
+          (ap (λ (g : Filesystem ℕ). g.number) r.0) (ap (λ (g : Filesystem ℕ). g.change) r.0)
           (ap (λ b. b || false) (nat_eq_itself (filesystem_at nat_eq middle location).number)))
           (λ l. old _ l) (in_replaced _ middle.filesystems f n)
       by (Some overlay) n = over overlay overlay.upper n

@@ -1,5 +1,5 @@
 -- A filesystem whose change number is what it was is what it was, but for what nothing uses.
-use Rattle.std.proofs.Common.{◌≡◌, ◌≢◌, refl, sym, ap, subst, ◌∙◌, inl, ℕ, nat_eq, Bool, true, false, true≢false, cond, List, [], ◌∷◌, ◌*◌, Option, Some, None, find, map, eqb-true, eq-eqb}
+use Rattle.std.proofs.Common.{◌≡◌, ◌≢◌, refl, sym, ap, subst, ◌∙◌, inl, ℕ, nat_eq, Bool, true, false, true≢false, cond, List, ◌*◌, Option, Some, None, find, eqb-true, eq-eqb}
 use Rattle.std.specs.Prelude.{option_map, unwrap_or}
 use Rattle.std.specs.List.{list_any}
 use Rattle.vt_spec.specs.Lists.{Fresh}
@@ -22,28 +22,11 @@ use Rattle.vt_laws_turn_frames.proofs.frames.PolicyLeaves.{policy_leaves}
 use Rattle.vt_laws_turn_frames.proofs.frames.SameMounts.{rises}
 use Rattle.vt_laws_turn_frames.proofs.frames.SweptFilesystems.{Stays, kept_on, same_kept, swept_stays}
 use Rattle.vt_laws_turn_frames.proofs.frames.Unraised.{not_stale}
+use Rattle.vt_laws_turn_frames.proofs.Found.{found_map}
 
 -- the change number of a filesystem that was found, or of none
-abbrev change_in : Option (Filesystem ℕ) → ℕ
+abbrev pub change_in : Option (Filesystem ℕ) → ℕ
 change_in found = unwrap_or (option_map (λ (f : Filesystem ℕ). f.change) found) last_number
-
-found_map : (g : Filesystem ℕ → Filesystem ℕ) (number : ℕ) (list : List (Filesystem ℕ))
-    → ((f : Filesystem ℕ) → (g f).number ≡ f.number)
-    → find (λ (f : Filesystem ℕ). nat_eq number f.number) (map g list)
-    ≡ option_map g (find (λ (f : Filesystem ℕ). nat_eq number f.number) list)
-found_map g number [] same = refl
-found_map g number (first ∷ rest) same =
-    ap (λ k. cond (nat_eq number k) (Some (g first)) (find (λ (f : Filesystem ℕ). nat_eq number f.number) (map g rest)))
-    (same first)
-    ∙ by (nat_eq number first.number) (found_map g number rest same)
-  where
-    by : (b : Bool)
-        → find (λ (f : Filesystem ℕ). nat_eq number f.number) (map g rest)
-        ≡ option_map g (find (λ (f : Filesystem ℕ). nat_eq number f.number) rest)
-        → cond b (Some (g first)) (find (λ (f : Filesystem ℕ). nat_eq number f.number) (map g rest))
-        ≡ option_map g (cond b (Some first) (find (λ (f : Filesystem ℕ). nat_eq number f.number) rest))
-    by true h = refl
-    by false h = h
 
 module _ (world : World ℕ) (fresh : Fresh ℕ) (given : IsCallIn world fresh) (number : ℕ) (name : TaskName)
     (task : Task ℕ) (permit : Permit ℕ) where
@@ -100,7 +83,7 @@ module _ (world : World ℕ) (fresh : Fresh ℕ) (given : IsCallIn world fresh) 
     numbered = ap (λ o. unwrap_or o (no_filesystem number)) was.1
 
     now_is : found_in later.filesystems ≡ option_map raise (found_in (settled nat_eq applied).filesystems)
-    now_is = found_map raise number (settled nat_eq applied).filesystems raise_number
+    now_is = found_map (λ (f : Filesystem ℕ). f.number) raise number (settled nat_eq applied).filesystems raise_number
 
     -- what is left of it
     module _ (left : Filesystem ℕ) (found : found_in (settled nat_eq applied).filesystems ≡ Some left) where
@@ -137,7 +120,7 @@ module _ (world : World ℕ) (fresh : Fresh ℕ) (given : IsCallIn world fresh) 
           goal_by (sym (sym (ap (filesystem_numbered nat_eq world) number_is)
           ∙ found_by (λ (f : Filesystem ℕ). f.number) (no_filesystem before.number) world.filesystems
           given.is.files.one_filesystem before m))
-      keeps (Changed raises same) =
+      keeps (Changed raises was_in same) =
           absurd (rises left.change (λ most. held_below (sym left_is ∙ most))
           (sym raised_now ∙ sym change_now ∙ sym same_now.0 ∙ sym left_is))
         where

@@ -1,7 +1,5 @@
 -- The namespaces after a permit are those before it, or new.
-use Rattle.std.proofs.Common.{◌≡◌, refl, sym, ap, subst, ◌∙◌, ◌⊎◌, inl, inr, ⊎_elim, ℕ, nat_eq, Bool, true, false, true≢false, cond, List, [], ◌∷◌, ◌*◌, Option, Some, None, filter, find, flat_map, map, eq-eqb, eqb-true}
-use Rattle.std.specs.List.{list_any}
-use Rattle.std.proofs.lemmas.Bool.{or_parts}
+use Rattle.std.proofs.Common.{◌≡◌, refl, ap, subst, ◌∙◌, ◌⊎◌, inl, inr, ⊎_elim, ℕ, nat_eq, Bool, true, false, List, [], ◌∷◌, ◌*◌, Option, Some, None, filter, find, flat_map, map}
 use Rattle.vt_spec.specs.Language.Changes.Change.{Make, Move, Remove}
 use Rattle.vt_spec.specs.Lists.{Fresh, any_pair, evens, odds}
 use Rattle.vt_spec.specs.Machine.Apply.{apply}
@@ -17,39 +15,14 @@ use Rattle.vt_laws_mounts.proofs.mounts.MountsRetyped.{types_are_of_mounts}
 use Rattle.vt_laws_mounts.proofs.ends.Unmounting.{all_but_mounts, unmount_is_of_mounts}
 use Rattle.vt_laws_mounts.proofs.ends.UnmountingEnds.{lazy_is_of_mounts}
 use Rattle.vt_laws_worlds.proofs.kept.MountsAlike.{change_of_files, copy_of_files, writing_of_files}
+use Rattle.vt_laws_turn_frames.proofs.Found.{found_one}
 
 -- a namespace that is among those whose numbers are apart is found by its number
 pub namespace_found : (list : List (Namespace ℕ))
     → any_pair (λ (a b : Namespace ℕ). nat_eq a.number b.number) list ≡ false → (namespace : Namespace ℕ)
     → Among namespace list → (number : ℕ) → nat_eq number namespace.number ≡ true
     → find (λ (n : Namespace ℕ). nat_eq number n.number) list ≡ Some namespace
-namespace_found [] apart namespace m number e = absurd m
-namespace_found (first ∷ rest) apart namespace m number e =
-    let parts = or_parts (list_any (λ (b : Namespace ℕ). nat_eq first.number b.number) rest)
-    (any_pair (λ (a b : Namespace ℕ). nat_eq a.number b.number) rest) apart in
-    ⊎_elim
-    (λ same. ap (λ b. cond b (Some first) (find (λ (n : Namespace ℕ). nat_eq number n.number) rest))
-    (ap (λ (n : Namespace ℕ). nat_eq number n.number) (sym same) ∙ e) ∙ ap Some (sym same))
-    (λ later. by (nat_eq number first.number) refl parts.0 later (namespace_found rest parts.1 namespace later number e))
-    m
-  where
-    clash : (xs : List (Namespace ℕ)) → list_any (λ (b : Namespace ℕ). nat_eq first.number b.number) xs ≡ false
-        → Among namespace xs → nat_eq first.number namespace.number ≡ false
-    clash [] none n = absurd n
-    clash (x ∷ xs) none n =
-        let parts = or_parts (nat_eq first.number x.number)
-        (list_any (λ (b : Namespace ℕ). nat_eq first.number b.number) xs) none in
-        ⊎_elim (λ same. ap (λ (y : Namespace ℕ). nat_eq first.number y.number) same ∙ parts.0)
-        (λ l. clash xs parts.1 l) n
-
-    by : (b : Bool) → nat_eq number first.number ≡ b
-        → list_any (λ (x : Namespace ℕ). nat_eq first.number x.number) rest ≡ false → Among namespace rest
-        → find (λ (n : Namespace ℕ). nat_eq number n.number) rest ≡ Some namespace
-        → cond b (Some first) (find (λ (n : Namespace ℕ). nat_eq number n.number) rest) ≡ Some namespace
-    by true f none n found =
-        absurd (true≢false (sym (eq-eqb first.number namespace.number
-        (sym (eqb-true number first.number f) ∙ eqb-true number namespace.number e)) ∙ clash rest none n))
-    by false f none n found = found
+namespace_found = found_one (λ (n : Namespace ℕ). n.number)
 
 module _ (world : World ℕ) (fresh : Fresh ℕ) (task : Task ℕ) where
   abbrev after : Permit ℕ → World ℕ

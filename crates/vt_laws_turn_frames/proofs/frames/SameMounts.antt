@@ -29,9 +29,12 @@ flags_same a b e =
     let last = and_parts (same_bool a.read_only b.read_only && same_bool a.noexec b.noexec)
     (same_bool a.nosymfollow b.nosymfollow) e in
     let both = and_parts (same_bool a.read_only b.read_only) (same_bool a.noexec b.noexec) last.0 in
-    ap (λ f. record { read_only = f; noexec = a.noexec; nosymfollow = a.nosymfollow }) (same_truths a.read_only b.read_only both.0)
-    ∙ ap (λ f. record { read_only = b.read_only; noexec = f; nosymfollow = a.nosymfollow }) (same_truths a.noexec b.noexec both.1)
-    ∙ ap (λ f. record { read_only = b.read_only; noexec = b.noexec; nosymfollow = f }) (same_truths a.nosymfollow b.nosymfollow last.1)
+    ap (λ f. record { read_only = f; noexec = a.noexec; nosymfollow = a.nosymfollow })
+    (same_truths a.read_only b.read_only both.0)
+    ∙ ap (λ f. record { read_only = b.read_only; noexec = f; nosymfollow = a.nosymfollow })
+    (same_truths a.noexec b.noexec both.1)
+    ∙ ap (λ f. record { read_only = b.read_only; noexec = b.noexec; nosymfollow = f })
+    (same_truths a.nosymfollow b.nosymfollow last.1)
 
 points_same : (a b : Option (Location ℕ)) → same_option (same_location nat_eq) a b ≡ true → a ≡ b
 points_same None None e = refl

@@ -1,5 +1,5 @@
 -- A namespace whose change number is what it was has the mounts that it had.
-use Rattle.std.proofs.Common.{◌≡◌, ◌≢◌, refl, sym, ap, subst, ◌∙◌, ◌⊎◌, inl, inr, ⊎_elim, ℕ, nat_eq, Bool, true, false, true≢false, cond, not, List, [], ◌∷◌, ◌*◌, Option, Some, None, Ok, find, map, eqb-true, eq-eqb}
+use Rattle.std.proofs.Common.{◌≡◌, ◌≢◌, refl, sym, ap, subst, ◌∙◌, ◌⊎◌, inl, inr, ⊎_elim, ℕ, nat_eq, Bool, true, false, true≢false, cond, not, List, ◌*◌, Option, Some, None, Ok, find, map, eqb-true, eq-eqb}
 use Rattle.std.specs.Prelude.{option_map, unwrap_or, ◌==◌}
 use Rattle.std.proofs.lemmas.Bool.{or_parts}
 use Rattle.vt_spec.specs.Language.Calls.{Call, TaskName}
@@ -23,6 +23,7 @@ use Rattle.vt_laws_turn_frames.specs.Unraised.{IsCallIn, IsNamespaceUnraised, Un
 use Rattle.vt_laws_turn_frames.proofs.frames.NamespacesGoOn.{namespace_found, namespaces_go_on}
 use Rattle.vt_laws_turn_frames.proofs.frames.SameMounts.{lists_same, rises}
 use Rattle.vt_laws_turn_frames.proofs.frames.ShownAlike.{swept_show_alike}
+use Rattle.vt_laws_turn_frames.proofs.Found.{found_map}
 
 -- numbers that are not stale are the same, and not the largest
 pub not_stale : (held now : ℕ) → is_stale held now ≡ false → (held ≡ now) × (now ≢ last_number)
@@ -39,25 +40,6 @@ not_stale held now e =
 -- the change number of a namespace that was found, or of none
 abbrev pub change_in : Option (Namespace ℕ) → ℕ
 change_in found = unwrap_or (option_map (λ (n : Namespace ℕ). n.change) found) last_number
-
--- what is found among changed namespaces is what is found, changed
-pub found_map : (f : Namespace ℕ → Namespace ℕ) (number : ℕ) (list : List (Namespace ℕ))
-    → ((n : Namespace ℕ) → (f n).number ≡ n.number)
-    → find (λ (n : Namespace ℕ). nat_eq number n.number) (map f list)
-    ≡ option_map f (find (λ (n : Namespace ℕ). nat_eq number n.number) list)
-found_map f number [] same = refl
-found_map f number (first ∷ rest) same =
-    ap (λ k. cond (nat_eq number k) (Some (f first)) (find (λ (n : Namespace ℕ). nat_eq number n.number) (map f rest)))
-    (same first)
-    ∙ by (nat_eq number first.number) (found_map f number rest same)
-  where
-    by : (b : Bool)
-        → find (λ (n : Namespace ℕ). nat_eq number n.number) (map f rest)
-        ≡ option_map f (find (λ (n : Namespace ℕ). nat_eq number n.number) rest)
-        → cond b (Some (f first)) (find (λ (n : Namespace ℕ). nat_eq number n.number) (map f rest))
-        ≡ option_map f (cond b (Some first) (find (λ (n : Namespace ℕ). nat_eq number n.number) rest))
-    by true h = refl
-    by false h = h
 
 module _ (world : World ℕ) (fresh : Fresh ℕ) (given : IsCallIn world fresh) (number : ℕ) where
   abbrev found_in : List (Namespace ℕ) → Option (Namespace ℕ)
@@ -126,7 +108,7 @@ module _ (world : World ℕ) (fresh : Fresh ℕ) (given : IsCallIn world fresh) 
         same_now = not_stale held (namespace_change_of nat_eq later number) unraised
 
         now_is : namespace_change_of nat_eq later number ≡ change_in (option_map raise (found_in applied.namespaces))
-        now_is = ap change_in (found_map raise number applied.namespaces raise_number)
+        now_is = ap change_in (found_map (λ (n : Namespace ℕ). n.number) raise number applied.namespaces raise_number)
 
         kept : (n : Namespace ℕ) → nat_eq number n.number ≡ true
             → (change_in (found_in world.namespaces) ≡ n.change)

@@ -18,7 +18,8 @@ use Rattle.vt_laws_turn_frames.specs.Unraised.{IsCallIn, IsNamespaceUnraised}
 use Rattle.vt_laws_turn_frames.proofs.frames.NamespacesGoOn.{namespace_found, namespaces_go_on}
 use Rattle.vt_laws_turn_frames.proofs.frames.PivotsRaise.{other_tasks_of_unraised_namespaces_stay}
 use Rattle.vt_laws_turn_frames.proofs.frames.PolicyLeaves.{policy_leaves}
-use Rattle.vt_laws_turn_frames.proofs.frames.Unraised.{change_in, found_map, not_stale, unraised_namespaces_keep_mounts}
+use Rattle.vt_laws_turn_frames.proofs.frames.Unraised.{change_in, not_stale, unraised_namespaces_keep_mounts}
+use Rattle.vt_laws_turn_frames.proofs.Found.{found_map}
 
 -- what a change number is after one call
 abbrev pub Rises : ℕ → ℕ → Type 0
@@ -103,9 +104,10 @@ module _ (world : World ℕ) (fresh : Fresh ℕ) (given : IsCallIn world fresh) 
   raised_or_same n was now e false f = inr (inl (f ∙ ap raised (sym e)))
 
   now_is : namespace_change_of nat_eq later number ≡ change_in (option_map raise (found_in applied.namespaces))
-  now_is = ap change_in (found_map raise number applied.namespaces raise_number)
+  now_is = ap change_in (found_map (λ (n : Namespace ℕ). n.number) raise number applied.namespaces raise_number)
 
-  was_there : (n : Namespace ℕ) → found_in applied.namespaces ≡ Some n → namespace_change_of nat_eq world number ≡ n.change
+  was_there : (n : Namespace ℕ) → found_in applied.namespaces ≡ Some n
+      → namespace_change_of nat_eq world number ≡ n.change
   was_there n e =
       let at : nat_eq number n.number ≡ true =
       found_passes (λ (m : Namespace ℕ). nat_eq number m.number) applied.namespaces n e in
@@ -137,44 +139,52 @@ namespace_rises world fresh name call number given other =
     (λ task permit granted. granted_rises world fresh given number other name task permit)
 
 -- Several calls
-module _ (number : ℕ) where
-  given_in : (world : World ℕ) (one : CallBetween) → IsWorld nat_eq world → IsBeside number world one
-      → IsCallIn world one.fresh
-  given_in world one is beside = record { is = is; serves = beside.serves }
+pub given_in : (number : ℕ) (world : World ℕ) (one : CallBetween) → IsWorld nat_eq world → IsBeside number world one
+    → IsCallIn world one.fresh
+given_in number world one is beside = record { is = is; serves = beside.serves }
 
-  next_is : (world : World ℕ) (one : CallBetween) → IsWorld nat_eq world → IsBeside number world one
-      → IsWorld nat_eq (after_call world one)
-  next_is world one is beside =
-      every_call_keeps_worlds world one.fresh one.name one.call is beside.serves beside.few_groups
+pub next_is : (number : ℕ) (world : World ℕ) (one : CallBetween) → IsWorld nat_eq world → IsBeside number world one
+    → IsWorld nat_eq (after_call world one)
+next_is number world one is beside =
+    every_call_keeps_worlds world one.fresh one.name one.call is beside.serves beside.few_groups
 
-  step : (world : World ℕ) (one : CallBetween) → IsWorld nat_eq world → IsBeside number world one
-      → Rises (namespace_change_of nat_eq world number) (namespace_change_of nat_eq (after_call world one) number)
-  step world one is beside =
-      namespace_rises world one.fresh one.name one.call number (given_in world one is beside) (beside.not_held (2 * 0))
-
+-- of a change number that each of them leaves, raises, or takes away for good
+module _ (number : ℕ) (change_of : World ℕ → ℕ)
+    (step : (world : World ℕ) (one : CallBetween) → IsWorld nat_eq world → IsBeside number world one
+    → Rises (change_of world) (change_of (after_call world one))) where
   all_rise : (calls : List CallBetween) (world : World ℕ) → IsWorld nat_eq world → AreBeside number world calls
-      → RisesOn (namespace_change_of nat_eq world number) (namespace_change_of nat_eq (after_calls world calls) number)
-  all_rise [] world is beside = rises_none (namespace_change_of nat_eq world number)
+      → RisesOn (change_of world) (change_of (after_calls world calls))
+  all_rise [] world is beside = rises_none (change_of world)
   all_rise (one ∷ rest) world is beside =
-      rises_first (namespace_change_of nat_eq world number) (namespace_change_of nat_eq (after_call world one) number)
-      (namespace_change_of nat_eq (after_calls world (one ∷ rest)) number) (step world one is beside.0)
-      (all_rise rest (after_call world one) (next_is world one is beside.0) beside.1)
+      rises_first (change_of world) (change_of (after_call world one)) (change_of (after_calls world (one ∷ rest)))
+      (step world one is beside.0)
+      (all_rise rest (after_call world one) (next_is number world one is beside.0) beside.1)
 
-  first_unraised : (world : World ℕ) (one : CallBetween) (rest : List CallBetween) → IsWorld nat_eq world
-      → AreBeside number world (one ∷ rest) → IsNamespaceUnraised world (after_calls world (one ∷ rest)) number
-      → IsNamespaceUnraised world (after_call world one) number
-      × IsNamespaceUnraised (after_call world one) (after_calls world (one ∷ rest)) number
+  pub first_unraised : (world : World ℕ) (one : CallBetween) (rest : List CallBetween) → IsWorld nat_eq world
+      → AreBeside number world (one ∷ rest)
+      → is_stale (change_of world) (change_of (after_calls world (one ∷ rest))) ≡ false
+      → (is_stale (change_of world) (change_of (after_call world one)) ≡ false)
+      × (is_stale (change_of (after_call world one)) (change_of (after_calls world (one ∷ rest))) ≡ false)
   first_unraised world one rest is beside unraised =
-      between (namespace_change_of nat_eq world number) (namespace_change_of nat_eq (after_call world one) number)
-      (namespace_change_of nat_eq (after_calls world (one ∷ rest)) number) (step world one is beside.0)
-      (all_rise rest (after_call world one) (next_is world one is beside.0) beside.1) unraised
+      between (change_of world) (change_of (after_call world one)) (change_of (after_calls world (one ∷ rest)))
+      (step world one is beside.0)
+      (all_rise rest (after_call world one) (next_is number world one is beside.0) beside.1) unraised
+
+abbrev namespace_change : ℕ → World ℕ → ℕ
+namespace_change number world = namespace_change_of nat_eq world number
+
+namespace_step : (number : ℕ) (world : World ℕ) (one : CallBetween) → IsWorld nat_eq world
+    → IsBeside number world one → Rises (namespace_change number world) (namespace_change number (after_call world one))
+namespace_step number world one is beside =
+    namespace_rises world one.fresh one.name one.call number (given_in number world one is beside)
+    (beside.not_held (2 * 0))
 
 mounts_stay : (calls : List CallBetween) (world : World ℕ) (number : ℕ) → IsWorld nat_eq world
     → AreBeside number world calls → IsNamespaceUnraised world (after_calls world calls) number
     → mounts_of nat_eq (after_calls world calls) number ≡ mounts_of nat_eq world number
 mounts_stay [] world number is beside unraised = refl
 mounts_stay (one ∷ rest) world number is beside unraised =
-    let parts = first_unraised number world one rest is beside unraised in
+    let parts = first_unraised number (namespace_change number) (namespace_step number) world one rest is beside unraised in
     mounts_stay rest (after_call world one) number (next_is number world one is beside.0) beside.1 parts.1
     ∙ unraised_namespaces_keep_mounts world one.fresh one.name one.call number
     (given_in number world one is beside.0) parts.0
@@ -188,7 +198,8 @@ tasks_stay : (calls : List CallBetween) (world : World ℕ) (other : TaskName) (
     → task_called (after_calls world calls) other ≡ Some task
 tasks_stay [] world other task is beside others called unraised = called
 tasks_stay (one ∷ rest) world other task is beside others called unraised =
-    let parts = first_unraised task.namespace world one rest is beside unraised in
+    let parts = first_unraised task.namespace (namespace_change task.namespace) (namespace_step task.namespace)
+    world one rest is beside unraised in
     tasks_stay rest (after_call world one) other task (next_is task.namespace world one is beside.0) beside.1 others.1
     (other_tasks_of_unraised_namespaces_stay world one.fresh one.name one.call other task
     (given_in task.namespace world one is beside.0) others.0 called parts.0)

@@ -1,0 +1,350 @@
+-- Whether an attachment at a mount of theirs leaves a namespace with too many mounts is the same in the part (M9).
+use Rattle.std.proofs.Common.{◌≡◌, refl, sym, ap, subst, ◌∙◌, ⊎_elim, ℕ, nat_eq, nat_lt, Bool, true, false, true≢false, not, List, [], ◌∷◌, ◌++◌, Option, Some, None, filter, find, is_some, length, ◌&&◌, ◌+◌, ◌*◌, ◌≤◌, arith, eqb-true}
+use Rattle.std.specs.Option.{option_or}
+use Rattle.std.specs.Prelude.{unwrap_or}
+use Rattle.std.proofs.lemmas.List.Folds.{find-append}
+use Rattle.std.specs.List.{list_any}
+use Rattle.std.proofs.lemmas.Bool.{and_parts, false_from_ne_true}
+use Rattle.vt_spec.specs.FileTree.{is_directory_under}
+use Rattle.vt_spec.specs.Language.Calls.{MountFlags, TaskName}
+use Rattle.vt_spec.specs.Language.Limits.{most_mounts}
+use Rattle.vt_spec.specs.Lists.{Fresh, evens, holds_of, is_among, odds}
+use Rattle.vt_spec.specs.Machine.Apply.{overfills}
+use Rattle.vt_spec.specs.Machine.Attach.{Copies, attach, attached_by, bind_tree, copies_from, has_too_many, parts_of, receivers_of, takes_part}
+use Rattle.vt_spec.specs.Machine.Invariants.{IsWorld, has_its_root}
+use Rattle.vt_spec.specs.Machine.Mounts.{Location, Mount, mount_tree}
+use Rattle.vt_spec.specs.Machine.NewMounts.{new_mount, overlay_filesystem, plain_filesystem, with_new_filesystem}
+use Rattle.vt_spec.specs.Machine.Permits.Permit.{ToBind, ToMountOverlay, ToMountPlain, ToMove}
+use Rattle.vt_spec.specs.Machine.Sealed.{is_own_namespace, members, part_of, sealed, used_filesystems}
+use Rattle.vt_spec.specs.Machine.World.{Filesystem, Namespace, Overlay, Task, World, filesystem_numbered, mount_at, mount_numbered, no_filesystem}
+use Rattle.vt_spec.specs.Tree.{is_directory_node}
+use Rattle.vt_spec.proofs.Found.{filter_alike}
+use Rattle.vt_spec.proofs.Lists.{Among, among-filter_map, among-from_filter, among_from_list_all}
+use Rattle.vt_spec.proofs.Worlds.{number-mount_in, tree_among}
+use Rattle.vt_laws_mounts.specs.Mounts.Ending.{count_in, is_in}
+use Rattle.vt_laws_mounts.proofs.Counting.{added_counted, moved_all}
+use Rattle.vt_laws_mounts.proofs.mounts.Standing.{trees_have_each_once}
+use Rattle.vt_laws_worlds.proofs.worlds.FewMounts.{few_of, none_counted, not_too_many}
+use Rattle.vt_laws_part.proofs.Kept.{filter_kept}
+use Rattle.vt_laws_part.proofs.part.PartOfPart.{found, is_own, keep, kept_how}
+use Rattle.vt_laws_members.proofs.judging.Busy.{receivers_alike, receivers_own}
+use Rattle.vt_laws_members.proofs.judging.Grounds.{IsTheirs, numbered, same_mount}
+use Rattle.vt_laws_members.proofs.judging.JudgedOverlays.{any_same}
+use Rattle.vt_laws_members.proofs.judging.MountTrees.{bind_alike, own_theirs, own_whole, part_one_number, part_stands, tree_alike}
+use Rattle.vt_laws_members.proofs.judging.ParentsSeen.{any_filter}
+use Rattle.vt_laws_members.proofs.judging.SeenInPart.{theirs_used}
+
+no_rows : (n : ℕ) → 0 * n ≡ 0
+no_rows n = omega arith
+
+-- a filesystem that has a directory is found before what is added
+found_before : (world : World ℕ) (added : Filesystem ℕ) (number directory : ℕ)
+    → is_directory_node ((filesystem_numbered nat_eq world number).files.tree.node directory) ≡ true
+    → filesystem_numbered nat_eq (with_new_filesystem world added) number ≡ filesystem_numbered nat_eq world number
+found_before world added number directory shows =
+    by (find (λ (f : Filesystem ℕ). nat_eq number f.number) world.filesystems) refl
+  where
+    by : (o : Option (Filesystem ℕ)) → find (λ (f : Filesystem ℕ). nat_eq number f.number) world.filesystems ≡ o
+        → unwrap_or (find (λ (f : Filesystem ℕ). nat_eq number f.number) (world.filesystems ++ added ∷ [])) (no_filesystem number)
+        ≡ unwrap_or (find (λ (f : Filesystem ℕ). nat_eq number f.number) world.filesystems) (no_filesystem number)
+    by None e =
+        absurd (true≢false (sym shows
+        ∙ ap (λ o. is_directory_node ((unwrap_or o (no_filesystem number)).files.tree.node directory)) e))
+    by (Some filesystem) e =
+        ap (λ o. unwrap_or o (no_filesystem number))
+        (find-append (λ (f : Filesystem ℕ). nat_eq number f.number) world.filesystems (added ∷ [])
+        ∙ ap (λ o. option_or o (find (λ (f : Filesystem ℕ). nat_eq number f.number) (added ∷ []))) e ∙ sym e)
+
+module _ (world : World ℕ) (names : List TaskName) (is : IsWorld nat_eq world)
+    (sealed_off : sealed nat_eq world names ≡ true) where
+  abbrev theirs : List (Task ℕ)
+  theirs = members world names
+
+  abbrev part : World ℕ
+  part = part_of nat_eq world names
+
+  abbrev owns : Mount ℕ → Bool
+  owns = is_own world names theirs
+
+  abbrev own_one : ℕ → Bool
+  own_one namespace = is_own_namespace nat_eq world names namespace
+
+  abbrev On : ℕ → Type 0
+  On = IsTheirs world names is.mounts
+
+  -- Namespaces of theirs have the same mounts
+
+  inside_own : (namespace : ℕ) → own_one namespace ≡ true → (mount : Mount ℕ) → is_in namespace mount ≡ true
+      → owns mount ≡ true
+  inside_own namespace own mount h = by mount.namespace h
+    where
+      by : (o : Option ℕ) → holds_of (nat_eq namespace) o ≡ true → holds_of own_one o ≡ true
+      by None h = h
+      by (Some n) h = ap own_one (sym (eqb-true namespace n h)) ∙ own
+
+  own_inside : (namespace : ℕ) → own_one namespace ≡ false → (mount : Mount ℕ) → owns mount ≡ true
+      → is_in namespace mount ≡ false
+  own_inside namespace other mount own =
+      false_from_ne_true (is_in namespace mount) (λ h. by mount.namespace h own)
+    where
+      by : (o : Option ℕ) → holds_of (nat_eq namespace) o ≡ true → holds_of own_one o ≡ true → ⊥
+      by None h own = true≢false (sym h)
+      by (Some n) h own = true≢false (sym own ∙ ap own_one (sym (eqb-true namespace n h)) ∙ other)
+
+  count_alike : (namespace : ℕ) → own_one namespace ≡ true → count_in part.mounts namespace ≡ count_in world.mounts namespace
+  count_alike namespace own =
+      ap length (filter_kept (keep world names theirs) (is_in namespace)
+      (λ x e. own_whole world names is x (inside_own namespace own x e))
+      (λ x y e f. ⊎_elim (λ same. ap (is_in namespace) (sym same) ∙ f) (λ stub. ap (is_in namespace) (sym stub.0))
+      (kept_how world names theirs x y e)) world.mounts)
+
+  -- Worlds that are left by what is attached
+  too_many_alike : (one other : World ℕ) → one.namespaces ≡ world.namespaces → other.namespaces ≡ part.namespaces
+      → ((namespace : ℕ) → own_one namespace ≡ true → count_in one.mounts namespace ≡ count_in other.mounts namespace)
+      → ((namespace : ℕ) → own_one namespace ≡ false → count_in one.mounts namespace ≤ count_in world.mounts namespace)
+      → has_too_many nat_eq one ≡ has_too_many nat_eq other
+  too_many_alike one other listed listed_too same less =
+      ap (list_any full) listed
+      ∙ sym (any_filter full (λ (n : Namespace ℕ). own_one n.number) world.namespaces (λ n m outside.
+      not_too_many (count_in one.mounts n.number) (count_in world.mounts n.number) (less n.number outside)
+      (few_of world is.namespaces.few_mounts n m)))
+      ∙ any_same full full_too part.namespaces (λ n m.
+      ap (nat_lt most_mounts)
+      (same n.number (among-from_filter (λ (k : Namespace ℕ). own_one k.number) world.namespaces n m).1))
+      ∙ sym (ap (list_any full_too) listed_too)
+    where
+      full : Namespace ℕ → Bool
+      full n = nat_lt most_mounts (count_in one.mounts n.number)
+
+      full_too : Namespace ℕ → Bool
+      full_too n = nat_lt most_mounts (count_in other.mounts n.number)
+
+  -- A destination on a mount of theirs
+  module _ (place : Location ℕ) (there : Among (mount_at nat_eq world place) world.mounts)
+      (own : owns (mount_at nat_eq world place) ≡ true) where
+    abbrev destination : Mount ℕ
+    destination = mount_at nat_eq world place
+
+    on : On place.mount
+    on = subst On (number-mount_in world.mounts place.mount) (own_theirs world names is destination there own)
+
+    same_destination : mount_at nat_eq part place ≡ destination
+    same_destination = same_mount world names is.mounts place.mount on
+
+    reached_alike : (mount : Mount ℕ) → Among mount world.mounts → owns mount ≡ true
+        → filesystem_numbered nat_eq part mount.filesystem ≡ filesystem_numbered nat_eq world mount.filesystem
+    reached_alike mount m its =
+        found world names mount.filesystem
+        (ap (λ (x : Mount ℕ). is_among nat_eq x.filesystem (used_filesystems nat_eq world names))
+        (sym (numbered world names is.mounts mount m))
+        ∙ theirs_used world names is (record { mount = mount.number; node = mount.root })
+        (own_theirs world names is mount m its))
+
+    abbrev takes : World ℕ → Location ℕ → Mount ℕ → Mount ℕ → Bool
+    takes w at to mount =
+        not (nat_eq at.mount mount.number) && is_some mount.namespace && nat_eq to.filesystem mount.filesystem
+        && is_directory_under nat_eq (filesystem_numbered nat_eq w mount.filesystem).files mount.root at.node
+
+    parts_alike : parts_of nat_eq part place ≡ parts_of nat_eq world place
+    parts_alike =
+        ap (λ to. to ∷ filter (takes part place to) (receivers_of nat_eq part to)) same_destination
+        ∙ ap (λ list. destination ∷ filter (takes part place destination) list)
+        (receivers_alike world names is sealed_off destination there own)
+        ∙ ap (λ list. destination ∷ list)
+        (filter_alike (takes part place destination) (takes world place destination)
+        (receivers_of nat_eq world destination) (λ mount m.
+        let its = receivers_own world names is sealed_off destination mount there own m in
+        ap (λ (f : Filesystem ℕ). not (nat_eq place.mount mount.number) && is_some mount.namespace
+        && nat_eq destination.filesystem mount.filesystem && is_directory_under nat_eq f.files mount.root place.node)
+        (reached_alike mount its.0 its.1)))
+
+    parts_own : (mount : Mount ℕ) → Among mount (parts_of nat_eq world place)
+        → Among mount world.mounts × (owns mount ≡ true)
+    parts_own mount m =
+        ⊎_elim
+        (λ same. (subst (λ x. Among x world.mounts) (sym same) there, ap owns same ∙ own))
+        (λ receiver. receivers_own world names is sealed_off destination mount there own
+        (among-from_filter (takes_part nat_eq world place) (receivers_of nat_eq world destination) mount receiver).0) m
+
+    none_outside : (namespace : ℕ) → own_one namespace ≡ false → count_in (parts_of nat_eq world place) namespace ≡ 0
+    none_outside namespace other =
+        none_counted (parts_of nat_eq world place) namespace (λ mount m.
+        own_inside namespace other mount (parts_own mount m).1)
+
+    -- a filesystem that is added changes no parts
+    shows : (mount : Mount ℕ) → Among mount world.mounts
+        → is_directory_node ((filesystem_numbered nat_eq world mount.filesystem).files.tree.node mount.root) ≡ true
+    shows mount m =
+        (and_parts (is_directory_node ((filesystem_numbered nat_eq world mount.filesystem).files.tree.node mount.root)) _
+        (among_from_list_all (has_its_root nat_eq world) world.mounts is.roots mount m)).0
+
+    added_parts : (added : Filesystem ℕ) → parts_of nat_eq (with_new_filesystem world added) place ≡ parts_of nat_eq world place
+    added_parts added =
+        ap (λ list. destination ∷ list)
+        (filter_alike (takes (with_new_filesystem world added) place destination) (takes world place destination)
+        (receivers_of nat_eq world destination) (λ mount m.
+        let its = receivers_own world names is sealed_off destination mount there own m in
+        ap (λ (f : Filesystem ℕ). not (nat_eq place.mount mount.number) && is_some mount.namespace
+        && nat_eq destination.filesystem mount.filesystem && is_directory_under nat_eq f.files mount.root place.node)
+        (found_before world added mount.filesystem mount.root (shows mount its.0))))
+
+    added_parts_in_part : (added : Filesystem ℕ)
+        → parts_of nat_eq (with_new_filesystem part added) place ≡ parts_of nat_eq part place
+    added_parts_in_part added =
+        ap (λ to. to ∷ filter (takes (with_new_filesystem part added) place to) (receivers_of nat_eq part to)) same_destination
+        ∙ ap (λ list. destination ∷ filter (takes (with_new_filesystem part added) place destination) list)
+        (receivers_alike world names is sealed_off destination there own)
+        ∙ ap (λ list. destination ∷ list)
+        (filter_alike (takes (with_new_filesystem part added) place destination) (takes part place destination)
+        (receivers_of nat_eq world destination) (λ mount m.
+        let its = receivers_own world names is sealed_off destination mount there own m in
+        ap (λ (f : Filesystem ℕ). not (nat_eq place.mount mount.number) && is_some mount.namespace
+        && nat_eq destination.filesystem mount.filesystem && is_directory_under nat_eq f.files mount.root place.node)
+        (found_before part added mount.filesystem mount.root
+        (ap (λ (f : Filesystem ℕ). is_directory_node (f.files.tree.node mount.root)) (reached_alike mount its.0 its.1)
+        ∙ shows mount its.0))))
+        ∙ sym (ap (λ list. destination ∷ filter (takes part place destination) list)
+        (receivers_alike world names is sealed_off destination there own))
+        ∙ sym (ap (λ to. to ∷ filter (takes part place to) (receivers_of nat_eq part to)) same_destination)
+
+    -- what is added at each part
+    copies_alike : (base other : World ℕ) → base.mounts ≡ world.mounts → base.namespaces ≡ world.namespaces
+        → other.mounts ≡ part.mounts → other.namespaces ≡ part.namespaces
+        → parts_of nat_eq base place ≡ parts_of nat_eq world place
+        → parts_of nat_eq other place ≡ parts_of nat_eq part place
+        → (supply supply_too : Fresh ℕ) (mounts mounts_too : List (Mount ℕ)) → length mounts ≡ length mounts_too
+        → has_too_many nat_eq (attach nat_eq base supply place false mounts)
+        ≡ has_too_many nat_eq (attach nat_eq other supply_too place false mounts_too)
+    copies_alike base other same listed same_too listed_too parts parts_too supply supply_too mounts mounts_too long =
+        too_many_alike (attach nat_eq base supply place false mounts) (attach nat_eq other supply_too place false mounts_too)
+        listed listed_too
+        (λ namespace its.
+        added_counted base place (copies_from nat_eq supply (parts_of nat_eq base place) mounts) mounts namespace
+        ∙ ap (λ list. count_in list namespace + count_in (parts_of nat_eq base place) namespace * length mounts) same
+        ∙ ap (λ list. count_in world.mounts namespace + count_in list namespace * length mounts)
+        (parts ∙ sym parts_alike ∙ sym parts_too)
+        ∙ ap (λ n. n + count_in (parts_of nat_eq other place) namespace * length mounts) (sym (count_alike namespace its))
+        ∙ ap (λ n. count_in part.mounts namespace + count_in (parts_of nat_eq other place) namespace * n) long
+        ∙ ap (λ list. count_in list namespace + count_in (parts_of nat_eq other place) namespace * length mounts_too)
+        (sym same_too)
+        ∙ sym (added_counted other place (copies_from nat_eq supply_too (parts_of nat_eq other place) mounts_too)
+        mounts_too namespace))
+        (λ namespace outside.
+        let all = added_counted base place (copies_from nat_eq supply (parts_of nat_eq base place) mounts) mounts
+        namespace in
+        let none : count_in (parts_of nat_eq base place) namespace * length mounts ≡ 0 =
+        ap (λ list. count_in list namespace * length mounts) parts
+        ∙ ap (λ n. n * length mounts) (none_outside namespace outside) ∙ no_rows (length mounts) in
+        let before : count_in base.mounts namespace ≡ count_in world.mounts namespace =
+        ap (λ list. count_in list namespace) same in
+        omega (arith, all, none, before))
+
+    pub plain_overfills : (fresh other : Fresh ℕ) (task : Task ℕ) (flags : MountFlags)
+        → overfills nat_eq fresh world task (ToMountPlain place flags)
+        ≡ overfills nat_eq other part task (ToMountPlain place flags)
+    plain_overfills fresh other task flags =
+        copies_alike (with_new_filesystem world (plain_filesystem nat_eq fresh))
+        (with_new_filesystem part (plain_filesystem nat_eq other)) refl refl refl refl
+        (added_parts (plain_filesystem nat_eq fresh)) (added_parts_in_part (plain_filesystem nat_eq other))
+        (odds fresh) (odds other) (mount_of flags (plain_filesystem nat_eq fresh)) (mount_of flags (plain_filesystem nat_eq other)) refl
+      where
+        mount_of : MountFlags → Filesystem ℕ → List (Mount ℕ)
+        mount_of flags filesystem = new_mount filesystem.number filesystem.files.tree.root flags ∷ []
+
+    pub overlay_overfills : (fresh other : Fresh ℕ) (task : Task ℕ) (overlay : Overlay ℕ) (flags : MountFlags)
+        → overfills nat_eq fresh world task (ToMountOverlay place overlay flags)
+        ≡ overfills nat_eq other part task (ToMountOverlay place overlay flags)
+    overlay_overfills fresh other task overlay flags =
+        copies_alike (with_new_filesystem world (overlay_filesystem nat_eq (evens fresh) world overlay))
+        (with_new_filesystem part (overlay_filesystem nat_eq (evens other) part overlay)) refl refl refl refl
+        (added_parts (overlay_filesystem nat_eq (evens fresh) world overlay))
+        (added_parts_in_part (overlay_filesystem nat_eq (evens other) part overlay))
+        (odds fresh) (odds other) (mount_of flags (overlay_filesystem nat_eq (evens fresh) world overlay))
+        (mount_of flags (overlay_filesystem nat_eq (evens other) part overlay)) refl
+      where
+        mount_of : MountFlags → Filesystem ℕ → List (Mount ℕ)
+        mount_of flags filesystem = new_mount filesystem.number filesystem.files.tree.root flags ∷ []
+
+    -- a source on a mount of theirs
+    pub bind_overfills : (fresh other : Fresh ℕ) (task : Task ℕ) (source : Location ℕ) (recursive : Bool) → On source.mount
+        → overfills nat_eq fresh world task (ToBind source place recursive)
+        ≡ overfills nat_eq other part task (ToBind source place recursive)
+    bind_overfills fresh other task source recursive from =
+        copies_alike world part refl refl refl refl refl refl fresh other (bind_tree nat_eq world source recursive)
+        (bind_tree nat_eq part source recursive) (ap length (sym (bind_alike world names is source recursive from)))
+
+    -- a tree of theirs that moves
+    module _ (number : ℕ) (source : Among (mount_numbered nat_eq world number) world.mounts)
+        (its : owns (mount_numbered nat_eq world number) ≡ true) where
+      abbrev tree : List (Mount ℕ)
+      tree = mount_tree nat_eq world.mounts (mount_numbered nat_eq world number)
+
+      abbrev tree_too : List (Mount ℕ)
+      tree_too = mount_tree nat_eq part.mounts (mount_numbered nat_eq part number)
+
+      from : On number
+      from = subst On (number-mount_in world.mounts number)
+          (own_theirs world names is (mount_numbered nat_eq world number) source its)
+
+      same_source : mount_numbered nat_eq part number ≡ mount_numbered nat_eq world number
+      same_source = same_mount world names is.mounts number from
+
+      same_tree : tree_too ≡ tree
+      same_tree =
+          ap (mount_tree nat_eq part.mounts) same_source
+          ∙ tree_alike world names is (mount_numbered nat_eq world number)
+          (own_theirs world names is (mount_numbered nat_eq world number) source its)
+
+      source_in_part : Among (mount_numbered nat_eq part number) part.mounts
+      source_in_part =
+          subst (λ x. Among x part.mounts) (sym same_source)
+          (among-filter_map (keep world names theirs) world.mounts (mount_numbered nat_eq world number)
+          (mount_numbered nat_eq world number) source
+          (own_whole world names is (mount_numbered nat_eq world number) its))
+
+      within : (w : World ℕ) → Among (mount_numbered nat_eq w number) w.mounts → (one : Mount ℕ)
+          → Among one (mount_tree nat_eq w.mounts (mount_numbered nat_eq w number)) → Among one w.mounts
+      within w there one m =
+          ⊎_elim (λ same. subst (λ x. Among x w.mounts) (sym same) there) (λ other. other)
+          (tree_among (length w.mounts) w.mounts (mount_numbered nat_eq w number) one m)
+
+      moved_count : (new : Copies ℕ) (namespace : ℕ)
+          → count_in (attached_by nat_eq world new place true tree).mounts namespace + count_in tree namespace
+          ≡ count_in world.mounts namespace + count_in (parts_of nat_eq world place) namespace * length tree
+      moved_count new namespace =
+          moved_all world place new tree is.mounts.one_number
+          (trees_have_each_once world number is.mounts.one_number is.mounts.standing) (within world source) namespace
+
+      moved_count_in_part : (new : Copies ℕ) (namespace : ℕ)
+          → count_in (attached_by nat_eq part new place true tree_too).mounts namespace + count_in tree_too namespace
+          ≡ count_in part.mounts namespace + count_in (parts_of nat_eq part place) namespace * length tree_too
+      moved_count_in_part new namespace =
+          moved_all part place new tree_too (part_one_number world names is)
+          (trees_have_each_once part number (part_one_number world names is) (part_stands world names is))
+          (within part source_in_part) namespace
+
+      pub move_overfills : (fresh other : Fresh ℕ) (task : Task ℕ)
+          → overfills nat_eq fresh world task (ToMove number place) ≡ overfills nat_eq other part task (ToMove number place)
+      move_overfills fresh other task =
+          too_many_alike (attached_by nat_eq world new place true tree) (attached_by nat_eq part newer place true tree_too)
+          refl refl
+          (λ namespace own_too.
+          let all = moved_count new namespace in
+          let all_too = moved_count_in_part newer namespace in
+          let count = count_alike namespace own_too in
+          let at_parts : count_in (parts_of nat_eq part place) namespace * length tree_too
+          ≡ count_in (parts_of nat_eq world place) namespace * length tree =
+          λ i. count_in (parts_alike i) namespace * length (same_tree i) in
+          let inside : count_in tree_too namespace ≡ count_in tree namespace = ap (λ list. count_in list namespace) same_tree in
+          omega (arith, all, all_too, count, at_parts, inside))
+          (λ namespace outside.
+          let all = moved_count new namespace in
+          let none : count_in (parts_of nat_eq world place) namespace * length tree ≡ 0 =
+          ap (λ n. n * length tree) (none_outside namespace outside) ∙ no_rows (length tree) in
+          omega (arith, all, none))
+        where
+          new : Copies ℕ
+          new = copies_from nat_eq fresh (parts_of nat_eq world place) tree
+
+          newer : Copies ℕ
+          newer = copies_from nat_eq other (parts_of nat_eq part place) tree_too

@@ -1,0 +1,139 @@
+-- Layers of a new overlay overlap others in the part as in the world: overlayfs, "sharing and copying layers".
+use Rattle.std.proofs.Common.{◌≡◌, refl, sym, ap, subst, ◌∙◌, inl, ⊎_elim, ℕ, nat_eq, true, List, [], ◌++◌, Option, Some, None, ◌&&◌, eqb-true}
+use Rattle.std.specs.Prelude.{option_to_list}
+use Rattle.std.specs.List.{list_any}
+use Rattle.std.proofs.lemmas.Bool.{or_cases, or_left}
+use Rattle.vt_spec.specs.FileTree.{is_under}
+use Rattle.vt_spec.specs.Language.Calls.{TaskName}
+use Rattle.vt_spec.specs.Lists.{is_among}
+use Rattle.vt_spec.specs.Machine.Invariants.{IsWorld}
+use Rattle.vt_spec.specs.Machine.Locked.{counts_in_layer, lies_in_layer, lies_or_counts_under, live_layers, live_upper_and_work, of_overlay, overlaps_one_of, overlay_or, overlays, upper_and_work}
+use Rattle.vt_spec.specs.Machine.Sealed.{part_of, sealed, used_alone, used_filesystems, wholly_locked}
+use Rattle.vt_spec.specs.Machine.World.{Filesystem, Layer, Overlay, World, filesystem_numbered, is_overlay, layers_of}
+use Rattle.vt_spec.proofs.Lists.{Among, among-append_left, among-flat_map, among-from_filter, among-from_flat_map, among_numbers, any_among, any_from_among}
+use Rattle.vt_spec.proofs.Truths.{same_truth}
+use Rattle.vt_laws_part.proofs.part.PartOfPart.{found}
+use Rattle.vt_laws_part.proofs.seals.ByPart.{used_are_free}
+use Rattle.vt_laws_members.proofs.judging.Anywhere.{not_whole}
+use Rattle.vt_laws_members.proofs.judging.Locks.{alone_in_part, counts_how, has_layer, locked_alike, part_in_world, under_at}
+
+-- an upper or work directory is a layer
+written_layer : (merged : Filesystem ℕ) (layer : Layer ℕ) → Among layer (of_overlay [] upper_and_work merged)
+    → (overlay : Overlay ℕ) × (merged.overlay ≡ Some overlay) × Among layer (upper_and_work overlay)
+    × Among layer (of_overlay [] layers_of merged)
+written_layer merged layer m = by merged.overlay refl m
+  where
+    by : (o : Option (Overlay ℕ)) → merged.overlay ≡ o → Among layer (overlay_or [] upper_and_work o)
+        → (overlay : Overlay ℕ) × (merged.overlay ≡ Some overlay) × Among layer (upper_and_work overlay)
+        × Among layer (of_overlay [] layers_of merged)
+    by None e m = absurd m
+    by (Some overlay) e m = (
+      overlay,
+      e,
+      m,
+      subst (λ o. Among layer (overlay_or [] layers_of o)) (sym e)
+          (among-append_left (option_to_list overlay.upper ++ option_to_list overlay.work) overlay.lowers layer m),
+    )
+
+module _ (world : World ℕ) (names : List TaskName) (is : IsWorld nat_eq world)
+    (sealed_off : sealed nat_eq world names ≡ true) (number : ℕ)
+    (used : is_among nat_eq number (used_filesystems nat_eq world names) ≡ true) where
+  abbrev part : World ℕ
+  part = part_of nat_eq world names
+
+  abbrev Alone : Type 0
+  Alone = used_alone nat_eq world names number ≡ true
+
+  abbrev Whole : Type 0
+  Whole = wholly_locked nat_eq world names number ≡ true
+
+  how : {A : Type 0} → (Alone → A) → (Whole → A) → A
+  how alone whole =
+      ⊎_elim alone whole
+      (or_cases (used_alone nat_eq world names number) (wholly_locked nat_eq world names number)
+      (used_are_free world names sealed_off number
+      (among_numbers (used_filesystems nat_eq world names) number used)))
+
+  same : filesystem_numbered nat_eq part number ≡ filesystem_numbered nat_eq world number
+  same = found world names number used
+
+  -- no change of an overlay is written into what is wholly locked
+  none_written : Whole → (merged : Filesystem ℕ) → Among merged (overlays world) → (overlay : Overlay ℕ)
+      → merged.overlay ≡ Some overlay → (layer : Layer ℕ) → Among layer (upper_and_work overlay)
+      → number ≡ layer.filesystem → ⊥
+  none_written whole merged m overlay e layer its inside =
+      not_whole world names is sealed_off merged (among-from_filter is_overlay world.filesystems merged m).0 overlay e layer
+      its (subst (λ n. wholly_locked nat_eq world names n ≡ true) inside whole)
+
+  pub under_alike : (object : ℕ) (layer : Layer ℕ)
+      → lies_or_counts_under nat_eq world number object layer ≡ lies_or_counts_under nat_eq part number object layer
+  under_alike object layer =
+      same_truth (lies_or_counts_under nat_eq world number object layer) (lies_or_counts_under nat_eq part number object layer)
+      (λ h. how
+      (λ alone. (under_at world part number same (alone_in_part world names is sealed_off number alone) object layer h).0)
+      (λ whole. ⊎_elim
+      (λ lies. or_left (lies_in_layer nat_eq part number object layer) _
+      (ap (λ (f : Filesystem ℕ). nat_eq number layer.filesystem && is_under nat_eq f.files layer.directory object) same
+      ∙ lies))
+      (λ counts.
+      let at = any_among (counts_in_layer nat_eq world number object layer) (overlays world) counts in
+      let c = counts_how world number object layer at.0 at.2 in
+      absurd (none_written whole at.0 at.1 c.overlay c.is c.upper
+      (among-append_left (option_to_list c.overlay.upper) (option_to_list c.overlay.work) c.upper
+      (subst (λ o. Among c.upper (option_to_list o)) (sym c.has) (inl refl))) c.inside))
+      (or_cases (lies_in_layer nat_eq world number object layer)
+      (list_any (counts_in_layer nat_eq world number object layer) (overlays world)) h)))
+      (λ h. (under_at part world number (sym same) (λ merged m has. part_in_world world names is sealed_off merged m)
+      object layer h).0)
+
+  -- under one of the layers that live overlays change
+  written_alike : (object : ℕ)
+      → list_any (lies_or_counts_under nat_eq world number object) (live_upper_and_work world)
+      ≡ list_any (lies_or_counts_under nat_eq part number object) (live_upper_and_work part)
+  written_alike object =
+      same_truth (list_any (lies_or_counts_under nat_eq world number object) (live_upper_and_work world))
+      (list_any (lies_or_counts_under nat_eq part number object) (live_upper_and_work part))
+      (λ h.
+      let at = any_among (lies_or_counts_under nat_eq world number object) (live_upper_and_work world) h in
+      let from = among-from_flat_map (of_overlay [] upper_and_work) (overlays world) at.0 at.1 in
+      let here = (under_at world world number refl (λ merged m has. m) object at.0 at.2).1 in
+      let written = written_layer from.0 at.0 from.2 in
+      how
+      (λ alone.
+      any_from_among (lies_or_counts_under nat_eq part number object) (live_upper_and_work part) at.0
+      (among-flat_map (of_overlay [] upper_and_work) (overlays part) from.0 at.0
+      (alone_in_part world names is sealed_off number alone from.0 from.1 (has_layer number from.0 at.0 written.3 here))
+      from.2)
+      (sym (under_alike object at.0) ∙ at.2))
+      (λ whole. absurd (none_written whole from.0 from.1 written.0 written.1 at.0 written.2
+      (eqb-true number at.0.filesystem here))))
+      (λ h.
+      let at = any_among (lies_or_counts_under nat_eq part number object) (live_upper_and_work part) h in
+      let from = among-from_flat_map (of_overlay [] upper_and_work) (overlays part) at.0 at.1 in
+      any_from_among (lies_or_counts_under nat_eq world number object) (live_upper_and_work world) at.0
+      (among-flat_map (of_overlay [] upper_and_work) (overlays world) from.0 at.0
+      (part_in_world world names is sealed_off from.0 from.1) from.2)
+      (under_alike object at.0 ∙ at.2))
+
+  -- a directory of the filesystem, as a layer
+  module _ (directory : ℕ) where
+    abbrev layer : Layer ℕ
+    layer = record { filesystem = number; directory = directory }
+
+    pub overlaps_alike : (others : List (Layer ℕ))
+        → overlaps_one_of nat_eq world others layer ≡ overlaps_one_of nat_eq part others layer
+    overlaps_alike others i =
+        list_any (λ object. under_alike object layer i && list_any (λ other. under_alike object other i) others)
+        (sym same i).files.numbers
+
+    -- O3
+    pub overlaps_live : overlaps_one_of nat_eq world (live_layers world) layer
+        ≡ overlaps_one_of nat_eq part (live_layers part) layer
+    overlaps_live i =
+        list_any (λ object. under_alike object layer i && locked_alike world names is sealed_off number used object i)
+        (sym same i).files.numbers
+
+    pub overlaps_written : overlaps_one_of nat_eq world (live_upper_and_work world) layer
+        ≡ overlaps_one_of nat_eq part (live_upper_and_work part) layer
+    overlaps_written i =
+        list_any (λ object. under_alike object layer i && written_alike object i) (sym same i).files.numbers

@@ -1,0 +1,48 @@
+-- Calls of tasks of a sealed set, in the world and in the part of the set (profile).
+use Rattle.std.specs.Prelude.{List, Ok, Result, filter, not, true, ℕ, nat_eq, ◌≡◌, ◌∷◌}
+use Rattle.vt_spec.specs.declared.errors.Deny.{Deny}
+use Rattle.vt_spec.specs.Language.Answers.{Answer}
+use Rattle.vt_spec.specs.Language.Answers.Answer.{Child, Done}
+use Rattle.vt_spec.specs.Language.Calls.{Call, TaskName, same_name}
+use Rattle.vt_spec.specs.Language.Calls.Call.{Exit, Setns}
+use Rattle.vt_spec.specs.Lists.{Fresh, is_among}
+use Rattle.vt_spec.specs.Machine.Invariants.{IsWorld}
+use Rattle.vt_spec.specs.Machine.Outcomes.{Outcome}
+use Rattle.vt_spec.specs.Machine.Policy.{only_looks, policy}
+use Rattle.vt_spec.specs.Machine.Sealed.{part_of, sealed}
+use Rattle.vt_spec.specs.Machine.World.{World}
+
+-- a call in the name of a task of a sealed set, which enters no namespace but one of theirs
+pub record IsCallOfTheirs (world : World ℕ) (names : List TaskName) (name : TaskName) (call : Call) : Type 0 where
+  pub is : IsWorld nat_eq world
+  pub sealed_off : sealed nat_eq world names ≡ true
+  pub theirs : is_among same_name name names ≡ true
+  pub among_them : (member : TaskName) → call ≡ Setns member → is_among same_name member names ≡ true
+
+-- the set without a task that ends
+abbrev pub left : List TaskName → TaskName → Call → List TaskName
+left names name Exit = filter (λ member. not (same_name name member)) names
+left names name call = names
+
+-- the set after a call, by its answer: with the child that it makes, without a task that ends
+abbrev pub grown : List TaskName → TaskName → Call → Result Answer Deny → List TaskName
+grown names name call (Ok (Child child)) = child ∷ names
+grown names name call (Ok Done) = left names name call
+grown names name call answer = names
+
+-- two outcomes have one answer, and leave one part of a set
+pub record EndAlike (names : List TaskName) (one other : Outcome ℕ) : Type 0 where
+  pub answer : one.answer ≡ other.answer
+  pub part : part_of nat_eq one.world names ≡ part_of nat_eq other.world names
+
+-- So the call does in the world and in the part of the set, by these numbers.
+abbrev pub EndsAlike : World ℕ → List TaskName → TaskName → Call → Fresh ℕ → Fresh ℕ → Type 0
+EndsAlike world names name call fresh other =
+    EndAlike (grown names name call (policy nat_eq fresh world name call).answer)
+    (policy nat_eq fresh world name call) (policy nat_eq other (part_of nat_eq world names) name call)
+
+-- Each call that only looks does, whatever numbers are handed in.
+abbrev pub LooksEndAlike : Type 0
+LooksEndAlike =
+    (world : World ℕ) (names : List TaskName) (name : TaskName) (call : Call) → IsCallOfTheirs world names name call
+    → only_looks call ≡ true → (fresh other : Fresh ℕ) → EndsAlike world names name call fresh other

@@ -1,0 +1,3 @@
+-- What the proofs of src/in_use.rt use.
+pub mod InUseNamed
+pub mod InUseServes

@@ -1,0 +1,3 @@
+-- What the proofs of src/runs.rt use.
+pub mod LinesAlike
+pub mod RunsTold

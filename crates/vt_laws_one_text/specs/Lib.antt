@@ -1,0 +1,4 @@
+pub mod Answered
+pub mod InUse
+pub mod Runs
+pub mod Same

@@ -1,0 +1,53 @@
+-- What is found by its number, in lists in which each number is there once.
+use Rattle.std.proofs.Common.{◌≡◌, refl, sym, ap, ◌∙◌, ⊎_elim, ℕ, nat_eq, Bool, true, false, true≢false, cond, List, [], ◌∷◌, Option, Some, find, map, eqb-true, eq-eqb}
+use Rattle.std.specs.Prelude.{option_map}
+use Rattle.std.specs.List.{list_any}
+use Rattle.std.proofs.lemmas.Bool.{or_parts}
+use Rattle.vt_spec.specs.Lists.{any_pair}
+use Rattle.vt_spec.proofs.Lists.{Among}
+
+module _ {A : Type 0} (number_of : A → ℕ) where
+  abbrev pub numbered : ℕ → List A → Option A
+  numbered number list = find (λ a. nat_eq number (number_of a)) list
+
+  -- what is there is found
+  pub found_one : (list : List A) → any_pair (λ a b. nat_eq (number_of a) (number_of b)) list ≡ false → (a : A)
+      → Among a list → (number : ℕ) → nat_eq number (number_of a) ≡ true → numbered number list ≡ Some a
+  found_one [] apart a m number e = absurd m
+  found_one (first ∷ rest) apart a m number e =
+      let parts = or_parts (list_any (λ b. nat_eq (number_of first) (number_of b)) rest)
+      (any_pair (λ a b. nat_eq (number_of a) (number_of b)) rest) apart in
+      ⊎_elim
+      (λ same. ap (λ b. cond b (Some first) (numbered number rest))
+      (ap (λ b. nat_eq number (number_of b)) (sym same) ∙ e) ∙ ap Some (sym same))
+      (λ later. by (nat_eq number (number_of first)) refl parts.0 later (found_one rest parts.1 a later number e)) m
+    where
+      clash : (xs : List A) → list_any (λ b. nat_eq (number_of first) (number_of b)) xs ≡ false → Among a xs
+          → nat_eq (number_of first) (number_of a) ≡ false
+      clash [] none n = absurd n
+      clash (x ∷ xs) none n =
+          let parts = or_parts (nat_eq (number_of first) (number_of x))
+          (list_any (λ b. nat_eq (number_of first) (number_of b)) xs) none in
+          ⊎_elim (λ same. ap (λ b. nat_eq (number_of first) (number_of b)) same ∙ parts.0) (λ l. clash xs parts.1 l) n
+
+      by : (b : Bool) → nat_eq number (number_of first) ≡ b
+          → list_any (λ x. nat_eq (number_of first) (number_of x)) rest ≡ false → Among a rest
+          → numbered number rest ≡ Some a → cond b (Some first) (numbered number rest) ≡ Some a
+      by true f none n found =
+          absurd (true≢false (sym (eq-eqb (number_of first) (number_of a)
+          (sym (eqb-true number (number_of first) f) ∙ eqb-true number (number_of a) e)) ∙ clash rest none n))
+      by false f none n found = found
+
+  -- what is found among changed ones is what is found, changed
+  pub found_map : (change : A → A) (number : ℕ) (list : List A) → ((a : A) → number_of (change a) ≡ number_of a)
+      → numbered number (map change list) ≡ option_map change (numbered number list)
+  found_map change number [] same = refl
+  found_map change number (first ∷ rest) same =
+      ap (λ k. cond (nat_eq number k) (Some (change first)) (numbered number (map change rest))) (same first)
+      ∙ by (nat_eq number (number_of first)) (found_map change number rest same)
+    where
+      by : (b : Bool) → numbered number (map change rest) ≡ option_map change (numbered number rest)
+          → cond b (Some (change first)) (numbered number (map change rest))
+          ≡ option_map change (cond b (Some first) (numbered number rest))
+      by true h = refl
+      by false h = h

@@ -1,0 +1,24 @@
+use Rattle.std.proofs.Common.{Some, ap, arith, length, sym, ◌-◌, ◌≡◌, ◌∙◌}
+use Rattle.std.specs.Prelude.{slice_get}
+use Rattle.vt_tree.specs.TreeValue.{tree_of}
+use Rattle.vt_merge.proofs.GoingUp.{length-names_up, name_at}
+use Rattle.vt_merge.proofs.climbing.WayDownWay.name.Goals as goal
+
+pub overflow_sub-self-inside-2 : goal.overflow_sub-self-inside-2
+overflow_sub-self-inside-2 c =
+    let within = c.requires in
+    let many : length c.args.self.now ≡ c.self.inside.len =
+    sym (ap length c.self.view_is)
+    ∙ length-names_up (tree_of c.self.inside.tree.now) c.self.inside.len c.self.inside.directory in
+    omega (arith, within, many)
+
+pub returns : goal.returns
+returns c =
+    let within = c.requires in
+    let tree = tree_of c.self.inside.tree.now in
+    let many : length c.args.self.now ≡ c.self.inside.len =
+    sym (ap length c.self.view_is) ∙ length-names_up tree c.self.inside.len c.self.inside.directory in
+    ap (λ names. slice_get names c.args.index) (sym c.self.view_is)
+    ∙ name_at tree c.self.inside.directory (c.self.inside.len - 1 - c.args.index) c.args.index c.self.inside.len
+    (omega (arith, within, many))
+    ∙ ap Some (sym c.name_climbed.ensures)

@@ -1,0 +1,158 @@
+//! The way from one directory of a tree down to another, found by going up from that one.
+ghost use Rattle.std.specs.Prelude.{◌≡◌, ◌≢◌, [], IfSome, List, None, Some, ℕ, option_copied, unwrap_or};
+ghost use Rattle.vt_spec.specs.Machine.Layers.{at_path};
+ghost use Rattle.vt_spec.specs.Tree.{is_directory_node};
+ghost use Rattle.vt_spec.specs.TreeInvariant.{IsDirectory, IsTree, led};
+ghost use Rattle.vt_location.specs.Locations.{number_of};
+ghost use Rattle.vt_location.specs.Numbers.{exchanged};
+ghost use Rattle.vt_tree.specs.Paths.{NamesDirectoriesOnce};
+ghost use Rattle.vt_tree.specs.TreeValue.{tree_of};
+ghost use Rattle.vt_fs.specs.FilesystemsValue.{files_at};
+ghost use Rattle.vt_merge.specs.Climbed.{climbed, name_up};
+ghost use Rattle.vt_merge.specs.LayerValue.{opened, tree_seen};
+
+use crate::entries::slot_of;
+use crate::ways::Way;
+use std::marker::Model;
+use vt_fs::Filesystems;
+use vt_location::{FilesystemId, NodeRef};
+use vt_node::NodeId;
+use vt_tree::Tree;
+
+/// The way from a directory of a tree down to another. No list of its names is made: each is found by going up from the
+/// lower directory.
+#[derive(Debug, Drop)]
+pub struct WayDown<'a> {
+    tree: &'a Tree,
+    directory: NodeId,
+    len: usize,
+}
+
+impl<'a> Model for WayDown<'a> {
+    ghost use Rattle.std.specs.Prelude.{List, ℕ};
+    ghost use Rattle.vt_tree.specs.Paths.{NamesDirectoriesOnce};
+    ghost use Rattle.vt_tree.specs.TreeValue.{tree_of};
+    ghost use Rattle.vt_merge.specs.Climbed.{names_up};
+
+    ghost Value = { List (List ℕ) };
+
+    ghost view = { λ way. names_up (tree_of way.tree.now) way.len way.directory };
+
+    ghost invariant = { λ way. NamesDirectoriesOnce (tree_of way.tree.now) };
+}
+
+impl<'a> Way for WayDown<'a> {
+    ghost names = { λ way. way };
+
+    fn len(&self) -> usize {
+        self.len
+    }
+
+    fn name(&self, index: usize) -> &[u8] {
+        name_climbed(self.tree, self.directory, self.len - 1 - index)
+    }
+}
+
+// The name of the directory so many steps up.
+fn name_climbed(tree: &Tree, directory: NodeId, steps: usize) -> &[u8]
+    requires { NamesDirectoriesOnce (tree_of tree.now) }
+    ensures { result.now
+        ≡ unwrap_or (name_up (tree_of tree.now) (climbed (tree_of tree.now) steps directory)) [] }
+{
+    let mut here = directory;
+    for _step in 0..steps {
+        here = tree.parent(here);
+    }
+    match name_above(tree, here) {
+        Some(name) => name,
+        None => &[],
+    }
+}
+
+// The name of a directory in its parent.
+fn name_above(tree: &Tree, directory: NodeId) -> Option<&[u8]>
+    requires { NamesDirectoriesOnce (tree_of tree.now) }
+    ensures { option_copied result ≡ name_up (tree_of tree.now) directory }
+{
+    tree.node(tree.parent(directory))?.name_of(directory)
+}
+
+/// The way from a directory down to another one of its filesystem, if that is a directory and lies under it. It does not
+/// allocate.
+pub fn way_down<'a>(trees: &'a Filesystems, top: NodeRef, directory: NodeRef) -> Option<WayDown<'a>>
+    requires tree { IsTree (files_at trees.now top.filesystem.count).tree }
+    requires one_filesystem { directory.filesystem ≡ top.filesystem }
+    ensures leads { IfSome result (λ way. at_path (opened trees.now top) way ≡ Some (number_of directory)) }
+    ensures directory { IfSome result (λ way.
+        IsDirectory (files_at trees.now top.filesystem.count).tree (number_of directory)) }
+    ensures nowhere { result ≡ None
+        → IsDirectory (files_at trees.now top.filesystem.count).tree (number_of directory)
+        → (path : List (List ℕ)) → at_path (opened trees.now top) path ≢ Some (number_of directory) }
+{
+    way_in(trees.get(top.filesystem)?, top, directory)
+}
+
+// The same, in the directories' tree.
+fn way_in<'a>(tree: &'a Tree, top: NodeRef, directory: NodeRef) -> Option<WayDown<'a>>
+    requires tree { IsTree (tree_seen top.filesystem.count (Some tree.now)) }
+    requires one_filesystem { directory.filesystem ≡ top.filesystem }
+    ensures leads { IfSome result (λ way.
+        led (tree_seen top.filesystem.count (Some tree.now)) (number_of top) way ≡ Some (number_of directory)) }
+    ensures directory { IfSome result (λ way.
+        IsDirectory (tree_seen top.filesystem.count (Some tree.now)) (number_of directory)) }
+    ensures nowhere { result ≡ None
+        → IsDirectory (tree_seen top.filesystem.count (Some tree.now)) (number_of directory)
+        → (path : List (List ℕ))
+        → led (tree_seen top.filesystem.count (Some tree.now)) (number_of top) path ≢ Some (number_of directory) }
+{
+    if !is_directory(tree, directory) {
+        return None;
+    }
+    let upper = slot_of(top);
+    let lower = slot_of(directory);
+    climb(tree, top.filesystem, upper, lower)
+}
+
+// Whether an inode of a tree is a directory.
+fn is_directory(tree: &Tree, inode: NodeRef) -> bool
+    ensures { result
+        ≡ is_directory_node ((tree_seen inode.filesystem.count (Some tree.now)).node (number_of inode)) }
+{
+    match tree.node(slot_of(inode)) {
+        Some(node) => node.is_directory(),
+        None => false,
+    }
+}
+
+// The way down from a directory, found by going up from a directory, for no more steps than there are inodes.
+fn climb<'a>(
+    tree: &'a Tree,
+    filesystem: FilesystemId,
+    top: NodeId,
+    lower: NodeId,
+) -> Option<WayDown<'a>>
+    requires tree { IsTree (tree_seen filesystem.count (Some tree.now)) }
+    requires directory { IsDirectory (tree_seen filesystem.count (Some tree.now)) (exchanged filesystem.count lower) }
+    ensures leads { IfSome result (λ way.
+        led (tree_seen filesystem.count (Some tree.now)) (exchanged filesystem.count top) way
+        ≡ Some (exchanged filesystem.count lower)) }
+    ensures nowhere { result ≡ None → (path : List (List ℕ))
+        → led (tree_seen filesystem.count (Some tree.now)) (exchanged filesystem.count top) path
+        ≢ Some (exchanged filesystem.count lower) }
+{
+    let mut here = lower;
+    for len in 0..tree.len() {
+        if here == top {
+            return Some(WayDown {
+                tree,
+                directory: lower,
+                len,
+            });
+        }
+        if name_above(tree, here).is_none() {
+            return None;
+        }
+        here = tree.parent(here);
+    }
+    None
+}
