@@ -1,5 +1,5 @@
-//! Checks the scripts of `data/`, or shows the worlds to which they lead, and compares the texts that are written with
-//! those that stand beside them.
+//! Checks the scripts of `data/`, shows the worlds to which they lead, or explains their last lines, and compares the
+//! texts that are written with those that stand beside them.
 //!
 //! It runs in that folder, writes the name of each file whose texts are right, and ends with status 1 at the first other
 //! text.
@@ -12,6 +12,7 @@ use anyhow::Result;
 use std::fs;
 use std::rt::Runtime;
 use vt_check::check;
+use vt_explain::Format;
 use vt_script::Version;
 use vt_show::show;
 
@@ -72,6 +73,9 @@ fn main(rt: HostRuntime) -> Result<()> {
             "show-task",
             shown(Version::One, show::Format::Text, true, Some("t.1")),
         ),
+        ("explain", Tool::Explain(Version::One, Format::Text)),
+        ("explain-2", Tool::Explain(Version::Two, Format::Text)),
+        ("explain-json", Tool::Explain(Version::One, Format::Json)),
     ];
     for (folder, tool) in tools {
         for name in &names(&rt, folder)? {
