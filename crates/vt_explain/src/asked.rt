@@ -132,6 +132,7 @@ fn of_mount(call: &MountCall) -> Paths<'_> {
             two(source, Last::Object, path, Last::Destination)
         }
         MountCall::Umount { path } | MountCall::Lazy { path } => one(path, Last::Object),
+        MountCall::Pivot { new, put } => two(new, Last::Object, put, Last::Destination),
         MountCall::Remount { path, .. } | MountCall::SetType { path, .. } => {
             one(path, Last::Object)
         }
