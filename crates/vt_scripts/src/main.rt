@@ -2,15 +2,17 @@
 //!
 //! It runs in that folder, writes the name of each file whose answers are right, and ends with
 //! status 1 at the first other answer. Of the files of `tests`, which have other answers, what is written of them is
-//! compared.
+//! compared; and of those of `tools`, what `vt_check`, `vt_show` and `vt_explain` write.
 //!
 //! The scripts of `suites` and `examples`, and those by which rules are shown, are run in both versions of the language,
 //! and have the same answers in both. Those of `version-1` and `version-2`, and of `examples/version-2`, are run in that
 //! version alone.
 #![tactic(auto)]
 
+mod cases;
 mod suites;
 mod texts;
+mod tools;
 
 use anyhow::Result;
 use std::fs;
@@ -66,5 +68,5 @@ fn main(rt: HostRuntime) -> Result<()> {
         texts::check(&rt, file.as_str())?;
         println!(rt; "{file}")?;
     }
-    Ok(())
+    tools::check_all(&rt)
 }

@@ -1,0 +1,95 @@
+//! The texts that tools write of scripts: what `vtree check` says of them, the worlds to which they lead, and what is
+//! told of their last lines.
+
+use crate::cases::{Tool, check as check_cases};
+use crate::files;
+use anyhow::Result;
+use std::rt::Runtime;
+use vt_check::check;
+use vt_explain::Format;
+use vt_script::Version;
+use vt_show::show;
+
+// How the scripts of a folder are checked.
+fn checked(version: Version, format: check::Format, strict: bool) -> Tool {
+    Tool::Check(check::Options {
+        version,
+        format,
+        strict,
+    })
+}
+
+// How the worlds of the scripts of a folder are shown.
+fn shown(version: Version, format: show::Format, files: bool, task: Option<&'static str>) -> Tool {
+    let options = show::Options {
+        format,
+        files,
+        task,
+    };
+    Tool::Show(version, options)
+}
+
+// Compares the texts of a folder's files.
+fn check_folder<R: Runtime + AllocGlobal>(rt: &R, folder: &str, tool: Tool) -> Result<()> {
+    for file in &files(rt, folder, "")? {
+        let count = check_cases(rt, file.as_str(), tool)?;
+        println!(rt; "{file}: {count} texts")?;
+    }
+    Ok(())
+}
+
+/// Compares the texts of all folders of `tools`, and writes the name of each file.
+pub fn check_all<R: Runtime + AllocGlobal>(rt: &R) -> Result<()> {
+    let tools = [
+        (
+            "tools/check",
+            checked(Version::One, check::Format::Text, false),
+        ),
+        (
+            "tools/check-2",
+            checked(Version::Two, check::Format::Text, false),
+        ),
+        (
+            "tools/json",
+            checked(Version::One, check::Format::Json, false),
+        ),
+        (
+            "tools/strict",
+            checked(Version::One, check::Format::Text, true),
+        ),
+        (
+            "tools/show",
+            shown(Version::One, show::Format::Text, false, None),
+        ),
+        (
+            "tools/show-2",
+            shown(Version::Two, show::Format::Text, false, None),
+        ),
+        (
+            "tools/show-files",
+            shown(Version::One, show::Format::Text, true, None),
+        ),
+        (
+            "tools/show-json",
+            shown(Version::One, show::Format::Json, true, None),
+        ),
+        (
+            "tools/show-dot",
+            shown(Version::One, show::Format::Dot, false, None),
+        ),
+        (
+            "tools/show-task",
+            shown(Version::One, show::Format::Text, true, Some("t.1")),
+        ),
+        ("tools/explain", Tool::Explain(Version::One, Format::Text)),
+        ("tools/explain-2", Tool::Explain(Version::Two, Format::Text)),
+        (
+            "tools/explain-json",
+            Tool::Explain(Version::One, Format::Json),
+        ),
+    ];
+    for (folder, tool) in tools {
+        check_folder(rt, folder, tool)?;
+    }
+    Ok(())
+}
