@@ -1,5 +1,5 @@
 -- Room for further uses, and the counts of tasks beside namespaces.
-use Rattle.std.proofs.Common.{◌≡◌, ◌≤◌, refl, sym, ap, subst, ◌∙◌, ℕ, ◌+◌, Bool, true, false, cond, nat_eq, List, [], ◌∷◌, find, Some, None, option_map, unwrap_or, arith}
+use Rattle.std.proofs.Common.{◌≡◌, ◌≤◌, refl, sym, ap, subst, ◌∙◌, ℕ, ◌+◌, Bool, true, false, cond, nat_eq, List, [], ◌∷◌, find, map, Some, None, option_map, unwrap_or, arith}
 use Rattle.std.specs.List.{IsDistinct}
 use Rattle.std.specs.Map.{keys_of, lookup, set_value}
 use Rattle.vt_laws_counts.specs.Using.{pinned_if}
@@ -84,20 +84,84 @@ inodes_grow inode count number (old ∷ olds) (new ∷ news) is =
         (pinned_if_more (counted old.count) (inodes_seen old) inode number)
     by false here later = later
 
--- where there was room for two uses there is room for one after one
-pub room_left : (other at : Location) (mounts news : List MountEntry) (filesystems new_filesystems : Filesystems)
-    → HasRoom 2 at mounts filesystems → kept news new_filesystems ≡ with_location other false (kept mounts filesystems)
-    → HasRoom 1 at news new_filesystems
-room_left other at mounts news filesystems new_filesystems room is =
+-- where there was room for one use more there is room for so many after one
+pub room_still : (more : ℕ) (other at : Location) (mounts news : List MountEntry)
+    (filesystems new_filesystems : Filesystems)
+    → HasRoom (more + 1) at mounts filesystems
+    → kept news new_filesystems ≡ with_location other false (kept mounts filesystems)
+    → HasRoom more at news new_filesystems
+room_still more other at mounts news filesystems new_filesystems room is =
     let grown = uses_grow (counted other.mount.count) (counted at.mount.count) mounts in
     let inode = inodes_grow (counted other.node.filesystem.count, number_of other.node) at.node.filesystem.count
     (number_of at.node) filesystems new_filesystems
     (ap (λ k. k.filesystems) is) in
-    subst (λ all. HasRoom 1 at all new_filesystems) (sym (ap (λ k. k.mounts) is)) (record {
-      uses = (let most = room.uses in let more = grown.0 in omega (arith, most, more));
-      writers = (let most = room.writers in let more = grown.1 in omega (arith, most, more));
+    subst (λ all. HasRoom more at all new_filesystems) (sym (ap (λ k. k.mounts) is)) (record {
+      uses = (let most = room.uses in let more_uses = grown.0 in omega (arith, most, more_uses));
+      writers = (let most = room.writers in let more_uses = grown.1 in omega (arith, most, more_uses));
       inode = (let most = room.inode in omega (arith, most, inode));
     })
+
+pub room_left : (other at : Location) (mounts news : List MountEntry) (filesystems new_filesystems : Filesystems)
+    → HasRoom 2 at mounts filesystems → kept news new_filesystems ≡ with_location other false (kept mounts filesystems)
+    → HasRoom 1 at news new_filesystems
+room_left = room_still 1
+
+-- and after one more use of an inode, where mounts keep their counts
+pub room_pinned : (more : ℕ) (inode : Inode) (at : Location) (mounts news : List MountEntry)
+    (filesystems new_filesystems : Filesystems)
+    → HasRoom (more + 1) at mounts filesystems
+    → uses_of news (counted at.mount.count) ≡ uses_of mounts (counted at.mount.count)
+    → writers_of news (counted at.mount.count) ≡ writers_of mounts (counted at.mount.count)
+    → shown new_filesystems ≡ pinned_in inode (shown filesystems)
+    → HasRoom more at news new_filesystems
+room_pinned more inode at mounts news filesystems new_filesystems room uses writers is =
+    let grown = inodes_grow inode at.node.filesystem.count (number_of at.node) filesystems new_filesystems is in
+    record {
+      uses = (let most = room.uses in omega (arith, most, uses));
+      writers = (let most = room.writers in omega (arith, most, writers));
+      inode = (let most = room.inode in omega (arith, most, grown));
+    }
+
+-- room for many is room for fewer
+pub room_less : (more less : ℕ) (at : Location) (mounts : List MountEntry) (filesystems : Filesystems) → less ≤ more
+    → HasRoom more at mounts filesystems → HasRoom less at mounts filesystems
+room_less more less at mounts filesystems few room = record {
+  uses = (let most = room.uses in omega (arith, most, few));
+  writers = room.writers;
+  inode = (let most = room.inode in omega (arith, most, few));
+}
+
+-- mounts that keep their numbers and counts
+pub counts_kept : (change : MountEntry → MountEntry)
+    → ((entry : MountEntry) → (change entry).mount.number ≡ entry.mount.number)
+    → ((entry : MountEntry) → (change entry).uses ≡ entry.uses)
+    → ((entry : MountEntry) → (change entry).writers ≡ entry.writers)
+    → (entries : List MountEntry) (n : ℕ)
+    → (uses_of (map change entries) n ≡ uses_of entries n) × (writers_of (map change entries) n ≡ writers_of entries n)
+counts_kept change number uses writers [] n = (refl, refl)
+counts_kept change number uses writers (entry ∷ entries) n =
+    let later = counts_kept change number uses writers entries n in (
+      ap (λ k. unwrap_or (option_map (λ (e : MountEntry). e.uses)
+          (cond (nat_eq n k) (Some (change entry)) (entry_numbered (map change entries) n))) 0) (number entry)
+          ∙ by_uses (nat_eq n entry.mount.number) later.0,
+      ap (λ k. unwrap_or (option_map (λ (e : MountEntry). e.writers)
+          (cond (nat_eq n k) (Some (change entry)) (entry_numbered (map change entries) n))) 0) (number entry)
+          ∙ by_writers (nat_eq n entry.mount.number) later.1,
+    )
+  where
+    by_uses : (b : Bool) → uses_of (map change entries) n ≡ uses_of entries n
+        → unwrap_or (option_map (λ (e : MountEntry). e.uses)
+        (cond b (Some (change entry)) (entry_numbered (map change entries) n))) 0
+        ≡ unwrap_or (option_map (λ (e : MountEntry). e.uses) (cond b (Some entry) (entry_numbered entries n))) 0
+    by_uses true later = uses entry
+    by_uses false later = later
+
+    by_writers : (b : Bool) → writers_of (map change entries) n ≡ writers_of entries n
+        → unwrap_or (option_map (λ (e : MountEntry). e.writers)
+        (cond b (Some (change entry)) (entry_numbered (map change entries) n))) 0
+        ≡ unwrap_or (option_map (λ (e : MountEntry). e.writers) (cond b (Some entry) (entry_numbered entries n))) 0
+    by_writers true later = writers entry
+    by_writers false later = later
 
 -- Tasks of namespaces
 

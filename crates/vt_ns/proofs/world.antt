@@ -17,6 +17,9 @@ pub mod LookingAlone
 pub mod MountsOn
 pub mod MovedEvents
 pub mod OpeningNew
+pub mod PivotedEvents
+pub mod PivotedUses
+pub mod PivotedWorlds
 pub mod PointsMoved
 pub mod RemainingTasks
 pub mod RenamedOver

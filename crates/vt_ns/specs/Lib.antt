@@ -8,3 +8,4 @@ pub mod LyingUnder
 pub mod Retyped
 pub mod Unmounting
 pub mod Counting
+pub mod Pivoting

@@ -14,6 +14,7 @@ mod mount_moves;
 mod mounting;
 mod opening;
 mod opening_files;
+mod pivoting;
 mod reaching;
 mod reading;
 mod removing;

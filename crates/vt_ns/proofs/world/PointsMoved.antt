@@ -145,7 +145,7 @@ module _ (value : WorldValue) (whole : IsHeld value) where
       ∷ inodes_are rest (λ one m. there one (inr m)) parts.1 i
 
   -- and they are there
-  inodes_there : (was : FilesystemEntry) → Among was value.filesystems → (places : List (Location ℕ))
+  pub inodes_there : (was : FilesystemEntry) → Among was value.filesystems → (places : List (Location ℕ))
       → ((place : Location ℕ) → Among place places → is_located_well nat_eq world place ≡ true)
       → AreThere (counted was.count) (inodes_seen was) (map (inode_at world) places)
   inodes_there was m places there =

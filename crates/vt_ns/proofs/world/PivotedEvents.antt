@@ -1,0 +1,142 @@
+-- A mount becomes the root mount, as code does it: pivot_root(2).
+use Rattle.std.proofs.Common.{◌≡◌, ◌<◌, refl, sym, ap, subst, ◌∙◌, ℕ, ◌+◌, zero, suc, nat_eq, true, false, true≢false, List, [], ◌∷◌, find, map, Option, Some, None, is_some, unwrap_or}
+use Rattle.std.specs.List.{list_any}
+use Rattle.std.proofs.lemmas.Option.{same_Some}
+use Rattle.vt_spec.specs.Language.Calls.{TaskName}
+use Rattle.vt_spec.specs.Lists.{chain, rest_of}
+use Rattle.vt_spec.specs.Machine.Looks as Looks
+use Rattle.vt_spec.specs.Machine.Looks.{looks_of}
+use Rattle.vt_spec.specs.Machine.Mounts.{Location, Mount, mount_in, no_mount, root_of}
+use Rattle.vt_spec.specs.Machine.Namespaces.{pivoted_task}
+use Rattle.vt_spec.specs.Machine.Permits.Permit.{ToPivot}
+use Rattle.vt_spec.specs.Machine.World.{Task, World, mount_at, mount_numbered}
+use Rattle.vt_fs.specs.FilesystemsValue.{Filesystems, shown}
+use Rattle.vt_location.specs.declared.locations.Location.{Location as At}
+use Rattle.vt_location.specs.declared.mounts.Mount.{Mount as Attached}
+use Rattle.vt_location.specs.Locations.{location_of}
+use Rattle.vt_location.specs.MountValue.{mount_of}
+use Rattle.vt_location.specs.Numbers.{counted}
+use Rattle.vt_mount.specs.Moving.{pivoted_entry}
+use Rattle.vt_mount.specs.MountsValue.{MountEntry, mounts_in, uses_of, writers_of}
+use Rattle.vt_tasks.specs.Counts.{all_places_at}
+use Rattle.vt_tasks.specs.declared.task.Task.{Task as Held}
+use Rattle.vt_tasks.specs.TasksValue.{Tasks, called}
+use Rattle.vt_tasks.specs.TaskValue.{task_of}
+use Rattle.vt_world.specs.Held.{IsHeld}
+use Rattle.vt_world.specs.WorldValue.{WorldValue, world_of}
+use Rattle.vt_detach.specs.Events.{Permits}
+use Rattle.vt_detach.specs.Forking.{HasRoom}
+use Rattle.vt_detach.specs.Uses.{Kept, inode_of, kept, pinned_in, unpinned_in}
+use Rattle.vt_detach.proofs.Remaining.{remade}
+use Rattle.vt_detach.proofs.Staying.{IsDone}
+use Rattle.vt_ns.specs.Pivoting.{with_uses, without_uses}
+use Rattle.vt_ns.proofs.CountingLemmas.{counts_kept, room_pinned}
+use Rattle.vt_ns.proofs.world.PivotedUses.{kept_number}
+use Rattle.vt_ns.proofs.world.PivotedWorlds.{may, root_is_changed}
+
+-- a mount that is in a namespace is found
+pub found_there : (number : ℕ) (found : Option (Mount ℕ))
+    → is_some (unwrap_or found (no_mount number)).namespace ≡ true → is_some found ≡ true
+found_there number None e = absurd (true≢false (sym e))
+found_there number (Some mount) e = refl
+
+-- nothing is above a place that has nothing above it
+no_rest : {A : Type 0} (above : A → Option A) (most : ℕ) (a : A) → above a ≡ None → rest_of (chain most above a) ≡ []
+no_rest above zero a none = refl
+no_rest above (suc most) a none =
+    ap (λ next. rest_of (elim next [ None ↦ a ∷ [] | Some b ↦ a ∷ chain most above b ])) none
+
+module _ (value : WorldValue) (whole : IsHeld value) (name : TaskName) (number : ℕ) (put : At)
+    (permits : Permits value name (ToPivot number (location_of put))) where
+  -- what is found is there
+  pub new_is_found :
+      is_some (find (λ (mount : Mount ℕ). nat_eq number mount.number) (mounts_in value.mounts)) ≡ true
+  new_is_found =
+      found_there number (find (λ (mount : Mount ℕ). nat_eq number mount.number) (mounts_in value.mounts))
+      (ap is_some (may value whole name number put permits).own)
+
+  pub new_is_placed : is_some (mount_numbered nat_eq (world_of value) number).mount_point ≡ true
+  new_is_placed = by (mount_numbered nat_eq (world_of value) number).mount_point refl
+    where
+      here : Location ℕ
+      here = record { mount = number; node = 0 }
+
+      by : (point : Option (Location ℕ)) → (mount_numbered nat_eq (world_of value) number).mount_point ≡ point
+          → is_some point ≡ true
+      by (Some place) e = refl
+      by None e =
+          absurd (true≢false (sym ((may value whole name number put permits).below_root 0)
+          ∙ ap (list_any (λ (location : Location ℕ). nat_eq permits.task.root.mount location.mount))
+          (no_rest (λ (location : Location ℕ). (Looks.mount_at (looks_of nat_eq (world_of value)) location).mount_point)
+          (looks_of nat_eq (world_of value)).mount_count here e)))
+
+  module _ (held : Held) (held_is : Some (task_of held) ≡ called name value.tasks) where
+    caller_is : task_of held ≡ permits.task
+    caller_is = same_Some _ _ (held_is ∙ permits.called)
+
+    pub root_is_found : is_some (find (λ (mount : Mount ℕ). nat_eq (counted held.root.mount.count) mount.number)
+        (mounts_in value.mounts)) ≡ true
+    root_is_found =
+        found_there (counted held.root.mount.count)
+        (find (λ (mount : Mount ℕ). nat_eq (counted held.root.mount.count) mount.number) (mounts_in value.mounts))
+        (ap (λ (one : Task ℕ). is_some (mount_at nat_eq (world_of value) one.root).namespace) caller_is
+        ∙ ap is_some (may value whole name number put permits).own_root)
+
+    module _ (root new : Attached) (left entered point : At)
+        (root_is : Some (mount_of root)
+        ≡ find (λ (mount : Mount ℕ). nat_eq (counted held.root.mount.count) mount.number) (mounts_in value.mounts))
+        (new_is : Some (mount_of new)
+        ≡ find (λ (mount : Mount ℕ). nat_eq number mount.number) (mounts_in value.mounts))
+        (left_is : location_of left ≡ root_of (mount_of root))
+        (entered_is : location_of entered ≡ root_of (mount_of new))
+        (point_is : Some (location_of point) ≡ (mount_numbered nat_eq (world_of value) number).mount_point)
+        (moved : ℕ) (moved_is : moved ≡ all_places_at (counted held.namespace.count) (location_of left) value.tasks)
+      where
+        root_so : mount_of root ≡ mount_at nat_eq (world_of value) permits.task.root
+        root_so =
+            ap (λ o. unwrap_or o (no_mount (counted held.root.mount.count))) root_is
+            ∙ ap (λ (one : Task ℕ). mount_at nat_eq (world_of value) one.root) caller_is
+
+        new_so : mount_of new ≡ mount_numbered nat_eq (world_of value) number
+        new_so = ap (λ o. unwrap_or o (no_mount number)) new_is
+
+        pub room_to_enter : (between : List MountEntry) (filesystems : Filesystems)
+            → HasRoom (moved + 1) entered value.mounts value.filesystems
+            → between ≡ map (pivoted_entry (mount_of root) (mount_of new) (location_of put)) value.mounts
+            → shown filesystems ≡ pinned_in (inode_of put.node) (shown value.filesystems)
+            → HasRoom moved entered between filesystems
+        room_to_enter between filesystems room pivoted_so pinned_so =
+            let n = counted entered.mount.count in
+            let same = counts_kept (pivoted_entry (mount_of root) (mount_of new) (location_of put))
+            (λ entry. kept_number (mount_of root) (mount_of new) (location_of put) entry.mount)
+            (λ entry. refl) (λ entry. refl) value.mounts n in
+            room_pinned moved (inode_of put.node) entered value.mounts between value.filesystems filesystems room
+            (ap (λ all. uses_of all n) pivoted_so ∙ same.0) (ap (λ all. writers_of all n) pivoted_so ∙ same.1) pinned_so
+
+        pub root_is_pivoted : (between held_mounts mounts : List MountEntry)
+            (pinned_files held_files left_files filesystems : Filesystems) (tasks : Tasks)
+            → put.node.slot < 18446744073709551616 → entered.node.slot < 18446744073709551616
+            → left.node.slot < 18446744073709551616 → point.node.slot < 18446744073709551616
+            → between ≡ map (pivoted_entry (mount_of root) (mount_of new) (location_of put)) value.mounts
+            → shown pinned_files ≡ pinned_in (inode_of put.node) (shown value.filesystems)
+            → kept held_mounts held_files ≡ with_uses moved entered (kept between pinned_files)
+            → kept mounts left_files ≡ without_uses moved left (kept held_mounts held_files)
+            → shown filesystems ≡ unpinned_in (inode_of point.node) (shown left_files)
+            → tasks ≡ map (pivoted_task nat_eq (counted held.namespace.count) (mount_of root) (mount_of new)) value.tasks
+            → IsDone value name (ToPivot number (location_of put)) (remade value mounts filesystems tasks)
+        root_is_pivoted between held_mounts mounts pinned_files held_files left_files filesystems tasks put_small entered_small left_small point_small pivoted_so pinned_so held_so left_so unpinned_so tasks_so =
+            let inside : counted held.namespace.count ≡ permits.task.namespace =
+            ap (λ (one : Task ℕ). one.namespace) caller_is in
+            let as_many = moved_is
+            ∙ (λ i. all_places_at (inside i) ((left_is ∙ ap root_of root_so) i) value.tasks) in
+            subst (λ all. IsDone value name (ToPivot number (location_of put)) (remade value mounts filesystems all))
+            (sym (tasks_so ∙ (λ i. map (pivoted_task nat_eq (inside i) (root_so i) (new_so i)) value.tasks)))
+            (root_is_changed value whole name number put permits entered left point
+            (entered_is ∙ ap root_of new_so) (left_is ∙ ap root_of root_so) (sym point_is)
+            put_small entered_small left_small point_small between mounts pinned_files left_files filesystems
+            (kept held_mounts held_files)
+            (pivoted_so ∙ (λ i. map (pivoted_entry (root_so i) (new_so i) (location_of put)) value.mounts))
+            pinned_so
+            (held_so ∙ ap (λ n. with_uses n entered (kept between pinned_files)) as_many)
+            (left_so ∙ ap (λ n. without_uses n left (kept held_mounts held_files)) as_many)
+            unpinned_so)

@@ -1,0 +1,363 @@
+-- Where two mounts change places and tasks go from the root of one to that of the other, what is used more and less:
+-- pivot_root(2).
+use Rattle.std.proofs.Common.{◌≡◌, refl, sym, ap, ◌∙◌, ⊎_elim, ℕ, ◌+◌, zero, suc, nat_eq, eqb-true, eq-eqb, Bool, true, false, true≢false, cond, ◌&&◌, List, [], ◌∷◌, ◌++◌, map, filter, flat_map, Option, Some, None, arith}
+use Rattle.std.specs.Prelude.{filter_map, option_to_list, replicate}
+use Rattle.std.specs.List.{cons_option, list_any}
+use Rattle.std.proofs.lemmas.Bool.{or_parts}
+use Rattle.vt_spec.specs.Lists.{any_pair}
+use Rattle.vt_spec.specs.Machine.Mounts.{Location, Mount, mount_in, root_of, same_location}
+use Rattle.vt_spec.specs.Machine.Namespaces.{pivoted, pivoted_location, pivoted_mount, pivoted_task}
+use Rattle.vt_spec.specs.Machine.Settled.{located_in}
+use Rattle.vt_spec.specs.Machine.World.{Task, World, all_locations, locations_of, mount_at}
+use Rattle.vt_spec.proofs.Truths.{nat_eq_turned}
+use Rattle.vt_spec.proofs.Worlds.{shown-mapped}
+use Rattle.vt_laws_counts.specs.Using.{Exchanges, is_inode}
+use Rattle.vt_laws_counts.proofs.using.Places.{count_append, count_in, count_places, located_uses, same_found}
+use Rattle.vt_laws_letting_go.specs.Counts.{mount_uses, mounts_showing, times}
+use Rattle.vt_laws_letting_go.specs.Mounting.{inode_at}
+use Rattle.vt_laws_letting_go.specs.OneByOne.{Inode}
+use Rattle.vt_laws_letting_go.proofs.Lists.{Among, fails}
+use Rattle.vt_laws_letting_go.proofs.sweeps.UpperUses.{times_append}
+use Rattle.vt_tasks.specs.Counts as counted_uses
+use Rattle.vt_tasks.specs.Counts.{all_places_at, uses}
+use Rattle.vt_tasks.specs.TasksValue.{Tasks}
+use Rattle.vt_tasks.proofs.PivotCounts.{pivoted_uses}
+use Rattle.vt_world.specs.Held.{writes_of, writes_of_task}
+use Rattle.vt_detach.proofs.Moving.{Use, inodes_of_uses, is_use_on, writes_on_mount}
+use Rattle.vt_detach.proofs.MountsChanged.{times_map}
+use Rattle.vt_detach.proofs.Places.{standing}
+
+-- Lists
+
+times_kept : {A : Type 0} (test : A → Bool) (change : A → A) → ((a : A) → test (change a) ≡ test a) → (list : List A)
+    → times test (map change list) ≡ times test list
+times_kept test change same [] = refl
+times_kept test change same (a ∷ rest) = λ i. cond (same a i) 1 0 + times_kept test change same rest i
+
+times_replicate : {A : Type 0} (test : A → Bool) (n : ℕ) (a : A) → times test (replicate n a) ≡ cond (test a) n 0
+times_replicate test zero a = by (test a)
+  where
+    by : (b : Bool) → ◌≡◌ {A = ℕ} 0 (cond b 0 0)
+    by true = refl
+    by false = refl
+times_replicate test (suc n) a = ap (λ m. cond (test a) 1 0 + m) (times_replicate test n a) ∙ by (test a)
+  where
+    by : (b : Bool) → cond b 1 0 + cond b n 0 ≡ cond b (suc n) 0
+    by true = omega arith
+    by false = refl
+
+-- what the tasks count is what the world does
+counted_so : {A B : Type 0} (test : B → Bool) (f : A → B) (list : List A)
+    → times test (map f list) ≡ counted_uses.times (λ a. test (f a)) list
+counted_so test f [] = refl
+counted_so test f (a ∷ rest) = ap (λ n. cond (test (f a)) 1 0 + n) (counted_so test f rest)
+
+counted_too : {A : Type 0} (test : A → Bool) (list : List A) → times test list ≡ counted_uses.times test list
+counted_too test [] = refl
+counted_too test (a ∷ rest) = ap (λ n. cond (test a) 1 0 + n) (counted_too test rest)
+
+-- Sums over mounts
+
+abbrev total : (Mount ℕ → ℕ) → List (Mount ℕ) → ℕ
+total weight [] = 0
+total weight (mount ∷ rest) = weight mount + total weight rest
+
+total_map : (weight : Mount ℕ → ℕ) (change : Mount ℕ → Mount ℕ) (mounts : List (Mount ℕ))
+    → total weight (map change mounts) ≡ total (λ mount. weight (change mount)) mounts
+total_map weight change [] = refl
+total_map weight change (mount ∷ rest) = ap (λ n. weight (change mount) + n) (total_map weight change rest)
+
+sums : (f g h a b c : Mount ℕ → ℕ)
+    → ((mount : Mount ℕ) → (f mount + g mount) + h mount ≡ (a mount + b mount) + c mount)
+    → (mounts : List (Mount ℕ))
+    → (total f mounts + total g mounts) + total h mounts ≡ (total a mounts + total b mounts) + total c mounts
+sums f g h a b c each [] = refl
+sums f g h a b c each (mount ∷ rest) =
+    let here = each mount in let later = sums f g h a b c each rest in omega (arith, here, later)
+
+-- the weight of the mount with a number
+abbrev of_one : ℕ → (Mount ℕ → ℕ) → Mount ℕ → ℕ
+of_one number weight mount = cond (nat_eq number mount.number) (weight mount) 0
+
+none_weighs : (number : ℕ) (weight : Mount ℕ → ℕ) (mounts : List (Mount ℕ))
+    → list_any (λ (mount : Mount ℕ). nat_eq number mount.number) mounts ≡ false
+    → total (of_one number weight) mounts ≡ 0
+none_weighs number weight [] none = refl
+none_weighs number weight (mount ∷ rest) none =
+    let parts = or_parts (nat_eq number mount.number) _ none in
+    λ i. cond (parts.0 i) (weight mount) 0 + none_weighs number weight rest parts.1 i
+
+one_weighs : (weight : Mount ℕ → ℕ) (mounts : List (Mount ℕ)) (mount : Mount ℕ)
+    → any_pair (λ (a b : Mount ℕ). nat_eq a.number b.number) mounts ≡ false → Among mount mounts
+    → total (of_one mount.number weight) mounts ≡ weight mount
+one_weighs weight [] mount one m = absurd m
+one_weighs weight (first ∷ rest) mount one m =
+    let parts = or_parts (list_any (λ (other : Mount ℕ). nat_eq first.number other.number) rest) _ one in
+    ⊎_elim (here parts.0) (later parts.0 (one_weighs weight rest mount parts.1)) m
+  where
+    here : list_any (λ (other : Mount ℕ). nat_eq first.number other.number) rest ≡ false → mount ≡ first
+        → cond (nat_eq mount.number first.number) (weight first) 0 + total (of_one mount.number weight) rest
+        ≡ weight mount
+    here none same =
+        let own : cond (nat_eq mount.number first.number) (weight first) 0 ≡ weight mount =
+        (λ i. cond (eq-eqb mount.number first.number (ap (λ (x : Mount ℕ). x.number) same) i) (weight (sym same i)) 0) in
+        let others : total (of_one mount.number weight) rest ≡ 0 = none_weighs mount.number weight rest
+        (ap (λ (x : Mount ℕ). list_any (λ (other : Mount ℕ). nat_eq x.number other.number) rest) same ∙ none) in
+        omega (arith, own, others)
+
+    later : list_any (λ (other : Mount ℕ). nat_eq first.number other.number) rest ≡ false
+        → (Among mount rest → total (of_one mount.number weight) rest ≡ weight mount) → Among mount rest
+        → cond (nat_eq mount.number first.number) (weight first) 0 + total (of_one mount.number weight) rest
+        ≡ weight mount
+    later none others there =
+        let another : nat_eq mount.number first.number ≡ false = nat_eq_turned mount.number first.number
+        ∙ fails (λ (other : Mount ℕ). nat_eq first.number other.number) rest none mount there in
+        let own : cond (nat_eq mount.number first.number) (weight first) 0 ≡ 0 =
+        ap (λ b. cond b (weight first) 0) another in
+        omega (arith, own, others there)
+
+-- The mounts
+
+module _ (root new : Mount ℕ) (put : Location ℕ) where
+  abbrev pub pivoting : Mount ℕ → Mount ℕ
+  pivoting = pivoted_mount nat_eq root new put
+
+  -- a mount keeps all but its mount point
+  pub kept_part : {A : Type 0} (part : Mount ℕ → A)
+      → ((mount : Mount ℕ) (point : Option (Location ℕ)) → part (record mount { mount_point = point }) ≡ part mount)
+      → (mount : Mount ℕ) → part (pivoting mount) ≡ part mount
+  kept_part part same mount = by (nat_eq mount.number new.number) (nat_eq mount.number root.number)
+    where
+      by : (b c : Bool) → part (cond b (record mount { mount_point = root.mount_point })
+          (cond c (record mount { mount_point = Some put }) mount)) ≡ part mount
+      by true c = same mount root.mount_point
+      by false true = same mount (Some put)
+      by false false = refl
+
+  pub kept_number : (mount : Mount ℕ) → (pivoting mount).number ≡ mount.number
+  kept_number = kept_part (λ mount. mount.number) (λ mount point. refl)
+
+  pub kept_filesystem : (mount : Mount ℕ) → (pivoting mount).filesystem ≡ mount.filesystem
+  kept_filesystem = kept_part (λ mount. mount.filesystem) (λ mount point. refl)
+
+  -- as many mounts show a filesystem
+  pub kept_showing : (mounts : List (Mount ℕ)) (number : ℕ)
+      → times (λ (mount : Mount ℕ). nat_eq number mount.filesystem) (map pivoting mounts)
+      ≡ times (λ (mount : Mount ℕ). nat_eq number mount.filesystem) mounts
+  kept_showing mounts number =
+      times_kept (λ (mount : Mount ℕ). nat_eq number mount.filesystem) pivoting
+      (λ mount. ap (nat_eq number) (kept_filesystem mount)) mounts
+
+  kept_roots : (mounts : List (Mount ℕ)) → map root_of (map pivoting mounts) ≡ map root_of mounts
+  kept_roots [] = refl
+  kept_roots (mount ∷ rest) = λ i. kept_part root_of (λ one point. refl) mount i ∷ kept_roots rest i
+
+  -- What mount points weigh: that of the new root mount goes, and the place of the old one comes
+
+  module _ (weight : Location ℕ → ℕ) where
+    abbrev weight_at : Option (Location ℕ) → ℕ
+    weight_at None = 0
+    weight_at (Some place) = weight place
+
+    abbrev point_weight : Mount ℕ → ℕ
+    point_weight mount = weight_at mount.mount_point
+
+    one_pivots : nat_eq new.number root.number ≡ false → (mount : Mount ℕ)
+        → (point_weight (pivoting mount) + of_one new.number point_weight mount) + of_one root.number point_weight mount
+        ≡ (point_weight mount + of_one new.number (λ one. weight_at root.mount_point) mount)
+        + of_one root.number (λ one. weight put) mount
+    one_pivots another mount =
+        (λ i. (point_weight (pivoting mount) + cond (nat_eq_turned new.number mount.number i) (point_weight mount) 0)
+        + cond (nat_eq_turned root.number mount.number i) (point_weight mount) 0)
+        ∙ by (nat_eq mount.number new.number) refl (nat_eq mount.number root.number) refl
+        ∙ (λ i. (point_weight mount
+        + cond (nat_eq_turned mount.number new.number i) (weight_at root.mount_point) 0)
+        + cond (nat_eq_turned mount.number root.number i) (weight put) 0)
+      where
+        by : (b : Bool) → nat_eq mount.number new.number ≡ b → (c : Bool) → nat_eq mount.number root.number ≡ c
+            → (weight_at (cond b (record mount { mount_point = root.mount_point })
+            (cond c (record mount { mount_point = Some put }) mount)).mount_point
+            + cond b (point_weight mount) 0) + cond c (point_weight mount) 0
+            ≡ (point_weight mount + cond b (weight_at root.mount_point) 0) + cond c (weight put) 0
+        by true e true f =
+            absurd (true≢false (sym (eq-eqb new.number root.number
+            (sym (eqb-true mount.number new.number e) ∙ eqb-true mount.number root.number f)) ∙ another))
+        by true e false f = omega arith
+        by false e true f = omega arith
+        by false e false f = refl
+
+    points_weigh : (mounts : List (Mount ℕ))
+        → any_pair (λ (a b : Mount ℕ). nat_eq a.number b.number) mounts ≡ false
+        → Among root mounts → Among new mounts → nat_eq new.number root.number ≡ false
+        → total point_weight (map pivoting mounts) + point_weight new ≡ total point_weight mounts + weight put
+    points_weigh mounts one root_there new_there another =
+        let all = sums (λ mount. point_weight (pivoting mount)) (of_one new.number point_weight)
+        (of_one root.number point_weight) point_weight (of_one new.number (λ mount. weight_at root.mount_point))
+        (of_one root.number (λ mount. weight put)) (one_pivots another) mounts in
+        let moved = total_map point_weight pivoting mounts in
+        let a = one_weighs point_weight mounts new one new_there in
+        let b = one_weighs point_weight mounts root one root_there in
+        let c = one_weighs (λ mount. weight_at root.mount_point) mounts new one new_there in
+        let d = one_weighs (λ mount. weight put) mounts root one root_there in
+        omega (arith, all, moved, a, b, c, d)
+
+  module _ (mounts : List (Mount ℕ)) (k n : ℕ) where
+    abbrev place_weight : Location ℕ → ℕ
+    place_weight place = count_in mounts k n (place ∷ [])
+
+    point_counts : (point : Option (Location ℕ))
+        → count_in mounts k n (option_to_list point) ≡ weight_at place_weight point
+    point_counts None = refl
+    point_counts (Some place) = refl
+
+    points_count : (some : List (Mount ℕ))
+        → count_in mounts k n (filter_map (λ (mount : Mount ℕ). mount.mount_point) some)
+        ≡ total (point_weight place_weight) some
+    points_count [] = refl
+    points_count (mount ∷ rest) = by mount.mount_point (points_count rest)
+      where
+        by : (point : Option (Location ℕ))
+            → count_in mounts k n (filter_map (λ (one : Mount ℕ). one.mount_point) rest)
+            ≡ total (point_weight place_weight) rest
+            → count_in mounts k n (cons_option point (filter_map (λ (one : Mount ℕ). one.mount_point) rest))
+            ≡ weight_at place_weight point + total (point_weight place_weight) rest
+        by None later = let same : count_in mounts k n (filter_map (λ (one : Mount ℕ). one.mount_point) rest)
+            ≡ total (point_weight place_weight) rest = later in omega arith
+        by (Some place) later =
+            let split : count_in mounts k n (place ∷ filter_map (λ (one : Mount ℕ). one.mount_point) rest)
+            ≡ place_weight place + count_in mounts k n (filter_map (λ (one : Mount ℕ). one.mount_point) rest) =
+            count_append mounts k n (place ∷ []) (filter_map (λ (one : Mount ℕ). one.mount_point) rest) in
+            split ∙ ap (λ m. place_weight place + m) later
+
+    -- locations of tasks
+    locations_count : (tasks : Tasks) → count_in mounts k n (flat_map locations_of tasks)
+        ≡ uses (λ location. is_inode k n ((mount_in nat_eq mounts location.mount).filesystem, location.node)) tasks
+    locations_count tasks =
+        sym (count_places mounts k n (flat_map locations_of tasks))
+        ∙ counted_so (is_inode k n)
+        (λ (location : Location ℕ). ((mount_in nat_eq mounts location.mount).filesystem, location.node))
+        (flat_map locations_of tasks)
+
+-- The world
+
+module _ (world : World ℕ) (namespace : ℕ) (root new : Mount ℕ) (put : Location ℕ) where
+  abbrev pub pivoted_world : World ℕ
+  pivoted_world = pivoted nat_eq world namespace root new put
+
+  -- how many roots and working directories move
+  abbrev pub moved : ℕ
+  moved = all_places_at namespace (root_of root) world.tasks
+
+  abbrev pub coming : List Use
+  coming = replicate moved (standing (root_of new))
+
+  abbrev pub leaving : List Use
+  leaving = replicate moved (standing (root_of root))
+
+  -- the uses of a mount
+  pub mount_uses_pivot : (number : ℕ)
+      → mount_uses pivoted_world number + times (is_use_on number) leaving
+      ≡ mount_uses world number + times (is_use_on number) coming
+  mount_uses_pivot number =
+      let test : Location ℕ → Bool = λ (location : Location ℕ). nat_eq number location.mount in
+      let was = counted_too test (all_locations world) in
+      let is = counted_too test (all_locations pivoted_world) in
+      let all = pivoted_uses test world.tasks namespace root new in
+      let more = times_replicate (is_use_on number) moved (standing (root_of new)) in
+      let less = times_replicate (is_use_on number) moved (standing (root_of root)) in
+      omega (arith, was, is, all, more, less)
+
+  -- none of them is a file that is open for writing
+  pub none_writes : (number count : ℕ) (place : Location ℕ)
+      → times (writes_on_mount number) (replicate count (standing place)) ≡ 0
+  none_writes number count place = times_replicate (writes_on_mount number) count (standing place)
+
+  pub writes_pivot : (number : ℕ) (tasks : Tasks)
+      → writes_of number (map (pivoted_task nat_eq namespace root new) tasks) ≡ writes_of number tasks
+  writes_pivot number [] = refl
+  writes_pivot number (task ∷ rest) =
+      λ i. by (nat_eq namespace task.namespace) i + writes_pivot number rest i
+    where
+      by : (b : Bool)
+          → writes_of_task number (cond b (record task { root = pivoted_location nat_eq root new task.root; directory = pivoted_location nat_eq root new task.directory }) task)
+          ≡ writes_of_task number task
+      by true = refl
+      by false = refl
+
+  pub inside_pivot : (number : ℕ) (tasks : Tasks)
+      → times (λ (task : Task ℕ). nat_eq number task.namespace) (map (pivoted_task nat_eq namespace root new) tasks)
+      ≡ times (λ (task : Task ℕ). nat_eq number task.namespace) tasks
+  inside_pivot number tasks =
+      times_kept (λ (task : Task ℕ). nat_eq number task.namespace) (pivoted_task nat_eq namespace root new)
+      (λ task. ap (nat_eq number) (by task (nat_eq namespace task.namespace))) tasks
+    where
+      by : (task : Task ℕ) (b : Bool)
+          → (cond b (record task { root = pivoted_location nat_eq root new task.root; directory = pivoted_location nat_eq root new task.directory }) task).namespace
+          ≡ task.namespace
+      by task true = refl
+      by task false = refl
+
+  -- The uses of inodes
+
+  abbrev pub gained : List Inode
+  gained = inode_at world put ∷ inodes_of_uses world coming
+
+  abbrev pub lost : List Inode
+  lost = inodes_of_uses world leaving ++ map (inode_at world) (option_to_list new.mount_point)
+
+  moved_uses : (k n : ℕ) (place : Location ℕ)
+      → times (is_inode k n) (inodes_of_uses world (replicate moved (standing place)))
+      ≡ cond (is_inode k n (inode_at world place)) moved 0
+  moved_uses k n place =
+      times_map (is_inode k n) (λ (one : Use). inode_at world one.location) (replicate moved (standing place))
+      ∙ times_replicate (λ (one : Use). is_inode k n (inode_at world one.location)) moved (standing place)
+
+  module _ (one : any_pair (λ (a b : Mount ℕ). nat_eq a.number b.number) world.mounts ≡ false)
+      (root_there : Among root world.mounts) (new_there : Among new world.mounts)
+      (another : nat_eq new.number root.number ≡ false) where
+    counts : (k n : ℕ)
+        → times (nat_eq n) (located_in nat_eq world k) + times (is_inode k n) gained
+        ≡ times (nat_eq n) (located_in nat_eq pivoted_world k) + times (is_inode k n) lost
+    counts k n =
+        let mounts = world.mounts in
+        let count = count_in mounts k n in
+        let test : Location ℕ → Bool = λ (location : Location ℕ). is_inode k n
+        ((mount_in nat_eq mounts location.mount).filesystem, location.node) in
+        let locations = all_locations world in
+        let later = all_locations pivoted_world in
+        let roots = map root_of mounts in
+        let points : List (Location ℕ) = filter_map (λ (mount : Mount ℕ). mount.mount_point) mounts in
+        let others : List (Location ℕ) = filter_map (λ (mount : Mount ℕ). mount.mount_point)
+        (map (pivoting root new put) mounts) in
+        let was : times (nat_eq n) (located_in nat_eq world k) ≡ count ((locations ++ roots) ++ points) = refl in
+        let is : times (nat_eq n) (located_in nat_eq pivoted_world k) ≡ count ((later ++ roots) ++ others) =
+        (λ i. times (nat_eq n) (map (λ (location : Location ℕ). location.node)
+        (filter (λ (location : Location ℕ). nat_eq k (shown-mapped (pivoting root new put) (kept_number root new put)
+        (kept_filesystem root new put) mounts location.mount i))
+        ((later ++ kept_roots root new put mounts i) ++ others)))) in
+        let a = count_append mounts k n (locations ++ roots) points in
+        let b = count_append mounts k n locations roots in
+        let c = count_append mounts k n (later ++ roots) others in
+        let d = count_append mounts k n later roots in
+        let tasks_were = locations_count root new put mounts k n world.tasks in
+        let tasks_are = locations_count root new put mounts k n (map (pivoted_task nat_eq namespace root new) world.tasks) in
+        let all = pivoted_uses test world.tasks namespace root new in
+        let points_were = points_count root new put mounts k n mounts in
+        let points_are = points_count root new put mounts k n (map (pivoting root new put) mounts) in
+        let pivot = points_weigh root new put (place_weight root new put mounts k n) mounts one root_there new_there another in
+        let put_counts = count_places mounts k n (put ∷ []) in
+        let left = count_places mounts k n (option_to_list new.mount_point) in
+        let left_weighs = point_counts root new put mounts k n new.mount_point in
+        let more = moved_uses k n (root_of new) in
+        let less = moved_uses k n (root_of root) in
+        let apart = times_append (is_inode k n) (inodes_of_uses world leaving)
+        (map (inode_at world) (option_to_list new.mount_point)) in
+        omega (arith, was, is, a, b, c, d, tasks_were, tasks_are, all, points_were, points_are, pivot, put_counts, left, left_weighs, more, less, apart)
+
+    -- are exchanged
+    pub uses_pivot : (filesystem : ℕ) → Exchanges gained lost filesystem world pivoted_world
+    uses_pivot k = record {
+      same = same_found world pivoted_world refl k;
+      uses = λ n. located_uses world pivoted_world refl k n (times (is_inode k n) gained)
+          (times (is_inode k n) lost) (counts k n);
+    }

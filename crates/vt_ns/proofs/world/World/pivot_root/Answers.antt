@@ -1,0 +1,122 @@
+use Rattle.std.proofs.Common.{IfSome, Ok, Err, OnOk, Result, ap, arith, false, find, is_some, nat_eq, option_copied, option_map, refl, rules, subst, sym, ℕ, ◌+◌, ◌<◌, ◌≡◌, ◌∙◌}
+use Rattle.std.specs.Prelude.{IsErr, ◌↔◌}
+use Rattle.vt_fs.specs.FilesystemsValue.{shown}
+use Rattle.vt_location.specs.declared.locations.Location.{Location}
+use Rattle.vt_location.specs.Locations.{location_of, number_of}
+use Rattle.vt_location.specs.MountValue.{mount_of}
+use Rattle.vt_location.specs.Numbers.{counted}
+use Rattle.vt_mount.specs.MountsValue.{mounts_in}
+use Rattle.vt_spec.specs.Machine.Mounts.{Mount}
+use Rattle.vt_spec.specs.Machine.Permits.Permit.{ToPivot}
+use Rattle.vt_spec.specs.Machine.World.{mount_numbered}
+use Rattle.vt_tasks.specs.TasksValue.{called}
+use Rattle.vt_tasks.specs.TaskValue.{task_of}
+use Rattle.vt_ns.specs.contracts.world.World.{the_view}
+use Rattle.vt_detach.specs.Events.{Becomes, Permits}
+use Rattle.vt_detach.specs.Uses.{inode_of, pinned_in}
+use Rattle.vt_world.specs.WorldValue.{WorldValue, world_of}
+use Rattle.vt_detach.proofs.Remaining.{remade}
+use Rattle.vt_detach.proofs.Shown.{is_some_mapped, pins, unpins}
+use Rattle.vt_detach.proofs.Staying.{IsDone}
+use Rattle.vt_ns.proofs.world.PivotedEvents.{new_is_placed, room_to_enter, root_is_found, root_is_pivoted}
+use Rattle.vt_ns.proofs.world.World.pivot_root.Goals as goal
+
+-- one use more is counted, where there was room
+surely : {A E P : Type 0} (r : Result A E) (uses : ℕ) → IsErr r ↔ (uses ≡ 18446744073709551615)
+    → ((uses ≡ 18446744073709551615) → ⊥) → OnOk r P → P
+surely (Ok a) uses limit room so = so
+surely (Err refused) uses limit room so = absurd (room (limit.0 refl))
+
+pub unwrap-root-requires : goal.unwrap-root-requires
+unwrap-root-requires c =
+    let permits : Permits (the_view c.self.inside) c.args.name.now
+    (ToPivot (counted c.args.new.count) (location_of c.args.put)) =
+    subst (λ value. Permits value c.args.name.now (ToPivot (counted c.args.new.count) (location_of c.args.put)))
+    (sym c.self.view_is) c.requires in
+    sym (is_some_mapped mount_of c.get-2.result) ∙ ap is_some c.get-2.ensures
+    ∙ root_is_found (the_view c.self.inside) c.self.invariant c.args.name.now (counted c.args.new.count) c.args.put
+    permits c.unwrap-task.result.now
+    (sym (ap (λ found. option_map task_of (option_copied found)) c.unwrap-task.ensures) ∙ c.get.ensures)
+
+pub unwrap-point-requires : goal.unwrap-point-requires
+unwrap-point-requires c =
+    let permits : Permits (the_view c.self.inside) c.args.name.now
+    (ToPivot (counted c.args.new.count) (location_of c.args.put)) =
+    subst (λ value. Permits value c.args.name.now (ToPivot (counted c.args.new.count) (location_of c.args.put)))
+    (sym c.self.view_is) c.requires in
+    sym (is_some_mapped location_of c.mount_point.result) ∙ ap is_some c.mount_point.ensures.point
+    ∙ ap (λ (value : WorldValue). is_some (mount_numbered nat_eq (world_of value) (counted c.args.new.count)).mount_point)
+    (sym c.self.view_is)
+    ∙ new_is_placed (the_view c.self.inside) c.self.invariant c.args.name.now (counted c.args.new.count) c.args.put
+    permits
+
+pub hold_each-requires : goal.hold_each-requires
+hold_each-requires c =
+    let permits : Permits (the_view c.self.inside) c.args.name.now
+    (ToPivot (counted c.args.new.count) (location_of c.args.put)) =
+    subst (λ value. Permits value c.args.name.now (ToPivot (counted c.args.new.count) (location_of c.args.put)))
+    (sym c.self.view_is) c.requires in
+    let pinned_so = surely c.pin.result _ c.pin.ensures.limit
+    (λ full. absurd (omega (arith, c.if-uses.false, c.uses.ensures, full))) c.pin.ensures.ok in
+    room_to_enter (the_view c.self.inside) c.self.invariant c.args.name.now (counted c.args.new.count) c.args.put
+    permits c.unwrap-task.result.now
+    (sym (ap (λ found. option_map task_of (option_copied found)) c.unwrap-task.ensures) ∙ c.get.ensures)
+    c.unwrap-root.result c.unwrap-new_root.result c.root_location-left.result c.root_location-entered.result
+    c.unwrap-point.result
+    (sym (ap (option_map mount_of) c.unwrap-root.ensures) ∙ c.get-2.ensures)
+    (sym (ap (option_map mount_of) c.unwrap-new_root.ensures) ∙ c.get-3.ensures)
+    c.root_location-left.ensures c.root_location-entered.ensures
+    (sym (ap (option_map location_of) c.unwrap-point.ensures) ∙ c.mount_point.ensures.point
+    ∙ ap (λ (value : WorldValue). (mount_numbered nat_eq (world_of value) (counted c.args.new.count)).mount_point)
+    (sym c.self.view_is))
+    c.places_at-moved.result c.places_at-moved.ensures.count
+    c.pivot.new.self c.pin.new.self
+    (c.has_room.ensures.0 (let room = c.if-not-has_room.false in search rules))
+    c.in_ok-pivot.ensures.ok
+    (pins c.args.put.node.filesystem.count (number_of c.args.put.node) c.self.inside.filesystems c.pin.new.self
+    pinned_so)
+
+-- the event is done
+done : (c : goal.After-pivot-2) → IsDone (the_view c.self.inside) c.args.name.now
+    (ToPivot (counted c.args.new.count) (location_of c.args.put))
+    (remade (the_view c.self.inside) c.release_each.new.mounts c.unpin.new.self c.pivot-2.new.self)
+done c =
+    let permits : Permits (the_view c.self.inside) c.args.name.now
+    (ToPivot (counted c.args.new.count) (location_of c.args.put)) =
+    subst (λ value. Permits value c.args.name.now (ToPivot (counted c.args.new.count) (location_of c.args.put)))
+    (sym c.self.view_is) c.requires in
+    let pinned_so = surely c.pin.result _ c.pin.ensures.limit
+    (λ full. absurd (omega (arith, c.if-uses.false, c.uses.ensures, full))) c.pin.ensures.ok in
+    let point = c.unwrap-point.result in
+    root_is_pivoted (the_view c.self.inside) c.self.invariant c.args.name.now (counted c.args.new.count) c.args.put
+    permits c.unwrap-task.result.now
+    (sym (ap (λ found. option_map task_of (option_copied found)) c.unwrap-task.ensures) ∙ c.get.ensures)
+    c.unwrap-root.result c.unwrap-new_root.result c.root_location-left.result c.root_location-entered.result point
+    (sym (ap (option_map mount_of) c.unwrap-root.ensures) ∙ c.get-2.ensures)
+    (sym (ap (option_map mount_of) c.unwrap-new_root.ensures) ∙ c.get-3.ensures)
+    c.root_location-left.ensures c.root_location-entered.ensures
+    (sym (ap (option_map location_of) c.unwrap-point.ensures) ∙ c.mount_point.ensures.point
+    ∙ ap (λ (value : WorldValue). (mount_numbered nat_eq (world_of value) (counted c.args.new.count)).mount_point)
+    (sym c.self.view_is))
+    c.places_at-moved.result c.places_at-moved.ensures.count
+    c.pivot.new.self c.hold_each.new.mounts c.release_each.new.mounts c.pin.new.self c.hold_each.new.filesystems
+    c.release_each.new.filesystems c.unpin.new.self c.pivot-2.new.self
+    (omega arith) c.hold_each.ensures.slot c.release_each.ensures.slot
+    (subst (λ found. IfSome found (λ (at : Location). at.node.slot < 18446744073709551616)) c.unwrap-point.ensures
+    c.mount_point.ensures.slot)
+    c.in_ok-pivot.ensures.ok
+    (pins c.args.put.node.filesystem.count (number_of c.args.put.node) c.self.inside.filesystems c.pin.new.self
+    pinned_so)
+    c.hold_each.ensures.held c.release_each.ensures.left
+    (unpins point.node.filesystem.count (number_of point.node) c.release_each.new.filesystems c.unpin.new.self
+    c.unpin.ensures)
+    c.pivot-2.ensures
+
+pub invariant_of-self-2 : goal.invariant_of-self-2
+invariant_of-self-2 c = (done c).held
+
+pub returns-clause-ok : goal.returns-clause-ok
+returns-clause-ok c =
+    subst (λ value. Becomes value c.args.name.now (ToPivot (counted c.args.new.count) (location_of c.args.put))
+    (remade (the_view c.self.inside) c.release_each.new.mounts c.unpin.new.self c.pivot-2.new.self)) c.self.view_is
+    (done c).becomes

@@ -1,0 +1,82 @@
+//! The event of a mount that becomes the root mount: pivot_root(2).
+ghost use Rattle.std.specs.Prelude.{◌<◌, ◌≡◌, OnErr, OnOk, ◌^◌};
+ghost use Rattle.vt_location.specs.Locations.{location_of};
+ghost use Rattle.vt_location.specs.Numbers.{mount_number};
+ghost use Rattle.vt_spec.specs.Machine.Permits.Permit.{ToPivot};
+ghost use Rattle.vt_detach.specs.Events.{Becomes, Permits};
+ghost use Rattle.vt_detach.specs.Forking.{HasRoom};
+ghost use Rattle.vt_detach.specs.Uses.{kept};
+ghost use Rattle.vt_ns.specs.Pivoting.{with_uses, without_uses};
+
+use crate::forking::{has_room, hold_once_more};
+use crate::world::World;
+use std::alloc::AllocError;
+use vt_fs::Filesystems;
+use vt_location::{Location, MountId};
+use vt_mount::Mounts;
+use vt_request::TaskName;
+
+impl World {
+    /// Exchanges the mount of the caller's root with a mount under it, and attaches the old one at a place under the new
+    /// one: pivot_root(2). Roots and working directories of the namespace's tasks at the root of the old one move to the
+    /// root of the new one. Nothing propagates.
+    ///
+    /// It fails too where a mount or an inode would have more than 2^64 - 1 uses.
+    pub fn pivot_root(
+        &mut self,
+        name: &TaskName,
+        new: MountId,
+        put: Location,
+    ) -> Result<(), AllocError>
+        requires { Permits self.old name.now (ToPivot (mount_number new) (location_of put)) }
+        ensures ok { OnOk result (Becomes self.old name.now (ToPivot (mount_number new) (location_of put)) self.new) }
+        ensures counts { self.new.next ≡ self.old.next }
+        ensures err { OnErr result (self.new ≡ self.old) }
+    {
+        let task = self.tasks.get(name).unwrap();
+        let namespace = task.namespace;
+        let root = self.mounts.get(task.root.mount).unwrap();
+        let point = self.mount_point(new).unwrap();
+        let new_root = self.mounts.get(new).unwrap();
+        let left = root.root_location();
+        let entered = new_root.root_location();
+        let moved = self.tasks.places_at(namespace, left);
+        if !has_room(moved + 1, &self.mounts, &self.filesystems, entered)
+            || self.filesystems.uses(put.node) == u64::MAX
+        {
+            return Err(AllocError);
+        }
+        self.mounts.pivot(&root, &new_root, put)?;
+        let mounts = &mut self.mounts;
+        let filesystems = &mut self.filesystems;
+        // It cannot fail: one more use can be counted.
+        let _ = filesystems.pin(put.node);
+        hold_each(mounts, filesystems, entered, moved);
+        release_each(mounts, filesystems, left, moved);
+        filesystems.unpin(point.node);
+        self.tasks.pivot(namespace, &root, &new_root);
+        Ok(())
+    }
+}
+
+// So many uses more of a location, for which there is room. It does not allocate.
+fn hold_each(mounts: &mut Mounts, filesystems: &mut Filesystems, at: Location, uses: u64)
+    requires { HasRoom uses at mounts.old filesystems.old }
+    ensures held { kept mounts.new filesystems.new ≡ with_uses uses at (kept mounts.old filesystems.old) }
+    ensures slot { at.node.slot < 2 ^ 64 }
+{
+    for _ in 0..uses {
+        hold_once_more(mounts, filesystems, at, false);
+    }
+}
+
+// So many uses less of a location that is in use by others too. It does not allocate.
+fn release_each(mounts: &mut Mounts, filesystems: &mut Filesystems, at: Location, uses: u64)
+    ensures left { kept mounts.new filesystems.new ≡ without_uses uses at (kept mounts.old filesystems.old) }
+    ensures slot { at.node.slot < 2 ^ 64 }
+{
+    for _ in 0..uses {
+        mounts.release(at.mount, false);
+        filesystems.unpin(at.node);
+    }
+}
