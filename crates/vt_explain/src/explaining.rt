@@ -17,7 +17,7 @@ use vt_check::object::{Members, line_of, put, put_number, put_text, shown};
 use vt_io::memory::BytesSink;
 use vt_line::line::Line;
 use vt_lines::lines::first_line;
-use vt_location::Location;
+use vt_location::{Location, NamespaceId};
 use vt_ns::World;
 use vt_request::{Answer, Call, CallKind, TaskName};
 use vt_rule_pages::pages::page_of;
@@ -242,10 +242,22 @@ fn push_held(
     section.write(asked.format, text)
 }
 
+// The namespace whose mounts alone keep a name from being removed: that of the caller of `rmdir`.
+fn blocking(world: &World, name: &TaskName, call: CallKind) -> Option<NamespaceId> {
+    if call != CallKind::Rmdir {
+        return None;
+    }
+    match world.task(name) {
+        Some(task) => Some(task.namespace),
+        None => None,
+    }
+}
+
 // Appends who holds what is busy.
 fn push_holders(
     asked: Asked<'_>,
     world: &World,
+    namespace: Option<NamespaceId>,
     call: CallKind,
     before: &Before,
     text: &mut String,
@@ -258,6 +270,7 @@ fn push_holders(
         places: &places,
         mounts: before.mounts.as_slice(),
         groups: groups.as_slice(),
+        namespace,
     };
     push_held(asked, &look, call, before.first, text)?;
     push_held(asked, &look, call, before.second, text)
@@ -306,7 +319,8 @@ fn explain_call(
     match &outcome {
         Ok(_) => push_changes(asked, kernel.world(), kind, &before, &mut text)?,
         Err(deny) if deny.rule == Rule::M8 || deny.rule == Rule::P1 => {
-            push_holders(asked, kernel.world(), kind, &before, &mut text)?
+            let namespace = blocking(kernel.world(), name, kind);
+            push_holders(asked, kernel.world(), namespace, kind, &before, &mut text)?
         }
         Err(_) => {}
     }

@@ -4,7 +4,7 @@ use crate::names;
 use crate::receiving::receives;
 use crate::report::{Heads, Section};
 use std::alloc::{AllocError, Global};
-use vt_location::{Location, MountId};
+use vt_location::{Location, MountId, NamespaceId};
 use vt_ns::World;
 use vt_request::{CallKind, PeerLine, TypeLine};
 use vt_show::places::Places;
@@ -24,6 +24,8 @@ pub struct Look<'a> {
     pub places: &'a Places<'a>,
     pub mounts: &'a [Known],
     pub groups: &'a [PeerLine],
+    /// The namespace whose mounts alone keep a name from being removed, or none where all do.
+    pub namespace: Option<NamespaceId>,
 }
 
 // Adds a row.
@@ -98,6 +100,11 @@ fn push_tasks(look: &Look<'_>, section: &mut Section, busy: &Known) -> Result<()
     Ok(())
 }
 
+// Whether a mount keeps what it stands on busy.
+fn counts(look: &Look<'_>, mount: &Known) -> bool {
+    look.namespace.is_none() || look.namespace == mount.mount.namespace
+}
+
 // Adds the mounts of a list, which stand on what is busy.
 fn push_mounts(
     look: &Look<'_>,
@@ -107,14 +114,10 @@ fn push_mounts(
 ) -> Result<(), AllocError> {
     for id in ids {
         if let Some(mount) = find(look.mounts, *id) {
-            push_row(
-                look,
-                section,
-                busy,
-                mount.name.as_str(),
-                "mount",
-                mount.target.as_str(),
-            )?;
+            if counts(look, mount) {
+                let (name, target) = (mount.name.as_str(), mount.target.as_str());
+                push_row(look, section, busy, name, "mount", target)?;
+            }
         }
     }
     Ok(())
