@@ -21,7 +21,7 @@ impl World {
     /// one: pivot_root(2). Roots and working directories of the namespace's tasks at the root of the old one move to the
     /// root of the new one. Nothing propagates.
     ///
-    /// It fails too where a mount or an inode would have more than 2^64 - 1 uses.
+    /// It fails too where the new mount or its root would have more than 2^64 - 2 uses, or the place has 2^64 - 1.
     pub fn pivot_root(
         &mut self,
         name: &TaskName,
