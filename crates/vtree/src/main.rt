@@ -2,22 +2,9 @@
 //! is wrong with its lines, and `vtree test` compares its answers with those that it wants.
 #![tactic(auto)]
 
-mod command;
-mod cookbook;
-mod explaining;
-mod fault;
-mod order;
-mod rules;
-mod showing;
-#[cfg(test)]
-mod tests;
-mod tools;
-
-use crate::command::words;
-use crate::fault::{Fault, status};
-use crate::order::{Pace, obey};
 use std::io::{self, IsTerminal};
 use std::process::ExitCode;
+use vt_commands::{Fault, Pace, obey, status, words};
 
 fn main(rt: HostRuntime) -> ExitCode {
     let pace = if rt.stdout().is_terminal() {

@@ -3,8 +3,8 @@ ghost use Rattle.std.specs.Prelude.{◌≡◌, ◌<◌, ◌⊎◌, Some, None, I
 ghost use Rattle.std.specs.Io.{ReadsAtMost};
 ghost use Rattle.std.specs.Io.KnownBytes.{ReadConsumes};
 ghost use Rattle.vt_line.specs.Versions.{version_of};
-ghost use Rattle.vtree.specs.Answered.{AnswersKnown, IsFresh};
-ghost use Rattle.vtree.specs.Status.{comes_before_output};
+ghost use Rattle.vt_commands.specs.Answered.{AnswersKnown, IsFresh};
+ghost use Rattle.vt_commands.specs.Status.{comes_before_output};
 
 use crate::command::{Asked, asked_by, out_of_memory};
 use crate::fault::Fault;

@@ -1,6 +1,6 @@
 //! Why the program stops before all was answered, and its exit status.
 ghost use Rattle.std.specs.Prelude.{◌≡◌};
-ghost use Rattle.vtree.specs.Status.{status_of};
+ghost use Rattle.vt_commands.specs.Status.{status_of};
 
 use std::io;
 use thiserror::Error;

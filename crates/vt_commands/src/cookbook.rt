@@ -1,6 +1,6 @@
 //! The command that writes an example of the cookbook.
 ghost use Rattle.std.specs.Prelude.{◌≡◌, true, IfErr};
-ghost use Rattle.vtree.specs.Status.{comes_before_output};
+ghost use Rattle.vt_commands.specs.Status.{comes_before_output};
 
 use crate::command::out_of_memory;
 use crate::fault::Fault;

@@ -1,6 +1,6 @@
 //! The words that the program was started with, and the command that they give.
 ghost use Rattle.std.specs.Prelude.{◌≡◌, IfErr, IfOk};
-ghost use Rattle.vtree.specs.Status.{IsOfWords};
+ghost use Rattle.vt_commands.specs.Status.{IsOfWords};
 
 use crate::explaining::Options;
 use crate::fault::Fault;

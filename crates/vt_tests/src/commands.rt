@@ -1,13 +1,11 @@
 //! Tests of the program's words, faults and exit status.
-use crate::command::words;
-use crate::fault::{Fault, status};
-use crate::order::{Pace, obey};
 use std::alloc::{AllocError, Global};
 use std::env::FillError;
 use std::fs::File;
 use std::rt::Env;
 use std::test::Fail;
 use std::{env, fs};
+use vt_commands::{Fault, Pace, obey, status, words};
 
 fn owned(alloc: Global, words: &[&str]) -> Result<Vec<String>, AllocError> {
     let mut all = Vec::new(alloc);

@@ -1,6 +1,6 @@
 //! The command that shows the world to which a script leads.
 ghost use Rattle.std.specs.Prelude.{◌≡◌, false, IfErr};
-ghost use Rattle.vtree.specs.Status.{comes_before_output};
+ghost use Rattle.vt_commands.specs.Status.{comes_before_output};
 
 use crate::command::out_of_memory;
 use crate::fault::Fault;

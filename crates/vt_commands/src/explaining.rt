@@ -1,6 +1,6 @@
 //! The command that explains a line of a script.
 ghost use Rattle.std.specs.Prelude.{◌≡◌, false, IfErr, IfOk};
-ghost use Rattle.vtree.specs.Status.{comes_before_output};
+ghost use Rattle.vt_commands.specs.Status.{comes_before_output};
 
 use crate::command::out_of_memory;
 use crate::fault::Fault;
