@@ -1,10 +1,10 @@
 -- Calls of tasks of a sealed set, in the world and in the part of the set (profile).
-use Rattle.std.specs.Prelude.{List, Ok, Result, filter, not, true, ℕ, nat_eq, ◌≡◌, ◌∷◌}
+use Rattle.std.specs.Prelude.{List, Ok, Result, false, filter, is_ok, not, true, ℕ, nat_eq, ◌≡◌, ◌∷◌}
 use Rattle.vt_spec.specs.declared.errors.Deny.{Deny}
 use Rattle.vt_spec.specs.Language.Answers.{Answer}
 use Rattle.vt_spec.specs.Language.Answers.Answer.{Child, Done}
-use Rattle.vt_spec.specs.Language.Calls.{Call, TaskName, same_name}
-use Rattle.vt_spec.specs.Language.Calls.Call.{Exit, Setns}
+use Rattle.vt_spec.specs.Language.Calls.{Call, CapabilityWord, TaskName, same_name}
+use Rattle.vt_spec.specs.Language.Calls.Call.{Drop, Exit, Setns, Umask}
 use Rattle.vt_spec.specs.Lists.{Fresh, is_among}
 use Rattle.vt_spec.specs.Machine.Invariants.{IsWorld}
 use Rattle.vt_spec.specs.Machine.Outcomes.{Outcome}
@@ -46,3 +46,24 @@ abbrev pub LooksEndAlike : Type 0
 LooksEndAlike =
     (world : World ℕ) (names : List TaskName) (name : TaskName) (call : Call) → IsCallOfTheirs world names name call
     → only_looks call ≡ true → (fresh other : Fresh ℕ) → EndsAlike world names name call fresh other
+
+-- Each call that is refused in the world does, and so does each one in the name of no task.
+abbrev pub DenialsEndAlike : Type 0
+DenialsEndAlike =
+    (world : World ℕ) (names : List TaskName) (name : TaskName) (call : Call) → IsCallOfTheirs world names name call
+    → (fresh other : Fresh ℕ) → is_ok (policy nat_eq fresh world name call).answer ≡ false
+    → EndsAlike world names name call fresh other
+
+-- So does each call of umask(2),
+abbrev pub UmasksEndAlike : Type 0
+UmasksEndAlike =
+    (world : World ℕ) (names : List TaskName) (name : TaskName) (mode : ℕ)
+    → IsCallOfTheirs world names name (Umask mode) → (fresh other : Fresh ℕ)
+    → EndsAlike world names name (Umask mode) fresh other
+
+-- and each of capset(2).
+abbrev pub DropsEndAlike : Type 0
+DropsEndAlike =
+    (world : World ℕ) (names : List TaskName) (name : TaskName) (which : CapabilityWord)
+    → IsCallOfTheirs world names name (Drop which) → (fresh other : Fresh ℕ)
+    → EndsAlike world names name (Drop which) fresh other

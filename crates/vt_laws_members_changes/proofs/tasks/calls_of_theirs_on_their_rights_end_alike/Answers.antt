@@ -1,0 +1,8 @@
+use Rattle.vt_laws_members_changes.proofs.tasks.Rights.{drops_end_alike, umasks_end_alike}
+use Rattle.vt_laws_members_changes.proofs.tasks.calls_of_theirs_on_their_rights_end_alike.Goals as goal
+
+pub returns-clause-umask : goal.returns-clause-umask
+returns-clause-umask c = umasks_end_alike
+
+pub returns-clause-drop : goal.returns-clause-drop
+returns-clause-drop c = drops_end_alike
