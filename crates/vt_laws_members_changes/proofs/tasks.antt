@@ -1,5 +1,6 @@
 -- What the proofs of src/tasks.rt use.
 pub mod Denied
+pub mod Ending
 pub mod MoreLocations
 pub mod RaisedTasks
 pub mod Retasked

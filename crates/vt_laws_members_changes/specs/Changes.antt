@@ -1,16 +1,19 @@
 -- Calls of tasks of a sealed set, in the world and in the part of the set (profile).
-use Rattle.std.specs.Prelude.{List, Ok, Result, false, filter, is_ok, not, true, ℕ, nat_eq, ◌≡◌, ◌∷◌}
+use Rattle.std.specs.Prelude.{List, Ok, Result, Some, [], false, filter, is_ok, not, true, ℕ, nat_eq, ◌≡◌, ◌∷◌}
 use Rattle.vt_spec.specs.declared.errors.Deny.{Deny}
 use Rattle.vt_spec.specs.Language.Answers.{Answer}
 use Rattle.vt_spec.specs.Language.Answers.Answer.{Child, Done}
 use Rattle.vt_spec.specs.Language.Calls.{Call, CapabilityWord, TaskName, same_name}
-use Rattle.vt_spec.specs.Language.Calls.Call.{Drop, Exit, Setns, Umask}
+use Rattle.vt_spec.specs.Language.Calls.Call.{Drop, Exit, Pwrite, Rename, Setns, Umask}
 use Rattle.vt_spec.specs.Lists.{Fresh, is_among}
 use Rattle.vt_spec.specs.Machine.Invariants.{IsWorld}
+use Rattle.vt_spec.specs.Machine.Judge.{judge_in}
+use Rattle.vt_spec.specs.Machine.Mounts.{Location}
+use Rattle.vt_spec.specs.Machine.Permits.Permit.{Allowed, ToWritePart}
 use Rattle.vt_spec.specs.Machine.Outcomes.{Outcome}
 use Rattle.vt_spec.specs.Machine.Policy.{only_looks, policy}
 use Rattle.vt_spec.specs.Machine.Sealed.{part_of, sealed}
-use Rattle.vt_spec.specs.Machine.World.{World}
+use Rattle.vt_spec.specs.Machine.World.{Task, World, task_called}
 
 -- a call in the name of a task of a sealed set, which enters no namespace but one of theirs
 pub record IsCallOfTheirs (world : World ℕ) (names : List TaskName) (name : TaskName) (call : Call) : Type 0 where
@@ -67,3 +70,20 @@ DropsEndAlike =
     (world : World ℕ) (names : List TaskName) (name : TaskName) (which : CapabilityWord)
     → IsCallOfTheirs world names name (Drop which) → (fresh other : Fresh ℕ)
     → EndsAlike world names name (Drop which) fresh other
+
+-- So does a rename of two names of one object, which is granted and does nothing,
+abbrev pub RenamesOfOneEndAlike : Type 0
+RenamesOfOneEndAlike =
+    (world : World ℕ) (names : List TaskName) (name : TaskName) (old new : List ℕ)
+    → IsCallOfTheirs world names name (Rename old new) → (task : Task ℕ) → task_called world name ≡ Some task
+    → (fresh other : Fresh ℕ) → judge_in nat_eq fresh world task (Rename old new) ≡ Ok Allowed
+    → EndsAlike world names name (Rename old new) fresh other
+
+-- and a write of no bytes at an offset of an open file.
+abbrev pub EmptyWritesEndAlike : Type 0
+EmptyWritesEndAlike =
+    (world : World ℕ) (names : List TaskName) (name : TaskName) (descriptor offset : ℕ)
+    → IsCallOfTheirs world names name (Pwrite descriptor offset []) → (task : Task ℕ)
+    → task_called world name ≡ Some task → (fresh other : Fresh ℕ) (file : Location ℕ) (at : ℕ)
+    → judge_in nat_eq fresh world task (Pwrite descriptor offset []) ≡ Ok (ToWritePart file at [])
+    → EndsAlike world names name (Pwrite descriptor offset []) fresh other

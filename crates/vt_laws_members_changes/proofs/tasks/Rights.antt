@@ -6,7 +6,7 @@ use Rattle.std.proofs.lemmas.Bool.{or_parts}
 use Rattle.vt_spec.specs.Language.Answers.{Answer}
 use Rattle.vt_spec.specs.Language.Answers.Answer.{Done}
 use Rattle.vt_spec.specs.Language.Calls.{Call, TaskName, same_name}
-use Rattle.vt_spec.specs.Language.Calls.Call.{Drop, Umask}
+use Rattle.vt_spec.specs.Language.Calls.Call.{Drop, Pwrite, Rename, Umask}
 use Rattle.vt_spec.specs.Lists.{Fresh, any_pair, holds_of, is_among, when}
 use Rattle.vt_spec.specs.Machine.Apply.{apply, filesystems_changed}
 use Rattle.vt_spec.specs.Machine.Filesystems.{raised}
@@ -22,21 +22,20 @@ use Rattle.vt_spec.specs.Machine.Settled.{settled}
 use Rattle.vt_spec.specs.Machine.Tasks.{capabilities_of, permission_bits, with_dropped}
 use Rattle.vt_spec.specs.Machine.World.{Task, World, all_locations, locations_of, mount_at, replaced_if_called, task_called, with_task}
 use Rattle.vt_spec.proofs.Found.{found_among, found_passes}
-use Rattle.vt_spec.proofs.Lists.{Among, among-from_filter, map_twice, none_among}
+use Rattle.vt_spec.proofs.Lists.{Among, among-from_filter, map_same, map_twice, none_among}
 use Rattle.vt_spec.proofs.Worlds.{name-replaced_if_called, same_name_itself, same_task_name}
 use Rattle.vt_laws_letting_go.specs.InUse.{AllInUse}
 use Rattle.vt_laws_letting_go.proofs.Lists.{filter-map, flat_map-step}
 use Rattle.vt_laws_letting_go.proofs.sweeps.InUse.{nothing_goes}
 use Rattle.vt_laws_letting_go.proofs.sweeps.OfWorlds.{all_in_use}
 use Rattle.vt_laws_part.proofs.part.PartOfPart.{same_members}
-use Rattle.vt_laws_members_changes.specs.Changes.{DropsEndAlike, EndAlike, EndsAlike, IsCallOfTheirs, UmasksEndAlike, grown}
+use Rattle.vt_laws_members_changes.specs.Changes.{DropsEndAlike, EmptyWritesEndAlike, EndsAlike, IsCallOfTheirs, RenamesOfOneEndAlike, UmasksEndAlike, grown}
 use Rattle.vt_laws_members_changes.proofs.looks.Told.{member_called, ran, same_caller}
 use Rattle.vt_laws_members_changes.proofs.part.PartAgain.{part_again}
 use Rattle.vt_laws_members_changes.proofs.part.SettledPart.{part_in_use}
-use Rattle.vt_laws_members_changes.proofs.tasks.Denied.{unnamed_ends_alike}
-use Rattle.vt_laws_members_changes.proofs.tasks.MoreLocations.{in_use_later}
-use Rattle.vt_laws_members_changes.proofs.tasks.RaisedTasks.{tasks_raised}
-use Rattle.vt_laws_members_changes.proofs.tasks.Retasked.{SeeAlike, retasked}
+use Rattle.vt_laws_members_changes.proofs.tasks.Denied.{run_by, same_judgement, unnamed_ends_alike}
+use Rattle.vt_laws_members_changes.proofs.tasks.Ending.{LeavesTasks, tasks_end_alike, with_tasks}
+use Rattle.vt_laws_members_changes.proofs.tasks.Retasked.{SeeAlike}
 
 any_mapped : {A B : Type 0} (p : B → Bool) (q : A → Bool) (f : A → B) (xs : List A)
     → ((x : A) → Among x xs → p (f x) ≡ q x) → list_any p (map f xs) ≡ list_any q xs
@@ -152,71 +151,38 @@ module _ (world : World ℕ) (names : List TaskName) (name : TaskName) (call : C
   in_world t m = (among-from_filter (is_member_task names) world.tasks t m).0
 
   -- in a world with some of these tasks
-  module _ (w : World ℕ) (within : (t : Task ℕ) → Among t w.tasks → Among t world.tasks) (in_use : AllInUse w) where
-    abbrev ended : World ℕ
-    ended = record w { tasks = map both w.tasks; change = raised w.change }
-
-    sees : SeeAlike w names names (map both w.tasks) (raised w.change)
-    sees =
-        sees_alike w names both both_named
+  leaves : (w : World ℕ) → ((t : Task ℕ) → Among t w.tasks → Among t world.tasks)
+      → LeavesTasks w names names name (map replaced w.tasks)
+  leaves w within = record {
+    more = λ location m.
+        subst (Among location)
+        (sym (flat_map-step replaced locations_of w.tasks (λ t n. replaced_is locations_of placed t (within t n)))) m;
+    sees = subst (λ l. SeeAlike w names names l (raised w.change)) (sym (map_twice (raised_task name) replaced w.tasks))
+        (sees_alike w names both both_named
         (λ t m. raised_is (λ (x : Task ℕ). x.namespace) (λ x. refl) (replaced t)
         ∙ replaced_is (λ (x : Task ℕ). x.namespace) spaced t (within t m))
         (λ t m. raised_is (λ (x : Task ℕ). x.root ∷ x.directory ∷ []) (λ x. refl) (replaced t)
         ∙ replaced_is (λ (x : Task ℕ). x.root ∷ x.directory ∷ []) rooted t (within t m))
         (λ t m. raised_is locations_of (λ x. refl) (replaced t) ∙ replaced_is locations_of placed t (within t m))
-        (raised w.change)
+        (raised w.change));
+  }
 
-    ended_members : members ended names ≡ map both (members w names)
-    ended_members =
-        filter-map (is_member_task names) both w.tasks (λ t. ap (λ n. is_among same_name n names) (both_named t))
-
-    pub part_of_ended : part_of nat_eq ended names ≡ record (part_of nat_eq w names) { tasks = map both (members w names) }
-    part_of_ended =
-        retasked w names names (map both w.tasks) (raised w.change) sees
-        ∙ ap (λ l. record (part_of nat_eq w names) { tasks = l }) ended_members
-
-    more : (location : Location ℕ) → Among location (all_locations w)
-        → Among location (flat_map locations_of (map replaced w.tasks))
-    more location m =
-        subst (Among location)
-        (sym (flat_map-step replaced locations_of w.tasks (λ t n. replaced_is locations_of placed t (within t n)))) m
-
-    pub ends_so : numbers_raised nat_eq w name [] (settled nat_eq (with_task w new)) ≡ ended
-    ends_so =
-        ap (numbers_raised nat_eq w name [])
-        (nothing_goes (with_task w new) (in_use_later w (map replaced w.tasks) w.change in_use more))
-        ∙ tasks_raised w name (map replaced w.tasks)
-        ∙ ap (λ l. record w { tasks = l; change = raised w.change }) (map_twice (raised_task name) replaced w.tasks)
-
-  pub rights_end : (answer : Answer) (fresh other : Fresh ℕ)
-      → grown names name call (Ok answer) ≡ names
-      → ran name call world fresh (Some task)
-      ≡ granted answer (numbers_raised nat_eq world name [] (settled nat_eq (with_task world new)))
-      → ran name call part other (Some task)
-      ≡ granted answer (numbers_raised nat_eq part name [] (settled nat_eq (with_task part new)))
+  pub rights_end : (answer : Answer) (fresh other : Fresh ℕ) → grown names name call (Ok answer) ≡ names
+      → ran name call world fresh (Some task) ≡ with_tasks world name answer (map replaced world.tasks)
+      → ran name call part other (Some task) ≡ with_tasks part name answer (map replaced part.tasks)
       → EndsAlike world names name call fresh other
   rights_end answer fresh other stays one two =
-      let first : policy nat_eq fresh world name call ≡ granted answer (ended world (λ t m. m) (all_in_use world it.is)) =
-      ap (ran name call world fresh) found ∙ one
-      ∙ ap (granted answer) (ends_so world (λ t m. m) (all_in_use world it.is)) in
-      let second : policy nat_eq other part name call
-      ≡ granted answer (ended part in_world (part_in_use world names it.is it.sealed_off)) =
-      ap (ran name call part other) (same_caller world names it.is it.sealed_off name it.theirs ∙ found) ∙ two
-      ∙ ap (granted answer) (ends_so part in_world (part_in_use world names it.is it.sealed_off)) in
-      subst (λ p. EndAlike (grown names name call (policy nat_eq fresh world name call).answer)
-      (policy nat_eq fresh world name call) p) (sym second)
-      (subst (λ o. EndAlike (grown names name call o.answer) o
-      (granted answer (ended part in_world (part_in_use world names it.is it.sealed_off)))) (sym first)
-      (subst (λ set. EndAlike set (granted answer (ended world (λ t m. m) (all_in_use world it.is)))
-      (granted answer (ended part in_world (part_in_use world names it.is it.sealed_off)))) (sym stays)
-      (record { answer = refl; part = parts_alike })))
+      tasks_end_alike world names names name call it task found fresh other answer stays (map replaced world.tasks)
+      (map replaced part.tasks) one two (leaves world (λ t m. m)) (leaves part in_world)
+      (replaced_members both_named world.tasks ∙ sym (replaced_members both_named part.tasks
+      ∙ ap (map both) (same_members world names)))
     where
-      parts_alike : part_of nat_eq (record world { tasks = map both world.tasks; change = raised world.change }) names
-          ≡ part_of nat_eq (record part { tasks = map both part.tasks; change = raised part.change }) names
-      parts_alike =
-          part_of_ended world (λ t m. m) (all_in_use world it.is)
-          ∙ sym (part_of_ended part in_world (part_in_use world names it.is it.sealed_off)
-          ∙ (λ i. record (part_again world names it.is i) { tasks = map both (same_members world names i) }))
+      replaced_members : ((t : Task ℕ) → (both t).name ≡ t.name) → (tasks : List (Task ℕ))
+          → filter (is_member_task names) (map (raised_task name) (map replaced tasks))
+          ≡ map both (filter (is_member_task names) tasks)
+      replaced_members kept tasks =
+          ap (filter (is_member_task names)) (map_twice (raised_task name) replaced tasks)
+          ∙ filter-map (is_member_task names) both tasks (λ t. ap (λ n. is_among same_name n names) (kept t))
 
 pub umasks_end_alike : UmasksEndAlike
 umasks_end_alike world names name mode it fresh other = by (task_called world name) refl
@@ -236,3 +202,46 @@ drops_end_alike world names name which it fresh other = by (task_called world na
         rights_end world names name (Drop which) it task e
         (record task { credentials = with_dropped task.credentials (capabilities_of which task.credentials) })
         refl refl refl refl Done fresh other refl refl refl
+
+-- Calls that are granted and change nothing
+itself_again : (task : Task ℕ) (tasks : List (Task ℕ)) → ((t : Task ℕ) → Among t tasks → t.name ≡ task.name → t ≡ task)
+    → map (replaced_if_called task) tasks ≡ tasks
+itself_again task tasks one = map_same (replaced_if_called task) tasks (λ t m. by t m (same_name task.name t.name) refl)
+  where
+    by : (t : Task ℕ) → Among t tasks → (b : Bool) → same_name task.name t.name ≡ b → cond b task t ≡ t
+    by t m true e = sym (one t m (sym (same_task_name task.name t.name e)))
+    by t m false e = refl
+
+pub idle_end_alike : (world : World ℕ) (names : List TaskName) (name : TaskName) (call : Call)
+    → IsCallOfTheirs world names name call → (task : Task ℕ) → task_called world name ≡ Some task → (fresh other : Fresh ℕ)
+    → (answer : Answer) → grown names name call (Ok answer) ≡ names
+    → ran name call world fresh (Some task) ≡ with_tasks world name answer world.tasks
+    → ran name call (part_of nat_eq world names) other (Some task)
+    ≡ with_tasks (part_of nat_eq world names) name answer (part_of nat_eq world names).tasks
+    → EndsAlike world names name call fresh other
+idle_end_alike world names name call it task found fresh other answer stays one two =
+    rights_end world names name call it task found task refl refl refl refl answer fresh other stays
+    (one ∙ ap (with_tasks world name answer) (sym (itself_again task world.tasks (λ t m e. alone t m e))))
+    (two ∙ ap (with_tasks (part_of nat_eq world names) name answer)
+    (sym (itself_again task (part_of nat_eq world names).tasks
+    (λ t m e. alone t (among-from_filter (is_member_task names) world.tasks t m).0 e))))
+  where
+    alone : (t : Task ℕ) → Among t world.tasks → t.name ≡ task.name → t ≡ task
+    alone t m e =
+        only_task world.tasks it.is.tasks.one_task t task m
+        (found_among (λ (x : Task ℕ). same_name name x.name) world.tasks task found) e
+
+-- a rename of two names of one object, and a write of no bytes
+pub renames_of_one_end_alike : RenamesOfOneEndAlike
+renames_of_one_end_alike world names name old new it task found fresh other granted_so =
+    idle_end_alike world names name (Rename old new) it task found fresh other Done refl
+    (ap (run_by world names name (Rename old new) it fresh other world fresh task) granted_so)
+    (ap (run_by world names name (Rename old new) it fresh other (part_of nat_eq world names) other task)
+    (sym (same_judgement world names name (Rename old new) it fresh other task found) ∙ granted_so))
+
+pub empty_writes_end_alike : EmptyWritesEndAlike
+empty_writes_end_alike world names name descriptor offset it task found fresh other file at granted_so =
+    idle_end_alike world names name (Pwrite descriptor offset []) it task found fresh other Done refl
+    (ap (run_by world names name (Pwrite descriptor offset []) it fresh other world fresh task) granted_so)
+    (ap (run_by world names name (Pwrite descriptor offset []) it fresh other (part_of nat_eq world names) other task)
+    (sym (same_judgement world names name (Pwrite descriptor offset []) it fresh other task found) ∙ granted_so))
