@@ -2,6 +2,7 @@
 pub mod Denied
 pub mod Ending
 pub mod MoreLocations
+pub mod Opening
 pub mod RaisedTasks
 pub mod Retasked
 pub mod Rights

@@ -3,13 +3,14 @@ use Rattle.std.specs.Prelude.{List, Ok, Result, Some, [], false, filter, is_ok, 
 use Rattle.vt_spec.specs.declared.errors.Deny.{Deny}
 use Rattle.vt_spec.specs.Language.Answers.{Answer}
 use Rattle.vt_spec.specs.Language.Answers.Answer.{Child, Done}
-use Rattle.vt_spec.specs.Language.Calls.{Call, CapabilityWord, TaskName, same_name}
-use Rattle.vt_spec.specs.Language.Calls.Call.{Drop, Exit, Pwrite, Rename, Setns, Umask}
+use Rattle.vt_spec.specs.Language.Calls.{Access, Call, CapabilityWord, Creation, TaskName, same_name}
+use Rattle.vt_spec.specs.Language.Calls.Call.{Drop, Exit, OpenFile, Pwrite, Rename, Setns, Umask}
 use Rattle.vt_spec.specs.Lists.{Fresh, is_among}
+use Rattle.vt_spec.specs.Machine.Descriptors.{is_copied_up}
 use Rattle.vt_spec.specs.Machine.Invariants.{IsWorld}
 use Rattle.vt_spec.specs.Machine.Judge.{judge_in}
 use Rattle.vt_spec.specs.Machine.Mounts.{Location}
-use Rattle.vt_spec.specs.Machine.Permits.Permit.{Allowed, ToWritePart}
+use Rattle.vt_spec.specs.Machine.Permits.Permit.{Allowed, ToOpen, ToWritePart}
 use Rattle.vt_spec.specs.Machine.Outcomes.{Outcome}
 use Rattle.vt_spec.specs.Machine.Policy.{only_looks, policy}
 use Rattle.vt_spec.specs.Machine.Sealed.{part_of, sealed}
@@ -87,3 +88,13 @@ EmptyWritesEndAlike =
     → task_called world name ≡ Some task → (fresh other : Fresh ℕ) (file : Location ℕ) (at : ℕ)
     → judge_in nat_eq fresh world task (Pwrite descriptor offset []) ≡ Ok (ToWritePart file at [])
     → EndsAlike world names name (Pwrite descriptor offset []) fresh other
+
+-- So does an open of a file that is there and is not copied up.
+abbrev pub OpensEndAlike : Type 0
+OpensEndAlike =
+    (world : World ℕ) (names : List TaskName) (name : TaskName) (path : List ℕ) (access : Access) (how : Creation)
+    → IsCallOfTheirs world names name (OpenFile path access how) → (task : Task ℕ) → task_called world name ≡ Some task
+    → (fresh other : Fresh ℕ) (file : Location ℕ) (wanted : Access)
+    → judge_in nat_eq fresh world task (OpenFile path access how) ≡ Ok (ToOpen file wanted)
+    → is_copied_up nat_eq world file wanted ≡ false
+    → EndsAlike world names name (OpenFile path access how) fresh other

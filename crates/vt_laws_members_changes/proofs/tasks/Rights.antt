@@ -49,7 +49,7 @@ module _ (world : World ℕ) (names : List TaskName) (f : Task ℕ → Task ℕ)
     (spaced : (t : Task ℕ) → Among t world.tasks → (f t).namespace ≡ t.namespace)
     (rooted : (t : Task ℕ) → Among t world.tasks
     → ((f t).root ∷ (f t).directory ∷ []) ≡ (t.root ∷ t.directory ∷ []))
-    (placed : (t : Task ℕ) → Among t world.tasks → locations_of (f t) ≡ locations_of t) (change : ℕ) where
+    (change : ℕ) where
   abbrev changed : World ℕ
   changed = record world { tasks = map f world.tasks; change = change }
 
@@ -63,36 +63,37 @@ module _ (world : World ℕ) (names : List TaskName) (f : Task ℕ → Task ℕ)
   members_changed =
       filter-map (is_member_task names) f world.tasks (λ t. ap (λ n. is_among same_name n names) (named t))
 
-  own_alike : (n : ℕ) → list_any (λ (t : Task ℕ). nat_eq n t.namespace) (members changed names)
+  pub own_alike : (n : ℕ) → list_any (λ (t : Task ℕ). nat_eq n t.namespace) (members changed names)
       ≡ list_any (λ (t : Task ℕ). nat_eq n t.namespace) theirs
   own_alike n =
       ap (list_any (λ (t : Task ℕ). nat_eq n t.namespace)) members_changed
       ∙ any_mapped (λ (t : Task ℕ). nat_eq n t.namespace) (λ (t : Task ℕ). nat_eq n t.namespace) f theirs
       (λ t m. ap (nat_eq n) (spaced t (there t m)))
 
-  roots_alike : roots_and_directories (members changed names) ≡ roots_and_directories theirs
+  pub roots_alike : roots_and_directories (members changed names) ≡ roots_and_directories theirs
   roots_alike =
       ap roots_and_directories members_changed
       ∙ flat_map-step f (λ (t : Task ℕ). t.root ∷ t.directory ∷ []) theirs (λ t m. rooted t (there t m))
 
-  places_alike : locations (members changed names) ≡ locations theirs
-  places_alike =
-      ap locations members_changed ∙ flat_map-step f locations_of theirs (λ t m. placed t (there t m))
+  module _ (placed : (t : Task ℕ) → Among t world.tasks → locations_of (f t) ≡ locations_of t) where
+    places_alike : locations (members changed names) ≡ locations theirs
+    places_alike =
+        ap locations members_changed ∙ flat_map-step f locations_of theirs (λ t m. placed t (there t m))
 
-  pub sees_alike : SeeAlike world names names (map f world.tasks) change
-  sees_alike = record {
-    own = own_alike;
-    mounts = λ mount m i.
-        cond (holds_of (λ n. own_alike n i) mount.namespace || is_at nat_eq (roots_alike i) mount) (Some mount)
-        (when (is_at nat_eq (places_alike i) mount) (seen_by_descriptor mount));
-    direct = λ p i. list_any p
-        (map (λ (mount : Mount ℕ). mount.filesystem)
-        (filter (λ (mount : Mount ℕ). holds_of (λ n. own_alike n i) mount.namespace) world.mounts)
-        ++ map (λ (location : Location ℕ). (mount_at nat_eq world location).filesystem) (places_alike i));
-  }
+    pub sees_alike : SeeAlike world names names (map f world.tasks) change
+    sees_alike = record {
+      own = own_alike;
+      mounts = λ mount m i.
+          cond (holds_of (λ n. own_alike n i) mount.namespace || is_at nat_eq (roots_alike i) mount) (Some mount)
+          (when (is_at nat_eq (places_alike i) mount) (seen_by_descriptor mount));
+      direct = λ p i. list_any p
+          (map (λ (mount : Mount ℕ). mount.filesystem)
+          (filter (λ (mount : Mount ℕ). holds_of (λ n. own_alike n i) mount.namespace) world.mounts)
+          ++ map (λ (location : Location ℕ). (mount_at nat_eq world location).filesystem) (places_alike i));
+    }
 
 -- tasks of one name are one
-only_task : (tasks : List (Task ℕ)) → any_pair (λ (a b : Task ℕ). same_name a.name b.name) tasks ≡ false → (a b : Task ℕ)
+pub only_task : (tasks : List (Task ℕ)) → any_pair (λ (a b : Task ℕ). same_name a.name b.name) tasks ≡ false → (a b : Task ℕ)
     → Among a tasks → Among b tasks → a.name ≡ b.name → a ≡ b
 only_task [] one a b m n e = absurd m
 only_task (first ∷ rest) one a b m n e =
@@ -163,8 +164,8 @@ module _ (world : World ℕ) (names : List TaskName) (name : TaskName) (call : C
         ∙ replaced_is (λ (x : Task ℕ). x.namespace) spaced t (within t m))
         (λ t m. raised_is (λ (x : Task ℕ). x.root ∷ x.directory ∷ []) (λ x. refl) (replaced t)
         ∙ replaced_is (λ (x : Task ℕ). x.root ∷ x.directory ∷ []) rooted t (within t m))
-        (λ t m. raised_is locations_of (λ x. refl) (replaced t) ∙ replaced_is locations_of placed t (within t m))
-        (raised w.change));
+        (raised w.change)
+        (λ t m. raised_is locations_of (λ x. refl) (replaced t) ∙ replaced_is locations_of placed t (within t m)));
   }
 
   pub rights_end : (answer : Answer) (fresh other : Fresh ℕ) → grown names name call (Ok answer) ≡ names
