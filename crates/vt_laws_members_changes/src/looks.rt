@@ -9,7 +9,7 @@ ghost use Rattle.vt_laws_members_changes.specs.Changes.{DenialsEndAlike, LooksEn
 ///
 /// Any call of theirs that is refused in the world is refused in the part by the same rule, and leaves both as they were
 /// (`refused`).
-pub fn calls_of_theirs_that_look_are_answered_alike()
+pub fn calls_of_theirs_that_change_nothing_end_alike()
     ensures looks { LooksEndAlike }
     ensures refused { DenialsEndAlike }
 {}

@@ -1,8 +1,7 @@
 -- Where all is in use, it stays in use if tasks use more locations.
-use Rattle.std.proofs.Common.{◌≡◌, refl, sym, ap, subst, ◌∙◌, inl, inr, ⊎_elim, ℕ, nat_eq, Bool, true, false, cond, true≢false, List, [], ◌∷◌, ◌++◌, Option, Some, None, filter, flat_map, is_some, map, ◌||◌}
-use Rattle.std.specs.List.{filter_map, list_all, list_any}
+use Rattle.std.proofs.Common.{◌≡◌, sym, subst, inl, inr, ⊎_elim, ℕ, nat_eq, Bool, true, List, ◌++◌, filter, flat_map, is_some, map}
+use Rattle.std.specs.List.{filter_map, list_all}
 use Rattle.std.proofs.lemmas.Bool.{or_cases, or_left, or_right}
-use Rattle.vt_spec.specs.Lists.{is_among}
 use Rattle.vt_spec.specs.Machine.Mounts.{Location, Mount, root_of}
 use Rattle.vt_spec.specs.Machine.Settled.{is_located, layers_in, located_in, mount_lives, named_in, objects_of_overlay, used_in}
 use Rattle.vt_spec.specs.Machine.World.{Filesystem, Task, World, all_locations, locations_of, mount_at}

@@ -1,5 +1,5 @@
 -- An open of a file that is there, and is not copied up, ends in the part as in the world.
-use Rattle.std.proofs.Common.{◌≡◌, refl, sym, ap, subst, ◌∙◌, ◌⊎◌, inl, inr, ⊎_elim, ℕ, nat_eq, Bool, true, false, cond, true≢false, List, [], ◌∷◌, ◌++◌, Option, Some, None, Ok, Err, filter, flat_map, map, ◌&&◌, ◌||◌, eq-eqb, eqb-true}
+use Rattle.std.proofs.Common.{◌≡◌, refl, sym, ap, subst, ◌∙◌, ◌⊎◌, inl, inr, ⊎_elim, ℕ, nat_eq, Bool, true, false, cond, true≢false, List, [], ◌∷◌, ◌++◌, Option, Some, None, Ok, filter, map, ◌&&◌, ◌||◌, eqb-true}
 use Rattle.std.specs.Prelude.{⊤, IfOk, nat_lt}
 use Rattle.std.specs.List.{list_any}
 use Rattle.std.proofs.lemmas.Bool.{or_left, or_right}
@@ -14,7 +14,7 @@ use Rattle.vt_spec.specs.Machine.Apply.{changed_if}
 use Rattle.vt_spec.specs.Machine.Descriptors.{free_number, inserted, is_copied_up, opened, with_copy, with_descriptor}
 use Rattle.vt_spec.specs.Machine.Filesystems.{lies_only_in_lowers, raised}
 use Rattle.vt_spec.specs.Machine.Invariants.{IsWorld}
-use Rattle.vt_spec.specs.Machine.Judge.{Judgement, create_file_permit, judge_in, open_by_permit, open_file_permit, open_new_permit, open_permit, opened_or_created_permit, unnumbered}
+use Rattle.vt_spec.specs.Machine.Judge.{create_file_permit, open_by_permit, open_file_permit, open_new_permit, open_permit, opened_or_created_permit, unnumbered}
 use Rattle.vt_spec.specs.Machine.Locked.{overlay_or}
 use Rattle.vt_spec.specs.Machine.Looks.{Looks, looks_of}
 use Rattle.vt_spec.specs.Machine.Mounts.{Location, Mount}
@@ -27,8 +27,8 @@ use Rattle.vt_spec.specs.Machine.Rules.Descriptors.{descriptor_rules, exclusive_
 use Rattle.vt_spec.specs.Machine.Rules.Making.{file_word_rules, make_rules}
 use Rattle.vt_spec.specs.Machine.Sealed.{is_at, is_member_task, locations, members, part_of, roots_and_directories, seen_by_descriptor, sealed, used_directly, used_filesystems}
 use Rattle.vt_spec.specs.Machine.Walking.{Here, Place, file_walk, new_walk, object_walk}
-use Rattle.vt_spec.specs.Machine.World.{Descriptor, Filesystem, Task, World, all_locations, filesystem_at, locations_of, mount_at, mount_numbered, replaced_if_called, task_called, with_task}
-use Rattle.vt_spec.proofs.Found.{found_among, found_passes}
+use Rattle.vt_spec.specs.Machine.World.{Descriptor, Filesystem, Task, World, locations_of, mount_at, mount_numbered, replaced_if_called, task_called}
+use Rattle.vt_spec.proofs.Found.{found_among}
 use Rattle.vt_spec.proofs.Lists.{Among, among-append, among-append_left, among-append_right, among-flat_map, among-from_filter, among-from_filter_map, among-from_flat_map, among-from_map, among-map, any_among, any_from_among, map_twice}
 use Rattle.vt_spec.proofs.Truths.{same_truth}
 use Rattle.vt_spec.proofs.Worlds.{name-replaced_if_called, same_task_name}
@@ -40,11 +40,11 @@ use Rattle.vt_laws_members.proofs.judging.Grounds.{IsTheirs, numbered, same_moun
 use Rattle.vt_laws_members.proofs.judging.Judged.{JudgesAlike}
 use Rattle.vt_laws_members.proofs.judging.SeenInPart.{filesystem_alike, theirs_directly}
 use Rattle.vt_laws_members.proofs.judging.WalksLead.{FoundAt, HereAt, PlaceAt, file_agrees, new_agrees, object_agrees}
-use Rattle.vt_laws_members_changes.specs.Changes.{EndsAlike, IsCallOfTheirs, OpensEndAlike}
+use Rattle.vt_laws_members_changes.specs.Changes.{OpensEndAlike}
 use Rattle.vt_laws_members_changes.proofs.looks.Granted.{of_rules, of_walk}
 use Rattle.vt_laws_members_changes.proofs.looks.Told.{member_called}
 use Rattle.vt_laws_members_changes.proofs.tasks.Denied.{run_by, same_judgement}
-use Rattle.vt_laws_members_changes.proofs.tasks.Ending.{LeavesTasks, tasks_end_alike, with_tasks}
+use Rattle.vt_laws_members_changes.proofs.tasks.Ending.{LeavesTasks, tasks_end_alike}
 use Rattle.vt_laws_members_changes.proofs.tasks.Retasked.{SeeAlike}
 use Rattle.vt_laws_members_changes.proofs.tasks.Rights.{members_changed, only_task, own_alike, roots_alike}
 

@@ -1,6 +1,6 @@
 -- The part of a world in which tasks change alone, and the tasks of a set see what they saw.
-use Rattle.std.proofs.Common.{◌≡◌, refl, sym, ap, ◌∙◌, inl, inr, ⊎_elim, ℕ, nat_eq, Bool, true, false, cond, List, [], ◌∷◌, ◌++◌, Option, Some, None, filter, flat_map, map, ◌||◌}
-use Rattle.std.specs.List.{filter_map, list_any}
+use Rattle.std.proofs.Common.{◌≡◌, refl, sym, ap, ◌∙◌, ℕ, nat_eq, Bool, true, false, cond, List, [], ◌∷◌, ◌++◌, Some, None, filter, flat_map, ◌||◌}
+use Rattle.std.specs.List.{list_any}
 use Rattle.vt_spec.specs.Language.Calls.{TaskName}
 use Rattle.vt_spec.specs.Lists.{each_once, holds_of, is_among, when}
 use Rattle.vt_spec.specs.Machine.Locked.{lies_in_layer, of_overlay}

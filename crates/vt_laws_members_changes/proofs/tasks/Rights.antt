@@ -1,6 +1,5 @@
 -- Calls that change a task's rights alone end in the part as in the world.
-use Rattle.std.proofs.Common.{◌≡◌, refl, sym, ap, subst, ◌∙◌, inl, inr, ⊎_elim, ℕ, nat_eq, Bool, true, false, cond, true≢false, not, List, [], ◌∷◌, ◌++◌, Option, Some, None, Ok, Err, filter, flat_map, map, ◌||◌}
-use Rattle.std.specs.Prelude.{is_ok}
+use Rattle.std.proofs.Common.{◌≡◌, refl, sym, ap, subst, ◌∙◌, inl, inr, ⊎_elim, ℕ, nat_eq, Bool, true, false, cond, true≢false, List, [], ◌∷◌, ◌++◌, Option, Some, None, Ok, filter, map, ◌||◌}
 use Rattle.std.specs.List.{list_any}
 use Rattle.std.proofs.lemmas.Bool.{or_parts}
 use Rattle.vt_spec.specs.Language.Answers.{Answer}
@@ -8,31 +7,19 @@ use Rattle.vt_spec.specs.Language.Answers.Answer.{Done}
 use Rattle.vt_spec.specs.Language.Calls.{Call, TaskName, same_name}
 use Rattle.vt_spec.specs.Language.Calls.Call.{Drop, Pwrite, Rename, Umask}
 use Rattle.vt_spec.specs.Lists.{Fresh, any_pair, holds_of, is_among, when}
-use Rattle.vt_spec.specs.Machine.Apply.{apply, filesystems_changed}
 use Rattle.vt_spec.specs.Machine.Filesystems.{raised}
-use Rattle.vt_spec.specs.Machine.Invariants.{IsWorld}
-use Rattle.vt_spec.specs.Machine.Judge.{judge_in}
 use Rattle.vt_spec.specs.Machine.Mounts.{Location, Mount}
-use Rattle.vt_spec.specs.Machine.Outcomes.{Outcome, after, granted}
-use Rattle.vt_spec.specs.Machine.Permits.{Permit}
-use Rattle.vt_spec.specs.Machine.Permits.Permit.{ToSetCredentials, ToSetUmask}
-use Rattle.vt_spec.specs.Machine.Policy.{filesystems_changed_by, finished, finished_by, numbers_raised, only_looks, policy, raised_task}
-use Rattle.vt_spec.specs.Machine.Sealed.{is_at, is_member_task, locations, members, part_of, roots_and_directories, seen_by_descriptor, sealed, used_directly}
-use Rattle.vt_spec.specs.Machine.Settled.{settled}
+use Rattle.vt_spec.specs.Machine.Policy.{raised_task}
+use Rattle.vt_spec.specs.Machine.Sealed.{is_at, is_member_task, locations, members, part_of, roots_and_directories, seen_by_descriptor}
 use Rattle.vt_spec.specs.Machine.Tasks.{capabilities_of, permission_bits, with_dropped}
-use Rattle.vt_spec.specs.Machine.World.{Task, World, all_locations, locations_of, mount_at, replaced_if_called, task_called, with_task}
-use Rattle.vt_spec.proofs.Found.{found_among, found_passes}
+use Rattle.vt_spec.specs.Machine.World.{Task, World, locations_of, mount_at, replaced_if_called, task_called}
+use Rattle.vt_spec.proofs.Found.{found_among}
 use Rattle.vt_spec.proofs.Lists.{Among, among-from_filter, map_same, map_twice, none_among}
 use Rattle.vt_spec.proofs.Worlds.{name-replaced_if_called, same_name_itself, same_task_name}
-use Rattle.vt_laws_letting_go.specs.InUse.{AllInUse}
 use Rattle.vt_laws_letting_go.proofs.Lists.{filter-map, flat_map-step}
-use Rattle.vt_laws_letting_go.proofs.sweeps.InUse.{nothing_goes}
-use Rattle.vt_laws_letting_go.proofs.sweeps.OfWorlds.{all_in_use}
 use Rattle.vt_laws_part.proofs.part.PartOfPart.{same_members}
 use Rattle.vt_laws_members_changes.specs.Changes.{DropsEndAlike, EmptyWritesEndAlike, EndsAlike, IsCallOfTheirs, RenamesOfOneEndAlike, UmasksEndAlike, grown}
-use Rattle.vt_laws_members_changes.proofs.looks.Told.{member_called, ran, same_caller}
-use Rattle.vt_laws_members_changes.proofs.part.PartAgain.{part_again}
-use Rattle.vt_laws_members_changes.proofs.part.SettledPart.{part_in_use}
+use Rattle.vt_laws_members_changes.proofs.looks.Told.{ran}
 use Rattle.vt_laws_members_changes.proofs.tasks.Denied.{run_by, same_judgement, unnamed_ends_alike}
 use Rattle.vt_laws_members_changes.proofs.tasks.Ending.{LeavesTasks, tasks_end_alike, with_tasks}
 use Rattle.vt_laws_members_changes.proofs.tasks.Retasked.{SeeAlike}

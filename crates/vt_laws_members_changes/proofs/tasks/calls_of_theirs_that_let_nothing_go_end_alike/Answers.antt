@@ -1,6 +1,6 @@
 use Rattle.vt_laws_members_changes.proofs.tasks.Opening.{opens_end_alike}
 use Rattle.vt_laws_members_changes.proofs.tasks.Rights.{drops_end_alike, empty_writes_end_alike, renames_of_one_end_alike, umasks_end_alike}
-use Rattle.vt_laws_members_changes.proofs.tasks.calls_of_theirs_on_their_rights_end_alike.Goals as goal
+use Rattle.vt_laws_members_changes.proofs.tasks.calls_of_theirs_that_let_nothing_go_end_alike.Goals as goal
 
 pub returns-clause-umask : goal.returns-clause-umask
 returns-clause-umask c = umasks_end_alike
