@@ -1,16 +1,20 @@
 -- Calls of tasks of a sealed set, in the world and in the part of the set (profile).
-use Rattle.std.specs.Prelude.{List, Ok, Result, filter, not, true, ℕ, nat_eq, ◌≡◌, ◌∷◌}
+use Rattle.std.specs.Prelude.{List, Ok, Result, Some, [], false, filter, is_ok, not, true, ℕ, nat_eq, ◌≡◌, ◌∷◌}
 use Rattle.vt_spec.specs.declared.errors.Deny.{Deny}
 use Rattle.vt_spec.specs.Language.Answers.{Answer}
 use Rattle.vt_spec.specs.Language.Answers.Answer.{Child, Done}
-use Rattle.vt_spec.specs.Language.Calls.{Call, TaskName, same_name}
-use Rattle.vt_spec.specs.Language.Calls.Call.{Exit, Setns}
+use Rattle.vt_spec.specs.Language.Calls.{Access, Call, CapabilityWord, Creation, TaskName, same_name}
+use Rattle.vt_spec.specs.Language.Calls.Call.{Drop, Exit, OpenFile, Pwrite, Rename, Setns, Umask}
 use Rattle.vt_spec.specs.Lists.{Fresh, is_among}
+use Rattle.vt_spec.specs.Machine.Descriptors.{is_copied_up}
 use Rattle.vt_spec.specs.Machine.Invariants.{IsWorld}
+use Rattle.vt_spec.specs.Machine.Judge.{judge_in}
+use Rattle.vt_spec.specs.Machine.Mounts.{Location}
+use Rattle.vt_spec.specs.Machine.Permits.Permit.{Allowed, ToOpen, ToWritePart}
 use Rattle.vt_spec.specs.Machine.Outcomes.{Outcome}
 use Rattle.vt_spec.specs.Machine.Policy.{only_looks, policy}
 use Rattle.vt_spec.specs.Machine.Sealed.{part_of, sealed}
-use Rattle.vt_spec.specs.Machine.World.{World}
+use Rattle.vt_spec.specs.Machine.World.{Task, World, task_called}
 
 -- a call in the name of a task of a sealed set, which enters no namespace but one of theirs
 pub record IsCallOfTheirs (world : World ℕ) (names : List TaskName) (name : TaskName) (call : Call) : Type 0 where
@@ -46,3 +50,51 @@ abbrev pub LooksEndAlike : Type 0
 LooksEndAlike =
     (world : World ℕ) (names : List TaskName) (name : TaskName) (call : Call) → IsCallOfTheirs world names name call
     → only_looks call ≡ true → (fresh other : Fresh ℕ) → EndsAlike world names name call fresh other
+
+-- Each call that is refused in the world does, and so does each one in the name of no task.
+abbrev pub DenialsEndAlike : Type 0
+DenialsEndAlike =
+    (world : World ℕ) (names : List TaskName) (name : TaskName) (call : Call) → IsCallOfTheirs world names name call
+    → (fresh other : Fresh ℕ) → is_ok (policy nat_eq fresh world name call).answer ≡ false
+    → EndsAlike world names name call fresh other
+
+-- So does each call of umask(2),
+abbrev pub UmasksEndAlike : Type 0
+UmasksEndAlike =
+    (world : World ℕ) (names : List TaskName) (name : TaskName) (mode : ℕ)
+    → IsCallOfTheirs world names name (Umask mode) → (fresh other : Fresh ℕ)
+    → EndsAlike world names name (Umask mode) fresh other
+
+-- and each of capset(2).
+abbrev pub DropsEndAlike : Type 0
+DropsEndAlike =
+    (world : World ℕ) (names : List TaskName) (name : TaskName) (which : CapabilityWord)
+    → IsCallOfTheirs world names name (Drop which) → (fresh other : Fresh ℕ)
+    → EndsAlike world names name (Drop which) fresh other
+
+-- So does a rename of two names of one object, which is granted and does nothing,
+abbrev pub RenamesOfOneEndAlike : Type 0
+RenamesOfOneEndAlike =
+    (world : World ℕ) (names : List TaskName) (name : TaskName) (old new : List ℕ)
+    → IsCallOfTheirs world names name (Rename old new) → (task : Task ℕ) → task_called world name ≡ Some task
+    → (fresh other : Fresh ℕ) → judge_in nat_eq fresh world task (Rename old new) ≡ Ok Allowed
+    → EndsAlike world names name (Rename old new) fresh other
+
+-- and a write of no bytes at an offset of an open file.
+abbrev pub EmptyWritesEndAlike : Type 0
+EmptyWritesEndAlike =
+    (world : World ℕ) (names : List TaskName) (name : TaskName) (descriptor offset : ℕ)
+    → IsCallOfTheirs world names name (Pwrite descriptor offset []) → (task : Task ℕ)
+    → task_called world name ≡ Some task → (fresh other : Fresh ℕ) (file : Location ℕ) (at : ℕ)
+    → judge_in nat_eq fresh world task (Pwrite descriptor offset []) ≡ Ok (ToWritePart file at [])
+    → EndsAlike world names name (Pwrite descriptor offset []) fresh other
+
+-- So does an open of a file that is there and is not copied up.
+abbrev pub OpensEndAlike : Type 0
+OpensEndAlike =
+    (world : World ℕ) (names : List TaskName) (name : TaskName) (path : List ℕ) (access : Access) (how : Creation)
+    → IsCallOfTheirs world names name (OpenFile path access how) → (task : Task ℕ) → task_called world name ≡ Some task
+    → (fresh other : Fresh ℕ) (file : Location ℕ) (wanted : Access)
+    → judge_in nat_eq fresh world task (OpenFile path access how) ≡ Ok (ToOpen file wanted)
+    → is_copied_up nat_eq world file wanted ≡ false
+    → EndsAlike world names name (OpenFile path access how) fresh other

@@ -5,3 +5,4 @@
 
 pub mod looks;
 pub mod part;
+pub mod tasks;

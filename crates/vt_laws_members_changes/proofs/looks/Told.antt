@@ -106,7 +106,7 @@ module _ (world : World ℕ) (names : List TaskName) (is : IsWorld nat_eq world)
     looks_by name call same (Err deny) on = record { answer = refl; part = sym (part_again world names is) }
 
 -- a call by the task that is found
-abbrev ran : TaskName → Call → World ℕ → Fresh ℕ → Option (Task ℕ) → Outcome ℕ
+abbrev pub ran : TaskName → Call → World ℕ → Fresh ℕ → Option (Task ℕ) → Outcome ℕ
 ran name call world fresh found =
     after world (ok_or found (denial S2)) (λ task.
     finished nat_eq world name call (filesystems_changed_by nat_eq world (judge_in nat_eq fresh world task call))

@@ -1,6 +1,5 @@
 -- Nothing of the part of a sealed set is unused in it.
-use Rattle.std.proofs.Common.{◌≡◌, refl, sym, ap, subst, ◌∙◌, inl, inr, ⊎_elim, ℕ, suc, nat_eq, Bool, true, false, cond, true≢false, List, [], ◌∷◌, ◌++◌, Option, Some, None, filter, flat_map, is_some, length, map, not, ◌&&◌, ◌||◌, ◌≤◌, arith, eq-eqb, eqb-true}
-use Rattle.std.specs.Prelude.{option_map}
+use Rattle.std.proofs.Common.{◌≡◌, refl, sym, ap, subst, ◌∙◌, inr, ⊎_elim, ℕ, suc, nat_eq, Bool, true, false, cond, true≢false, List, [], ◌∷◌, ◌++◌, Option, None, filter, flat_map, length, not, ◌≤◌, arith, eqb-true}
 use Rattle.std.specs.List.{filter_map, list_all, list_any}
 use Rattle.std.proofs.lemmas.Bool.{and_parts}
 use Rattle.vt_spec.specs.FileTree.{is_under}
@@ -8,12 +7,12 @@ use Rattle.vt_spec.specs.Language.Calls.{TaskName}
 use Rattle.vt_spec.specs.Lists.{is_among}
 use Rattle.vt_spec.specs.Machine.Invariants.{IsWorld}
 use Rattle.vt_spec.specs.Machine.Locked.{lies_in_layer, of_overlay}
-use Rattle.vt_spec.specs.Machine.Mounts.{Mount}
 use Rattle.vt_spec.specs.Machine.Receives.{has_members, is_member_of}
 use Rattle.vt_spec.specs.Machine.Sealed.{is_own_mount, lies_in_own_lower, members, own_lowers, own_mounts, part_of, part_of_filesystem, part_of_lower, part_of_mount, sealed, used_directly, used_filesystems}
-use Rattle.vt_spec.specs.Machine.Settled.{filesystem_lives, layers_in, located_in, mount_lives, named_in, objects_of_overlay, only_used, only_used_by, settled, used_in, without_dead_filesystems, without_dead_groups, without_dead_in, without_dead_inodes, without_dead_mounts}
-use Rattle.vt_spec.specs.Machine.World.{Filesystem, Layer, Namespace, Task, World, filesystem_numbered, is_overlay, layers_of, with_mounts}
-use Rattle.vt_spec.proofs.Lists.{Among, among-append_left, among-append_right, among-filter, among-filter_map, among-flat_map, among-from_filter, among-from_filter_map, among-map, among_from_contains, among_numbers, any_among, any_from_among, is_among_numbers, list_all_from_among, map_same}
+use Rattle.vt_spec.specs.Machine.Settled.{filesystem_lives, layers_in, located_in, mount_lives, named_in, objects_of_overlay, only_used, only_used_by, only_used_of, settled, used_in, without_dead_filesystems, without_dead_groups, without_dead_in, without_dead_inodes, without_dead_mounts}
+use Rattle.vt_spec.specs.Machine.World.{Filesystem, Layer, World, filesystem_numbered, is_overlay, layers_of, with_mounts}
+use Rattle.vt_spec.proofs.Lists.{Among, all_from_among, among-append_left, among-filter, among-filter_map, among-flat_map, among-from_filter, among-from_filter_map, among-map, among_from_contains, among_numbers, any_among, any_from_among, is_among_numbers, list_all_from_among, map_same}
+use Rattle.vt_laws_letting_go.specs.InUse.{AllInUse, is_inode_used}
 use Rattle.vt_laws_part.specs.Parts.{SeesTheSame, shown_of}
 use Rattle.vt_laws_part.specs.Seals.{IsApart}
 use Rattle.vt_laws_part.proofs.Kept.{length-filter_map}
@@ -192,6 +191,47 @@ module _ (world : World ℕ) (names : List TaskName) (is : IsWorld nat_eq world)
       (inodes_live is_overlay)
       ∙ ap (without_dead_groups nat_eq) (inodes_live (λ filesystem. not (is_overlay filesystem)))
       ∙ groups_live
+
+-- what a filter leaves passes
+all_left : {A : Type 0} (p : A → Bool) (xs : List A) → filter p xs ≡ xs → list_all p xs ≡ true
+all_left p xs e =
+    list_all_from_among p xs (λ x m. (among-from_filter p xs x (subst (Among x) (sym e) m)).1)
+
+all_used : (used : List ℕ) (y : Filesystem ℕ) → only_used_of nat_eq used y ≡ y
+    → list_all (λ n. is_among nat_eq n used) y.files.numbers ≡ true
+all_used used y e = by (list_all (λ n. is_among nat_eq n used) y.files.numbers) refl e
+  where
+    by : (b : Bool) → list_all (λ n. is_among nat_eq n used) y.files.numbers ≡ b → only_used_by nat_eq b used y ≡ y
+        → list_all (λ n. is_among nat_eq n used) y.files.numbers ≡ true
+    by true f e = f
+    by false f e =
+        all_left (λ n. is_among nat_eq n used) y.files.numbers (ap (λ (z : Filesystem ℕ). z.files.numbers) e)
+
+pub part_in_use : (world : World ℕ) (names : List TaskName) → IsWorld nat_eq world → sealed nat_eq world names ≡ true
+    → AllInUse (part_of nat_eq world names)
+part_in_use world names is sealed_off = record {
+  mounts = all_left (mount_lives nat_eq (part world names is sealed_off)) (part world names is sealed_off).mounts
+      (mounts_live world names is sealed_off);
+  filesystems = all_left (filesystem_lives nat_eq (part world names is sealed_off))
+      (part world names is sealed_off).filesystems (filesystems_live world names is sealed_off);
+  inodes = all_from_among (λ (f : Filesystem ℕ). list_all (is_inode_used (part world names is sealed_off) f) f.files.numbers
+      ≡ true) (part world names is sealed_off).filesystems
+      (λ y n. all_used (used_in nat_eq (part world names is sealed_off) y) y (whole world names is sealed_off true y n));
+  groups = λ group none. by group none (list_any (is_member_of nat_eq group) (own_mounts nat_eq world names)) refl;
+}
+  where
+    by : (group : ℕ) → has_members nat_eq (part_of nat_eq world names).mounts group ≡ false → (b : Bool)
+        → list_any (is_member_of nat_eq group) (own_mounts nat_eq world names) ≡ b
+        → (part_of nat_eq world names).master group ≡ None
+    by group none true e =
+        let own = any_among (is_member_of nat_eq group) (own_mounts nat_eq world names) e in
+        let from = among-from_filter (is_own_mount nat_eq world names) world.mounts own.0 own.1 in
+        absurd (true≢false
+        (sym (any_from_among (is_member_of nat_eq group) (part_of nat_eq world names).mounts own.0
+        (among-filter_map (keep world names (members world names)) world.mounts own.0 own.0 from.0
+        (own_whole world names is own.0 from.1)) own.2)
+        ∙ none))
+    by group none false e = ap (λ b. cond b (world.master group) None) e
 
 pub part_is_settled : PartIsSettled
 part_is_settled world names is sealed_off = part_settled world names is sealed_off

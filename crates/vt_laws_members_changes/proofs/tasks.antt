@@ -1,0 +1,8 @@
+-- What the proofs of src/tasks.rt use.
+pub mod Denied
+pub mod Ending
+pub mod MoreLocations
+pub mod Opening
+pub mod RaisedTasks
+pub mod Retasked
+pub mod Rights

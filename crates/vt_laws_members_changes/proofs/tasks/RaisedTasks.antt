@@ -1,0 +1,80 @@
+-- Where tasks change alone, the change numbers of the caller and of the world are raised, and no others.
+use Rattle.std.proofs.Common.{◌≡◌, refl, ap, ℕ, nat_eq, Bool, true, false, cond, List, [], ◌∷◌, Option, Some, None, map, ◌&&◌, eq-eqb}
+use Rattle.std.proofs.lemmas.Bool.{and_from}
+use Rattle.vt_spec.specs.Language.Calls.{MountFlags, TaskName}
+use Rattle.vt_spec.specs.Lists.{same_list, same_option}
+use Rattle.vt_spec.specs.Machine.Filesystems.{raised, raised_if_changed}
+use Rattle.vt_spec.specs.Machine.Mounts.{Location, Mount, Propagation, same_location}
+use Rattle.vt_spec.specs.Machine.Mounts.Propagation.{Private, Shared, Slave, Unbindable}
+use Rattle.vt_spec.specs.Machine.Policy.{master_above, numbers_raised, raised_namespace, raised_task, same_bool, same_flags, same_mount, same_propagation}
+use Rattle.vt_spec.specs.Machine.World.{Namespace, Task, World, mounts_of}
+use Rattle.vt_spec.proofs.Lists.{map_same}
+
+same_bool_itself : (b : Bool) → same_bool b b ≡ true
+same_bool_itself true = refl
+same_bool_itself false = refl
+
+same_flags_itself : (flags : MountFlags) → same_flags flags flags ≡ true
+same_flags_itself flags =
+    and_from (same_bool flags.read_only flags.read_only && same_bool flags.noexec flags.noexec)
+    (same_bool flags.nosymfollow flags.nosymfollow)
+    (and_from (same_bool flags.read_only flags.read_only) (same_bool flags.noexec flags.noexec)
+    (same_bool_itself flags.read_only) (same_bool_itself flags.noexec)) (same_bool_itself flags.nosymfollow)
+
+same_point_itself : (point : Option (Location ℕ)) → same_option (same_location nat_eq) point point ≡ true
+same_point_itself None = refl
+same_point_itself (Some location) =
+    and_from (nat_eq location.mount location.mount) (nat_eq location.node location.node)
+    (eq-eqb location.mount location.mount refl) (eq-eqb location.node location.node refl)
+
+same_group_itself : (group : Option ℕ) → same_option nat_eq group group ≡ true
+same_group_itself None = refl
+same_group_itself (Some group) = eq-eqb group group refl
+
+same_propagation_itself : (kind : Propagation ℕ) → same_propagation nat_eq kind kind ≡ true
+same_propagation_itself (Shared group) = eq-eqb group group refl
+same_propagation_itself (Slave master) = eq-eqb master master refl
+same_propagation_itself Private = refl
+same_propagation_itself Unbindable = refl
+
+module _ (before : World ℕ) (name : TaskName) (tasks : List (Task ℕ)) where
+  abbrev left : World ℕ
+  left = record before { tasks = tasks }
+
+  same_mount_itself : (mount : Mount ℕ) → same_mount nat_eq before left mount mount ≡ true
+  same_mount_itself mount =
+      and_from (nat_eq mount.number mount.number && same_option (same_location nat_eq) mount.mount_point mount.mount_point
+      && same_flags mount.flags mount.flags && same_propagation nat_eq mount.propagation mount.propagation)
+      (same_option nat_eq (master_above before mount) (master_above left mount))
+      (and_from (nat_eq mount.number mount.number
+      && same_option (same_location nat_eq) mount.mount_point mount.mount_point && same_flags mount.flags mount.flags)
+      (same_propagation nat_eq mount.propagation mount.propagation)
+      (and_from (nat_eq mount.number mount.number
+      && same_option (same_location nat_eq) mount.mount_point mount.mount_point) (same_flags mount.flags mount.flags)
+      (and_from (nat_eq mount.number mount.number)
+      (same_option (same_location nat_eq) mount.mount_point mount.mount_point)
+      (eq-eqb mount.number mount.number refl) (same_point_itself mount.mount_point))
+      (same_flags_itself mount.flags)) (same_propagation_itself mount.propagation))
+      (same_group_itself (master_above before mount))
+
+  all_themselves : (list : List (Mount ℕ)) → same_list (same_mount nat_eq before left) list list ≡ true
+  all_themselves [] = refl
+  all_themselves (mount ∷ list) =
+      and_from (same_mount nat_eq before left mount mount) (same_list (same_mount nat_eq before left) list list)
+      (same_mount_itself mount) (all_themselves list)
+
+  namespace_kept : (namespace : Namespace ℕ) → raised_namespace nat_eq before left namespace ≡ namespace
+  namespace_kept namespace =
+      ap (λ b. cond b namespace (record namespace { change = raised namespace.change }))
+      (all_themselves (mounts_of nat_eq before namespace.number))
+
+  pub tasks_raised : numbers_raised nat_eq before name [] left
+      ≡ record before { tasks = map (raised_task name) tasks; change = raised before.change }
+  tasks_raised i = record {
+    mounts = before.mounts;
+    master = before.master;
+    filesystems = map_same (raised_if_changed nat_eq []) before.filesystems (λ f m. refl) i;
+    namespaces = map_same (raised_namespace nat_eq before left) before.namespaces (λ n m. namespace_kept n) i;
+    tasks = map (raised_task name) tasks;
+    change = raised before.change;
+  }
