@@ -1,0 +1,3 @@
+-- What the proofs of src/alike.rt use.
+pub mod MountsAlike
+pub mod NodesAlike

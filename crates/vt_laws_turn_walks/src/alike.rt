@@ -1,0 +1,1 @@
+//! Half-done walks, in a world that calls of others have changed.
