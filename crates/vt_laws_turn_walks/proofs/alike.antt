@@ -1,3 +1,4 @@
 -- What the proofs of src/alike.rt use.
 pub mod MountsAlike
 pub mod NodesAlike
+pub mod StepsAlike
