@@ -2,3 +2,6 @@
 pub mod MountsAlike
 pub mod NodesAlike
 pub mod StepsAlike
+pub mod Seeing
+pub mod WalkersAlike
+pub mod InTurn

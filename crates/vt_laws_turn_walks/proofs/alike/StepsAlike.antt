@@ -111,7 +111,7 @@ module _ (world later : World ℕ) (isw : IsWorld nat_eq world) (isl : IsWorld n
   pub directory_is : (l : Location ℕ) → IsThere l → Kept (shown_at l) → is_directory_at other l ≡ is_directory_at one l
   directory_is l is kept = ap is_directory_node (node_is l is kept)
 
-  search_is : (l : Location ℕ) → IsThere l → Kept (shown_at l)
+  pub search_is : (l : Location ℕ) → IsThere l → Kept (shown_at l)
       → search_rules nat_eq other task l ≡ search_rules nat_eq one task l
   search_is l is kept =
       ap (λ n. (not (is_directory_node n), W3) ∷ (not (node_allows task.credentials execute_right n), W4)
@@ -358,6 +358,41 @@ module _ (world later : World ℕ) (isw : IsWorld nat_eq world) (isl : IsWorld n
             (subst (λ b. Among f (filesystems_of nat_eq one (cond b [] (one.mounts_over parent)))) (sym e) m))))),
       )
 
+  -- each step meets where it begins
+  pub kept_here : (here : Location ℕ) (word : LastWord) → EachKept (met_by nat_eq one task here word)
+      → Kept (shown_at here)
+  kept_here here NoWord kept = kept (shown_at here) (inl refl)
+  kept_here here Dot kept = kept (shown_at here) (inl refl)
+  kept_here here (Named name) kept = kept (shown_at here) (inl refl)
+  kept_here here DotDot kept =
+      kept (shown_at here) (among-map shown_at (way here ++ entered_upward nat_eq one task (top_of here)) here
+      (among-append_left (way here) (entered_upward nat_eq one task (top_of here)) here
+      (chain_start (hop_in world later isw.mounts isl.mounts task.namespace same task world) (length world.mounts) here)))
+
+  -- and leads to what is there in both worlds
+  pub reached_there : (here : Location ℕ) (word : LastWord) → IsThere here → is_directory_at one here ≡ true
+      → EachKept (met_by nat_eq one task here word) → (l : Location ℕ) → stepped nat_eq one task here word ≡ Ok l
+      → IsThere l × Kept (shown_at l)
+  reached_there here word is directory kept l e =
+      let step = stepped_is here word is directory kept in
+      let its = ok_is IsKept (stepped nat_eq one task here word) step.1 l e in (
+        record {
+          own = its.0;
+          before = step_found world isw task here word l (is.before.0, directory) e;
+          after = step_found later isl task here word l
+              (is.after.0, directory_is here is (kept_here here word kept) ∙ directory) (step.0 ∙ e);
+        },
+        its.1,
+      )
+
+  -- rules by whether a directory is there
+  abbrev pub rules_by : Location ℕ → Bool → Rules
+  rules_by here directory =
+      (not directory, W3)
+      ∷ (not (node_allows task.credentials execute_right (one.node here)), W4)
+      ∷ (not (mounter_allows (one.overlay here) execute_right (one.node here)), W5)
+      ∷ []
+
   -- one word
   pub word_is : (here : Here ℕ) (word : LastWord) → IsThere here.location
       → EachKept (met_by nat_eq one task here.location word)
@@ -367,31 +402,13 @@ module _ (world later : World ℕ) (isw : IsWorld nat_eq world) (isl : IsWorld n
     ap (λ s. walked_to here.left (s ∷ here.steps) (search_rules nat_eq other task here.location)
         (stepped nat_eq other task here.location word)) (met_is here.location word is kept)
         ∙ ap (λ r. walked_to here.left steps r (stepped nat_eq other task here.location word))
-        (search_is here.location is (here_kept word kept))
+        (search_is here.location is (kept_here here.location word kept))
         ∙ found_same (is_directory_at one here.location) refl,
     found_there (is_directory_at one here.location) refl,
   )
     where
       steps : List (List ℕ)
       steps = steps_with nat_eq one task here word
-
-      here_kept : (w : LastWord) → EachKept (met_by nat_eq one task here.location w) → Kept (shown_at here.location)
-      here_kept NoWord k = k (shown_at here.location) (inl refl)
-      here_kept Dot k = k (shown_at here.location) (inl refl)
-      here_kept (Named name) k = k (shown_at here.location) (inl refl)
-      here_kept DotDot k =
-          k (shown_at here.location) (among-map shown_at
-          (way here.location ++ entered_upward nat_eq one task (top_of here.location)) here.location
-          (among-append_left (way here.location) (entered_upward nat_eq one task (top_of here.location)) here.location
-          (chain_start (hop_in world later isw.mounts isl.mounts task.namespace same task world) (length world.mounts)
-          here.location)))
-
-      rules_by : Bool → Rules
-      rules_by directory =
-          (not directory, W3)
-          ∷ (not (node_allows task.credentials execute_right (one.node here.location)), W4)
-          ∷ (not (mounter_allows (one.overlay here.location) execute_right (one.node here.location)), W5)
-          ∷ []
 
       found_same : (b : Bool) → is_directory_at one here.location ≡ b
           → walked_to here.left steps (search_rules nat_eq one task here.location)
@@ -402,27 +419,19 @@ module _ (world later : World ℕ) (isw : IsWorld nat_eq world) (isl : IsWorld n
           ap (walked_to here.left steps (search_rules nat_eq one task here.location))
           (stepped_is here.location word is e kept).0
       found_same false e =
-          ap (λ d. walked_to here.left steps (rules_by d) (stepped nat_eq other task here.location word)) e
-          ∙ sym (ap (λ d. walked_to here.left steps (rules_by d) (stepped nat_eq one task here.location word)) e)
+          ap (λ d. walked_to here.left steps (rules_by here.location d) (stepped nat_eq other task here.location word)) e
+          ∙ sym (ap (λ d. walked_to here.left steps (rules_by here.location d)
+          (stepped nat_eq one task here.location word)) e)
 
       found_there : (b : Bool) → is_directory_at one here.location ≡ b
           → IfOk (walked_to here.left steps (search_rules nat_eq one task here.location)
           (stepped nat_eq one task here.location word))
           (λ (next : Here ℕ). IsThere next.location × Kept (shown_at next.location))
       found_there true e =
-          let step = stepped_is here.location word is e kept in
           found_ok (λ l. IsThere l × Kept (shown_at l)) here.left steps (search_rules nat_eq one task here.location)
           (stepped nat_eq one task here.location word)
-          (λ l f.
-          let its = ok_is IsKept (stepped nat_eq one task here.location word) step.1 l f in (
-            record {
-              own = its.0;
-              before = step_found world isw task here.location word l (is.before.0, e) f;
-              after = step_found later isl task here.location word l
-                  (is.after.0, directory_is here.location is (here_kept word kept) ∙ e) (step.0 ∙ f);
-            },
-            its.1,
-          ))
+          (λ l f. reached_there here.location word is e kept l f)
       found_there false e =
-          subst (λ d. IfOk (walked_to here.left steps (rules_by d) (stepped nat_eq one task here.location word))
+          subst (λ d. IfOk (walked_to here.left steps (rules_by here.location d)
+          (stepped nat_eq one task here.location word))
           (λ (next : Here ℕ). IsThere next.location × Kept (shown_at next.location))) (sym e) tt
