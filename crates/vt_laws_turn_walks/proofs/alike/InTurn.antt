@@ -29,9 +29,9 @@ mount_stays world later namespace are same l e =
     ⊎_elim
     (λ found.
     let there : Among mount later.mounts =
-        (among-from_filter within later.mounts mount (subst (Among mount) (sym same)
-        (among-filter within world.mounts mount found (ap (holds_of (nat_eq namespace)) e ∙ nat_eq_itself namespace)))).0
-        in
+    (among-from_filter within later.mounts mount (subst (Among mount) (sym same)
+    (among-filter within world.mounts mount found (ap (holds_of (nat_eq namespace)) e ∙ nat_eq_itself namespace)))).0
+    in
     ap (mount_numbered nat_eq later) (sym (number-mount_in world.mounts l.mount))
     ∙ found_itself later.mounts are.mounts.one_number mount there)
     (λ none. none_is_some namespace (sym (ap (λ (m : Mount ℕ). m.namespace) none) ∙ e))
@@ -48,7 +48,7 @@ first_words_lead_alike_in_turn world calls task aim path count is called others 
     let later : World ℕ = after_calls world calls in
     let are : IsWorld nat_eq later = worlds_after task.namespace calls world is beside in
     let same : mounts_of nat_eq later task.namespace ≡ mounts_of nat_eq world task.namespace =
-        keep_mounts_in_turn world calls task.namespace is beside unraised in
+    keep_mounts_in_turn world calls task.namespace is beside unraised in
     first_words_lead_alike world later task aim path count is are
     (record {
       before = called;

@@ -160,16 +160,16 @@ module _ (world later : World ℕ) (is : MountInvariants nat_eq world) (are : Mo
   few : length there ≤ length world.mounts
   few =
       let size : length there ≡ length (mounts_of nat_eq world namespace) =
-          length-map (mounts_of nat_eq world namespace) (λ (mount : Mount ℕ). suc mount.number) in
+      length-map (mounts_of nat_eq world namespace) (λ (mount : Mount ℕ). suc mount.number) in
       let less = filter_shorter within world.mounts in
       omega (arith, size, less)
 
   few_later : length there ≤ length later.mounts
   few_later =
       let size : length there ≡ length (mounts_of nat_eq world namespace) =
-          length-map (mounts_of nat_eq world namespace) (λ (mount : Mount ℕ). suc mount.number) in
+      length-map (mounts_of nat_eq world namespace) (λ (mount : Mount ℕ). suc mount.number) in
       let less : length (mounts_of nat_eq world namespace) ≤ length later.mounts =
-          subst (λ l. length l ≤ length later.mounts) same (filter_shorter within later.mounts) in
+      subst (λ l. length l ≤ length later.mounts) same (filter_shorter within later.mounts) in
       omega (arith, size, less)
 
   by_key : (a b : Location ℕ) → key a ≡ key b → up world a ≡ up world b
@@ -233,14 +233,14 @@ module _ (world later : World ℕ) (is : MountInvariants nat_eq world) (are : Mo
       → IsOwn point.mount × Among (suc number) there
   parent_own number point (mount, m, n, at, kind) e =
       let itself : mount_numbered nat_eq world number ≡ mount =
-          ap (mount_numbered nat_eq world) (sym at) ∙ numbered world is mount m in
+      ap (mount_numbered nat_eq world) (sym at) ∙ numbered world is mount m in
       let placed : mount.mount_point ≡ Some point = sym (ap (λ (x : Mount ℕ). x.mount_point) itself) ∙ e in
       ⊎_elim
       (λ f.
       let above : (mount_numbered nat_eq world point.mount).namespace ≡ Some namespace =
-          sym (sym (ap (λ (x : Mount ℕ). x.namespace) (numbered world is mount m))
-          ∙ namespace_below world mount.number point (stands world is mount m)
-          (ap (λ (x : Mount ℕ). x.mount_point) (numbered world is mount m) ∙ placed)) ∙ f in (
+      sym (sym (ap (λ (x : Mount ℕ). x.namespace) (numbered world is mount m))
+      ∙ namespace_below world mount.number point (stands world is mount m)
+      (ap (λ (x : Mount ℕ). x.mount_point) (numbered world is mount m) ∙ placed)) ∙ f in (
         ⊎_elim
             (λ found. (
               mount_numbered nat_eq world point.mount,
@@ -317,7 +317,7 @@ module _ (world later : World ℕ) (is : MountInvariants nat_eq world) (are : Mo
             let placed = hop_point a b f in
             let parent = parent_own a.mount b own placed in
             let point_is : point ≡ b =
-                same_Some point b (sym (ap (λ n. (mount_numbered nat_eq world n).mount_point) at ∙ e) ∙ placed) in
+            same_Some point b (sym (ap (λ n. (mount_numbered nat_eq world n).mount_point) at ∙ e) ∙ placed) in
             goes_on a b f (hop_same a own ∙ f)
             (subst (λ k. Among k there) (sym (ap (λ o. hop_key_of o a.mount) f)) parent.1)
             (rest b (ap (λ (l : Location ℕ). l.mount) (sym point_is)) parent.0)

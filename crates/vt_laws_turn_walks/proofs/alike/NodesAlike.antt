@@ -39,9 +39,9 @@ module _ (files : FileTree ℕ) (is : IsTree files.tree) (other : ℕ → Option
   root_up : Up files.tree.root
   root_up =
       let none : named_parent nat_eq files.tree files.tree.root ≡ None = ap (λ b. cond b None (when
-          (is_among nat_eq files.tree.root
-          (targets_in (files.tree.node (parent_in files.tree.root (files.tree.node files.tree.root)))))
-          (parent_in files.tree.root (files.tree.node files.tree.root)))) (nat_eq_itself files.tree.root) in
+      (is_among nat_eq files.tree.root
+      (targets_in (files.tree.node (parent_in files.tree.root (files.tree.node files.tree.root)))))
+      (parent_in files.tree.root (files.tree.node files.tree.root)))) (nat_eq_itself files.tree.root) in
       ends files.tree.root none (agrees files.tree.root is.root_directory ∙ none)
 
   pub way_up : (to : ℕ) → IsDirectory files.tree to → IsReached files.tree to → Up to

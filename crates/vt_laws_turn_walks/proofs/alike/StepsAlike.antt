@@ -167,7 +167,7 @@ module _ (world later : World ℕ) (isw : IsWorld nat_eq world) (isl : IsWorld n
       let point = hop_point world later isw.mounts isl.mounts task.namespace same task a b e in
       let before = place_found world isw task a.mount b is.before.0 point in
       let after = place_found later isl task a.mount b is.after.0
-          (ap (λ (m : Mount ℕ). m.mount_point) (mount_same a.mount is.own) ∙ point) in (
+      (ap (λ (m : Mount ℕ). m.mount_point) (mount_same a.mount is.own) ∙ point) in (
         record {
           own = (parent_own world later isw.mounts isl.mounts task.namespace same a.mount b is.own point).0;
           before = directory_found world isw task b before;

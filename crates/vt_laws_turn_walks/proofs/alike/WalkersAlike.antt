@@ -103,7 +103,7 @@ module _ (world later : World ℕ) (isw : IsWorld nat_eq world) (isl : IsWorld n
       by None e h = inr e
       by (Some k) e h =
           let in_it : (nat_eq task.namespace k && true) ≡ true =
-              sym (ap (λ o. list_all (nat_eq task.namespace) (option_to_list o)) e) ∙ h in
+          sym (ap (λ o. list_all (nat_eq task.namespace) (option_to_list o)) e) ∙ h in
           inl (e ∙ ap Some (sym (eqb-true task.namespace k (and_parts (nat_eq task.namespace k) true in_it).0)))
 
   -- there in both worlds, and a directory in both or in neither
@@ -279,7 +279,7 @@ module _ (world later : World ℕ) (isw : IsWorld nat_eq world) (isl : IsWorld n
   text_word_is here there word list slash others last kept =
       let step = word_is world later isw isl task stands.mounts here (last_word word) there kept in
       let directory = kept_standing here.location there
-          (kept_here world later isw isl task stands.mounts here.location (last_word word) kept) in (
+      (kept_here world later isw isl task stands.mounts here.location (last_word word) kept) in (
         ap (λ r. then_walk r (λ next. arrived nat_eq after task here.location next
             (record { words = list; slash = slash } ∷ others) last (symlink_text (after.node next.location)))) step.0
             ∙ then_if (λ (next : Here ℕ). There next.location × KeptOne (shown next.location))
