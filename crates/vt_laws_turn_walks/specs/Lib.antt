@@ -1,2 +1,3 @@
 pub mod ByWords
+pub mod HalfWalks
 pub mod Walkers

@@ -258,7 +258,7 @@ module _ (looks : Looks ℕ) (task : Task ℕ) where
         (quiet_start (last_of path) (ends_in_slash path)))
         ∙ sym (then_then (path_text path) _ (λ place. Ok (Names place)))
 
-    begun_steps : (aim : Aim) → HasSteps 0 (begun nat_eq aim looks task path)
+    pub begun_steps : (aim : Aim) → HasSteps 0 (begun nat_eq aim looks task path)
     begun_steps aim = text_steps path _ (by aim)
       where
         symlink_by : (slash : Bool) → HasSteps 0 (gone_on nat_eq looks task start
