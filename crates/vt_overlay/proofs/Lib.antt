@@ -1,0 +1,3 @@
+pub mod BirthsFound
+pub mod NumbersApart
+pub mod TreeFound

@@ -1,0 +1,233 @@
+-- What is found by a number is what is shown at the one path where it is.
+use Rattle.std.proofs.Common.{◌≡◌, ◌≢◌, ◌⊎◌, ◌∙◌, ◌≤◌, ◌∷◌, [], arith, ap, Bool, eq-eqb, false, inl, inr, length, List, map, nat_eq, None, option_map, Option, refl, Some, subst, suc, sym, true, true≢false, zero, ℕ, slice_get}
+use Rattle.std.proofs.lemmas.Option.{same_Some, slice_get-map}
+use Rattle.std.specs.List.{find}
+use Rattle.std.specs.Prelude.{if◌then◌else◌, unwrap_or}
+use Rattle.vt_spec.proofs.Found.{found_passes}
+use Rattle.vt_spec.proofs.Options.{none_is_some}
+use Rattle.vt_spec.specs.Lists.{holds_of, then_some}
+use Rattle.vt_spec.specs.Machine.Invariants.{real_node, real_shown}
+use Rattle.vt_spec.specs.Machine.Layers.{OpenLayer, Shown, at_path, node_at_path, paths_from, shown}
+use Rattle.vt_spec.specs.Machine.Merging.{merged_at}
+use Rattle.vt_spec.specs.Machine.World.{Filesystem, Real, World, open_layer}
+use Rattle.vt_spec.specs.Machine.World.Real.{Lower}
+use Rattle.vt_spec.specs.Tree.{Node}
+use Rattle.vt_laws_layers.proofs.layers.ShownAtPath.{computed}
+use Rattle.vt_laws_layers.proofs.layers.ShownDirectories.{AreOpen}
+use Rattle.vt_laws_layers.proofs.layers.ShownObjects.{Among, paths_complete}
+use Rattle.vt_laws_merging.specs.MergedTrees.{layers_shown, number_shown}
+use Rattle.vt_laws_seen.proofs.seen.Paths.{length-led}
+use Rattle.vt_laws_seen.proofs.seen.SeenTrees.{shown_number}
+use Rattle.vt_laws_seen.specs.TreesSeen.{path_numbered, real_by}
+use Rattle.vt_location.specs.Locations.{number_of as inode_of}
+use Rattle.vt_fs.proofs.Numbers.{found_by_number, numbers_listed}
+use Rattle.vt_fs.specs.FilesystemsValue.{Filesystems, entry_at, files_at}
+use Rattle.vt_merge.specs.LayerValue.{layer_of, layers_of}
+use Rattle.vt_merge.specs.declared.layers.LayerRef.{LayerRef}
+use Rattle.vt_overlay.specs.Births.{number_of}
+use Rattle.vt_overlay.specs.MergedTree.{AreLayers, OverlayValue, layer_seen, longest, node_born, object_at, overlay_seen, plain_world, real_number}
+
+-- what is among a list and passes is not missed
+not_missed : {A : Type 0} (test : A → Bool) (list : List A) (a : A) → test a ≡ true → Among list a
+    → find test list ≢ None
+not_missed test [] a passes among e = absurd among
+not_missed {A = A} test (first ∷ list) a passes among e =
+    by (test first) refl among (λ rest. not_missed test list a passes rest)
+  where
+    by : (b : Bool) → test first ≡ b → (first ≡ a) ⊎ Among list a → (Among list a → find test list ≢ None) → ⊥
+    by true s among rest = none_is_some first (sym e ∙ ap (λ b. if b then Some first else find test list) s)
+    by false s (inl same) rest = true≢false (sym passes ∙ ap test (sym same) ∙ s)
+    by false s (inr among) rest = rest among (sym (ap (λ b. if b then Some first else find test list) s) ∙ e)
+
+-- a layer has no more inodes than all of them
+at_most_longest : (trees : Filesystems) (layers : List LayerRef) (place : ℕ) (layer : LayerRef)
+    → slice_get layers place ≡ Some layer
+    → length (files_at trees layer.directory.filesystem.count).numbers ≤ longest trees layers
+at_most_longest trees [] place layer e = none_is_some layer e
+at_most_longest trees (first ∷ layers) zero layer e =
+    let same = ap (λ (l : LayerRef). length (files_at trees l.directory.filesystem.count).numbers)
+    (same_Some first layer e) in omega (arith, same)
+at_most_longest trees (first ∷ layers) (suc place) layer e =
+    let rest = at_most_longest trees layers place layer e in omega (arith, rest)
+
+module _ (trees : Filesystems) (overlay : OverlayValue) (are : AreLayers trees overlay.lowers) where
+  abbrev pub layers : List (OpenLayer ℕ)
+  layers = layers_of trees overlay.lowers
+
+  abbrev world : World ℕ
+  world = plain_world trees
+
+  as_layer : LayerRef → Filesystem ℕ → OpenLayer ℕ
+  as_layer lower filesystem = record { tree = filesystem.files.tree; directory = inode_of lower.directory }
+
+  opened_so : (lower : LayerRef) → open_layer nat_eq world (layer_seen lower) ≡ layer_of trees lower
+  unfolding as_layer
+  opened_so lower = ap (as_layer lower) (found_by_number trees lower.directory.filesystem.count)
+
+  all_opened : (lowers : List LayerRef)
+      → map (open_layer nat_eq world) (map layer_seen lowers) ≡ layers_of trees lowers
+  all_opened [] = refl
+  all_opened (lower ∷ lowers) = λ i. opened_so lower i ∷ all_opened lowers i
+
+  layers_are : layers_shown world (overlay_seen overlay) ≡ layers
+  layers_are = all_opened overlay.lowers
+
+  -- the real object at a path, and its number
+  abbrev real_of : List (List ℕ) → Option (Shown ℕ) → Option (Real ℕ)
+  real_of path seen = option_map (λ (s : Shown ℕ). Lower s.layer path) seen
+
+  real_is : (path : List (List ℕ)) → real_shown nat_eq world (overlay_seen overlay) path ≡ real_of path (shown layers path)
+  real_is path =
+      ap (λ ls. option_map (λ object. Rattle.vt_spec.specs.Machine.Merging.real_object false object.seen.layer object)
+      (merged_at ls path)) layers_are
+      ∙ by (shown layers path)
+    where
+      by : (o : Option (Shown ℕ))
+          → option_map (λ object. Rattle.vt_spec.specs.Machine.Merging.real_object false object.seen.layer object)
+          (option_map (λ seen. record { path = path; seen = seen }) o) ≡ real_of path o
+      by None = refl
+      by (Some seen) = refl
+
+  abbrev pub number_at : List (List ℕ) → Option ℕ
+  number_at path = number_shown (real_number trees overlay) world (overlay_seen overlay) path
+
+  -- it is shown there by this number
+  pub record IsAt (path : List (List ℕ)) (number : ℕ) : Type 0 where
+    pub place : ℕ
+    pub object : ℕ
+    pub lower : LayerRef
+    pub layer : slice_get overlay.lowers place ≡ Some lower
+    pub is : shown layers path ≡ Some (record { layer = place; object = object })
+    pub leads : at_path (layer_of trees lower) path ≡ Some object
+    pub numbered : number_of (node_born trees overlay.number place lower path) ≡ number
+
+  -- what is shown is in a layer
+  pub in_layer : (path : List (List ℕ)) (seen : Shown ℕ) → shown layers path ≡ Some seen
+      → (lower : LayerRef) × (slice_get overlay.lowers seen.layer ≡ Some lower)
+      × (at_path (layer_of trees lower) path ≡ Some seen.object)
+  in_layer path seen e =
+      let has = ((computed layers path seen).0 e).has_uncut.0 in
+      by has.0 has.2 (slice_get overlay.lowers seen.layer) refl
+      (sym (slice_get-map (layer_of trees) overlay.lowers seen.layer) ∙ has.1)
+    where
+      by : (layer : OpenLayer ℕ) → at_path layer path ≡ Some seen.object → (o : Option LayerRef)
+          → slice_get overlay.lowers seen.layer ≡ o → option_map (layer_of trees) o ≡ Some layer
+          → (lower : LayerRef) × (slice_get overlay.lowers seen.layer ≡ Some lower)
+          × (at_path (layer_of trees lower) path ≡ Some seen.object)
+      by layer l None s m = none_is_some layer m
+      by layer l (Some lower) s m =
+          (lower, s, ap (λ o. at_path o path) (same_Some (layer_of trees lower) layer m) ∙ l)
+
+  open_layers : AreOpen layers
+  open_layers place layer e =
+      by (slice_get overlay.lowers place) refl
+      (sym (slice_get-map (layer_of trees) overlay.lowers place) ∙ e)
+    where
+      by : (o : Option LayerRef) → slice_get overlay.lowers place ≡ o → option_map (layer_of trees) o ≡ Some layer
+          → Rattle.vt_spec.specs.TreeInvariant.IsTree layer.tree
+          × Rattle.vt_spec.specs.TreeInvariant.IsDirectory layer.tree layer.directory
+      by None s m = none_is_some layer m
+      by (Some lower) s m =
+          subst (λ (l : OpenLayer ℕ). Rattle.vt_spec.specs.TreeInvariant.IsTree l.tree
+          × Rattle.vt_spec.specs.TreeInvariant.IsDirectory l.tree l.directory)
+          (same_Some (layer_of trees lower) layer m) ((are place lower s).tree, (are place lower s).directory)
+
+  bounded : (path : List (List ℕ)) (seen : Shown ℕ) → shown layers path ≡ Some seen
+      → length path ≤ longest trees overlay.lowers
+  bounded path seen e =
+      let at = in_layer path seen e in
+      let f = at.0.directory.filesystem.count in
+      let within = length-led (files_at trees f) (are seen.layer at.0 at.1).tree (numbers_listed (entry_at trees f))
+      (inode_of at.0.directory) path seen.object at.2 in
+      let most = at_most_longest trees overlay.lowers seen.layer at.0 at.1 in
+      omega (arith, within, most)
+
+  -- a number that is found is at that path
+  number_of_shown : (path : List (List ℕ)) (seen : Shown ℕ) (lower : LayerRef) → shown layers path ≡ Some seen
+      → slice_get overlay.lowers seen.layer ≡ Some lower
+      → number_at path ≡ Some (number_of (node_born trees overlay.number seen.layer lower path))
+  number_of_shown path seen lower e l =
+      ap (option_map (real_number trees overlay)) (real_is path ∙ ap (real_of path) e)
+      ∙ ap (λ (o : Option LayerRef). Some (unwrap_or (option_map (λ (layer : LayerRef).
+      number_of (node_born trees overlay.number seen.layer layer path)) o) 0)) l
+
+  abbrev pub found_at : ℕ → Option (List (List ℕ))
+  found_at number =
+      path_numbered (real_number trees overlay) (longest trees overlay.lowers) world (overlay_seen overlay) number
+
+  abbrev passes : ℕ → List (List ℕ) → Bool
+  passes number path = holds_of (nat_eq number) (number_at path)
+
+  pub found_is_at : (number : ℕ) (path : List (List ℕ)) → found_at number ≡ Some path → IsAt path number
+  found_is_at number path e =
+      by (shown layers path) refl (shown_number number (number_at path)
+      (found_passes (passes number)
+      (paths_from (longest trees overlay.lowers) (layers_shown world (overlay_seen overlay)) []) path e))
+    where
+      by : (o : Option (Shown ℕ)) → shown layers path ≡ o → number_at path ≡ Some number → IsAt path number
+      by None s n =
+          none_is_some number (sym (ap (option_map (real_number trees overlay)) (real_is path ∙ ap (real_of path) s))
+          ∙ n)
+      by (Some seen) s n =
+          let at = in_layer path seen s in
+          record {
+            place = seen.layer;
+            object = seen.object;
+            lower = at.0;
+            layer = at.1;
+            is = s;
+            leads = at.2;
+            numbered = same_Some _ number (sym (number_of_shown path seen at.0 s at.1) ∙ n);
+          }
+
+  -- and one that is at a path is found
+  pub at_is_found : (number : ℕ) (path : List (List ℕ)) → IsAt path number → found_at number ≢ None
+  at_is_found number path at =
+      not_missed (passes number)
+      (paths_from (longest trees overlay.lowers) (layers_shown world (overlay_seen overlay)) []) path
+      (ap (holds_of (nat_eq number))
+      (number_of_shown path (record { layer = at.place; object = at.object }) at.lower at.is at.layer)
+      ∙ eq-eqb number _ (sym at.numbered))
+      (subst (λ ls. Among (paths_from (longest trees overlay.lowers) ls []) path) (sym layers_are)
+      (paths_complete layers open_layers (longest trees overlay.lowers) [] path
+      (record { layer = at.place; object = at.object })
+      (bounded path (record { layer = at.place; object = at.object }) at.is) at.is))
+
+  abbrev object_by : ℕ → Option (List (List ℕ)) → Option (Node ℕ)
+  object_by number o =
+      then_some (real_by (real_number trees overlay) (λ number. None) (longest trees overlay.lowers) world
+      (overlay_seen overlay) number o) (real_node nat_eq world (overlay_seen overlay))
+
+  object_there : (number : ℕ) (path : List (List ℕ)) (at : IsAt path number)
+      → object_by number (Some path) ≡ node_at_path (layer_of trees at.lower) path
+  object_there number path at =
+      ap (λ o. then_some o (real_node nat_eq world (overlay_seen overlay)))
+      (real_is path ∙ ap (real_of path) at.is)
+      ∙ ap (λ o. then_some o (λ lower. node_at_path (open_layer nat_eq world lower) path))
+      (slice_get-map layer_seen overlay.lowers at.place ∙ ap (option_map layer_seen) at.layer)
+      ∙ ap (λ layer. node_at_path layer path) (opened_so at.lower)
+
+  -- so where it is at one path alone, that object is its object; and where it is at none, it has none
+  pub object_is : (number : ℕ) (path : List (List ℕ)) (at : IsAt path number)
+      → ((other : List (List ℕ)) → IsAt other number → other ≡ path)
+      → object_at trees overlay number ≡ node_at_path (layer_of trees at.lower) path
+  object_is number path at only = by (found_at number) refl
+    where
+      by : (o : Option (List (List ℕ))) → found_at number ≡ o
+          → object_by number (found_at number) ≡ node_at_path (layer_of trees at.lower) path
+      by None f = absurd (at_is_found number path at f)
+      by (Some other) f =
+          ap (object_by number) (f ∙ ap Some (only other (found_is_at number other f)))
+          ∙ object_there number path at
+
+  pub object_is_found : (number : ℕ) (o : Option (List (List ℕ))) → found_at number ≡ o
+      → object_at trees overlay number ≡ object_by number o
+  object_is_found number o f = ap (object_by number) f
+
+  pub no_object : (number : ℕ) → found_at number ≡ None → object_at trees overlay number ≡ None
+  no_object number f = ap (object_by number) f
+
+  pub found_object : (number : ℕ) (path : List (List ℕ)) (f : found_at number ≡ Some path)
+      → object_at trees overlay number ≡ node_at_path (layer_of trees (found_is_at number path f).lower) path
+  found_object number path f =
+      ap (object_by number) f ∙ object_there number path (found_is_at number path f)

@@ -1,0 +1,141 @@
+-- The tree of an overlay without an upper layer, as a function of the trees of its layers: the kernel's overlayfs
+-- document, "upper and lower" and "multiple lower layers".
+use Rattle.std.specs.Prelude.{Bool, List, None, Option, Some, [], false, filter, if◌then◌else◌, length, map, nat_eq, option_map, slice_get, true, unwrap_or, ℕ, ◌&&◌, ◌+◌, ◌∷◌, ◌≡◌}
+use Rattle.std.specs.declared.cmp.Ordering.{Ordering}
+use Rattle.std.specs.declared.cmp.Ordering.TheVariants.{Equal, Greater, Less}
+use Rattle.vt_spec.specs.Lists.{last_or, then_some, without_last}
+use Rattle.vt_spec.specs.Machine.Invariants.{real_node}
+use Rattle.vt_spec.specs.Machine.Layers.{at_path, node_at_path}
+use Rattle.vt_spec.specs.Machine.Merging.{is_root_path}
+use Rattle.vt_spec.specs.Machine.World.{Layer, Overlay, Real, World}
+use Rattle.vt_spec.specs.Machine.World.Real.{Lower, Upper}
+use Rattle.vt_spec.specs.Rights.{Credentials}
+use Rattle.vt_spec.specs.Tree.{Entries, Node, Tree, entries_in, is_directory_node, name_cmp}
+use Rattle.vt_spec.specs.TreeInvariant.{IsDirectory, IsTree}
+use Rattle.vt_laws_seen.specs.TreesSeen.{real_seen, tree_seen}
+use Rattle.vt_location.specs.declared.numbers.FilesystemId.{FilesystemId}
+use Rattle.vt_location.specs.Locations.{number_of as inode_of}
+use Rattle.vt_location.specs.Numbers.{counted, exchanged, is_inode_of}
+use Rattle.vt_fs.specs.FilesystemsValue.{Filesystems, files_at, filesystems_seen, inodes_at}
+use Rattle.vt_merge.specs.LayerValue.{layer_of}
+use Rattle.vt_merge.specs.declared.layers.LayerRef.{LayerRef}
+use Rattle.vt_merge.specs.declared.layers.Real.{Real as FoundReal}
+use Rattle.vt_overlay.specs.Births.{number_of}
+use Rattle.vt_overlay.specs.declared.births.Birth.{Birth}
+use Rattle.vt_overlay.specs.declared.births.Birth.TheVariants.{Below, Here}
+use Rattle.vt_overlay.specs.declared.births.OverlayNode.{OverlayNode}
+
+-- an overlay: its number, its lower layers from the top, and who mounted it
+pub record OverlayValue : Type 0 where
+  pub number : FilesystemId
+  pub lowers : List LayerRef
+  pub mounter : Credentials
+
+-- a layer is a directory of a tree, whose inodes have numbers of its filesystem
+pub record IsLayer (trees : Filesystems) (layer : LayerRef) : Type 0 where
+  pub tree : IsTree (files_at trees layer.directory.filesystem.count).tree
+  pub directory : IsDirectory (files_at trees layer.directory.filesystem.count).tree (inode_of layer.directory)
+  pub own_numbers : (number : ℕ) → is_inode_of layer.directory.filesystem.count number ≡ false
+      → (inodes_at trees layer.directory.filesystem.count).inode number ≡ None
+
+abbrev pub AreLayers : Filesystems → List LayerRef → Type 0
+AreLayers trees layers =
+    (place : ℕ) (layer : LayerRef) → slice_get layers place ≡ Some layer → IsLayer trees layer
+
+-- a world of these plain filesystems alone, and the overlay in it
+abbrev pub plain_world : Filesystems → World ℕ
+plain_world trees = record {
+  mounts = [];
+  master = λ group. None;
+  filesystems = filesystems_seen trees;
+  namespaces = [];
+  tasks = [];
+  change = 0;
+}
+
+abbrev pub layer_seen : LayerRef → Layer ℕ
+layer_seen layer =
+    record { filesystem = counted layer.directory.filesystem.count; directory = inode_of layer.directory }
+
+abbrev pub overlay_seen : OverlayValue → Overlay ℕ
+overlay_seen overlay = record {
+  upper = None;
+  work = None;
+  lowers = map layer_seen overlay.lowers;
+  mounter = overlay.mounter;
+  real = λ number. None;
+}
+
+-- the slot to which names lead from the directory of a layer
+abbrev pub slot_at : Filesystems → LayerRef → List (List ℕ) → ℕ
+slot_at trees layer path =
+    exchanged layer.directory.filesystem.count (unwrap_or (at_path (layer_of trees layer) path) 0)
+
+-- how many smaller names among some entries lead to the same object
+abbrev pub is_less : Ordering → Bool
+is_less Less = true
+is_less Equal = false
+is_less Greater = false
+
+abbrev pub rank_among : Entries ℕ → List ℕ → ℕ → ℕ
+rank_among entries name object =
+    length (filter (λ entry. nat_eq object entry.1 && is_less (name_cmp entry.0 name)) entries)
+
+-- the rank of the last name of a path; to a directory leads one name
+abbrev pub rank_at : Filesystems → LayerRef → List (List ℕ) → ℕ
+rank_at trees layer path =
+    if is_directory_node (node_at_path (layer_of trees layer) path) then 0
+    else rank_among (entries_in (node_at_path (layer_of trees layer) (without_last path))) (last_or [] path)
+    (unwrap_or (at_path (layer_of trees layer) path) 0)
+
+-- the node that is born at a path of a lower layer; at the path without names that is the root
+abbrev pub birth_at : Filesystems → ℕ → LayerRef → List (List ℕ) → Birth
+birth_at trees place layer path =
+    if is_root_path path then Here
+    else Below place (slot_at trees layer (without_last path)) (rank_at trees layer path)
+
+abbrev pub node_born : Filesystems → FilesystemId → ℕ → LayerRef → List (List ℕ) → OverlayNode
+node_born trees number place layer path =
+    record { overlay = number; slot = slot_at trees layer path; birth = birth_at trees place layer path }
+
+-- the number of a real object; there is no upper layer
+abbrev pub real_number : Filesystems → OverlayValue → Real ℕ → ℕ
+real_number trees overlay (Upper object) = 0
+real_number trees overlay (Lower place path) =
+    unwrap_or (option_map (λ layer. number_of (node_born trees overlay.number place layer path))
+    (slice_get overlay.lowers place)) 0
+
+-- no path at which something is shown is longer
+abbrev pub longest : Filesystems → List LayerRef → ℕ
+longest trees [] = 0
+longest trees (layer ∷ rest) =
+    length (files_at trees layer.directory.filesystem.count).numbers + longest trees rest
+
+-- the tree, and its real objects; without an upper layer no node loses its name
+abbrev pub merged_tree : Filesystems → OverlayValue → Tree ℕ
+merged_tree trees overlay =
+    tree_seen (real_number trees overlay) (λ number. None) (longest trees overlay.lowers) (plain_world trees)
+    (overlay_seen overlay)
+
+abbrev pub real_object : Filesystems → OverlayValue → ℕ → Option (Real ℕ)
+real_object trees overlay number =
+    real_seen (real_number trees overlay) (λ number. None) (longest trees overlay.lowers) (plain_world trees)
+    (overlay_seen overlay) number
+
+-- the inode of the real object of a node, by its number in the layer's tree
+abbrev pub object_at : Filesystems → OverlayValue → ℕ → Option (Node ℕ)
+object_at trees overlay number =
+    then_some (real_object trees overlay number) (real_node nat_eq (plain_world trees) (overlay_seen overlay))
+
+-- it, if it is a directory
+abbrev pub only_directory : Option (Node ℕ) → Option (Node ℕ)
+only_directory node = if is_directory_node node then node else None
+
+-- the inode that is a real object
+abbrev pub inode_at : Filesystems → FoundReal → Option (Node ℕ)
+inode_at trees real = (files_at trees real.inode.filesystem.count).tree.node (inode_of real.inode)
+
+-- a directory that was born below a lower layer, in a slot of this one, under a name of the directory in another slot
+abbrev pub directory_born : FilesystemId → ℕ → ℕ → ℕ → OverlayNode
+directory_born number layer directory slot =
+    record { overlay = number; slot = slot; birth = Below layer directory 0 }
