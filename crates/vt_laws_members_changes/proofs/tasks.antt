@@ -1,6 +1,7 @@
 -- What the proofs of src/tasks.rt use.
 pub mod Denied
 pub mod Ending
+pub mod Forking
 pub mod MoreLocations
 pub mod Opening
 pub mod RaisedTasks

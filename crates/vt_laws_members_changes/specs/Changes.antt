@@ -1,19 +1,20 @@
 -- Calls of tasks of a sealed set, in the world and in the part of the set (profile).
-use Rattle.std.specs.Prelude.{List, Ok, Result, Some, [], false, filter, is_ok, not, true, ℕ, nat_eq, ◌≡◌, ◌∷◌}
+use Rattle.std.specs.Prelude.{List, Ok, Option, Result, Some, [], false, filter, is_ok, not, true, ℕ, nat_eq, ◌≡◌, ◌∷◌}
 use Rattle.vt_spec.specs.declared.errors.Deny.{Deny}
 use Rattle.vt_spec.specs.Language.Answers.{Answer}
 use Rattle.vt_spec.specs.Language.Answers.Answer.{Child, Done}
-use Rattle.vt_spec.specs.Language.Calls.{Access, Call, CapabilityWord, Creation, TaskName, same_name}
-use Rattle.vt_spec.specs.Language.Calls.Call.{Drop, Exit, OpenFile, Pwrite, Rename, Setns, Umask}
+use Rattle.vt_spec.specs.Language.Calls.{Access, Call, CapabilityWord, Creation, ForkWords, TaskName, same_name}
+use Rattle.vt_spec.specs.Language.Calls.Call.{Drop, Exit, Fork, OpenFile, Pwrite, Rename, Setns, Umask}
 use Rattle.vt_spec.specs.Lists.{Fresh, is_among}
 use Rattle.vt_spec.specs.Machine.Descriptors.{is_copied_up}
 use Rattle.vt_spec.specs.Machine.Invariants.{IsWorld}
 use Rattle.vt_spec.specs.Machine.Judge.{judge_in}
 use Rattle.vt_spec.specs.Machine.Mounts.{Location}
-use Rattle.vt_spec.specs.Machine.Permits.Permit.{Allowed, ToOpen, ToWritePart}
+use Rattle.vt_spec.specs.Machine.Permits.Permit.{Allowed, ToFork, ToOpen, ToWritePart}
 use Rattle.vt_spec.specs.Machine.Outcomes.{Outcome}
 use Rattle.vt_spec.specs.Machine.Policy.{only_looks, policy}
 use Rattle.vt_spec.specs.Machine.Sealed.{part_of, sealed}
+use Rattle.vt_spec.specs.Rights.{Credentials}
 use Rattle.vt_spec.specs.Machine.World.{Task, World, task_called}
 
 -- a call in the name of a task of a sealed set, which enters no namespace but one of theirs
@@ -98,3 +99,12 @@ OpensEndAlike =
     → judge_in nat_eq fresh world task (OpenFile path access how) ≡ Ok (ToOpen file wanted)
     → is_copied_up nat_eq world file wanted ≡ false
     → EndsAlike world names name (OpenFile path access how) fresh other
+
+-- So does a fork that is granted, of the set with the child.
+abbrev pub ForksEndAlike : Type 0
+ForksEndAlike =
+    (world : World ℕ) (names : List TaskName) (name : TaskName) (words : Option ForkWords)
+    → IsCallOfTheirs world names name (Fork words) → (task : Task ℕ) → task_called world name ≡ Some task
+    → (fresh other : Fresh ℕ) (credentials : Credentials)
+    → judge_in nat_eq fresh world task (Fork words) ≡ Ok (ToFork credentials)
+    → EndsAlike world names name (Fork words) fresh other

@@ -20,7 +20,7 @@ any_once p xs =
     (λ h. let at = any_among p (each_once nat_eq xs) h in any_from_among p xs at.0 (among-from_each_once xs at.0 at.1) at.2)
     (λ h. let at = any_among p xs h in any_from_among p (each_once nat_eq xs) at.0 (among-each_once xs at.0 at.1) at.2)
 
-any_both : {A : Type 0} (p : A → Bool) (xs ys : List A) → list_any p (xs ++ ys) ≡ (list_any p xs || list_any p ys)
+pub any_both : {A : Type 0} (p : A → Bool) (xs ys : List A) → list_any p (xs ++ ys) ≡ (list_any p xs || list_any p ys)
 any_both p [] ys = refl
 any_both p (x ∷ xs) ys = ap (λ b. p x || b) (any_both p xs ys) ∙ shift (p x) (list_any p xs) (list_any p ys)
   where
@@ -28,7 +28,7 @@ any_both p (x ∷ xs) ys = ap (λ b. p x || b) (any_both p xs ys) ∙ shift (p x
     shift true b c = refl
     shift false b c = refl
 
-any_of_each : {A B : Type 0} (p : B → Bool) (g : A → List B) (xs : List A)
+pub any_of_each : {A B : Type 0} (p : B → Bool) (g : A → List B) (xs : List A)
     → list_any p (flat_map g xs) ≡ list_any (λ x. list_any p (g x)) xs
 any_of_each p g [] = refl
 any_of_each p g (x ∷ xs) = any_both p (g x) (flat_map g xs) ∙ ap (λ b. list_any p (g x) || b) (any_of_each p g xs)

@@ -24,7 +24,7 @@ use Rattle.vt_laws_members_changes.proofs.tasks.Denied.{run_by, same_judgement, 
 use Rattle.vt_laws_members_changes.proofs.tasks.Ending.{LeavesTasks, tasks_end_alike, with_tasks}
 use Rattle.vt_laws_members_changes.proofs.tasks.Retasked.{SeeAlike}
 
-any_mapped : {A B : Type 0} (p : B → Bool) (q : A → Bool) (f : A → B) (xs : List A)
+pub any_mapped : {A B : Type 0} (p : B → Bool) (q : A → Bool) (f : A → B) (xs : List A)
     → ((x : A) → Among x xs → p (f x) ≡ q x) → list_any p (map f xs) ≡ list_any q xs
 any_mapped p q f [] same = refl
 any_mapped p q f (x ∷ xs) same =

@@ -1,3 +1,4 @@
+use Rattle.vt_laws_members_changes.proofs.tasks.Forking.{forks_end_alike}
 use Rattle.vt_laws_members_changes.proofs.tasks.Opening.{opens_end_alike}
 use Rattle.vt_laws_members_changes.proofs.tasks.Rights.{drops_end_alike, empty_writes_end_alike, renames_of_one_end_alike, umasks_end_alike}
 use Rattle.vt_laws_members_changes.proofs.tasks.calls_of_theirs_that_let_nothing_go_end_alike.Goals as goal
@@ -16,3 +17,6 @@ returns-clause-empty_write c = empty_writes_end_alike
 
 pub returns-clause-open : goal.returns-clause-open
 returns-clause-open c = opens_end_alike
+
+pub returns-clause-fork : goal.returns-clause-fork
+returns-clause-fork c = forks_end_alike
