@@ -8,7 +8,7 @@ use Rattle.vt_spec.specs.Inodes.{node_in}
 use Rattle.vt_spec.specs.Lists.{holds_of, then_some, without_last}
 use Rattle.vt_spec.specs.Machine.Layers.{Shown, node_at_path, shown}
 use Rattle.vt_spec.specs.Machine.Merging.{is_root_path}
-use Rattle.vt_spec.specs.Tree.{Node, Tree, is_directory_node, parent_in}
+use Rattle.vt_spec.specs.Tree.{Tree, is_directory_node, parent_in}
 use Rattle.vt_spec.specs.TreeInvariant.{IsDirectory, entry_at, led}
 use Rattle.vt_laws_layers.proofs.layers.ShownDirectories.{last_of, led_is_there}
 use Rattle.vt_laws_layers.proofs.layers.ShownNames.{last_name}
@@ -22,11 +22,11 @@ use Rattle.vt_fs.specs.FilesystemsValue.{Filesystems, files_at}
 use Rattle.vt_merge.specs.LayerValue.{layer_of}
 use Rattle.vt_merge.specs.declared.layers.LayerRef.{LayerRef}
 use Rattle.vt_overlay.specs.Births.{IsSmallBirth, born_in, number_of}
-use Rattle.vt_overlay.specs.MergedTree.{AreLayers, IsLayer, OverlayValue, birth_at, directory_born, node_born, object_at, only_directory, rank_at, slot_at}
+use Rattle.vt_overlay.specs.MergedTree.{AreLayers, IsLayer, OverlayValue, birth_at, born_below, directory_path, node_born, only_of_directory, rank_at, slot_at}
 use Rattle.vt_overlay.specs.declared.births.Birth.{Birth}
 use Rattle.vt_overlay.specs.declared.births.Birth.TheVariants.{Below, Here}
 use Rattle.vt_overlay.proofs.NumbersApart.{births_apart, number_parts}
-use Rattle.vt_overlay.proofs.TreeFound.{IsAt, found_at, found_is_at, found_object, in_layer, layers, no_object, object_is}
+use Rattle.vt_overlay.proofs.TreeFound.{IsAt, found_at, found_is_at, found_is, in_layer, layers, no_directory_shown, directory_shown}
 
 -- what a birth tells
 place_in : Birth → ℕ
@@ -37,20 +37,13 @@ directory_in : Birth → ℕ
 directory_in Here = 0
 directory_in (Below layer directory rank) = directory
 
+rank_in : Birth → ℕ
+rank_in Here = 0
+rank_in (Below layer directory rank) = rank
+
 is_below : Birth → Bool
 is_below Here = false
 is_below (Below layer directory rank) = true
-
--- what is a directory, and what is none
-not_directory : (node : Option (Node ℕ)) → (is_directory_node node ≡ true → ⊥) → only_directory node ≡ None
-not_directory node none = by (is_directory_node node) refl
-  where
-    by : (b : Bool) → is_directory_node node ≡ b → only_directory node ≡ None
-    by true t = absurd (none t)
-    by false t = ap (λ b. if b then node else None) t
-
-directory_itself : (node : Option (Node ℕ)) → is_directory_node node ≡ true → only_directory node ≡ node
-directory_itself node t = ap (λ b. if b then node else None) t
 
 no_rank : (b : Bool) (rank : ℕ) → b ≡ true → (if b then 0 else rank) ≡ 0
 no_rank true rank t = refl
@@ -127,10 +120,10 @@ module _ (trees : Filesystems) (lower : LayerRef) (is : IsLayer trees lower) whe
           ((in_slot (without_last path) last.directory last.leads).0, small)
 
 module _ (trees : Filesystems) (overlay : OverlayValue) (are : AreLayers trees overlay.lowers)
-    (few : length overlay.lowers ≤ 129) (place directory slot : ℕ) (place_small : place < 18446744073709551616)
+    (few : length overlay.lowers ≤ 129) (place directory rank slot : ℕ) (place_small : place < 18446744073709551616)
     (directory_small : directory < 18446744073709551616) (slot_small : slot < 18446744073709551616) where
   abbrev pub node_number : ℕ
-  node_number = number_of (directory_born overlay.number place directory slot)
+  node_number = number_of (born_below overlay.number place directory rank slot)
 
   -- a path at which it is
   pub record IsBorn (path : List (List ℕ)) (lower : LayerRef) : Type 0 where
@@ -139,19 +132,20 @@ module _ (trees : Filesystems) (overlay : OverlayValue) (are : AreLayers trees o
         ≡ Some (exchanged lower.directory.filesystem.count slot)
     pub named : is_root_path path ≡ false
     pub above : slot_at trees lower (without_last path) ≡ directory
+    pub ranked : rank_at trees lower path ≡ rank
     pub shown_there : shown (layers trees overlay are) path
         ≡ Some (record { layer = place; object = exchanged lower.directory.filesystem.count slot })
 
   pub is_born : (path : List (List ℕ)) (at : IsAt trees overlay are path node_number) → IsBorn path at.lower
-  unfolding place_in directory_in is_below
+  unfolding place_in directory_in rank_in is_below
   is_born path at =
       let layer_is = are at.place at.lower at.layer in
       let within = slice_get_within overlay.lowers at.place at.lower at.layer in
       let at_slot = in_slot trees at.lower layer_is path at.object at.leads in
       let parts = number_parts (born_in overlay.number.count (birth_at trees at.place at.lower path))
-      (born_in overlay.number.count (Below place directory 0)) (slot_at trees at.lower path) slot at_slot.0 slot_small
+      (born_in overlay.number.count (Below place directory rank)) (slot_at trees at.lower path) slot at_slot.0 slot_small
       at.numbered in
-      let birth = births_apart overlay.number.count (birth_at trees at.place at.lower path) (Below place directory 0)
+      let birth = births_apart overlay.number.count (birth_at trees at.place at.lower path) (Below place directory rank)
       (small_birth trees at.lower layer_is at.place path at.object (omega (arith, within, few)) at.leads)
       (directory_small, place_small) parts.0 in
       let f = at.lower.directory.filesystem.count in
@@ -163,7 +157,7 @@ module _ (trees : Filesystems) (overlay : OverlayValue) (are : AreLayers trees o
           → at.object ≡ exchanged at.lower.directory.filesystem.count slot
           → (is : IsAt trees overlay are path node_number)
           → (if b then Here else Below at.place (slot_at trees at.lower (without_last path)) (rank_at trees at.lower path))
-          ≡ Below place directory 0 → IsBorn path at.lower
+          ≡ Below place directory rank → IsBorn path at.lower
       by true e object is birth = absurd (true≢false (sym (ap is_below birth)))
       by false e object is birth =
           let here = ap place_in birth in
@@ -172,6 +166,7 @@ module _ (trees : Filesystems) (overlay : OverlayValue) (are : AreLayers trees o
             leads = at.leads ∙ ap Some object;
             named = e;
             above = ap directory_in birth;
+            ranked = ap rank_in birth;
             shown_there = at.is ∙ (λ i. Some (record { layer = here i; object = object i }));
           }
 
@@ -179,21 +174,22 @@ module _ (trees : Filesystems) (overlay : OverlayValue) (are : AreLayers trees o
   pub no_directory : ((path : List (List ℕ)) (lower : LayerRef) → IsBorn path lower
       → IsDirectory (files_at trees lower.directory.filesystem.count).tree
       (exchanged lower.directory.filesystem.count slot) → ⊥)
-      → None ≡ only_directory (object_at trees overlay node_number)
+      → None ≡ directory_path trees overlay node_number
   no_directory none = by (found_at trees overlay are node_number) refl
     where
       by : (o : Option (List (List ℕ))) → found_at trees overlay are node_number ≡ o
-          → None ≡ only_directory (object_at trees overlay node_number)
-      by None e = sym (ap only_directory (no_object trees overlay are node_number e))
+          → None ≡ directory_path trees overlay node_number
+      by None e = sym (ap (only_of_directory trees overlay) e)
       by (Some path) e =
           let at = found_is_at trees overlay are node_number path e in
           let born = is_born path at in
           let tree = (files_at trees at.lower.directory.filesystem.count).tree in
-          sym (ap only_directory (found_object trees overlay are node_number path e
-          ∙ ap (λ o. then_some o tree.node) born.leads)
-          ∙ not_directory (tree.node (exchanged at.lower.directory.filesystem.count slot)) (none path at.lower born))
+          sym (ap (only_of_directory trees overlay) e
+          ∙ no_directory_shown trees overlay are node_number path at
+          (λ directory. none path at.lower born (sym (ap (λ o. is_directory_node (then_some o tree.node))
+          born.leads) ∙ directory)))
 
-  pub no_layer : slice_get overlay.lowers place ≡ None → None ≡ only_directory (object_at trees overlay node_number)
+  pub no_layer : slice_get overlay.lowers place ≡ None → None ≡ directory_path trees overlay node_number
   no_layer none = no_directory (λ path lower born directory. none_is_some lower (sym none ∙ born.layer))
 
   module _ (lower : LayerRef) (layer : slice_get overlay.lowers place ≡ Some lower) where
@@ -217,18 +213,24 @@ module _ (trees : Filesystems) (overlay : OverlayValue) (are : AreLayers trees o
 
     -- where it is at no path of this layer, it is no directory
     none_here : ((path : List (List ℕ)) → IsBorn path lower → IsDirectory files object → ⊥)
-        → None ≡ only_directory (object_at trees overlay node_number)
+        → None ≡ directory_path trees overlay node_number
     none_here none =
         no_directory (λ path other born.
         subst (λ (l : LayerRef). IsDirectory (files_at trees l.directory.filesystem.count).tree
         (exchanged l.directory.filesystem.count slot) → ⊥) (sym (same_lower other born.layer))
         (none path (subst (IsBorn path) (same_lower other born.layer) born)))
 
+    pub other_rank : (rank ≡ 0 → ⊥) → None ≡ directory_path trees overlay node_number
+    other_rank some =
+        none_here (λ path born is.
+        some (sym born.ranked
+        ∙ no_rank _ _ (ap (λ o. is_directory_node (then_some o files.node)) born.leads ∙ is)))
+
     abbrev pub parent : ℕ
     parent = parent_in object (files.node object)
 
     pub other_parent : nat_eq (exchanged count directory) parent ≡ false
-        → None ≡ only_directory (object_at trees overlay node_number)
+        → None ≡ directory_path trees overlay node_number
     other_parent other =
         none_here (λ path born is.
         let last = has_last trees lower is_layer path object born.named born.leads in
@@ -237,14 +239,14 @@ module _ (trees : Filesystems) (overlay : OverlayValue) (are : AreLayers trees o
         (ap (exchanged count) up ∙ exchanged_back count parent)) ∙ other))
 
     pub no_way : (IsDirectory files object → (path : List (List ℕ)) → led files start path ≢ Some object)
-        → None ≡ only_directory (object_at trees overlay node_number)
+        → None ≡ directory_path trees overlay node_number
     no_way none = none_here (λ path born is. none is path born.leads)
 
     module _ (way : List (List ℕ)) (leads : led files start way ≡ Some object) (is : IsDirectory files object) where
       one_way : (path : List (List ℕ)) → led files start path ≡ Some object → path ≡ way
       one_way path other = one_path files is_layer.tree start path way object other leads is
 
-      pub way_of_root : is_root_path way ≡ true → None ≡ only_directory (object_at trees overlay node_number)
+      pub way_of_root : is_root_path way ≡ true → None ≡ directory_path trees overlay node_number
       way_of_root root =
           none_here (λ path born directory.
           true≢false (sym root ∙ sym (ap is_root_path (one_way path born.leads)) ∙ born.named))
@@ -252,35 +254,35 @@ module _ (trees : Filesystems) (overlay : OverlayValue) (are : AreLayers trees o
       abbrev pub shown_in : Bool
       shown_in = holds_of (λ (seen : Shown ℕ). nat_eq seen.layer place) (shown (layers trees overlay are) way)
 
-      pub shown_elsewhere : shown_in ≡ false → None ≡ only_directory (object_at trees overlay node_number)
+      pub shown_elsewhere : shown_in ≡ false → None ≡ directory_path trees overlay node_number
       shown_elsewhere other =
           none_here (λ path born directory.
           true≢false (sym (ap (holds_of (λ (seen : Shown ℕ). nat_eq seen.layer place))
           (ap (shown (layers trees overlay are)) (sym (one_way path born.leads)) ∙ born.shown_there)
           ∙ eq-eqb place place refl) ∙ other))
 
-      born_so : is_root_path way ≡ false → exchanged count directory ≡ parent
+      born_so : rank ≡ 0 → is_root_path way ≡ false → exchanged count directory ≡ parent
           → number_of (node_born trees overlay.number place lower way) ≡ node_number
-      born_so named up =
+      born_so none named up =
           let last = has_last trees lower is_layer way object named leads in
           let above : slot_at trees lower (without_last way) ≡ directory =
           directory_slot trees lower is_layer way object last is
           ∙ ap (exchanged count) (sym up) ∙ exchanged_back count directory in
-          let rank : rank_at trees lower way ≡ 0 =
-          no_rank _ _ (ap (λ o. is_directory_node (then_some o files.node)) leads ∙ is) in
-          let birth : birth_at trees place lower way ≡ Below place directory 0 =
+          let ranked : rank_at trees lower way ≡ rank =
+          no_rank _ _ (ap (λ o. is_directory_node (then_some o files.node)) leads ∙ is) ∙ sym none in
+          let birth : birth_at trees place lower way ≡ Below place directory rank =
           ap (λ b. if b then Here
           else Below place (slot_at trees lower (without_last way)) (rank_at trees lower way)) named
-          ∙ (λ i. Below place (above i) (rank i)) in
+          ∙ (λ i. Below place (above i) (ranked i)) in
           let own : slot_at trees lower way ≡ slot =
           (in_slot trees lower is_layer way object leads).1 ∙ exchanged_back count slot in
           (λ i. inode_number (born_in overlay.number.count (birth i)) (own i))
 
-      is_at : is_root_path way ≡ false → exchanged count directory ≡ parent → (o : Option (Shown ℕ))
+      is_at : rank ≡ 0 → is_root_path way ≡ false → exchanged count directory ≡ parent → (o : Option (Shown ℕ))
           → shown (layers trees overlay are) way ≡ o → holds_of (λ (seen : Shown ℕ). nat_eq seen.layer place) o ≡ true
           → IsAt trees overlay are way node_number
-      is_at named up None e holds = absurd (true≢false (sym holds))
-      is_at named up (Some seen) e holds =
+      is_at none named up None e holds = absurd (true≢false (sym holds))
+      is_at none named up (Some seen) e holds =
           let same = eqb-true seen.layer place holds in
           let at = in_layer trees overlay are way seen e in
           let here = same_lower at.0 (ap (slice_get overlay.lowers) (sym same) ∙ at.1) in
@@ -295,26 +297,24 @@ module _ (trees : Filesystems) (overlay : OverlayValue) (are : AreLayers trees o
             layer = layer;
             is = e ∙ (λ i. Some (record { layer = same i; object = there i }));
             leads = leads;
-            numbered = born_so named up;
+            numbered = born_so none named up;
           }
 
-      pub is_shown : is_root_path way ≡ false → nat_eq (exchanged count directory) parent ≡ true → shown_in ≡ true
-          → files.node object ≡ only_directory (object_at trees overlay node_number)
-      is_shown named up holds =
-          let at = is_at named (eqb-true (exchanged count directory) parent up)
+      pub is_shown : rank ≡ 0 → is_root_path way ≡ false → nat_eq (exchanged count directory) parent ≡ true
+          → shown_in ≡ true → Some way ≡ directory_path trees overlay node_number
+      is_shown none named up holds =
+          let at = is_at none named (eqb-true (exchanged count directory) parent up)
           (shown (layers trees overlay are) way) refl holds in
-          let there : object_at trees overlay node_number ≡ files.node object =
-          object_is trees overlay are node_number way at (λ path other.
+          let there = found_is trees overlay are node_number way at (λ path other.
           let born = is_born path other in
           one_way path (subst (λ (l : LayerRef).
           led (files_at trees l.directory.filesystem.count).tree (inode_of l.directory) path
-          ≡ Some (exchanged l.directory.filesystem.count slot)) (same_lower other.lower born.layer) born.leads))
-          ∙ ap (λ (l : LayerRef). node_at_path (layer_of trees l) way) (same_lower at.lower (lower_at at))
-          ∙ ap (λ o. then_some o files.node) leads in
-          sym (ap only_directory there ∙ directory_itself (files.node object) is)
-        where
-          lower_at : (at : IsAt trees overlay are way node_number) → slice_get overlay.lowers place ≡ Some at.lower
-          lower_at at = (is_born way at).layer
+          ≡ Some (exchanged l.directory.filesystem.count slot)) (same_lower other.lower born.layer) born.leads)) in
+          let here : at.lower ≡ lower = same_lower at.lower (is_born way at).layer in
+          sym (ap (only_of_directory trees overlay) there
+          ∙ directory_shown trees overlay are node_number way at
+          (ap (λ (l : LayerRef). is_directory_node (node_at_path (layer_of trees l) way)) here
+          ∙ ap (λ o. is_directory_node (then_some o files.node)) leads ∙ is))
 
     -- the same of an inode in that slot
     module _ (inode : NodeRef) (is : inode ≡ record { filesystem = lower.directory.filesystem; slot = slot }) where
@@ -331,11 +331,6 @@ module _ (trees : Filesystems) (overlay : OverlayValue) (are : AreLayers trees o
           ap (λ (n : NodeRef). nat_eq (exchanged n.filesystem.count directory) (parent_in (inode_of n)
           ((files_at trees n.filesystem.count).tree.node (inode_of n)))) is
           ∙ ap (λ m. nat_eq (exchanged count directory) (parent_in m (files.node m))) number_is
-
-      pub node_is : (files_at trees inode.filesystem.count).tree.node (inode_of inode) ≡ files.node object
-      node_is =
-          ap (λ (n : NodeRef). (files_at trees n.filesystem.count).tree.node (inode_of n)) is
-          ∙ ap files.node number_is
 
 -- a path without names
 pub no_names : (path : List (List ℕ)) → length path ≡ 0 → is_root_path path ≡ true

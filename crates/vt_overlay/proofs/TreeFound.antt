@@ -2,30 +2,30 @@
 use Rattle.std.proofs.Common.{◌≡◌, ◌≢◌, ◌⊎◌, ◌∙◌, ◌≤◌, ◌∷◌, [], arith, ap, Bool, eq-eqb, false, inl, inr, length, List, map, nat_eq, None, option_map, Option, refl, Some, subst, suc, sym, true, true≢false, zero, ℕ, slice_get}
 use Rattle.std.proofs.lemmas.Option.{same_Some, slice_get-map}
 use Rattle.std.specs.List.{find}
-use Rattle.std.specs.Prelude.{if◌then◌else◌, unwrap_or}
+use Rattle.std.specs.Prelude.{if◌then◌else◌, is_some, unwrap_or}
 use Rattle.vt_spec.proofs.Found.{found_passes}
 use Rattle.vt_spec.proofs.Options.{none_is_some}
 use Rattle.vt_spec.specs.Lists.{holds_of, then_some}
-use Rattle.vt_spec.specs.Machine.Invariants.{real_node, real_shown}
+use Rattle.vt_spec.specs.Machine.Invariants.{node_shown, real_shown}
 use Rattle.vt_spec.specs.Machine.Layers.{OpenLayer, Shown, at_path, node_at_path, paths_from, shown}
-use Rattle.vt_spec.specs.Machine.Merging.{merged_at}
+use Rattle.vt_spec.specs.Machine.Merging.{layer_node, merged_at, real_object}
 use Rattle.vt_spec.specs.Machine.World.{Filesystem, Real, World, open_layer}
 use Rattle.vt_spec.specs.Machine.World.Real.{Lower}
-use Rattle.vt_spec.specs.Tree.{Node}
+use Rattle.vt_spec.specs.Tree.{is_directory_node}
 use Rattle.vt_laws_layers.proofs.layers.ShownAtPath.{computed}
 use Rattle.vt_laws_layers.proofs.layers.ShownDirectories.{AreOpen}
 use Rattle.vt_laws_layers.proofs.layers.ShownObjects.{Among, paths_complete}
 use Rattle.vt_laws_merging.specs.MergedTrees.{layers_shown, number_shown}
 use Rattle.vt_laws_seen.proofs.seen.Paths.{length-led}
 use Rattle.vt_laws_seen.proofs.seen.SeenTrees.{shown_number}
-use Rattle.vt_laws_seen.specs.TreesSeen.{path_numbered, real_by}
+use Rattle.vt_laws_seen.specs.TreesSeen.{path_numbered}
 use Rattle.vt_location.specs.Locations.{number_of as inode_of}
 use Rattle.vt_fs.proofs.Numbers.{found_by_number, numbers_listed}
 use Rattle.vt_fs.specs.FilesystemsValue.{Filesystems, entry_at, files_at}
 use Rattle.vt_merge.specs.LayerValue.{layer_of, layers_of}
 use Rattle.vt_merge.specs.declared.layers.LayerRef.{LayerRef}
 use Rattle.vt_overlay.specs.Births.{number_of}
-use Rattle.vt_overlay.specs.MergedTree.{AreLayers, OverlayValue, layer_seen, longest, node_born, object_at, overlay_seen, plain_world, real_number}
+use Rattle.vt_overlay.specs.MergedTree.{AreLayers, OverlayValue, layer_seen, longest, node_born, only_of_directory, overlay_seen, plain_world, real_number}
 
 -- what is among a list and passes is not missed
 not_missed : {A : Type 0} (test : A → Bool) (list : List A) (a : A) → test a ≡ true → Among list a
@@ -69,7 +69,7 @@ module _ (trees : Filesystems) (overlay : OverlayValue) (are : AreLayers trees o
   all_opened [] = refl
   all_opened (lower ∷ lowers) = λ i. opened_so lower i ∷ all_opened lowers i
 
-  layers_are : layers_shown world (overlay_seen overlay) ≡ layers
+  pub layers_are : layers_shown world (overlay_seen overlay) ≡ layers
   layers_are = all_opened overlay.lowers
 
   -- the real object at a path, and its number
@@ -78,13 +78,27 @@ module _ (trees : Filesystems) (overlay : OverlayValue) (are : AreLayers trees o
 
   real_is : (path : List (List ℕ)) → real_shown nat_eq world (overlay_seen overlay) path ≡ real_of path (shown layers path)
   real_is path =
-      ap (λ ls. option_map (λ object. Rattle.vt_spec.specs.Machine.Merging.real_object false object.seen.layer object)
+      ap (λ ls. option_map (λ object. real_object false object.seen.layer object)
       (merged_at ls path)) layers_are
       ∙ by (shown layers path)
     where
       by : (o : Option (Shown ℕ))
-          → option_map (λ object. Rattle.vt_spec.specs.Machine.Merging.real_object false object.seen.layer object)
+          → option_map (λ object. real_object false object.seen.layer object)
           (option_map (λ seen. record { path = path; seen = seen }) o) ≡ real_of path o
+      by None = refl
+      by (Some seen) = refl
+
+  -- what is shown has a number
+  pub number_is_shown : (path : List (List ℕ))
+      → is_some (number_shown (real_number trees overlay) world (overlay_seen overlay) path)
+      ≡ is_some (shown (layers_shown world (overlay_seen overlay)) path)
+  number_is_shown path = by (shown (layers_shown world (overlay_seen overlay)) path)
+    where
+      by : (o : Option (Shown ℕ))
+          → is_some (option_map (real_number trees overlay)
+          (option_map (λ object. real_object false object.seen.layer object)
+          (option_map (λ seen. record { path = path; seen = seen }) o)))
+          ≡ is_some o
       by None = refl
       by (Some seen) = refl
 
@@ -193,41 +207,39 @@ module _ (trees : Filesystems) (overlay : OverlayValue) (are : AreLayers trees o
       (record { layer = at.place; object = at.object })
       (bounded path (record { layer = at.place; object = at.object }) at.is) at.is))
 
-  abbrev object_by : ℕ → Option (List (List ℕ)) → Option (Node ℕ)
-  object_by number o =
-      then_some (real_by (real_number trees overlay) (λ number. None) (longest trees overlay.lowers) world
-      (overlay_seen overlay) number o) (real_node nat_eq world (overlay_seen overlay))
-
-  object_there : (number : ℕ) (path : List (List ℕ)) (at : IsAt path number)
-      → object_by number (Some path) ≡ node_at_path (layer_of trees at.lower) path
-  object_there number path at =
-      ap (λ o. then_some o (real_node nat_eq world (overlay_seen overlay)))
-      (real_is path ∙ ap (real_of path) at.is)
-      ∙ ap (λ o. then_some o (λ lower. node_at_path (open_layer nat_eq world lower) path))
-      (slice_get-map layer_seen overlay.lowers at.place ∙ ap (option_map layer_seen) at.layer)
-      ∙ ap (λ layer. node_at_path layer path) (opened_so at.lower)
-
-  -- so where it is at one path alone, that object is its object; and where it is at none, it has none
-  pub object_is : (number : ℕ) (path : List (List ℕ)) (at : IsAt path number)
-      → ((other : List (List ℕ)) → IsAt other number → other ≡ path)
-      → object_at trees overlay number ≡ node_at_path (layer_of trees at.lower) path
-  object_is number path at only = by (found_at number) refl
+  -- so where it is at one path alone, it is found there
+  pub found_is : (number : ℕ) (path : List (List ℕ)) → IsAt path number
+      → ((other : List (List ℕ)) → IsAt other number → other ≡ path) → found_at number ≡ Some path
+  found_is number path at only = by (found_at number) refl
     where
-      by : (o : Option (List (List ℕ))) → found_at number ≡ o
-          → object_by number (found_at number) ≡ node_at_path (layer_of trees at.lower) path
+      by : (o : Option (List (List ℕ))) → found_at number ≡ o → found_at number ≡ Some path
       by None f = absurd (at_is_found number path at f)
-      by (Some other) f =
-          ap (object_by number) (f ∙ ap Some (only other (found_is_at number other f)))
-          ∙ object_there number path at
+      by (Some other) f = f ∙ ap Some (only other (found_is_at number other f))
 
-  pub object_is_found : (number : ℕ) (o : Option (List (List ℕ))) → found_at number ≡ o
-      → object_at trees overlay number ≡ object_by number o
-  object_is_found number o f = ap (object_by number) f
+  -- the inode that is shown at its path
+  pub node_there : (number : ℕ) (path : List (List ℕ)) (at : IsAt path number)
+      → node_shown nat_eq world (overlay_seen overlay) path ≡ node_at_path (layer_of trees at.lower) path
+  node_there number path at =
+      ap (λ ls. then_some (shown ls path) (layer_node ls)) layers_are
+      ∙ ap (λ o. then_some o (layer_node layers)) at.is
+      ∙ ap (λ o. then_some o (λ layer. layer.tree.node at.object))
+      (slice_get-map (layer_of trees) overlay.lowers at.place ∙ ap (option_map (layer_of trees)) at.layer)
+      ∙ sym (ap (λ o. then_some o (files_at trees at.lower.directory.filesystem.count).tree.node) at.leads)
 
-  pub no_object : (number : ℕ) → found_at number ≡ None → object_at trees overlay number ≡ None
-  no_object number f = ap (object_by number) f
+  pub directory_shown : (number : ℕ) (path : List (List ℕ)) (at : IsAt path number)
+      → is_directory_node (node_at_path (layer_of trees at.lower) path) ≡ true
+      → only_of_directory trees overlay (Some path) ≡ Some path
+  directory_shown number path at is =
+      ap (λ b. if b then Some path else None) (ap is_directory_node (node_there number path at) ∙ is)
 
-  pub found_object : (number : ℕ) (path : List (List ℕ)) (f : found_at number ≡ Some path)
-      → object_at trees overlay number ≡ node_at_path (layer_of trees (found_is_at number path f).lower) path
-  found_object number path f =
-      ap (object_by number) f ∙ object_there number path (found_is_at number path f)
+  pub no_directory_shown : (number : ℕ) (path : List (List ℕ)) (at : IsAt path number)
+      → (is_directory_node (node_at_path (layer_of trees at.lower) path) ≡ true → ⊥)
+      → only_of_directory trees overlay (Some path) ≡ None
+  no_directory_shown number path at none =
+      by (is_directory_node (node_at_path (layer_of trees at.lower) path)) refl
+    where
+      by : (b : Bool) → is_directory_node (node_at_path (layer_of trees at.lower) path) ≡ b
+          → only_of_directory trees overlay (Some path) ≡ None
+      by true is = absurd (none is)
+      by false is =
+          ap (λ b. if b then Some path else None) (ap is_directory_node (node_there number path at) ∙ is)

@@ -3,23 +3,22 @@
 use Rattle.std.specs.Prelude.{Bool, List, None, Option, Some, [], false, filter, if◌then◌else◌, length, map, nat_eq, option_map, slice_get, true, unwrap_or, ℕ, ◌&&◌, ◌+◌, ◌∷◌, ◌≡◌}
 use Rattle.std.specs.declared.cmp.Ordering.{Ordering}
 use Rattle.std.specs.declared.cmp.Ordering.TheVariants.{Equal, Greater, Less}
-use Rattle.vt_spec.specs.Lists.{last_or, then_some, without_last}
-use Rattle.vt_spec.specs.Machine.Invariants.{real_node}
+use Rattle.vt_spec.specs.Lists.{last_or, without_last}
+use Rattle.vt_spec.specs.Machine.Invariants.{node_shown}
 use Rattle.vt_spec.specs.Machine.Layers.{at_path, node_at_path}
 use Rattle.vt_spec.specs.Machine.Merging.{is_root_path}
 use Rattle.vt_spec.specs.Machine.World.{Layer, Overlay, Real, World}
 use Rattle.vt_spec.specs.Machine.World.Real.{Lower, Upper}
 use Rattle.vt_spec.specs.Rights.{Credentials}
-use Rattle.vt_spec.specs.Tree.{Entries, Node, Tree, entries_in, is_directory_node, name_cmp}
+use Rattle.vt_spec.specs.Tree.{Entries, Tree, entries_in, is_directory_node, name_cmp}
 use Rattle.vt_spec.specs.TreeInvariant.{IsDirectory, IsTree}
-use Rattle.vt_laws_seen.specs.TreesSeen.{real_seen, tree_seen}
+use Rattle.vt_laws_seen.specs.TreesSeen.{path_numbered, tree_seen}
 use Rattle.vt_location.specs.declared.numbers.FilesystemId.{FilesystemId}
 use Rattle.vt_location.specs.Locations.{number_of as inode_of}
 use Rattle.vt_location.specs.Numbers.{counted, exchanged, is_inode_of}
 use Rattle.vt_fs.specs.FilesystemsValue.{Filesystems, files_at, filesystems_seen, inodes_at}
 use Rattle.vt_merge.specs.LayerValue.{layer_of}
 use Rattle.vt_merge.specs.declared.layers.LayerRef.{LayerRef}
-use Rattle.vt_merge.specs.declared.layers.Real.{Real as FoundReal}
 use Rattle.vt_overlay.specs.Births.{number_of}
 use Rattle.vt_overlay.specs.declared.births.Birth.{Birth}
 use Rattle.vt_overlay.specs.declared.births.Birth.TheVariants.{Below, Here}
@@ -111,31 +110,30 @@ longest trees [] = 0
 longest trees (layer ∷ rest) =
     length (files_at trees layer.directory.filesystem.count).numbers + longest trees rest
 
--- the tree, and its real objects; without an upper layer no node loses its name
+-- the tree; without an upper layer no node loses its name
 abbrev pub merged_tree : Filesystems → OverlayValue → Tree ℕ
 merged_tree trees overlay =
     tree_seen (real_number trees overlay) (λ number. None) (longest trees overlay.lowers) (plain_world trees)
     (overlay_seen overlay)
 
-abbrev pub real_object : Filesystems → OverlayValue → ℕ → Option (Real ℕ)
-real_object trees overlay number =
-    real_seen (real_number trees overlay) (λ number. None) (longest trees overlay.lowers) (plain_world trees)
+-- the path at which a node is, if that shows a directory
+abbrev pub path_at : Filesystems → OverlayValue → ℕ → Option (List (List ℕ))
+path_at trees overlay number =
+    path_numbered (real_number trees overlay) (longest trees overlay.lowers) (plain_world trees)
     (overlay_seen overlay) number
 
--- the inode of the real object of a node, by its number in the layer's tree
-abbrev pub object_at : Filesystems → OverlayValue → ℕ → Option (Node ℕ)
-object_at trees overlay number =
-    then_some (real_object trees overlay number) (real_node nat_eq (plain_world trees) (overlay_seen overlay))
+abbrev pub only_of_directory : Filesystems → OverlayValue → Option (List (List ℕ)) → Option (List (List ℕ))
+only_of_directory trees overlay None = None
+only_of_directory trees overlay (Some path) =
+    if is_directory_node (node_shown nat_eq (plain_world trees) (overlay_seen overlay) path) then Some path else None
 
--- it, if it is a directory
-abbrev pub only_directory : Option (Node ℕ) → Option (Node ℕ)
-only_directory node = if is_directory_node node then node else None
+abbrev pub directory_path : Filesystems → OverlayValue → ℕ → Option (List (List ℕ))
+directory_path trees overlay number = only_of_directory trees overlay (path_at trees overlay number)
 
--- the inode that is a real object
-abbrev pub inode_at : Filesystems → FoundReal → Option (Node ℕ)
-inode_at trees real = (files_at trees real.inode.filesystem.count).tree.node (inode_of real.inode)
+-- a node that was born here, and one that was born below
+abbrev pub born_here : FilesystemId → ℕ → OverlayNode
+born_here number slot = record { overlay = number; slot = slot; birth = Here }
 
--- a directory that was born below a lower layer, in a slot of this one, under a name of the directory in another slot
-abbrev pub directory_born : FilesystemId → ℕ → ℕ → ℕ → OverlayNode
-directory_born number layer directory slot =
-    record { overlay = number; slot = slot; birth = Below layer directory 0 }
+abbrev pub born_below : FilesystemId → ℕ → ℕ → ℕ → ℕ → OverlayNode
+born_below number layer directory rank slot =
+    record { overlay = number; slot = slot; birth = Below layer directory rank }

@@ -1,21 +1,23 @@
 //! Overlays without an upper layer, and the real objects of their directories.
-ghost use Rattle.std.specs.Prelude.{◌≡◌, ◌≤◌, ◌^◌, ℕ, length, nat_eq, nat_lt, option_and_then, slice_get, true};
-ghost use Rattle.vt_spec.specs.Lists.{holds_of};
+ghost use Rattle.std.specs.Prelude.{◌≡◌, ◌≤◌, ◌^◌, ℕ, IfOk, length, map, nat_eq, nat_lt, option_map, slice_get, true};
+ghost use Rattle.vt_spec.specs.Lists.{holds_of, then_some};
 ghost use Rattle.vt_spec.specs.Machine.Layers.{Shown, shown};
-ghost use Rattle.vt_spec.specs.Tree.{parent_in};
+ghost use Rattle.vt_spec.specs.Tree.{names_in, parent_in};
 ghost use Rattle.vt_location.specs.Locations.{number_of as inode_of};
 ghost use Rattle.vt_location.specs.Numbers.{exchanged};
 ghost use Rattle.vt_fs.specs.FilesystemsValue.{files_at};
 ghost use Rattle.vt_overlay.specs.Births.{number_of};
-ghost use Rattle.vt_merge.specs.LayerValue.{layers_of};
+ghost use Rattle.vt_merge.specs.LayerValue.{layers_of, seen_of};
 ghost use Rattle.vt_merge.specs.declared.merging.TheConstants.{MOST_LAYERS};
-ghost use Rattle.vt_overlay.specs.MergedTree.{AreLayers, directory_born, inode_at, object_at, only_directory};
+ghost use Rattle.vt_overlay.specs.MergedTree.{AreLayers, born_below, born_here, directory_path, merged_tree};
 
+use crate::births::{Birth, OverlayNode};
+use std::alloc::{AllocError, Global};
 use std::marker::Model;
 use vt_cred::Cred;
 use vt_fs::Filesystems;
 use vt_location::{FilesystemId, NodeRef};
-use vt_merge::{LayerRef, Real, Way, shown, way_down};
+use vt_merge::{LayerRef, Real, Way, WayDown, merged_names, shown, way_down};
 
 /// An overlay without an upper layer: its number, its lower layers from the top, and the credentials that it was
 /// mounted with.
@@ -50,22 +52,56 @@ impl Overlay {
         }
     }
 
-    /// The real object of a directory that was born below a lower layer; of another node that was born there none. It
-    /// does not allocate.
-    pub fn directory_below(
-        &self,
-        trees: &Filesystems,
-        layer: u8,
-        directory: usize,
-        slot: usize,
-    ) -> Option<Real>
+    /// The way to a directory of the overlay: the names that lead to it from the root, found by going up in the layer in
+    /// which it was born. There is none to a node that is no directory, or that the layers do not show. It does not
+    /// allocate.
+    pub fn way<'a>(&self, trees: &'a Filesystems, node: OverlayNode) -> Option<WayDown<'a>>
         requires layers { AreLayers trees.now self.now.lowers }
         requires few { length self.now.lowers ≤ MOST_LAYERS }
-        ensures { option_and_then (inode_at trees.now) result
-            ≡ only_directory (object_at trees.now self.now
-            (number_of (directory_born self.now.number layer directory slot))) }
+        requires own { node.overlay ≡ self.now.number }
+        ensures { result ≡ directory_path trees.now self.now (number_of node) }
+    {
+        match node.birth {
+            Birth::Here => self.way_to_root(trees, node.slot),
+            Birth::Below {
+                layer,
+                directory,
+                rank,
+            } => self.way_below(trees, layer, directory, rank, node.slot),
+        }
+    }
+
+    // The way to the root, if that is in this slot.
+    fn way_to_root<'a>(&self, trees: &'a Filesystems, slot: usize) -> Option<WayDown<'a>>
+        requires layers { AreLayers trees.now self.now.lowers }
+        requires few { length self.now.lowers ≤ MOST_LAYERS }
+        ensures { result ≡ directory_path trees.now self.now (number_of (born_here self.now.number slot)) }
+    {
+        let top = self.layer_at(0)?;
+        if top.directory.slot != slot {
+            return None;
+        }
+        way_down(trees, top.directory, top.directory)
+    }
+
+    // The way to a directory that was born below.
+    fn way_below<'a>(
+        &self,
+        trees: &'a Filesystems,
+        layer: u8,
+        directory: usize,
+        rank: usize,
+        slot: usize,
+    ) -> Option<WayDown<'a>>
+        requires layers { AreLayers trees.now self.now.lowers }
+        requires few { length self.now.lowers ≤ MOST_LAYERS }
+        ensures { result
+            ≡ directory_path trees.now self.now (number_of (born_below self.now.number layer directory rank slot)) }
     {
         let lower = self.layer_at(layer)?;
+        if rank != 0 {
+            return None;
+        }
         let inode = inode_in(lower, slot);
         if !is_born_in(trees, inode, directory) {
             return None;
@@ -77,10 +113,40 @@ impl Overlay {
         if !self.shows_in(trees, &way, layer) {
             return None;
         }
-        Some(Real {
-            layer: usize::from(layer),
-            inode,
-        })
+        Some(way)
+    }
+
+    /// The real object of a directory: what the layers show at its way. It does not allocate.
+    pub fn directory(&self, trees: &Filesystems, node: OverlayNode) -> Option<Real>
+        requires layers { AreLayers trees.now self.now.lowers }
+        requires few { length self.now.lowers ≤ MOST_LAYERS }
+        requires own { node.overlay ≡ self.now.number }
+        ensures { option_map seen_of result
+            ≡ then_some (directory_path trees.now self.now (number_of node))
+            (λ path. shown (layers_of trees.now self.now.lowers) path) }
+    {
+        let way = self.way(trees, node)?;
+        shown(trees, self.lowers.as_slice(), &way)
+    }
+
+    /// The names of a directory, in the order of their bytes: readdir(3). What is no directory has none. It fails only
+    /// if an allocation does.
+    pub fn names(
+        &self,
+        alloc: Global,
+        trees: &Filesystems,
+        node: OverlayNode,
+    ) -> Result<Vec<Vec<u8>>, AllocError>
+        requires layers { AreLayers trees.now self.now.lowers }
+        requires few { length self.now.lowers ≤ MOST_LAYERS }
+        requires own { node.overlay ≡ self.now.number }
+        ensures { IfOk result (λ names. map (λ name. name.items) names.items
+            ≡ names_in ((merged_tree trees.now self.now).node (number_of node))) }
+    {
+        match self.way(trees, node) {
+            Some(way) => merged_names(alloc, trees, self.lowers.as_slice(), &way),
+            None => Ok(Vec::new(alloc)),
+        }
     }
 
     // The lower layer at a place.

@@ -1,0 +1,160 @@
+-- The root of an overlay is at the path without names.
+use Rattle.std.proofs.Common.{◌≡◌, ◌≢◌, ◌∙◌, ◌<◌, ◌≤◌, ◌∷◌, [], arith, ap, Bool, false, length, List, None, Option, refl, Some, sym, true, true≢false, ℕ, slice_get}
+use Rattle.std.proofs.lemmas.Option.{same_Some, slice_get_within}
+use Rattle.std.specs.Prelude.{IfSome, if◌then◌else◌, not}
+use Rattle.vt_spec.proofs.NodeChanges.{directory_no_whiteout}
+use Rattle.vt_spec.proofs.Options.{none_is_some}
+use Rattle.vt_spec.specs.Lists.{when, without_last}
+use Rattle.vt_spec.specs.Machine.Layers.{Shown, shown}
+use Rattle.vt_spec.specs.Machine.Merging.{is_root_path}
+use Rattle.vt_spec.specs.Tree.{Tree}
+use Rattle.vt_spec.specs.TreeInvariant.{IsDirectory, led}
+use Rattle.vt_laws_layers.proofs.layers.ShownPaths.{one_path}
+use Rattle.vt_location.proofs.NumberLemmas.{exchanged_back, exchanged_number, exchanged_slot}
+use Rattle.vt_location.specs.Locations.{number_of as inode_of}
+use Rattle.vt_location.specs.Numbers.{exchanged, inode_number}
+use Rattle.vt_fs.specs.FilesystemsValue.{Filesystems, files_at}
+use Rattle.vt_merge.specs.LayerValue.{layers_of}
+use Rattle.vt_merge.specs.declared.layers.LayerRef.{LayerRef}
+use Rattle.vt_overlay.specs.Births.{born_in, number_of}
+use Rattle.vt_overlay.specs.MergedTree.{AreLayers, IsLayer, OverlayValue, birth_at, born_here, directory_path, only_of_directory, rank_at, slot_at}
+use Rattle.vt_overlay.specs.declared.births.Birth.{Birth}
+use Rattle.vt_overlay.specs.declared.births.Birth.TheVariants.{Below, Here}
+use Rattle.vt_overlay.proofs.BirthsFound.{in_slot, small_birth}
+use Rattle.vt_overlay.proofs.NumbersApart.{births_apart, number_parts}
+use Rattle.vt_overlay.proofs.TreeFound.{IsAt, directory_shown, found_at, found_is, found_is_at, layers}
+
+is_here : Birth → Bool
+is_here Here = true
+is_here (Below layer directory rank) = false
+
+-- at the path without names the highest layer's directory is shown
+top_shown : (trees : Filesystems) (lowers : List LayerRef) (top : LayerRef) → slice_get lowers 0 ≡ Some top
+    → IsDirectory (files_at trees top.directory.filesystem.count).tree (inode_of top.directory)
+    → shown (layers_of trees lowers) [] ≡ Some (record { layer = 0; object = inode_of top.directory })
+top_shown trees [] top e is = none_is_some top e
+top_shown trees (first ∷ lowers) top e is =
+    ap (λ (l : LayerRef). shown (layers_of trees (l ∷ lowers)) []) (same_Some first top e)
+    ∙ ap (λ b. when (not b) (record { layer = 0; object = inode_of top.directory }))
+    (directory_no_whiteout ((files_at trees top.directory.filesystem.count).tree.node (inode_of top.directory)) is)
+
+no_first : (lowers : List LayerRef) (place : ℕ) (lower : LayerRef) → slice_get lowers 0 ≡ None
+    → slice_get lowers place ≡ Some lower → ⊥
+no_first [] place lower none e = none_is_some lower e
+no_first (first ∷ lowers) place lower none e = none_is_some first (sym none)
+
+module _ (trees : Filesystems) (overlay : OverlayValue) (are : AreLayers trees overlay.lowers)
+    (few : length overlay.lowers ≤ 129) (slot : ℕ) (slot_small : slot < 18446744073709551616) where
+  abbrev pub root_number : ℕ
+  root_number = number_of (born_here overlay.number slot)
+
+  pub record IsRoot (path : List (List ℕ)) (lower : LayerRef) : Type 0 where
+    pub nameless : path ≡ []
+    pub in_slot_of_top : slot_at trees lower [] ≡ slot
+
+  no_name : (path : List (List ℕ)) → is_root_path path ≡ true → path ≡ []
+  no_name [] e = refl
+  no_name (name ∷ path) e = absurd (true≢false (sym e))
+
+  pub is_root : (path : List (List ℕ)) (at : IsAt trees overlay are path root_number) → IsRoot path at.lower
+  unfolding is_here
+  is_root path at =
+      let layer_is = are at.place at.lower at.layer in
+      let within = slice_get_within overlay.lowers at.place at.lower at.layer in
+      let at_slot = in_slot trees at.lower layer_is path at.object at.leads in
+      let parts = number_parts (born_in overlay.number.count (birth_at trees at.place at.lower path))
+      (born_in overlay.number.count Here) (slot_at trees at.lower path) slot at_slot.0 slot_small at.numbered in
+      let birth = births_apart overlay.number.count (birth_at trees at.place at.lower path) Here
+      (small_birth trees at.lower layer_is at.place path at.object (omega (arith, within, few)) at.leads)
+      tt parts.0 in
+      let named = by (is_root_path path) refl birth in
+      record {
+        nameless = no_name path named;
+        in_slot_of_top = ap (slot_at trees at.lower) (sym (no_name path named)) ∙ parts.1;
+      }
+    where
+      by : (b : Bool) → is_root_path path ≡ b
+          → (if b then Here else Below at.place (slot_at trees at.lower (without_last path)) (rank_at trees at.lower path))
+          ≡ Here → is_root_path path ≡ true
+      by true e birth = e
+      by false e birth = absurd (true≢false (sym (ap is_here birth)))
+
+  -- where it is at no path, it is no directory
+  no_root : ((path : List (List ℕ)) → IsAt trees overlay are path root_number → ⊥)
+      → None ≡ directory_path trees overlay root_number
+  no_root none = by (found_at trees overlay are root_number) refl
+    where
+      by : (o : Option (List (List ℕ))) → found_at trees overlay are root_number ≡ o
+          → None ≡ directory_path trees overlay root_number
+      by None e = sym (ap (only_of_directory trees overlay) e)
+      by (Some path) e = absurd (none path (found_is_at trees overlay are root_number path e))
+
+  pub no_top : slice_get overlay.lowers 0 ≡ None → None ≡ directory_path trees overlay root_number
+  no_top none = no_root (λ path at. no_first overlay.lowers at.place at.lower none at.layer)
+
+  module _ (top : LayerRef) (layer : slice_get overlay.lowers 0 ≡ Some top) where
+    abbrev count : ℕ
+    count = top.directory.filesystem.count
+
+    abbrev pub start : ℕ
+    start = inode_of top.directory
+
+    abbrev pub files : Tree ℕ
+    files = (files_at trees count).tree
+
+    is_layer : IsLayer trees top
+    is_layer = are 0 top layer
+
+    top_is_shown : shown (layers trees overlay are) [] ≡ Some (record { layer = 0; object = start })
+    top_is_shown = top_shown trees overlay.lowers top layer is_layer.directory
+
+    -- the top layer is the first
+    first_layer : (path : List (List ℕ)) (at : IsAt trees overlay are path root_number) → at.lower ≡ top
+    first_layer path at =
+        let root = is_root path at in
+        let place : at.place ≡ 0 =
+        ap (λ (s : Shown ℕ). s.layer) (same_Some (record { layer = at.place; object = at.object })
+        (record { layer = 0; object = start })
+        (sym at.is ∙ ap (shown (layers trees overlay are)) root.nameless ∙ top_is_shown)) in
+        same_Some at.lower top (sym at.layer ∙ ap (slice_get overlay.lowers) place ∙ layer)
+
+    pub other_slot : (top.directory.slot ≡ slot → ⊥) → None ≡ directory_path trees overlay root_number
+    other_slot other =
+        no_root (λ path at.
+        let root = is_root path at in
+        let own : exchanged count start ≡ slot =
+        ap (λ (l : LayerRef). slot_at trees l []) (sym (first_layer path at)) ∙ root.in_slot_of_top in
+        let number : inode_number count top.directory.slot ≡ inode_number count slot =
+        sym (exchanged_back count start) ∙ ap (exchanged count) own ∙ exchanged_slot count slot slot_small in
+        other (omega (arith, number)))
+
+    module _ (same : top.directory.slot ≡ slot) where
+      at_root : IsAt trees overlay are [] root_number
+      at_root = record {
+        place = 0;
+        object = start;
+        lower = top;
+        layer = layer;
+        is = top_is_shown;
+        leads = refl;
+        numbered = ap (inode_number overlay.number.count)
+            (ap (λ s. exchanged count (inode_number count s)) same ∙ exchanged_number count slot slot_small);
+      }
+
+      root_path : Some [] ≡ directory_path trees overlay root_number
+      unfolding at_root
+      root_path =
+          sym (ap (only_of_directory trees overlay)
+          (found_is trees overlay are root_number [] at_root (λ path at. (is_root path at).nameless))
+          ∙ directory_shown trees overlay are root_number [] at_root is_layer.directory)
+
+      pub way_of_root : (way : List (List ℕ)) → led files start way ≡ Some start
+          → Some way ≡ directory_path trees overlay root_number
+      way_of_root way leads =
+          ap Some (one_path files is_layer.tree start way [] start leads refl is_layer.directory) ∙ root_path
+
+      pub way_result : (r : Option (List (List ℕ))) → IfSome r (λ way. led files start way ≡ Some start)
+          → (r ≡ None → IsDirectory files start → (path : List (List ℕ)) → led files start path ≢ Some start)
+          → r ≡ directory_path trees overlay root_number
+      way_result None leads none = absurd (none refl is_layer.directory [] refl)
+      way_result (Some way) leads none = way_of_root way leads
