@@ -1,8 +1,7 @@
 -- Where a filesystem is what it was, but for what is gone, what is there lies where it lay.
-use Rattle.std.proofs.Common.{◌≡◌, refl, sym, ap, subst, ◌∙◌, inl, inr, ⊎_elim, ℕ, nat_eq, Bool, true, false, cond, true≢false, List, [], ◌∷◌, Option, Some, None, length, not, ◌||◌, ◌+◌, ◌≤◌, arith, is_some}
-use Rattle.std.specs.Prelude.{All}
-use Rattle.vt_spec.specs.FileTree.{FileTree, ancestors, is_directory_under, is_removed, named_parent, targets_in}
-use Rattle.vt_spec.specs.Lists.{chain, is_among, when}
+use Rattle.std.proofs.Common.{◌≡◌, refl, sym, ap, subst, ◌∙◌, ⊎_elim, ℕ, nat_eq, true, false, cond, true≢false, List, [], ◌∷◌, Option, Some, None, length, not, ◌||◌, ◌+◌, arith, is_some}
+use Rattle.vt_spec.specs.FileTree.{FileTree, is_directory_under, is_removed, named_parent, targets_in}
+use Rattle.vt_spec.specs.Lists.{is_among, when}
 use Rattle.vt_spec.specs.Machine.Invariants.{ListsNumbers, TreeInvariants}
 use Rattle.vt_spec.specs.Machine.World.{Filesystem, World, filesystem_numbered}
 use Rattle.vt_spec.specs.Tree.{Node, is_directory_node, parent_in}

@@ -1,5 +1,5 @@
 -- Words walked lead where they led, if what they meet is what it was.
-use Rattle.std.proofs.Common.{◌≡◌, refl, sym, ap, subst, ◌∙◌, inl, inr, ⊎_elim, ℕ, zero, suc, nat_eq, Bool, true, false, cond, true≢false, not, List, [], ◌∷◌, ◌++◌, ◌||◌, ◌&&◌, ◌-◌, ◌⊎◌, Option, Some, None, Ok, Err, Result, map, flat_map, length, reverse, eqb-true, eq-eqb}
+use Rattle.std.proofs.Common.{◌≡◌, refl, sym, ap, subst, ◌∙◌, inl, inr, ⊎_elim, ℕ, zero, suc, nat_eq, Bool, true, false, cond, true≢false, not, List, [], ◌∷◌, ◌++◌, ◌||◌, ◌&&◌, ◌-◌, ◌⊎◌, Option, Some, None, Ok, Err, Result, map, flat_map, length, eqb-true}
 use Rattle.std.specs.Prelude.{IfOk, nat_lt, option_map, option_to_list, unwrap_or, ◌==◌}
 use Rattle.std.specs.List.{list_all, list_any}
 use Rattle.std.proofs.lemmas.Bool.{and_parts}
@@ -11,9 +11,9 @@ use Rattle.vt_spec.specs.FileTree.{symlink_text}
 use Rattle.vt_spec.specs.Language.Limits.{longest_name}
 use Rattle.vt_spec.specs.Lists.{is_empty_list, then_some}
 use Rattle.vt_spec.specs.Machine.Invariants.{IsWorld}
-use Rattle.vt_spec.specs.Machine.Looks.{Looks, is_directory_at, looks_of, mount_at, topmost}
+use Rattle.vt_spec.specs.Machine.Looks.{Looks, is_directory_at, topmost}
 use Rattle.vt_spec.specs.Machine.Mounts.{Location, Mount}
-use Rattle.vt_spec.specs.Machine.Walking.{Here, LastWord, Place, Stop, all_met, also_met, entered, entry_location, filesystems_of, follow_rules, is_no_word, is_special, last_walked, last_word, met_at, met_by, object_named, path_text, placed, search_rules, start_of, stepped, steps_at, stopped_by, symlink_of, symlink_start, symlink_there, then_walk, walk_start, walk_unless, word_walked}
+use Rattle.vt_spec.specs.Machine.Walking.{Here, LastWord, Place, Stop, all_met, also_met, entered, entry_location, filesystems_of, follow_rules, is_no_word, is_special, last_word, met_at, met_by, object_named, path_text, placed, search_rules, start_of, stepped, steps_at, stopped_by, symlink_of, symlink_start, symlink_there, then_walk, walk_start, walk_unless, word_walked}
 use Rattle.vt_spec.specs.Machine.Walking.LastWord.{Dot, DotDot, Named, NoWord}
 use Rattle.vt_spec.specs.Machine.World.{Task, World, mount_numbered}
 use Rattle.vt_spec.specs.PathText.{ends_in_slash, is_absolute, words}
@@ -25,10 +25,10 @@ use Rattle.vt_laws_worlds.proofs.worlds.Reached.{IsOn, directory_found, entry_fo
 use Rattle.vt_laws_worlds.proofs.worlds.ReachedWalks.{own_directory_found, root_found}
 use Rattle.vt_laws_turn_walks.specs.ByWords.{Aim, StandsOnDirectories, begun, last_for, pending_for, steps_of}
 use Rattle.vt_laws_turn_walks.specs.HalfWalks.{FirstWordsLeadAlike, StandsAsItStood, met_in, words_walked_in}
-use Rattle.vt_laws_turn_walks.specs.Walkers.{Last, Pending, Walk, Walker, all_words, arrived, end_rules, ended, first_words, gone_on, has_no_word, last_of, last_step, one_word, opened, text_word, walked_on}
+use Rattle.vt_laws_turn_walks.specs.Walkers.{Last, Pending, Walk, all_words, arrived, ended, first_words, gone_on, has_no_word, last_of, last_step, one_word, opened, text_word, walked_on}
 use Rattle.vt_laws_turn_walks.specs.Walkers.Last.{AsFile, AsName, AsOthers, NotFollowed}
 use Rattle.vt_laws_turn_walks.specs.Walkers.Walk.{Goes, Names, Reaches}
-use Rattle.vt_laws_turn_walks.proofs.alike.Seeing.{Met, Sees, met_next, walked_on_sees, word_by_sees}
+use Rattle.vt_laws_turn_walks.proofs.alike.Seeing.{Sees, met_next, walked_on_sees, word_by_sees}
 use Rattle.vt_laws_turn_walks.proofs.alike.StepsAlike.{EachKept, IsThere, Kept, Own, directory_is, entry_is, kept_here, met_is, mount_same, node_is, one, other, over_each, over_same, reached_there, rules_by, search_is, shown_at, shown_same, stepped_is, topmost_same, word_is}
 use Rattle.vt_laws_turn_walks.proofs.by_words.Counting.{HasItsWord, HasSteps, has_word, one_word_steps}
 use Rattle.vt_laws_turn_walks.proofs.by_words.Depths.{then_same}

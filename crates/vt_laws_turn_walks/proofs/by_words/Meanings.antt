@@ -1,5 +1,5 @@
 -- What is left of a walk after one word, as a whole, is what was left before it.
-use Rattle.std.proofs.Common.{◌≡◌, refl, sym, ap, subst, ◌∙◌, cond, ℕ, zero, suc, nat_eq, Bool, true, false, true≢false, not, List, [], ◌∷◌, ◌++◌, ◌+◌, ◌-◌, ◌≤◌, ◌||◌, length, reverse, Option, Some, None, Ok, Err, Result, arith}
+use Rattle.std.proofs.Common.{◌≡◌, refl, sym, ap, ◌∙◌, cond, ℕ, suc, nat_eq, Bool, true, false, true≢false, not, List, [], ◌∷◌, ◌++◌, ◌-◌, ◌≤◌, ◌||◌, length, reverse, Option, Some, None, Ok, Err, Result, arith}
 use Rattle.std.specs.Prelude.{nat_lt, ◌==◌}
 use Rattle.std.specs.List.{list_any}
 use Rattle.std.proofs.lemmas.List.{reverse-append, reverse-reverse}
@@ -8,10 +8,10 @@ use Rattle.vt_spec.specs.declared.errors.Rule.TheVariants.{W3}
 use Rattle.vt_spec.specs.Errors.{Rules, and_then, unless}
 use Rattle.vt_spec.specs.FileTree.{symlink_text}
 use Rattle.vt_spec.specs.Language.Limits.{longest_name, most_symlinks}
-use Rattle.vt_spec.specs.Lists.{is_empty_list, rest_of}
+use Rattle.vt_spec.specs.Lists.{rest_of}
 use Rattle.vt_spec.specs.Machine.Looks.{Looks, is_directory_at, mount_at}
 use Rattle.vt_spec.specs.Machine.Mounts.{Location}
-use Rattle.vt_spec.specs.Machine.Walking.{Follow, Here, LastWord, Place, Stop, entered, file_or_symlink, file_walked, final_word, follow_rules, followed, if_symlink, is_no_word, last_walked, last_word, placed, prefix_walked, slash_rules, start_of, stopped_by, symlink_of, symlink_start, symlink_there, symlink_walked, then_walk, walk_unless, word_walked, words_walked}
+use Rattle.vt_spec.specs.Machine.Walking.{Follow, Here, LastWord, Place, Stop, file_or_symlink, file_walked, follow_rules, followed, if_symlink, is_no_word, last_walked, last_word, placed, prefix_walked, slash_rules, start_of, stopped_by, symlink_of, symlink_start, symlink_there, symlink_walked, then_walk, walk_unless, word_walked, words_walked}
 use Rattle.vt_spec.specs.Machine.Walking.LastWord.{Dot, DotDot, Named, NoWord}
 use Rattle.vt_spec.specs.Machine.World.{Task}
 use Rattle.vt_spec.specs.PathText.{ends_in_slash, is_absolute, words}
@@ -19,7 +19,7 @@ use Rattle.vt_laws_worlds.proofs.worlds.Reached.{directory_no_link}
 use Rattle.vt_laws_turn_walks.specs.ByWords.{last_taken, names, reaches, rest_walked, texts_walked}
 use Rattle.vt_laws_turn_walks.specs.Walkers.{Last, Pending, Walk, Walker, all_words, arrived, end_rules, ended, first_words, gone_on, has_no_word, last_of, last_step, one_word, opened, text_word}
 use Rattle.vt_laws_turn_walks.specs.Walkers.Last.{AsFile, AsName, AsOthers, NotFollowed}
-use Rattle.vt_laws_turn_walks.specs.Walkers.Walk.{Goes, Names, Reaches}
+use Rattle.vt_laws_turn_walks.specs.Walkers.Walk.{Goes, Names}
 use Rattle.vt_laws_turn_walks.proofs.by_words.Depths.{followed_same, one_left, text_same, text_walked, texts_same, then_ok, then_same, then_then, then_within, word_within}
 use Rattle.vt_laws_turn_walks.proofs.by_words.Files.{file_from, files_same, follow_alike, from_same, prefix_within}
 

@@ -1,5 +1,5 @@
 -- Word by word each walk leads where it leads as a whole.
-use Rattle.std.proofs.Common.{◌≡◌, refl, sym, ap, subst, ◌∙◌, cond, ℕ, zero, suc, nat_eq, Bool, true, false, true≢false, not, List, [], ◌∷◌, ◌+◌, ◌≤◌, ◌||◌, length, reverse, Option, Some, None, Ok, Err, Result, arith}
+use Rattle.std.proofs.Common.{◌≡◌, refl, sym, ap, subst, ◌∙◌, cond, ℕ, zero, suc, nat_eq, Bool, true, false, true≢false, not, List, [], ◌∷◌, ◌+◌, ◌≤◌, length, reverse, Ok, Err, Result, arith}
 use Rattle.vt_spec.specs.Errors.{Rules, unless}
 use Rattle.vt_spec.specs.Language.Limits.{most_symlinks}
 use Rattle.vt_spec.specs.Machine.Looks.{Looks, is_directory_at}
