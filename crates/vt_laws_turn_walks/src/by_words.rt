@@ -7,8 +7,9 @@ ghost use Rattle.vt_laws_turn_walks.specs.Routes.{RoutesAreWalks};
 /// words as the walk has steps, nothing is left of it (`all_words`). The words that turns count of a call, and the
 /// filesystems that they meet, are those of such walks, one for each of its paths (`routes`).
 ///
-/// A symlink that a word leads to is followed with that word: its text is then walked word by word too. A text ends with
-/// its last word, and a path without words before its first. The task's root and working directory are directories.
+/// A symlink that a word leads to is followed with that word: its text is then walked word by word too. A text ends
+/// with its last word, and a path without words before its first. The task's root and working directory are
+/// directories.
 pub fn walks_go_word_by_word()
     ensures first_words { FirstWordsAreOfTheWalk }
     ensures all_words { AllWordsAreTheWalk }

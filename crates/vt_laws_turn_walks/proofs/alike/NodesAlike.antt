@@ -75,7 +75,8 @@ module _ (world later : World ℕ) (trees : TreeInvariants nat_eq world) (later_
       (numbered_all (λ (f : Filesystem ℕ). IsTree f.files.tree) number later.filesystems later_trees.trees)
 
   -- the parent that a directory has by its name
-  pub parent_same : (d : ℕ) → IsDirectory after.tree d → named_parent nat_eq after.tree d ≡ named_parent nat_eq before.tree d
+  pub parent_same : (d : ℕ) → IsDirectory after.tree d → named_parent nat_eq after.tree d
+      ≡ named_parent nat_eq before.tree d
   parent_same d is =
       let above : IsDirectory after.tree (parent_in d (after.tree.node d)) = (after_tree d is).parent_directory d is in
       ap (λ r. parent_by d r (after.tree.node d) (after.tree.node (parent_in d (after.tree.node d)))) kept.root
@@ -83,7 +84,8 @@ module _ (world later : World ℕ) (trees : TreeInvariants nat_eq world) (later_
       (node_same (parent_in d (after.tree.node d)) (there_by (parent_in d (after.tree.node d)) above))
       ∙ ap (λ n. parent_by d before.tree.root n (before.tree.node (parent_in d n))) (node_same d (there_by d is))
 
-  pub removed_same : (d : ℕ) → IsDirectory after.tree d → is_removed nat_eq after.tree d ≡ is_removed nat_eq before.tree d
+  pub removed_same : (d : ℕ) → IsDirectory after.tree d → is_removed nat_eq after.tree d
+      ≡ is_removed nat_eq before.tree d
   removed_same d is =
       ap (λ o. not (nat_eq d after.tree.root || is_some o)) (parent_same d is)
       ∙ ap (λ r. not (nat_eq d r || is_some (named_parent nat_eq before.tree d))) kept.root

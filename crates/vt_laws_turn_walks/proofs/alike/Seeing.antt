@@ -132,7 +132,8 @@ module _ (f : ℕ) where
       where
         by : (b : Bool) → Met f (cond b here.steps (steps_at nat_eq looks task here word))
         by true = met
-        by false = among-append_right (met_at nat_eq looks task here.location word) (flat_map (λ met. met) here.steps) f met
+        by false =
+            among-append_right (met_at nat_eq looks task here.location word) (flat_map (λ met. met) here.steps) f met
 
     entered_sees : (place : Place ℕ) → Met f place.steps → Met f (entered nat_eq looks place).steps
     entered_sees place met =
@@ -191,7 +192,8 @@ module _ (f : ℕ) where
         (symlink_start nat_eq looks task here.location (symlink_of here place) text)
         (λ start. gone_on nat_eq looks task start (first_words text ∷ [])
         (AsFile (last_of text) (slash || ends_in_slash text))) met
-        (gone_on_sees (first_words text ∷ []) (symlink_start nat_eq looks task here.location (symlink_of here place) text)
+        (gone_on_sees (first_words text ∷ []) (symlink_start nat_eq looks task here.location
+        (symlink_of here place) text)
         (AsFile (last_of text) (slash || ends_in_slash text))
         (start_sees here.location (symlink_of here place) text met))
 

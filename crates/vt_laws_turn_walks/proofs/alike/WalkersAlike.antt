@@ -163,7 +163,8 @@ module _ (world later : World ℕ) (isw : IsWorld nat_eq world) (isl : IsWorld n
   fine_unless steps ((true, rule) ∷ rules) here f fine = tt
   fine_unless steps ((false, rule) ∷ rules) here f fine = fine_unless steps rules here f fine
 
-  ok_named : (a : Result (Place ℕ) (Stop ℕ)) (f : Place ℕ → Place ℕ) → Fine (then_walk a (λ place. Ok (Names (f place))))
+  ok_named : (a : Result (Place ℕ) (Stop ℕ)) (f : Place ℕ → Place ℕ)
+      → Fine (then_walk a (λ place. Ok (Names (f place))))
   ok_named (Ok place) f = tt
   ok_named (Err stop) f = tt
 
@@ -245,9 +246,11 @@ module _ (world later : World ℕ) (isw : IsWorld nat_eq world) (isl : IsWorld n
       → (then_walk (walk_unless symlink.steps (follow_rules nat_eq after symlink text)
       (symlink_start nat_eq after task directory symlink text)) (λ start. gone_on nat_eq after task start pending last)
       ≡ then_walk (walk_unless symlink.steps (follow_rules nat_eq before symlink text)
-      (symlink_start nat_eq before task directory symlink text)) (λ start. gone_on nat_eq before task start pending last))
+      (symlink_start nat_eq before task directory symlink text))
+      (λ start. gone_on nat_eq before task start pending last))
       × Fine (then_walk (walk_unless symlink.steps (follow_rules nat_eq before symlink text)
-      (symlink_start nat_eq before task directory symlink text)) (λ start. gone_on nat_eq before task start pending last))
+      (symlink_start nat_eq before task directory symlink text))
+      (λ start. gone_on nat_eq before task start pending last))
   followed_is directory is symlink own text pending last =
       let start : Here ℕ = symlink_start nat_eq before task directory symlink text in
       let rest = gone_on_is pending start last (start_standing directory is text) in (
@@ -393,7 +396,8 @@ module _ (world later : World ℕ) (isw : IsWorld nat_eq world) (isl : IsWorld n
       → met_at nat_eq after task here.location word ≡ met_at nat_eq before task here.location word
       → (placed_to here word slash (steps_at nat_eq after task here word) (search_rules nat_eq after task here.location)
       (object_named nat_eq after task here.location word)
-      ≡ placed_to here word slash (steps_at nat_eq before task here word) (search_rules nat_eq before task here.location)
+      ≡ placed_to here word slash (steps_at nat_eq before task here word)
+      (search_rules nat_eq before task here.location)
       (object_named nat_eq before task here.location word))
       × IfOk (placed_to here word slash (steps_at nat_eq before task here word)
       (search_rules nat_eq before task here.location) (object_named nat_eq before task here.location word)) PlaceFine
@@ -475,7 +479,8 @@ module _ (world later : World ℕ) (isw : IsWorld nat_eq world) (isl : IsWorld n
             steps = all_met (filesystems_of nat_eq after (after.mounts_over l ++ [])) place.steps;
           }) (topmost_same world later isw isl task stands.mounts l own)
           ∙ ap (λ met. record place { object = Some (topmost before l); steps = all_met met place.steps })
-          (ap (λ list. filesystems_of nat_eq after (list ++ [])) (over_same world later isw isl task stands.mounts l own)
+          (ap (λ list. filesystems_of nat_eq after (list ++ []))
+          (over_same world later isw isl task stands.mounts l own)
           ∙ shown_same world later isw isl task stands.mounts (before.mounts_over l ++ [])
           (λ x m. ⊎_elim (λ n. over_each world later isw isl task stands.mounts l own x n) (λ none. absurd none)
           (among-append (before.mounts_over l) [] x m)))
@@ -493,7 +498,8 @@ module _ (world later : World ℕ) (isw : IsWorld nat_eq world) (isl : IsWorld n
       by None f = fine.0
       by (Some l) f = (f l refl).0.own
 
-  symlink_is : (place : Place ℕ) → PlaceFine place → symlink_there nat_eq after place ≡ symlink_there nat_eq before place
+  symlink_is : (place : Place ℕ) → PlaceFine place → symlink_there nat_eq after place
+      ≡ symlink_there nat_eq before place
   symlink_is place fine = by place.object fine.1
     where
       by : (object : Option (Location ℕ)) → ObjectFine object

@@ -104,7 +104,8 @@ module _ (looks : Looks ℕ) (task : Task ℕ) where
   named_steps count steps [] (Ok a) place same is = ap length (is a) ∙ same
   named_steps count steps [] (Err deny) place same is = same
   named_steps count steps ((true, rule) ∷ rules) found place same is = same
-  named_steps count steps ((false, rule) ∷ rules) found place same is = named_steps count steps rules found place same is
+  named_steps count steps ((false, rule) ∷ rules) found place same is =
+      named_steps count steps rules found place same is
 
   placed_steps : (here : Here ℕ) (word : LastWord) (slash : Bool) (count : ℕ) → length here.steps ≡ count
       → is_no_word word ≡ false → PlaceHasSteps (suc count) (placed nat_eq looks task here word slash)
@@ -218,7 +219,8 @@ module _ (looks : Looks ℕ) (task : Task ℕ) where
         steps = start.steps;
       }) count same
       by (word ∷ list) =
-          gone_on_steps (record { words = reverse list; slash = false } ∷ []) start (AsFile (last_word word) slash) count
+          gone_on_steps (record { words = reverse list; slash = false } ∷ []) start (AsFile
+          (last_word word) slash) count
           same few (word_is_one word)
 
   opened_steps : (here : Here ℕ) (place : Place ℕ) (slash : Bool) (count : ℕ) → length place.steps ≡ count

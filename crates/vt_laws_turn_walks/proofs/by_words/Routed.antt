@@ -126,7 +126,8 @@ module _ (looks : Looks ℕ) (task : Task ℕ) where
       file_walked nat_eq (most_symlinks + 1) looks task (walk_start task text) text false)
       (λ place. walk_unless place.steps (new_name_rules nat_eq looks place) place)))
       ∙ ap reverse (place_kept (then_walk (path_text path) (λ text.
-      file_walked nat_eq (most_symlinks + 1) looks task (walk_start task text) text false)) (new_name_rules nat_eq looks))
+      file_walked nat_eq (most_symlinks + 1) looks task (walk_start task text) text false))
+      (new_name_rules nat_eq looks))
 
   layers_met : (paths : List (List ℕ))
       → map (λ (route : Route ℕ). route.steps) (map (λ path. here_route (source_walk nat_eq looks task path)) paths)

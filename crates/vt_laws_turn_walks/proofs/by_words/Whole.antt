@@ -212,7 +212,8 @@ module _ (looks : Looks ℕ) (task : Task ℕ) where
         ∙ sym (then_then (path_text path) (λ text. then_walk (words_walked nat_eq looks task (follow looks task)
         (walk_start task text) (reverse (words text))) slash_checked) (λ here. Ok (Reaches here)))
         ∙ ap (reaches nat_eq) (sym (then_then (path_text path) (λ text.
-        words_walked nat_eq looks task (follow looks task) (walk_start task text) (reverse (words text))) slash_checked))
+        words_walked nat_eq looks task (follow looks task) (walk_start task text) (reverse
+        (words text))) slash_checked))
 
     symlink_means : (slash : Bool)
         → then_walk (path_text path) (λ text.
