@@ -4,3 +4,4 @@ pub mod Files
 pub mod Meanings
 pub mod Counting
 pub mod Whole
+pub mod Routed

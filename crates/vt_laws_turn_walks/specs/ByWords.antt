@@ -1,11 +1,11 @@
 -- Word by word each walk of a call leads where it leads as a whole: path_resolution(7).
-use Rattle.std.specs.Prelude.{Bool, Err, List, None, Ok, Result, Some, [], false, if◌then◌else◌, length, nat_eq, reverse, true, ℕ, ◌+◌, ◌||◌, ◌≡◌, ◌≤◌, ◌∷◌}
+use Rattle.std.specs.Prelude.{Bool, Err, List, Ok, Result, [], false, if◌then◌else◌, length, nat_eq, reverse, true, ℕ, ◌+◌, ◌≡◌, ◌≤◌, ◌∷◌}
 use Rattle.vt_spec.specs.Language.Limits.{most_symlinks}
 use Rattle.vt_spec.specs.Machine.Looks.{Looks, is_directory_at}
 use Rattle.vt_spec.specs.Machine.Walking.{Follow, Here, Place, Stop, file_or_symlink, file_walked, follow_rules, followed, last_walked, object_walk, path_text, path_walked, place_walk, placed, symlink_of, symlink_start, symlink_there, symlink_walk, then_walk, walk_start, walk_unless, words_walked}
 use Rattle.vt_spec.specs.Machine.World.{Task}
 use Rattle.vt_spec.specs.PathText.{ends_in_slash, words}
-use Rattle.vt_laws_turn_walks.specs.Walkers.{Last, Pending, Walk, Walker, all_words, end_rules, first_words, gone_on, last_of, walked_on}
+use Rattle.vt_laws_turn_walks.specs.Walkers.{Last, Pending, Walk, all_words, end_rules, first_words, gone_on, last_of, walked_on}
 use Rattle.vt_laws_turn_walks.specs.Walkers.Last.{AsFile, AsName, AsOthers, NotFollowed}
 use Rattle.vt_laws_turn_walks.specs.Walkers.Walk.{Goes, Names, Reaches}
 

@@ -1,5 +1,5 @@
 -- A half-done walk stands in this world where it stood, while what it holds is what it was (profile).
-use Rattle.std.specs.Prelude.{Contains, List, Ok, Result, Some, flat_map, nat_eq, ℕ, ◌≡◌}
+use Rattle.std.specs.Prelude.{Contains, List, Result, Some, flat_map, nat_eq, ℕ, ◌≡◌}
 use Rattle.vt_spec.specs.Machine.Invariants.{IsWorld}
 use Rattle.vt_spec.specs.Machine.Looks.{looks_of}
 use Rattle.vt_spec.specs.Machine.Walking.{Stop, then_walk}

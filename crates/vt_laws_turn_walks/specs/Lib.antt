@@ -1,3 +1,4 @@
 pub mod ByWords
 pub mod HalfWalks
+pub mod Routes
 pub mod Walkers

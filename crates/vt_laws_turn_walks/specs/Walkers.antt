@@ -15,8 +15,9 @@ pub record Pending : Type 0 where
   pub words : List (List ℕ)
   pub slash : Bool
 
--- How a walk takes the last word of its path: as each other word; so, but a final symlink itself, as lstat(2); as a name
--- in its directory, as mkdir(2) and unlink(2); or as a name of which a symlink is followed, as open(2) with O_CREAT.
+-- How a walk takes the last word of its path: as each other word; so, but a final symlink itself, as lstat(2); as a
+-- name in its directory, as mkdir(2) and unlink(2); or so, where a symlink of that name is followed, as open(2) with
+-- O_CREAT.
 pub data Last : Type 0 where
   AsOthers : Last
   NotFollowed : (word : LastWord) → Last
@@ -85,7 +86,8 @@ module _ {N : Type 0} (eq : N → N → Bool) where
       → Result (Walk N) (Stop N)
   arrived looks task directory here pending last None = gone_on looks task here pending last
   arrived looks task directory here pending last (Some text) =
-      then_walk (walk_unless here.steps (follow_rules eq looks here text) (symlink_start eq looks task directory here text))
+      then_walk (walk_unless here.steps (follow_rules eq looks here text)
+      (symlink_start eq looks task directory here text))
       (λ start. gone_on looks task start (all_words text ∷ pending) last)
 
   -- the next word of a text

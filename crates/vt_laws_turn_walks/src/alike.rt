@@ -1,9 +1,9 @@
 //! Half-done walks, in a world that calls of others have changed.
 ghost use Rattle.vt_laws_turn_walks.specs.HalfWalks.{FirstWordsLeadAlike, FirstWordsLeadAlikeInTurn};
 
-/// The first words of a path lead in a later world where they led, through the same filesystems, or are refused alike:
-/// if the task, and the mounts of its namespace, are what they were, and so is each filesystem that these words met, but
-/// for what is gone (`worlds`). Inodes that nothing uses any longer may be gone; a walk meets none of them.
+/// The first words of a path lead in a later world where they led, through the same filesystems, or are refused alike.
+/// So it is if the task and the mounts of its namespace are what they were, and each filesystem that these words met is
+/// what it was, but for what is gone (`worlds`). Inodes that nothing uses any longer may be gone; a walk meets none.
 ///
 /// So it is after any number of calls of other tasks, where no change number that a call under way holds is overtaken:
 /// of the namespace, and of each filesystem met (`in_turn`). The task's root and working directory are on mounts of its

@@ -184,7 +184,8 @@ mounts_stay : (calls : List CallBetween) (world : World ℕ) (number : ℕ) → 
     → mounts_of nat_eq (after_calls world calls) number ≡ mounts_of nat_eq world number
 mounts_stay [] world number is beside unraised = refl
 mounts_stay (one ∷ rest) world number is beside unraised =
-    let parts = first_unraised number (namespace_change number) (namespace_step number) world one rest is beside unraised in
+    let parts =
+    first_unraised number (namespace_change number) (namespace_step number) world one rest is beside unraised in
     mounts_stay rest (after_call world one) number (next_is number world one is beside.0) beside.1 parts.1
     ∙ unraised_namespaces_keep_mounts world one.fresh one.name one.call number
     (given_in number world one is beside.0) parts.0

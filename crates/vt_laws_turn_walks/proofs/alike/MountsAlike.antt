@@ -30,7 +30,8 @@ find_where : {A : Type 0} (p q : A → Bool) (xs : List A) → ((x : A) → Amon
 find_where p q [] all = refl
 find_where p q (x ∷ xs) all = by (p x) (q x) refl refl (find_where p q xs (λ y m. all y (inr m)))
   where
-    by : (b c : Bool) → p x ≡ b → q x ≡ c → find p (filter q xs) ≡ find p xs → find p (filter q (x ∷ xs)) ≡ find p (x ∷ xs)
+    by : (b c : Bool) → p x ≡ b → q x ≡ c → find p (filter q xs) ≡ find p xs
+        → find p (filter q (x ∷ xs)) ≡ find p (x ∷ xs)
     by b true e f later = ap (find p) (filter_here q x xs f) ∙ ap (cond (p x) (Some x)) later
     by true false e f later = absurd (true≢false (sym (all x (inl refl) e) ∙ f))
     by false false e f later =

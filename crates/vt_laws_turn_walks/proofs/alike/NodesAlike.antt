@@ -1,8 +1,7 @@
 -- Where a filesystem is what it was, but for what is gone, what is there lies where it lay.
-use Rattle.std.proofs.Common.{◌≡◌, refl, sym, ap, subst, ◌∙◌, inl, inr, ⊎_elim, ℕ, nat_eq, Bool, true, false, cond, true≢false, List, [], ◌∷◌, Option, Some, None, length, not, ◌||◌, ◌+◌, ◌≤◌, arith, is_some}
-use Rattle.std.specs.Prelude.{All}
-use Rattle.vt_spec.specs.FileTree.{FileTree, ancestors, is_directory_under, is_removed, named_parent, targets_in}
-use Rattle.vt_spec.specs.Lists.{chain, is_among, when}
+use Rattle.std.proofs.Common.{◌≡◌, refl, sym, ap, subst, ◌∙◌, ⊎_elim, ℕ, nat_eq, true, false, cond, true≢false, List, [], ◌∷◌, Option, Some, None, length, not, ◌||◌, ◌+◌, arith, is_some}
+use Rattle.vt_spec.specs.FileTree.{FileTree, is_directory_under, is_removed, named_parent, targets_in}
+use Rattle.vt_spec.specs.Lists.{is_among, when}
 use Rattle.vt_spec.specs.Machine.Invariants.{ListsNumbers, TreeInvariants}
 use Rattle.vt_spec.specs.Machine.World.{Filesystem, World, filesystem_numbered}
 use Rattle.vt_spec.specs.Tree.{Node, is_directory_node, parent_in}
@@ -76,7 +75,8 @@ module _ (world later : World ℕ) (trees : TreeInvariants nat_eq world) (later_
       (numbered_all (λ (f : Filesystem ℕ). IsTree f.files.tree) number later.filesystems later_trees.trees)
 
   -- the parent that a directory has by its name
-  pub parent_same : (d : ℕ) → IsDirectory after.tree d → named_parent nat_eq after.tree d ≡ named_parent nat_eq before.tree d
+  pub parent_same : (d : ℕ) → IsDirectory after.tree d → named_parent nat_eq after.tree d
+      ≡ named_parent nat_eq before.tree d
   parent_same d is =
       let above : IsDirectory after.tree (parent_in d (after.tree.node d)) = (after_tree d is).parent_directory d is in
       ap (λ r. parent_by d r (after.tree.node d) (after.tree.node (parent_in d (after.tree.node d)))) kept.root
@@ -84,7 +84,8 @@ module _ (world later : World ℕ) (trees : TreeInvariants nat_eq world) (later_
       (node_same (parent_in d (after.tree.node d)) (there_by (parent_in d (after.tree.node d)) above))
       ∙ ap (λ n. parent_by d before.tree.root n (before.tree.node (parent_in d n))) (node_same d (there_by d is))
 
-  pub removed_same : (d : ℕ) → IsDirectory after.tree d → is_removed nat_eq after.tree d ≡ is_removed nat_eq before.tree d
+  pub removed_same : (d : ℕ) → IsDirectory after.tree d → is_removed nat_eq after.tree d
+      ≡ is_removed nat_eq before.tree d
   removed_same d is =
       ap (λ o. not (nat_eq d after.tree.root || is_some o)) (parent_same d is)
       ∙ ap (λ r. not (nat_eq d r || is_some (named_parent nat_eq before.tree d))) kept.root

@@ -1,5 +1,5 @@
 -- What a walk met it has met after each further word.
-use Rattle.std.proofs.Common.{◌≡◌, refl, inl, inr, ⊎_elim, ℕ, zero, suc, nat_eq, Bool, true, false, cond, List, [], ◌∷◌, ◌++◌, ◌||◌, Option, Some, None, Ok, Err, Result, flat_map, reverse}
+use Rattle.std.proofs.Common.{inr, ⊎_elim, ℕ, zero, suc, nat_eq, Bool, true, false, cond, List, [], ◌∷◌, ◌++◌, ◌||◌, Option, Some, None, Ok, Err, Result, flat_map}
 use Rattle.vt_spec.specs.declared.errors.Deny.{Deny}
 use Rattle.vt_spec.specs.Errors.{Rules, and_then, unless}
 use Rattle.vt_spec.specs.FileTree.{symlink_text}
@@ -11,7 +11,7 @@ use Rattle.vt_spec.specs.Machine.World.{Task}
 use Rattle.vt_spec.specs.PathText.{ends_in_slash, is_absolute}
 use Rattle.vt_spec.proofs.Lists.{Among, among-append, among-append_left, among-append_right}
 use Rattle.vt_laws_turn_walks.specs.ByWords.{steps_of}
-use Rattle.vt_laws_turn_walks.specs.Walkers.{Last, Pending, Walk, Walker, all_words, arrived, end_rules, ended, first_words, gone_on, has_no_word, last_of, last_step, one_word, opened, text_word, walked_on}
+use Rattle.vt_laws_turn_walks.specs.Walkers.{Last, Pending, Walk, all_words, arrived, end_rules, ended, first_words, gone_on, has_no_word, last_of, last_step, one_word, opened, text_word, walked_on}
 use Rattle.vt_laws_turn_walks.specs.Walkers.Last.{AsFile, AsName, AsOthers, NotFollowed}
 use Rattle.vt_laws_turn_walks.specs.Walkers.Walk.{Goes, Names, Reaches}
 
@@ -132,7 +132,8 @@ module _ (f : ℕ) where
       where
         by : (b : Bool) → Met f (cond b here.steps (steps_at nat_eq looks task here word))
         by true = met
-        by false = among-append_right (met_at nat_eq looks task here.location word) (flat_map (λ met. met) here.steps) f met
+        by false =
+            among-append_right (met_at nat_eq looks task here.location word) (flat_map (λ met. met) here.steps) f met
 
     entered_sees : (place : Place ℕ) → Met f place.steps → Met f (entered nat_eq looks place).steps
     entered_sees place met =
@@ -191,7 +192,8 @@ module _ (f : ℕ) where
         (symlink_start nat_eq looks task here.location (symlink_of here place) text)
         (λ start. gone_on nat_eq looks task start (first_words text ∷ [])
         (AsFile (last_of text) (slash || ends_in_slash text))) met
-        (gone_on_sees (first_words text ∷ []) (symlink_start nat_eq looks task here.location (symlink_of here place) text)
+        (gone_on_sees (first_words text ∷ []) (symlink_start nat_eq looks task here.location
+        (symlink_of here place) text)
         (AsFile (last_of text) (slash || ends_in_slash text))
         (start_sees here.location (symlink_of here place) text met))
 

@@ -1,5 +1,5 @@
 -- One step of a walk leads where it led, if the filesystems that it meets are what they were.
-use Rattle.std.proofs.Common.{append-nil, ◌≡◌, refl, sym, ap, subst, ◌∙◌, inl, inr, ⊎_elim, ℕ, zero, suc, nat_eq, Bool, true, false, cond, true≢false, List, [], ◌∷◌, ◌++◌, Option, Some, None, Ok, Err, Result, map, flat_map, length, not, ◌||◌, is_some}
+use Rattle.std.proofs.Common.{append-nil, ◌≡◌, refl, sym, ap, subst, ◌∙◌, inl, inr, ⊎_elim, ℕ, zero, suc, nat_eq, Bool, true, false, cond, List, [], ◌∷◌, ◌++◌, Option, Some, None, Ok, Err, Result, flat_map, length, not, ◌||◌, is_some}
 use Rattle.std.specs.Prelude.{IfOk, ok_or, option_map, option_to_list}
 use Rattle.std.proofs.lemmas.List.{map-append}
 use Rattle.vt_spec.specs.declared.errors.Deny.{Deny}
@@ -55,7 +55,8 @@ walked_to left steps rules found =
     stopped_by steps (and_then (unless rules found)
     (λ reached. Ok (record { location = reached; left = left; steps = steps })))
 
-found_ok : (P : Location ℕ → Type 0) (left : ℕ) (steps : List (List ℕ)) (rules : Rules) (found : Result (Location ℕ) Deny)
+found_ok : (P : Location ℕ → Type 0) (left : ℕ) (steps : List (List ℕ)) (rules : Rules) (found : Result
+    (Location ℕ) Deny)
     → ((l : Location ℕ) → found ≡ Ok l → P l)
     → IfOk (walked_to left steps rules found) (λ (next : Here ℕ). P next.location)
 found_ok P left steps [] (Ok l) is = is l refl
@@ -161,7 +162,8 @@ module _ (world later : World ℕ) (isw : IsWorld nat_eq world) (isl : IsWorld n
 
   -- Where `..` goes on from
 
-  hop_there : (a b : Location ℕ) → IsThere a → hop_in world later isw.mounts isl.mounts task.namespace same task world a ≡ Some b
+  hop_there : (a b : Location ℕ) → IsThere a
+      → hop_in world later isw.mounts isl.mounts task.namespace same task world a ≡ Some b
       → IsThere b × (is_directory_at one b ≡ true)
   hop_there a b is e =
       let point = hop_point world later isw.mounts isl.mounts task.namespace same task a b e in
@@ -253,8 +255,10 @@ module _ (world later : World ℕ) (isw : IsWorld nat_eq world) (isl : IsWorld n
       by false l m = over_each (parent_location nat_eq one top) own l m
 
   pub object_over : (here : Location ℕ) → Own here.mount → (o : Option ℕ)
-      → (flat_map other.mounts_over (option_to_list (option_map (λ object. record { mount = here.mount; node = object }) o))
-      ≡ flat_map one.mounts_over (option_to_list (option_map (λ object. record { mount = here.mount; node = object }) o)))
+      → (flat_map other.mounts_over (option_to_list (option_map
+      (λ object. record { mount = here.mount; node = object }) o))
+      ≡ flat_map one.mounts_over (option_to_list (option_map
+      (λ object. record { mount = here.mount; node = object }) o)))
       × ((l : Location ℕ)
       → Among l (flat_map one.mounts_over
       (option_to_list (option_map (λ object. record { mount = here.mount; node = object }) o))) → Own l.mount)
@@ -367,7 +371,8 @@ module _ (world later : World ℕ) (isw : IsWorld nat_eq world) (isl : IsWorld n
   kept_here here DotDot kept =
       kept (shown_at here) (among-map shown_at (way here ++ entered_upward nat_eq one task (top_of here)) here
       (among-append_left (way here) (entered_upward nat_eq one task (top_of here)) here
-      (chain_start (hop_in world later isw.mounts isl.mounts task.namespace same task world) (length world.mounts) here)))
+      (chain_start (hop_in world later isw.mounts isl.mounts task.namespace same task world)
+      (length world.mounts) here)))
 
   -- and leads to what is there in both worlds
   pub reached_there : (here : Location ℕ) (word : LastWord) → IsThere here → is_directory_at one here ≡ true
@@ -397,7 +402,8 @@ module _ (world later : World ℕ) (isw : IsWorld nat_eq world) (isl : IsWorld n
   pub word_is : (here : Here ℕ) (word : LastWord) → IsThere here.location
       → EachKept (met_by nat_eq one task here.location word)
       → (word_walked nat_eq other task here word ≡ word_walked nat_eq one task here word)
-      × IfOk (word_walked nat_eq one task here word) (λ (next : Here ℕ). IsThere next.location × Kept (shown_at next.location))
+      × IfOk (word_walked nat_eq one task here word) (λ (next : Here ℕ). IsThere next.location
+      × Kept (shown_at next.location))
   word_is here word is kept = (
     ap (λ s. walked_to here.left (s ∷ here.steps) (search_rules nat_eq other task here.location)
         (stepped nat_eq other task here.location word)) (met_is here.location word is kept)
@@ -419,7 +425,8 @@ module _ (world later : World ℕ) (isw : IsWorld nat_eq world) (isl : IsWorld n
           ap (walked_to here.left steps (search_rules nat_eq one task here.location))
           (stepped_is here.location word is e kept).0
       found_same false e =
-          ap (λ d. walked_to here.left steps (rules_by here.location d) (stepped nat_eq other task here.location word)) e
+          ap (λ d. walked_to here.left steps (rules_by here.location d)
+          (stepped nat_eq other task here.location word)) e
           ∙ sym (ap (λ d. walked_to here.left steps (rules_by here.location d)
           (stepped nat_eq one task here.location word)) e)
 

@@ -1,5 +1,5 @@
 -- Words walked lead where they led, if what they meet is what it was.
-use Rattle.std.proofs.Common.{◌≡◌, refl, sym, ap, subst, ◌∙◌, inl, inr, ⊎_elim, ℕ, zero, suc, nat_eq, Bool, true, false, cond, true≢false, not, List, [], ◌∷◌, ◌++◌, ◌||◌, ◌&&◌, ◌-◌, ◌⊎◌, Option, Some, None, Ok, Err, Result, map, flat_map, length, reverse, eqb-true, eq-eqb}
+use Rattle.std.proofs.Common.{◌≡◌, refl, sym, ap, subst, ◌∙◌, inl, inr, ⊎_elim, ℕ, zero, suc, nat_eq, Bool, true, false, cond, true≢false, not, List, [], ◌∷◌, ◌++◌, ◌||◌, ◌&&◌, ◌-◌, ◌⊎◌, Option, Some, None, Ok, Err, Result, map, flat_map, length, eqb-true}
 use Rattle.std.specs.Prelude.{IfOk, nat_lt, option_map, option_to_list, unwrap_or, ◌==◌}
 use Rattle.std.specs.List.{list_all, list_any}
 use Rattle.std.proofs.lemmas.Bool.{and_parts}
@@ -11,9 +11,9 @@ use Rattle.vt_spec.specs.FileTree.{symlink_text}
 use Rattle.vt_spec.specs.Language.Limits.{longest_name}
 use Rattle.vt_spec.specs.Lists.{is_empty_list, then_some}
 use Rattle.vt_spec.specs.Machine.Invariants.{IsWorld}
-use Rattle.vt_spec.specs.Machine.Looks.{Looks, is_directory_at, looks_of, mount_at, topmost}
+use Rattle.vt_spec.specs.Machine.Looks.{Looks, is_directory_at, topmost}
 use Rattle.vt_spec.specs.Machine.Mounts.{Location, Mount}
-use Rattle.vt_spec.specs.Machine.Walking.{Here, LastWord, Place, Stop, all_met, also_met, entered, entry_location, filesystems_of, follow_rules, is_no_word, is_special, last_walked, last_word, met_at, met_by, object_named, path_text, placed, search_rules, start_of, stepped, steps_at, stopped_by, symlink_of, symlink_start, symlink_there, then_walk, walk_start, walk_unless, word_walked}
+use Rattle.vt_spec.specs.Machine.Walking.{Here, LastWord, Place, Stop, all_met, also_met, entered, entry_location, filesystems_of, follow_rules, is_no_word, is_special, last_word, met_at, met_by, object_named, path_text, placed, search_rules, start_of, stepped, steps_at, stopped_by, symlink_of, symlink_start, symlink_there, then_walk, walk_start, walk_unless, word_walked}
 use Rattle.vt_spec.specs.Machine.Walking.LastWord.{Dot, DotDot, Named, NoWord}
 use Rattle.vt_spec.specs.Machine.World.{Task, World, mount_numbered}
 use Rattle.vt_spec.specs.PathText.{ends_in_slash, is_absolute, words}
@@ -25,10 +25,10 @@ use Rattle.vt_laws_worlds.proofs.worlds.Reached.{IsOn, directory_found, entry_fo
 use Rattle.vt_laws_worlds.proofs.worlds.ReachedWalks.{own_directory_found, root_found}
 use Rattle.vt_laws_turn_walks.specs.ByWords.{Aim, StandsOnDirectories, begun, last_for, pending_for, steps_of}
 use Rattle.vt_laws_turn_walks.specs.HalfWalks.{FirstWordsLeadAlike, StandsAsItStood, met_in, words_walked_in}
-use Rattle.vt_laws_turn_walks.specs.Walkers.{Last, Pending, Walk, Walker, all_words, arrived, end_rules, ended, first_words, gone_on, has_no_word, last_of, last_step, one_word, opened, text_word, walked_on}
+use Rattle.vt_laws_turn_walks.specs.Walkers.{Last, Pending, Walk, all_words, arrived, ended, first_words, gone_on, has_no_word, last_of, last_step, one_word, opened, text_word, walked_on}
 use Rattle.vt_laws_turn_walks.specs.Walkers.Last.{AsFile, AsName, AsOthers, NotFollowed}
 use Rattle.vt_laws_turn_walks.specs.Walkers.Walk.{Goes, Names, Reaches}
-use Rattle.vt_laws_turn_walks.proofs.alike.Seeing.{Met, Sees, met_next, walked_on_sees, word_by_sees}
+use Rattle.vt_laws_turn_walks.proofs.alike.Seeing.{Sees, met_next, walked_on_sees, word_by_sees}
 use Rattle.vt_laws_turn_walks.proofs.alike.StepsAlike.{EachKept, IsThere, Kept, Own, directory_is, entry_is, kept_here, met_is, mount_same, node_is, one, other, over_each, over_same, reached_there, rules_by, search_is, shown_at, shown_same, stepped_is, topmost_same, word_is}
 use Rattle.vt_laws_turn_walks.proofs.by_words.Counting.{HasItsWord, HasSteps, has_word, one_word_steps}
 use Rattle.vt_laws_turn_walks.proofs.by_words.Depths.{then_same}
@@ -163,7 +163,8 @@ module _ (world later : World ℕ) (isw : IsWorld nat_eq world) (isl : IsWorld n
   fine_unless steps ((true, rule) ∷ rules) here f fine = tt
   fine_unless steps ((false, rule) ∷ rules) here f fine = fine_unless steps rules here f fine
 
-  ok_named : (a : Result (Place ℕ) (Stop ℕ)) (f : Place ℕ → Place ℕ) → Fine (then_walk a (λ place. Ok (Names (f place))))
+  ok_named : (a : Result (Place ℕ) (Stop ℕ)) (f : Place ℕ → Place ℕ)
+      → Fine (then_walk a (λ place. Ok (Names (f place))))
   ok_named (Ok place) f = tt
   ok_named (Err stop) f = tt
 
@@ -245,9 +246,11 @@ module _ (world later : World ℕ) (isw : IsWorld nat_eq world) (isl : IsWorld n
       → (then_walk (walk_unless symlink.steps (follow_rules nat_eq after symlink text)
       (symlink_start nat_eq after task directory symlink text)) (λ start. gone_on nat_eq after task start pending last)
       ≡ then_walk (walk_unless symlink.steps (follow_rules nat_eq before symlink text)
-      (symlink_start nat_eq before task directory symlink text)) (λ start. gone_on nat_eq before task start pending last))
+      (symlink_start nat_eq before task directory symlink text))
+      (λ start. gone_on nat_eq before task start pending last))
       × Fine (then_walk (walk_unless symlink.steps (follow_rules nat_eq before symlink text)
-      (symlink_start nat_eq before task directory symlink text)) (λ start. gone_on nat_eq before task start pending last))
+      (symlink_start nat_eq before task directory symlink text))
+      (λ start. gone_on nat_eq before task start pending last))
   followed_is directory is symlink own text pending last =
       let start : Here ℕ = symlink_start nat_eq before task directory symlink text in
       let rest = gone_on_is pending start last (start_standing directory is text) in (
@@ -393,7 +396,8 @@ module _ (world later : World ℕ) (isw : IsWorld nat_eq world) (isl : IsWorld n
       → met_at nat_eq after task here.location word ≡ met_at nat_eq before task here.location word
       → (placed_to here word slash (steps_at nat_eq after task here word) (search_rules nat_eq after task here.location)
       (object_named nat_eq after task here.location word)
-      ≡ placed_to here word slash (steps_at nat_eq before task here word) (search_rules nat_eq before task here.location)
+      ≡ placed_to here word slash (steps_at nat_eq before task here word)
+      (search_rules nat_eq before task here.location)
       (object_named nat_eq before task here.location word))
       × IfOk (placed_to here word slash (steps_at nat_eq before task here word)
       (search_rules nat_eq before task here.location) (object_named nat_eq before task here.location word)) PlaceFine
@@ -475,7 +479,8 @@ module _ (world later : World ℕ) (isw : IsWorld nat_eq world) (isl : IsWorld n
             steps = all_met (filesystems_of nat_eq after (after.mounts_over l ++ [])) place.steps;
           }) (topmost_same world later isw isl task stands.mounts l own)
           ∙ ap (λ met. record place { object = Some (topmost before l); steps = all_met met place.steps })
-          (ap (λ list. filesystems_of nat_eq after (list ++ [])) (over_same world later isw isl task stands.mounts l own)
+          (ap (λ list. filesystems_of nat_eq after (list ++ []))
+          (over_same world later isw isl task stands.mounts l own)
           ∙ shown_same world later isw isl task stands.mounts (before.mounts_over l ++ [])
           (λ x m. ⊎_elim (λ n. over_each world later isw isl task stands.mounts l own x n) (λ none. absurd none)
           (among-append (before.mounts_over l) [] x m)))
@@ -493,7 +498,8 @@ module _ (world later : World ℕ) (isw : IsWorld nat_eq world) (isl : IsWorld n
       by None f = fine.0
       by (Some l) f = (f l refl).0.own
 
-  symlink_is : (place : Place ℕ) → PlaceFine place → symlink_there nat_eq after place ≡ symlink_there nat_eq before place
+  symlink_is : (place : Place ℕ) → PlaceFine place → symlink_there nat_eq after place
+      ≡ symlink_there nat_eq before place
   symlink_is place fine = by place.object fine.1
     where
       by : (object : Option (Location ℕ)) → ObjectFine object

@@ -1,22 +1,19 @@
 -- One word is one step, so after as many words as a walk has steps nothing is left of it.
-use Rattle.std.proofs.Common.{◌≡◌, refl, sym, ap, subst, ◌∙◌, cond, ℕ, zero, suc, nat_eq, Bool, true, false, true≢false, not, List, [], ◌∷◌, ◌+◌, ◌-◌, ◌≤◌, ◌||◌, length, reverse, Option, Some, None, Ok, Err, Result, arith}
-use Rattle.std.specs.Prelude.{codes, nat_lt, ◌==◌}
-use Rattle.std.specs.List.{list_any}
+use Rattle.std.proofs.Common.{◌≡◌, refl, sym, ap, ◌∙◌, cond, ℕ, suc, nat_eq, Bool, true, false, true≢false, not, List, [], ◌∷◌, ◌-◌, ◌≤◌, ◌||◌, length, reverse, Option, Some, None, Ok, Err, Result, arith}
+use Rattle.std.specs.Prelude.{codes}
 use Rattle.std.specs.Str.{bytes_eq}
 use Rattle.vt_spec.specs.declared.errors.Deny.{Deny}
-use Rattle.vt_spec.specs.declared.errors.Rule.TheVariants.{W2, W3, W7, W9}
 use Rattle.vt_spec.specs.Errors.{Rules, and_then, unless}
 use Rattle.vt_spec.specs.FileTree.{symlink_text}
-use Rattle.vt_spec.specs.Language.Limits.{longest_name, most_symlinks}
+use Rattle.vt_spec.specs.Language.Limits.{most_symlinks}
 use Rattle.vt_spec.specs.Lists.{is_empty_list, rest_of}
-use Rattle.vt_spec.specs.Machine.Looks.{Looks, is_directory_at, mount_at}
+use Rattle.vt_spec.specs.Machine.Looks.{Looks, mount_at}
 use Rattle.vt_spec.specs.Machine.Mounts.{Location}
-use Rattle.vt_spec.specs.Machine.Walking.{Here, LastWord, Place, Stop, also_met, entered, entered_mounts, filesystems_of, final_word, follow_rules, is_no_word, last_walked, last_word, object_named, placed, search_rules, stepped, steps_at, steps_with, stopped_by, symlink_of, symlink_start, symlink_there, then_walk, walk_unless, word_walked, words_walked}
+use Rattle.vt_spec.specs.Machine.Walking.{Here, LastWord, Place, Stop, also_met, entered, entered_mounts, filesystems_of, final_word, follow_rules, is_no_word, last_word, object_named, placed, search_rules, stepped, steps_at, steps_with, stopped_by, symlink_of, symlink_start, symlink_there, then_walk, walk_unless, word_walked}
 use Rattle.vt_spec.specs.Machine.Walking.LastWord.{Dot, DotDot, Named, NoWord}
 use Rattle.vt_spec.specs.Machine.World.{Task}
 use Rattle.vt_spec.specs.PathText.{ends_in_slash, is_absolute, words}
-use Rattle.vt_laws_turn_walks.specs.ByWords.{steps_of}
-use Rattle.vt_laws_turn_walks.specs.Walkers.{Last, Pending, Walk, Walker, all_words, arrived, end_rules, ended, first_words, gone_on, has_no_word, last_of, last_step, one_word, opened, text_word, walked_on}
+use Rattle.vt_laws_turn_walks.specs.Walkers.{Last, Pending, Walk, Walker, all_words, arrived, end_rules, ended, first_words, gone_on, has_no_word, last_of, last_step, one_word, opened, text_word}
 use Rattle.vt_laws_turn_walks.specs.Walkers.Last.{AsFile, AsName, AsOthers, NotFollowed}
 use Rattle.vt_laws_turn_walks.specs.Walkers.Walk.{Goes, Names, Reaches}
 use Rattle.vt_laws_turn_walks.proofs.by_words.Depths.{length-also_met}
@@ -107,7 +104,8 @@ module _ (looks : Looks ℕ) (task : Task ℕ) where
   named_steps count steps [] (Ok a) place same is = ap length (is a) ∙ same
   named_steps count steps [] (Err deny) place same is = same
   named_steps count steps ((true, rule) ∷ rules) found place same is = same
-  named_steps count steps ((false, rule) ∷ rules) found place same is = named_steps count steps rules found place same is
+  named_steps count steps ((false, rule) ∷ rules) found place same is =
+      named_steps count steps rules found place same is
 
   placed_steps : (here : Here ℕ) (word : LastWord) (slash : Bool) (count : ℕ) → length here.steps ≡ count
       → is_no_word word ≡ false → PlaceHasSteps (suc count) (placed nat_eq looks task here word slash)
@@ -221,7 +219,8 @@ module _ (looks : Looks ℕ) (task : Task ℕ) where
         steps = start.steps;
       }) count same
       by (word ∷ list) =
-          gone_on_steps (record { words = reverse list; slash = false } ∷ []) start (AsFile (last_word word) slash) count
+          gone_on_steps (record { words = reverse list; slash = false } ∷ []) start (AsFile
+          (last_word word) slash) count
           same few (word_is_one word)
 
   opened_steps : (here : Here ℕ) (place : Place ℕ) (slash : Bool) (count : ℕ) → length place.steps ≡ count

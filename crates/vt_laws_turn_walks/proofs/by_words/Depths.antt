@@ -1,10 +1,10 @@
 -- How deep symlinks may stand in one another's texts does not matter, where fewer are left to follow; and a walk has
 -- each step that it had.
-use Rattle.std.proofs.Common.{◌≡◌, refl, sym, ap, subst, ◌∙◌, cond, ℕ, zero, suc, pred, nat_eq, Bool, true, false, List, [], ◌∷◌, ◌+◌, ◌-◌, ◌≤◌, ◌||◌, length, reverse, Option, Some, None, Ok, Err, Result, arith}
+use Rattle.std.proofs.Common.{◌≡◌, refl, sym, ap, subst, ◌∙◌, cond, ℕ, zero, suc, pred, nat_eq, Bool, true, false, List, [], ◌∷◌, ◌-◌, ◌≤◌, length, reverse, Option, Some, None, Ok, Err, Result, arith}
 use Rattle.std.specs.Prelude.{nat_lt, ◌==◌}
 use Rattle.std.specs.List.{list_any}
 use Rattle.vt_spec.specs.declared.errors.Deny.{Deny}
-use Rattle.vt_spec.specs.declared.errors.Rule.TheVariants.{W2, W3, W7, W9}
+use Rattle.vt_spec.specs.declared.errors.Rule.TheVariants.{W2, W7, W9}
 use Rattle.vt_spec.specs.Errors.{Rules, and_then, unless}
 use Rattle.vt_spec.specs.FileTree.{symlink_text}
 use Rattle.vt_spec.specs.Language.Limits.{longest_name}

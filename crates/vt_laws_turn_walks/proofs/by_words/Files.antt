@@ -1,14 +1,13 @@
 -- The walk to a file: how deep symlinks may stand in one another's texts does not matter, and each step is kept.
-use Rattle.std.proofs.Common.{◌≡◌, refl, sym, ap, subst, ◌∙◌, cond, ℕ, zero, suc, pred, nat_eq, Bool, true, false, List, [], ◌∷◌, ◌++◌, ◌+◌, ◌-◌, ◌≤◌, ◌||◌, length, reverse, Option, Some, None, Ok, Err, Result, arith}
+use Rattle.std.proofs.Common.{◌≡◌, refl, sym, subst, ℕ, zero, suc, nat_eq, Bool, true, false, List, [], ◌∷◌, ◌-◌, ◌≤◌, ◌||◌, length, reverse, Option, Some, None, Ok, Err, Result, arith}
 use Rattle.std.specs.Prelude.{nat_lt, ◌==◌}
 use Rattle.std.specs.List.{list_any}
 use Rattle.vt_spec.specs.declared.errors.Deny.{Deny}
-use Rattle.vt_spec.specs.declared.errors.Rule.TheVariants.{W2, W3, W7, W9}
+use Rattle.vt_spec.specs.declared.errors.Rule.TheVariants.{W2, W7, W9}
 use Rattle.vt_spec.specs.Errors.{Rules, and_then, unless}
 use Rattle.vt_spec.specs.Language.Limits.{longest_name, most_symlinks}
 use Rattle.vt_spec.specs.Machine.Looks.{Looks, mount_at}
-use Rattle.vt_spec.specs.Machine.Mounts.{Location}
-use Rattle.vt_spec.specs.Machine.Walking.{Follow, Here, LastWord, Place, Stop, all_met, entered, entered_mounts, file_or_symlink, file_walked, filesystems_of, final_word, follow_rules, followed, object_named, placed, prefix_walked, search_rules, steps_at, stopped_by, symlink_of, symlink_start, symlink_there, symlink_walked, then_walk, walk_unless}
+use Rattle.vt_spec.specs.Machine.Walking.{Follow, Here, LastWord, Place, Stop, all_met, entered_mounts, file_or_symlink, file_walked, filesystems_of, final_word, follow_rules, followed, object_named, placed, prefix_walked, search_rules, steps_at, stopped_by, symlink_of, symlink_start, symlink_there, then_walk, walk_unless}
 use Rattle.vt_spec.specs.Machine.Walking.LastWord.{Dot, DotDot, Named, NoWord}
 use Rattle.vt_spec.specs.Machine.World.{Task}
 use Rattle.vt_spec.specs.PathText.{ends_in_slash, words}

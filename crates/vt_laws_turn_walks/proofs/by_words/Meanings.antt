@@ -1,5 +1,5 @@
 -- What is left of a walk after one word, as a whole, is what was left before it.
-use Rattle.std.proofs.Common.{◌≡◌, refl, sym, ap, subst, ◌∙◌, cond, ℕ, zero, suc, nat_eq, Bool, true, false, true≢false, not, List, [], ◌∷◌, ◌++◌, ◌+◌, ◌-◌, ◌≤◌, ◌||◌, length, reverse, Option, Some, None, Ok, Err, Result, arith}
+use Rattle.std.proofs.Common.{◌≡◌, refl, sym, ap, ◌∙◌, cond, ℕ, suc, nat_eq, Bool, true, false, true≢false, not, List, [], ◌∷◌, ◌++◌, ◌-◌, ◌≤◌, ◌||◌, length, reverse, Option, Some, None, Ok, Err, Result, arith}
 use Rattle.std.specs.Prelude.{nat_lt, ◌==◌}
 use Rattle.std.specs.List.{list_any}
 use Rattle.std.proofs.lemmas.List.{reverse-append, reverse-reverse}
@@ -8,10 +8,10 @@ use Rattle.vt_spec.specs.declared.errors.Rule.TheVariants.{W3}
 use Rattle.vt_spec.specs.Errors.{Rules, and_then, unless}
 use Rattle.vt_spec.specs.FileTree.{symlink_text}
 use Rattle.vt_spec.specs.Language.Limits.{longest_name, most_symlinks}
-use Rattle.vt_spec.specs.Lists.{is_empty_list, rest_of}
+use Rattle.vt_spec.specs.Lists.{rest_of}
 use Rattle.vt_spec.specs.Machine.Looks.{Looks, is_directory_at, mount_at}
 use Rattle.vt_spec.specs.Machine.Mounts.{Location}
-use Rattle.vt_spec.specs.Machine.Walking.{Follow, Here, LastWord, Place, Stop, entered, file_or_symlink, file_walked, final_word, follow_rules, followed, if_symlink, is_no_word, last_walked, last_word, placed, prefix_walked, slash_rules, start_of, stopped_by, symlink_of, symlink_start, symlink_there, symlink_walked, then_walk, walk_unless, word_walked, words_walked}
+use Rattle.vt_spec.specs.Machine.Walking.{Follow, Here, LastWord, Place, Stop, file_or_symlink, file_walked, follow_rules, followed, if_symlink, is_no_word, last_walked, last_word, placed, prefix_walked, slash_rules, start_of, stopped_by, symlink_of, symlink_start, symlink_there, symlink_walked, then_walk, walk_unless, word_walked, words_walked}
 use Rattle.vt_spec.specs.Machine.Walking.LastWord.{Dot, DotDot, Named, NoWord}
 use Rattle.vt_spec.specs.Machine.World.{Task}
 use Rattle.vt_spec.specs.PathText.{ends_in_slash, is_absolute, words}
@@ -19,7 +19,7 @@ use Rattle.vt_laws_worlds.proofs.worlds.Reached.{directory_no_link}
 use Rattle.vt_laws_turn_walks.specs.ByWords.{last_taken, names, reaches, rest_walked, texts_walked}
 use Rattle.vt_laws_turn_walks.specs.Walkers.{Last, Pending, Walk, Walker, all_words, arrived, end_rules, ended, first_words, gone_on, has_no_word, last_of, last_step, one_word, opened, text_word}
 use Rattle.vt_laws_turn_walks.specs.Walkers.Last.{AsFile, AsName, AsOthers, NotFollowed}
-use Rattle.vt_laws_turn_walks.specs.Walkers.Walk.{Goes, Names, Reaches}
+use Rattle.vt_laws_turn_walks.specs.Walkers.Walk.{Goes, Names}
 use Rattle.vt_laws_turn_walks.proofs.by_words.Depths.{followed_same, one_left, text_same, text_walked, texts_same, then_ok, then_same, then_then, then_within, word_within}
 use Rattle.vt_laws_turn_walks.proofs.by_words.Files.{file_from, files_same, follow_alike, from_same, prefix_within}
 
@@ -62,7 +62,13 @@ module _ (looks : Looks ℕ) (task : Task ℕ) where
       file_walked nat_eq most_symlinks looks task start text slash)))) (sym quiet)
     where
       place : Place ℕ
-      place = record { parent = here.location; last = NoWord; object = Some here.location; slash = false; steps = here.steps }
+      place = record {
+        parent = here.location;
+        last = NoWord;
+        object = Some here.location;
+        slash = false;
+        steps = here.steps;
+      }
   end_means here last quiet true e = absurd (true≢false (sym e))
 
   -- texts that are ended, and what is then left
@@ -97,7 +103,8 @@ module _ (looks : Looks ℕ) (task : Task ℕ) where
       then_walk (word_walked nat_eq looks task reached (last_word word)) (λ next.
       if_symlink next (symlink_text (looks.node next.location)) (f reached.location next))))
       (words_append f here last first)
-      ∙ then_then (words_walked nat_eq looks task f here first) (λ r. words_walked nat_eq looks task f r last) (λ reached.
+      ∙ then_then (words_walked nat_eq looks task f here first) (λ r. words_walked nat_eq looks task f r last)
+      (λ reached.
       then_walk (word_walked nat_eq looks task reached (last_word word)) (λ next.
       if_symlink next (symlink_text (looks.node next.location)) (f reached.location next)))
 
@@ -124,10 +131,12 @@ module _ (looks : Looks ℕ) (task : Task ℕ) where
   text_means text start few pending last =
       ap (λ r. then_walk r (λ there. taken there last))
       (sym (then_then (words_walked nat_eq looks task follow start (reverse (words text))) (λ reached.
-      walk_unless reached.steps (slash_rules nat_eq looks text reached.location) reached) (λ there. texts there pending)))
+      walk_unless reached.steps (slash_rules nat_eq looks text reached.location) reached)
+      (λ there. texts there pending)))
       ∙ then_then (text_walked looks task follow text start) (λ there. texts there pending) (λ there. taken there last)
       ∙ ap (λ r. then_walk r (λ there. left_from there pending last))
-      (sym (text_same looks task less most_symlinks (omega arith) (symlink_walked nat_eq most_symlinks looks task) follow
+      (sym (text_same looks task less most_symlinks (omega arith)
+      (symlink_walked nat_eq most_symlinks looks task) follow
       (texts_same looks task less less most_symlinks (omega arith) (omega arith)) text start 0 few (omega arith)).0)
 
   module _ (here : Here ℕ) (left : List (List ℕ)) (slash : Bool) (others : List Pending) (last : Last)
@@ -137,7 +146,8 @@ module _ (looks : Looks ℕ) (task : Task ℕ) where
 
     abbrev after : Here ℕ → Result (Walk ℕ) (Stop ℕ)
     after reached =
-        then_walk (then_walk (walk_unless reached.steps (end_rules nat_eq looks slash reached.location) reached) (λ there.
+        then_walk (then_walk (walk_unless reached.steps (end_rules nat_eq looks slash reached.location) reached)
+        (λ there.
         texts there others)) (λ there. taken there last)
 
     left_is : (there : Here ℕ)
@@ -189,7 +199,8 @@ module _ (looks : Looks ℕ) (task : Task ℕ) where
         ∙ then_within most_symlinks 0 (word_walked nat_eq looks task here (last_word word)) (λ next.
         then_walk (arrived nat_eq looks task here.location next pending last
         (symlink_text (looks.node next.location))) rest) (λ next.
-        then_walk (then_walk (if_symlink next (symlink_text (looks.node next.location)) (follow here.location next)) (λ r.
+        then_walk (then_walk (if_symlink next (symlink_text (looks.node next.location))
+        (follow here.location next)) (λ r.
         words_walked nat_eq looks task follow r (reverse left))) after)
         (word_within looks task most_symlinks 0 here (last_word word) few (omega arith))
         (λ next fewer long. arrived_means next fewer (symlink_text (looks.node next.location)))
@@ -214,7 +225,8 @@ module _ (looks : Looks ℕ) (task : Task ℕ) where
       ∙ by (reverse (words text)))
     where
       by : (list : List (List ℕ))
-          → words_walked nat_eq looks task follow start (rest_of list) ≡ prefix_walked nat_eq looks task follow start list
+          → words_walked nat_eq looks task follow start (rest_of list)
+          ≡ prefix_walked nat_eq looks task follow start list
       by [] = refl
       by (word ∷ prefix) = refl
 
@@ -357,7 +369,8 @@ module _ (looks : Looks ℕ) (task : Task ℕ) where
           text_word_means walker.here list slash others walker.last quiet few word
 
       by : (pending : List Pending) → (pending ≡ [] → has_no_word walker.last ≡ false)
-          → then_walk (one_word nat_eq looks task (record { here = walker.here; pending = pending; last = walker.last }))
+          → then_walk (one_word nat_eq looks task
+          (record { here = walker.here; pending = pending; last = walker.last }))
           rest ≡ left_from walker.here pending walker.last
       by [] none = last_word_means root walker.here walker.last few (none refl)
       by (text ∷ others) none = text_by text.words text.slash others

@@ -1,5 +1,5 @@
 -- Word by word each walk leads where it leads as a whole.
-use Rattle.std.proofs.Common.{◌≡◌, refl, sym, ap, subst, ◌∙◌, cond, ℕ, zero, suc, nat_eq, Bool, true, false, true≢false, not, List, [], ◌∷◌, ◌+◌, ◌≤◌, ◌||◌, length, reverse, Option, Some, None, Ok, Err, Result, arith}
+use Rattle.std.proofs.Common.{◌≡◌, refl, sym, ap, subst, ◌∙◌, cond, ℕ, zero, suc, nat_eq, Bool, true, false, true≢false, not, List, [], ◌∷◌, ◌+◌, ◌≤◌, length, reverse, Ok, Err, Result, arith}
 use Rattle.vt_spec.specs.Errors.{Rules, unless}
 use Rattle.vt_spec.specs.Language.Limits.{most_symlinks}
 use Rattle.vt_spec.specs.Machine.Looks.{Looks, is_directory_at}
@@ -212,7 +212,8 @@ module _ (looks : Looks ℕ) (task : Task ℕ) where
         ∙ sym (then_then (path_text path) (λ text. then_walk (words_walked nat_eq looks task (follow looks task)
         (walk_start task text) (reverse (words text))) slash_checked) (λ here. Ok (Reaches here)))
         ∙ ap (reaches nat_eq) (sym (then_then (path_text path) (λ text.
-        words_walked nat_eq looks task (follow looks task) (walk_start task text) (reverse (words text))) slash_checked))
+        words_walked nat_eq looks task (follow looks task) (walk_start task text) (reverse
+        (words text))) slash_checked))
 
     symlink_means : (slash : Bool)
         → then_walk (path_text path) (λ text.
