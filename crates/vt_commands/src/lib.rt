@@ -4,7 +4,6 @@
 
 mod command;
 mod cookbook;
-mod explaining;
 mod fault;
 mod order;
 mod rules;
