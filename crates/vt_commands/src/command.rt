@@ -2,6 +2,7 @@
 ghost use Rattle.std.specs.Prelude.{◌≡◌, IfErr, IfOk};
 ghost use Rattle.vt_commands.specs.Status.{IsOfWords};
 
+use crate::explaining::Options;
 use crate::fault::Fault;
 use clap::error::ErrorKind;
 use clap::{Arg, ArgAction, ArgMatches, Command, Error};
@@ -9,6 +10,7 @@ use std::alloc::{AllocError, Global};
 use std::rt::Env;
 use std::{env, io};
 use vt_check::check;
+use vt_explain::Format;
 use vt_script::{RunFault, Version};
 use vt_show::show;
 use vt_test::test;
@@ -32,6 +34,10 @@ const RULES_ABOUT: &str = "Tells of the rules that refuse calls";
 const SHOW_ABOUT: &str =
     "Shows tasks, mounts, peer groups and trees as they are at a line of a script";
 
+const EXPLAIN_ABOUT: &str = "Explains why a line of a script is answered as it is";
+
+const LINE_HELP: &str = "The number of the line, from 1";
+
 const NEW_ABOUT: &str = "Writes an example as a script that holds the answers that it wants";
 
 const NAME_HELP: &str =
@@ -44,6 +50,8 @@ const TASK_HELP: &str = "This task alone, with the mounts of its namespace";
 const TREES_HELP: &str = "The trees of the filesystems too";
 
 const NO_LINE: &str = "`--at` takes the number of a line, from 1";
+
+const NO_NUMBER: &str = "LINE is the number of a line, from 1";
 
 const WORD_HELP: &str = "A rule, the name of an error, or a call; all rules where it is left out";
 
@@ -189,6 +197,16 @@ fn show_line<'a>(alloc: Global) -> Result<Command<'a>, AllocError> {
         .arg(Arg::new(alloc, "FILE").required(true).help(FILE_HELP))
 }
 
+// `vtree explain [--script VERSION] [--format FORM] FILE LINE`
+fn explain_line<'a>(alloc: Global) -> Result<Command<'a>, AllocError> {
+    Command::new(alloc, "explain")
+        .about(EXPLAIN_ABOUT)
+        .arg(script_option(alloc))?
+        .arg(format_option(alloc, CHECK_FORMS.as_slice()))?
+        .arg(Arg::new(alloc, "FILE").required(true).help(FILE_HELP))?
+        .arg(Arg::new(alloc, "LINE").required(true).help(LINE_HELP))
+}
+
 // `vtree new [NAME]`
 fn new_line<'a>(alloc: Global) -> Result<Command<'a>, AllocError> {
     Command::new(alloc, "new")
@@ -220,6 +238,7 @@ fn command_line<'a>(alloc: Global) -> Result<Command<'a>, AllocError> {
         .subcommand(check_line(alloc)?)?
         .subcommand(test_line(alloc)?)?
         .subcommand(show_line(alloc)?)?
+        .subcommand(explain_line(alloc)?)?
         .subcommand(rules_line(alloc)?)?
         .subcommand(new_line(alloc)?)
 }
@@ -289,6 +308,10 @@ pub(crate) enum Asked<'a> {
         line: Option<u64>,
         options: show::Options<'a>,
     },
+    Explain {
+        file: &'a str,
+        options: Options,
+    },
     New {
         name: Option<&'a str>,
     },
@@ -347,20 +370,47 @@ fn test_asked<'a>(alloc: Global, given: &ArgMatches<'a>) -> Result<Asked<'a>, Al
     })
 }
 
+// The number of a line, or why the word is none.
+fn number_of(alloc: Global, word: &str, refused: &str) -> Result<u64, Fault>
+    ensures { IfErr result IsOfWords }
+{
+    match word.parse::<u64>() {
+        Ok(line) if line > 0 => Ok(line),
+        _ => {
+            let text = String::from_str(alloc, refused).map_err(out_of_memory)?;
+            Err(Fault::Words(text))
+        }
+    }
+}
+
 // The number of a line that is asked for, if there is one.
 fn line_asked(alloc: Global, given: &ArgMatches<'_>) -> Result<Option<u64>, Fault>
     ensures { IfErr result IsOfWords }
 {
-    let Some(word) = given.get_str("at") else {
-        return Ok(None);
-    };
-    match word.parse::<u64>() {
-        Ok(line) if line > 0 => Ok(Some(line)),
-        _ => {
-            let text = String::from_str(alloc, NO_LINE).map_err(out_of_memory)?;
-            Err(Fault::Words(text))
-        }
+    match given.get_str("at") {
+        Some(word) => Ok(Some(number_of(alloc, word, NO_LINE)?)),
+        None => Ok(None),
     }
+}
+
+// `vtree explain`
+fn explain_asked<'a>(alloc: Global, given: &ArgMatches<'a>) -> Result<Asked<'a>, Fault>
+    ensures { IfErr result IsOfWords }
+{
+    let format = match given.get_str("format") {
+        Some("json") => Format::Json,
+        _ => Format::Text,
+    };
+    let word = given.get_str("LINE").unwrap_or_default();
+    let options = Options {
+        version: version_asked(given),
+        line: number_of(alloc, word, NO_NUMBER)?,
+        format,
+    };
+    Ok(Asked::Explain {
+        file: given.get_str("FILE").unwrap_or_default(),
+        options,
+    })
 }
 
 // `vtree show`
@@ -421,6 +471,7 @@ fn asked_of<'a>(alloc: Global, matches: &ArgMatches<'a>) -> Result<Asked<'a>, Fa
             without_input(alloc, asked)
         }
         Some(("show", given)) => show_asked(alloc, given),
+        Some(("explain", given)) => explain_asked(alloc, given),
         Some(("new", given)) => Ok(Asked::New {
             name: given.get_str("NAME"),
         }),

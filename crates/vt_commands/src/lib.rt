@@ -4,6 +4,7 @@
 
 mod command;
 mod cookbook;
+mod explaining;
 mod fault;
 mod order;
 mod rules;

@@ -8,7 +8,7 @@ ghost use Rattle.vt_commands.specs.Status.{comes_before_output};
 
 use crate::command::{Asked, asked_by, out_of_memory};
 use crate::fault::Fault;
-use crate::{cookbook, rules, showing, tools};
+use crate::{cookbook, explaining, rules, showing, tools};
 use std::alloc::Global;
 use std::fs::File;
 use std::io::{self, BufWriter, Read, Write};
@@ -162,8 +162,8 @@ fn run_named<R: Files + Input + AllocGlobal, W: Write>(
 }
 
 /// Does what the words say: `run FILE` answers the script in that file, or on the standard input where FILE is `-`;
-/// `check FILE..` and `test FILE..` tell what they find in each file, `show FILE` shows a world, `rules` tells of rules,
-/// and `new NAME` writes an example.
+/// `check FILE..` and `test FILE..` tell what they find in each file, `show FILE` shows a world, `explain FILE LINE`
+/// explains a line, `rules` tells of rules, and `new NAME` writes an example.
 ///
 /// The words are read first, and then files are opened. What was answered is handed on to the output, also
 /// before a fault. What a file holds no clause can say: that FILE is what is read, tests show.
@@ -196,6 +196,7 @@ pub fn obey<R: Files + Input + Eprint + AllocGlobal, W: Write>(
             line,
             options,
         } => showing::show(rt, version, file, line, options, output),
+        Asked::Explain { file, options } => explaining::explain(rt, file, options, output),
         Asked::New { name } => cookbook::write(rt, name, output),
         Asked::Rules { word, page } => rules::tell(rt.alloc(), word, page, output),
     }

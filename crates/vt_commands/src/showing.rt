@@ -15,13 +15,13 @@ use vt_test::suite::{Script, scripts};
 
 const NO_TASK: &str = "there is no such task; without `--task` all are shown";
 
-// The script in which a line of the file is: the last one that begins before it.
-fn script_at<'a, 'b>(all: &'b [Script<'a>], line: u64) -> Option<&'b Script<'a>> {
+/// The script in which a line of the file is: the last one that begins before it.
+pub fn script_at<'a, 'b>(all: &'b [Script<'a>], line: u64) -> Option<&'b Script<'a>> {
     all.iter().rev().find(|script| script.before < line)
 }
 
-// Says on the error output what keeps a file from being shown.
-fn refuse<R: Eprint>(rt: &R, name: &str, why: &str) -> Fault
+/// Says on the error output what keeps a file from being shown.
+pub fn refuse<R: Eprint>(rt: &R, name: &str, why: &str) -> Fault
     ensures { comes_before_output result ≡ false }
 {
     let name = told(name);
@@ -29,8 +29,8 @@ fn refuse<R: Eprint>(rt: &R, name: &str, why: &str) -> Fault
     Fault::Found
 }
 
-// Says on the error output how many lines were refused.
-fn count_refused<R: Eprint>(rt: &R, name: &str, refused: u64) {
+/// Says on the error output how many lines were refused.
+pub fn count_refused<R: Eprint>(rt: &R, name: &str, refused: u64) {
     if refused > 0 {
         let name = told(name);
         let _ = eprintln!(rt;
@@ -68,6 +68,25 @@ fn show_script<R: Eprint + AllocGlobal, W: Write>(
     }
 }
 
+/// The scripts of a file.
+pub fn scripts_in<'a, R: Eprint + AllocGlobal>(
+    rt: &R,
+    version: Version,
+    name: &str,
+    content: &'a [u8],
+) -> Result<Vec<Script<'a>>, Fault>
+    ensures { IfErr result (λ fault. comes_before_output fault ≡ false) }
+{
+    let alloc = rt.alloc();
+    match scripts(version, alloc, content) {
+        Ok(all) => Ok(all),
+        Err(fault) => {
+            let why = format!(in alloc; "{fault}").map_err(out_of_memory)?;
+            Err(refuse(rt, name, why.as_str()))
+        }
+    }
+}
+
 /// Shows the world that a run of the script has after the lines before one, or after all.
 ///
 /// Of a file of several scripts it is the one that has the line, or the last one.
@@ -81,17 +100,10 @@ pub fn show<R: Files + Input + Eprint + AllocGlobal, W: Write>(
 ) -> Result<(), Fault>
     ensures { IfErr result (λ fault. comes_before_output fault ≡ false) }
 {
-    let alloc = rt.alloc();
     let Some(content) = readable(rt, name) else {
         return Err(Fault::Found);
     };
-    let all = match scripts(version, alloc, content.as_slice()) {
-        Ok(all) => all,
-        Err(fault) => {
-            let why = format!(in alloc; "{fault}").map_err(out_of_memory)?;
-            return Err(refuse(rt, name, why.as_str()));
-        }
-    };
+    let all = scripts_in(rt, version, name, content.as_slice())?;
     let line = line.unwrap_or(u64::MAX);
     match script_at(all.as_slice(), line) {
         Some(script) => {

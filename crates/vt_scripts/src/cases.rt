@@ -8,6 +8,7 @@ use std::fs;
 use std::rt::Files;
 use vt_calls::Kernel;
 use vt_check::check::{Options as CheckOptions, check as check_script};
+use vt_explain::{Format as ExplainFormat, Numbered, explain, line_at};
 use vt_lines::reached::reached_before;
 use vt_script::Version;
 use vt_show::show::{Options as ShowOptions, show as show_world};
@@ -18,6 +19,8 @@ pub enum Tool {
     Check(CheckOptions),
     /// The world after all lines of a script in this version of its language is shown.
     Show(Version, ShowOptions<'static>),
+    /// The last line of a script in this version of its language is explained.
+    Explain(Version, ExplainFormat),
 }
 
 impl Tool {
@@ -37,9 +40,32 @@ impl Tool {
                     bail!("there is no such task");
                 }
             }
+            Tool::Explain(version, format) => return explained(version, alloc, script, format),
         }
         Ok(text)
     }
+}
+
+// The text that explains the last line of a script.
+fn explained(
+    version: Version,
+    alloc: Global,
+    script: &[u8],
+    format: ExplainFormat,
+) -> Result<Vec<u8>> {
+    let mut number: u64 = 0;
+    for byte in script {
+        if *byte == b'\n' {
+            number = number.saturating_add(1);
+        }
+    }
+    let line = line_at(alloc, script, number)?.unwrap_or_default();
+    let mut reached = reached_before::<Kernel>(version, alloc, script, number)?;
+    let numbered = Numbered { number, text: line };
+    let outcome = explain(version, alloc, &mut reached.world, numbered, format);
+    // By a call: the proof of a function that drops a world itself takes minutes.
+    drop(reached);
+    Ok(outcome?.into_bytes())
 }
 
 // A script, and the text that is wanted.

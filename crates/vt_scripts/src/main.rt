@@ -2,7 +2,7 @@
 //!
 //! It runs in that folder, writes the name of each file whose answers are right, and ends with
 //! status 1 at the first other answer. Of the files of `tests`, which have other answers, what is written of them is
-//! compared; and of those of `tools`, what `vt_check` and `vt_show` write.
+//! compared; and of those of `tools`, what `vt_check`, `vt_show` and `vt_explain` write.
 //!
 //! The scripts of `suites` and `examples`, and those by which rules are shown, are run in both versions of the language,
 //! and have the same answers in both. Those of `version-1` and `version-2`, and of `examples/version-2`, are run in that

@@ -1,10 +1,12 @@
-//! The texts that tools write of scripts: what `vtree check` says of them, and the worlds to which they lead.
+//! The texts that tools write of scripts: what `vtree check` says of them, the worlds to which they lead, and what is
+//! told of their last lines.
 
 use crate::cases::{Tool, check as check_cases};
 use crate::files;
 use anyhow::Result;
 use std::rt::Runtime;
 use vt_check::check;
+use vt_explain::Format;
 use vt_script::Version;
 use vt_show::show;
 
@@ -78,6 +80,12 @@ pub fn check_all<R: Runtime + AllocGlobal>(rt: &R) -> Result<()> {
         (
             "tools/show-task",
             shown(Version::One, show::Format::Text, true, Some("t.1")),
+        ),
+        ("tools/explain", Tool::Explain(Version::One, Format::Text)),
+        ("tools/explain-2", Tool::Explain(Version::Two, Format::Text)),
+        (
+            "tools/explain-json",
+            Tool::Explain(Version::One, Format::Json),
         ),
     ];
     for (folder, tool) in tools {

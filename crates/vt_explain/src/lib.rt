@@ -1,0 +1,19 @@
+//! A line of a script explained: who calls, where its paths lead, which rule answers, who holds a busy mount, and which
+//! mounts come, go and change.
+#![tactic(auto)]
+
+mod asked;
+mod changes;
+mod explaining;
+mod holders;
+mod known;
+mod lines;
+mod names;
+mod receiving;
+mod report;
+mod rights;
+mod walked;
+
+pub use explaining::{Numbered, explain};
+pub use lines::{is_spoken, line_at, nearest_call};
+pub use report::Format;

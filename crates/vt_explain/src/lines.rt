@@ -1,0 +1,44 @@
+//! The line that is asked for, and calls near it.
+use std::alloc::{AllocError, Global};
+use vt_line::line::Line;
+use vt_lines::lines::{first_line, lines_before};
+use vt_script::Version;
+
+/// The line of this number, from 1, without its newline.
+pub fn line_at(alloc: Global, text: &[u8], number: u64) -> Result<Option<&[u8]>, AllocError> {
+    let before = lines_before(alloc, text, number)?;
+    let rest = text.get(before.len()..).unwrap_or_default();
+    match first_line(rest) {
+        Some((line, _rest)) => Ok(Some(line)),
+        None => Ok(None),
+    }
+}
+
+/// Whether a line has an answer.
+pub fn is_spoken(version: Version, alloc: Global, line: &[u8]) -> bool {
+    !matches!(Line::parse_as(version, alloc, line), Ok(Line::Silent))
+}
+
+/// The number of the line with an answer that is nearest to this one; of two that are as near, the earlier.
+pub fn nearest_call(version: Version, alloc: Global, text: &[u8], number: u64) -> Option<u64> {
+    let mut nearest: Option<u64> = None;
+    let mut rest = text;
+    for here in 1..u64::MAX {
+        let Some((line, after)) = first_line(rest) else {
+            return nearest;
+        };
+        if is_spoken(version, alloc, line) && is_nearer(here, nearest, number) {
+            nearest = Some(here);
+        }
+        rest = after;
+    }
+    nearest
+}
+
+// Whether a line is nearer to this number than another one.
+fn is_nearer(here: u64, other: Option<u64>, number: u64) -> bool {
+    match other {
+        Some(other) => here.abs_diff(number) < other.abs_diff(number),
+        None => true,
+    }
+}
