@@ -1,21 +1,22 @@
 -- Calls of tasks of a sealed set, in the world and in the part of the set (profile).
-use Rattle.std.specs.Prelude.{List, Ok, Option, Result, Some, [], false, filter, is_ok, not, true, ℕ, nat_eq, ◌≡◌, ◌∷◌}
+use Rattle.std.specs.Prelude.{Bool, List, Ok, Option, Result, Some, [], false, filter, is_ok, not, true, ℕ, nat_eq, ◌≡◌, ◌∷◌}
 use Rattle.vt_spec.specs.declared.errors.Deny.{Deny}
 use Rattle.vt_spec.specs.Language.Answers.{Answer}
 use Rattle.vt_spec.specs.Language.Answers.Answer.{Child, Done}
 use Rattle.vt_spec.specs.Language.Calls.{Access, Call, CapabilityWord, Creation, ForkWords, TaskName, same_name}
-use Rattle.vt_spec.specs.Language.Calls.Call.{Drop, Exit, Fork, OpenFile, Pwrite, Rename, Setns, Umask}
+use Rattle.vt_spec.specs.Language.Calls.Call.{Chmod, Chown, Drop, Exit, Fork, Opaque, OpenFile, Pwrite, Rename, Setns, Umask, Write}
+use Rattle.vt_spec.specs.Language.Changes.{Change}
 use Rattle.vt_spec.specs.Lists.{Fresh, is_among}
 use Rattle.vt_spec.specs.Machine.Descriptors.{is_copied_up}
 use Rattle.vt_spec.specs.Machine.Invariants.{IsWorld}
 use Rattle.vt_spec.specs.Machine.Judge.{judge_in}
 use Rattle.vt_spec.specs.Machine.Mounts.{Location}
-use Rattle.vt_spec.specs.Machine.Permits.Permit.{Allowed, ToFork, ToOpen, ToWritePart}
+use Rattle.vt_spec.specs.Machine.Permits.Permit.{Allowed, ToChange, ToFork, ToOpen, ToWritePart}
 use Rattle.vt_spec.specs.Machine.Outcomes.{Outcome}
 use Rattle.vt_spec.specs.Machine.Policy.{only_looks, policy}
 use Rattle.vt_spec.specs.Machine.Sealed.{part_of, sealed}
 use Rattle.vt_spec.specs.Rights.{Credentials}
-use Rattle.vt_spec.specs.Machine.World.{Task, World, task_called}
+use Rattle.vt_spec.specs.Machine.World.{Task, World, filesystem_at, is_overlay, task_called}
 
 -- a call in the name of a task of a sealed set, which enters no namespace but one of theirs
 pub record IsCallOfTheirs (world : World ℕ) (names : List TaskName) (name : TaskName) (call : Call) : Type 0 where
@@ -108,3 +109,45 @@ ForksEndAlike =
     → (fresh other : Fresh ℕ) (credentials : Credentials)
     → judge_in nat_eq fresh world task (Fork words) ≡ Ok (ToFork credentials)
     → EndsAlike world names name (Fork words) fresh other
+
+-- a granted call that changes a plain filesystem at a location ends alike
+abbrev pub PlainChangeEndsAlike : World ℕ → List TaskName → TaskName → Call → Type 0
+PlainChangeEndsAlike world names name call =
+    IsCallOfTheirs world names name call → (task : Task ℕ) → task_called world name ≡ Some task
+    → (fresh other : Fresh ℕ) (location : Location ℕ) (change : Change ℕ)
+    → judge_in nat_eq fresh world task call ≡ Ok (ToChange location change)
+    → is_overlay (filesystem_at nat_eq world location) ≡ false → EndsAlike world names name call fresh other
+
+-- On a plain filesystem a write to a file that is there does,
+abbrev pub WritesEndAlike : Type 0
+WritesEndAlike =
+    (world : World ℕ) (names : List TaskName) (name : TaskName) (path bytes : List ℕ)
+    → PlainChangeEndsAlike world names name (Write path bytes)
+
+-- and so do chmod(2),
+abbrev pub ChmodsEndAlike : Type 0
+ChmodsEndAlike =
+    (world : World ℕ) (names : List TaskName) (name : TaskName) (path : List ℕ) (mode : ℕ)
+    → PlainChangeEndsAlike world names name (Chmod path mode)
+
+-- chown(2),
+abbrev pub ChownsEndAlike : Type 0
+ChownsEndAlike =
+    (world : World ℕ) (names : List TaskName) (name : TaskName) (path : List ℕ) (uid gid : Option ℕ)
+    → PlainChangeEndsAlike world names name (Chown path uid gid)
+
+-- setxattr(2) of the opaque mark,
+abbrev pub OpaquesEndAlike : Type 0
+OpaquesEndAlike =
+    (world : World ℕ) (names : List TaskName) (name : TaskName) (path : List ℕ) (mark : Bool)
+    → PlainChangeEndsAlike world names name (Opaque path mark)
+
+-- and a write of bytes at an offset of an open file.
+abbrev pub PartWritesEndAlike : Type 0
+PartWritesEndAlike =
+    (world : World ℕ) (names : List TaskName) (name : TaskName) (descriptor offset byte : ℕ) (bytes : List ℕ)
+    → IsCallOfTheirs world names name (Pwrite descriptor offset (byte ∷ bytes)) → (task : Task ℕ)
+    → task_called world name ≡ Some task → (fresh other : Fresh ℕ) (file : Location ℕ) (at : ℕ) (written : List ℕ)
+    → judge_in nat_eq fresh world task (Pwrite descriptor offset (byte ∷ bytes)) ≡ Ok (ToWritePart file at written)
+    → is_overlay (filesystem_at nat_eq world file) ≡ false
+    → EndsAlike world names name (Pwrite descriptor offset (byte ∷ bytes)) fresh other

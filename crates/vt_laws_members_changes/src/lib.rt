@@ -3,6 +3,7 @@
 //! Each public function is a theorem of the written policy, and does nothing.
 #![tactic(auto)]
 
+pub mod files;
 pub mod looks;
 pub mod part;
 pub mod tasks;

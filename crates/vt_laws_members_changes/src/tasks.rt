@@ -9,8 +9,8 @@ ghost use Rattle.vt_laws_members_changes.specs.Changes.{DropsEndAlike, EmptyWrit
 /// So it is of calls that are granted and change nothing: a rename of two names of one object (`rename_of_one`), and a
 /// `pwrite` of no bytes (`empty_write`).
 ///
-/// Not proved yet of calls that let something go (`chdir`, `chroot`, `close`, `exit`), of those that make or
-/// change files, and of those that change mounts or namespaces.
+/// Not proved yet of calls that let something go (`chdir`, `chroot`, `close`, `exit`), and of those that change mounts
+/// or namespaces. Of calls that edit files see `calls_of_theirs_that_edit_files_end_alike`.
 pub fn calls_of_theirs_that_let_nothing_go_end_alike()
     ensures umask { UmasksEndAlike }
     ensures drop { DropsEndAlike }

@@ -1,0 +1,7 @@
+-- What the proofs of src/files.rt use.
+pub mod Edits
+pub mod FilesChanged
+pub mod FilesEnding
+pub mod FilesInUse
+pub mod FilesRaised
+pub mod PartWritten

@@ -1,0 +1,127 @@
+-- The part of a world in which a filesystem of theirs has another tree is the part with that tree.
+use Rattle.std.proofs.Common.{◌≡◌, refl, sym, ap, ◌∙◌, inl, inr, ℕ, nat_eq, eqb-true, Bool, true, false, cond, List, [], ◌∷◌, ◌++◌, Option, Some, None, find, filter, flat_map, map, ◌&&◌}
+use Rattle.std.specs.Prelude.{option_map, unwrap_or}
+use Rattle.std.specs.List.{cons_option, filter_map, list_any}
+use Rattle.vt_spec.specs.FileTree.{is_under}
+use Rattle.vt_spec.specs.Language.Calls.{TaskName}
+use Rattle.vt_spec.specs.Lists.{each_once, is_among, when}
+use Rattle.vt_spec.specs.Machine.Locked.{of_overlay}
+use Rattle.vt_spec.specs.Machine.Sealed.{change_layers, own_lowers, part_of, part_of_filesystem, part_of_lower, used_directly, used_filesystems}
+use Rattle.vt_spec.specs.Machine.Settled.{only_among}
+use Rattle.vt_spec.specs.Machine.World.{Filesystem, Layer, Overlay, World, filesystem_numbered, no_filesystem}
+use Rattle.vt_spec.proofs.Lists.{Among}
+use Rattle.vt_laws_letting_go.specs.TreesOverlays.{with_filesystems}
+
+-- what is kept and then changed is changed and then kept
+filter_map_changed : {A : Type 0} (f g : A → Option A) (h : A → A) (xs : List A)
+    → ((x : A) → f (h x) ≡ option_map h (g x)) → filter_map f (map h xs) ≡ map h (filter_map g xs)
+filter_map_changed f g h [] same = refl
+filter_map_changed {A} f g h (x ∷ xs) same =
+    ap (λ o. cons_option o (filter_map f (map h xs))) (same x)
+    ∙ by (g x) (filter_map_changed f g h xs same)
+  where
+    by : (o : Option A) → filter_map f (map h xs) ≡ map h (filter_map g xs)
+        → cons_option (option_map h o) (filter_map f (map h xs)) ≡ map h (cons_option o (filter_map g xs))
+    by None later = later
+    by (Some y) later = ap (λ l. h y ∷ l) later
+
+-- The filesystems that they use keep their numbers and layers, and no other changes.
+module _ (world : World ℕ) (names : List TaskName) (h : Filesystem ℕ → Filesystem ℕ)
+    (numbered : (x : Filesystem ℕ) → (h x).number ≡ x.number)
+    (overlaid : (x : Filesystem ℕ) → Among x world.filesystems → (h x).overlay ≡ x.overlay)
+    (kept : (x : Filesystem ℕ) → is_among nat_eq x.number (used_filesystems nat_eq world names) ≡ false → h x ≡ x) where
+  abbrev later : World ℕ
+  later = with_filesystems world h
+
+  abbrev used : List ℕ
+  used = used_filesystems nat_eq world names
+
+  -- what is found by a number, with what depends on it
+  found : {A : Type 0} (what : Filesystem ℕ → A) (k : ℕ)
+      → ((x : Filesystem ℕ) → Among x world.filesystems → nat_eq k x.number ≡ true → what (h x) ≡ what x)
+      → what (filesystem_numbered nat_eq later k) ≡ what (filesystem_numbered nat_eq world k)
+  found {A} what k same = search world.filesystems (λ x m. m)
+    where
+      search : (list : List (Filesystem ℕ)) → ((x : Filesystem ℕ) → Among x list → Among x world.filesystems)
+          → what (unwrap_or (find (λ (f : Filesystem ℕ). nat_eq k f.number) (map h list)) (no_filesystem k))
+          ≡ what (unwrap_or (find (λ (f : Filesystem ℕ). nat_eq k f.number) list) (no_filesystem k))
+      search [] all = refl
+      search (x ∷ rest) all =
+          ap (λ n. what (unwrap_or (cond (nat_eq k n) (Some (h x))
+          (find (λ (f : Filesystem ℕ). nat_eq k f.number) (map h rest))) (no_filesystem k))) (numbered x)
+          ∙ by (nat_eq k x.number) refl (search rest (λ y m. all y (inr m)))
+        where
+          by : (b : Bool) → nat_eq k x.number ≡ b
+              → what (unwrap_or (find (λ (f : Filesystem ℕ). nat_eq k f.number) (map h rest)) (no_filesystem k))
+              ≡ what (unwrap_or (find (λ (f : Filesystem ℕ). nat_eq k f.number) rest) (no_filesystem k))
+              → what (unwrap_or (cond b (Some (h x)) (find (λ (f : Filesystem ℕ). nat_eq k f.number) (map h rest)))
+              (no_filesystem k))
+              ≡ what (unwrap_or (cond b (Some x) (find (λ (f : Filesystem ℕ). nat_eq k f.number) rest)) (no_filesystem k))
+          by true e rest_same = same x (all x (inl refl)) e
+          by false e rest_same = rest_same
+
+  overlay_found : (k : ℕ) → (filesystem_numbered nat_eq later k).overlay ≡ (filesystem_numbered nat_eq world k).overlay
+  overlay_found k = found (λ (f : Filesystem ℕ). f.overlay) k (λ x m e. overlaid x m)
+
+  unused_found : (k : ℕ) → is_among nat_eq k used ≡ false → filesystem_numbered nat_eq later k ≡ filesystem_numbered nat_eq world k
+  unused_found k e =
+      found (λ (f : Filesystem ℕ). f) k (λ x there m. kept x (ap (λ n. is_among nat_eq n used) (sym (eqb-true k x.number m)) ∙ e))
+
+  used_later : used_filesystems nat_eq later names ≡ used
+  used_later i =
+      each_once nat_eq (used_directly nat_eq world names
+      ++ flat_map (λ k. change_layers (record (filesystem_numbered nat_eq world k) { overlay = overlay_found k i }))
+      (used_directly nat_eq world names))
+
+  lowers_later : own_lowers nat_eq later names ≡ own_lowers nat_eq world names
+  lowers_later i =
+      flat_map (λ k. of_overlay [] (λ (overlay : Overlay ℕ). overlay.lowers)
+      (record (filesystem_numbered nat_eq world k) { overlay = overlay_found k i })) (used_directly nat_eq world names)
+
+  abbrev has_lower : ℕ → Bool
+  has_lower number = list_any (λ (layer : Layer ℕ). nat_eq number layer.filesystem) (own_lowers nat_eq world names)
+
+  lower_later : (x : Filesystem ℕ) → is_among nat_eq x.number used ≡ false
+      → part_of_lower nat_eq later names x ≡ part_of_lower nat_eq world names x
+  lower_later x e i =
+      record x {
+        files = only_among nat_eq (filter (λ object. list_any (λ (layer : Layer ℕ).
+            of_number (unused_found x.number e i) object layer) (lowers_later i)) x.files.numbers) x.files;
+        change = 0;
+      }
+    where
+      of_number : Filesystem ℕ → ℕ → Layer ℕ → Bool
+      of_number f object layer =
+          nat_eq x.number layer.filesystem && is_under nat_eq f.files layer.directory object
+
+  shown_later : (x : Filesystem ℕ)
+      → part_of_filesystem nat_eq later names (h x) ≡ option_map h (part_of_filesystem nat_eq world names x)
+  shown_later x =
+      ap (λ u. cond (is_among nat_eq (h x).number u) (Some (h x))
+      (when (list_any (λ (layer : Layer ℕ). nat_eq (h x).number layer.filesystem) (own_lowers nat_eq later names))
+      (part_of_lower nat_eq later names (h x)))) used_later
+      ∙ ap (λ l. cond (is_among nat_eq (h x).number used) (Some (h x))
+      (when (list_any (λ (layer : Layer ℕ). nat_eq (h x).number layer.filesystem) l)
+      (part_of_lower nat_eq later names (h x)))) lowers_later
+      ∙ ap (λ n. cond (is_among nat_eq n used) (Some (h x)) (when (has_lower n) (part_of_lower nat_eq later names (h x))))
+      (numbered x)
+      ∙ by (is_among nat_eq x.number used) refl
+    where
+      low : is_among nat_eq x.number used ≡ false → (c : Bool)
+          → when c (part_of_lower nat_eq later names (h x)) ≡ option_map h (when c (part_of_lower nat_eq world names x))
+      low e true =
+          ap Some (ap (part_of_lower nat_eq later names) (kept x e) ∙ lower_later x e
+          ∙ sym (kept (part_of_lower nat_eq world names x) e))
+      low e false = refl
+
+      by : (b : Bool) → is_among nat_eq x.number used ≡ b
+          → cond b (Some (h x)) (when (has_lower x.number) (part_of_lower nat_eq later names (h x)))
+          ≡ option_map h (cond b (Some x) (when (has_lower x.number) (part_of_lower nat_eq world names x)))
+      by true e = refl
+      by false e = low e (has_lower x.number)
+
+  pub part_with_files : part_of nat_eq later names ≡ with_filesystems (part_of nat_eq world names) h
+  part_with_files i = record (part_of nat_eq world names) {
+    filesystems = filter_map_changed (part_of_filesystem nat_eq later names) (part_of_filesystem nat_eq world names) h
+        world.filesystems shown_later i;
+  }
