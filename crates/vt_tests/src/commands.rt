@@ -237,30 +237,3 @@ fn test_writes_the_given_answers_into_a_file(rt: HostRuntime) -> Result<(), Fail
     assert!(rt; written.as_bytes() == b"# one\nt ls / => ok\n".as_slice());
     Ok(())
 }
-
-// Lines of a file, the status of what explains each, and what is written of it first.
-const EXPLAINED: [(&str, u8, &[u8]); 4] = [
-    ("2", 0, b"LINE 2: t mkdir /d\n  answer       ok\n"),
-    ("1", 1, b""),
-    (
-        "3",
-        0,
-        b"LINE 3: t mkdir /d\n  answer       deny 17 EEXIST E1\n",
-    ),
-    ("4", 1, b""),
-];
-
-#[test]
-fn explain_tells_of_a_line_of_a_file(rt: HostRuntime) -> Result<(), Fail> {
-    let folder = env::temp_dir(&rt)?;
-    let file = format!(in rt.alloc(); "{}/vtree-test-of-explain.vt", folder.as_str())?;
-    fs::write(&rt, file.as_str(), "# one\nt mkdir /d\nt mkdir /d\n")?;
-    for (line, code, text) in EXPLAINED {
-        let (given, output) = ended(&rt, &["vtree", "explain", file.as_str(), line])?;
-        assert_eq!(rt; given, code);
-        assert!(rt; output.as_slice().starts_with(text));
-        assert_eq!(rt; output.is_empty(), text.is_empty());
-    }
-    fs::remove_file(&rt, file.as_str())?;
-    Ok(())
-}
