@@ -8,7 +8,7 @@ ghost use Rattle.vt_laws_members_changes.specs.Changes.{DenialsEndAlike, LooksEn
 /// The list of mounts of their namespace has the same lines, with the same numbers of filesystems and groups.
 ///
 /// **Any call of theirs that is refused** in the world is refused in the part by the same rule, and leaves both as they
-/// were (`refused`).
+/// were (`refused`). A `setns` of theirs names a task of the set.
 pub fn calls_of_theirs_that_change_nothing_end_alike()
     ensures looks { LooksEndAlike }
     ensures refused { DenialsEndAlike }
