@@ -135,6 +135,7 @@ module _ (world after : World ℕ) (inode : Inode) (in_use : InodesInUse world) 
 
   -- Of a plain tree, beside overlays
   module _ (plain : is_overlay (filesystem_numbered nat_eq after inode.0) ≡ false) where
+
   -- Of an overlay
   module _ (merged : is_overlay (filesystem_numbered nat_eq after inode.0) ≡ true) where
     unused : nat_lt 1 (inode_uses world (filesystem_numbered nat_eq world inode.0) inode.1) ≡ false

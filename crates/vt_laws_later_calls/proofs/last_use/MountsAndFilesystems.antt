@@ -63,6 +63,7 @@ mount_goes_with_its_last_use world tasks front back location in_use one before l
 module _ (world after : World ℕ) (front back : List (Mount ℕ)) (mount : Mount ℕ)
     (before : world.mounts ≡ front ++ (mount ∷ back)) (left : after.mounts ≡ front ++ back) where
   module _ (plain : IsPlain world) (same : after.filesystems ≡ world.filesystems) where
+
 pub filesystem_goes_with_its_last_use : FilesystemGoesWithItsLastUse
 filesystem_goes_with_its_last_use world after front back mount in_use plain same before left =
     filesystem_left world after front back mount before left plain same in_use.filesystems

@@ -21,10 +21,12 @@ module _ (world after : World ℕ) (front back : List (Mount ℕ)) (mount : Moun
     (before : world.mounts ≡ front ++ (mount ∷ back)) (left : after.mounts ≡ front ++ back) where
   -- Where it was a plain one, overlays are mounted as before
   module _ (plain : is_overlay (filesystem_numbered nat_eq world mount.filesystem) ≡ false) where
+
   -- Where it was an overlay, filesystems of its layers may go
   module _ (overlay : Overlay ℕ)
       (is : (filesystem_numbered nat_eq world mount.filesystem).overlay ≡ Some overlay)
       (no_layers : list_any (has_layer_on nat_eq mount.filesystem) world.filesystems ≡ false) where
+
 pub filesystem_beside_overlays_goes_with_its_last_use : FilesystemBesideOverlaysGoesWithItsLastUse
 filesystem_beside_overlays_goes_with_its_last_use world after front back mount in_use one plain same before left =
     plain_left world after front back mount in_use.filesystems one same before left plain

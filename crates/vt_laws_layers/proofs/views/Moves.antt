@@ -89,6 +89,7 @@ module _ (before after : Tree ℕ) (from : ℕ) (old : List ℕ) (to : ℕ) (new
       (not_under : (names : List (List ℕ)) → led before object names ≢ Some to)
       (not_up : (names : List (List ℕ)) → led before object names ≢ Some from)
       (replaced : (k : ℕ) → entry_at before to new ≡ Some k → entries_in (before.node k) ≡ []) where
+
 -- The moved tree
 
 module _ (files : FileTree ℕ) (from : ℕ) (old : List ℕ) (to : ℕ) (new : List ℕ) (object : ℕ)

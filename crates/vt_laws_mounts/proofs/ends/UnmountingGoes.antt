@@ -41,6 +41,7 @@ module _ (world : World ℕ) where
   receivers_of_shared parent group e = ap (λ kind. unwrap_or (option_map (receivers nat_eq world) (group_of kind)) []) e
 
 module _ (world : World ℕ) (live : GroupsLive world) (mount : Mount ℕ) where
+
 pub what_goes_is_named : WhatGoesIsNamed
 what_goes_is_named world one number live = (
   is_named world live (mount_numbered nat_eq world one) number,

@@ -134,7 +134,8 @@ module _ (one other : Merge ℕ) (same : MergesAlike one other) (object copy : �
     files = same.files;
     real = λ i. with_real nat_eq (same.real i) object (Upper copy);
     upper =
-        subst (λ name. SameFiles (with_copy one node (a_name nat_eq one.files object)) (with_copy other node name)) named
+        subst (λ name. SameFiles (with_copy one node (a_name nat_eq one.files object)) (with_copy other node name))
+        named
         (copied_alike node (a_name nat_eq one.files object));
   }
 

@@ -10,6 +10,7 @@ use Rattle.vt_laws_overlays.proofs.whole.UpperWhole.{files_changed}
 
 -- each part of a change
 module _ (fresh : Fresh ℕ) (stack : Stack ℕ) (merge : Merge ℕ) (h : is_fit_tree merge.upper ≡ true) where
+
 -- A whole change
 module _ (fresh : Fresh ℕ) (stack : Stack ℕ) (merge : Merge ℕ) (whole : IsWhole stack merge) (new : AreNew fresh merge)
     (f : is_fit_tree merge.files ≡ true) (h : is_fit_tree merge.upper ≡ true) where
