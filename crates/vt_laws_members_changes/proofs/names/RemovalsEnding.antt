@@ -31,7 +31,6 @@ use Rattle.vt_spec.proofs.Lists.{Among}
 use Rattle.vt_laws_rules.specs.Granted.{IsGranted}
 use Rattle.vt_laws_rules.specs.Granted.IsGranted.{removes_directory, renames}
 use Rattle.vt_laws_rules.proofs.given.Inversion.{calls_are_granted}
-use Rattle.vt_laws_trees.proofs.trees.TreesWalked.{not_true}
 use Rattle.vt_laws_overlay_permits.specs.Asked.{change_asked}
 use Rattle.vt_laws_members.specs.Judging.{is_theirs}
 use Rattle.vt_laws_members.proofs.judging.AllJudged.{judges}
@@ -88,9 +87,9 @@ module _ (world : World ℕ) (names : List TaskName) (is : IsWorld nat_eq world)
         object_on place (subst (λ r. IfOk r IsPlaced) walk
             (old_agrees one other_looks task On judged_alike.walks judged_alike.directory judged_alike.rules.removed path).1),
         (or_parts (is_locked_at nat_eq world (object_there place)) (is_locked_at nat_eq world place.parent)
-            (not_true _ passed.1.1.1.1.0)).0,
+            passed.1.1.1.1.0).0,
       )
-  removed_free asked permit granted parent entry directory e = absurd cc
+  removed_free asked permit other_way parent entry directory e = absurd cc
 
   replaced_free : (asked : Call) (permit : Permit ℕ)
       → IsGranted nat_eq one (overfills nat_eq fresh world task) task asked permit
@@ -106,9 +105,9 @@ module _ (world : World ℕ) (names : List TaskName) (is : IsWorld nat_eq world)
             (or_parts (is_locked_at nat_eq world (object_there from_place)) _
             (or_parts (is_locked_at nat_eq world to_place.parent) _
             (or_parts (is_locked_at nat_eq world from_place.parent) _
-            (not_true _ passed.1.1.1.1.1.1.0)).1).1).1)).0,
+            passed.1.1.1.1.1.1.0).1).1).1)).0,
       )
-  replaced_free asked permit granted from old to new object replaced e = absurd cc
+  replaced_free asked permit other_way from old to new object replaced e = absurd cc
 
 -- The change is made after the mounts on what goes are taken away, and there are none.
 module _ (world : World ℕ) (names : List TaskName) (name : TaskName) (call : Call) (it : IsCallOfTheirs world names name call)
