@@ -5,5 +5,6 @@
 
 pub mod files;
 pub mod looks;
+pub mod names;
 pub mod part;
 pub mod tasks;
