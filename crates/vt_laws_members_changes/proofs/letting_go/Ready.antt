@@ -1,19 +1,19 @@
 -- Worlds of which a set of tasks sees the sweep by its part alone.
-use Rattle.std.proofs.Common.{◌≡◌, refl, sym, ap, subst, ◌∙◌, ◌⊎◌, inl, inr, ⊎_elim, ℕ, nat_eq, Bool, true, false, List, [], ◌++◌, Option, Some, None, is_some, map, ◌||◌, eq-eqb, eqb-true}
-use Rattle.std.specs.List.{list_any}
-use Rattle.std.proofs.lemmas.Bool.{or_left}
+use Rattle.std.proofs.Common.{◌≡◌, refl, sym, ap, subst, ◌∙◌, ◌⊎◌, ⊎_elim, ℕ, nat_eq, true, false, List, [], ◌∷◌, Option, Some, None, is_some, map, ◌||◌, eq-eqb, eqb-true}
+use Rattle.std.specs.List.{cons_option, filter_map, list_any}
+use Rattle.std.proofs.lemmas.Bool.{or_from, or_left, or_parts}
 use Rattle.vt_spec.specs.FileTree.{FileTree}
 use Rattle.vt_spec.specs.Language.Calls.{TaskName}
 use Rattle.vt_spec.specs.Lists.{any_pair, is_among}
 use Rattle.vt_spec.specs.Machine.Locked.{of_overlay, overlay_or}
 use Rattle.vt_spec.specs.Machine.Mounts.{Location, Mount}
-use Rattle.vt_spec.specs.Machine.Sealed.{is_at, is_own_mount, locations, members, own_lowers, own_mounts, roots_and_directories, used_directly, used_filesystems}
+use Rattle.vt_spec.specs.Machine.Sealed.{is_at, is_own_mount, locations, members, own_lowers, own_mounts, part_of, roots_and_directories, used_directly, used_filesystems}
 use Rattle.vt_spec.specs.Machine.Settled.{has_layer_on, is_located, is_mounted, mount_lives, named_in, only_among}
 use Rattle.vt_spec.specs.Machine.World.{Filesystem, Layer, Overlay, Task, World, all_locations, is_overlay, layers_of, mount_at, mount_numbered}
-use Rattle.vt_spec.proofs.Lists.{Among, among-append, among-append_left, among-append_right, among-filter, among-from_filter, among-from_map, among-map, any_among, any_from_among}
+use Rattle.vt_spec.proofs.Lists.{Among, among-append, among-append_left, among-append_right, among-filter, among-from_filter, among-from_filter_map, among-from_map, among-map, any_among, any_from_among, none_among, none_from_among}
 use Rattle.vt_laws_mounts.specs.Mounts.Invariants.{OneNumberEach}
 use Rattle.vt_laws_mounts.proofs.mounts.MountsReplaced.{found_itself}
-use Rattle.vt_laws_part.proofs.part.PartOfPart.{is_own, keep, kept_whole}
+use Rattle.vt_laws_part.proofs.part.PartOfPart.{is_own, keep, kept_how, kept_whole}
 use Rattle.vt_laws_sealed.proofs.outsiders.SeenLater.{shown_at}
 use Rattle.vt_laws_members_changes.proofs.letting_go.CutAgain.{HasLowers}
 
@@ -37,6 +37,34 @@ layered_overlay number merged = by merged.overlay
         → is_some o ≡ true
     by None h = h
     by (Some overlay) h = refl
+
+-- what is kept with its number has a number of its own
+pub numbers_kept : {A : Type 0} (key : A → ℕ) (k : A → Option A) → ((x y : A) → k x ≡ Some y → key y ≡ key x)
+    → (list : List A) → any_pair (λ x y. nat_eq (key x) (key y)) list ≡ false
+    → any_pair (λ x y. nat_eq (key x) (key y)) (filter_map k list) ≡ false
+numbers_kept key k same [] e = refl
+numbers_kept {A} key k same (x ∷ rest) e =
+    let parts = or_parts (list_any (λ y. nat_eq (key x) (key y)) rest) (any_pair (λ y z. nat_eq (key y) (key z)) rest) e in
+    by (k x) refl parts.0 (numbers_kept key k same rest parts.1)
+  where
+    by : (o : Option A) → k x ≡ o → list_any (λ y. nat_eq (key x) (key y)) rest ≡ false
+        → any_pair (λ y z. nat_eq (key y) (key z)) (filter_map k rest) ≡ false
+        → any_pair (λ y z. nat_eq (key y) (key z)) (cons_option o (filter_map k rest)) ≡ false
+    by None f none later = later
+    by (Some y) f none later =
+        or_from (list_any (λ z. nat_eq (key y) (key z)) (filter_map k rest))
+        (any_pair (λ u z. nat_eq (key u) (key z)) (filter_map k rest))
+        (none_from_among (λ z. nat_eq (key y) (key z)) (filter_map k rest) (λ z m.
+        let from = among-from_filter_map k rest z m in
+        ap (λ n. nat_eq n (key z)) (same x y f) ∙ ap (nat_eq (key x)) (same from.0 z from.2)
+        ∙ none_among (λ u. nat_eq (key x) (key u)) rest none from.0 from.1)) later
+
+-- mounts of a part have numbers of their own
+pub part_numbers : (b : World ℕ) (set : List TaskName) → OneNumberEach b → OneNumberEach (part_of nat_eq b set)
+part_numbers b set one =
+    numbers_kept (λ (m : Mount ℕ). m.number) (keep b set (members b set))
+    (λ x y e. ⊎_elim (λ same. ap (λ (m : Mount ℕ). m.number) (sym same))
+    (λ stub. ap (λ (m : Mount ℕ). m.number) (sym stub.0)) (kept_how b set (members b set) x y e)) b.mounts one
 
 -- a tree that has all of a whole one that lies under lower layers
 pub record IsCut (number : ℕ) (lowers : List (Layer ℕ)) (files : FileTree ℕ) : Type 0 where

@@ -1,5 +1,5 @@
 -- A set of tasks that sees less of a world has the part of its part.
-use Rattle.std.proofs.Common.{◌≡◌, refl, sym, ap, subst, ◌∙◌, inl, inr, ⊎_elim, ℕ, nat_eq, Bool, true, false, cond, true≢false, List, [], ◌∷◌, ◌++◌, Option, Some, None, filter, flat_map, map, ◌||◌, ◌&&◌}
+use Rattle.std.proofs.Common.{◌≡◌, refl, sym, ap, subst, ◌∙◌, ⊎_elim, ℕ, nat_eq, Bool, true, false, cond, true≢false, List, [], ◌∷◌, ◌++◌, Option, Some, None, filter, flat_map, map, ◌&&◌}
 use Rattle.std.specs.List.{cons_option, filter_map, list_any}
 use Rattle.std.proofs.lemmas.Bool.{and_parts, or_left}
 use Rattle.vt_spec.specs.FileTree.{FileTree, is_under}
@@ -133,8 +133,8 @@ module _ (world : World ℕ) (names : List TaskName) (is : IsWorld nat_eq world)
   direct_found : (n : ℕ) → Among n direct → filesystem_numbered nat_eq part n ≡ filesystem_numbered nat_eq world n
   direct_found n m = found world names n (used_directly_used world names n (less.direct n m))
 
-  pub used_same : used_filesystems nat_eq now_part set ≡ used_filesystems nat_eq now set
-  used_same =
+  pub less_used : used_filesystems nat_eq now_part set ≡ used_filesystems nat_eq now set
+  less_used =
       ap (λ d. each_once nat_eq (d ++ flat_map (λ n. change_layers (filesystem_numbered nat_eq part n)) d)) directly_same
       ∙ ap (λ l. each_once nat_eq (direct ++ l))
       (flat_map_alike (λ n. change_layers (filesystem_numbered nat_eq part n))
@@ -143,8 +143,8 @@ module _ (world : World ℕ) (names : List TaskName) (is : IsWorld nat_eq world)
   abbrev lowers_in : World ℕ → ℕ → List (Layer ℕ)
   lowers_in w n = of_overlay [] (λ (overlay : Overlay ℕ). overlay.lowers) (filesystem_numbered nat_eq w n)
 
-  pub lowers_same : own_lowers nat_eq now_part set ≡ own_lowers nat_eq now set
-  lowers_same =
+  pub less_lowers : own_lowers nat_eq now_part set ≡ own_lowers nat_eq now set
+  less_lowers =
       ap (flat_map (lowers_in part)) directly_same
       ∙ flat_map_alike (lowers_in part) (lowers_in world) direct
       (λ n m. ap (of_overlay [] (λ (overlay : Overlay ℕ). overlay.lowers)) (direct_found n m))
@@ -204,12 +204,12 @@ module _ (world : World ℕ) (names : List TaskName) (is : IsWorld nat_eq world)
       → part_of_filesystem nat_eq now_part set x ≡ shown_by (filesystem_numbered nat_eq part x.number).files x
   shown_part x =
       ap (λ u. cond (is_among nat_eq x.number u) (Some x)
-      (when (has_lower (own_lowers nat_eq now_part set) x.number) (part_of_lower nat_eq now_part set x))) used_same
+      (when (has_lower (own_lowers nat_eq now_part set) x.number) (part_of_lower nat_eq now_part set x))) less_used
       ∙ ap (λ l. cond (is_among nat_eq x.number used) (Some x) (when (has_lower l x.number) (record x {
         files = only_among nat_eq
             (filter (lies_under x.number l (filesystem_numbered nat_eq part x.number).files) x.files.numbers) x.files;
         change = 0;
-      }))) lowers_same
+      }))) less_lowers
 
   abbrev was_shown : Filesystem ℕ → Option (Filesystem ℕ)
   was_shown = part_of_filesystem nat_eq world names

@@ -1,8 +1,7 @@
 -- What nothing uses goes, and what a set of tasks sees of that is made from its part alone.
-use Rattle.std.proofs.Common.{◌≡◌, refl, sym, ap, subst, ◌∙◌, ℕ, nat_eq, Bool, true, false, cond, List, Option, None, is_some, not}
+use Rattle.std.proofs.Common.{◌≡◌, refl, sym, ap, subst, ◌∙◌, ℕ, nat_eq, Bool, true, false, cond, List, None, is_some, not}
 use Rattle.std.specs.List.{list_any}
 use Rattle.vt_spec.specs.Language.Calls.{TaskName}
-use Rattle.vt_spec.specs.Machine.Mounts.{Mount}
 use Rattle.vt_spec.specs.Machine.Receives.{has_members, is_member_of}
 use Rattle.vt_spec.specs.Machine.Sealed.{is_own_mount, own_mounts, part_of}
 use Rattle.vt_spec.specs.Machine.Settled.{settled, without_dead_filesystems, without_dead_groups, without_dead_in, without_dead_inodes, without_dead_mounts}
@@ -11,7 +10,7 @@ use Rattle.vt_spec.proofs.Lists.{among-from_filter, any_among, any_from_among}
 use Rattle.vt_laws_mounts.specs.Mounts.Invariants.{OneNumberEach}
 use Rattle.vt_laws_part.proofs.part.DeadMounts.{dead_mounts_are_in_no_part}
 use Rattle.vt_laws_members_changes.proofs.letting_go.Gone.{living_mounted, living_part, living_ready}
-use Rattle.vt_laws_members_changes.proofs.letting_go.Ready.{OverlaysMounted, Ready}
+use Rattle.vt_laws_members_changes.proofs.letting_go.Ready.{OverlaysMounted, Ready, part_numbers}
 use Rattle.vt_laws_members_changes.proofs.letting_go.SweptPart.{part_of_swept, swept_mounted, swept_part, swept_ready}
 
 -- groups that end are not theirs
@@ -40,8 +39,7 @@ swept_of set part =
     swept_part set (λ (x : Filesystem ℕ). not (is_overlay x)) (swept_part set is_overlay part)
 
 module _ (v : World ℕ) (set : List TaskName) (used : List ℕ) (lowers : List (Layer ℕ))
-    (it : Ready (without_dead_mounts nat_eq v) set used lowers)
-    (one_in_part : OneNumberEach (part_of nat_eq (without_dead_mounts nat_eq v) set)) where
+    (it : Ready (without_dead_mounts nat_eq v) set used lowers) where
   abbrev living : World ℕ
   living = without_dead_mounts nat_eq v
 
@@ -53,6 +51,9 @@ module _ (v : World ℕ) (set : List TaskName) (used : List ℕ) (lowers : List 
 
   abbrev is_plain : Filesystem ℕ → Bool
   is_plain x = not (is_overlay x)
+
+  one_in_part : OneNumberEach (part_of nat_eq living set)
+  one_in_part = part_numbers living set it.one
 
   left_ready : Ready left set used lowers
   left_ready = living_ready living set used lowers it

@@ -1,5 +1,5 @@
 -- The inodes in use of a filesystem that a set of tasks uses alone are those in use in the part.
-use Rattle.std.proofs.Common.{◌≡◌, refl, sym, ap, subst, ◌∙◌, ◌⊎◌, inl, inr, ⊎_elim, ℕ, nat_eq, Bool, true, false, cond, true≢false, List, [], ◌++◌, Option, Some, None, filter, flat_map, map, ◌||◌, eq-eqb, eqb-true}
+use Rattle.std.proofs.Common.{◌≡◌, refl, sym, ap, subst, ◌∙◌, inl, inr, ⊎_elim, ℕ, nat_eq, Bool, true, false, cond, List, [], ◌++◌, Option, Some, None, filter, flat_map, map, ◌||◌, eq-eqb, eqb-true}
 use Rattle.std.specs.Prelude.{option_to_list}
 use Rattle.std.specs.List.{filter_map, list_any}
 use Rattle.std.proofs.lemmas.Bool.{or_left}
@@ -19,7 +19,7 @@ use Rattle.vt_laws_mounts.proofs.mounts.MountsReplaced.{found_itself}
 use Rattle.vt_laws_part.proofs.part.PartOfPart.{is_own, keep, kept_how, kept_whole, located, shown_how, used_directly_used}
 use Rattle.vt_laws_sealed.proofs.outsiders.SeenLater.{lower_of}
 use Rattle.vt_laws_members_changes.proofs.letting_go.Gone.{sees_itself}
-use Rattle.vt_laws_members_changes.proofs.letting_go.Ready.{Alone, NoOthers, OverlaysMounted, Ready, layered, layered_overlay, mount_is, overlay_used, seen_alone}
+use Rattle.vt_laws_members_changes.proofs.letting_go.Ready.{Alone, OverlaysMounted, Ready, layered, layered_overlay, mount_is, overlay_used, seen_alone}
 
 -- a location of a task, the root of a mount, or a mount point
 pub data IsPlace (b : World ℕ) (l : Location ℕ) : Type 0 where
@@ -187,10 +187,16 @@ module _ (a : World ℕ) (set : List TaskName) (used_now : List ℕ) (lowers : L
       → (y.number ≡ m.number) × (y.filesystem ≡ m.filesystem) × (root_of y ≡ root_of m)
   same_of m y e =
       ⊎_elim
-      (λ same. (ap (λ (k : Mount ℕ). k.number) (sym same), ap (λ (k : Mount ℕ). k.filesystem) (sym same),
-      ap root_of (sym same)))
-      (λ stub. (ap (λ (k : Mount ℕ). k.number) (sym stub.0), ap (λ (k : Mount ℕ). k.filesystem) (sym stub.0),
-      ap root_of (sym stub.0)))
+      (λ same. (
+        ap (λ (k : Mount ℕ). k.number) (sym same),
+        ap (λ (k : Mount ℕ). k.filesystem) (sym same),
+        ap root_of (sym same),
+      ))
+      (λ stub. (
+        ap (λ (k : Mount ℕ). k.number) (sym stub.0),
+        ap (λ (k : Mount ℕ). k.filesystem) (sym stub.0),
+        ap root_of (sym stub.0),
+      ))
       (kept_how a set theirs m y e)
 
   in_part : (m y : Mount ℕ) → Among m a.mounts → kept m ≡ Some y → Among y part.mounts
