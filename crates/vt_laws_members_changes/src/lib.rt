@@ -4,6 +4,7 @@
 #![tactic(auto)]
 
 pub mod files;
+pub mod letting_go;
 pub mod looks;
 pub mod names;
 pub mod part;

@@ -9,8 +9,8 @@ ghost use Rattle.vt_laws_members_changes.specs.Changes.{DropsEndAlike, EmptyWrit
 /// So it is of calls that are granted and change nothing: a rename of two names of one object (`rename_of_one`), and a
 /// `pwrite` of no bytes (`empty_write`).
 ///
-/// Not proved yet of calls that let something go (`chdir`, `chroot`, `close`, `exit`), and of those that change mounts
-/// or namespaces. Of calls that edit files see `calls_of_theirs_that_edit_files_end_alike`.
+/// Of calls that let something go see `calls_of_theirs_that_let_locations_go_end_alike`, of calls that edit files
+/// `calls_of_theirs_that_edit_files_end_alike`. Not proved yet of calls that change mounts or namespaces.
 pub fn calls_of_theirs_that_let_nothing_go_end_alike()
     ensures umask { UmasksEndAlike }
     ensures drop { DropsEndAlike }

@@ -19,10 +19,10 @@ use Rattle.vt_laws_letting_go.proofs.Chains.Way.{ends, goes_on}
 
 -- Chains that reach a number
 module _ (top : ℕ) where
-  abbrev reaches : ℕ → (ℕ → Option ℕ) → ℕ → Bool
+  abbrev pub reaches : ℕ → (ℕ → Option ℕ) → ℕ → Bool
   reaches n next d = is_among nat_eq top (chain n next d)
 
-  at_head : (next : ℕ → Option ℕ) (n d : ℕ) → nat_eq top d ≡ true → reaches n next d ≡ true
+  pub at_head : (next : ℕ → Option ℕ) (n d : ℕ) → nat_eq top d ≡ true → reaches n next d ≡ true
   at_head next zero d e = ap (λ b. b || false) e
   at_head next (suc n) d e = by (next d)
     where
@@ -31,7 +31,7 @@ module _ (top : ℕ) where
       by (Some b) = ap (λ c. c || is_among nat_eq top (chain n next b)) e
 
   -- a longer chain, too
-  more : (next : ℕ → Option ℕ) (n m d : ℕ) → n ≤ m → reaches n next d ≡ true → reaches m next d ≡ true
+  pub more : (next : ℕ → Option ℕ) (n m d : ℕ) → n ≤ m → reaches n next d ≡ true → reaches m next d ≡ true
   more next zero m d l h =
       ⊎_elim (at_head next m d) (λ e. absurd (true≢false (sym e))) (or_cases (nat_eq top d) false h)
   more next (suc n) zero d l h = absurd (omega (arith, l))

@@ -23,7 +23,7 @@ use Rattle.vt_laws_members_changes.specs.Parts.{PartOfAPart}
 use Rattle.vt_laws_members_changes.proofs.part.CutTrees.{under_in_cut}
 
 -- all of a list pass
-filter_all : (p : ℕ → Bool) (xs : List ℕ) → ((x : ℕ) → Among x xs → p x ≡ true) → filter p xs ≡ xs
+pub filter_all : (p : ℕ → Bool) (xs : List ℕ) → ((x : ℕ) → Among x xs → p x ≡ true) → filter p xs ≡ xs
 filter_all p [] all = refl
 filter_all p (x ∷ xs) all =
     ap (λ b. cond b (x ∷ filter p xs) (filter p xs)) (all x (inl refl))
@@ -75,13 +75,13 @@ module _ (world : World ℕ) (names : List TaskName) (is : IsWorld nat_eq world)
   abbrev has_lower : ℕ → Bool
   has_lower number = list_any (λ (layer : Layer ℕ). nat_eq number layer.filesystem) lowers
 
-  shown_number : (x y : Filesystem ℕ) → shown x ≡ Some y → y.number ≡ x.number
+  pub shown_number : (x y : Filesystem ℕ) → shown x ≡ Some y → y.number ≡ x.number
   shown_number x y e =
       ⊎_elim (λ same. ap (λ (f : Filesystem ℕ). f.number) (sym same.0)) (λ low. ap (λ (f : Filesystem ℕ). f.number) (sym low.0))
       (shown_how world names x y e)
 
   -- what the part has of a filesystem is found there
-  found_in_part : (x y : Filesystem ℕ) → Among x world.filesystems → shown x ≡ Some y
+  pub found_in_part : (x y : Filesystem ℕ) → Among x world.filesystems → shown x ≡ Some y
       → filesystem_numbered nat_eq part x.number ≡ y
   found_in_part x y m e =
       ap (λ o. unwrap_or o (no_filesystem x.number)) (search world.filesystems (λ z n. n) m)

@@ -57,7 +57,7 @@ module _ (before : World ℕ) (name : TaskName) (tasks : List (Task ℕ)) where
       (same_flags_itself mount.flags)) (same_propagation_itself mount.propagation))
       (same_group_itself (master_above before mount))
 
-  all_themselves : (list : List (Mount ℕ)) → same_list (same_mount nat_eq before left) list list ≡ true
+  pub all_themselves : (list : List (Mount ℕ)) → same_list (same_mount nat_eq before left) list list ≡ true
   all_themselves [] = refl
   all_themselves (mount ∷ list) =
       and_from (same_mount nat_eq before left mount mount) (same_list (same_mount nat_eq before left) list list)

@@ -1,0 +1,29 @@
+//! Calls of members that let something go.
+ghost use Rattle.vt_laws_members_changes.specs.LettingGo.{ChdirsEndAlike, ChrootsEndAlike, ClosesEndAlike, ExitsEndAlike, LessIsSeenAlike, SweepsAlike};
+
+/// In a world with all invariants in which a set of tasks is sealed off, **each `close`, `chdir` and `chroot` of one of
+/// them does in the part of the set what it does in the world** (`EndAlike`), granted or refused. What nothing uses any
+/// longer goes in both: detached mounts, filesystems, inodes and their real objects. The answers are the same, and so
+/// are the parts of the worlds that are left, with their change numbers. The numbers handed in do not matter.
+///
+/// So does each `exit` of one of them that leaves another task in its namespace (`exit`). The set is then that without
+/// the task. It may see less after each of these calls, and need not be sealed off any more.
+///
+/// Not proved yet of the `exit` of the last task of a namespace, whose mounts are detached.
+pub fn calls_of_theirs_that_let_locations_go_end_alike()
+    ensures close { ClosesEndAlike }
+    ensures chdir { ChdirsEndAlike }
+    ensures chroot { ChrootsEndAlike }
+    ensures exit { ExitsEndAlike }
+{}
+
+/// In a world with all invariants in which a set of tasks is sealed off, other tasks take the place of the world's. Those
+/// of a second set are in the namespaces in which those of the first were. Their roots and working directories are among
+/// the old ones, and so are their locations. The rest is at locations of outsiders (`UsesNoMore`).
+///
+/// Then the second set has one part in the world and in the part of the first set (`less`). **The sweep at a call's end
+/// leaves it one part, too**: mounts, filesystems, inodes and groups that nothing uses any longer go alike (`sweep`).
+pub fn a_part_is_swept_as_the_world_is()
+    ensures less { LessIsSeenAlike }
+    ensures sweep { SweepsAlike }
+{}
