@@ -1,5 +1,5 @@
 -- Where a granted call of theirs makes, gives or takes a name: in a directory on a mount of theirs.
-use Rattle.std.proofs.Common.{◌≡◌, refl, sym, ap, subst, ℕ, nat_eq, Bool, true, false, ◌∷◌, [], List, Option, Some, None, Ok, Result}
+use Rattle.std.proofs.Common.{◌≡◌, subst, ℕ, nat_eq, Bool, true, false, ◌∷◌, [], List, Option, Some, Ok, Result}
 use Rattle.std.specs.Prelude.{⊤, IfOk}
 use Rattle.std.proofs.lemmas.Option.{same_Some}
 use Rattle.vt_spec.specs.Language.Calls.{Call, TaskName}

@@ -1,5 +1,5 @@
 -- An open of theirs that makes the file, on a plain filesystem, ends in the part as in the world.
-use Rattle.std.proofs.Common.{◌≡◌, refl, sym, ap, subst, ◌∙◌, ⊎_elim, ℕ, nat_eq, eqb-true, Bool, true, false, cond, true≢false, List, [], ◌∷◌, Option, Some, None, Ok, filter, map, ◌||◌}
+use Rattle.std.proofs.Common.{◌≡◌, refl, sym, ap, subst, ◌∙◌, ⊎_elim, ℕ, nat_eq, eqb-true, Bool, true, false, true≢false, List, [], ◌∷◌, Some, filter, map, ◌||◌}
 use Rattle.std.specs.Prelude.{option_to_list}
 use Rattle.std.proofs.lemmas.Bool.{or_left, or_right}
 use Rattle.std.proofs.lemmas.Option.{same_Some}
@@ -17,15 +17,13 @@ use Rattle.vt_spec.specs.Machine.Mounts.{Location, Mount}
 use Rattle.vt_spec.specs.Machine.Outcomes.{Outcome, granted}
 use Rattle.vt_spec.specs.Machine.Permits.Permit.{ToOpenNew}
 use Rattle.vt_spec.specs.Machine.Policy.{finished, numbers_raised, policy, raised_task}
-use Rattle.vt_spec.specs.Machine.Run.{Serves}
 use Rattle.vt_spec.specs.Machine.Sealed.{is_at, is_member_task, members, part_of, part_of_filesystem, roots_and_directories, used_directly, used_filesystems}
 use Rattle.vt_spec.specs.Machine.Settled.{settled}
 use Rattle.vt_spec.specs.Machine.World.{Filesystem, Task, World, filesystem_at, filesystem_numbered, is_overlay, mount_at, mount_numbered, replaced_if_called, task_called, with_task}
 use Rattle.vt_spec.proofs.Lists.{Among, among-from_filter, among-from_filter_map, map_twice}
-use Rattle.vt_laws_letting_go.specs.FileChanges.{names_lost}
 use Rattle.vt_laws_letting_go.specs.InUse.{AllInUse}
 use Rattle.vt_laws_letting_go.specs.TreeChanges.{ChangesTree}
-use Rattle.vt_laws_letting_go.specs.TreesOverlays.{ChangesFilesystem, with_filesystems}
+use Rattle.vt_laws_letting_go.specs.TreesOverlays.{with_filesystems}
 use Rattle.vt_laws_letting_go.proofs.Lists.{filter-map}
 use Rattle.vt_laws_letting_go.proofs.sweeps.InUse.{nothing_goes}
 use Rattle.vt_laws_letting_go.proofs.sweeps.OfWorlds.{all_in_use, found_filesystem}
@@ -49,7 +47,7 @@ use Rattle.vt_laws_members_changes.proofs.tasks.Ending.{LeavesTasks}
 use Rattle.vt_laws_members_changes.proofs.tasks.MoreLocations.{in_use_later}
 use Rattle.vt_laws_members_changes.proofs.tasks.Opening.{both_named, leaves}
 use Rattle.vt_laws_members_changes.proofs.tasks.RaisedTasks.{tasks_raised}
-use Rattle.vt_laws_members_changes.proofs.tasks.Retasked.{SeeAlike, retasked}
+use Rattle.vt_laws_members_changes.proofs.tasks.Retasked.{retasked}
 
 -- A mount of theirs is whole in the part.
 module _ (world : World ℕ) (names : List TaskName) (is : IsWorld nat_eq world) (file : Location ℕ)

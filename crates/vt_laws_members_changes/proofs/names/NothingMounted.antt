@@ -1,8 +1,7 @@
 -- Where nothing is mounted on a directory of theirs, no mount is taken away there, in the world or in the part.
-use Rattle.std.proofs.Common.{◌≡◌, refl, sym, ap, subst, ◌∙◌, ⊎_elim, ℕ, nat_eq, Bool, true, false, true≢false, cond, List, [], ◌∷◌, Option, Some, None, filter, is_some, map, not, ◌&&◌, ◌||◌}
+use Rattle.std.proofs.Common.{◌≡◌, refl, sym, ap, subst, ◌∙◌, ⊎_elim, ℕ, nat_eq, Bool, true, false, true≢false, cond, List, [], Option, Some, None, is_some, not, ◌&&◌, ◌||◌}
 use Rattle.std.specs.List.{list_any}
 use Rattle.std.proofs.lemmas.Bool.{and_parts}
-use Rattle.std.proofs.lemmas.Option.{same_Some}
 use Rattle.vt_spec.specs.Language.Calls.{TaskName}
 use Rattle.vt_spec.specs.Lists.{holds_of, then_some}
 use Rattle.vt_spec.specs.Machine.Detach.{is_point, mounts_on, points_of, trees_taken_away, without_mounts_on}
@@ -12,7 +11,7 @@ use Rattle.vt_spec.specs.Machine.Locked.{is_locked_at}
 use Rattle.vt_spec.specs.Machine.Looks.{looks_of}
 use Rattle.vt_spec.specs.Machine.Mounts.{Location, Mount, Propagation, source_of}
 use Rattle.vt_spec.specs.Machine.Mounts.Propagation.{Private, Shared, Slave, Unbindable}
-use Rattle.vt_spec.specs.Machine.Receives.{has_members, is_lost_group, is_member_of, lost_a_group, regrouped, regrouped_by}
+use Rattle.vt_spec.specs.Machine.Receives.{has_members, is_lost_group, is_member_of, lost_a_group, regrouped_by}
 use Rattle.vt_spec.specs.Machine.Rules.Conditions.{is_mount_point_anywhere}
 use Rattle.vt_spec.specs.Machine.Sealed.{is_own_mount, members, own_mounts, part_of, sealed}
 use Rattle.vt_spec.specs.Machine.World.{World, mount_at}
@@ -20,7 +19,7 @@ use Rattle.vt_spec.proofs.Lists.{Among, among-filter, among-filter_map, among-fr
 use Rattle.vt_spec.proofs.Options.{none_is_some}
 use Rattle.vt_laws_letting_go.proofs.ends.NamespacesEnd.{nothing_taken}
 use Rattle.vt_laws_part.specs.Seals.{IsApart}
-use Rattle.vt_laws_part.proofs.groups.EventsApart.{Hears, above_lives, heard_above, members_of}
+use Rattle.vt_laws_part.proofs.groups.EventsApart.{Hears, heard_above}
 use Rattle.vt_laws_part.proofs.groups.ReceiversAlike.{own_member, start_hears}
 use Rattle.vt_laws_part.proofs.part.PartOfPart.{is_own, keep, kept_how}
 use Rattle.vt_laws_part.proofs.seals.ByPart.{apart_if_sealed}

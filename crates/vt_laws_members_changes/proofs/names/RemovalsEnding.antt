@@ -1,6 +1,6 @@
 -- A call of theirs that removes a directory, or that renames, ends in the part as in the world, if nothing is mounted on
 -- what goes.
-use Rattle.std.proofs.Common.{◌≡◌, refl, sym, ap, subst, ◌∙◌, ℕ, nat_eq, true, false, List, [], Option, Some, None, Ok, Result}
+use Rattle.std.proofs.Common.{◌≡◌, refl, sym, ap, subst, ◌∙◌, ℕ, nat_eq, true, false, List, Option, Some, None, Ok}
 use Rattle.std.specs.Prelude.{IfOk, option_to_list, unwrap_or}
 use Rattle.std.specs.List.{list_any}
 use Rattle.std.proofs.lemmas.Bool.{not-true, or_parts}
@@ -25,7 +25,7 @@ use Rattle.vt_spec.specs.Machine.Policy.{finished, only_looks}
 use Rattle.vt_spec.specs.Machine.Rules.Conditions.{is_mount_point_anywhere}
 use Rattle.vt_spec.specs.Machine.Rules.Removing.{object_there}
 use Rattle.vt_spec.specs.Machine.Sealed.{members, part_of, sealed, used_filesystems}
-use Rattle.vt_spec.specs.Machine.Walking.{Place, is_directory_there, old_walk}
+use Rattle.vt_spec.specs.Machine.Walking.{Place, is_directory_there}
 use Rattle.vt_spec.specs.Machine.World.{Task, World, filesystem_at, is_overlay, task_called}
 use Rattle.vt_spec.proofs.Lists.{Among}
 use Rattle.vt_laws_rules.specs.Granted.{IsGranted}

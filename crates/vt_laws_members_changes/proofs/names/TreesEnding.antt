@@ -1,5 +1,5 @@
 -- A call of theirs that changes one plain tree, which they use alone, ends in the part as in the world.
-use Rattle.std.proofs.Common.{◌≡◌, refl, sym, ap, subst, ◌∙◌, ⊎_elim, ℕ, nat_eq, eqb-true, Bool, true, false, cond, true≢false, List, [], ◌∷◌, Some, None, Ok, filter, map, ◌||◌}
+use Rattle.std.proofs.Common.{◌≡◌, refl, sym, ap, subst, ◌∙◌, ⊎_elim, ℕ, nat_eq, eqb-true, true, false, true≢false, List, [], ◌∷◌, Some, Ok, filter, map, ◌||◌}
 use Rattle.vt_spec.specs.FileTree.{FileTree}
 use Rattle.vt_spec.specs.Language.Answers.Answer.{Done}
 use Rattle.vt_spec.specs.Language.Calls.{Call, TaskName, same_name}

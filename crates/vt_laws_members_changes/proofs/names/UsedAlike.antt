@@ -1,7 +1,6 @@
 -- In a filesystem that a sealed set uses alone, the same inodes are used in the world and in the part.
-use Rattle.std.proofs.Common.{◌≡◌, refl, sym, ap, subst, ◌∙◌, inl, inr, ⊎_elim, ℕ, nat_eq, eq-eqb, eqb-true, Bool, true, false, cond, true≢false, List, [], ◌∷◌, ◌++◌, Option, Some, None, filter, flat_map, is_some, map}
+use Rattle.std.proofs.Common.{◌≡◌, refl, sym, ap, subst, ◌∙◌, inl, inr, ⊎_elim, ℕ, nat_eq, eq-eqb, eqb-true, Bool, true, false, cond, List, [], ◌∷◌, ◌++◌, Option, Some, None, filter, flat_map, map}
 use Rattle.std.specs.List.{filter_map, list_all}
-use Rattle.std.proofs.lemmas.Bool.{and_parts}
 use Rattle.vt_spec.specs.FileTree.{FileTree}
 use Rattle.vt_spec.specs.Language.Calls.{TaskName}
 use Rattle.vt_spec.specs.Lists.{holds_of, is_among}
@@ -10,9 +9,8 @@ use Rattle.vt_spec.specs.Machine.Invariants.{IsWorld, Stands}
 use Rattle.vt_spec.specs.Machine.Locked.{of_overlay, overlay_or}
 use Rattle.vt_spec.specs.Machine.Mounts.{Location, Mount, root_of}
 use Rattle.vt_spec.specs.Machine.Sealed.{is_member_task, lies_in_own_lower, members, part_of, part_of_filesystem, part_of_lower, sealed, used_alone}
-use Rattle.vt_spec.specs.Machine.Settled.{layers_in, located_in, named_in, objects_of_overlay, only_among, only_used_by, used_in}
-use Rattle.vt_spec.specs.Machine.World.{Filesystem, Layer, Overlay, Task, World, all_locations, filesystem_numbered, is_overlay, layers_of, locations_of, mount_at, mount_numbered, upper_object}
-use Rattle.vt_spec.specs.Tree.{Node}
+use Rattle.vt_spec.specs.Machine.Settled.{layers_in, located_in, named_in, objects_of_overlay, only_used_by, used_in}
+use Rattle.vt_spec.specs.Machine.World.{Filesystem, Layer, Overlay, World, all_locations, is_overlay, layers_of, locations_of, mount_at, mount_numbered, upper_object}
 use Rattle.vt_spec.proofs.Lists.{Among, among-append, among-append_left, among-append_right, among-filter, among-filter_map, among-flat_map, among-from_filter, among-from_filter_map, among-from_flat_map, among-from_map, among-map, among_from_all, among_numbers, is_among_numbers}
 use Rattle.vt_spec.proofs.Options.{none_is_some}
 use Rattle.vt_spec.proofs.Truths.{same_truth}
@@ -22,11 +20,10 @@ use Rattle.vt_laws_letting_go.proofs.Lists.{flat_map-step}
 use Rattle.vt_laws_letting_go.proofs.sweeps.InUse.{no_objects}
 use Rattle.vt_laws_mounts.proofs.mounts.MountsReplaced.{found_itself}
 use Rattle.vt_laws_worlds.proofs.worlds.Reached.{namespace_below}
-use Rattle.vt_laws_part.proofs.part.PartOfPart.{is_own, keep, kept_how, located, shown_how}
+use Rattle.vt_laws_part.proofs.part.PartOfPart.{keep, kept_how, located, shown_how}
 use Rattle.vt_laws_part.proofs.seals.ByPart.{apart_if_sealed}
 use Rattle.vt_laws_sealed.proofs.outsiders.InodesUsed.{alone_used, in_first, in_second, in_third}
 use Rattle.vt_laws_members.proofs.judging.Grounds.{nowhere_stands}
-use Rattle.vt_laws_members.proofs.judging.MountPoints.{part_mount}
 use Rattle.vt_laws_members.proofs.judging.MountTrees.{part_one_number, part_stands}
 use Rattle.vt_laws_members_changes.proofs.files.FilesRaised.{swap}
 use Rattle.vt_laws_members_changes.proofs.names.Swept.{cut}
