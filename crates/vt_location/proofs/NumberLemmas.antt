@@ -2,10 +2,6 @@
 use Rattle.std.proofs.Common.{◌≡◌, ◌≢◌, ◌<◌, ◌≤◌, ◌+◌, ◌-◌, ◌*◌, ℕ, Bool, true, false, not, nat_eq, nat_lt, ◌&&◌, refl, sym, ap, ◌∙◌, arith, lt-ltb, le-ltb, eq-eqb}
 use Rattle.std.specs.Prelude.{if◌then◌else◌, ◌/◌}
 use Rattle.std.proofs.lemmas.Bool.{eqb-true, ltb-true, ltb-false, not-true}
-use Rattle.vt_spec.specs.Machine.Mounts.{same_location}
-use Rattle.vt_location.specs.declared.locations.Location.{Location}
-use Rattle.vt_location.specs.declared.locations.NodeRef.{NodeRef}
-use Rattle.vt_location.specs.Locations.{location_of, number_of}
 use Rattle.vt_location.specs.Numbers.{counted, exchanged, inode_number, is_inode_of}
 use Rattle.vt_spec.proofs.Truths.{and_from_three, and_true_first, and_true_left, and_true_right, same_truth}
 
@@ -136,14 +132,3 @@ inode_test f g a b a_small b_small =
       eqb-true a b
           (and_true_right (nat_eq f g) (nat_eq a b) e),
     )
-
-pub nodes_test : (a b : NodeRef) → a.slot < 18446744073709551616 → b.slot < 18446744073709551616
-    → nat_eq (number_of a) (number_of b) ≡ (nat_eq a.filesystem.count b.filesystem.count && nat_eq a.slot b.slot)
-nodes_test a b a_small b_small = inode_test a.filesystem.count b.filesystem.count a.slot b.slot a_small b_small
-
-pub same_locations : (a b : Location) → a.node.slot < 18446744073709551616 → b.node.slot < 18446744073709551616
-    → same_location nat_eq (location_of a) (location_of b)
-    ≡ (nat_eq a.mount.count b.mount.count
-    && (nat_eq a.node.filesystem.count b.node.filesystem.count && nat_eq a.node.slot b.node.slot))
-same_locations a b a_small b_small =
-    (λ i. counted_test a.mount.count b.mount.count i && nodes_test a.node b.node a_small b_small i)
