@@ -29,8 +29,8 @@ abbrev pub plain_of : NodeRef → Option InodeRef
 plain_of node = plain_at node node.birth
 
 -- what code has in 64 bits is below 2^64
-abbrev pub is_small : NodeRef → Bool
-is_small node =
+abbrev pub is_small_node : NodeRef → Bool
+is_small_node node =
     nat_lt node.filesystem.count 18446744073709551616
     && (nat_lt node.slot 18446744073709551616 && is_small_birth node.birth)
 

@@ -18,7 +18,7 @@ use Rattle.vt_world.specs.Held.{IsHeld}
 use Rattle.vt_world.specs.WorldValue.{WorldValue, world_of}
 use Rattle.vt_detach.proofs.ChangedFiles.{IsFilesEvent, with_filesystems}
 use Rattle.vt_detach.proofs.FileEvents.{IsSmall, change_at, change_is_done, change_sees}
-use Rattle.vt_detach.proofs.FilesSeen.{also_there, inodes_named, located_filesystem, tree_of_entry}
+use Rattle.vt_detach.proofs.FilesSeen.{also_there, nodes_named, located_filesystem, tree_of_entry}
 use Rattle.vt_attach.proofs.AttachedWorlds.{inode_is_there}
 use Rattle.vt_spec.proofs.Options.{OnOk_then}
 
@@ -51,7 +51,7 @@ module _ (value : WorldValue) (held : IsHeld value) (name : TaskName) (file : Lo
       (with_filesystems value filesystems)
   write_is_done filesystems changes =
       change_is_done value held name file small (SetBytes (number_of file.node) bytes) permits filesystems
-      (inodes_named value.next file.node.filesystem.count file.node.slot) tt (λ number other. tt) changes
+      (nodes_named value.next file.node) tt (λ number other. tt) changes
 
 -- link(2)
 module _ (value : WorldValue) (held : IsHeld value) (name : TaskName) (directory : Location) (entry : List ℕ)
@@ -89,8 +89,8 @@ module _ (value : WorldValue) (held : IsHeld value) (name : TaskName) (directory
       (OnOk_then result
       (change_is_done value held name directory small
       (AddName (number_of directory.node) entry (number_of object)) permits filesystems
-      (λ i. inodes_named value.next directory.node.filesystem.count directory.node.slot i
-      && inodes_named value.next object.filesystem.count object.slot i)
+      (λ i. nodes_named value.next directory.node i
+      && nodes_named value.next object i)
       (inode_is_there ((inodes_seen seen.entry).inode (number_of object))
       (ap (λ filesystem. is_some (filesystem.files.tree.node (number_of object)))
       (sym (located_filesystem value directory seen)) ∙ linked_there))
@@ -129,6 +129,6 @@ module _ (value : WorldValue) (held : IsHeld value) (name : TaskName) (directory
   unlink_is_done filesystems changes =
       change_is_done value held name directory small
       (Remove (number_of directory.node) entry (number_of object)) permits filesystems
-      (λ i. inodes_named value.next directory.node.filesystem.count directory.node.slot i
-      && inodes_named value.next object.filesystem.count object.slot i)
+      (λ i. nodes_named value.next directory.node i
+      && nodes_named value.next object i)
       tt (λ number other. tt) changes

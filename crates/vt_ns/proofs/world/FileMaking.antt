@@ -19,7 +19,7 @@ use Rattle.vt_laws_rules.specs.Numbers.{content_named}
 use Rattle.vt_location.specs.declared.locations.Location.{Location}
 use Rattle.vt_location.specs.declared.locations.NodeRef.{NodeRef}
 use Rattle.vt_location.specs.Locations.{location_of, number_of}
-use Rattle.vt_location.specs.Numbers.{counted, exchanged, inode_number, is_inode_of}
+use Rattle.vt_location.specs.Numbers.{counted, exchanged, inode_number, is_own_number}
 use Rattle.vt_location.proofs.NumberLemmas.{exchanged_same, exchanged_slot, is_inode}
 use Rattle.vt_laws_permits.specs.Sees.{MayBeMade}
 use Rattle.vt_laws_permits.proofs.sees.SeesFit.{given_changes_fit}
@@ -30,7 +30,7 @@ use Rattle.vt_world.specs.Held.{IsHeld}
 use Rattle.vt_world.specs.WorldValue.{WorldValue, world_of}
 use Rattle.vt_detach.proofs.ChangedFiles.{IsFilesEvent, files_are_changed, with_filesystems}
 use Rattle.vt_detach.proofs.FileEvents.{IsSmall, permit_fits}
-use Rattle.vt_detach.proofs.FilesSeen.{IsLocated, files_are_plain, inodes_named, located, located_filesystem, located_inodes}
+use Rattle.vt_detach.proofs.FilesSeen.{IsLocated, files_are_plain, nodes_named, located, located_filesystem, located_inodes}
 
 -- a new node, in the slots of its filesystem
 pub new_in_slot : (count slot : ℕ) → slot < 18446744073709551616 → (node : Node ℕ)
@@ -122,13 +122,13 @@ module _ (value : WorldValue) (held : IsHeld value) (name : TaskName) (directory
         named = λ i. directory_seen.named i
             && new_is_named (is_counted_before value.next) (number_of directory.node)
             (node_seen directory.node.filesystem.count node)
-            (inodes_named value.next directory.node.filesystem.count directory.node.slot) sees.fits i;
+            (nodes_named value.next directory.node) sees.fits i;
         rest = odds (supply_of value permit);
         applied =
             ap (λ n. with_change nat_eq (odds (supply_of value permit)) (world_of value) (location_of directory)
             (change n)) next_is;
         named_supply = λ k. number_of made;
-        are_named = λ k. inodes_named value.next made.filesystem.count made.slot;
+        are_named = λ k. nodes_named value.next made;
         named_rest = λ k. number_of made;
         applied_named = refl;
       })
@@ -145,10 +145,10 @@ module _ (value : WorldValue) (held : IsHeld value) (name : TaskName) (directory
             (λ inodes. changed nat_eq inodes (change (number_of made))) value.filesystems filesystems)
             (sym directory_seen.count_is) changes;
         own = λ n other same.
-            true≢false (sym (ap (λ count. is_inode_of count (number_of made))
+            true≢false (sym (ap (λ count. is_own_number count (number_of made))
             (directory_seen.count_is ∙ ap (λ filesystem. filesystem.count) (sym inside))
             ∙ is_inode made.filesystem.count made.slot small_made)
-            ∙ ap (is_inode_of directory_seen.entry.count) (sym same) ∙ other);
+            ∙ ap (is_own_number directory_seen.entry.count) (sym same) ∙ other);
       })
     where
       quarter : (count : ℕ) → counted count / 4 ≡ count

@@ -31,7 +31,7 @@ use Rattle.vt_spec.proofs.Lists.{among_from_list_all}
 use Rattle.vt_location.specs.declared.locations.Location.{Location}
 use Rattle.vt_location.specs.declared.locations.NodeRef.{NodeRef}
 use Rattle.vt_location.specs.Locations.{location_of, number_of}
-use Rattle.vt_location.specs.Numbers.{counted, is_inode_of}
+use Rattle.vt_location.specs.Numbers.{counted, is_own_number}
 use Rattle.vt_location.proofs.NumberLemmas.{is_inode}
 use Rattle.vt_mount.specs.MountsValue.{MountEntry}
 use Rattle.vt_laws_permits.specs.Named.{permit_named}
@@ -65,7 +65,7 @@ use Rattle.vt_detach.proofs.ChangedFiles.{ChangesFiles, change_is_held, change_i
 use Rattle.vt_detach.proofs.FileEvents.{IsSmall, permit_fits}
 use Rattle.vt_ns.proofs.world.FileMaking.{new_in_slot, new_is_named}
 use Rattle.vt_ns.proofs.world.FilesOpened.{inserted_goes, opened_moves, opened_stays, opened_tasks}
-use Rattle.vt_detach.proofs.FilesSeen.{IsLocated, files_are_plain, inodes_named, located, located_filesystem, located_inodes, one_entry}
+use Rattle.vt_detach.proofs.FilesSeen.{IsLocated, files_are_plain, nodes_named, located, located_filesystem, located_inodes, one_entry}
 use Rattle.vt_detach.proofs.Finishing.{swept_held}
 use Rattle.vt_detach.proofs.LocationsSeen.{seen_where_located}
 use Rattle.vt_detach.proofs.Closing.{used_by}
@@ -163,7 +163,7 @@ module _ (value : WorldValue) (held : IsHeld value) (name : TaskName) (directory
   named =
       λ i. directory_seen.named i
       && new_is_named (is_counted_before value.next) (number_of directory.node) (node_seen count node)
-      (inodes_named value.next count directory.node.slot) sees.0.fits i
+      (nodes_named value.next directory.node) sees.0.fits i
 
   under_way : IsWorldButForUse (apply nat_eq handed (world_of value) permits.task permit).world
   under_way =
@@ -206,10 +206,10 @@ module _ (value : WorldValue) (held : IsHeld value) (name : TaskName) (directory
           changed nat_eq inodes (change (number_of made))) value.filesystems made_in)
           (sym directory_seen.count_is) changes;
       own = λ n other same.
-          true≢false (sym (ap (λ k. is_inode_of k (number_of made))
+          true≢false (sym (ap (λ k. is_own_number k (number_of made))
           (directory_seen.count_is ∙ ap (λ filesystem. filesystem.count) (sym inside))
           ∙ is_inode made.filesystem.count made.slot small_made)
-          ∙ ap (is_inode_of directory_seen.entry.count) (sym same) ∙ other);
+          ∙ ap (is_own_number directory_seen.entry.count) (sym same) ∙ other);
     }
 
     -- the world once it is made, whatever numbers are left over
@@ -280,7 +280,7 @@ module _ (value : WorldValue) (held : IsHeld value) (name : TaskName) (directory
         change_is_held value held (location_of directory) (change (number_of made)) made_in is_made mid_is_world
         (same_keeps_to_numbers_too (is_counted_before value.next) (λ k. number_of made)
         (world_of value) permits.task making (world_of mid)
-        permits.given.called held.given (λ k. inodes_named value.next made.filesystem.count made.slot) named
+        permits.given.called held.given (λ k. nodes_named value.next made) named
         (change_is_swept value held (location_of directory) (change (number_of made)) made_in is_made
         (λ k. number_of made))
         (files_are_plain made_in))
@@ -425,7 +425,7 @@ module _ (value : WorldValue) (held : IsHeld value) (name : TaskName) (directory
             (opened_tasks mid mid_held name permits.task permits.called descriptor file_located))
             (same_keeps_to_numbers_too (is_counted_before value.next) (λ k. number_of made)
             (world_of value) permits.task permit (world_of new)
-            permits.given.called held.given (λ k. inodes_named value.next made.filesystem.count made.slot) named
+            permits.given.called held.given (λ k. nodes_named value.next made) named
             (settled_same (λ k. number_of made)) (files_are_plain filesystems));
         becomes = becomes_so value name permit new permits.task permits.called
             (subst (λ world. SameWorlds (settled nat_eq world) (world_of new)) (sym opened_applied)
