@@ -13,7 +13,8 @@ use Rattle.vt_spec.specs.Machine.World.{Filesystem, filesystem_numbered}
 use Rattle.vt_location.specs.declared.locations.Location.{Location}
 use Rattle.vt_location.specs.declared.locations.NodeRef.{NodeRef}
 use Rattle.vt_location.specs.declared.mounts.Mount.{Mount}
-use Rattle.vt_location.specs.Births.{born_in, same_birth}
+use Rattle.vt_location.specs.Births.{born_in}
+use Rattle.vt_location.specs.SameNodes.{same_birth}
 use Rattle.vt_location.specs.Locations.{is_small_node, location_of, number_of}
 use Rattle.vt_location.specs.MountValue.{mount_of}
 use Rattle.vt_location.specs.Numbers.{counted, is_inode_of}

@@ -6,8 +6,9 @@ use Rattle.vt_location.specs.declared.births.Birth.{Birth}
 use Rattle.vt_location.specs.declared.births.Birth.TheVariants.{Below, Here}
 use Rattle.vt_location.specs.declared.locations.Location.{Location}
 use Rattle.vt_location.specs.declared.locations.NodeRef.{NodeRef}
-use Rattle.vt_location.specs.Births.{IsSmallBirth, born_in, is_small_birth, same_birth}
-use Rattle.vt_location.specs.Locations.{is_small_node, location_of, number_of, same_node}
+use Rattle.vt_location.specs.Births.{IsSmallBirth, born_in, is_small_birth}
+use Rattle.vt_location.specs.Locations.{is_small_node, location_of, number_of}
+use Rattle.vt_location.specs.SameNodes.{same_birth, same_node}
 use Rattle.vt_location.specs.NodeNumbers.{BirthsAreNoInodes, IsSmall, NumbersAreOneToOne}
 use Rattle.vt_location.specs.Numbers.{inode_number, is_own_number}
 use Rattle.vt_location.proofs.NumberLemmas.{counted_test, own_inode, slot_of}

@@ -11,7 +11,8 @@ use Rattle.vt_location.specs.declared.locations.NodeRef.{NodeRef}
 use Rattle.vt_location.specs.declared.mounts.Mount.{Mount}
 use Rattle.vt_location.specs.declared.numbers.MountId.{MountId}
 use Rattle.vt_location.specs.declared.numbers.NamespaceId.{NamespaceId}
-use Rattle.vt_location.specs.Locations.{is_small_node, location_of, number_of, same_node}
+use Rattle.vt_location.specs.Locations.{is_small_node, location_of, number_of}
+use Rattle.vt_location.specs.SameNodes.{same_node}
 use Rattle.vt_location.specs.Numbers.{counted, inode_number}
 use Rattle.vt_mount.specs.declared.mounted.Mounted.{Mounted}
 use Rattle.vt_mount.specs.Indexed.{is_kept_small, numbers_where}

@@ -6,7 +6,8 @@ use Rattle.vt_location.specs.declared.locations.NodeRef.{NodeRef}
 use Rattle.vt_location.specs.declared.mounts.Mount.{Mount}
 use Rattle.vt_location.specs.declared.numbers.MountId.{MountId}
 use Rattle.vt_location.specs.declared.numbers.NamespaceId.{NamespaceId}
-use Rattle.vt_location.specs.Locations.{is_small_node, same_node}
+use Rattle.vt_location.specs.Locations.{is_small_node}
+use Rattle.vt_location.specs.SameNodes.{same_node}
 use Rattle.vt_mount.specs.declared.indexes.Indexes.{Indexes}
 use Rattle.vt_mount.specs.Listed.{listed}
 use Rattle.vt_mount.specs.Rising.{inserted, same_id}

@@ -7,7 +7,7 @@ use Rattle.vt_location.specs.declared.numbers.NamespaceId.{NamespaceId}
 use Rattle.vt_mount.specs.declared.indexes.Indexes.{Indexes}
 use Rattle.vt_mount.specs.declared.lists.MountsBy.{MountsBy}
 use Rattle.vt_mount.specs.declared.moving.NewPoint.{NewPoint}
-use Rattle.vt_location.specs.Locations.{same_node}
+use Rattle.vt_location.specs.SameNodes.{same_node}
 use Rattle.vt_mount.specs.Indexes.{same_namespace, same_place}
 use Rattle.vt_mount.specs.Listed.{reserved, same_id}
 

@@ -2,7 +2,7 @@ use Rattle.std.proofs.Common.{ap, sym, ◌∙◌}
 use Rattle.vt_location.specs.declared.locations.Location.{Location}
 use Rattle.vt_location.specs.declared.locations.NodeRef.{NodeRef}
 use Rattle.vt_spec.specs.Lists.{holds_of}
-use Rattle.vt_location.specs.Locations.{same_node}
+use Rattle.vt_location.specs.SameNodes.{same_node}
 use Rattle.vt_mount.specs.Indexes.{listed_at, listed_over, same_place, taken}
 use Rattle.vt_mount.proofs.indexes.Indexes.leave.Goals as goal
 use Rattle.vt_mount.proofs.indexes.Indexes.leave.Goals.{in-Some, in_default}

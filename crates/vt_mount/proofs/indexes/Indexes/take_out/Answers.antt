@@ -1,5 +1,5 @@
 use Rattle.vt_location.specs.declared.locations.Location.{Location}
-use Rattle.vt_location.specs.Locations.{same_node}
+use Rattle.vt_location.specs.SameNodes.{same_node}
 use Rattle.vt_mount.specs.Indexes.{same_place}
 use Rattle.vt_mount.specs.Listed.{same_id}
 use Rattle.vt_mount.proofs.ReservedLemmas.{reserves-same}
