@@ -9,7 +9,7 @@ use Rattle.vt_spec.specs.Machine.Mounts.{Mount, source_of}
 use Rattle.vt_spec.specs.Machine.Run.{used_by_filesystem, used_by_mount}
 use Rattle.vt_spec.specs.Machine.World.{Filesystem, Namespace, filesystem_at, filesystem_numbered, is_overlay, mount_at, node_at}
 use Rattle.vt_spec.specs.Machine.Invariants.{is_located_well}
-use Rattle.vt_spec.specs.Inodes.{node_in}
+use Rattle.vt_spec.specs.Inodes.{Inodes, node_in}
 use Rattle.vt_spec.specs.TreeInvariant.{IsTree}
 use Rattle.vt_fs.specs.FilesystemsValue.{FilesystemEntry, Filesystems, entry_of, files_at, filesystem_seen, filesystems_seen, inodes_at, inodes_seen, no_entry}
 use Rattle.vt_laws_rules.specs.Numbers.{location_named}
@@ -204,6 +204,16 @@ located_inodes value at seen =
     ap (inodes_at value.filesystems) (sym seen.count_is)
     ∙ ap (λ found. inodes_seen (unwrap_or found (no_entry seen.entry.count))) seen.found
 
+-- which has the same inodes there
+pub kept_there : (value : WorldValue) (at : Location) (seen : IsLocated value at) (number : ℕ)
+    → is_some ((filesystem_at nat_eq (world_of value) (location_of at)).files.tree.node number) ≡ true
+    → is_some ((files_at value.filesystems at.node.filesystem.count).tree.node number) ≡ true
+kept_there value at seen number there =
+    ap (λ (inodes : Inodes ℕ). is_some (node_in (inodes.inode number))) (located_inodes value at seen)
+    ∙ ap (λ (filesystem : Filesystem ℕ). is_some (filesystem.files.tree.node number))
+    (sym (located_filesystem value at seen))
+    ∙ there
+
 -- another inode of that filesystem
 pub also_there : (value : WorldValue) → IsHeld value → (at : Location) (seen : IsLocated value at) (object : NodeRef)
     → object.slot < 18446744073709551616
@@ -225,6 +235,14 @@ tree_of_entry value held entry m =
     among_from_all (λ (filesystem : Filesystem ℕ). IsTree filesystem.files.tree)
     (world_of value).filesystems held.in_world.files.trees
     (filesystem_seen entry) (among-map filesystem_seen value.filesystems entry m)
+
+-- what has something was born here
+pub seen_here : (value : WorldValue) → IsHeld value → (at : Location) → at.node.slot < 18446744073709551616
+    → is_some (node_at nat_eq (world_of value) (location_of at)) ≡ true → at.node.birth ≡ Here
+seen_here value held at small there =
+    let seen = seen_in value.filesystems held.own_inodes (mount_at nat_eq (world_of value) (location_of at)).filesystem
+    (number_of at.node) there in
+    own_birth seen.entry.count at.node small seen.own
 
 -- what is at a location, as the definitions look and as code does
 pub looked_node : (value : WorldValue) → IsHeld value → (at : Location) → at.node.slot < 18446744073709551616

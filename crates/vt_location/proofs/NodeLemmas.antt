@@ -11,7 +11,7 @@ use Rattle.vt_location.specs.Locations.{is_small_node, location_of, number_of}
 use Rattle.vt_location.specs.SameNodes.{same_birth, same_node}
 use Rattle.vt_location.specs.NodeNumbers.{BirthsAreNoInodes, IsSmall, NumbersAreOneToOne}
 use Rattle.vt_location.specs.Numbers.{inode_number, is_own_number}
-use Rattle.vt_location.proofs.NumberLemmas.{counted_test, own_inode, slot_of}
+use Rattle.vt_location.proofs.NumberLemmas.{counted_test, is_own, own_inode, slot_of}
 use Rattle.vt_spec.proofs.Truths.{and_true_left, and_true_right, same_truth}
 
 -- two digits of a number
@@ -120,6 +120,17 @@ own_count count node small e = sym (own_node count node small e).0
 pub own_birth : (count : ℕ) (node : NodeRef) → node.slot < 18446744073709551616
     → is_own_number count (number_of node) ≡ true → node.birth ≡ Here
 own_birth count node small e = (own_node count node small e).1
+
+-- what was born here has the number of an inode
+pub here_number : (node : NodeRef) → node.birth ≡ Here
+    → number_of node ≡ inode_number node.filesystem.count node.slot
+here_number node here = λ i. inode_number (born_in node.filesystem.count (here i)) node.slot
+
+pub here_is_own : (node : NodeRef) → node.filesystem.count < 18446744073709551616 → node.slot < 18446744073709551616
+    → node.birth ≡ Here → is_own_number node.filesystem.count (number_of node) ≡ true
+here_is_own node small slot_small here =
+    ap (is_own_number node.filesystem.count) (here_number node here)
+    ∙ is_own node.filesystem.count node.slot small slot_small
 
 -- The tests of code, and those of the definitions
 

@@ -12,6 +12,7 @@ use Rattle.vt_spec.specs.Machine.World.{Namespace, mount_at}
 use Rattle.vt_spec.specs.Inodes.{node_in}
 use Rattle.vt_fs.specs.FilesystemsValue.{FilesystemEntry, Filesystems, entry_at, entry_of, filesystems_seen, inodes_at, inodes_seen, next_seen, no_entry, numbers_seen}
 use Rattle.vt_laws_letting_go.proofs.Lists.{Among, among_from_all}
+use Rattle.vt_location.proofs.NumberLemmas.{own_inode}
 use Rattle.vt_location.specs.Numbers.{counted, inode_number, is_own_number}
 use Rattle.vt_mount.specs.MountsValue.{MountEntry, mounts_in}
 use Rattle.vt_mount.specs.Sources.{has_counted_source}
@@ -87,7 +88,8 @@ module _ (count slot : ℕ) (small : slot < 18446744073709551616) where
         other : (own : Bool) → is_own_number entry.count number ≡ own → nat_eq entry.count count ≡ false
             → (inodes_seen entry).inode number ≡ None
         other true e apart =
-            absurd (true≢false (sym (eq-eqb entry.count count (inode_of_one entry.count count slot small e)) ∙ apart))
+            absurd (true≢false (sym (eq-eqb entry.count count (inode_of_one entry.count count slot small (own_inode entry.count number e)))
+            ∙ apart))
         other false e apart = among_from_all HasOwnInodes value.filesystems whole.own_inodes entry m number e
 
         by : (same : Bool) → nat_eq entry.count count ≡ same → (inodes_seen entry).inode number ≡ None
