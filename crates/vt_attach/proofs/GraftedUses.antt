@@ -23,7 +23,7 @@ use Rattle.vt_location.specs.declared.mounts.Mount.{Mount}
 use Rattle.vt_location.specs.Locations.{location_of, number_of}
 use Rattle.vt_location.specs.MountValue.{mount_of}
 use Rattle.vt_location.specs.Numbers.{counted}
-use Rattle.vt_location.proofs.NodeLemmas.{own_count}
+use Rattle.vt_location.proofs.NodeLemmas.{own_count, small_parts}
 use Rattle.vt_mount.specs.MountsValue.{MountEntry, are_ascending, mounts_in}
 use Rattle.vt_laws_mounts.proofs.mounts.MountsReplaced.{one_number_by_numbers}
 use Rattle.vt_propagate.specs.Pushing.{MovesOnce}
@@ -109,7 +109,7 @@ point_shown world base own files point small directory =
     ≡ true)
     files (directory_there (node_at nat_eq world (location_of point)) directory)) in
     seen.number_is
-    ∙ ap counted (own_count seen.entry.count point.node (ltb-true point.node.slot 18446744073709551616 small) seen.own)
+    ∙ ap counted (own_count seen.entry.count point.node (small_parts point.node small).slot seen.own)
 
 -- Mounts that come behind others, which get other mount points
 

@@ -13,7 +13,9 @@ use std::alloc::{AllocError, Global};
 use vt_cred::MountFlags;
 use vt_fs::Filesystems;
 use vt_group::Groups;
-use vt_location::{Birth, FilesystemId, Location, Mount, MountId, NamespaceId, NodeRef, Propagation};
+use vt_location::{
+    Birth, FilesystemId, Location, Mount, MountId, NamespaceId, NodeRef, Propagation,
+};
 use vt_mount::Mounts;
 use vt_tasks::Tasks;
 use vt_world::namespaces::Namespace;

@@ -85,9 +85,9 @@ module _ (value : WorldValue) (held : IsHeld value) (name : TaskName) (directory
     (small : IsSmall directory)
     (asked : Permits value name (ToMake (location_of directory) entry (node_in directory node))) where
   here : directory.node.birth ≡ Here
-  here = (located value held directory small
-      (permit_fits value held name (ToMake (location_of directory) entry (node_in directory node)) asked)
-      .names.reached.there).born_here
+  here =
+      let fits = permit_fits value held name (ToMake (location_of directory) entry (node_in directory node)) asked in
+      (located value held directory small fits.names.reached.there).born_here
 
   permits : Permits value name (ToMake (location_of directory) entry
       (node_seen directory.node.filesystem.count node))

@@ -90,9 +90,10 @@ module _ (value : WorldValue) (held : IsHeld value) (name : TaskName) (directory
     (access : spoken.Access) (small : IsSmall directory)
     (asked : Permits value name (ToOpenNew (location_of directory) entry (node_in directory node) access)) where
   here : directory.node.birth ≡ Here
-  here = (located value held directory small
-      (permit_fits value held name (ToOpenNew (location_of directory) entry (node_in directory node) access) asked)
-      .names.0.reached.there).born_here
+  here =
+      let fits = permit_fits value held name
+      (ToOpenNew (location_of directory) entry (node_in directory node) access) asked in
+      (located value held directory small fits.names.0.reached.there).born_here
 
   permits : Permits value name (ToOpenNew (location_of directory) entry
       (node_seen directory.node.filesystem.count node) access)
