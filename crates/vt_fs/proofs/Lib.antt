@@ -4,5 +4,6 @@ pub mod Standing
 pub mod Parents
 pub mod Numbers
 pub mod NewFilesystem
+pub mod Nowhere
 pub mod PathsFound
 pub mod TreesLookedAt

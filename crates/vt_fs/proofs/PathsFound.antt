@@ -9,6 +9,7 @@ use Rattle.vt_spec.specs.Tree.{is_directory_node}
 use Rattle.vt_tree.specs.Paths.{NamesDirectoriesOnce, files_of, path_in}
 use Rattle.vt_tree.specs.TreeValue.{TreeValue, inodes_of, tree_of}
 use Rattle.vt_location.specs.declared.locations.NodeRef.{NodeRef}
+use Rattle.vt_location.specs.Births.{born_in}
 use Rattle.vt_location.specs.Locations.{number_of}
 use Rattle.vt_location.specs.Numbers.{counted, exchanged, inode_number}
 use Rattle.vt_location.proofs.NumberLemmas.{counted_inode, exchanged_back}
@@ -61,23 +62,6 @@ module _ (fs : Filesystems) (f : ℕ)
   pub path_nowhere : (b : Bool) → nat_eq top directory ≡ b → path_at (entry_at fs f) ≡ when b []
   path_nowhere b is = ap path_at (entry_nowhere fs f absent) ∙ nowhere_path b is
 
--- directories of one filesystem
-pub same_numbers : (top directory : NodeRef) → directory.filesystem ≡ top.filesystem
-    → nat_eq top.slot directory.slot ≡ true
-    → nat_eq (number_of top) (number_of directory) ≡ true
-same_numbers top directory one same =
-    eq-eqb (number_of top) (number_of directory)
-    (λ i. inode_number (sym (ap (λ filesystem. filesystem.count) one) i) (eqb-true top.slot directory.slot same i))
-
-pub other_numbers : (top directory : NodeRef) → directory.filesystem ≡ top.filesystem
-    → nat_eq top.slot directory.slot ≡ false
-    → nat_eq (number_of top) (number_of directory) ≡ false
-other_numbers top directory one other =
-    ne_eqb (number_of top) (number_of directory) (λ same.
-    let counts : directory.filesystem.count ≡ top.filesystem.count = ap (λ filesystem. filesystem.count) one in
-    let slots : top.slot ≡ directory.slot = omega (arith, counts, same) in
-    true≢false (sym (eq-eqb top.slot directory.slot slots) ∙ other))
-
 -- the root
 pub root_is : (fs : Filesystems) (f : ℕ) (root : NodeRef)
     → Some (number_of root) ≡ option_map (λ entry. (inodes_seen entry).root) (entry_of fs f)
@@ -100,7 +84,7 @@ root_nowhere fs directory is =
     (entry_nowhere fs f absent)
     ∙ nowhere_path fs f absent (inodes_seen (no_entry f)).root (number_of directory) false
     (ne_eqb (inodes_seen (no_entry f)).root (number_of directory)
-    (λ same. counted_inode f f directory.slot (sym (exchanged_back f (counted f)) ∙ same)))
+    (λ same. counted_inode f (born_in f directory.birth) directory.slot (sym (exchanged_back f (counted f)) ∙ same)))
   where
     nowhere : (o : Option FilesystemEntry) → None ≡ option_map (λ entry. (inodes_seen entry).root) o
         → option_map (λ (entry : FilesystemEntry). entry.tree) o ≡ None

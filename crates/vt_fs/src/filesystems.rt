@@ -1,5 +1,5 @@
 //! `Filesystems`, and the calls that look at them and change them.
-ghost use Rattle.std.specs.Prelude.{◌≡◌, ℕ, [], ◌+◌, ◌-◌, ◌++◌, ◌∷◌, ◌↔◌, ◌≤◌, nat_eq, length, map, drop, take, true, false, nat_lt, None, Some, IfOk, IfSome, IsOk, IsTrue, OnOk, OnErr, ◌<◌, option_copied, option_map, IsErr};
+ghost use Rattle.std.specs.Prelude.{◌≡◌, ℕ, [], ◌+◌, ◌-◌, ◌++◌, ◌∷◌, ◌↔◌, ◌≤◌, nat_eq, length, map, drop, take, true, false, nat_lt, None, Some, IfOk, IfSome, IsOk, IsTrue, OnOk, OnErr, ◌<◌, is_some, option_copied, option_map, IsErr};
 ghost use Rattle.std.specs.Option.{option_copied_mut};
 ghost use Rattle.std.specs.Borrow.{sem};
 ghost use Rattle.std.specs.List.{list_all};
@@ -16,13 +16,14 @@ ghost use Rattle.vt_spec.specs.Machine.Descriptors.{overwritten};
 ghost use Rattle.vt_spec.specs.Tree.{bytes_in, entries_in, is_directory_node, names_in};
 ghost use Rattle.vt_spec.specs.TreeInvariant.{IsDirectory, entry_at as number_at};
 ghost use Rattle.vt_tree.specs.Slots.{most_uses};
-ghost use Rattle.vt_location.specs.Locations.{number_of};
+ghost use Rattle.vt_location.specs.Locations.{number_of, plain_of};
+ghost use Rattle.vt_location.specs.declared.births.Birth.TheVariants.{Here};
 ghost use Rattle.vt_location.specs.Numbers.{exchanged, is_inode_of};
 
 use indexmap::IndexMap;
 use std::alloc::{AllocError, Global};
 use std::marker::Model;
-use vt_location::{FilesystemId, NodeRef};
+use vt_location::{Birth, FilesystemId, NodeRef};
 use vt_node::{Attr, Node, NodeId};
 use vt_tree::Tree;
 
@@ -68,8 +69,8 @@ fn found_under(
 /// They are kept by hash, in no order, so that making one and removing one cost the same however many there are; their
 /// numbers keep the order in which they were made.
 ///
-/// In a filesystem that does not exist there is nothing to read, and a change of bytes, attributes or uses has no
-/// effect.
+/// In a filesystem that does not exist, and at a node that was born below a layer, there is nothing to read, and a change
+/// of bytes, attributes or uses has no effect.
 #[derive(Debug, Drop)]
 pub struct Filesystems {
     by_number: IndexMap<FilesystemId, Filesystem>,
@@ -84,7 +85,7 @@ impl Model for Filesystems {
 }
 
 impl Filesystems {
-    ghost use Rattle.vt_fs.specs.FilesystemsValue.{FilesystemEntry, ChangesInodes, IsNew, entry_at, entry_of, files_at, inodes_at, inodes_seen, next_seen, node_seen, with_changed, without};
+    ghost use Rattle.vt_fs.specs.FilesystemsValue.{FilesystemEntry, ChangesInodes, IsNew, IsNowhere, entry_at, entry_of, files_at, inodes_at, inodes_seen, next_seen, node_seen, with_changed, without};
     ghost use Rattle.vt_fs.specs.Laws.{LieUnderRoot, ParentsAreNamed, is_lost_under};
     ghost use Rattle.vt_fs.specs.Lends.{lends_tree};
 
@@ -136,13 +137,40 @@ impl Filesystems {
         }
     }
 
+    // The slot of a node in the tree of its filesystem. What was born below a layer is in no tree.
+    #[inline(always)]
+    pub(crate) fn slot_of(&self, node: NodeRef) -> Option<NodeId>
+        ensures value { IfSome result (λ slot. slot ≡ node.slot) }
+        ensures number { IfSome result (λ slot. exchanged node.filesystem.count slot ≡ number_of node) }
+        ensures nowhere { result ≡ None → IsNowhere self.now node.filesystem.count (number_of node) }
+    {
+        match node.birth {
+            Birth::Here => Some(NodeId::new(node.slot)),
+            Birth::Below { .. } => {
+                self.has_no_births(node);
+                None
+            }
+        }
+    }
+
+    // No tree has a node that was born below a layer.
+    fn has_no_births(&self, node: NodeRef)
+        requires { plain_of node ≡ None }
+        ensures { IsNowhere self.now node.filesystem.count (number_of node) }
+    {
+        if let Some(found) = found_under(&self.by_number, node.filesystem) {
+            found.tree.numbers_fit();
+        }
+    }
+
     /// The node of an inode, its entries and its parent by slots.
     #[inline(always)]
     pub fn node(&self, inode: NodeRef) -> Option<&Node>
         ensures { option_map (node_seen inode.filesystem.count) (option_copied result)
             ≡ (files_at self.now inode.filesystem.count).tree.node (number_of inode) }
     {
-        self.get(inode.filesystem)?.node(slot_of(inode))
+        let slot = self.slot_of(inode)?;
+        self.get(inode.filesystem)?.node(slot)
     }
 
     /// The root directory of a filesystem.
@@ -159,8 +187,11 @@ impl Filesystems {
     pub fn uses(&self, inode: NodeRef) -> u64
         ensures { result ≡ uses_in ((inodes_at self.now inode.filesystem.count).inode (number_of inode)) }
     {
+        let Some(slot) = self.slot_of(inode) else {
+            return 0;
+        };
         match self.get(inode.filesystem) {
-            Some(tree) => tree.uses(slot_of(inode)),
+            Some(tree) => tree.uses(slot),
             None => 0,
         }
     }
@@ -174,9 +205,15 @@ impl Filesystems {
         ensures { result
             ≡ is_directory_under nat_eq (files_at self.now top.filesystem.count) (number_of top) (number_of directory) }
     {
+        let Some(upper) = self.slot_of(top) else {
+            return top.is_same(directory);
+        };
+        let Some(lower) = self.slot_of(directory) else {
+            return top.is_same(directory);
+        };
         match self.get(top.filesystem) {
-            Some(tree) => tree.is_under(slot_of(top), slot_of(directory)),
-            None => top.slot == directory.slot,
+            Some(tree) => tree.is_under(upper, lower),
+            None => top.is_same(directory),
         }
     }
 
@@ -186,10 +223,12 @@ impl Filesystems {
         requires named { ParentsAreNamed (files_at self.now directory.filesystem.count).tree }
         ensures { result ≡ is_removed nat_eq (files_at self.now directory.filesystem.count).tree (number_of directory) }
     {
+        let Some(slot) = self.slot_of(directory) else {
+            return true;
+        };
         let Some(tree) = self.get(directory.filesystem) else {
             return true;
         };
-        let slot = slot_of(directory);
         slot != tree.root() && slot == tree.parent(slot)
     }
 
@@ -210,7 +249,7 @@ impl Filesystems {
             return true;
         }
         match self.root(root.filesystem) {
-            Some(top) if top == root => false,
+            Some(top) if top.is_same(root) => false,
             _ => !self.is_under(root, directory),
         }
     }
@@ -219,6 +258,7 @@ impl Filesystems {
     pub fn next_number(&self, filesystem: FilesystemId) -> Option<NodeRef>
         ensures number { option_map number_of result ≡ option_map next_seen (entry_of self.now filesystem.count) }
         ensures filesystem { IfSome result (λ next. next.filesystem ≡ filesystem) }
+        ensures birth { IfSome result (λ next. next.birth ≡ Here) }
         ensures vacant { IfSome result (λ next. (inodes_at self.now filesystem.count).inode (number_of next) ≡ None) }
     {
         let tree = self.get(filesystem)?;
@@ -293,8 +333,11 @@ impl Filesystems {
         ensures empty { entries_in ((files_at self.now directory.filesystem.count).tree.node (number_of directory)) ≡ []
             → IsOk result }
     {
+        let Some(slot) = self.slot_of(directory) else {
+            return Ok(Vec::new(*self.by_number.allocator()));
+        };
         match self.get(directory.filesystem) {
-            Some(tree) => tree.list(slot_of(directory)),
+            Some(tree) => tree.list(slot),
             None => Ok(Vec::new(*self.by_number.allocator())),
         }
     }
@@ -315,8 +358,11 @@ impl Filesystems {
             (bytes_in ((files_at self.now file.filesystem.count).tree.node (number_of file)))) ≡ []
             → IsOk result }
     {
+        let Some(slot) = self.slot_of(file) else {
+            return Ok(Vec::new(*self.by_number.allocator()));
+        };
         match self.get(file.filesystem) {
-            Some(tree) => tree.read_part(slot_of(file), offset, size),
+            Some(tree) => tree.read_part(slot, offset, size),
             None => Ok(Vec::new(*self.by_number.allocator())),
         }
     }
@@ -339,10 +385,12 @@ impl Filesystems {
         ensures number { IfOk result (λ made.
             number_of made ≡ next_seen (entry_at self.old directory.filesystem.count)) }
         ensures filesystem { IfOk result (λ made. made.filesystem ≡ directory.filesystem) }
+        ensures birth { IfOk result (λ made. made.birth ≡ Here) }
         ensures err { OnErr result (self.new ≡ self.old) }
     {
+        let parent = self.slot_of(directory).unwrap();
         let tree = self.get_mut(directory.filesystem).unwrap();
-        let slot = tree.create(slot_of(directory), name, node)?;
+        let slot = tree.create(parent, name, node)?;
         Ok(in_slot(directory.filesystem, slot))
     }
 
@@ -359,6 +407,8 @@ impl Filesystems {
         requires directory { IsDirectory (files_at self.old directory.filesystem.count).tree (number_of directory) }
         requires free { number_at (files_at self.old directory.filesystem.count).tree
             (number_of directory) name.items ≡ None }
+        requires there { is_some
+            ((files_at self.old directory.filesystem.count).tree.node (number_of object)) ≡ true }
         requires object { is_directory_node
             ((files_at self.old directory.filesystem.count).tree.node (number_of object)) ≡ false }
         ensures ok { OnOk result (ChangesInodes directory.filesystem.count
@@ -366,8 +416,10 @@ impl Filesystems {
             self.old self.new) }
         ensures err { OnErr result (self.new ≡ self.old) }
     {
+        let parent = self.slot_of(directory).unwrap();
+        let linked = self.slot_of(object).unwrap();
         let tree = self.get_mut(directory.filesystem).unwrap();
-        tree.link(slot_of(directory), name, slot_of(object))
+        tree.link(parent, name, linked)
     }
 
     /// Removes a name of an inode that has no entries: unlink(2), rmdir(2). With its last use the inode is freed. It
@@ -376,14 +428,18 @@ impl Filesystems {
         requires one_filesystem { object.filesystem ≡ directory.filesystem }
         requires named { number_at (files_at self.old directory.filesystem.count).tree
             (number_of directory) name.now ≡ Some (number_of object) }
+        requires there { is_some
+            ((files_at self.old directory.filesystem.count).tree.node (number_of object)) ≡ true }
         requires empty { entries_in
             ((files_at self.old directory.filesystem.count).tree.node (number_of object)) ≡ [] }
         ensures { ChangesInodes directory.filesystem.count
             (λ inodes. changed nat_eq inodes (Remove (number_of directory) name.now (number_of object)))
             self.old self.new }
     {
+        let parent = self.slot_of(directory).unwrap();
+        let named = self.slot_of(object).unwrap();
         let tree = self.get_mut(directory.filesystem).unwrap();
-        tree.unlink(slot_of(directory), name, slot_of(object));
+        tree.unlink(parent, name, named);
     }
 
     /// Renames an inode within its filesystem, and replaces what had the new name: rename(2).
@@ -401,6 +457,8 @@ impl Filesystems {
         requires of_object { object.filesystem ≡ from.filesystem }
         requires named { number_at (files_at self.old from.filesystem.count).tree
             (number_of from) old.now ≡ Some (number_of object) }
+        requires there { is_some
+            ((files_at self.old from.filesystem.count).tree.node (number_of object)) ≡ true }
         requires directory { IsDirectory (files_at self.old from.filesystem.count).tree (number_of to) }
         requires replaced { MayReplace (files_at self.old from.filesystem.count).tree (number_of object)
             (number_at (files_at self.old from.filesystem.count).tree (number_of to) new.items) }
@@ -413,8 +471,11 @@ impl Filesystems {
             (number_at (files_at self.old from.filesystem.count).tree (number_of to) new.items ≡ None) }
         ensures err { OnErr result (self.new ≡ self.old) }
     {
+        let was_in = self.slot_of(from).unwrap();
+        let goes_to = self.slot_of(to).unwrap();
+        let named = self.slot_of(object).unwrap();
         let tree = self.get_mut(from.filesystem).unwrap();
-        tree.rename(slot_of(from), old, slot_of(to), new, slot_of(object))
+        tree.rename(was_in, old, goes_to, new, named)
     }
 
     /// Sets the whole content of a file: write(2) after open(2) with O_TRUNC. It does not allocate. A symlink, a
@@ -426,8 +487,11 @@ impl Filesystems {
         ensures { ChangesInodes file.filesystem.count
             (λ inodes. changed nat_eq inodes (SetBytes (number_of file) bytes.items)) self.old self.new }
     {
+        let Some(slot) = self.slot_of(file) else {
+            return;
+        };
         if let Some(tree) = self.get_mut(file.filesystem) {
-            tree.write(slot_of(file), bytes);
+            tree.write(slot, bytes);
         }
     }
 
@@ -449,8 +513,11 @@ impl Filesystems {
             < offset + length bytes.now) }
         ensures err { OnErr result (self.new ≡ self.old) }
     {
+        let Some(slot) = self.slot_of(file) else {
+            return Ok(());
+        };
         match self.get_mut(file.filesystem) {
-            Some(tree) => tree.write_at(slot_of(file), offset, bytes),
+            Some(tree) => tree.write_at(slot, offset, bytes),
             None => Ok(()),
         }
     }
@@ -460,8 +527,11 @@ impl Filesystems {
         ensures { ChangesInodes object.filesystem.count
             (λ inodes. changed nat_eq inodes (SetAttr (number_of object) attr)) self.old self.new }
     {
+        let Some(slot) = self.slot_of(object) else {
+            return;
+        };
         if let Some(tree) = self.get_mut(object.filesystem) {
-            tree.set_attr(slot_of(object), attr);
+            tree.set_attr(slot, attr);
         }
     }
 
@@ -471,8 +541,11 @@ impl Filesystems {
         ensures { ChangesInodes directory.filesystem.count
             (λ inodes. changed nat_eq inodes (SetMark (number_of directory) opaque)) self.old self.new }
     {
+        let Some(slot) = self.slot_of(directory) else {
+            return;
+        };
         if let Some(tree) = self.get_mut(directory.filesystem) {
-            tree.set_opaque(slot_of(directory), opaque);
+            tree.set_opaque(slot, opaque);
         }
     }
 
@@ -487,8 +560,11 @@ impl Filesystems {
             ↔ (uses_in ((inodes_at self.old object.filesystem.count).inode (number_of object)) ≡ most_uses) }
         ensures err { OnErr result (self.new ≡ self.old) }
     {
+        let Some(slot) = self.slot_of(object) else {
+            return Ok(());
+        };
         match self.get_mut(object.filesystem) {
-            Some(tree) => tree.pin(slot_of(object)),
+            Some(tree) => tree.pin(slot),
             None => Ok(()),
         }
     }
@@ -498,23 +574,18 @@ impl Filesystems {
         ensures { ChangesInodes object.filesystem.count
             (λ inodes. unpinned nat_eq inodes (number_of object)) self.old self.new }
     {
+        let Some(slot) = self.slot_of(object) else {
+            return;
+        };
         if let Some(tree) = self.get_mut(object.filesystem) {
-            tree.unpin(slot_of(object));
+            tree.unpin(slot);
         }
     }
 }
 
-// The number of an inode in the tree of its filesystem.
-pub(crate) fn slot_of(inode: NodeRef) -> NodeId
-    ensures value { result ≡ inode.slot }
-    ensures number { exchanged inode.filesystem.count result ≡ number_of inode }
-{
-    inode.node()
-}
-
 // The inode of this number in the tree of a filesystem.
 fn in_slot(filesystem: FilesystemId, slot: NodeId) -> NodeRef
-    ensures value { result ≡ record { filesystem = filesystem; slot = slot } }
+    ensures value { result ≡ record { filesystem = filesystem; slot = slot; birth = Here } }
     ensures number { number_of result ≡ exchanged filesystem.count slot }
 {
     NodeRef::new(filesystem, NodeId::new(slot.index()))

@@ -1,11 +1,12 @@
 //! Paths from one directory of a filesystem down to another: mountinfo of proc(5).
-ghost use Rattle.std.specs.Prelude.{◌≡◌, IfOk, map, nat_eq, option_map};
+ghost use Rattle.std.specs.Prelude.{◌≡◌, [], IfOk, map, nat_eq, option_map};
 ghost use Rattle.vt_spec.specs.FileTree.{path_down};
+ghost use Rattle.vt_spec.specs.Lists.{when};
 ghost use Rattle.vt_location.specs.Locations.{number_of};
 ghost use Rattle.vt_tree.specs.Paths.{NamesDirectoriesOnce};
 ghost use Rattle.vt_fs.specs.FilesystemsValue.{files_at};
 
-use crate::filesystems::{Filesystems, slot_of};
+use crate::filesystems::Filesystems;
 use std::alloc::{AllocError, Global};
 use vt_location::NodeRef;
 
@@ -24,10 +25,15 @@ impl Filesystems {
         ensures ok { IfOk result (λ path. option_map (λ names. map (λ name. name.items) names.items) path
             ≡ path_down nat_eq (files_at self.now top.filesystem.count) (number_of top) (number_of directory)) }
     {
+        let Some(upper) = self.slot_of(top) else {
+            return Ok(path_to_itself(alloc, top, directory));
+        };
+        let Some(lower) = self.slot_of(directory) else {
+            return Ok(path_to_itself(alloc, top, directory));
+        };
         match self.get(top.filesystem) {
-            Some(tree) => tree.path_down(alloc, slot_of(top), slot_of(directory)),
-            None if top.slot == directory.slot => Ok(Some(Vec::new(alloc))),
-            None => Ok(None),
+            Some(tree) => tree.path_down(alloc, upper, lower),
+            None => Ok(path_to_itself(alloc, top, directory)),
         }
     }
 
@@ -46,5 +52,17 @@ impl Filesystems {
             Some(root) => self.path_down(alloc, root, directory),
             None => Ok(None),
         }
+    }
+}
+
+// No names lead from a node to itself, and none to another node.
+fn path_to_itself(alloc: Global, top: NodeRef, directory: NodeRef) -> Option<Vec<Vec<u8>>>
+    ensures { option_map (λ names. map (λ name. name.items) names.items) result
+        ≡ when (nat_eq (number_of top) (number_of directory)) [] }
+{
+    if top.is_same(directory) {
+        Some(Vec::new(alloc))
+    } else {
+        None
     }
 }

@@ -1,4 +1,7 @@
 pub mod Numbers
+pub mod Births
 pub mod Locations
 pub mod MountValue
+pub mod NodeNumbers
+pub mod SameNodes
 pub mod InOrder

@@ -14,9 +14,9 @@ use Rattle.vt_spec.specs.Tree.{Content, Entries, Node, Tree, entries_in, name_cm
 use Rattle.vt_spec.specs.Tree.Content.{Directory, Regular, Symlink, Whiteout}
 use Rattle.vt_spec.specs.TreeInvariant.{entry_at}
 use Rattle.vt_laws_layers.specs.Layers.Directories.{shown_in}
-use Rattle.vt_location.specs.declared.locations.NodeRef.{NodeRef}
+use Rattle.vt_location.specs.declared.locations.InodeRef.{InodeRef}
 use Rattle.vt_location.specs.declared.numbers.FilesystemId.{FilesystemId}
-use Rattle.vt_location.specs.Locations.{number_of}
+use Rattle.vt_location.specs.Locations.{inode_of}
 use Rattle.vt_location.specs.Numbers.{exchanged}
 use Rattle.vt_tree.specs.TreeValue.{TreeValue}
 use Rattle.vt_fs.specs.FilesystemsValue.{FilesystemEntry, Filesystems, entry_of, files_at, node_seen}
@@ -46,7 +46,7 @@ pub names_more : (fs : Filesystems) (merged : List MergedDirectory) (index : ℕ
     (all names new : List (List ℕ)) → index < length merged
     → all ++ names_had fs (drop index merged) ≡ names_had fs merged
     → names ≡ names_in ((files_at fs (get_or merged index default).directory.filesystem.count).tree.node
-    (number_of (get_or merged index default).directory))
+    (inode_of (get_or merged index default).directory))
     → new ≡ all ++ names
     → new ++ names_had fs (drop (index + 1) merged) ≡ names_had fs merged
 names_more fs merged index default all names new within so_far is grown =
@@ -81,31 +81,31 @@ module _ (fs : Filesystems) (merged : List MergedDirectory) (index : ℕ) (defau
   lower = shown_in (placed_views fs (drop (index + 1) merged)) (name ∷ [])
 
   step : (found : Option ℕ) → found ≡ entry_at (tree_seen here.directory.filesystem.count lent)
-      (number_of here.directory) name
+      (inode_of here.directory) name
       → shown_in (placed_views fs (drop index merged)) (name ∷ [])
       ≡ own_shows (view_of (opened fs here.directory)) here.layer found lower
   step found at =
       ap (λ l. shown_in (placed_views fs l) (name ∷ [])) (drop_more merged index default within)
       ∙ ap (λ o. own_shows (view_of (opened fs here.directory)) here.layer o lower)
-      (sym (at ∙ ap (λ t. entry_at t (number_of here.directory) name)
+      (sym (at ∙ ap (λ t. entry_at t (inode_of here.directory) name)
       (tree_lent fs here.directory.filesystem.count lent is)))
 
-  pub goes_lower : None ≡ entry_at (tree_seen here.directory.filesystem.count lent) (number_of here.directory) name
+  pub goes_lower : None ≡ entry_at (tree_seen here.directory.filesystem.count lent) (inode_of here.directory) name
       → shown_in (placed_views fs (drop index merged)) (name ∷ []) ≡ lower
   goes_lower none = step None none
 
-  pub first_shows : (object : NodeRef) (white : Bool)
-      → Some (number_of object) ≡ entry_at (tree_seen here.directory.filesystem.count lent)
-      (number_of here.directory) name
+  pub first_shows : (object : InodeRef) (white : Bool)
+      → Some (inode_of object) ≡ entry_at (tree_seen here.directory.filesystem.count lent)
+      (inode_of here.directory) name
       → object.filesystem ≡ here.directory.filesystem
-      → white ≡ is_kind_in White ((files_at fs object.filesystem.count).tree.node (number_of object))
+      → white ≡ is_kind_in White ((files_at fs object.filesystem.count).tree.node (inode_of object))
       → not white ≡ is_some (shown_in (placed_views fs (drop index merged)) (name ∷ []))
   first_shows object white at same is_white =
       ap not (is_white ∙ ap (λ (id : FilesystemId). is_kind_in White ((files_at fs id.count).tree.node
-      (number_of object))) same)
-      ∙ sym (ap is_some (step (Some (number_of object)) at)
-      ∙ when_is_some (not (is_kind_in White (tree.node (number_of object))))
-      (record { layer = here.layer; object = number_of object }))
+      (inode_of object))) same)
+      ∙ sym (ap is_some (step (Some (inode_of object)) at)
+      ∙ when_is_some (not (is_kind_in White (tree.node (inode_of object))))
+      (record { layer = here.layer; object = inode_of object }))
 
 -- what they show has a name there
 abbrev pub is_name : List ℕ → List ℕ → Bool
@@ -128,10 +128,10 @@ shown_is_had fs [] name shows = absurd (true≢false (sym shows))
 shown_is_had fs (top ∷ merged) name shows =
     any_appended (is_name name) (names_in own) (names_had fs merged)
     ∙ ap (λ b. b || list_any (is_name name) (names_had fs merged)) (sym (is_some-find name_cmp name (entries_in own)))
-    ∙ by (entry_at (opened fs top.directory).tree (number_of top.directory) name) shows (shown_is_had fs merged name)
+    ∙ by (entry_at (opened fs top.directory).tree (inode_of top.directory) name) shows (shown_is_had fs merged name)
   where
     own : Option (Node ℕ)
-    own = (opened fs top.directory).tree.node (number_of top.directory)
+    own = (opened fs top.directory).tree.node (inode_of top.directory)
 
     by : (found : Option ℕ)
         → is_some (own_shows (view_of (opened fs top.directory)) top.layer found

@@ -5,8 +5,8 @@ use Rattle.vt_spec.specs.Machine.Views.{hides}
 use Rattle.vt_spec.specs.Tree.{Node, Tree, is_directory_node}
 use Rattle.vt_spec.specs.TreeInvariant.{entry_at}
 use Rattle.vt_spec.specs.Inodes.{tree_of}
-use Rattle.vt_location.specs.declared.locations.NodeRef.{NodeRef}
-use Rattle.vt_location.specs.Locations.{number_of}
+use Rattle.vt_location.specs.declared.locations.InodeRef.{InodeRef}
+use Rattle.vt_location.specs.Locations.{inode_of}
 use Rattle.vt_tree.specs.TreeValue.{TreeValue}
 use Rattle.vt_fs.proofs.Standing.{at_look, entry_nowhere}
 use Rattle.vt_fs.specs.FilesystemsValue.{FilesystemEntry, Filesystems, entry_of, files_at, files_seen, seen_in}
@@ -30,21 +30,21 @@ module _ (fs : Filesystems) (top : MergedDirectory) (name : List ℕ) (lent : Op
     tree = (files_at fs f).tree
 
     abbrev found : Option ℕ
-    found = entry_at tree (number_of top.directory) name
+    found = entry_at tree (inode_of top.directory) name
 
-    pub nothing_found : None ≡ entry_at (tree_seen f lent) (number_of top.directory) name
+    pub nothing_found : None ≡ entry_at (tree_seen f lent) (inode_of top.directory) name
         → (lower : List (PlacedLayer ℕ)) → lower ≡ directory_over (placed_of fs top) found lower
     nothing_found none lower =
         ap (λ o. directory_over (placed_of fs top) o lower)
-        (none ∙ ap (λ t. entry_at t (number_of top.directory) name) (tree_lent fs f lent is))
+        (none ∙ ap (λ t. entry_at t (inode_of top.directory) name) (tree_lent fs f lent is))
 
-    module _ (object : NodeRef) (same : object.filesystem ≡ top.directory.filesystem)
-        (at : Some (number_of object) ≡ entry_at (tree_seen f lent) (number_of top.directory) name) where
+    module _ (object : InodeRef) (same : object.filesystem ≡ top.directory.filesystem)
+        (at : Some (inode_of object) ≡ entry_at (tree_seen f lent) (inode_of top.directory) name) where
       seen : tree_seen object.filesystem.count lent ≡ tree
       seen = ap (λ g. tree_seen g.count lent) same ∙ tree_lent fs f lent is
 
       abbrev node_in : Tree ℕ → Option (Node ℕ)
-      node_in t = t.node (number_of object)
+      node_in t = t.node (inode_of object)
 
       abbrev own : MergedDirectory
       own = record { layer = top.layer; directory = object }
@@ -53,12 +53,12 @@ module _ (fs : Filesystems) (top : MergedDirectory) (name : List ℕ) (lent : Op
           → placed_layers fs (option_to_list (if b then Some own else None)) ++ (if h then [] else lower)
           ≡ (if b then record {
             layer = top.layer;
-            open_layer = record { tree = tree; directory = number_of object };
+            open_layer = record { tree = tree; directory = inode_of object };
           } ∷ [] else []) ++ (if h then [] else lower)
       by true h lower =
           (λ i. record {
             layer = top.layer;
-            open_layer = record { tree = (files_at fs (same i).count).tree; directory = number_of object };
+            open_layer = record { tree = (files_at fs (same i).count).tree; directory = inode_of object };
           } ∷ (if h then [] else lower))
       by false h lower = refl
 
@@ -74,4 +74,4 @@ module _ (fs : Filesystems) (top : MergedDirectory) (name : List ℕ) (lent : Op
           ++ (if hides (node_in (seen i)) then [] else lower))
           ∙ by (is_directory_node (node_in tree)) (hides (node_in tree)) lower
           ∙ ap (λ o. directory_over (placed_of fs top) o lower)
-          (at ∙ ap (λ t. entry_at t (number_of top.directory) name) (tree_lent fs f lent is))
+          (at ∙ ap (λ t. entry_at t (inode_of top.directory) name) (tree_lent fs f lent is))

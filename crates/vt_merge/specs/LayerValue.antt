@@ -6,8 +6,8 @@ use Rattle.vt_spec.specs.Machine.Views.{hides}
 use Rattle.vt_spec.specs.Tree.{Tree, names_in}
 use Rattle.vt_spec.specs.TreeInvariant.{entry_at}
 use Rattle.vt_laws_layers.specs.Layers.Directories.{PlacedLayer, PlacedView, placed_view}
-use Rattle.vt_location.specs.declared.locations.NodeRef.{NodeRef}
-use Rattle.vt_location.specs.Locations.{number_of}
+use Rattle.vt_location.specs.declared.locations.InodeRef.{InodeRef}
+use Rattle.vt_location.specs.Locations.{inode_of}
 use Rattle.vt_tree.specs.TreeValue.{TreeValue}
 use Rattle.vt_fs.specs.FilesystemsValue.{Filesystems, files_at, no_entry, seen_in}
 use Rattle.vt_merge.specs.declared.layers.LayerRef.{LayerRef}
@@ -19,9 +19,9 @@ abbrev pub tree_seen : ℕ → Option TreeValue → Tree ℕ
 tree_seen count tree = tree_of (seen_in count (unwrap_or tree (no_entry count).tree))
 
 -- a directory of a plain tree, as a layer is looked into
-abbrev pub opened : Filesystems → NodeRef → OpenLayer ℕ
+abbrev pub opened : Filesystems → InodeRef → OpenLayer ℕ
 opened trees directory =
-    record { tree = (files_at trees directory.filesystem.count).tree; directory = number_of directory }
+    record { tree = (files_at trees directory.filesystem.count).tree; directory = inode_of directory }
 
 abbrev pub layer_of : Filesystems → LayerRef → OpenLayer ℕ
 layer_of trees layer = opened trees layer.directory
@@ -31,7 +31,7 @@ layers_of trees layers = map (layer_of trees) layers
 
 -- an object that is shown
 abbrev pub seen_of : Real → Shown ℕ
-seen_of real = record { layer = real.layer; object = number_of real.inode }
+seen_of real = record { layer = real.layer; object = inode_of real.inode }
 
 -- directories that are merged, each with the place of its layer
 abbrev pub placed_of : Filesystems → MergedDirectory → PlacedLayer ℕ
@@ -55,4 +55,4 @@ cut_on tree (name ∷ names) from = cut_by tree (entry_at tree from name) (cut_o
 -- the names of directories, one directory after the other
 abbrev pub names_had : Filesystems → List MergedDirectory → List (List ℕ)
 names_had trees merged =
-    flat_map (λ top. names_in ((opened trees top.directory).tree.node (number_of top.directory))) merged
+    flat_map (λ top. names_in ((opened trees top.directory).tree.node (inode_of top.directory))) merged

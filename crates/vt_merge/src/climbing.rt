@@ -3,7 +3,7 @@ ghost use Rattle.std.specs.Prelude.{◌≡◌, ◌≢◌, [], IfSome, List, None
 ghost use Rattle.vt_spec.specs.Machine.Layers.{at_path};
 ghost use Rattle.vt_spec.specs.Tree.{is_directory_node};
 ghost use Rattle.vt_spec.specs.TreeInvariant.{IsDirectory, IsTree, led};
-ghost use Rattle.vt_location.specs.Locations.{number_of};
+ghost use Rattle.vt_location.specs.Locations.{inode_of};
 ghost use Rattle.vt_location.specs.Numbers.{exchanged};
 ghost use Rattle.vt_tree.specs.Paths.{NamesDirectoriesOnce};
 ghost use Rattle.vt_tree.specs.TreeValue.{tree_of};
@@ -15,7 +15,7 @@ use crate::entries::slot_of;
 use crate::ways::Way;
 use std::marker::Model;
 use vt_fs::Filesystems;
-use vt_location::{FilesystemId, NodeRef};
+use vt_location::{FilesystemId, InodeRef};
 use vt_node::NodeId;
 use vt_tree::Tree;
 
@@ -79,31 +79,35 @@ fn name_above(tree: &Tree, directory: NodeId) -> Option<&[u8]>
 
 /// The way from a directory down to another one of its filesystem, if that is a directory and lies under it. It does not
 /// allocate.
-pub fn way_down<'a>(trees: &'a Filesystems, top: NodeRef, directory: NodeRef) -> Option<WayDown<'a>>
+pub fn way_down<'a>(
+    trees: &'a Filesystems,
+    top: InodeRef,
+    directory: InodeRef,
+) -> Option<WayDown<'a>>
     requires tree { IsTree (files_at trees.now top.filesystem.count).tree }
     requires one_filesystem { directory.filesystem ≡ top.filesystem }
-    ensures leads { IfSome result (λ way. at_path (opened trees.now top) way ≡ Some (number_of directory)) }
+    ensures leads { IfSome result (λ way. at_path (opened trees.now top) way ≡ Some (inode_of directory)) }
     ensures directory { IfSome result (λ way.
-        IsDirectory (files_at trees.now top.filesystem.count).tree (number_of directory)) }
+        IsDirectory (files_at trees.now top.filesystem.count).tree (inode_of directory)) }
     ensures nowhere { result ≡ None
-        → IsDirectory (files_at trees.now top.filesystem.count).tree (number_of directory)
-        → (path : List (List ℕ)) → at_path (opened trees.now top) path ≢ Some (number_of directory) }
+        → IsDirectory (files_at trees.now top.filesystem.count).tree (inode_of directory)
+        → (path : List (List ℕ)) → at_path (opened trees.now top) path ≢ Some (inode_of directory) }
 {
     way_in(trees.get(top.filesystem)?, top, directory)
 }
 
 // The same, in the directories' tree.
-fn way_in<'a>(tree: &'a Tree, top: NodeRef, directory: NodeRef) -> Option<WayDown<'a>>
+fn way_in<'a>(tree: &'a Tree, top: InodeRef, directory: InodeRef) -> Option<WayDown<'a>>
     requires tree { IsTree (tree_seen top.filesystem.count (Some tree.now)) }
     requires one_filesystem { directory.filesystem ≡ top.filesystem }
     ensures leads { IfSome result (λ way.
-        led (tree_seen top.filesystem.count (Some tree.now)) (number_of top) way ≡ Some (number_of directory)) }
+        led (tree_seen top.filesystem.count (Some tree.now)) (inode_of top) way ≡ Some (inode_of directory)) }
     ensures directory { IfSome result (λ way.
-        IsDirectory (tree_seen top.filesystem.count (Some tree.now)) (number_of directory)) }
+        IsDirectory (tree_seen top.filesystem.count (Some tree.now)) (inode_of directory)) }
     ensures nowhere { result ≡ None
-        → IsDirectory (tree_seen top.filesystem.count (Some tree.now)) (number_of directory)
+        → IsDirectory (tree_seen top.filesystem.count (Some tree.now)) (inode_of directory)
         → (path : List (List ℕ))
-        → led (tree_seen top.filesystem.count (Some tree.now)) (number_of top) path ≢ Some (number_of directory) }
+        → led (tree_seen top.filesystem.count (Some tree.now)) (inode_of top) path ≢ Some (inode_of directory) }
 {
     if !is_directory(tree, directory) {
         return None;
@@ -114,9 +118,9 @@ fn way_in<'a>(tree: &'a Tree, top: NodeRef, directory: NodeRef) -> Option<WayDow
 }
 
 // Whether an inode of a tree is a directory.
-fn is_directory(tree: &Tree, inode: NodeRef) -> bool
+fn is_directory(tree: &Tree, inode: InodeRef) -> bool
     ensures { result
-        ≡ is_directory_node ((tree_seen inode.filesystem.count (Some tree.now)).node (number_of inode)) }
+        ≡ is_directory_node ((tree_seen inode.filesystem.count (Some tree.now)).node (inode_of inode)) }
 {
     match tree.node(slot_of(inode)) {
         Some(node) => node.is_directory(),

@@ -5,45 +5,45 @@ ghost use Rattle.vt_spec.specs.FileTree.{is_kind_in};
 ghost use Rattle.vt_spec.specs.declared.attributes.Kind.TheVariants.{White};
 ghost use Rattle.vt_spec.specs.Tree.{is_directory_node};
 ghost use Rattle.vt_spec.specs.TreeInvariant.{entry_at};
-ghost use Rattle.vt_location.specs.Locations.{number_of};
+ghost use Rattle.vt_location.specs.Locations.{inode_of};
 ghost use Rattle.vt_location.specs.Numbers.{exchanged};
 ghost use Rattle.vt_fs.specs.FilesystemsValue.{files_at, node_seen};
 ghost use Rattle.vt_merge.specs.LayerValue.{tree_seen};
 
 use crate::layers::MergedDirectory;
 use vt_fs::Filesystems;
-use vt_location::NodeRef;
+use vt_location::InodeRef;
 use vt_node::{Kind, Node, NodeId};
 use vt_tree::Tree;
 
 // The number of an inode in the tree of its filesystem.
-pub(crate) fn slot_of(inode: NodeRef) -> NodeId
+pub(crate) fn slot_of(inode: InodeRef) -> NodeId
     ensures value { result ≡ inode.slot }
-    ensures number { exchanged inode.filesystem.count result ≡ number_of inode }
+    ensures number { exchanged inode.filesystem.count result ≡ inode_of inode }
 {
     inode.node()
 }
 
 // The inode of this number in the tree of the filesystem of another one.
-fn beside(inode: NodeRef, slot: NodeId) -> NodeRef
+fn beside(inode: InodeRef, slot: NodeId) -> InodeRef
     ensures value { result ≡ record { filesystem = inode.filesystem; slot = slot } }
-    ensures number { number_of result ≡ exchanged inode.filesystem.count slot }
+    ensures number { inode_of result ≡ exchanged inode.filesystem.count slot }
 {
-    NodeRef::new(inode.filesystem, NodeId::new(slot.index()))
+    InodeRef::new(inode.filesystem, NodeId::new(slot.index()))
 }
 
 // The node of an inode, in the tree of its filesystem.
-fn node(tree: Option<&Tree>, inode: NodeRef) -> Option<&Node>
+fn node(tree: Option<&Tree>, inode: InodeRef) -> Option<&Node>
     ensures { option_map (node_seen inode.filesystem.count) (option_copied result)
-        ≡ (tree_seen inode.filesystem.count (option_copied tree.entry)).node (number_of inode) }
+        ≡ (tree_seen inode.filesystem.count (option_copied tree.entry)).node (inode_of inode) }
 {
     tree?.node(slot_of(inode))
 }
 
 // The inode to which an entry of a directory leads.
-pub(crate) fn entry(tree: Option<&Tree>, directory: NodeRef, name: &[u8]) -> Option<NodeRef>
-    ensures number { option_map number_of result
-        ≡ entry_at (tree_seen directory.filesystem.count (option_copied tree.entry)) (number_of directory) name.now }
+pub(crate) fn entry(tree: Option<&Tree>, directory: InodeRef, name: &[u8]) -> Option<InodeRef>
+    ensures number { option_map inode_of result
+        ≡ entry_at (tree_seen directory.filesystem.count (option_copied tree.entry)) (inode_of directory) name.now }
     ensures filesystem { IfSome result (λ object. object.filesystem ≡ directory.filesystem) }
 {
     let slot = tree?.node(slot_of(directory))?.entry(name)?;
@@ -51,8 +51,8 @@ pub(crate) fn entry(tree: Option<&Tree>, directory: NodeRef, name: &[u8]) -> Opt
 }
 
 // Whether it hides what lower layers have there and under it.
-pub(crate) fn hides(tree: Option<&Tree>, inode: NodeRef) -> bool
-    ensures { result ≡ hides ((tree_seen inode.filesystem.count (option_copied tree.entry)).node (number_of inode)) }
+pub(crate) fn hides(tree: Option<&Tree>, inode: InodeRef) -> bool
+    ensures { result ≡ hides ((tree_seen inode.filesystem.count (option_copied tree.entry)).node (inode_of inode)) }
 {
     match node(tree, inode) {
         Some(node) => !node.is_directory() || node.is_opaque(),
@@ -64,10 +64,10 @@ pub(crate) fn hides(tree: Option<&Tree>, inode: NodeRef) -> bool
 pub(crate) fn directory_at(
     tree: Option<&Tree>,
     layer: usize,
-    inode: NodeRef,
+    inode: InodeRef,
 ) -> Option<MergedDirectory>
     ensures { result
-        ≡ (if is_directory_node ((tree_seen inode.filesystem.count (option_copied tree.entry)).node (number_of inode))
+        ≡ (if is_directory_node ((tree_seen inode.filesystem.count (option_copied tree.entry)).node (inode_of inode))
         then Some (record { layer = layer; directory = inode }) else None) }
 {
     match node(tree, inode) {
@@ -80,11 +80,11 @@ pub(crate) fn directory_at(
 }
 
 // Whether it is a whiteout.
-pub(crate) fn is_whiteout(trees: &Filesystems, inode: NodeRef) -> bool
+pub(crate) fn is_whiteout(trees: &Filesystems, inode: InodeRef) -> bool
     ensures { result
-        ≡ is_kind_in White ((files_at trees.now inode.filesystem.count).tree.node (number_of inode)) }
+        ≡ is_kind_in White ((files_at trees.now inode.filesystem.count).tree.node (inode_of inode)) }
 {
-    match trees.node(inode) {
+    match trees.node(inode.node_ref()) {
         Some(node) => node.kind() == Kind::White,
         None => false,
     }

@@ -3,25 +3,25 @@ ghost use Rattle.std.specs.Prelude.{◌≡◌, IfSome, option_copied, option_map
 ghost use Rattle.vt_spec.specs.Machine.Layers.{at_path, view_of};
 ghost use Rattle.vt_spec.specs.Machine.Views.{cuts};
 ghost use Rattle.vt_spec.specs.TreeInvariant.{led};
-ghost use Rattle.vt_location.specs.Locations.{number_of};
+ghost use Rattle.vt_location.specs.Locations.{inode_of};
 ghost use Rattle.vt_merge.specs.LayerValue.{cut_on, opened, tree_seen};
 
 use crate::entries::{entry, hides};
 use crate::ways::Way;
 use vt_fs::Filesystems;
-use vt_location::NodeRef;
+use vt_location::InodeRef;
 use vt_tree::Tree;
 
 // Where names lead in a layer, and whether it hides there what lower ones have.
 #[derive(Clone, Copy, Debug)]
 pub(crate) struct Followed {
-    pub(crate) object: Option<NodeRef>,
+    pub(crate) object: Option<InodeRef>,
     pub(crate) cut: bool,
 }
 
 // Names followed from a directory.
-pub(crate) fn follow<W: Way>(trees: &Filesystems, directory: NodeRef, path: &W) -> Followed
-    ensures object { option_map number_of result.object ≡ at_path (opened trees.now directory) (W.names path.now) }
+pub(crate) fn follow<W: Way>(trees: &Filesystems, directory: InodeRef, path: &W) -> Followed
+    ensures object { option_map inode_of result.object ≡ at_path (opened trees.now directory) (W.names path.now) }
     ensures cut { result.cut ≡ cuts (view_of (opened trees.now directory)) (W.names path.now) }
     ensures filesystem { IfSome result.object (λ object. object.filesystem ≡ directory.filesystem) }
 {
@@ -29,13 +29,13 @@ pub(crate) fn follow<W: Way>(trees: &Filesystems, directory: NodeRef, path: &W) 
 }
 
 // The same, in the directory's tree.
-fn follow_in<W: Way>(tree: Option<&Tree>, directory: NodeRef, path: &W) -> Followed
-    ensures object { option_map number_of result.object
-        ≡ led (tree_seen directory.filesystem.count (option_copied tree.entry)) (number_of directory)
+fn follow_in<W: Way>(tree: Option<&Tree>, directory: InodeRef, path: &W) -> Followed
+    ensures object { option_map inode_of result.object
+        ≡ led (tree_seen directory.filesystem.count (option_copied tree.entry)) (inode_of directory)
         (W.names path.now) }
     ensures cut { result.cut
         ≡ cut_on (tree_seen directory.filesystem.count (option_copied tree.entry)) (W.names path.now)
-        (number_of directory) }
+        (inode_of directory) }
     ensures filesystem { IfSome result.object (λ object. object.filesystem ≡ directory.filesystem) }
 {
     let mut here = directory;

@@ -1,18 +1,18 @@
 //! Layers, and what they show.
 
-use vt_location::{FilesystemId, NodeRef};
+use vt_location::{FilesystemId, InodeRef};
 
 /// A layer of an overlay: a directory of a plain tree.
 #[derive(Clone, Copy, Debug, PartialEq, Eq)]
 pub struct LayerRef {
-    pub directory: NodeRef,
+    pub directory: InodeRef,
 }
 
 /// An object that is shown: the place of its layer, counted from the top, and its inode there.
 #[derive(Clone, Copy, Debug, PartialEq, Eq)]
 pub struct Real {
     pub layer: usize,
-    pub inode: NodeRef,
+    pub inode: InodeRef,
 }
 
 /// A directory of one layer that is merged with those of other layers, and the place of its layer, counted from the
@@ -20,7 +20,7 @@ pub struct Real {
 #[derive(Clone, Copy, Debug, PartialEq, Eq)]
 pub struct MergedDirectory {
     pub layer: usize,
-    pub directory: NodeRef,
+    pub directory: InodeRef,
 }
 
 // A list of them with room for more is filled up with this one.
@@ -28,7 +28,7 @@ impl Default for MergedDirectory {
     fn default() -> Self {
         MergedDirectory {
             layer: 0,
-            directory: NodeRef {
+            directory: InodeRef {
                 filesystem: FilesystemId::new(0),
                 slot: 0,
             },

@@ -3,7 +3,7 @@ ghost use Rattle.std.specs.Prelude.{◌≡◌, ◌≤◌, ◌∷◌, [], IfOk, i
 ghost use Rattle.vt_spec.specs.Machine.Layers.{names_shown};
 ghost use Rattle.vt_laws_layers.specs.Layers.Directories.{shown_in};
 ghost use Rattle.vt_spec.specs.Tree.{names_in};
-ghost use Rattle.vt_location.specs.Locations.{number_of};
+ghost use Rattle.vt_location.specs.Locations.{inode_of};
 ghost use Rattle.vt_fs.specs.FilesystemsValue.{files_at};
 ghost use Rattle.vt_merge.specs.LayerValue.{layers_of, names_had, placed_views};
 
@@ -13,7 +13,7 @@ use crate::merging::{MOST_LAYERS, merged_dirs_at};
 use crate::ways::Way;
 use std::alloc::{AllocError, Global};
 use vt_fs::Filesystems;
-use vt_location::NodeRef;
+use vt_location::InodeRef;
 
 /// The names that layers show in the directory at a path, each once, in the order of their bytes: readdir(3). What is no
 /// directory has none. It fails only if an allocation does.
@@ -56,12 +56,12 @@ fn all_names(
 fn names_of(
     alloc: Global,
     trees: &Filesystems,
-    directory: NodeRef,
+    directory: InodeRef,
 ) -> Result<Vec<Vec<u8>>, AllocError>
     ensures { IfOk result (λ names. map (λ name. name.items) names.items
-        ≡ names_in ((files_at trees.now directory.filesystem.count).tree.node (number_of directory))) }
+        ≡ names_in ((files_at trees.now directory.filesystem.count).tree.node (inode_of directory))) }
 {
-    match trees.node(directory) {
+    match trees.node(directory.node_ref()) {
         Some(node) => node.names(alloc),
         None => Ok(Vec::new(alloc)),
     }

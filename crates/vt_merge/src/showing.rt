@@ -2,7 +2,7 @@
 ghost use Rattle.std.specs.Prelude.{◌≡◌, IfSome, Some, option_copied, option_map, slice_get};
 ghost use Rattle.vt_spec.specs.Machine.Layers.{shown, view_of};
 ghost use Rattle.vt_spec.specs.Machine.Views.{visible};
-ghost use Rattle.vt_location.specs.Locations.{number_of};
+ghost use Rattle.vt_location.specs.Locations.{inode_of};
 ghost use Rattle.vt_fs.specs.FilesystemsValue.{files_at, node_seen};
 ghost use Rattle.vt_merge.specs.LayerValue.{layers_of, opened, seen_of};
 
@@ -11,7 +11,7 @@ use crate::following::follow;
 use crate::layers::{LayerRef, Real};
 use crate::ways::Way;
 use vt_fs::Filesystems;
-use vt_location::NodeRef;
+use vt_location::InodeRef;
 use vt_node::Node;
 
 /// What layers show at a path, the highest first. It does not allocate, and takes a step for each name in each layer
@@ -35,9 +35,9 @@ pub fn shown<W: Way>(trees: &Filesystems, layers: &[LayerRef], path: &W) -> Opti
 }
 
 // An object, unless it is a whiteout.
-fn visible(trees: &Filesystems, layer: usize, inode: NodeRef) -> Option<Real>
+fn visible(trees: &Filesystems, layer: usize, inode: InodeRef) -> Option<Real>
     ensures value { option_map seen_of result
-        ≡ visible (view_of (opened trees.now inode)) layer (number_of inode) }
+        ≡ visible (view_of (opened trees.now inode)) layer (inode_of inode) }
     ensures is { IfSome result (λ real. real ≡ record { layer = layer; inode = inode }) }
 {
     if is_whiteout(trees, inode) {
@@ -50,7 +50,7 @@ fn visible(trees: &Filesystems, layer: usize, inode: NodeRef) -> Option<Real>
 /// The inode of an object that is shown, its entries and its parent by slots.
 pub fn real_of(trees: &Filesystems, real: Real) -> Option<&Node>
     ensures { option_map (node_seen real.inode.filesystem.count) (option_copied result)
-        ≡ (files_at trees.now real.inode.filesystem.count).tree.node (number_of real.inode) }
+        ≡ (files_at trees.now real.inode.filesystem.count).tree.node (inode_of real.inode) }
 {
-    trees.node(real.inode)
+    trees.node(real.inode.node_ref())
 }

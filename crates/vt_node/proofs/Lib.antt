@@ -1,4 +1,5 @@
 pub mod ListedLemmas
 pub mod Named
+pub mod RankLemmas
 pub mod SortedNames
 pub mod ByteLemmas

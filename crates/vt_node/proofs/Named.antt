@@ -12,7 +12,6 @@ use Rattle.std.specs.Ordering.{eq_by_cmp, is_eq}
 use Rattle.std.specs.Cmp.Lexicographic.{nat_list_cmp_total}
 use Rattle.vt_spec.specs.Tree.{Entries, entry_named, name_cmp, with_entry}
 use Rattle.vt_node.specs.Listed.{HasOneName, listed}
-use Rattle.vt_node.proofs.ListedLemmas.{is_name}
 use Rattle.std.proofs.lemmas.Option.{same_Some}
 use Rattle.vt_spec.proofs.Found.{found_passes}
 use Rattle.vt_spec.proofs.NodeChanges.{entry_named-below}

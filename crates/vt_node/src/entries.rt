@@ -4,6 +4,7 @@ ghost use Rattle.std.specs.FinMap.Entries.{is_sorted};
 ghost use Rattle.vt_spec.specs.Tree.{name_cmp, entry_named, with_entry};
 ghost use Rattle.vt_spec.specs.Language.Changes.{without_entry};
 ghost use Rattle.vt_node.specs.Listed.{HasOneName};
+ghost use Rattle.vt_node.specs.Ranks.{name_ranked, rank_among};
 
 use crate::NodeId;
 use crate::copies::copied_names;
@@ -83,6 +84,37 @@ impl DirectoryEntries {
         let place = numbers.iter().position(|number| *number == id)?;
         let (name, _) = self.by_name.get_index(place)?;
         Some(name.as_slice())
+    }
+
+    /// The rank of a name: how many smaller ones lead to the same number. It passes over the entries.
+    pub fn rank_of(&self, name: &[u8], id: NodeId) -> usize
+        ensures { result ≡ rank_among self.now name.now id }
+    {
+        let names = self.by_name.keys().as_slice();
+        let numbers = self.by_name.values().as_slice();
+        let mut rank = 0;
+        for (place, number) in numbers.iter().enumerate() {
+            if id == *number && names[place].as_slice() < name {
+                rank += 1;
+            }
+        }
+        rank
+    }
+
+    /// The name of a rank among those that lead to a number. It passes over the entries, and once more for each name
+    /// that leads there.
+    pub fn name_ranked(&self, id: NodeId, rank: usize) -> Option<&[u8]>
+        ensures { option_copied result ≡ name_ranked self.now id rank }
+    {
+        let names = self.by_name.keys().as_slice();
+        let numbers = self.by_name.values().as_slice();
+        for (place, number) in numbers.iter().enumerate() {
+            let name = names[place].as_slice();
+            if id == *number && rank == self.rank_of(name, id) {
+                return Some(name);
+            }
+        }
+        None
     }
 
     /// Whether there are no entries.

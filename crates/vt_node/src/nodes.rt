@@ -10,6 +10,7 @@ ghost use Rattle.vt_spec.specs.Machine.Descriptors.{overwritten};
 ghost use Rattle.vt_spec.specs.Tree.{name_cmp, kind_of, entries_of, bytes_of, parent_of, entry_named, new_directory, with_entries, with_entry, with_bytes};
 ghost use Rattle.vt_spec.specs.Tree.Content.{Regular, Symlink, Whiteout};
 ghost use Rattle.vt_node.specs.Listed.{HasOneName};
+ghost use Rattle.vt_node.specs.Ranks.{name_ranked, rank_among};
 
 use crate::{Attr, DirectoryEntries, Kind, NodeId};
 use std::alloc::{AllocError, Global};
@@ -196,6 +197,28 @@ impl Node {
     {
         match &self.content {
             Content::Directory { entries, .. } => entries.name_of(id),
+            _ => None,
+        }
+    }
+
+    /// The rank of a name of a directory: how many smaller ones lead to the same number. In any other node it is 0. It
+    /// does not allocate.
+    pub fn rank_of(&self, name: &[u8], id: NodeId) -> usize
+        ensures { result ≡ rank_among (entries_of self.now.content) name.now id }
+    {
+        match &self.content {
+            Content::Directory { entries, .. } => entries.rank_of(name, id),
+            _ => 0,
+        }
+    }
+
+    /// The name of a rank among the names of a directory that lead to a number. Any other node has none. It does not
+    /// allocate.
+    pub fn name_ranked(&self, id: NodeId, rank: usize) -> Option<&[u8]>
+        ensures { option_copied result ≡ name_ranked (entries_of self.now.content) id rank }
+    {
+        match &self.content {
+            Content::Directory { entries, .. } => entries.name_ranked(id, rank),
             _ => None,
         }
     }

@@ -15,17 +15,17 @@ use Rattle.vt_laws_layers.proofs.layers.ShownNames.{last_name}
 use Rattle.vt_laws_layers.proofs.layers.ShownPaths.{not_empty, one_path}
 use Rattle.vt_laws_layers.proofs.layers.UpperShown.{without_last_of_longer}
 use Rattle.vt_location.proofs.NumberLemmas.{exchanged_back, exchanged_number, exchanged_slot, slot_of}
-use Rattle.vt_location.specs.declared.locations.NodeRef.{NodeRef}
-use Rattle.vt_location.specs.Locations.{number_of as inode_of}
+use Rattle.vt_location.specs.declared.locations.InodeRef.{InodeRef}
+use Rattle.vt_location.specs.Locations.{inode_of, number_of}
 use Rattle.vt_location.specs.Numbers.{exchanged, inode_number, is_inode_of}
 use Rattle.vt_fs.specs.FilesystemsValue.{Filesystems, files_at}
 use Rattle.vt_merge.specs.LayerValue.{layer_of}
 use Rattle.vt_merge.specs.declared.layers.LayerRef.{LayerRef}
-use Rattle.vt_overlay.specs.Births.{IsSmallBirth, born_in, number_of}
+use Rattle.vt_location.specs.Births.{IsSmallBirth, born_in}
 use Rattle.vt_overlay.specs.MergedTree.{AreLayers, IsLayer, OverlayValue, birth_at, born_below, directory_path, node_born, only_of_directory, rank_at, slot_at}
-use Rattle.vt_overlay.specs.declared.births.Birth.{Birth}
-use Rattle.vt_overlay.specs.declared.births.Birth.TheVariants.{Below, Here}
-use Rattle.vt_overlay.proofs.NumbersApart.{births_apart, number_parts}
+use Rattle.vt_location.specs.declared.births.Birth.{Birth}
+use Rattle.vt_location.specs.declared.births.Birth.TheVariants.{Below, Here}
+use Rattle.vt_location.proofs.NodeLemmas.{births_apart, number_parts}
 use Rattle.vt_overlay.proofs.TreeFound.{IsAt, found_at, found_is_at, found_is, in_layer, layers, no_directory_shown, directory_shown}
 
 -- what a birth tells
@@ -317,7 +317,7 @@ module _ (trees : Filesystems) (overlay : OverlayValue) (are : AreLayers trees o
           ∙ ap (λ o. is_directory_node (then_some o files.node)) leads ∙ is))
 
     -- the same of an inode in that slot
-    module _ (inode : NodeRef) (is : inode ≡ record { filesystem = lower.directory.filesystem; slot = slot }) where
+    module _ (inode : InodeRef) (is : inode ≡ record { filesystem = lower.directory.filesystem; slot = slot }) where
       number_is : inode_of (record { filesystem = lower.directory.filesystem; slot = slot }) ≡ object
       number_is = sym (exchanged_slot count slot slot_small)
 
@@ -328,7 +328,7 @@ module _ (trees : Filesystems) (overlay : OverlayValue) (are : AreLayers trees o
           ((files_at trees inode.filesystem.count).tree.node (inode_of inode)))
           ≡ nat_eq (exchanged count directory) parent
       parent_is =
-          ap (λ (n : NodeRef). nat_eq (exchanged n.filesystem.count directory) (parent_in (inode_of n)
+          ap (λ (n : InodeRef). nat_eq (exchanged n.filesystem.count directory) (parent_in (inode_of n)
           ((files_at trees n.filesystem.count).tree.node (inode_of n)))) is
           ∙ ap (λ m. nat_eq (exchanged count directory) (parent_in m (files.node m))) number_is
 

@@ -1,5 +1,4 @@
 pub mod BirthsFound
 pub mod NamesFound
-pub mod NumbersApart
 pub mod RootFound
 pub mod TreeFound

@@ -11,17 +11,17 @@ use Rattle.vt_spec.specs.Tree.{Tree}
 use Rattle.vt_spec.specs.TreeInvariant.{IsDirectory, led}
 use Rattle.vt_laws_layers.proofs.layers.ShownPaths.{one_path}
 use Rattle.vt_location.proofs.NumberLemmas.{exchanged_back, exchanged_number, exchanged_slot}
-use Rattle.vt_location.specs.Locations.{number_of as inode_of}
+use Rattle.vt_location.specs.Locations.{inode_of, number_of}
 use Rattle.vt_location.specs.Numbers.{exchanged, inode_number}
 use Rattle.vt_fs.specs.FilesystemsValue.{Filesystems, files_at}
 use Rattle.vt_merge.specs.LayerValue.{layers_of}
 use Rattle.vt_merge.specs.declared.layers.LayerRef.{LayerRef}
-use Rattle.vt_overlay.specs.Births.{born_in, number_of}
+use Rattle.vt_location.specs.Births.{born_in}
 use Rattle.vt_overlay.specs.MergedTree.{AreLayers, IsLayer, OverlayValue, birth_at, born_here, directory_path, only_of_directory, rank_at, slot_at}
-use Rattle.vt_overlay.specs.declared.births.Birth.{Birth}
-use Rattle.vt_overlay.specs.declared.births.Birth.TheVariants.{Below, Here}
+use Rattle.vt_location.specs.declared.births.Birth.{Birth}
+use Rattle.vt_location.specs.declared.births.Birth.TheVariants.{Below, Here}
 use Rattle.vt_overlay.proofs.BirthsFound.{in_slot, small_birth}
-use Rattle.vt_overlay.proofs.NumbersApart.{births_apart, number_parts}
+use Rattle.vt_location.proofs.NodeLemmas.{births_apart, number_parts}
 use Rattle.vt_overlay.proofs.TreeFound.{IsAt, directory_shown, found_at, found_is, found_is_at, layers}
 
 is_here : Birth → Bool

@@ -19,12 +19,11 @@ use Rattle.vt_laws_merging.specs.MergedTrees.{layers_shown, number_shown}
 use Rattle.vt_laws_seen.proofs.seen.Paths.{length-led}
 use Rattle.vt_laws_seen.proofs.seen.SeenTrees.{shown_number}
 use Rattle.vt_laws_seen.specs.TreesSeen.{path_numbered}
-use Rattle.vt_location.specs.Locations.{number_of as inode_of}
+use Rattle.vt_location.specs.Locations.{inode_of, number_of}
 use Rattle.vt_fs.proofs.Numbers.{found_by_number, numbers_listed}
 use Rattle.vt_fs.specs.FilesystemsValue.{Filesystems, entry_at, files_at}
 use Rattle.vt_merge.specs.LayerValue.{layer_of, layers_of}
 use Rattle.vt_merge.specs.declared.layers.LayerRef.{LayerRef}
-use Rattle.vt_overlay.specs.Births.{number_of}
 use Rattle.vt_overlay.specs.MergedTree.{AreLayers, OverlayValue, layer_seen, longest, node_born, only_of_directory, overlay_seen, plain_world, real_number}
 
 -- what is among a list and passes is not missed

@@ -13,16 +13,15 @@ use Rattle.vt_spec.specs.Rights.{Credentials}
 use Rattle.vt_spec.specs.Tree.{Entries, Tree, entries_in, is_directory_node, name_cmp}
 use Rattle.vt_spec.specs.TreeInvariant.{IsDirectory, IsTree}
 use Rattle.vt_laws_seen.specs.TreesSeen.{path_numbered, tree_seen}
+use Rattle.vt_location.specs.declared.births.Birth.{Birth}
+use Rattle.vt_location.specs.declared.births.Birth.TheVariants.{Below, Here}
+use Rattle.vt_location.specs.declared.locations.NodeRef.{NodeRef}
 use Rattle.vt_location.specs.declared.numbers.FilesystemId.{FilesystemId}
-use Rattle.vt_location.specs.Locations.{number_of as inode_of}
+use Rattle.vt_location.specs.Locations.{inode_of, number_of}
 use Rattle.vt_location.specs.Numbers.{counted, exchanged, is_inode_of}
 use Rattle.vt_fs.specs.FilesystemsValue.{Filesystems, files_at, filesystems_seen, inodes_at}
 use Rattle.vt_merge.specs.LayerValue.{layer_of}
 use Rattle.vt_merge.specs.declared.layers.LayerRef.{LayerRef}
-use Rattle.vt_overlay.specs.Births.{number_of}
-use Rattle.vt_overlay.specs.declared.births.Birth.{Birth}
-use Rattle.vt_overlay.specs.declared.births.Birth.TheVariants.{Below, Here}
-use Rattle.vt_overlay.specs.declared.births.OverlayNode.{OverlayNode}
 
 -- an overlay: its number, its lower layers from the top, and who mounted it
 pub record OverlayValue : Type 0 where
@@ -93,9 +92,9 @@ birth_at trees place layer path =
     if is_root_path path then Here
     else Below place (slot_at trees layer (without_last path)) (rank_at trees layer path)
 
-abbrev pub node_born : Filesystems → FilesystemId → ℕ → LayerRef → List (List ℕ) → OverlayNode
+abbrev pub node_born : Filesystems → FilesystemId → ℕ → LayerRef → List (List ℕ) → NodeRef
 node_born trees number place layer path =
-    record { overlay = number; slot = slot_at trees layer path; birth = birth_at trees place layer path }
+    record { filesystem = number; slot = slot_at trees layer path; birth = birth_at trees place layer path }
 
 -- the number of a real object; there is no upper layer
 abbrev pub real_number : Filesystems → OverlayValue → Real ℕ → ℕ
@@ -131,9 +130,9 @@ abbrev pub directory_path : Filesystems → OverlayValue → ℕ → Option (Lis
 directory_path trees overlay number = only_of_directory trees overlay (path_at trees overlay number)
 
 -- a node that was born here, and one that was born below
-abbrev pub born_here : FilesystemId → ℕ → OverlayNode
-born_here number slot = record { overlay = number; slot = slot; birth = Here }
+abbrev pub born_here : FilesystemId → ℕ → NodeRef
+born_here number slot = record { filesystem = number; slot = slot; birth = Here }
 
-abbrev pub born_below : FilesystemId → ℕ → ℕ → ℕ → ℕ → OverlayNode
+abbrev pub born_below : FilesystemId → ℕ → ℕ → ℕ → ℕ → NodeRef
 born_below number layer directory rank slot =
-    record { overlay = number; slot = slot; birth = Below layer directory rank }
+    record { filesystem = number; slot = slot; birth = Below layer directory rank }

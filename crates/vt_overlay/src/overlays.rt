@@ -3,20 +3,18 @@ ghost use Rattle.std.specs.Prelude.{◌≡◌, ◌≤◌, ◌^◌, ℕ, IfOk, le
 ghost use Rattle.vt_spec.specs.Lists.{holds_of, then_some};
 ghost use Rattle.vt_spec.specs.Machine.Layers.{Shown, shown};
 ghost use Rattle.vt_spec.specs.Tree.{names_in, parent_in};
-ghost use Rattle.vt_location.specs.Locations.{number_of as inode_of};
+ghost use Rattle.vt_location.specs.Locations.{inode_of, number_of};
 ghost use Rattle.vt_location.specs.Numbers.{exchanged};
 ghost use Rattle.vt_fs.specs.FilesystemsValue.{files_at};
-ghost use Rattle.vt_overlay.specs.Births.{number_of};
 ghost use Rattle.vt_merge.specs.LayerValue.{layers_of, seen_of};
 ghost use Rattle.vt_merge.specs.declared.merging.TheConstants.{MOST_LAYERS};
 ghost use Rattle.vt_overlay.specs.MergedTree.{AreLayers, born_below, born_here, directory_path, merged_tree};
 
-use crate::births::{Birth, OverlayNode};
 use std::alloc::{AllocError, Global};
 use std::marker::Model;
 use vt_cred::Cred;
 use vt_fs::Filesystems;
-use vt_location::{FilesystemId, NodeRef};
+use vt_location::{Birth, FilesystemId, InodeRef, NodeRef};
 use vt_merge::{LayerRef, Real, Way, WayDown, merged_names, shown, way_down};
 
 /// An overlay without an upper layer: its number, its lower layers from the top, and the credentials that it was
@@ -55,10 +53,10 @@ impl Overlay {
     /// The way to a directory of the overlay: the names that lead to it from the root, found by going up in the layer in
     /// which it was born. There is none to a node that is no directory, or that the layers do not show. It does not
     /// allocate.
-    pub fn way<'a>(&self, trees: &'a Filesystems, node: OverlayNode) -> Option<WayDown<'a>>
+    pub fn way<'a>(&self, trees: &'a Filesystems, node: NodeRef) -> Option<WayDown<'a>>
         requires layers { AreLayers trees.now self.now.lowers }
         requires few { length self.now.lowers ≤ MOST_LAYERS }
-        requires own { node.overlay ≡ self.now.number }
+        requires own { node.filesystem ≡ self.now.number }
         ensures { result ≡ directory_path trees.now self.now (number_of node) }
     {
         match node.birth {
@@ -117,10 +115,10 @@ impl Overlay {
     }
 
     /// The real object of a directory: what the layers show at its way. It does not allocate.
-    pub fn directory(&self, trees: &Filesystems, node: OverlayNode) -> Option<Real>
+    pub fn directory(&self, trees: &Filesystems, node: NodeRef) -> Option<Real>
         requires layers { AreLayers trees.now self.now.lowers }
         requires few { length self.now.lowers ≤ MOST_LAYERS }
-        requires own { node.overlay ≡ self.now.number }
+        requires own { node.filesystem ≡ self.now.number }
         ensures { option_map seen_of result
             ≡ then_some (directory_path trees.now self.now (number_of node))
             (λ path. shown (layers_of trees.now self.now.lowers) path) }
@@ -135,11 +133,11 @@ impl Overlay {
         &self,
         alloc: Global,
         trees: &Filesystems,
-        node: OverlayNode,
+        node: NodeRef,
     ) -> Result<Vec<Vec<u8>>, AllocError>
         requires layers { AreLayers trees.now self.now.lowers }
         requires few { length self.now.lowers ≤ MOST_LAYERS }
-        requires own { node.overlay ≡ self.now.number }
+        requires own { node.filesystem ≡ self.now.number }
         ensures { IfOk result (λ names. map (λ name. name.items) names.items
             ≡ names_in ((merged_tree trees.now self.now).node (number_of node))) }
     {
@@ -169,23 +167,23 @@ impl Overlay {
 }
 
 // The inode in a slot of a layer's tree.
-fn inode_in(layer: LayerRef, slot: usize) -> NodeRef
+fn inode_in(layer: LayerRef, slot: usize) -> InodeRef
     ensures is { result ≡ record { filesystem = layer.directory.filesystem; slot = slot } }
     ensures small { nat_lt slot (2 ^ 64) ≡ true }
 {
-    NodeRef {
+    InodeRef {
         filesystem: layer.directory.filesystem,
         slot,
     }
 }
 
 // Whether the parent of a directory is in this slot of its tree.
-fn is_born_in(trees: &Filesystems, inode: NodeRef, directory: usize) -> bool
+fn is_born_in(trees: &Filesystems, inode: InodeRef, directory: usize) -> bool
     ensures { result
         ≡ nat_eq (exchanged inode.filesystem.count directory) (parent_in (inode_of inode)
         ((files_at trees.now inode.filesystem.count).tree.node (inode_of inode))) }
 {
-    let parent = match trees.node(inode) {
+    let parent = match trees.node(inode.node_ref()) {
         Some(node) => node.parent(inode.node()),
         None => inode.node(),
     };

@@ -13,9 +13,7 @@ ghost use Rattle.vt_tasks.specs.TaskValue.{task_of};
 ghost use Rattle.vt_rules.specs.Places.{IsPlaceOf};
 ghost use Rattle.vt_rules.specs.Tables.{kind_rules, layer_rules, remove_rules, right_rules, way_rules};
 
-use crate::rights::{
-    is_directory, is_kept, is_read_only, is_same_filesystem, is_same_inode, is_same_location, may,
-};
+use crate::rights::{is_directory, is_kept, is_read_only, is_same_filesystem, may};
 use vt_cred::Rights;
 use vt_location::Location;
 use vt_looks::{Asked, Look, OldPlace, Place};
@@ -106,7 +104,7 @@ pub fn is_name_of<L: Look>(world: &L, object: Location, place: &Place) -> bool
 {
     match place.object {
         Some(there) => {
-            is_same_filesystem(world, object, there) && is_same_inode(object.node, there.node)
+            is_same_filesystem(world, object, there) && object.node.is_same(there.node)
         }
         None => false,
     }
@@ -178,7 +176,7 @@ fn changes_parent<L: Look>(world: &L, from: &OldPlace, to: &Place) -> bool
     ensures { (old new : PlaceMeant ℕ) → IsPlaceOf (as_place from.now) old → IsPlaceOf to.now new
         → result ≡ changes_parent nat_eq (L.looks world.now) old new (location_of from.now.object) }
 {
-    is_directory(world, from.object) && !is_same_location(from.parent, to.parent)
+    is_directory(world, from.object) && !from.parent.is_same(to.parent)
 }
 
 // Whether a sticky directory keeps what has the new name.

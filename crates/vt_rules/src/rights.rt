@@ -145,23 +145,9 @@ pub fn is_no_root<L: Look>(world: &L, at: Location) -> bool
     ensures { result ≡ is_no_root nat_eq (L.looks world.now) (location_of at) }
 {
     match world.mount(at.mount) {
-        Some(mount) => mount.root != at.node,
+        Some(mount) => !mount.root.is_same(at.node),
         None => true,
     }
-}
-
-/// Whether two inodes are the same.
-pub(crate) fn is_same_inode(a: NodeRef, b: NodeRef) -> bool
-    ensures { result ≡ nat_eq (number_of a) (number_of b) }
-{
-    a == b
-}
-
-/// Whether two locations are the same.
-pub(crate) fn is_same_location(a: Location, b: Location) -> bool
-    ensures { result ≡ same_location nat_eq (location_of a) (location_of b) }
-{
-    a == b
 }
 
 /// Whether a mount is a member of a peer group.

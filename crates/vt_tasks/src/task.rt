@@ -100,7 +100,7 @@ impl Task {
         if self.namespace != namespace {
             return 0;
         }
-        u64::from(is_same(self.root, at)) + u64::from(is_same(self.directory, at))
+        u64::from(self.root.is_same(at)) + u64::from(self.directory.is_same(at))
     }
 
     /// If it is in this namespace, moves its root and its working directory from the root of the first mount to that of
@@ -117,18 +117,11 @@ impl Task {
     }
 }
 
-// Whether two locations are the same.
-fn is_same(a: Location, b: Location) -> bool
-    ensures { result ≡ same_location nat_eq (location_of a) (location_of b) }
-{
-    a == b
-}
-
 /// A location, or the root of the second mount where it is the root of the first.
 fn pivoted(at: Location, root: &Mount, new: &Mount) -> Location
     ensures { location_of result ≡ pivoted_location nat_eq (mount_of root.now) (mount_of new.now) (location_of at) }
 {
-    if at == root.root_location() {
+    if at.is_same(root.root_location()) {
         new.root_location()
     } else {
         at

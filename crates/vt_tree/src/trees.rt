@@ -65,10 +65,12 @@ impl Tree {
         self.slots.len()
     }
 
-    /// No object has a number of 2^64 or more.
+    /// No object has a number of 2^64 or more, nor has the root.
     pub fn numbers_fit(&self)
-        ensures { (id : ℕ) → 2 ^ 64 ≤ id → (inodes_of self.now).inode id ≡ None }
+        ensures numbers { (id : ℕ) → 2 ^ 64 ≤ id → (inodes_of self.now).inode id ≡ None }
+        ensures root { (tree_of self.now).root < 2 ^ 64 }
     {
+        let _root = self.root.index();
         self.slots.numbers_fit();
     }
 

@@ -21,30 +21,15 @@ pub(crate) struct Step {
     pub(crate) is_found: bool,
 }
 
-// Whether two locations are the same.
-#[inline(always)]
-fn is_same_location(a: Location, b: Location) -> bool
-    ensures { result ≡ same_location nat_eq (location_of a) (location_of b) }
-{
-    a == b
-}
-
-// Whether two inodes are the same.
-fn is_same_inode(a: NodeRef, b: NodeRef) -> bool
-    ensures { result ≡ nat_eq (number_of a) (number_of b) }
-{
-    a == b
-}
-
 // Where `..` goes on from the root of a mount: its mount point. It stays at the task's root.
 fn hop<L: Look>(world: &L, who: &Task, here: Location) -> Option<Location>
     ensures { option_map location_of result ≡ hop nat_eq (L.looks world.now) (task_of who.now) (location_of here) }
 {
-    if is_same_location(here, who.root) {
+    if here.is_same(who.root) {
         return None;
     }
     let mount = world.mount(here.mount)?;
-    if is_same_inode(here.node, mount.root) {
+    if here.node.is_same(mount.root) {
         mount.mount_point
     } else {
         None
@@ -70,11 +55,11 @@ fn hopped<L: Look>(world: &L, who: &Task, start: Location) -> Location
 fn is_top<L: Look>(world: &L, who: &Task, here: Location) -> bool
     ensures { result ≡ is_top nat_eq (L.looks world.now) (task_of who.now) (location_of here) }
 {
-    if is_same_location(here, who.root) {
+    if here.is_same(who.root) {
         return true;
     }
     match world.mount(here.mount) {
-        Some(mount) => is_same_inode(here.node, mount.root),
+        Some(mount) => here.node.is_same(mount.root),
         None => false,
     }
 }
@@ -94,7 +79,7 @@ fn is_lost<L: Look>(world: &L, here: Location, start: Location, is_found: bool) 
     requires { is_found ≡ true → is_lost nat_eq (L.looks world.now) (location_of start) ≡ false }
     ensures { result ≡ is_lost nat_eq (L.looks world.now) (location_of here) }
 {
-    if is_found && is_same_location(here, start) {
+    if is_found && here.is_same(start) {
         return false;
     }
     world.is_lost(here)
@@ -108,7 +93,7 @@ pub(crate) fn entered<L: Look>(world: &L, place: Location, is_found: bool) -> St
     ensures found { IsFound (L.looks world.now) result.location result.is_found }
 {
     let location = world.topmost(place);
-    let same = is_same_location(location, place);
+    let same = location.is_same(place);
     Step {
         location,
         is_found: is_found && same,

@@ -1,14 +1,14 @@
 use Rattle.std.proofs.Common.{Some, ap, sym, ◌≡◌, ◌∙◌}
 use Rattle.vt_spec.specs.TreeInvariant.{led}
 use Rattle.vt_location.specs.declared.numbers.FilesystemId.{FilesystemId}
-use Rattle.vt_location.specs.Locations.{number_of}
+use Rattle.vt_location.specs.Locations.{inode_of}
 use Rattle.vt_location.specs.Numbers.{exchanged}
 use Rattle.vt_merge.specs.LayerValue.{tree_seen}
 use Rattle.vt_merge.proofs.climbing.way_in.Goals as goal
 
 pub returns-clause-nowhere : goal.returns-clause-nowhere
 returns-clause-nowhere c none is path leads =
-    let lower : exchanged c.args.top.filesystem.count c.slot_of-lower.result ≡ number_of c.args.directory =
+    let lower : exchanged c.args.top.filesystem.count c.slot_of-lower.result ≡ inode_of c.args.directory =
     ap (λ (id : FilesystemId). exchanged id.count c.slot_of-lower.result) (sym c.requires.one_filesystem)
     ∙ c.slot_of-lower.ensures.number in
     c.climb.ensures.nowhere none path

@@ -1,6 +1,6 @@
 use Rattle.std.proofs.Common.{rules, ◌≡◌, ◌∙◌, ap, sym, None, Some, option_map}
 use Rattle.std.specs.Prelude.{option_copied}
-use Rattle.vt_location.specs.Locations.{number_of}
+use Rattle.vt_location.specs.Locations.{inode_of}
 use Rattle.vt_location.specs.Numbers.{exchanged}
 use Rattle.vt_tree.specs.TreeValue.{tree_of}
 use Rattle.vt_merge.proofs.EntriesSeen.{entry_seen}
@@ -13,7 +13,7 @@ returns-in_err-slot-clause-number c =
     let is : (tree_of c.in_ok-tree.field-0.now).node c.slot_of.result ≡ Some c.in_ok-node.field-0.now = search rules in
     let none : c.from_residual-in_err-slot.result ≡ None = search rules in
     let missing : c.entry.result ≡ None = search rules in
-    ap (option_map number_of) none
+    ap (option_map inode_of) none
     ∙ ap (option_map (exchanged f)) (sym missing ∙ c.entry.ensures)
     ∙ entry_seen f (option_copied c.args.tree) c.in_ok-tree.field-0.now c.slot_of.result _ c.args.name.now
     c.in_ok-node.field-0.now lent c.slot_of.ensures.number is

@@ -3,7 +3,7 @@ use Rattle.std.specs.Prelude.{option_copied}
 use Rattle.vt_spec.specs.Machine.Views.{hides}
 use Rattle.vt_spec.specs.TreeInvariant.{entry_at}
 use Rattle.vt_location.specs.declared.numbers.FilesystemId.{FilesystemId}
-use Rattle.vt_location.specs.Locations.{number_of}
+use Rattle.vt_location.specs.Locations.{inode_of}
 use Rattle.vt_merge.specs.LayerValue.{cut_on, tree_seen}
 use Rattle.vt_merge.proofs.NamesFollowed.{goes_on, goes_on_cut, or_assoc, or_false, stops, stops_cut}
 use Rattle.vt_merge.proofs.following.follow_in.Goals as goal
@@ -15,10 +15,10 @@ returns-in_default-clause-object g c =
     let tree = tree_seen c.args.directory.filesystem.count lent in
     let here = c.loop-index.here in
     let names = g.W.Way.names c.args.path.now in
-    let none : None ≡ entry_at (tree_seen here.filesystem.count lent) (number_of here) c.name.result.now = search rules in
+    let none : None ≡ entry_at (tree_seen here.filesystem.count lent) (inode_of here) c.name.result.now = search rules in
     let same = ap (λ (id : FilesystemId). tree_seen id.count lent) c.loop-index.invariant.filesystem in
-    stops tree (number_of here) names c.loop-index.index c.name.result.now c.name.ensures
-    (none ∙ ap (λ t. entry_at t (number_of here) c.name.result.now) same)
+    stops tree (inode_of here) names c.loop-index.index c.name.result.now c.name.ensures
+    (none ∙ ap (λ t. entry_at t (inode_of here) c.name.result.now) same)
     ∙ sym c.loop-index.invariant.leads
 
 pub returns-in_default-clause-cut : goal.returns-in_default-clause-cut
@@ -27,12 +27,12 @@ returns-in_default-clause-cut g c =
     let tree = tree_seen c.args.directory.filesystem.count lent in
     let here = c.loop-index.here in
     let names = g.W.Way.names c.args.path.now in
-    let none : None ≡ entry_at (tree_seen here.filesystem.count lent) (number_of here) c.name.result.now = search rules in
+    let none : None ≡ entry_at (tree_seen here.filesystem.count lent) (inode_of here) c.name.result.now = search rules in
     let same = ap (λ (id : FilesystemId). tree_seen id.count lent) c.loop-index.invariant.filesystem in
     sym (c.loop-index.invariant.cuts
     ∙ ap (λ b. c.loop-index.cut || b)
-    (stops_cut tree (number_of here) names c.loop-index.index c.name.result.now c.name.ensures
-    (none ∙ ap (λ t. entry_at t (number_of here) c.name.result.now) same))
+    (stops_cut tree (inode_of here) names c.loop-index.index c.name.result.now c.name.ensures
+    (none ∙ ap (λ t. entry_at t (inode_of here) c.name.result.now) same))
     ∙ or_false c.loop-index.cut)
 
 pub loop-index-preserved : goal.loop-index-preserved
@@ -45,10 +45,10 @@ loop-index-preserved g c =
     let same = ap (λ (id : FilesystemId). tree_seen id.count lent) c.loop-index.invariant.filesystem in
     let filesystem : next.filesystem ≡ c.args.directory.filesystem =
     c.in-Some.ensures.filesystem ∙ c.loop-index.invariant.filesystem in
-    let at : Some (number_of next) ≡ entry_at tree (number_of here) c.name.result.now =
-    c.in-Some.ensures.number ∙ ap (λ t. entry_at t (number_of here) c.name.result.now) same in
-    let rest = cut_on tree (drop (c.loop-index.index + 1) names) (number_of next) in
-    let hidden = λ (id : FilesystemId). hides ((tree_seen id.count lent).node (number_of next)) in
+    let at : Some (inode_of next) ≡ entry_at tree (inode_of here) c.name.result.now =
+    c.in-Some.ensures.number ∙ ap (λ t. entry_at t (inode_of here) c.name.result.now) same in
+    let rest = cut_on tree (drop (c.loop-index.index + 1) names) (inode_of next) in
+    let hidden = λ (id : FilesystemId). hides ((tree_seen id.count lent).node (inode_of next)) in
     let cut : c.if-cut.cut ≡ (c.loop-index.cut || hidden next.filesystem) =
     elim c.if-cut.branch [
       | then-cut w ↦
@@ -62,12 +62,12 @@ loop-index-preserved g c =
     ] in
     record {
       leads = c.loop-index.invariant.leads
-          ∙ goes_on tree (number_of here) names c.loop-index.index c.name.result.now c.name.ensures (number_of next) at;
+          ∙ goes_on tree (inode_of here) names c.loop-index.index c.name.result.now c.name.ensures (inode_of next) at;
       cuts = c.loop-index.invariant.cuts
           ∙ ap (λ b. c.loop-index.cut || b)
-          (goes_on_cut tree (number_of here) names c.loop-index.index c.name.result.now c.name.ensures
-          (number_of next) at)
-          ∙ or_assoc c.loop-index.cut (hides (tree.node (number_of next))) rest
+          (goes_on_cut tree (inode_of here) names c.loop-index.index c.name.result.now c.name.ensures
+          (inode_of next) at)
+          ∙ or_assoc c.loop-index.cut (hides (tree.node (inode_of next))) rest
           ∙ ap (λ b. b || rest) (ap (λ id. c.loop-index.cut || hidden id) (sym filesystem) ∙ sym cut);
       filesystem = filesystem;
     }

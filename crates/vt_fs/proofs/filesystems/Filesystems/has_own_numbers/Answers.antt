@@ -13,7 +13,7 @@ returns-in-Some c = λ number other.
     ap (λ (all : Inodes _). all.inode number)
     (at_look c.args.self.now f c.in-Some.tree.now (sym c.in-Some.ensures) seen_in)
     ∙ ap (option_map (renamed_inode (exchanged f) (exchanged f)))
-    (c.numbers_fit.ensures (exchanged f number) (no_slot f number other))
+    (c.numbers_fit.ensures.numbers (exchanged f number) (no_slot f number other))
 
 pub returns-in_default : goal.returns-in_default
 returns-in_default c = λ number other.

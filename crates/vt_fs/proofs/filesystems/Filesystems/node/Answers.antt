@@ -8,4 +8,4 @@ returns c =
     let f = c.args.inode.filesystem.count in
     ap (option_map (node_seen f)) c.node.ensures
     ∙ sym (node_there c.args.self.now f c.in_ok-get.field-0.now
-    (sym c.in_ok-get.ensures) c.slot_of.result _ c.slot_of.ensures.number)
+    (sym c.in_ok-get.ensures) c.in_ok-slot.slot _ c.in_ok-slot.ensures.number)

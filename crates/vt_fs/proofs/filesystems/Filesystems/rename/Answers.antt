@@ -1,11 +1,34 @@
-use Rattle.std.proofs.Common.{ap, sym, ◌∙◌}
+use Rattle.std.proofs.Common.{is_some, ap, sym, ◌∙◌}
 use Rattle.std.proofs.lemmas.Result.{on_err_weaker, on_ok_weaker}
 use Rattle.std.specs.Prelude.{option_map}
 use Rattle.vt_spec.specs.Language.Changes.Change.{Move}
 use Rattle.vt_location.specs.Locations.{number_of}
+use Rattle.vt_location.specs.declared.numbers.FilesystemId.{FilesystemId}
+use Rattle.vt_fs.specs.FilesystemsValue.{files_at}
+use Rattle.vt_spec.specs.Tree.{is_directory_node}
 use Rattle.vt_location.specs.Numbers.{exchanged}
+use Rattle.vt_fs.proofs.Nowhere.{directory_has_slot, inode_has_slot, parent_has_slot, slot_there}
 use Rattle.vt_fs.proofs.Standing.{changes, directory_exists, directory_there, entry_there, kept, outside_there, replaced_there, slot_named, standing_of}
 use Rattle.vt_fs.proofs.filesystems.Filesystems.rename.Goals as goal
+
+pub unwrap-was_in-requires : goal.unwrap-was_in-requires
+unwrap-was_in-requires c =
+    parent_has_slot c.args.self.now c.args.from.filesystem.count (number_of c.args.from) c.slot_of.result
+    c.slot_of.ensures.nowhere c.args.old.now (number_of c.args.object) c.requires.named
+
+pub unwrap-goes_to-requires : goal.unwrap-goes_to-requires
+unwrap-goes_to-requires c =
+    directory_has_slot c.args.self.now c.args.to.filesystem.count (number_of c.args.to) c.slot_of-2.result
+    c.slot_of-2.ensures.nowhere
+    (ap (λ (id : FilesystemId). is_directory_node ((files_at c.args.self.now id.count).tree.node (number_of c.args.to)))
+    c.requires.one_filesystem ∙ c.requires.directory)
+
+pub unwrap-named-requires : goal.unwrap-named-requires
+unwrap-named-requires c =
+    inode_has_slot c.args.self.now c.args.object.filesystem.count (number_of c.args.object) c.slot_of-3.result
+    c.slot_of-3.ensures.nowhere
+    (ap (λ (id : FilesystemId). is_some ((files_at c.args.self.now id.count).tree.node (number_of c.args.object)))
+    c.requires.of_object ∙ c.requires.there)
 
 pub unwrap-tree-requires : goal.unwrap-tree-requires
 unwrap-tree-requires c =
@@ -18,10 +41,14 @@ rename-requires-clause-named c =
     let standing =
     standing_of c.args.self.now f c.get_mut.result c.unwrap-tree.result c.get_mut.ensures.value c.get_mut.ensures.apart
     c.unwrap-tree.ensures in
+    let was_in = slot_there f (number_of c.args.from) c.slot_of.result c.unwrap-was_in.result
+    c.slot_of.ensures.number c.unwrap-was_in.ensures in
+    let named = slot_there c.args.object.filesystem.count (number_of c.args.object) c.slot_of-3.result
+    c.unwrap-named.result c.slot_of-3.ensures.number c.unwrap-named.ensures in
     let object =
-    ap (λ id. exchanged id.count c.slot_of-3.result) (sym c.requires.of_object) ∙ c.slot_of-3.ensures.number in
-    slot_named c.args.self.now f c.unwrap-tree.result.now standing.found c.slot_of.result _ c.args.old.now
-    c.slot_of-3.result _ c.slot_of.ensures.number object c.requires.named
+    ap (λ id. exchanged id.count c.unwrap-named.result) (sym c.requires.of_object) ∙ named in
+    slot_named c.args.self.now f c.unwrap-tree.result.now standing.found c.unwrap-was_in.result _ c.args.old.now
+    c.unwrap-named.result _ was_in object c.requires.named
 
 pub rename-requires-clause-directory : goal.rename-requires-clause-directory
 rename-requires-clause-directory c =
@@ -29,9 +56,11 @@ rename-requires-clause-directory c =
     let standing =
     standing_of c.args.self.now f c.get_mut.result c.unwrap-tree.result c.get_mut.ensures.value c.get_mut.ensures.apart
     c.unwrap-tree.ensures in
+    let goes_to = slot_there c.args.to.filesystem.count (number_of c.args.to) c.slot_of-2.result
+    c.unwrap-goes_to.result c.slot_of-2.ensures.number c.unwrap-goes_to.ensures in
     let to =
-    ap (λ id. exchanged id.count c.slot_of-2.result) (sym c.requires.one_filesystem) ∙ c.slot_of-2.ensures.number in
-    sym (directory_there c.args.self.now f c.unwrap-tree.result.now standing.found c.slot_of-2.result _ to)
+    ap (λ id. exchanged id.count c.unwrap-goes_to.result) (sym c.requires.one_filesystem) ∙ goes_to in
+    sym (directory_there c.args.self.now f c.unwrap-tree.result.now standing.found c.unwrap-goes_to.result _ to)
     ∙ c.requires.directory
 
 pub rename-requires-clause-replaced : goal.rename-requires-clause-replaced
@@ -40,12 +69,16 @@ rename-requires-clause-replaced c =
     let standing =
     standing_of c.args.self.now f c.get_mut.result c.unwrap-tree.result c.get_mut.ensures.value c.get_mut.ensures.apart
     c.unwrap-tree.ensures in
+    let goes_to = slot_there c.args.to.filesystem.count (number_of c.args.to) c.slot_of-2.result
+    c.unwrap-goes_to.result c.slot_of-2.ensures.number c.unwrap-goes_to.ensures in
+    let named = slot_there c.args.object.filesystem.count (number_of c.args.object) c.slot_of-3.result
+    c.unwrap-named.result c.slot_of-3.ensures.number c.unwrap-named.ensures in
     let to =
-    ap (λ id. exchanged id.count c.slot_of-2.result) (sym c.requires.one_filesystem) ∙ c.slot_of-2.ensures.number in
+    ap (λ id. exchanged id.count c.unwrap-goes_to.result) (sym c.requires.one_filesystem) ∙ goes_to in
     let object =
-    ap (λ id. exchanged id.count c.slot_of-3.result) (sym c.requires.of_object) ∙ c.slot_of-3.ensures.number in
-    replaced_there c.args.self.now f c.unwrap-tree.result.now standing.found c.slot_of-2.result _ c.args.new.items
-    c.slot_of-3.result _ to object c.requires.replaced
+    ap (λ id. exchanged id.count c.unwrap-named.result) (sym c.requires.of_object) ∙ named in
+    replaced_there c.args.self.now f c.unwrap-tree.result.now standing.found c.unwrap-goes_to.result _ c.args.new.items
+    c.unwrap-named.result _ to object c.requires.replaced
 
 pub rename-requires-clause-outside : goal.rename-requires-clause-outside
 rename-requires-clause-outside c =
@@ -53,12 +86,16 @@ rename-requires-clause-outside c =
     let standing =
     standing_of c.args.self.now f c.get_mut.result c.unwrap-tree.result c.get_mut.ensures.value c.get_mut.ensures.apart
     c.unwrap-tree.ensures in
+    let goes_to = slot_there c.args.to.filesystem.count (number_of c.args.to) c.slot_of-2.result
+    c.unwrap-goes_to.result c.slot_of-2.ensures.number c.unwrap-goes_to.ensures in
+    let named = slot_there c.args.object.filesystem.count (number_of c.args.object) c.slot_of-3.result
+    c.unwrap-named.result c.slot_of-3.ensures.number c.unwrap-named.ensures in
     let to =
-    ap (λ id. exchanged id.count c.slot_of-2.result) (sym c.requires.one_filesystem) ∙ c.slot_of-2.ensures.number in
+    ap (λ id. exchanged id.count c.unwrap-goes_to.result) (sym c.requires.one_filesystem) ∙ goes_to in
     let object =
-    ap (λ id. exchanged id.count c.slot_of-3.result) (sym c.requires.of_object) ∙ c.slot_of-3.ensures.number in
-    outside_there c.args.self.now f c.unwrap-tree.result.now standing.found c.slot_of-2.result _
-    c.slot_of-3.result _ to object c.requires.outside
+    ap (λ id. exchanged id.count c.unwrap-named.result) (sym c.requires.of_object) ∙ named in
+    outside_there c.args.self.now f c.unwrap-tree.result.now standing.found c.unwrap-goes_to.result _
+    c.unwrap-named.result _ to object c.requires.outside
 
 pub returns-clause-ok : goal.returns-clause-ok
 returns-clause-ok c =
@@ -66,14 +103,20 @@ returns-clause-ok c =
     let standing =
     standing_of c.args.self.now f c.get_mut.result c.unwrap-tree.result c.get_mut.ensures.value c.get_mut.ensures.apart
     c.unwrap-tree.ensures in
+    let was_in = slot_there f (number_of c.args.from) c.slot_of.result c.unwrap-was_in.result
+    c.slot_of.ensures.number c.unwrap-was_in.ensures in
+    let goes_to = slot_there c.args.to.filesystem.count (number_of c.args.to) c.slot_of-2.result
+    c.unwrap-goes_to.result c.slot_of-2.ensures.number c.unwrap-goes_to.ensures in
+    let named = slot_there c.args.object.filesystem.count (number_of c.args.object) c.slot_of-3.result
+    c.unwrap-named.result c.slot_of-3.ensures.number c.unwrap-named.ensures in
     let to =
-    ap (λ id. exchanged id.count c.slot_of-2.result) (sym c.requires.one_filesystem) ∙ c.slot_of-2.ensures.number in
+    ap (λ id. exchanged id.count c.unwrap-goes_to.result) (sym c.requires.one_filesystem) ∙ goes_to in
     let object =
-    ap (λ id. exchanged id.count c.slot_of-3.result) (sym c.requires.of_object) ∙ c.slot_of-3.ensures.number in
+    ap (λ id. exchanged id.count c.unwrap-named.result) (sym c.requires.of_object) ∙ named in
     on_ok_weaker c.rename.result
     (changes c.args.self.now f c.rename.new.self c.unwrap-tree.result.now standing
-    (Move c.slot_of.result c.args.old.now c.slot_of-2.result c.args.new.items c.slot_of-3.result) _
-    (λ i. Move (c.slot_of.ensures.number i) c.args.old.now (to i) c.args.new.items (object i)))
+    (Move c.unwrap-was_in.result c.args.old.now c.unwrap-goes_to.result c.args.new.items c.unwrap-named.result) _
+    (λ i. Move (was_in i) c.args.old.now (to i) c.args.new.items (object i)))
     c.rename.ensures.ok
 
 pub returns-clause-new_name : goal.returns-clause-new_name
@@ -82,10 +125,12 @@ returns-clause-new_name c =
     let standing =
     standing_of c.args.self.now f c.get_mut.result c.unwrap-tree.result c.get_mut.ensures.value c.get_mut.ensures.apart
     c.unwrap-tree.ensures in
+    let goes_to = slot_there c.args.to.filesystem.count (number_of c.args.to) c.slot_of-2.result
+    c.unwrap-goes_to.result c.slot_of-2.ensures.number c.unwrap-goes_to.ensures in
     let to =
-    ap (λ id. exchanged id.count c.slot_of-2.result) (sym c.requires.one_filesystem) ∙ c.slot_of-2.ensures.number in
+    ap (λ id. exchanged id.count c.unwrap-goes_to.result) (sym c.requires.one_filesystem) ∙ goes_to in
     on_err_weaker c.rename.result
-    (λ free. entry_there c.args.self.now f c.unwrap-tree.result.now standing.found c.slot_of-2.result _ c.args.new.items to
+    (λ free. entry_there c.args.self.now f c.unwrap-tree.result.now standing.found c.unwrap-goes_to.result _ c.args.new.items to
     ∙ ap (option_map (exchanged f)) free)
     c.rename.ensures.new_name
 

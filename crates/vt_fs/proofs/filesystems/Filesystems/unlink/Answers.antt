@@ -1,9 +1,24 @@
-use Rattle.std.proofs.Common.{ap, sym, ◌∙◌}
+use Rattle.std.proofs.Common.{is_some, ap, sym, ◌∙◌}
 use Rattle.vt_spec.specs.Language.Changes.Change.{Remove}
 use Rattle.vt_location.specs.Locations.{number_of}
+use Rattle.vt_location.specs.declared.numbers.FilesystemId.{FilesystemId}
+use Rattle.vt_fs.specs.FilesystemsValue.{files_at}
 use Rattle.vt_location.specs.Numbers.{exchanged}
+use Rattle.vt_fs.proofs.Nowhere.{inode_has_slot, parent_has_slot, slot_there}
 use Rattle.vt_fs.proofs.Standing.{changes, empty_there, named_exists, slot_named, standing_of}
 use Rattle.vt_fs.proofs.filesystems.Filesystems.unlink.Goals as goal
+
+pub unwrap-parent-requires : goal.unwrap-parent-requires
+unwrap-parent-requires c =
+    parent_has_slot c.args.self.now c.args.directory.filesystem.count (number_of c.args.directory) c.slot_of.result
+    c.slot_of.ensures.nowhere c.args.name.now (number_of c.args.object) c.requires.named
+
+pub unwrap-named-requires : goal.unwrap-named-requires
+unwrap-named-requires c =
+    inode_has_slot c.args.self.now c.args.object.filesystem.count (number_of c.args.object) c.slot_of-2.result
+    c.slot_of-2.ensures.nowhere
+    (ap (λ (id : FilesystemId). is_some ((files_at c.args.self.now id.count).tree.node (number_of c.args.object)))
+    c.requires.one_filesystem ∙ c.requires.there)
 
 pub unwrap-tree-requires : goal.unwrap-tree-requires
 unwrap-tree-requires c =
@@ -16,10 +31,14 @@ unlink-requires-clause-named c =
     let standing =
     standing_of c.args.self.now f c.get_mut.result c.unwrap-tree.result c.get_mut.ensures.value c.get_mut.ensures.apart
     c.unwrap-tree.ensures in
+    let parent = slot_there f (number_of c.args.directory) c.slot_of.result c.unwrap-parent.result
+    c.slot_of.ensures.number c.unwrap-parent.ensures in
+    let named_slot = slot_there c.args.object.filesystem.count (number_of c.args.object) c.slot_of-2.result
+    c.unwrap-named.result c.slot_of-2.ensures.number c.unwrap-named.ensures in
     let object =
-    ap (λ id. exchanged id.count c.slot_of-2.result) (sym c.requires.one_filesystem) ∙ c.slot_of-2.ensures.number in
-    slot_named c.args.self.now f c.unwrap-tree.result.now standing.found c.slot_of.result _ c.args.name.now
-    c.slot_of-2.result _ c.slot_of.ensures.number object c.requires.named
+    ap (λ id. exchanged id.count c.unwrap-named.result) (sym c.requires.one_filesystem) ∙ named_slot in
+    slot_named c.args.self.now f c.unwrap-tree.result.now standing.found c.unwrap-parent.result _ c.args.name.now
+    c.unwrap-named.result _ parent object c.requires.named
 
 pub unlink-requires-clause-empty : goal.unlink-requires-clause-empty
 unlink-requires-clause-empty c =
@@ -27,9 +46,13 @@ unlink-requires-clause-empty c =
     let standing =
     standing_of c.args.self.now f c.get_mut.result c.unwrap-tree.result c.get_mut.ensures.value c.get_mut.ensures.apart
     c.unwrap-tree.ensures in
+    let parent = slot_there f (number_of c.args.directory) c.slot_of.result c.unwrap-parent.result
+    c.slot_of.ensures.number c.unwrap-parent.ensures in
+    let named_slot = slot_there c.args.object.filesystem.count (number_of c.args.object) c.slot_of-2.result
+    c.unwrap-named.result c.slot_of-2.ensures.number c.unwrap-named.ensures in
     let object =
-    ap (λ id. exchanged id.count c.slot_of-2.result) (sym c.requires.one_filesystem) ∙ c.slot_of-2.ensures.number in
-    empty_there c.args.self.now f c.unwrap-tree.result.now standing.found c.slot_of-2.result _ object c.requires.empty
+    ap (λ id. exchanged id.count c.unwrap-named.result) (sym c.requires.one_filesystem) ∙ named_slot in
+    empty_there c.args.self.now f c.unwrap-tree.result.now standing.found c.unwrap-named.result _ object c.requires.empty
 
 pub returns : goal.returns
 returns c =
@@ -37,9 +60,13 @@ returns c =
     let standing =
     standing_of c.args.self.now f c.get_mut.result c.unwrap-tree.result c.get_mut.ensures.value c.get_mut.ensures.apart
     c.unwrap-tree.ensures in
+    let parent = slot_there f (number_of c.args.directory) c.slot_of.result c.unwrap-parent.result
+    c.slot_of.ensures.number c.unwrap-parent.ensures in
+    let named_slot = slot_there c.args.object.filesystem.count (number_of c.args.object) c.slot_of-2.result
+    c.unwrap-named.result c.slot_of-2.ensures.number c.unwrap-named.ensures in
     let object =
-    ap (λ id. exchanged id.count c.slot_of-2.result) (sym c.requires.one_filesystem) ∙ c.slot_of-2.ensures.number in
+    ap (λ id. exchanged id.count c.unwrap-named.result) (sym c.requires.one_filesystem) ∙ named_slot in
     changes c.args.self.now f c.unlink.new.self c.unwrap-tree.result.now standing
-    (Remove c.slot_of.result c.args.name.now c.slot_of-2.result) _
-    (λ i. Remove (c.slot_of.ensures.number i) c.args.name.now (object i))
+    (Remove c.unwrap-parent.result c.args.name.now c.unwrap-named.result) _
+    (λ i. Remove (parent i) c.args.name.now (object i))
     c.unlink.ensures

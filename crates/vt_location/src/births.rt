@@ -1,11 +1,10 @@
-//! Nodes of an overlay, named by where they were born.
+//! Where the nodes of filesystems were born: the kernel's overlayfs document.
 
-use vt_location::FilesystemId;
-
-/// Where a node of an overlay was born.
+/// Where a node of a filesystem was born. All inodes of a plain filesystem were born there.
 #[derive(Clone, Copy, Debug, PartialEq, Eq, Hash)]
 pub enum Birth {
-    /// As the root, or in the upper layer: the slot of the node is that of the top layer.
+    /// In a plain filesystem, or of an overlay as its root or in its upper layer. The slot of the node is that of the
+    /// plain filesystem, or of the top layer.
     Here,
     /// Under a name of a directory of a lower layer: the slot of the node is that of this layer.
     Below {
@@ -16,12 +15,4 @@ pub enum Birth {
         /// How many smaller names of that directory lead to the same object. To a directory leads one name.
         rank: usize,
     },
-}
-
-/// A node of an overlay.
-#[derive(Clone, Copy, Debug, PartialEq, Eq, Hash)]
-pub struct OverlayNode {
-    pub overlay: FilesystemId,
-    pub slot: usize,
-    pub birth: Birth,
 }
