@@ -1,6 +1,5 @@
 -- What a permit leaves has the world's change number that was there: the policy's last step alone raises it.
-use Rattle.std.proofs.Common.{◌≡◌, refl, sym, ap, ◌∙◌, ℕ, Bool, true, false, cond, nat_eq, List, [], ◌∷◌, Option, Some, None, is_some, filter, flat_map, map, Result, Ok, Err, is_ok, ok_or, not, ◌||◌}
-use Rattle.vt_spec.specs.declared.errors.Deny.{Deny}
+use Rattle.std.proofs.Common.{◌≡◌, refl, sym, ap, ◌∙◌, ℕ, Bool, true, false, cond, nat_eq, List, [], ◌∷◌, Option, Some, None, is_some, filter, flat_map, map, Ok, Err, is_ok, ok_or, not, ◌||◌}
 use Rattle.vt_spec.specs.declared.errors.Rule.TheVariants.{S2}
 use Rattle.vt_spec.specs.Errors.{denial}
 use Rattle.vt_spec.specs.Language.Answers.{Answer}
@@ -19,7 +18,7 @@ use Rattle.vt_spec.specs.Machine.Namespaces.{is_in_ended, namespace_entered, nam
 use Rattle.vt_spec.specs.Machine.Outcomes.{Outcome, after}
 use Rattle.vt_spec.specs.Machine.Permits.{Permit}
 use Rattle.vt_spec.specs.Machine.Permits.Permit.{Allowed, ToBind, ToChange, ToClose, ToEnterNamespace, ToExit, ToFork, ToList, ToListMounts, ToMake, ToMountOverlay, ToMountPlain, ToMove, ToOpen, ToOpenNew, ToPivot, ToRead, ToReadPart, ToRemoveDirectory, ToRename, ToSetCredentials, ToSetDirectory, ToSetFlags, ToSetRoot, ToSetType, ToSetUmask, ToStat, ToUnmount, ToUnmountLazily, ToUnshare, ToWritePart}
-use Rattle.vt_spec.specs.Machine.Policy.{filesystems_changed_by, finished, finished_by, only_looks, policy}
+use Rattle.vt_spec.specs.Machine.Policy.{filesystems_changed_by, finished, finished_by, only_looks}
 use Rattle.vt_spec.specs.Machine.Receives.{lost_a_group, regrouped, regrouped_by}
 use Rattle.vt_spec.specs.Machine.Types.{named_mounts, retyped_mount, with_new_groups}
 use Rattle.vt_spec.specs.Machine.World.{Filesystem, Layer, Overlay, Task, World, filesystem_at, mount_numbered, node_at, task_called, with_mounts, without_task}

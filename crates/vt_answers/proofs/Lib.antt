@@ -1,1 +1,2 @@
 pub mod ChangeNumbers
+pub mod SpareNumbers

@@ -23,6 +23,10 @@ abbrev pub MayBeRefusedMemory : Call → Result spec.Answer Deny → Type 0
 MayBeRefusedMemory call (Ok answer) = ⊤
 MayBeRefusedMemory call (Err refusal) = IsAfterReceivers call refusal
 
+-- some numbers serve the world, and leave endless numbers over
+abbrev pub HasNumbers : World ℕ → Type 0
+HasNumbers world = (allotment : Allotment) × ServesInHand may_be_given world allotment
+
 -- of code's worlds, each of which the definitions see so
 module _ {W : Type 0} (seen : W → World ℕ) where
   -- as the outcome says, or refused memory; a denial changes nothing
@@ -32,12 +36,14 @@ module _ {W : Type 0} (seen : W → World ℕ) where
   Meets call outcome (Err deny) old new =
       ((outcome.answer ≡ Err deny) ⊎ ((deny ≡ denial S5) × MayBeRefusedMemory call outcome.answer)) × (new ≡ old)
 
-  -- how a call of a task ends: as the policy says, for some numbers that serve the world and leave endless numbers over
+  -- how a call of a task ends: as the policy says, for some numbers that serve the world and leave endless numbers over,
+  -- and with numbers for what is made next
   pub record Ends (old : W) (name : TaskName) (call : Call) (result : Result Answer Deny) (new : W) : Type 0 where
     pub allotment : Allotment
     pub serves : ServesInHand may_be_given (seen old) allotment
     pub outcome : Meets call (policy nat_eq allotment.new (seen old) name call) result old new
     pub memory : ¬ TakesMemory call → result_of result ≡ (policy nat_eq allotment.new (seen old) name call).answer
+    pub numbers : HasNumbers (seen new)
 
 -- the world's change number after a call that succeeds: one more, unless the call only looks; the largest one stays
 abbrev pub change_after : Call → ℕ → ℕ

@@ -1,22 +1,17 @@
--- The numbers that a world opens with, those that are there for a line, and the change number after one.
+-- The numbers that a world opens with, and the change number after a call.
 use Rattle.std.specs.Prelude.{Ok, nat_eq, ℕ, ◌≡◌}
 use Rattle.vt_spec.specs.Language.Answers.{Answer}
 use Rattle.vt_spec.specs.Language.Calls.{Call, TaskName}
 use Rattle.vt_spec.specs.Lists.{Fresh}
 use Rattle.vt_spec.specs.Machine.Policy.{policy}
 use Rattle.vt_spec.specs.Machine.World.{World, opening}
-use Rattle.vt_laws_rules.specs.Numbers.{Allotment}
 use Rattle.vt_laws_runs.specs.Handed.{may_be_given}
-use Rattle.vt_laws_runs.specs.Runs.{OpensInHand, ServesInHand}
+use Rattle.vt_laws_runs.specs.Runs.{OpensInHand}
 use Rattle.vt_answers.specs.Ends.{change_after}
 
 -- the definitions' opening world, of numbers that may be given
 abbrev pub IsOpened : World ℕ → Type 0
 IsOpened world = (fresh : Fresh ℕ) × OpensInHand may_be_given fresh × (world ≡ opening nat_eq fresh)
-
--- some numbers serve the world, and leave endless numbers over
-abbrev pub HasNumbers : World ℕ → Type 0
-HasNumbers world = (allotment : Allotment) × ServesInHand may_be_given world allotment
 
 -- the policy leaves that change number, whatever numbers are handed in
 abbrev pub RaisesTheChangeNumber : Type 0

@@ -8,7 +8,7 @@ ghost use Rattle.vt_spec.specs.Machine.World.{World};
 ghost use Rattle.vt_request.specs.Answers.{answer_of};
 ghost use Rattle.vt_request.specs.Requests.{call_of, directive_of};
 ghost use Rattle.vt_answers.specs.Ends.{Ends, change_after};
-ghost use Rattle.vt_answers.specs.Numbers.{HasNumbers, IsOpened};
+ghost use Rattle.vt_answers.specs.Numbers.{IsOpened};
 
 use std::alloc::Global;
 use vt_request::{Answer, Call, Directive, TaskName};
@@ -43,8 +43,4 @@ pub trait Calls {
         ensures ok { IfOk result (λ answer. (directed nat_eq (world self.now) (directive_of directive)).answer
             ≡ Ok (answer_of answer)) }
         ensures memory { IfErr result (λ deny. deny ≡ denial S5) };
-
-    /// A theorem about every such world, which does nothing: there are numbers for what a line may make.
-    fn has_numbers(&self)
-        ensures { HasNumbers (world self.now) };
 }

@@ -29,6 +29,7 @@ use Rattle.vt_world.specs.Held.{IsHeld}
 use Rattle.vt_world.specs.WorldValue.{WorldValue, world_of}
 use Rattle.vt_calls.proofs.Finishing.{answers, grants, leaves, refuses}
 use Rattle.vt_calls.proofs.Forms.{frees, is_free}
+use Rattle.vt_calls.proofs.NumbersLeft.{numbers_left}
 use Rattle.vt_calls.proofs.Supplies.{AreVacant, allotted, counts, judged_with, permits}
 use Rattle.vt_calls.specs.Answered.{answered}
 use Rattle.vt_answers.specs.Ends.{MayBeRefusedMemory}
@@ -49,6 +50,7 @@ module _ (value : WorldValue) (name : TaskName) (call : Call) (held : IsHeld val
         serves = supplied.2;
         outcome = (inl is, refl);
         memory = λ none. sym is;
+        numbers = (supplied.0, supplied.2);
       }
 
   -- for want of memory
@@ -68,6 +70,7 @@ module _ (value : WorldValue) (name : TaskName) (call : Call) (held : IsHeld val
           refl,
         );
         memory = λ none. absurd (takes none);
+        numbers = (supplied.0, supplied.2);
       }
 
   -- of a task that does not exist
@@ -108,6 +111,7 @@ module _ (value : WorldValue) (name : TaskName) (call : Call) (held : IsHeld val
             outcome = (inr (short, subst (MayBeRefusedMemory call) (sym handed) late), refl);
             memory = λ none. let judged : Err refusal ≡ Err deny =
                 alike none in let same : refusal ≡ deny = cc in sym (handed ∙ ap Err same);
+            numbers = (supplied.0, supplied.2);
           }
 
 -- A call that is granted what it asks for
@@ -141,6 +145,7 @@ module _ (old : WorldValue) (name : TaskName) (call : Call) (grant : Grant)
         serves = supplied.2;
         outcome = handed;
         memory = λ none. sym handed.0;
+        numbers = numbers_left old new name call granted given.held vacant meets.1;
       }
 
   -- or memory is refused

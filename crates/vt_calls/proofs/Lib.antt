@@ -1,6 +1,7 @@
 pub mod Forms
 pub mod Finishing
 pub mod Supplies
+pub mod NumbersLeft
 pub mod Tied
 pub mod Endings
 pub mod Judging

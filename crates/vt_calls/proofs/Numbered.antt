@@ -79,6 +79,7 @@ module _ (old : KernelValue) (name : TaskName) (call : Call) (has : needs_no_lay
       serves = serves_numbered old it.allotment it.serves;
       outcome = meets _ _ (alike it.allotment.new) result it.outcome kept;
       memory = λ none. it.memory none ∙ (alike it.allotment.new).answer;
+      numbers = (it.numbers.0, serves_numbered new it.numbers.0 it.numbers.1);
     }
 
 -- the same of a kernel as a function sees it

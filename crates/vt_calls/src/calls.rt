@@ -62,10 +62,6 @@ impl Calls for Kernel {
             Directive::Peers => Ok(Answer::PeerList(self.world.peers()?)),
         }
     }
-
-    fn has_numbers(&self) {
-        self.world.is_held();
-    }
 }
 
 // The world's change number once a call has succeeded; the largest one stays.

@@ -35,8 +35,7 @@ use Rattle.vt_request.specs.Answers.{answer_of, result_of}
 use Rattle.vt_line.specs.Calls as words
 use Rattle.vt_line.specs.Lines.{IsSilent, IsSpoken}
 use Rattle.vt_permits.specs.Allocating as calls
-use Rattle.vt_answers.specs.Ends.{Ends, Meets}
-use Rattle.vt_answers.specs.Numbers.{HasNumbers}
+use Rattle.vt_answers.specs.Ends.{Ends, HasNumbers, Meets}
 use Rattle.vt_script.specs.Refused.{TakesMemory}
 use Rattle.vt_script.specs.Session.{IsHanded, Replied, Replies, step_of}
 
@@ -119,6 +118,7 @@ module _ {W : Type 0} (version : Version) (sink : Ghosts W) where
         handed = Some some.0;
         serves = some.1;
         world = same_worlds (step_world world (step_of version world line (Some some.0))) world (ap (step_world world) step);
+        numbers = some;
         wrote = subst (λ s. Wrote sink x x (step_text number s)) (sym step) (Wrote-nothing sink x);
       }
 
@@ -126,28 +126,28 @@ module _ {W : Type 0} (version : Version) (sink : Ghosts W) where
   replies_step : {T E : Type 0} (r : Result T E) (world new : World ℕ) (line text : List ℕ) (number : ℕ)
       (handed : Option Allotment) (x y : W) → IsHanded version world line handed →
       text ≡ step_text number (step_of version world line handed)
-      → SameWorlds (step_world world (step_of version world line handed)) new →
+      → SameWorlds (step_world world (step_of version world line handed)) new → HasNumbers new →
       Prints sink text r x y → Replies sink version world line number r new x y
-  replies_step (Ok t) world new line text number handed x y serves same left wrote =
-      record { handed = handed; serves = serves; world = left; wrote = subst (Wrote sink x y) same wrote }
-  replies_step (Err fault) world new line text number handed x y serves same left wrote =
+  replies_step (Ok t) world new line text number handed x y serves same left some wrote =
+      record { handed = handed; serves = serves; world = left; numbers = some; wrote = subst (Wrote sink x y) same wrote }
+  replies_step (Err fault) world new line text number handed x y serves same left some wrote =
       record { handed = handed; serves = serves; wrote = subst (WroteFront sink x y) same wrote }
 
   -- the reply to a line that is refused, and changes nothing
   replies_denied : {T E : Type 0} (r : Result T E) (world : World ℕ) (line : List ℕ) (number : ℕ)
-      (handed : Option Allotment) (deny : Deny) (x y : W) → IsHanded version world line handed →
+      (handed : Option Allotment) (deny : Deny) (x y : W) → HasNumbers world → IsHanded version world line handed →
       step_of version world line handed ≡ Answered (denied world deny) → Prints sink (reply_line number (Err deny)) r x y
       → Replies sink version world line number r world x y
-  replies_denied r world line number handed deny x y serves step wrote =
+  replies_denied r world line number handed deny x y some serves step wrote =
       replies_step r world world line _ number handed x y serves (ap (step_text number) (sym step))
-      (same_worlds (step_world world (step_of version world line handed)) world (ap (step_world world) step)) wrote
+      (same_worlds (step_world world (step_of version world line handed)) world (ap (step_world world) step)) some wrote
 
   -- the reply to a line that is too long
   pub replies_too_long : {T E : Type 0} (r : Result T E) (world : World ℕ) (line : List ℕ) (kept : LineSoFar)
       (number : ℕ) (x y : W) → HasNumbers world → Holds line kept → kept.overlong ≡ true
       → Prints sink (reply_line number (Err (denial S1))) r x y → Replies sink version world line number r world x y
   replies_too_long r world line kept number x y some held long wrote =
-      replies_denied r world line number (Some some.0) (denial S1) x y some.1
+      replies_denied r world line number (Some some.0) (denial S1) x y some some.1
       (step_too_long version world line (Some some.0.new) (sym held.overlong ∙ long)) wrote
 
   -- the reply to a line that is no request, or was refused memory
@@ -160,14 +160,14 @@ module _ {W : Type 0} (version : Version) (sink : Ghosts W) where
   replies_unread r world line number deny x y some refused bad memory wrote =
       elim refused [
         | inl is ↦ elim (bad is) [
-          | inl long ↦ replies_denied r world line number (Some some.0) deny x y some.1
+          | inl long ↦ replies_denied r world line number (Some some.0) deny x y some some.1
               (step_too_long version world line (Some some.0.new) (grind (arith, nat_tests))
               ∙ ap (λ d. Answered (denied world d)) (sym is)) wrote
-          | inr none ↦ replies_denied r world line number (Some some.0) deny x y some.1
+          | inr none ↦ replies_denied r world line number (Some some.0) deny x y some some.1
               (step_spoken version world line some.0.new None none.0 none.1
               ∙ ap (λ d. Answered (denied world d)) (sym is)) wrote
         ]
-        | inr is ↦ replies_denied r world line number None deny x y (words_take (request_of (marks version) line) (memory is).1)
+        | inr is ↦ replies_denied r world line number None deny x y some (words_take (request_of (marks version) line) (memory is).1)
             (step_refused version world line (memory is).0 ∙ ap (λ d. Answered (denied world d)) (sym is)) wrote
       ]
 
@@ -179,13 +179,14 @@ module _ {W : Type 0} (version : Version) (sink : Ghosts W) where
         → request_of (marks version) line ≡ Some (Calling task call) →
         Meets seen call (policy nat_eq allotment.new (seen old) task call) answer old new →
         (¬ calls.TakesMemory call → result_of answer ≡ (policy nat_eq allotment.new (seen old) task call).answer) →
+        HasNumbers (seen new) →
         Prints sink (reply_line number (result_of answer)) r x y → Replies sink version (seen old) line number r (seen new) x y
-    replies_met r old new line number allotment task call (Ok answer) x y serves spoken asks meets exact wrote =
+    replies_met r old new line number allotment task call (Ok answer) x y serves spoken asks meets exact some wrote =
         let step = step_spoken version (seen old) line allotment.new _ spoken asks in
         replies_step r (seen old) (seen new) line _ number (Some allotment) x y serves
         (ap (reply_line number) (sym meets.0) ∙ ap (step_text number) (sym step))
-        (subst (λ step. SameWorlds (step_world (seen old) step) (seen new)) (sym step) meets.1) wrote
-    replies_met r old new line number allotment task call (Err deny) x y serves spoken asks meets exact wrote =
+        (subst (λ step. SameWorlds (step_world (seen old) step) (seen new)) (sym step) meets.1) some wrote
+    replies_met r old new line number allotment task call (Err deny) x y serves spoken asks meets exact some wrote =
         elim (takes_or_not call) [
           | inl takes ↦ elim meets.0 [
             | inl is ↦ by_rule is
@@ -195,7 +196,7 @@ module _ {W : Type 0} (version : Version) (sink : Ghosts W) where
                 (subst (λ asked. IsSomeAnd asked TakesMemory) (sym asks) (inr takes))
                 (ap (λ d. reply_line number (Err d)) memory.0 ∙ ap (step_text number) (sym step))
                 (same_worlds (step_world (seen old) (step_of version (seen old) line None)) (seen new)
-                (ap (step_world (seen old)) step ∙ ap seen (sym meets.1))) wrote
+                (ap (step_world (seen old)) step ∙ ap seen (sym meets.1))) some wrote
           ]
           | inr none ↦ by_rule (sym (exact none))
         ]
@@ -208,7 +209,7 @@ module _ {W : Type 0} (version : Version) (sink : Ghosts W) where
             replies_step r (seen old) (seen new) line _ number (Some allotment) x y serves
             (ap (reply_line number) (sym is) ∙ ap (step_text number) (sym step))
             (same_worlds (step_world (seen old) (step_of version (seen old) line (Some allotment))) (seen new)
-            (ap (step_world (seen old)) step ∙ left ∙ ap seen (sym meets.1))) wrote
+            (ap (step_world (seen old)) step ∙ left ∙ ap seen (sym meets.1))) some wrote
 
     -- the reply to a call
     pub replies_call : {T E : Type 0} (r : Result T E) (old new : V) (line : List ℕ) (number : ℕ) (task : TaskName)
@@ -217,7 +218,7 @@ module _ {W : Type 0} (version : Version) (sink : Ghosts W) where
         Prints sink (reply_line number (result_of answer)) r x y → Replies sink version (seen old) line number r (seen new) x y
     replies_call r old new line number task call answer x y spoken asks ends wrote =
         replies_met r old new line number ends.allotment task call answer x y ends.serves spoken asks ends.outcome
-        ends.memory wrote
+        ends.memory ends.numbers wrote
 
   -- the reply to a directive, which changes nothing
   pub replies_direct : {T E : Type 0} (r : Result T E) (world : World ℕ) (line : List ℕ) (number : ℕ)
@@ -232,7 +233,7 @@ module _ {W : Type 0} (version : Version) (sink : Ghosts W) where
       ap (step_world world) step ∙ directive_changes_nothing world directive in
       replies_step r world world line _ number (Some some.0) x y some.1
       (ap (reply_line number) (sym told) ∙ ap (step_text number) (sym step))
-      (same_worlds (step_world world (step_of version world line (Some some.0))) world left) wrote
+      (same_worlds (step_world world (step_of version world line (Some some.0))) world left) some wrote
   replies_direct r world line number directive (Err deny) x y some spoken asks told memory wrote =
-      replies_denied r world line number None deny x y (subst (λ asked. IsSomeAnd asked TakesMemory) (sym asks) tt)
+      replies_denied r world line number None deny x y some (subst (λ asked. IsSomeAnd asked TakesMemory) (sym asks) tt)
       (step_refused version world line spoken ∙ ap (λ d. Answered (denied world d)) (sym memory)) wrote

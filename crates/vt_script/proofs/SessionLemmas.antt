@@ -12,6 +12,7 @@ use Rattle.vt_laws_rules.specs.Numbers.{Allotment}
 use Rattle.vt_laws_runs.specs.Handed.{may_be_given}
 use Rattle.vt_laws_runs.specs.Runs.{TellsAlike}
 use Rattle.vt_laws_runs.proofs.answered.AlikeWorlds.{sameness_is_an_equivalence}
+use Rattle.vt_answers.specs.Ends.{HasNumbers}
 use Rattle.vt_script.specs.Progress.{Moment, Runs, HasNoNewline, after_line}
 use Rattle.vt_script.specs.Refused.{MayBeRefusedIn}
 use Rattle.vt_script.specs.Session.{State, moment, IsReading, IsHanded, Fed, Feeds, Broke, begun, lines_begun, IsLast, Closed, BrokeLast, Closes, Replied, BrokeReply, Replies, step_of}
@@ -90,7 +91,11 @@ module _ {W : Type 0} (sink : Ghosts W) where
       record {
         line = line ++ bytes;
         text = [];
-        reading = record { held = held; whole = HasNoNewline-append line bytes reading.whole others };
+        reading = record {
+          held = held;
+          whole = HasNoNewline-append line bytes reading.whole others;
+          numbers = subst HasNumbers (sym world) reading.numbers;
+        };
         runs = subst (λ m. Runs (moment old line) bytes [] m) (sym same) (runs_bytes (moment old line) bytes);
         wrote = Wrote-nothing sink x;
       }
@@ -117,7 +122,7 @@ module _ {W : Type 0} (sink : Ghosts W) where
       record {
         line = [];
         text = step_text (old.answered + 1) step;
-        reading = record { held = held; whole = tt };
+        reading = record { held = held; whole = tt; numbers = replied.numbers };
         runs = subst (λ m. Runs (moment old line) (10 ∷ []) (step_text (old.answered + 1) step) m) (sym same)
             (runs_line old line replied.handed new.world reading.whole replied.serves replied.world);
         wrote = replied.wrote;

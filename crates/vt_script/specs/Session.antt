@@ -11,6 +11,7 @@ use Rattle.vt_spec.specs.Machine.World.{World}
 use Rattle.vt_laws_rules.specs.Numbers.{Allotment}
 use Rattle.vt_laws_runs.specs.Handed.{may_be_given}
 use Rattle.vt_laws_runs.specs.Runs.{ServesInHand, TellsAlike}
+use Rattle.vt_answers.specs.Ends.{HasNumbers}
 use Rattle.vt_script.specs.Progress.{Moment, Runs, HasNoNewline, whole_lines}
 use Rattle.vt_script.specs.Refused.{LineTakesMemory, MayBeRefusedIn}
 
@@ -27,10 +28,11 @@ abbrev pub moment : State → List ℕ → Moment
 moment state line =
     record { version = state.version; world = state.world; answered = state.answered; line = line }
 
--- these bytes were read of the next line
+-- these bytes were read of the next line, and there are numbers for what it may make
 pub record IsReading (state : State) (line : List ℕ) : Type 0 where
   pub held : Holds line state.kept
   pub whole : HasNoNewline line
+  pub numbers : HasNumbers state.world
 
 -- a line of which some byte was read
 abbrev pub begun : List ℕ → ℕ
@@ -97,11 +99,12 @@ module _ {W : Type 0} (sink : Ghosts W) where
   Closes old (Err fault) before after = BrokeLast old before after
 
   -- one line was answered by its step, which leaves this world but for change numbers and the order of numbers beside
-  -- trees
+  -- trees, with numbers for what the next line may make
   pub record Replied (version : Version) (old : World ℕ) (line : List ℕ) (number : ℕ) (new : World ℕ) (before after : W) : Type 0 where
     pub handed : Option Allotment
     pub serves : IsHanded version old line handed
     pub world : SameWorlds (step_world old (step_of version old line handed)) new
+    pub numbers : HasNumbers new
     pub wrote : Wrote sink before after (step_text number (step_of version old line handed))
 
   -- a write failed in the text of one line

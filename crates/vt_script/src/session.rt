@@ -2,6 +2,7 @@
 ghost use Rattle.std.specs.Prelude.{◌≡◌, ◌+◌, ◌<◌, ◌≤◌, ◌^◌, ◌++◌, ◌∷◌, [], List, ℕ, length, IfOk, IfErr, MatchOption, OnOk, OnErr};
 ghost use Rattle.vt_io.specs.LineBuffer.{Holds};
 ghost use Rattle.vt_line.specs.Versions.{version_of};
+ghost use Rattle.vt_answers.specs.Ends.{HasNumbers};
 ghost use Rattle.vt_script.specs.Progress.{HasNoNewline, IsOpening};
 ghost use Rattle.vt_script.specs.Session.{moment, lines_begun, IsReading, Feeds, Closes, Replies};
 ghost use Rattle.vt_script.specs.SessionValue.{state_of};
@@ -49,14 +50,12 @@ fn answer<C: Calls, W: Sink>(
     sink: &mut W,
 ) -> Result<(), RunFault>
     requires { W.failures sink.old + 1 < 2 ^ 64 }
-    ensures replies { (text : List ℕ) → Holds text line.now
+    ensures replies { (text : List ℕ) → Holds text line.now → HasNumbers (C.world world.old)
         → Replies W.Sink (version_of version) (C.world world.old) text number result (C.world world.new) sink.old sink.new }
     ensures kept { OnOk result (W.failures sink.new ≡ W.failures sink.old) }
     ensures counted { OnErr result (W.failures sink.new ≡ W.failures sink.old + 1) }
     ensures fault { IfErr result (λ fault. fault ≡ RunFault.Write) }
 {
-    // By its clause there are numbers for what the line may make.
-    world.has_numbers();
     if line.is_overlong() {
         return write_reply(sink, number, &Err(Rule::S1.denial()));
     }

@@ -1,6 +1,7 @@
 use Rattle.std.proofs.Common.{ap, [], ℕ}
 use Rattle.vt_spec.specs.Machine.World.{World}
 use Rattle.vt_line.specs.Versions.{version_of}
+use Rattle.vt_answers.proofs.SpareNumbers.{numbers_opened}
 use Rattle.vt_script.specs.Progress.{Moment}
 use Rattle.vt_script.proofs.session.Session.new.Goals as goal
 
@@ -10,3 +11,10 @@ returns-clause-opening g c =
     record { version = version_of c.args.version; world = world; answered = 0; line = [] } in
     let opened = c.in-Ok-opening.ensures.opened in
     (opened.0, opened.1, ap begun opened.2)
+
+pub returns-clause-reading : goal.returns-clause-reading
+returns-clause-reading g c = record {
+  held = c.in-Ok.ensures.holds;
+  whole = tt;
+  numbers = numbers_opened _ c.in-Ok-opening.ensures.opened;
+}
