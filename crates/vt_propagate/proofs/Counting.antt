@@ -3,7 +3,9 @@ use Rattle.std.proofs.Common.{◌≡◌, ℕ, Bool, true, false, cond, ◌+◌, 
 use Rattle.std.specs.Prelude.{Contains, option_to_list, unwrap_or}
 use Rattle.std.specs.List.{list_all, list_any}
 use Rattle.std.proofs.lemmas.Bool.{and_parts, eqb-true, ltb-false, ltb-true}
-use Rattle.std.proofs.lemmas.List.Sums.{length-filter}
+use Rattle.std.proofs.lemmas.Bool.Decides.{nat_tests}
+use Rattle.std.proofs.lemmas.List.Sums.{count_by-le-length, length-filter}
+use Rattle.std.proofs.Math.Nat.{mul-le-mul_right}
 use Rattle.vt_spec.specs.Language.Limits.{most_mounts}
 use Rattle.vt_spec.specs.Lists.{holds_of}
 use Rattle.vt_spec.specs.Machine.Attach.{Copies, attached_by, has_too_many, parts_of, receivers_of, takes_part}
@@ -17,6 +19,7 @@ use Rattle.vt_location.specs.declared.mounts.Mount.{Mount as Kept}
 use Rattle.vt_location.specs.declared.numbers.NamespaceId.{NamespaceId}
 use Rattle.vt_location.specs.MountValue.{mount_of}
 use Rattle.vt_location.specs.Numbers.{counted}
+use Rattle.vt_group.proofs.IndexLemmas.{any_still}
 use Rattle.vt_mount.proofs.EntryLemmas.{same_count}
 use Rattle.vt_propagate.specs.Filling.{GrowsBy, MovesFrom, is_overfilled, leaving, parts_in}
 use Rattle.vt_propagate.specs.declared.filling.Load.{Load}
@@ -324,3 +327,29 @@ more_tell world after invariants mounts same kept load stay grows counts right =
         let none : leaving load namespace
         ≡ 0 = ap (λ o. cond (holds_of (same_namespace namespace) o) load.count 0) stay in
         omega (arith, all, none)
+
+-- where no namespace has too many mounts with all parts in it, none has with those that are
+pub few_parts : (mounts : List (Mount ℕ)) (load : Load) (parts : List Kept)
+    → list_any (λ part. is_overfilled mounts load (λ one. length parts) part.namespace) parts ≡ false
+    → list_any (λ part. is_overfilled mounts load (parts_in parts) part.namespace) parts ≡ false
+few_parts mounts load parts none = by (list_any over parts) refl
+  where
+    over : Kept → Bool
+    over part = is_overfilled mounts load (parts_in parts) part.namespace
+
+    at_most : Kept → Bool
+    at_most part = is_overfilled mounts load (λ one. length parts) part.namespace
+
+    raised : (m a b : ℕ) → nat_lt m a ≡ true → a ≤ b → nat_lt m b ≡ true
+    raised m a b is le = let less = ltb-true m a is in grind (arith, nat_tests)
+
+    still : (o : Option NamespaceId) → is_overfilled mounts load (parts_in parts) o ≡ true
+        → is_overfilled mounts load (λ one. length parts) o ≡ true
+    still None is = is
+    still (Some one) is =
+        let times = mul-le-mul_right load.count (count_by-le-length (is_part_in one) parts) in
+        raised most_mounts _ _ is (omega (arith, times))
+
+    by : (b : Bool) → list_any over parts ≡ b → list_any over parts ≡ false
+    by true is = absurd (true≢false (sym (any_still over at_most (λ part. still part.namespace) parts is) ∙ none))
+    by false is = is

@@ -6,7 +6,7 @@ use Rattle.std.proofs.lemmas.Option.{same_Some}
 use Rattle.std.proofs.lemmas.Bool.{eqb-false, eqb-true}
 use Rattle.std.proofs.lemmas.List.{length-map, length-take-le, map-append, take_more}
 use Rattle.vt_spec.specs.Lists.{or_else, index_from}
-use Rattle.vt_spec.specs.Machine.Mounts.{Mount}
+use Rattle.vt_spec.specs.Machine.Mounts.{Mount, index_of}
 use Rattle.vt_location.specs.declared.mounts.Mount.{Mount as Kept}
 use Rattle.vt_location.specs.MountValue.{mount_of}
 
@@ -113,3 +113,17 @@ place_within test mounts n is some = by (index_from test 0 (map mount_of mounts)
     by : (o : Option ℕ) → ((i : ℕ) → o ≡ Some i → i < 0 + length mounts) → n ≡ unwrap_or o 0 → n < length mounts
     by None within same = omega (arith, same, some)
     by (Some i) within same = let less : i < 0 + length mounts = within i refl in omega (arith, same, less)
+
+-- of fewer than two mounts, each index is 0
+pub index_of-short : (mounts : List Kept) (number : ℕ) → length mounts < 2
+    → index_of nat_eq (map mount_of mounts) number ≡ 0
+index_of-short [] number few = refl
+index_of-short (mount ∷ []) number few = by (nat_eq number (mount_of mount).number)
+  where
+    first : ℕ
+    first = 0
+
+    by : (b : Bool) → unwrap_or (if b then Some first else None) 0 ≡ first
+    by true = refl
+    by false = refl
+index_of-short (mount ∷ other ∷ rest) number few = absurd (omega (arith, few))

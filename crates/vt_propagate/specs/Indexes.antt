@@ -1,8 +1,8 @@
 -- Where the mounts and the groups of an attachment stand.
-use Rattle.std.specs.Prelude.{List, Option, map, nat_eq, ℕ, ◌≡◌}
+use Rattle.std.specs.Prelude.{List, Option, map, nat_eq, unwrap_or, ℕ, ◌≡◌}
 use Rattle.std.specs.HashMap.{get}
 use Rattle.vt_spec.specs.Lists.{index_from}
-use Rattle.vt_spec.specs.Machine.Mounts.{Mount}
+use Rattle.vt_spec.specs.Machine.Mounts.{Mount, index_of}
 use Rattle.vt_spec.specs.Machine.Receives.{is_member_of}
 use Rattle.vt_location.specs.declared.numbers.GroupId.{GroupId}
 use Rattle.vt_location.specs.declared.numbers.MountId.{MountId}
@@ -22,7 +22,9 @@ place_of_group mounts group = index_from (is_member_of nat_eq group) 0 mounts
 
 -- these are the indexes of a graft
 pub record IsIndexed (indexes : Indexes) (graft : Graft) : Type 0 where
-  pub parts : (id : MountId) → get same_id indexes.parts id ≡ place_of (map mount_of graft.parts.now) (counted id.count)
-  pub tree : (id : MountId) → get same_id indexes.tree id ≡ place_of (map mount_of graft.tree.now) (counted id.count)
+  pub parts : (id : MountId) → unwrap_or (get same_id indexes.parts id) 0
+      ≡ index_of nat_eq (map mount_of graft.parts.now) (counted id.count)
+  pub tree : (id : MountId) → unwrap_or (get same_id indexes.tree id) 0
+      ≡ index_of nat_eq (map mount_of graft.tree.now) (counted id.count)
   pub groups : (group : GroupId)
       → get same_group indexes.groups group ≡ place_of_group (map mount_of graft.parts.now) (counted group.count)

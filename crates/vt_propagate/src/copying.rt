@@ -113,7 +113,8 @@ impl<'a> Copying<'a> {
             ≡ flat_map (λ part. map (copied (as_kept mounts.now groups.now) self.now part) (tree_seen self.now))
             (parts_seen self.now)) }
     {
-        let mut copies = Vec::new(alloc);
+        let count = self.graft.parts.len().saturating_mul(self.graft.tree.len());
+        let mut copies = Vec::with_capacity(alloc, count)?;
         for part in self.graft.parts {
             self.push_copies(mounts, groups, part, &mut copies)?;
         }

@@ -1,7 +1,9 @@
 //! Where mounts stand once others are detached: umount(2), and the kernel's document sharedsubtree, "Unmount
 //! semantics".
 ghost use Rattle.std.specs.Prelude.{◌≡◌, ◌++◌, All, IfOk, OnOk, filter_map, map, nat_eq, option_map, ℕ};
+ghost use Rattle.std.specs.List.{list_any};
 ghost use Rattle.vt_spec.specs.Machine.Detach.{is_going, mount_point_left, mount_point_of_parent};
+ghost use Rattle.vt_spec.specs.Machine.Mounts.{stands_on};
 ghost use Rattle.vt_spec.specs.Machine.World.{World};
 ghost use Rattle.vt_location.specs.Locations.{location_of};
 ghost use Rattle.vt_location.specs.Numbers.{mount_number};
@@ -42,6 +44,9 @@ fn all_left(alloc: Global, mounts: &Mounts, gone: &[MountId]) -> Result<Vec<NewP
     ensures { IfOk result (λ points. map point_of points.items
         ≡ all_points_left (mounts_in mounts.now) (map mount_number gone.now)) }
 {
+    if !have_children(mounts, gone) {
+        return Ok(Vec::new(alloc));
+    }
     let set = set_of(alloc, gone)?;
     let gone = Gone {
         ids: gone,
@@ -52,6 +57,14 @@ fn all_left(alloc: Global, mounts: &Mounts, gone: &[MountId]) -> Result<Vec<NewP
         push_left(mounts, &gone, mounts.children(*id), &mut points)?;
     }
     Ok(points)
+}
+
+// Whether one of these mounts has a child.
+fn have_children(mounts: &Mounts, ids: &[MountId]) -> bool
+    ensures { result ≡ list_any (λ number. list_any (stands_on nat_eq number) (mounts_in mounts.now))
+        (map mount_number ids.now) }
+{
+    ids.iter().any(|id| mounts.has_child(*id))
 }
 
 // The set of these mounts.

@@ -1,6 +1,6 @@
 //! How many mounts namespaces get when a tree of mounts is attached: ENOSPC of mount(2).
 ghost use Rattle.std.specs.Prelude.{◌≡◌, ◌<◌, ◌+◌, if◌then◌else◌, IfOk, List};
-ghost use Rattle.std.specs.Prelude.{None, OnOk, false, length, map, nat_eq, true, unwrap_or, ℕ};
+ghost use Rattle.std.specs.Prelude.{None, OnOk, Some, false, length, map, nat_eq, true, unwrap_or, ℕ};
 ghost use Rattle.std.specs.List.{list_any};
 ghost use Rattle.std.specs.HashMap.{get};
 ghost use Rattle.vt_spec.specs.Lists.{holds_of};
@@ -51,8 +51,32 @@ pub fn overfills(
         → mounts_in mounts.now ≡ world.mounts → NamespaceInvariants nat_eq world → load.leaves ≡ None
         → GrowsBy world after (map mount_of parts.now) load.count → too_many ≡ has_too_many nat_eq after) }
 {
+    if !can_overfill(mounts, parts, load) {
+        return Ok(false);
+    }
     let counts = counts_of(alloc, parts)?;
     Ok(is_one_overfilled(mounts, parts, &counts, load))
+}
+
+// Whether the namespace of a part has too many mounts if all parts are in it: else they need not be counted.
+fn can_overfill(mounts: &Mounts, parts: &[Mount], load: Load) -> bool
+    ensures { result ≡ list_any (λ part. is_overfilled (mounts_in mounts.now) load
+        (λ namespace. length parts.now) part.namespace) parts.now }
+{
+    let most = parts.len() as u64;
+    parts
+        .iter()
+        .any(|part| can_exceed(mounts, part.namespace, most, load))
+}
+
+// Whether a namespace, if there is one, has too many mounts once so many parts are in it.
+fn can_exceed(mounts: &Mounts, namespace: Option<NamespaceId>, parts: u64, load: Load) -> bool
+    ensures { result ≡ is_overfilled (mounts_in mounts.now) load (λ one. parts) namespace }
+{
+    match namespace {
+        Some(namespace) => exceeds(mounts, namespace, parts, load),
+        None => false,
+    }
 }
 
 // How many parts are in each namespace.
@@ -113,6 +137,13 @@ fn is_overfilled(
         return false;
     };
     let parts = counts.get(&namespace).copied().unwrap_or(0);
+    exceeds(mounts, namespace, parts, load)
+}
+
+// Whether a namespace has too many mounts once so many parts are in it.
+fn exceeds(mounts: &Mounts, namespace: NamespaceId, parts: u64, load: Load) -> bool
+    ensures { result ≡ is_overfilled (mounts_in mounts.now) load (λ one. parts) (Some namespace) }
+{
     let more = parts.saturating_mul(load.count as u64);
     let had = mounts.attached_in(namespace).len();
     let stay = had.saturating_sub(leaving(load, namespace)) as u64;

@@ -1,8 +1,8 @@
 //! Where the mounts and the groups of an attachment stand.
-ghost use Rattle.std.specs.Prelude.{◌≡◌, IfOk, None, OnOk, Some, if◌then◌else◌, map, option_map};
+ghost use Rattle.std.specs.Prelude.{◌≡◌, IfOk, None, OnOk, Some, if◌then◌else◌, map, nat_eq, option_map, unwrap_or};
 ghost use Rattle.std.specs.HashMap.{get};
 ghost use Rattle.vt_spec.specs.Lists.{or_else};
-ghost use Rattle.vt_spec.specs.Machine.Mounts.{group_of};
+ghost use Rattle.vt_spec.specs.Machine.Mounts.{group_of, index_of};
 ghost use Rattle.vt_location.specs.declared.numbers.GroupId.{GroupId};
 ghost use Rattle.vt_location.specs.declared.numbers.MountId.{MountId};
 ghost use Rattle.vt_location.specs.MountValue.{mount_of, propagation_of};
@@ -16,7 +16,8 @@ use std::alloc::{AllocError, Global};
 use std::collections::HashMap;
 use vt_location::{GroupId, Mount, MountId, Propagation};
 
-/// The index of each part and of each mount of a tree by their numbers, and that of the first part in each group.
+/// The index of each part and of each mount of a tree by their numbers, if it is not 0, and that of the first part in
+/// each group.
 #[derive(Debug, Drop)]
 pub(crate) struct Indexes {
     pub(crate) parts: HashMap<MountId, usize>,
@@ -37,12 +38,23 @@ impl Indexes {
     }
 }
 
-// The index of each of these mounts; of those with one number, the first.
+// The index of each of these mounts; of those with one number, the first. An index of 0 is left out if there is no other.
 fn places(alloc: Global, mounts: &[Mount]) -> Result<HashMap<MountId, usize>, AllocError>
+    ensures { IfOk result (λ places. (id : MountId) → unwrap_or (get same_id places id) 0
+        ≡ index_of nat_eq (map mount_of mounts.now) (mount_number id)) }
+{
+    if mounts.len() < 2 {
+        return Ok(HashMap::new(alloc));
+    }
+    all_places(alloc, mounts)
+}
+
+// The same with all indexes.
+fn all_places(alloc: Global, mounts: &[Mount]) -> Result<HashMap<MountId, usize>, AllocError>
     ensures { IfOk result (λ places. (id : MountId)
         → get same_id places id ≡ place_of (map mount_of mounts.now) (mount_number id)) }
 {
-    let mut places = HashMap::new(alloc);
+    let mut places = HashMap::with_capacity(alloc, mounts.len())?;
     for (index, mount) in mounts.iter().enumerate() {
         note_mount(&mut places, mount.number, index)?;
     }

@@ -70,7 +70,7 @@ fn with_receivers<R: Reach>(
         ≡ mount_of parent ∷ filter (joins (R.under directories.now) (location_of place) (mount_of parent))
         (mounts_numbered (mounts_in mounts.now) (map mount_number receivers.now))) }
 {
-    let mut parts = Vec::new(alloc);
+    let mut parts = Vec::with_capacity(alloc, receivers.len().saturating_add(1))?;
     parts.push(parent)?;
     if receivers.is_empty() {
         return Ok(parts);

@@ -69,7 +69,7 @@ fn free_on_then(
         ≡ free_on_then (mounts_in mounts.now) (map mount_number gone.now.ids.now) (number_of node)
         (map mount_number receivers.now)) }
 {
-    let mut going = Vec::new(alloc);
+    let mut going = Vec::with_capacity(alloc, receivers.len())?;
     for receiver in receivers {
         if let Some(child) = free_at_receiver(mounts, gone, node, *receiver) {
             going.push(child)?;

@@ -101,7 +101,7 @@ fn free_on(
         ≡ map (λ mount. mount.number) (free_on (mounts_in mounts.now) (number_of node)
         (map mount_number receivers.now))) }
 {
-    let mut going = Vec::new(alloc);
+    let mut going = Vec::with_capacity(alloc, receivers.len())?;
     for receiver in receivers {
         let place = Location {
             mount: *receiver,

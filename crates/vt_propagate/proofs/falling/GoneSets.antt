@@ -1,10 +1,15 @@
 -- A set of the mounts that go.
-use Rattle.std.proofs.Common.{◌≡◌, ℕ, Bool, true, false, cond, List, [], ◌∷◌, ◌+◌, ◌<◌, ◌||◌, nat_eq, refl, sym, ap, ◌∙◌, get_or, length, take}
+use Rattle.std.proofs.Common.{◌≡◌, ℕ, Bool, true, false, cond, List, [], ◌∷◌, ◌+◌, ◌<◌, ◌||◌, ◌++◌, flat_map, map, nat_eq, refl, sym, ap, ◌∙◌, get_or, length, take}
 use Rattle.std.specs.List.{list_any}
+use Rattle.std.specs.Prelude.{filter_map}
 use Rattle.std.proofs.lemmas.List.{map-append, take_more}
 use Rattle.std.proofs.lemmas.List.Folds.{list_any-append}
+use Rattle.vt_spec.specs.Machine.Mounts.{Mount, stands_on}
+use Rattle.vt_spec.proofs.Lists.{filter_none}
+use Rattle.vt_spec.proofs.Truths.{or_false_left, or_false_right}
 use Rattle.vt_location.specs.declared.numbers.MountId.{MountId}
 use Rattle.vt_location.specs.Numbers.{counted}
+use Rattle.vt_propagate.specs.Falling.{point_left_of, points_left_on}
 use Rattle.vt_propagate.proofs.Found.{counts}
 use Rattle.vt_propagate.proofs.Indexing.{turned_count}
 
@@ -26,3 +31,14 @@ going_more ids i d id within =
     either true false = refl
     either false true = refl
     either false false = refl
+
+-- what has no child leaves no mount behind
+pub none_left : (mounts : List (Mount ℕ)) (gone numbers : List ℕ)
+    → list_any (λ number. list_any (stands_on nat_eq number) mounts) numbers ≡ false
+    → flat_map (points_left_on mounts gone) numbers ≡ []
+none_left mounts gone [] none = refl
+none_left mounts gone (number ∷ numbers) none =
+    ap (λ list. filter_map (point_left_of mounts gone) (map (λ child. child.number) list)
+    ++ flat_map (points_left_on mounts gone) numbers)
+    (filter_none (stands_on nat_eq number) mounts (or_false_left _ _ none))
+    ∙ none_left mounts gone numbers (or_false_right _ _ none)

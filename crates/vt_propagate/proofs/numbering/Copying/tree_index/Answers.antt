@@ -5,11 +5,11 @@ use Rattle.vt_propagate.proofs.numbering.Copying.tree_index.Goals as goal
 
 pub returns-clause-value : goal.returns-clause-value
 returns-clause-value c =
-    c.unwrap_or.ensures ∙ ap (λ o. unwrap_or o 0)
-    (c.copied.ensures ∙ c.get.ensures.value ∙ c.requires.indexed.tree c.args.origin)
+    c.unwrap_or.ensures ∙ ap (λ o. unwrap_or o 0) (c.copied.ensures ∙ c.get.ensures.value)
+    ∙ c.requires.indexed.tree c.args.origin
 
 pub returns-clause-within : goal.returns-clause-within
 returns-clause-within c some =
     place_within _ _ c.unwrap_or.result
-    (c.unwrap_or.ensures ∙ ap (λ o. unwrap_or o 0)
-    (c.copied.ensures ∙ c.get.ensures.value ∙ c.requires.indexed.tree c.args.origin)) some
+    (c.unwrap_or.ensures ∙ ap (λ o. unwrap_or o 0) (c.copied.ensures ∙ c.get.ensures.value)
+    ∙ c.requires.indexed.tree c.args.origin) some

@@ -5,7 +5,7 @@ use Rattle.vt_location.specs.Numbers.{counted}
 use Rattle.vt_location.specs.declared.numbers.MountId.{MountId}
 use Rattle.vt_mount.specs.Listed.{same_id}
 use Rattle.vt_propagate.specs.Indexes.{place_of}
-use Rattle.vt_propagate.proofs.indexes.places.Given as goal
+use Rattle.vt_propagate.proofs.indexes.all_places.Given as goal
 
 abbrev pub invariant-loop-index : goal.invariant-loop-index
 invariant-loop-index l =
