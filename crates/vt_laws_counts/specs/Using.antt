@@ -146,8 +146,7 @@ NewTreeIsCounted =
     (world : World ℕ) (number root : ℕ) → IsPlain world
     → any_pair (λ (a b : Mount ℕ). nat_eq a.number b.number) world.mounts ≡ false
     → list_all (λ mount. not (nat_eq number mount.filesystem) || nat_eq root mount.root) world.mounts ≡ true
-    → list_all (is_outside world number) (all_locations world ++ filter_map (λ mount. mount.mount_point) world.mounts) ≡
-    true
+    → list_all (is_outside world number) (all_locations world ++ filter_map (λ mount. mount.mount_point) world.mounts) ≡ true
     → IsCounted world (new_plain nat_eq number root) (one_counted root (1 + mounts_showing world number))
 
 -- The root directory of the opening world counts itself, the mount, and the root and the working directory of the task.

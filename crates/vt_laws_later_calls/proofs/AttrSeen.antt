@@ -4,6 +4,7 @@ use Rattle.std.proofs.lemmas.Option.{same_Some}
 use Rattle.vt_spec.specs.declared.attributes.Attr.{Attr}
 use Rattle.vt_spec.specs.declared.errors.Deny.{Deny}
 use Rattle.vt_spec.specs.declared.errors.Rule.TheVariants.{W4}
+use Rattle.vt_spec.specs.Errors.{denial}
 use Rattle.vt_spec.specs.FileTree.{attr_in}
 use Rattle.vt_spec.specs.Language.Answers.{StatLine}
 use Rattle.vt_spec.specs.Language.Answers.Answer.{Done, Told}
@@ -19,7 +20,7 @@ use Rattle.vt_spec.specs.Machine.Mounts.{Location}
 use Rattle.vt_spec.specs.Machine.Attributes.{attr_with_mode, attr_with_owner}
 use Rattle.vt_spec.specs.Machine.Permits.{Permit}
 use Rattle.vt_spec.specs.Machine.Permits.Permit.{ToChange}
-use Rattle.vt_spec.specs.Machine.Policy.{policy}
+use Rattle.vt_spec.specs.Machine.Policy.{policy, raised_task}
 use Rattle.vt_spec.specs.Machine.Run.{Serves}
 use Rattle.vt_spec.specs.Machine.Walking.{Here, object_walk}
 use Rattle.vt_spec.specs.Machine.World.{Filesystem, Task, World, files_at, mount_at, node_at, task_called}
@@ -42,7 +43,7 @@ use Rattle.vt_laws_later_calls.proofs.AfterChange.{spent}
 use Rattle.vt_laws_later_calls.proofs.Granted.{IsPermitted, permitted}
 use Rattle.vt_laws_later_calls.proofs.Looked.{stat_of, stat_refused}
 use Rattle.vt_laws_later_calls.proofs.MadeSeen.{Never}
-use Rattle.vt_laws_later_calls.proofs.Readers.{KnownToo, all_stands, leads_all, own_name, seen_there}
+use Rattle.vt_laws_later_calls.proofs.Readers.{KnownToo, all_stands, caller, leads_all, leads_or_hides, own_name, raised_stands, seen_there}
 use Rattle.vt_laws_later_calls.proofs.Stays.{called_own}
 use Rattle.vt_laws_later_calls.proofs.Ways.{Ends as EndsToo, LeadsToo}
 use Rattle.vt_laws_later_calls.proofs.WaysChanges.{TreeStays, ways_with_attr}
@@ -76,6 +77,9 @@ line_with_attr : (attr : Attr) (o : Option (Node ℕ)) → is_some o ≡ true
     → stat_line (node_with_attr attr o) ≡ record (stat_line o) { attr = attr }
 line_with_attr attr None e = absurd (true≢false (sym e))
 line_with_attr attr (Some node) e = refl
+
+abbrev Hidden : Deny → Type 0
+Hidden deny = deny ≡ denial W4
 
 -- A call that sets the attributes of what an object's walk finds
 module _ (call : Call) (path : List ℕ) (set : Attr → Attr) (world : World ℕ) (fresh : Fresh ℕ) (name : TaskName)
@@ -148,6 +152,26 @@ module _ (call : Call) (path : List ℕ) (set : Attr → Attr) (world : World �
           ∙ there (files_at nat_eq world here.location) here.location.node (node_with_attr attr))
           ∙ ap (λ line. Ok (Told line)) (line_with_attr attr (node_at nat_eq world here.location) something))
       by (inr stop) = inr (stop.0.deny, stop.1, stat_refused later later_fresh reader reading called path stop.0 stop.2)
+
+  caller_there : task_called later name ≡ Some (raised_task name did.task)
+  caller_there =
+      caller world fresh name call Done is plain serves other few did here.location change fresh asks does something tt
+      tree Never
+      (stay Never)
+
+  own_told : (later_fresh : Fresh ℕ)
+      → ((policy nat_eq later_fresh later name (Stat path)).answer
+      ≡ Ok (Told (record (stat_line (node_at nat_eq world here.location)) { attr = attr })))
+      ⊎ ((policy nat_eq later_fresh later name (Stat path)).answer ≡ Err (denial W4))
+  own_told later_fresh =
+      ⊎_elim inl (λ refused. inr (refused.2 ∙ ap Err refused.1))
+      (told Hidden name (raised_task name did.task) caller_there (raised_stands name did.task)
+      (leads_or_hides world fresh name call Done is plain serves other few did here.location change fresh asks does
+      something tt tree
+      Hidden (stay Hidden)
+      (raised_task name did.task) (own_name later name (raised_task name did.task) caller_there)
+      (raised_stands name did.task) refl)
+      later_fresh)
 
   all_told : (reader : TaskName) (reading : Task ℕ) → task_called later reader ≡ Some reading
       → StandsAs did.task reading

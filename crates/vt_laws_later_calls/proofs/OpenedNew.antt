@@ -295,8 +295,7 @@ open_or_create_then_pread world fresh name task path access mode number place fi
     granted = (
       opens_file world fresh name task path access
           (OrCreate mode) number is plain serves called did world file outcome refl,
-      reads_by world fresh name task path access (OrCreate mode) number is plain serves called did world file outcome
-          refl,
+      reads_by world fresh name task path access (OrCreate mode) number is plain serves called did world file outcome refl,
     )
   where
     did : IsPermitted world fresh name (OpenFile path access (OrCreate mode)) (Opened number)

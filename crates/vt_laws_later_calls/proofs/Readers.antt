@@ -216,6 +216,16 @@ module _ (world : World ℕ) (fresh : Fresh ℕ) (name : TaskName) (call : Call)
         (known_there here known)
         ∙ e))
 
+    -- where they may be lost, and that is a refusal
+    pub leads_or_hides : Refused (denial W4)
+        → LeadsToo (looks_of nat_eq world) (looks_of nat_eq left) did.task reader Refused KnownToo
+    leads_or_hides hides = leads_by
+        (λ here known directory e. by (may (looks_of nat_eq left) reader here execute_right))
+      where
+        by : (b : Bool) → (b ≡ true) ⊎ ((b ≡ false) × Refused (denial W4))
+        by true = inl refl
+        by false = inr (refl, hides)
+
     pub leads_all : reads_all reader.credentials ≡ true
         → LeadsToo (looks_of nat_eq world) (looks_of nat_eq left) did.task reader Refused KnownToo
     leads_all all = leads_by (λ here known directory e. inl (searched_by_all all here known directory))

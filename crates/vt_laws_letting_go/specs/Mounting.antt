@@ -65,8 +65,7 @@ pub record MovesSome (moved : List ℕ) (change : Mount ℕ → Mount ℕ) : Typ
   pub filesystem : (mount : Mount ℕ) → (change mount).filesystem ≡ mount.filesystem
   pub root : (mount : Mount ℕ) → (change mount).root ≡ mount.root
   pub namespace : (mount : Mount ℕ) → (change mount).namespace ≡ mount.namespace
-  pub mount_point : (mount : Mount ℕ) → is_among nat_eq mount.number moved ≡ false → (change mount).mount_point ≡
-      mount.mount_point
+  pub mount_point : (mount : Mount ℕ) → is_among nat_eq mount.number moved ≡ false → (change mount).mount_point ≡ mount.mount_point
 
 abbrev pub places_moved : World ℕ → List ℕ → List (Location ℕ)
 places_moved world moved =

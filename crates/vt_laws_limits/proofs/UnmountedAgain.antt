@@ -1,5 +1,5 @@
 -- A new mount on a private mount, unmounted again: when what nothing uses is gone, the world is as it was before.
-use Rattle.std.proofs.Common.{◌≡◌, refl, sym, ap, ◌∙◌, inl, ⊎_elim, true≢false, ℕ, nat_eq, eq-eqb, eqb-true, Bool, true, false, cond, not, ◌||◌, ◌&&◌, List, [], ◌∷◌, ◌++◌, Option, None, Some, filter, find, flat_map, is_some, map}
+use Rattle.std.proofs.Common.{◌≡◌, refl, sym, ap, ◌∙◌, inl, inr, ⊎_elim, true≢false, ℕ, nat_eq, eq-eqb, eqb-true, Bool, true, false, cond, not, ◌||◌, ◌&&◌, List, [], ◌∷◌, ◌++◌, Option, None, Some, filter, find, flat_map, is_some, map}
 use Rattle.std.specs.Prelude.{option_to_list, unwrap_or}
 use Rattle.std.specs.List.{list_all, list_any}
 use Rattle.std.proofs.Math.Bool.{or-false}

@@ -1,13 +1,13 @@
 -- Groups that have members, and so up their masters to an end.
 use Rattle.std.proofs.lemmas.List.Filters.{length-filter_both}
-use Rattle.std.proofs.Common.{◌≡◌, refl, sym, ap, subst, ◌∙◌, true, false, zero, suc, Bool, List, None, Option, Some, [], arith, is_some, length, nat_eq, true≢false, ℕ, ◌&&◌, ◌∷◌, ◌≤◌, filter, not, ⊎_elim}
+use Rattle.std.proofs.Common.{◌≡◌, refl, sym, ap, subst, ◌∙◌, true, false, zero, suc, Bool, List, None, Option, Some, [], arith, is_some, length, nat_eq, true≢false, ℕ, ◌&&◌, ◌∷◌, ◌≤◌, eqb-true, filter, not, ⊎_elim}
 use Rattle.std.specs.List.{list_any, list_all}
 use Rattle.vt_laws_mounts.proofs.mounts.Receivers.{along_chain, groups_live_at}
 use Rattle.std.proofs.lemmas.Bool.{and_parts, and_from, false_from_ne_true, not-true, or_from, or_parts}
-use Rattle.vt_spec.specs.Lists.{chain, is_among, last_or, any_pair}
-use Rattle.vt_spec.proofs.Lists.{chain_ends, chain_goes_on, last_of_chain, Among, among-filter, among_from_list_all, among_numbers, any_among, list_all_from_among, none_among}
+use Rattle.vt_spec.specs.Lists.{chain, is_among, last_or, any_pair, holds_of}
+use Rattle.vt_spec.proofs.Lists.{chain_ends, chain_goes_on, last_of_chain, Among, among-filter, among_from_list_all, among_numbers, any_among, any_from_among, list_all_from_among, none_among}
 use Rattle.vt_laws_mounts.specs.Mounts.Receivers.{GroupsLive}
-use Rattle.vt_spec.specs.Machine.Mounts.{Mount, source_of}
+use Rattle.vt_spec.specs.Machine.Mounts.{Mount, group_of, source_of}
 use Rattle.vt_spec.specs.Machine.World.{World}
 use Rattle.vt_spec.specs.Machine.Receives.{groups_up, has_members, is_member_of}
 use Rattle.vt_spec.specs.Machine.Invariants.{Lives, has_living_groups, masters_end}
@@ -168,6 +168,22 @@ fewer_groups (group ∷ groups) mounts distinct all =
     (among_from_list_all (has_members nat_eq mounts) groups each.1 other m))) in
     omega (arith, both, rest, some_inside)
   where
+    not_empty : (list : List (Mount ℕ)) (x : Mount ℕ) → Among x list → 1 ≤ length list
+    not_empty [] x m = absurd m
+    not_empty (y ∷ ys) x m = omega arith
+
+    still : (one other : ℕ) (list : List (Mount ℕ)) → nat_eq one other ≡ false → has_members nat_eq list other ≡ true
+        → has_members nat_eq (filter (λ mount. not (is_member_of nat_eq one mount)) list) other ≡ true
+    still one other list differ h =
+        let member = any_among (is_member_of nat_eq other) list h in
+        any_from_among (is_member_of nat_eq other) (filter (λ mount. not (is_member_of nat_eq one mount)) list) member.0
+        (among-filter (λ mount. not (is_member_of nat_eq one mount)) list member.0 member.1
+        (no_member (group_of member.0.propagation) member.2)) member.2
+      where
+        no_member : (found : Option ℕ) → holds_of (nat_eq other) found ≡ true → not (holds_of (nat_eq one) found) ≡ true
+        no_member None e = absurd (true≢false (sym e))
+        no_member (Some k) e = ap not (ap (nat_eq one) (sym (eqb-true other k e)) ∙ differ)
+
 -- A world whose groups live, told by the groups themselves
 -- as in the invariants of mounts
 abbrev pub LivesIn : World ℕ → ℕ → Type 0

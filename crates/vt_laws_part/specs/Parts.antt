@@ -34,8 +34,7 @@ pub record SeesTheSame (world later : World ℕ) (names : List TaskName) : Type 
       → filesystem_numbered nat_eq later number ≡ filesystem_numbered nat_eq world number
   -- and all that the part has of filesystems
   pub filesystems :
-      filter_map (shown_of later (used_filesystems nat_eq world names) (own_lowers nat_eq world names))
-      later.filesystems
+      filter_map (shown_of later (used_filesystems nat_eq world names) (own_lowers nat_eq world names)) later.filesystems
       ≡ filter_map (shown_of world (used_filesystems nat_eq world names) (own_lowers nat_eq world names))
       world.filesystems
   pub namespaces : (part_of nat_eq later names).namespaces ≡ (part_of nat_eq world names).namespaces

@@ -10,8 +10,7 @@ use Rattle.vt_spec.specs.Machine.World.{Filesystem, World, filesystem_numbered}
 -- the root of a filesystem is a lower layer of an overlay without foothold of others, and each other inode has a name
 abbrev pub is_locked_whole : World ℕ → (free : ℕ → Bool) → ℕ → Bool
 is_locked_whole part free filesystem =
-    list_any (λ merged. is_lower_root nat_eq filesystem (filesystem_numbered nat_eq part filesystem).files.tree.root
-    merged
+    list_any (λ merged. is_lower_root nat_eq filesystem (filesystem_numbered nat_eq part filesystem).files.tree.root merged
     && free merged.number) (overlays part)
     && all_named nat_eq (filesystem_numbered nat_eq part filesystem).files
 

@@ -47,12 +47,7 @@ module _ {N M : Type 0} (there : N → M) (back : M → N) where
 
   abbrev pub renamed_sched : Sched N → Sched M
   renamed_sched sched =
-      record {
-        world = renamed there back sched.world;
-        queues = sched.queues;
-        under_way = map renamed_progress
-            sched.under_way;
-      }
+      record { world = renamed there back sched.world; queues = sched.queues; under_way = map renamed_progress sched.under_way }
 
   abbrev pub renamed_turned : Turned N → Turned M
   renamed_turned turned = record { sched = renamed_sched turned.sched; reply = turned.reply }
@@ -137,8 +132,7 @@ module _ (named : ℕ → Bool) where
 
   abbrev pub mount_named : Mount ℕ → Bool
   mount_named mount =
-      named mount.number && none_or named mount.namespace && none_or location_named mount.mount_point && named
-      mount.filesystem
+      named mount.number && none_or named mount.namespace && none_or location_named mount.mount_point && named mount.filesystem
       && named mount.root && propagation_named mount.propagation
 
   abbrev pub content_named : Content ℕ → Bool

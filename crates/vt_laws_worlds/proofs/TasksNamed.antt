@@ -1,12 +1,13 @@
 -- Tasks keep names of their own: what a fork names is a new name, where tasks have counted their forks.
 use Rattle.std.proofs.lemmas.Grind.{common_steps}
 use Rattle.std.proofs.Common.{◌≡◌, refl, sym, ap, subst, ◌∙◌, ◌⊎◌, inl, inr, ⊎_elim, ℕ, nat_eq, Bool, true, false, cond, true≢false, filter, not, List, [], ◌∷◌, ◌++◌, ◌+◌, ◌≤◌, ◌||◌, append_assoc, arith, is_some, map}
+use Rattle.std.specs.Prelude.{if◌then◌else◌}
 use Rattle.std.specs.List.{list_any}
 use Rattle.std.specs.Cmp.Lexicographic.{bytes_decides}
 use Rattle.std.proofs.lemmas.Bool.{or_parts}
 use Rattle.vt_spec.specs.Lists.{Fresh, any_pair, first_of_list, rest_of}
 use Rattle.vt_spec.specs.Machine.Mounts.{Mount}
-use Rattle.vt_spec.specs.Machine.Namespaces.{pivoted_task}
+use Rattle.vt_spec.specs.Machine.Namespaces.{pivoted_location, pivoted_task}
 use Rattle.vt_spec.specs.Machine.Tasks.{child_name, child_of}
 use Rattle.vt_spec.specs.Machine.Invariants.{ForksAreCounted}
 use Rattle.vt_spec.specs.Machine.World.{Task, World, first_task, opening, replaced_if_called}
@@ -60,6 +61,9 @@ appended_apart [] new e differ = refl
 appended_apart (first ∷ rest) new e differ = both (any_appended rest (first_part e))
     (appended_apart rest new (second_part e) (λ t m. differ t (inr m)))
   where
+    test : Task ℕ → Task ℕ → Bool
+    test a b = same_name a.name b.name
+
     first_part : AreNamedApart (first ∷ rest) → list_any (λ (b : Task ℕ). same_name first.name b.name) rest ≡ false
     first_part h = (or_parts (list_any (λ (b : Task ℕ). same_name first.name b.name) rest)
         (any_pair (λ (a b : Task ℕ). same_name a.name b.name) rest) h).0

@@ -7,7 +7,7 @@ use Rattle.vt_laws_calls.proofs.inodes.InodesSettled.{inode_after_call}
 use Rattle.vt_laws_rules.specs.Given.{IsFor}
 use Rattle.vt_laws_calls.specs.Inodes.{CallsChangeTheirOwn, change_of, is_own, named_by, own_by}
 use Rattle.vt_spec.specs.Language.Calls.{Call}
-use Rattle.vt_spec.specs.Language.Changes.{Change, changed, without_name, without_parent}
+use Rattle.vt_spec.specs.Language.Changes.{Change, changed, with_name, without_name, without_parent}
 use Rattle.vt_spec.specs.Language.Changes.Change.{AddName, CopyUp, Make, Move, Remove, SetAttr, SetBytes, SetMark}
 use Rattle.vt_spec.specs.FileTree.{FileTree}
 use Rattle.vt_spec.specs.Machine.Judge.{judge_in}
@@ -54,6 +54,15 @@ changed_elsewhere files (Move from old to new object) other apart =
   where
     replaced : Option ℕ
     replaced = entry_named new (entries_in (files.tree.node to))
+
+    alone : FileTree ℕ
+    alone = without_parent nat_eq files replaced
+
+    unnamed : FileTree ℕ
+    unnamed = without_name nat_eq alone from old
+
+    named : FileTree ℕ
+    named = with_name nat_eq unnamed to new object
 
     first : (nat_eq other from ≡ false) × (is_among nat_eq other (to ∷ object ∷ option_to_list replaced) ≡ false)
     first = or_parts (nat_eq other from) (is_among nat_eq other (to ∷ object ∷ option_to_list replaced)) apart

@@ -4,7 +4,7 @@ use Rattle.std.proofs.lemmas.Bool.Decides.{eqb_tells}
 use Rattle.std.specs.List.{list_all}
 use Rattle.vt_spec.specs.FileTree.{FileTree}
 use Rattle.vt_spec.specs.Language.Changes as Changes
-use Rattle.vt_spec.specs.Language.Changes.{Change, node_with_attr, node_with_mark, node_with_parent}
+use Rattle.vt_spec.specs.Language.Changes.{Change, content_with_mark, node_with_attr, node_with_mark, node_with_parent}
 use Rattle.vt_spec.specs.Language.Changes.Change.{AddName, CopyUp, Make, Move, Remove, SetAttr, SetBytes, SetMark}
 use Rattle.vt_spec.specs.Lists.{Fresh, is_among}
 use Rattle.vt_spec.specs.Machine.Filesystems.{filesystem_changed, with_change, with_files}
@@ -203,6 +203,10 @@ module _ (fresh : Fresh ℕ) (world : World ℕ) (location : Location ℕ) (inod
 
   found : filesystem_numbered nat_eq done number ≡ with_files old left
   found = Swept.found_done world number files in_use plain filesystem_there new_tallied.once
+
+  mounts_same : (after : World ℕ) → after ≡ done
+      → filesystem_at nat_eq after location ≡ filesystem_numbered nat_eq after number
+  mounts_same after e = subst (λ w. filesystem_at nat_eq w location ≡ filesystem_numbered nat_eq w number) (sym e) refl
 
   only_files : after_change fresh world location change ≡ with_tree world number
       (filesystem_at nat_eq (after_change fresh world location change) location).files

@@ -9,7 +9,7 @@ use Rattle.vt_spec.specs.Language.Changes.Change.{AddName, CopyUp, Make, Move, R
 use Rattle.vt_spec.specs.Lists.{is_among}
 use Rattle.vt_spec.specs.Fits.{Fits}
 use Rattle.vt_spec.specs.Inodes.{Inode, Inodes, changed, node_in, pinned, used_once_more, with_changed}
-use Rattle.vt_spec.specs.Tree.{node_with_bytes, node_with_entry}
+use Rattle.vt_spec.specs.Tree.{Node, node_with_bytes, node_with_entry}
 use Rattle.vt_laws_letting_go.specs.TreeChanges.{with_tree}
 use Rattle.vt_laws_letting_go.proofs.Lists.{all_pass, is_among_numbers}
 use Rattle.vt_laws_counts.proofs.counting.Times.{among_times, times_in}

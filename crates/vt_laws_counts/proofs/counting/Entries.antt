@@ -4,7 +4,7 @@ use Rattle.std.proofs.lemmas.Bool.Decides.{eqb_tells}
 use Rattle.std.proofs.lemmas.Bool.{and_parts}
 use Rattle.std.proofs.lemmas.Float.{T_from_true}
 use Rattle.std.specs.Cmp.Lexicographic.{nat_list_cmp_total, texts_ties, bytes_decides}
-use Rattle.std.specs.FinMap.Entries.{below_all, by_order, is_sorted, is_sorted-where_key}
+use Rattle.std.specs.FinMap.Entries.{below_all, by_order, is_sorted, is_sorted-put, is_sorted-where_key}
 use Rattle.std.specs.Ordering.{is_eq, is_lt}
 use Rattle.std.specs.Str.{bytes_eq}
 use Rattle.std.specs.declared.cmp.Ordering.{Ordering}
@@ -108,6 +108,11 @@ times_without number name (entry ∷ rest) sorted =
         let same : name ≡ entry.0 = (bytes_decides name entry.0).0 (texts_ties name entry.0 ∙ f) in
         absurd (true≢false (sym ((bytes_decides entry.0 name).1 (sym same)) ∙ e))
     by false e false f later = omega arith
+
+pub sorted_put : (name : List ℕ) (object : ℕ) (entries : Entries ℕ) → is_sorted name_cmp entries ≡ true
+    → is_sorted name_cmp (with_entry name object entries) ≡ true
+sorted_put name object entries sorted =
+    passes _ (is_sorted-put name_cmp nat_list_cmp_total name object entries (T_from_true _ sorted))
 
 pub sorted_without : (name : List ℕ) (entries : Entries ℕ) → is_sorted name_cmp entries ≡ true
     → is_sorted name_cmp (without_entry name entries) ≡ true
@@ -219,6 +224,10 @@ part_at part node place change same n =
     (λ t. ap (λ b. part (cond b (change (node place)) (node n))) t.0 ∙ same ∙ ap (λ m. part (node m)) (sym t.1))
     (λ t. ap (λ b. part (cond b (change (node place)) (node n))) t.0)
     (eqb_tells n place)
+
+pub at_here : (node : ℕ → Option (Node ℕ)) (place : ℕ) (change : Option (Node ℕ) → Option (Node ℕ))
+    → at_place node place change place ≡ change (node place)
+at_here node place change = ap (λ b. cond b (change (node place)) (node place)) (eq-eqb place place refl)
 
 pub at_other : (node : ℕ → Option (Node ℕ)) (place : ℕ) (change : Option (Node ℕ) → Option (Node ℕ)) (n : ℕ) → n ≢ place
     → at_place node place change n ≡ node n

@@ -1,7 +1,7 @@
 -- Inodes that get some uses and lose some.
 use Rattle.std.proofs.Common.{◌≡◌, refl, sym, ap, subst, ◌∙◌, ⊎_elim, inl, inr, ℕ, ◌+◌, ◌≤◌, nat_eq, eqb-true, Bool, true, false, true≢false, cond, not, ◌&&◌, ◌||◌, List, [], ◌∷◌, map, filter, find, Option, Some, None, is_some, unwrap_or, arith}
 use Rattle.std.specs.List.{list_all}
-use Rattle.std.proofs.lemmas.Bool.{and_parts}
+use Rattle.std.proofs.lemmas.Bool.{and_parts, or_cases}
 use Rattle.std.proofs.lemmas.Bool.Decides.{eqb_tells}
 use Rattle.vt_spec.specs.FileTree.{targets_in}
 use Rattle.vt_spec.specs.Lists.{folded, is_among}
@@ -323,6 +323,17 @@ all_left k world (inode ∷ rest) plain there empty stand =
         by true e = ap targets_in (first_left.gone n none (among_one n true e))
         by false e = ap targets_in (first_left.other n (among_one n false e)) ∙ empty n none
 
+    then_left : IsLeft k (let_go_inode world inode) f1 rest (let_go_inodes (let_go_inode world inode) rest)
+        (filesystem_numbered nat_eq (let_go_inodes (let_go_inode world inode) rest) k)
+        → IsLeft k world f (inode ∷ rest) (let_go_inodes (let_go_inode world inode) rest)
+        (filesystem_numbered nat_eq (let_go_inodes (let_go_inode world inode) rest) k)
+    then_left later = record {
+      uses = λ n. later.uses n ∙ first_left.uses n;
+      used = λ n some. later.used n (subst (λ u. 1 ≤ u) (sym (first_left.uses n)) some) ∙ first_left.used n some;
+      gone = λ n none among. by n none (is_inode k n inode) refl (is_inode_among k n rest) refl among;
+      other = λ n apart. neither n (is_inode k n inode) refl apart;
+      root = later.root ∙ first_left.root;
+      once = later.once;
     }
       where
         by : (n : ℕ) → inode_uses world f n ≡ 0 → (a : Bool) → is_inode k n inode ≡ a → (b : Bool)

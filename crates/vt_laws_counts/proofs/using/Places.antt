@@ -15,7 +15,7 @@ use Rattle.vt_spec.specs.Tree.{new_directory}
 use Rattle.vt_laws_letting_go.specs.Counts.{inode_uses, mounts_showing, times}
 use Rattle.vt_laws_letting_go.specs.Mounting.{inode_at}
 use Rattle.vt_laws_letting_go.specs.OneByOne.{Inode}
-use Rattle.vt_laws_letting_go.proofs.Lists.{Among, among-append_left, among-append_right, passes}
+use Rattle.vt_laws_letting_go.proofs.Lists.{Among, all_pass, among-append_left, among-append_right, among_numbers, passes}
 use Rattle.vt_laws_letting_go.proofs.leaving.PlacesLeft.{found_itself, no_layers_of}
 use Rattle.vt_laws_counts.proofs.counting.Entries.{one_if}
 use Rattle.vt_laws_counts.proofs.counting.Times.{times_in}

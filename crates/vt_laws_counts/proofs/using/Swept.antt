@@ -14,7 +14,7 @@ use Rattle.vt_laws_letting_go.specs.InUse.{AllInUse, IsListedTree, is_inode_used
 use Rattle.vt_laws_letting_go.specs.OneByOne as LettingGo
 use Rattle.vt_laws_letting_go.specs.TreeChanges.{with_tree}
 use Rattle.vt_laws_letting_go.proofs.sweeps.InUse.{UnusedAreEmpty, groups_stay, named-left}
-use Rattle.vt_laws_letting_go.proofs.Lists.{Among, among_from_all, among_numbers, fails, map_same, none_passes, passes}
+use Rattle.vt_laws_letting_go.proofs.Lists.{Among, all_pass, among-from_map, among_from_all, among_numbers, fails, map_same, none_passes, or_first, passes}
 use Rattle.vt_laws_letting_go.proofs.leaving.PlacesLeft.{no_layers_of}
 use Rattle.vt_laws_counts.proofs.counting.Counts as Counts
 use Rattle.vt_laws_counts.proofs.counting.Counts.{one_if-itself}

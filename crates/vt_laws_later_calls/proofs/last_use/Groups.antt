@@ -1,5 +1,5 @@
 -- A group ends with its last member.
-use Rattle.std.proofs.Common.{◌≡◌, refl, sym, ap, subst, ◌∙◌, ◌⊎◌, inl, inr, ⊎_elim, ℕ, nat_eq, eq-eqb, Bool, true, false, true≢false, cond, not, ◌||◌, ◌&&◌, List, [], ◌∷◌, ◌++◌, Option, Some, None, is_some, option_to_list}
+use Rattle.std.proofs.Common.{◌≡◌, refl, sym, ap, subst, ◌∙◌, ◌⊎◌, inl, inr, ⊎_elim, ℕ, nat_eq, eqb-true, eq-eqb, Bool, true, false, true≢false, cond, not, ◌||◌, ◌&&◌, List, [], ◌∷◌, ◌++◌, Option, Some, None, is_some, option_to_list}
 use Rattle.std.specs.Prelude.{nat_lt}
 use Rattle.std.specs.List.{list_all, list_any}
 use Rattle.vt_spec.specs.Lists.{holds_of, then_some}
@@ -7,17 +7,19 @@ use Rattle.vt_spec.specs.Machine.Invariants.{HasLivingGroups, Lives, MountInvari
 use Rattle.vt_spec.specs.Machine.Invariants.Lives.{has_master, has_no_master}
 use Rattle.vt_spec.specs.Machine.Mounts.{Mount, Propagation, group_of, source_of}
 use Rattle.vt_spec.specs.Machine.Mounts.Propagation.{Private, Shared, Slave, Unbindable}
-use Rattle.vt_spec.specs.Machine.Receives.{has_members, is_lost_group, is_member_of, lost_a_group}
+use Rattle.vt_spec.specs.Machine.Receives.{has_members, is_lost_group, is_member_of, lost_a_group, regrouped, regrouped_by}
 use Rattle.vt_spec.specs.Machine.Settled.{without_dead_groups}
 use Rattle.vt_spec.specs.Machine.World.{World, with_mounts}
 use Rattle.vt_spec.proofs.Truths.{or_false_left}
 use Rattle.vt_laws_mounts.proofs.GroupsKept.{member_shared}
-use Rattle.vt_laws_mounts.proofs.GroupsUp.{live_members}
+use Rattle.vt_laws_mounts.proofs.GroupsUp.{Up, live_members}
+use Rattle.vt_laws_mounts.proofs.GroupsUp.Up.{here}
+use Rattle.vt_laws_mounts.proofs.propagation.PropagationUp.{no_loop}
 use Rattle.vt_laws_letting_go.specs.Counts.{member_count, times}
-use Rattle.vt_laws_letting_go.specs.Groups.{OneGroupIsHandedOn, is_group_or_lives}
+use Rattle.vt_laws_letting_go.specs.Groups.{GroupsLiveBut, OneGroupIsHandedOn, hand_on, is_group_or_lives}
 use Rattle.vt_laws_letting_go.specs.InUse.{AllInUse}
 use Rattle.vt_laws_letting_go.specs.OneByOne.{GroupsInUseBut, without_master}
-use Rattle.vt_laws_letting_go.proofs.Lists.{Among, among-append, among-append_left, among-append_right, among_from_all, none_passes, one_passes}
+use Rattle.vt_laws_letting_go.proofs.Lists.{Among, all_pass, among-append, among-append_left, among-append_right, among_from_all, any_passes, none_passes, one_passes}
 use Rattle.vt_laws_letting_go.proofs.sweeps.LookedUp.{group_is_looked_up}
 use Rattle.vt_laws_letting_go.proofs.sweeps.OneByOne.{groups_go_one_by_one}
 use Rattle.vt_laws_later_calls.specs.LastUse.{GroupGoesWithItsLastMember, GroupIsHandedOnWithItsLastMember}
@@ -158,6 +160,34 @@ module _ (world : World ℕ) (front back : List (Mount ℕ)) (old new : Mount �
         among_from_all (HasLivingGroups nat_eq world) world.mounts mounts.groups t.0 t.1 other
         (ap source_of (member_shared other t.0 t.2))
 
+    its_life : Lives members world.master group
+    its_life = lives group (any_passes (is_member_of nat_eq group) world.mounts old
+        (subst (Among old) (sym before) (among-append_right front (old ∷ back) old (inl refl)))
+        (old_is_one group ∙ eq-eqb group group refl))
+
+    -- its master is another group, and has members
+    master_has : list_all (has_members nat_eq after.mounts) (option_to_list (world.master group)) ≡ true
+    master_has = by (world.master group) refl (master_lives members world.master group its_life)
+      where
+        by : (o : Option ℕ) → world.master group ≡ o → list_all members (option_to_list o) ≡ true
+            → list_all (has_members nat_eq after.mounts) (option_to_list o) ≡ true
+        by None e h = refl
+        by (Some above) e h =
+            ap (λ b. b && true) (members_as_before above (apart (nat_eq above group) refl)) ∙ h
+          where
+            apart : (b : Bool) → nat_eq above group ≡ b → b ≡ false
+            apart false f = refl
+            apart true f = absurd (no_loop world.master members group its_life above e
+                (subst (λ g. Up world.master g group) (sym (eqb-true above group f)) (here group)))
+
+    live_but : GroupsLiveBut group after
+    live_but = record {
+      of_mounts = all_pass (λ mount. list_all (is_group_or_lives after group)
+          (option_to_list (source_of mount.propagation))) after.mounts
+          (λ mount m. of mount m (source_of mount.propagation) refl);
+      of_groups = λ other. above other (members other) refl;
+      its_master = master_has;
+      in_use = other_groups in_use;
     }
       where
         of : (mount : Mount ℕ) → Among mount after.mounts → (o : Option ℕ) → source_of mount.propagation ≡ o
@@ -173,6 +203,43 @@ module _ (world : World ℕ) (front back : List (Mount ℕ)) (old new : Mount �
             had_members_all (world.master other) (master_lives members world.master other (lives other has))
         above other false none =
             ap (λ o. list_all (is_group_or_lives after group) (option_to_list o)) (in_use.groups other none)
+
+    -- where the group has members left, none has lost a group
+    none_lost_after : has_members nat_eq after.mounts group ≡ true
+        → list_any (lost_a_group nat_eq after) after.mounts ≡ false
+    none_lost_after has =
+        none_passes (lost_a_group nat_eq after) after.mounts (λ mount m. unlost after mount (λ source e.
+        let life = source_lives mount m source e in (
+          still source (live_members world.master members source life),
+          all_still (world.master source) (master_lives members world.master source life),
+        )))
+      where
+        still : (other : ℕ) → members other ≡ true → has_members nat_eq after.mounts other ≡ true
+        still other had = by (nat_eq other group) refl
+          where
+            by : (b : Bool) → nat_eq other group ≡ b → has_members nat_eq after.mounts other ≡ true
+            by true e = ap (has_members nat_eq after.mounts) (eqb-true other group e) ∙ has
+            by false e = members_as_before other e ∙ had
+
+        all_still : (o : Option ℕ) → list_all members (option_to_list o) ≡ true
+            → list_all (has_members nat_eq after.mounts) (option_to_list o) ≡ true
+        all_still None h = refl
+        all_still (Some other) h = ap (λ b. b && true) (still other (only (members other) h))
+          where
+            only : (b : Bool) → (b && true) ≡ true → b ≡ true
+            only true e = refl
+            only false e = e
+
+    pub group_handed_on : OneGroupIsHandedOn → regrouped nat_eq after
+        ≡ cond (nat_lt 1 (member_count world group)) after (hand_on after group)
+    group_handed_on one =
+        by (has_members nat_eq after.mounts group) refl
+        ∙ ap (λ b. cond b after (hand_on after group)) members_still
+      where
+        by : (b : Bool) → has_members nat_eq after.mounts group ≡ b
+            → regrouped nat_eq after ≡ cond b after (hand_on after group)
+        by true has = ap (λ lost. regrouped_by nat_eq lost after) (none_lost_after has)
+        by false none = one after group live_but none
 
 pub group_is_handed_on_with_its_last_member : OneGroupIsHandedOn → GroupIsHandedOnWithItsLastMember
 group_is_handed_on_with_its_last_member one world front back old new group in_use mounts before was is =

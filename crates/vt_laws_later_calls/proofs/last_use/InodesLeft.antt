@@ -1,17 +1,18 @@
 -- An inode goes with its last use.
-use Rattle.std.proofs.Common.{◌≡◌, refl, sym, ap, subst, ◌∙◌, ℕ, nat_eq, eqb-true, eq-eqb, Bool, true, false, cond, not, ◌||◌, ◌&&◌, ◌+◌, [], ◌∷◌, find, map, Option, Some, None, is_some, option_map, unwrap_or, arith}
+use Rattle.std.proofs.Common.{◌≡◌, refl, sym, ap, subst, ◌∙◌, ℕ, nat_eq, eqb-true, eq-eqb, Bool, true, false, true≢false, cond, not, ◌||◌, ◌&&◌, ◌+◌, [], ◌∷◌, ◌++◌, find, map, Option, Some, None, is_some, option_map, unwrap_or, arith}
 use Rattle.std.specs.Prelude.{nat_lt}
 use Rattle.std.specs.List.{list_all}
 use Rattle.std.proofs.Math.Bool.{and-false, and-true}
 use Rattle.std.proofs.lemmas.Bool.{and_parts}
 use Rattle.vt_spec.specs.Lists.{any_pair}
+use Rattle.vt_spec.specs.Machine.Locked.{of_overlay, overlay_or}
 use Rattle.vt_spec.specs.Machine.Settled.{without_dead_in, without_dead_inodes}
 use Rattle.vt_spec.specs.Machine.World.{Filesystem, Overlay, World, filesystem_numbered, is_overlay, no_filesystem}
 use Rattle.vt_laws_letting_go.specs.Counts.{inode_uses}
 use Rattle.vt_laws_letting_go.specs.InUse.{HasTrees, InodesInUse, UppersArePlain, is_inode_used}
-use Rattle.vt_laws_letting_go.specs.OneByOne.{Inode, InodesInUseBut, is_used_or_among, let_go_inode, without_inode_at}
-use Rattle.vt_laws_letting_go.specs.Overlays.{RealsAreThere, is_plain, let_go_in, let_go_in_of, let_go_plain, uppers_of, without_inode_of, without_real}
-use Rattle.vt_laws_letting_go.proofs.Lists.{Among, all_from_among, all_pass, among-from_map, among_from_all, found_by, found_in, map_same, passes}
+use Rattle.vt_laws_letting_go.specs.OneByOne.{Inode, InodesInUseBut, is_used_or_among, let_go_inode, let_go_inode_of, without_inode, without_inode_at}
+use Rattle.vt_laws_letting_go.specs.Overlays.{RealsAreThere, is_plain, let_go_in, let_go_in_of, let_go_plain, uppers_in, uppers_of, uppers_of_inode, uppers_of_inode_in, without_inode_of, without_real}
+use Rattle.vt_laws_letting_go.proofs.Lists.{Among, all_from_among, all_pass, among-from_map, among_from_all, flat_map_none, found_by, found_in, map_same, passes}
 use Rattle.vt_laws_letting_go.proofs.sweeps.InUse.{inodes_stay}
 use Rattle.vt_laws_letting_go.proofs.sweeps.Inodes.{inodes_go_one_by_one}
 use Rattle.vt_laws_letting_go.proofs.sweeps.LookedUp.{inode_is_looked_up}
@@ -135,6 +136,66 @@ module _ (world after : World ℕ) (inode : Inode) (in_use : InodesInUse world) 
 
   -- Of a plain tree, beside overlays
   module _ (plain : is_overlay (filesystem_numbered nat_eq after inode.0) ≡ false) where
+    -- no overlay is looked at
+    merged_stay : let_go_in is_overlay after inode ≡ after
+    merged_stay =
+        ap (λ filesystems. record after { filesystems = filesystems })
+        (map_same (let_go_in_of is_overlay after inode) after.filesystems
+        (λ f m. ap (λ b. cond (b && not (is_inode_used after f inode.1)) (without_inode_of inode.1 f) f)
+        (by f m (nat_eq f.number inode.0) refl)))
+      where
+        by : (f : Filesystem ℕ) → Among f after.filesystems → (b : Bool) → nat_eq f.number inode.0 ≡ b
+            → (is_overlay f && nat_eq f.number inode.0) ≡ false
+        by f m true e = ap (λ b. b && nat_eq f.number inode.0) (its_kind false plain f m e)
+        by f m false e = ap (λ b. is_overlay f && b) e ∙ and-false (is_overlay f)
+
+    no_uppers : uppers_of_inode after inode ≡ []
+    no_uppers =
+        flat_map_none (uppers_of_inode_in inode) after.filesystems (λ f m. by f m (nat_eq f.number inode.0) refl)
+      where
+        none : (o : Option (Overlay ℕ)) → is_some o ≡ false → overlay_or [] (uppers_in inode.1) o ≡ []
+        none None e = refl
+        none (Some overlay) e = absurd (true≢false e)
+
+        by : (f : Filesystem ℕ) → Among f after.filesystems → (b : Bool) → nat_eq f.number inode.0 ≡ b
+            → cond b (of_overlay [] (uppers_in inode.1) f) [] ≡ []
+        by f m true e = none f.overlay (its_kind false plain f m e)
+        by f m false e = refl
+
+    -- in a plain tree it has no real object
+    plain_looked_at : let_go_in is_plain after inode ≡ let_go_inode after inode
+    plain_looked_at =
+        ap (λ filesystems. record after { filesystems = filesystems })
+        (map_alike (let_go_in_of is_plain after inode) (let_go_inode_of after inode) after.filesystems
+        (λ f m. by f m (nat_eq f.number inode.0) refl (is_inode_used after f inode.1)))
+      where
+        no_real : (o : Option (Overlay ℕ)) → is_some o ≡ false → option_map (without_real inode.1) o ≡ o
+        no_real None e = refl
+        no_real (Some overlay) e = absurd (true≢false e)
+
+        by : (f : Filesystem ℕ) → Among f after.filesystems → (b : Bool) → nat_eq f.number inode.0 ≡ b → (used : Bool)
+            → cond ((is_plain f && nat_eq f.number inode.0) && not used) (without_inode_of inode.1 f) f
+            ≡ cond (nat_eq f.number inode.0 && not used) (record f { files = without_inode inode.1 f.files }) f
+        by f m true e used =
+            ap (λ b. cond ((not b && nat_eq f.number inode.0) && not used) (without_inode_of inode.1 f) f)
+            (its_kind false plain f m e)
+            ∙ ap (λ o. cond (nat_eq f.number inode.0 && not used)
+            (record f { files = without_inode inode.1 f.files; overlay = o }) f)
+            (no_real f.overlay (its_kind false plain f m e))
+        by f m false e used =
+            ap (λ b. cond ((is_plain f && b) && not used) (without_inode_of inode.1 f) f) e
+            ∙ ap (λ b. cond (b && not used) (without_inode_of inode.1 f) f) (and-false (is_plain f))
+            ∙ ap (λ b. cond (b && not used) (record f { files = without_inode inode.1 f.files }) f) (sym e)
+
+    beside_overlays : HasTrees after → UppersArePlain after → RealsAreThere after
+        → without_dead_inodes nat_eq after
+        ≡ cond (nat_lt 1 (inode_uses world (filesystem_numbered nat_eq world inode.0) inode.1)) after
+        (without_inode_at after inode)
+    beside_overlays trees uppers reals =
+        all_inodes_go_one_by_one after (inode ∷ []) trees uppers reals other_inodes
+        ∙ ap (λ w. let_go_plain w (inode ∷ uppers_of after (inode ∷ []))) merged_stay
+        ∙ ap (λ list. let_go_plain after (inode ∷ (list ++ []))) no_uppers
+        ∙ plain_looked_at ∙ looked_up
 
   -- Of an overlay
   module _ (merged : is_overlay (filesystem_numbered nat_eq after inode.0) ≡ true) where

@@ -1,18 +1,20 @@
 -- A mount goes with its last location, and a filesystem with its last mount.
 use Rattle.std.proofs.Common.{◌≡◌, refl, sym, ap, ◌∙◌, ℕ, nat_eq, eq-eqb, Bool, true, false, cond, ◌||◌, List, [], ◌∷◌, ◌++◌, is_some}
 use Rattle.std.specs.Prelude.{nat_lt}
-use Rattle.std.specs.List.{list_any}
+use Rattle.std.specs.List.{list_all, list_any}
+use Rattle.std.proofs.Math.Bool.{or-false}
 use Rattle.vt_spec.specs.Lists.{is_among}
 use Rattle.vt_spec.specs.Machine.Mounts.{Location, Mount}
-use Rattle.vt_spec.specs.Machine.Settled.{is_located, mount_lives}
-use Rattle.vt_spec.specs.Machine.World.{Task, World, all_locations, mount_at}
-use Rattle.vt_laws_letting_go.specs.Counts.{mount_uses, times}
-use Rattle.vt_laws_letting_go.specs.InUse.{MountsInUse}
+use Rattle.vt_spec.specs.Machine.Settled.{filesystem_lives, is_located, is_mounted, mount_lives, without_dead_filesystems}
+use Rattle.vt_spec.specs.Machine.World.{Filesystem, Task, World, all_locations, is_overlay, mount_at}
+use Rattle.vt_laws_letting_go.specs.Counts.{mount_uses, mounts_showing, times}
+use Rattle.vt_laws_letting_go.specs.InUse.{FilesystemsInUse, MountsInUse}
 use Rattle.vt_laws_letting_go.specs.Leaving.{with_tasks}
-use Rattle.vt_laws_letting_go.specs.OneByOne.{IsPlain, MountsInUseBut, without_mount}
+use Rattle.vt_laws_letting_go.specs.OneByOne.{FilesystemsInUseBut, IsPlain, MountsInUseBut, without_filesystem, without_mount}
 use Rattle.vt_laws_letting_go.proofs.Lists.{all_pass, passes}
-use Rattle.vt_laws_letting_go.proofs.sweeps.LookedUp.{mount_is_looked_up}
-use Rattle.vt_laws_letting_go.proofs.sweeps.OneByOne.{mounts_go_one_by_one}
+use Rattle.vt_laws_letting_go.proofs.leaving.PlacesLeft.{no_layers}
+use Rattle.vt_laws_letting_go.proofs.sweeps.LookedUp.{filesystem_is_looked_up, mount_is_looked_up}
+use Rattle.vt_laws_letting_go.proofs.sweeps.OneByOne.{filesystems_go_one_by_one, mounts_go_one_by_one}
 use Rattle.vt_laws_later_calls.specs.LastUse.{FilesystemGoesWithItsLastUse, MountGoesWithItsLastUse}
 use Rattle.vt_laws_later_calls.proofs.last_use.OneLess.{some_without_another, some_without_it}
 
@@ -62,7 +64,58 @@ mount_goes_with_its_last_use world tasks front back location in_use one before l
 
 module _ (world after : World ℕ) (front back : List (Mount ℕ)) (mount : Mount ℕ)
     (before : world.mounts ≡ front ++ (mount ∷ back)) (left : after.mounts ≡ front ++ back) where
+  -- other filesystems are mounted as before
+  pub mounted_as_before : (number : ℕ) → nat_eq number mount.filesystem ≡ false
+      → is_mounted nat_eq after number ≡ is_mounted nat_eq world number
+  mounted_as_before number differs =
+      ap (list_any (λ (m : Mount ℕ). nat_eq number m.filesystem)) left
+      ∙ some_without_another (λ (m : Mount ℕ). nat_eq number m.filesystem) mount differs front back
+      ∙ ap (list_any (λ (m : Mount ℕ). nat_eq number m.filesystem)) (sym before)
+
+  -- its own filesystem is mounted if it was more than once
+  pub mounted_still : is_mounted nat_eq after mount.filesystem ≡ nat_lt 1 (mounts_showing world mount.filesystem)
+  mounted_still =
+      ap (list_any (λ (m : Mount ℕ). nat_eq mount.filesystem m.filesystem)) left
+      ∙ some_without_it (λ (m : Mount ℕ). nat_eq mount.filesystem m.filesystem) mount
+      (eq-eqb mount.filesystem mount.filesystem refl) front back
+      ∙ ap (λ list. nat_lt 1 (times (λ (m : Mount ℕ). nat_eq mount.filesystem m.filesystem) list)) (sym before)
+
   module _ (plain : IsPlain world) (same : after.filesystems ≡ world.filesystems) where
+    -- a plain filesystem is in use just while it is mounted
+    lives_mounted : (other : World ℕ) → other.filesystems ≡ world.filesystems → (filesystem : Filesystem ℕ)
+        → filesystem_lives nat_eq other filesystem ≡ is_mounted nat_eq other filesystem.number
+    lives_mounted other alike filesystem =
+        ap (λ b. is_mounted nat_eq other filesystem.number || b)
+        (no_layers filesystem.number other other.filesystems (ap (list_any is_overlay) alike ∙ plain))
+        ∙ or-false (is_mounted nat_eq other filesystem.number)
+
+    other_filesystems : FilesystemsInUse world → FilesystemsInUseBut (mount.filesystem ∷ []) after
+    other_filesystems in_use =
+        ap (list_all (λ filesystem. is_among nat_eq filesystem.number (mount.filesystem ∷ [])
+        || filesystem_lives nat_eq after filesystem)) same
+        ∙ all_pass (λ filesystem. is_among nat_eq filesystem.number (mount.filesystem ∷ [])
+        || filesystem_lives nat_eq after filesystem) world.filesystems
+        (λ filesystem m. by filesystem (nat_eq filesystem.number mount.filesystem) refl
+        (passes (filesystem_lives nat_eq world) world.filesystems in_use filesystem m))
+      where
+        by : (filesystem : Filesystem ℕ) (b : Bool) → nat_eq filesystem.number mount.filesystem ≡ b
+            → filesystem_lives nat_eq world filesystem ≡ true
+            → ((b || false) || filesystem_lives nat_eq after filesystem) ≡ true
+        by filesystem true is lives = refl
+        by filesystem false differs lives =
+            lives_mounted after same filesystem ∙ mounted_as_before filesystem.number differs
+            ∙ sym (lives_mounted world refl filesystem) ∙ lives
+
+    filesystem_left : FilesystemsInUse world
+        → without_dead_filesystems nat_eq after
+        ≡ cond (nat_lt 1 (mounts_showing world mount.filesystem)) after (without_filesystem after mount.filesystem)
+    filesystem_left in_use =
+        filesystems_go_one_by_one after (mount.filesystem ∷ []) (other_filesystems in_use)
+        ∙ filesystem_is_looked_up after mount.filesystem
+        ∙ ap (λ b. cond b after (without_filesystem after mount.filesystem))
+        (ap (λ b. is_mounted nat_eq after mount.filesystem || b)
+        (no_layers mount.filesystem after after.filesystems (ap (list_any is_overlay) same ∙ plain))
+        ∙ or-false (is_mounted nat_eq after mount.filesystem) ∙ mounted_still)
 
 pub filesystem_goes_with_its_last_use : FilesystemGoesWithItsLastUse
 filesystem_goes_with_its_last_use world after front back mount in_use plain same before left =

@@ -1,13 +1,22 @@
 -- A filesystem goes with its last mount, in a world with overlays.
-use Rattle.std.proofs.Common.{◌≡◌, refl, inl, inr, ℕ, nat_eq, Bool, true, false, ◌||◌, List, [], ◌∷◌, ◌++◌, Some}
-use Rattle.std.specs.List.{list_any}
-use Rattle.vt_spec.specs.Lists.{any_pair}
+use Rattle.std.proofs.Common.{◌≡◌, refl, sym, ap, ◌∙◌, ◌⊎◌, inl, inr, ⊎_elim, ℕ, nat_eq, eqb-true, Bool, true, false, true≢false, cond, ◌||◌, ◌&&◌, List, [], ◌∷◌, ◌++◌, map, Option, Some, None, is_some}
+use Rattle.std.specs.Prelude.{nat_lt}
+use Rattle.std.specs.List.{list_all, list_any}
+use Rattle.std.proofs.lemmas.Bool.{and_parts, or_cases}
+use Rattle.vt_spec.specs.Lists.{any_pair, is_among}
+use Rattle.vt_spec.specs.Machine.Locked.{overlay_or}
 use Rattle.vt_spec.specs.Machine.Mounts.{Mount}
-use Rattle.vt_spec.specs.Machine.Settled.{has_layer_on}
-use Rattle.vt_spec.specs.Machine.World.{Filesystem, Overlay, World, filesystem_numbered, is_overlay}
+use Rattle.vt_spec.specs.Machine.Settled.{filesystem_lives, has_layer_on, is_mounted, without_dead_filesystems}
+use Rattle.vt_spec.specs.Machine.World.{Filesystem, Overlay, World, filesystem_numbered, is_overlay, layers_of, no_filesystem}
+use Rattle.vt_laws_letting_go.specs.Counts.{mounts_showing}
 use Rattle.vt_laws_letting_go.specs.InUse.{FilesystemsInUse}
-use Rattle.vt_laws_letting_go.proofs.Lists.{Among}
-use Rattle.vt_laws_later_calls.specs.LastUse.{FilesystemBesideOverlaysGoesWithItsLastUse, OverlayGoesWithItsLastUse}
+use Rattle.vt_laws_letting_go.specs.OneByOne.{FilesystemsInUseBut, let_go_filesystems, without_filesystem}
+use Rattle.vt_laws_letting_go.proofs.Lists.{Among, all_pass, any-map, any_passes, fails, found_by, none_passes, one_passes, or_first, or_second, passes}
+use Rattle.vt_laws_letting_go.proofs.sweeps.InUse.{filesystems_stay}
+use Rattle.vt_laws_letting_go.proofs.sweeps.LookedUp.{filesystem_is_looked_up}
+use Rattle.vt_laws_letting_go.proofs.sweeps.OneByOne.{filesystems_go_one_by_one}
+use Rattle.vt_laws_later_calls.specs.LastUse.{FilesystemBesideOverlaysGoesWithItsLastUse, OverlayGoesWithItsLastUse, is_layered}
+use Rattle.vt_laws_later_calls.proofs.last_use.MountsAndFilesystems.{mounted_as_before, mounted_still}
 
 -- tests that answer alike of all that is in a list
 any_alike : {A : Type 0} (one other : A → Bool) (list : List A) → ((a : A) → Among a list → one a ≡ other a)
@@ -15,17 +24,182 @@ any_alike : {A : Type 0} (one other : A → Bool) (list : List A) → ((a : A) �
 any_alike one other [] h = refl
 any_alike one other (a ∷ rest) h = λ i. h a (inl refl) i || any_alike one other rest (λ b m. h b (inr m)) i
 
+-- a plain filesystem has no layer
+no_layer : (number : ℕ) (filesystem : Filesystem ℕ) → is_overlay filesystem ≡ false
+    → has_layer_on nat_eq number filesystem ≡ false
+no_layer number filesystem = by filesystem.overlay
+  where
+    by : (o : Option (Overlay ℕ)) → is_some o ≡ false
+        → overlay_or false (λ overlay. list_any (λ layer. nat_eq number layer.filesystem) (layers_of overlay)) o ≡ false
+    by None e = refl
+    by (Some overlay) e = absurd (true≢false e)
+
 module _ (world after : World ℕ) (front back : List (Mount ℕ)) (mount : Mount ℕ) (in_use : FilesystemsInUse world)
     (one : any_pair (λ (a b : Filesystem ℕ). nat_eq a.number b.number) world.filesystems ≡ false)
     (same : after.filesystems ≡ world.filesystems)
     (before : world.mounts ≡ front ++ (mount ∷ back)) (left : after.mounts ≡ front ++ back) where
+  -- what has the number of the filesystem that the mount showed is that one
+  its_own : (f : Filesystem ℕ) → Among f world.filesystems → nat_eq f.number mount.filesystem ≡ true
+      → filesystem_numbered nat_eq world mount.filesystem ≡ f
+  its_own f m e =
+      ap (filesystem_numbered nat_eq world) (sym (eqb-true f.number mount.filesystem e))
+      ∙ found_by (λ (x : Filesystem ℕ). x.number) (no_filesystem f.number) world.filesystems one f m
+
   -- Where it was a plain one, overlays are mounted as before
   module _ (plain : is_overlay (filesystem_numbered nat_eq world mount.filesystem) ≡ false) where
+    layered_as_before : (number : ℕ) → is_layered after number ≡ is_layered world number
+    layered_as_before number =
+        ap (list_any (λ merged. has_layer_on nat_eq number merged && is_mounted nat_eq after merged.number)) same
+        ∙ any_alike (λ merged. has_layer_on nat_eq number merged && is_mounted nat_eq after merged.number)
+        (λ merged. has_layer_on nat_eq number merged && is_mounted nat_eq world merged.number) world.filesystems
+        (λ merged m. by merged m (nat_eq merged.number mount.filesystem) refl)
+      where
+        by : (merged : Filesystem ℕ) → Among merged world.filesystems → (b : Bool)
+            → nat_eq merged.number mount.filesystem ≡ b
+            → (has_layer_on nat_eq number merged && is_mounted nat_eq after merged.number)
+            ≡ (has_layer_on nat_eq number merged && is_mounted nat_eq world merged.number)
+        by merged m true e =
+            let none = no_layer number merged (ap is_overlay (sym (its_own merged m e)) ∙ plain) in
+            ap (λ b. b && is_mounted nat_eq after merged.number) none
+            ∙ ap (λ b. b && is_mounted nat_eq world merged.number) (sym none)
+        by merged m false e =
+            ap (λ b. has_layer_on nat_eq number merged && b)
+            (mounted_as_before world after front back mount before left merged.number e)
+
+    other_filesystems : FilesystemsInUseBut (mount.filesystem ∷ []) after
+    other_filesystems =
+        ap (list_all (λ filesystem. is_among nat_eq filesystem.number (mount.filesystem ∷ [])
+        || filesystem_lives nat_eq after filesystem)) same
+        ∙ all_pass (λ filesystem. is_among nat_eq filesystem.number (mount.filesystem ∷ [])
+        || filesystem_lives nat_eq after filesystem) world.filesystems
+        (λ f m. by f (nat_eq f.number mount.filesystem) refl
+        (passes (filesystem_lives nat_eq world) world.filesystems in_use f m))
+      where
+        by : (f : Filesystem ℕ) (b : Bool) → nat_eq f.number mount.filesystem ≡ b
+            → filesystem_lives nat_eq world f ≡ true → ((b || false) || filesystem_lives nat_eq after f) ≡ true
+        by f true e lives = refl
+        by f false e lives =
+            (λ i. mounted_as_before world after front back mount before left f.number e i
+            || layered_as_before f.number i)
+            ∙ lives
+
+    pub plain_left : without_dead_filesystems nat_eq after
+        ≡ cond (nat_lt 1 (mounts_showing world mount.filesystem) || is_layered world mount.filesystem) after
+        (without_filesystem after mount.filesystem)
+    plain_left =
+        filesystems_go_one_by_one after (mount.filesystem ∷ []) other_filesystems
+        ∙ filesystem_is_looked_up after mount.filesystem
+        ∙ (λ i. cond (mounted_still world after front back mount before left i
+        || layered_as_before mount.filesystem i) after (without_filesystem after mount.filesystem))
 
   -- Where it was an overlay, filesystems of its layers may go
   module _ (overlay : Overlay ℕ)
       (is : (filesystem_numbered nat_eq world mount.filesystem).overlay ≡ Some overlay)
       (no_layers : list_any (has_layer_on nat_eq mount.filesystem) world.filesystems ≡ false) where
+    abbrev layers : List ℕ
+    layers = map (λ layer. layer.filesystem) (layers_of overlay)
+
+    -- what is mounted, or has a layer of a mounted overlay, is in use
+    lives_layered : (number : ℕ) (merged : Filesystem ℕ) → Among merged world.filesystems
+        → has_layer_on nat_eq number merged ≡ true → is_mounted nat_eq after merged.number ≡ true
+        → (is_mounted nat_eq after number || is_layered after number) ≡ true
+    lives_layered number merged m has mounted =
+        or_second (is_mounted nat_eq after number) (is_layered after number)
+        (ap (list_any (λ x. has_layer_on nat_eq number x && is_mounted nat_eq after x.number)) same
+        ∙ any_passes (λ x. has_layer_on nat_eq number x && is_mounted nat_eq after x.number) world.filesystems merged m
+        (λ i. has i && mounted i))
+
+    -- a filesystem was mounted, or an overlay with a layer in it
+    lived : (f : Filesystem ℕ) → Among f world.filesystems
+        → (is_mounted nat_eq world f.number ≡ true) ⊎ ((merged : Filesystem ℕ) × Among merged world.filesystems
+        × (has_layer_on nat_eq f.number merged ≡ true) × (is_mounted nat_eq world merged.number ≡ true))
+    lived f m =
+        ⊎_elim inl
+        (λ layered. let t = one_passes (λ x. has_layer_on nat_eq f.number x && is_mounted nat_eq world x.number)
+        world.filesystems layered in
+        let both = and_parts (has_layer_on nat_eq f.number t.0) (is_mounted nat_eq world t.0.number) t.2 in
+        inr (t.0, t.1, both.0, both.1))
+        (or_cases (is_mounted nat_eq world f.number) (is_layered world f.number)
+        (passes (filesystem_lives nat_eq world) world.filesystems in_use f m))
+
+    all_but : FilesystemsInUseBut (mount.filesystem ∷ layers) after
+    all_but =
+        ap (list_all (λ filesystem. is_among nat_eq filesystem.number (mount.filesystem ∷ layers)
+        || filesystem_lives nat_eq after filesystem)) same
+        ∙ all_pass (λ filesystem. is_among nat_eq filesystem.number (mount.filesystem ∷ layers)
+        || filesystem_lives nat_eq after filesystem) world.filesystems
+        (λ f m. by f (nat_eq f.number mount.filesystem) refl (lived f m))
+      where
+        is_layer : (f merged : Filesystem ℕ) → Among merged world.filesystems
+            → nat_eq merged.number mount.filesystem ≡ true → has_layer_on nat_eq f.number merged ≡ true
+            → is_among nat_eq f.number layers ≡ true
+        is_layer f merged m e has =
+            any-map (nat_eq f.number) (λ layer. layer.filesystem) (layers_of overlay) (λ layer. refl)
+            ∙ sym (ap (overlay_or false (λ o. list_any (λ layer. nat_eq f.number layer.filesystem) (layers_of o))) is)
+            ∙ ap (has_layer_on nat_eq f.number) (its_own merged m e) ∙ has
+
+        by : (f : Filesystem ℕ) (b : Bool) → nat_eq f.number mount.filesystem ≡ b
+            → (is_mounted nat_eq world f.number ≡ true) ⊎ ((merged : Filesystem ℕ) × Among merged world.filesystems
+            × (has_layer_on nat_eq f.number merged ≡ true) × (is_mounted nat_eq world merged.number ≡ true))
+            → ((b || is_among nat_eq f.number layers) || filesystem_lives nat_eq after f) ≡ true
+        by f true e how = refl
+        by f false e (inl mounted) =
+            or_second (is_among nat_eq f.number layers) (filesystem_lives nat_eq after f)
+            (or_first (is_mounted nat_eq after f.number) (is_layered after f.number)
+            (mounted_as_before world after front back mount before left f.number e ∙ mounted))
+        by f false e (inr t) = which (nat_eq t.0.number mount.filesystem) refl
+          where
+            which : (b : Bool) → nat_eq t.0.number mount.filesystem ≡ b
+                → (is_among nat_eq f.number layers || filesystem_lives nat_eq after f) ≡ true
+            which true g =
+                or_first (is_among nat_eq f.number layers) (filesystem_lives nat_eq after f)
+                (is_layer f t.0 t.1 g t.2)
+            which false g =
+                or_second (is_among nat_eq f.number layers) (filesystem_lives nat_eq after f)
+                (lives_layered f.number t.0 t.1 t.2
+                (mounted_as_before world after front back mount before left t.0.number g ∙ t.3))
+
+    -- while another mount shows it, all are in use
+    all_mounted : is_mounted nat_eq after mount.filesystem ≡ true → FilesystemsInUse after
+    all_mounted still =
+        ap (list_all (filesystem_lives nat_eq after)) same
+        ∙ all_pass (filesystem_lives nat_eq after) world.filesystems
+        (λ f m. ⊎_elim
+        (λ mounted. or_first (is_mounted nat_eq after f.number) (is_layered after f.number) (as_before f.number mounted))
+        (λ t. lives_layered f.number t.0 t.1 t.2 (as_before t.0.number t.3)) (lived f m))
+      where
+        as_before : (number : ℕ) → is_mounted nat_eq world number ≡ true → is_mounted nat_eq after number ≡ true
+        as_before number was = by (nat_eq number mount.filesystem) refl
+          where
+            by : (b : Bool) → nat_eq number mount.filesystem ≡ b → is_mounted nat_eq after number ≡ true
+            by true e = ap (is_mounted nat_eq after) (eqb-true number mount.filesystem e) ∙ still
+            by false e = mounted_as_before world after front back mount before left number e ∙ was
+
+    -- no overlay has a layer in it
+    not_layered : is_layered after mount.filesystem ≡ false
+    not_layered =
+        ap (list_any (λ x. has_layer_on nat_eq mount.filesystem x && is_mounted nat_eq after x.number)) same
+        ∙ none_passes (λ x. has_layer_on nat_eq mount.filesystem x && is_mounted nat_eq after x.number)
+        world.filesystems (λ x m. ap (λ b. b && is_mounted nat_eq after x.number)
+        (fails (has_layer_on nat_eq mount.filesystem) world.filesystems no_layers x m))
+
+    overlay_left : (b : Bool) → is_mounted nat_eq after mount.filesystem ≡ b
+        → without_dead_filesystems nat_eq after
+        ≡ cond b after (let_go_filesystems (without_filesystem after mount.filesystem) layers)
+    overlay_left true still = filesystems_stay after (all_mounted still)
+    overlay_left false gone =
+        filesystems_go_one_by_one after (mount.filesystem ∷ layers) all_but
+        ∙ ap (λ w. let_go_filesystems w layers)
+        (filesystem_is_looked_up after mount.filesystem
+        ∙ (λ i. cond (gone i || not_layered i) after (without_filesystem after mount.filesystem)))
+
+    pub overlay_goes : without_dead_filesystems nat_eq after
+        ≡ cond (nat_lt 1 (mounts_showing world mount.filesystem)) after
+        (let_go_filesystems (without_filesystem after mount.filesystem) layers)
+    overlay_goes =
+        overlay_left (is_mounted nat_eq after mount.filesystem) refl
+        ∙ ap (λ b. cond b after (let_go_filesystems (without_filesystem after mount.filesystem) layers))
+        (mounted_still world after front back mount before left)
 
 pub filesystem_beside_overlays_goes_with_its_last_use : FilesystemBesideOverlaysGoesWithItsLastUse
 filesystem_beside_overlays_goes_with_its_last_use world after front back mount in_use one plain same before left =

@@ -146,8 +146,7 @@ module _ (after : World ℕ) (inode : Inode) (overlay : Overlay ℕ)
           (sym (its_number merged.number) ∙ eq-eqb merged.number merged.number refl))
           ∙ used_while_counted (record after { filesystems = last }) f object
           ∙ some_left (inode_uses after f object) (inode_uses (record after { filesystems = last }) f object)
-          (one_upper_use_less after split.front split.back merged overlay layer inode.1 object split.whole is upper real
-          once
+          (one_upper_use_less after split.front split.back merged overlay layer inode.1 object split.whole is upper real once
           f object
           ∙ ap (λ b. inode_uses (record after { filesystems = last }) f object + cond b 1 0)
           (λ i. e i && eq-eqb object object refl i))

@@ -257,8 +257,7 @@ exclusive_refused world fresh name task path access mode place called room walk 
     ∙ ap (λ b. answer_of fresh world task (unless ((b, S3) ∷ [])
     (open_by_permit nat_eq (looks_of nat_eq world) task path access (Exclusive mode)))) room
     ∙ ap (λ r. answer_of fresh world task (and_then (walk_end r) (λ (place : Place ℕ).
-    unless (exclusive_word_rules place) (create_file_permit nat_eq (looks_of nat_eq world) task place access mode))))
-    walk
+    unless (exclusive_word_rules place) (create_file_permit nat_eq (looks_of nat_eq world) task place access mode)))) walk
     ∙ (λ i. answer_of fresh world task (unless ((named i, E1) ∷ (no_slash i, E2) ∷ (there i, E1) ∷ [])
     (create_file_permit nat_eq (looks_of nat_eq world) task place access mode)))
 

@@ -120,11 +120,8 @@ module _ (before later : World ℕ) (namespace : ℕ) (filesystems : later.files
   spot_in those mount node = spot_of (path_down nat_eq (listed those mount.filesystem).files mount.root node)
 
   abbrev cell : World ℕ → Location ℕ → ℕ × Spot
-  cell world place = (
-    number_among nat_eq (map (λ (other : Mount ℕ). other.number) list) place.mount,
-    mount_point_spot nat_eq world
-        place,
-  )
+  cell world place =
+      (number_among nat_eq (map (λ (other : Mount ℕ). other.number) list) place.mount, mount_point_spot nat_eq world place)
 
   place_alike : (mount : Mount ℕ) → Among mount list
       → option_map (cell later) mount.mount_point ≡ option_map (cell before) mount.mount_point

@@ -1,6 +1,6 @@
 -- Each change of an overlay does to its upper layer what it is asked.
 use Rattle.std.proofs.lemmas.Grind.{common_steps}
-use Rattle.std.proofs.Common.{◌≡◌, ◌≢◌, refl, sym, ap, subst, true≢false, arith, ℕ, ◌+◌, ◌*◌, nat_eq, true, false, ◌++◌, Some, is_some}
+use Rattle.std.proofs.Common.{◌≡◌, ◌≢◌, refl, sym, ap, subst, ◌∙◌, true≢false, arith, ℕ, ◌+◌, ◌*◌, nat_eq, Bool, true, false, ◌++◌, Some, is_some}
 use Rattle.vt_spec.specs.Language.Changes.{Change, node_with_attr, node_with_mark}
 use Rattle.vt_spec.specs.Language.Changes.Change.{AddName, CopyUp, Make, Move, Remove, SetAttr, SetBytes, SetMark}
 use Rattle.vt_spec.specs.Machine.CopyUp.{Merge, Stack, changed_both, copied_up, line_to, merge_changed, merge_with_link, merge_with_moved, merge_with_new, merge_without_name, upper_of}
@@ -170,8 +170,7 @@ module _ (fresh : Fresh ℕ) (stack : Stack ℕ) (before : Merge ℕ) (fit : IsF
       let seen_to = object_there ready.soundly.real to
       (ready.all to (among_second to object to (in_own_line to)) there.1) in
       record {
-        tree = ap (λ m. (merge_with_moved nat_eq (odds (odds fresh)) stack m from old to name object).files)
-            ready.soundly.is;
+        tree = ap (λ m. (merge_with_moved nat_eq (odds (odds fresh)) stack m from old to name object).files) ready.soundly.is;
         reaches = subst (λ m. ReachesUpper m (merge_with_moved nat_eq
             (odds (odds fresh)) stack m from old to name object)
             (Move from old to name object)) (sym ready.soundly.is)

@@ -13,6 +13,12 @@ use Rattle.vt_laws_layers.proofs.layers.ShownFronts.{cuts_by, prefix_found, hide
 use Rattle.std.proofs.lemmas.Option.{same_Some}
 use Rattle.vt_spec.proofs.Options.{none_is_some}
 
+whiteout_kind : (content : Content ℕ) → is_kind White (kind_of content) ≡ true → content ≡ Whiteout
+whiteout_kind (Directory parent entries opaque) e = absurd (true≢false (sym e))
+whiteout_kind (Regular bytes) e = absurd (true≢false (sym e))
+whiteout_kind (Symlink text) e = absurd (true≢false (sym e))
+whiteout_kind Whiteout e = refl
+
 is_no_whiteout : (content : Content ℕ) → content ≢ Whiteout → is_kind White (kind_of content) ≡ false
 is_no_whiteout (Directory parent entries opaque) n = refl
 is_no_whiteout (Regular bytes) n = refl
@@ -83,6 +89,13 @@ module _ (layer : OpenLayer ℕ) (lower : List (OpenLayer ℕ)) (path : List (Li
         ∙ ap (λ c. is_kind White (kind_of c)) is) ∙ white);
   }
 
+  -- shown below is what the lower layers show, where the top one has nothing and does not cut
+  shown_under : (seen : Shown ℕ) → at_path layer path ≡ None → cuts layer path ≡ false → IsShown lower path seen
+      → IsShown (layer ∷ lower) path (record { layer = suc seen.layer; object = seen.object })
+  shown_under seen e uncut is = record {
+    has_uncut = (is.has_uncut.0, lower_uncut seen.layer uncut is.has_uncut.1);
+    highest = by;
+    no_whiteout = is.no_whiteout;
   }
     where
       by : (higher object : ℕ) → higher < suc seen.layer → ¬ (HasUncut (layer ∷ lower) higher path object)
@@ -151,6 +164,23 @@ computed_is_shown depth (layer ∷ lower) path seen e =
       (λ i. record { layer = (let h : depth + 0 ≡ depth = omega arith in h) i; object = object })
           ∙ same_Some (record { layer = depth; object = object }) seen e,
     )
+
+    over : (found : Option ℕ) → at_path layer path ≡ found → (cut : Bool) → cuts layer path ≡ cut
+        → (shown_from (depth + 1) lower path ≡ Some seen → ShownFrom (depth + 1) lower path seen)
+        → shown_over layer depth found cut (shown_from (depth + 1) lower path) ≡ Some seen
+        → ShownFrom depth (layer ∷ lower) path seen
+    over (Some object) a cut c rest e = top object a (is_kind_in White (layer.tree.node object)) refl e
+    over None a true c rest e = none_is_some seen e
+    over None a false c rest e =
+        let under = rest e in (
+          record { layer = suc under.0.layer; object = under.0.object },
+          shown_under layer lower path under.0 a c under.1,
+          (λ i. record {
+            layer = (let h : depth + suc under.0.layer
+                ≡ (depth + 1) + under.0.layer = omega arith in h) i;
+            object = under.0.object;
+          }) ∙ under.2,
+        )
 
 -- what is shown is computed
 shown_is_computed : (layers : List (OpenLayer ℕ)) (depth : ℕ) (path : List (List ℕ)) (layer object : ℕ)

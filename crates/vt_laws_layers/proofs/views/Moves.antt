@@ -1,8 +1,11 @@
 -- A move on the view of a layer.
 use Rattle.std.proofs.lemmas.Grind.{common_steps}
-use Rattle.std.proofs.Common.{◌≡◌, ◌≢◌, ◌≤◌, refl, sym, ap, subst, ◌∙◌, true≢false, arith, ℕ, suc, nat_eq, true, false, cond, List, [], ◌∷◌, ◌++◌, Option, Some, None, option_and_then}
+use Rattle.std.proofs.Common.{◌≡◌, ◌≢◌, ◌≤◌, refl, sym, ap, subst, ◌∙◌, true≢false, eq-eqb, arith, ℕ, suc, nat_eq, Bool, true, false, cond, ◌&&◌, ◌||◌, List, [], ◌∷◌, ◌++◌, Option, Some, None, option_and_then}
+use Rattle.std.specs.Cmp.Lexicographic.{bytes_decides}
+use Rattle.std.specs.Str.{bytes_eq}
 use Rattle.vt_spec.specs.Language.Changes.{node_with_parent, node_without_entry, with_moved, with_name, without_name, without_parent}
 use Rattle.vt_spec.specs.FileTree.{FileTree}
+use Rattle.vt_spec.specs.Lists.{holds_of}
 use Rattle.vt_spec.specs.Tree.{Tree, entries_in, entry_named, is_directory_node}
 use Rattle.vt_spec.specs.TreeInvariant.{IsDirectory, IsTree, entry_at, led}
 use Rattle.vt_laws_layers.specs.Layers.Views.{MovedLeadsOn, NewLeadsAsOld, OldLeadsNowhere, ThroughIsSplit}
@@ -10,6 +13,7 @@ use Rattle.vt_laws_layers.proofs.layers.CopyingParts.{parent_keeps, without_entr
 use Rattle.vt_laws_layers.proofs.layers.UpperChain.{one_depth}
 use Rattle.vt_laws_layers.proofs.layers.UpperLine.{ReachedIn, has_entries, is_reached_in}
 use Rattle.vt_laws_layers.proofs.views.Entries.{entries_stay, given, is_entry, taken}
+use Rattle.vt_laws_layers.proofs.views.Names.{no_entries}
 use Rattle.vt_laws_layers.proofs.views.Walks.{goes_through_it, passes, split}
 use Rattle.std.proofs.lemmas.Option.{same_Some}
 use Rattle.vt_spec.proofs.NodeChanges.{entries-node_with_parent, entries-without_parent, part-changed_node}
@@ -89,6 +93,53 @@ module _ (before after : Tree ℕ) (from : ℕ) (old : List ℕ) (to : ℕ) (new
       (not_under : (names : List (List ℕ)) → led before object names ≢ Some to)
       (not_up : (names : List (List ℕ)) → led before object names ≢ Some from)
       (replaced : (k : ℕ) → entry_at before to new ≡ Some k → entries_in (before.node k) ≡ []) where
+    passes_not : (directory : ℕ) (name : List ℕ) (start : ℕ) (path : List (List ℕ))
+        → ((way rest : List (List ℕ)) → way ++ name ∷ rest ≡ path → led before start way ≡ Some directory → ⊥)
+        → passes before directory name start path ≡ false
+    passes_not directory name start path none = grind (arith, common_steps, split)
+
+    -- what lies under the object goes through neither name
+    object_led : (path : List (List ℕ)) → led after object path ≡ led before object path
+    object_led path =
+        others_led path object (passes_not to new object path (λ way rest is l. not_under way l))
+        ∙ ap (λ b. cond b None (led before object path))
+        (passes_not from old object path (λ way rest is l. not_up way l))
+
+    -- nothing leads on over what is replaced
+    stops_there : (o : Option ℕ) → entry_at before to new ≡ o → (rest : List (List ℕ))
+        → option_and_then (λ next. led before next rest) o ≡ Some to → ⊥
+    stops_there None e rest l = none_is_some to l
+    stops_there (Some k) e [] l =
+        none_is_some k (sym (no_entries before k (replaced k e) new)
+        ∙ ap (λ n. entry_at before n new) (same_Some k to l) ∙ e)
+    stops_there (Some k) e (word ∷ rest) l =
+        none_is_some to (sym
+        (ap (option_and_then (λ next. led before next rest)) (no_entries before k (replaced k e) word)) ∙ l)
+
+    -- nor does a way to the new name's directory
+    way_led : (way : List (List ℕ)) (start : ℕ) → led before start way ≡ Some to → led after start way ≡ Some to
+    way_led way start e =
+        others_led way start
+        (passes_not to new start way (λ first rest is l.
+        stops_there (entry_at before to new) refl rest (sym (led_parts before first (new ∷ rest) start to l)
+        ∙ ap (led before start) is ∙ e)))
+        ∙ ap (λ b. cond b None (led before start way))
+        (passes_not from old start way (λ first rest is l.
+        not_under rest (sym (ap (option_and_then (λ next. led before next rest)) named)
+        ∙ sym (led_parts before first (old ∷ rest) start from l) ∙ ap (led before start) is ∙ e)))
+        ∙ e
+
+    pub moved_led : (way rest : List (List ℕ)) (start : ℕ) → led before start way ≡ Some to
+        → led after start (way ++ new ∷ rest) ≡ led before object rest
+    moved_led way rest start e =
+        led_parts after way (new ∷ rest) start to (way_led way start e)
+        ∙ ap (option_and_then (λ next. led after next rest))
+        (told to new ∙ ap (λ b. cond b (Some object)
+        (cond (is_entry from old to new) None (entry_at before to new))) itself)
+        ∙ object_led rest
+      where
+        itself : is_entry to new to new ≡ true
+        itself = ap (λ b. b && bytes_eq new new) (eq-eqb to to refl) ∙ (bytes_decides new new).1 refl
 
 -- The moved tree
 

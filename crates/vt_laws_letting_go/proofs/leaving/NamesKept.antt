@@ -1,7 +1,7 @@
 -- What changes of a tree do to names.
 use Rattle.std.proofs.Common.{arith}
 use Rattle.std.proofs.lemmas.Grind.{common_steps}
-use Rattle.std.proofs.Common.{◌≡◌, refl, sym, ap, subst, ◌∙◌, ◌⊎◌, inl, inr, ⊎_elim, ℕ, nat_eq, true, false, cond, not, ◌||◌, List, [], ◌∷◌, true≢false, Option, Some, None, option_to_list}
+use Rattle.std.proofs.Common.{◌≡◌, refl, sym, ap, subst, ◌∙◌, ◌⊎◌, inl, inr, ⊎_elim, ℕ, nat_eq, Bool, true, false, cond, not, ◌||◌, List, [], ◌∷◌, true≢false, Option, Some, None, is_some, option_to_list}
 use Rattle.std.specs.List.{list_all}
 use Rattle.std.proofs.lemmas.Bool.{and_parts, false_from_ne_true, cases_Bool}
 use Rattle.std.proofs.lemmas.Bool.Decides.{eqb_tells}
@@ -9,22 +9,26 @@ use Rattle.std.specs.Cmp.{tied_itself}
 use Rattle.std.specs.Cmp.Lexicographic.{bytes_decides, nat_list_cmp_total}
 use Rattle.std.specs.declared.cmp.Ordering.{Ordering}
 use Rattle.std.specs.declared.cmp.Ordering.TheVariants.{Equal, Greater, Less}
-use Rattle.std.specs.FinMap.Entries.{below_all, by_order, is_sorted}
+use Rattle.std.specs.FinMap.Entries.{below_all, by_order, is_sorted, is_sorted-where_key}
 use Rattle.std.specs.Ordering.{eq_by_cmp, is_eq, is_lt}
 use Rattle.std.specs.Str.{bytes_eq}
-use Rattle.vt_spec.proofs.Nodes.{node_other, node_set, part_kept, same_name, entries-node_with_bytes}
+use Rattle.vt_spec.proofs.Nodes.{directory_used, entry_named-without_entry, none_is_not, node_other, node_set, part_kept, passes, same_name, entries-node_with_bytes}
+use Rattle.std.proofs.lemmas.Float.{T_from_true}
+use Rattle.std.proofs.lemmas.Option.{same_Some}
 use Rattle.vt_spec.specs.FileTree.{FileTree, targets_in}
 use Rattle.vt_spec.specs.Language.Changes.{changed, changed_node, node_with_attr, node_with_mark, node_with_parent, node_without_entry, with_inode, with_name, without_entry, without_name, without_parent}
 use Rattle.vt_spec.specs.Language.Changes.Change.{AddName, CopyUp, Make, Move, Remove, SetAttr, SetBytes, SetMark}
 use Rattle.vt_spec.specs.Lists.{is_among}
 use Rattle.vt_spec.specs.Machine.Settled.{named_in}
-use Rattle.vt_spec.specs.Tree.{Entries, Node, entries_in, entry_named, name_cmp, node_with_bytes, node_with_entry, with_entry}
+use Rattle.vt_spec.specs.Tree.{Content, Entries, Node, entries_in, entry_named, is_directory_node, name_cmp, node_with_bytes, node_with_entry, with_entry}
+use Rattle.vt_spec.specs.Tree.Content.{Directory, Regular, Symlink, Whiteout}
 use Rattle.vt_spec.specs.TreeInvariant.{entry_at}
 use Rattle.vt_laws_letting_go.specs.FileChanges.{ChangesKeepNames, IsMade, IsMoved}
 use Rattle.vt_laws_letting_go.specs.InUse.{IsListedTree}
 use Rattle.vt_laws_letting_go.specs.TreeChanges.{ChangesTree}
-use Rattle.vt_laws_letting_go.proofs.Lists.{Among, all_pass, among-filter, among-flat_map, among-from_flat_map, among-from_map, among-map, is_among_numbers, or_first, or_second}
-use Rattle.vt_spec.proofs.NodeChanges.{entries-node_with_attr, entries-node_with_mark, entries-node_with_parent}
+use Rattle.vt_laws_letting_go.proofs.Lists.{Among, all_pass, among-filter, among-flat_map, among-from_flat_map, among-from_map, among-map, among_numbers, is_among_numbers, or_first, or_second}
+use Rattle.vt_spec.proofs.NodeChanges.{entries-node_with_attr, entries-node_with_mark, entries-node_with_parent, is_directory-node_with_parent, is_directory-node_without_entry}
+use Rattle.vt_spec.proofs.Worlds.{root-without_parent, numbers-without_parent}
 
 abbrev Entry : Type 0
 Entry = List ℕ × ℕ
@@ -106,6 +110,42 @@ node_keeps_taken : (name : List ℕ) (o : Option (Node ℕ)) (e : Entry) → Amo
     → Among e (entries_in (node_without_entry name o)) ⊎ (e.0 ≡ name)
 node_keeps_taken name None e m = absurd m
 node_keeps_taken name (Some node) e m = grind (arith, common_steps, filter_keeps)
+
+node_has : (name : List ℕ) (number : ℕ) (o : Option (Node ℕ)) → is_directory_node o ≡ true
+    → (e : Entry) × Among e (entries_in (node_with_entry name number o)) × (e.1 ≡ number)
+node_has name number None is = absurd (true≢false (sym is))
+node_has name number (Some node) is = by node.content is
+  where
+    by : (content : Content ℕ) → is_directory_node (Some (record { attr = node.attr; content = content })) ≡ true
+        → (e : Entry) × Among e (entries_in
+        (node_with_entry name number (Some (record { attr = node.attr; content = content }))))
+        × (e.1 ≡ number)
+    by (Directory parent entries opaque) n = put_has name number entries
+    by (Regular bytes) n = absurd (true≢false (sym n))
+    by (Symlink text) n = absurd (true≢false (sym n))
+    by Whiteout n = absurd (true≢false (sym n))
+
+sorted_without : (name : List ℕ) (o : Option (Node ℕ)) → is_sorted name_cmp (entries_in o) ≡ true
+    → is_sorted name_cmp (entries_in (node_without_entry name o)) ≡ true
+sorted_without name None e = e
+sorted_without name (Some node) e = by node.content e
+  where
+    by : (content : Content ℕ) → is_sorted name_cmp
+        (entries_in (Some (record { attr = node.attr; content = content }))) ≡ true
+        → is_sorted name_cmp (entries_in
+        (node_without_entry name (Some (record { attr = node.attr; content = content })))) ≡ true
+    by (Directory old entries opaque) h =
+        passes _ (is_sorted-where_key name_cmp (λ x. not (bytes_eq x name)) entries (T_from_true _ h))
+    by (Regular bytes) h = refl
+    by (Symlink text) h = refl
+    by Whiteout h = refl
+
+-- what a name leads to where another one is taken, it led to before
+named_before : (old name : List ℕ) (o : Option (Node ℕ)) (number : ℕ)
+    → entry_named name (entries_in (node_without_entry old o)) ≡ Some number
+    → entry_named name (entries_in o) ≡ Some number
+named_before old name None number e = e
+named_before old name (Some node) number e = grind (arith, common_steps, none_is_not, entry_named-without_entry)
 
 -- Trees: what a change of one node keeps
 
@@ -210,6 +250,10 @@ module _ (files : FileTree ℕ) (listed : IsListedTree files) where
   sorted : (d : ℕ) → is_sorted name_cmp (entries_at files d) ≡ true
   sorted = listed.tree.in_order
 
+  -- a directory is among the numbers
+  there : (d : ℕ) → is_directory_node (files.tree.node d) ≡ true → Among d files.numbers
+  there d is = among_numbers d files.numbers (listed.numbers d ∙ directory_used files.tree d is)
+
   given : (directory : ℕ) (name : List ℕ) (object : ℕ) → IsListedTree (with_name nat_eq files directory name object)
       → ChangesTree files (with_name nat_eq files directory name object)
       (option_to_list (entry_at files.tree directory name))
@@ -259,6 +303,47 @@ module _ (files : FileTree ℕ) (listed : IsListedTree files) where
     abbrev named : FileTree ℕ
     named = with_name nat_eq with_it directory name number
 
+    others : (d : ℕ) → is_some (files.tree.node d) ≡ true → with_it.tree.node d ≡ files.tree.node d
+    others d is =
+        node_other files.tree number (Some node) d (λ same.
+        true≢false (sym is ∙ ap (λ n. is_some (files.tree.node n)) same ∙ ap is_some made.is_new))
+
+    has_some : (o : Option (Node ℕ)) (e : Entry) → Among e (entries_in o) → is_some o ≡ true
+    has_some None e m = absurd m
+    has_some (Some n) e m = refl
+
+    of_directory : with_it.tree.node directory ≡ files.tree.node directory
+    of_directory = others directory (directory_used files.tree directory made.in_directory)
+
+    new_is_named : is_among nat_eq number (named_in named) ≡ true
+    new_is_named =
+        let has = node_has name number (with_it.tree.node directory)
+        (ap is_directory_node of_directory ∙ made.in_directory) in
+        ap (λ n. is_among nat_eq n (named_in named)) (sym has.2)
+        ∙ named_by named directory has.0 (inr (there directory made.in_directory))
+        (subst (λ o. Among has.0 (entries_in o))
+        (sym (node_set with_it.tree directory (node_with_entry name number (with_it.tree.node directory)))) has.1)
+
+    makes : IsListedTree named → ChangesTree files named (option_to_list (entry_at files.tree directory name))
+    makes after = record {
+      tree = after;
+      root = refl;
+      inodes = all_pass (λ k. is_among nat_eq k files.numbers || is_among nat_eq k (named_in named)) named.numbers
+          (λ k m.
+          ⊎_elim
+          (λ new. or_second (is_among nat_eq k files.numbers) (is_among nat_eq k (named_in named))
+          (ap (λ n. is_among nat_eq n (named_in named)) new ∙ new_is_named))
+          (λ old. or_first (is_among nat_eq k files.numbers) (is_among nat_eq k (named_in named))
+          (is_among_numbers k files.numbers old))
+          m);
+      names = all_names files named (option_to_list (entry_at files.tree directory name)) (λ d m e n.
+          ⊎_elim (λ still. inl (d, e, inr m, still, refl))
+          (λ lost. inr (some_lost (entry_at files.tree directory name) e.1
+          (ap (λ o. entry_named name (entries_in o)) (sym of_directory) ∙ lost.1)))
+          (one_changed with_it directory name (node_with_entry name number)
+          (node_keeps_given name number (with_it.tree.node directory))
+          (ap (λ o. is_sorted name_cmp (entries_in o)) of_directory ∙ sorted directory) d e
+          (subst (λ o. Among e (entries_in o)) (sym (others d (has_some (files.tree.node d) e n))) n)));
     }
 
   -- A name for another
@@ -279,6 +364,85 @@ module _ (files : FileTree ℕ) (listed : IsListedTree files) where
     abbrev last : FileTree ℕ
     last = changed nat_eq files (Move from old to new object)
 
+    same_apart : (d : ℕ) → entries_at apart d ≡ entries_at files d
+    same_apart = same_entries_unparented files replaced
+
+    same_last : (d : ℕ) → entries_at last d ≡ entries_at placed d
+    same_last = same_entries placed object (node_with_parent to) (entries-node_with_parent to)
+
+    numbers_last : last.numbers ≡ files.numbers
+    numbers_last = numbers-without_parent files replaced
+
+    -- what the new name leads to once the old one is taken, it led to before
+    was_there : (number : ℕ) → entry_at left.tree to new ≡ Some number → replaced ≡ Some number
+    was_there number e =
+        ⊎_elim
+        (λ here. ap (entry_named new) (sym (same_apart to)) ∙ ap (λ d. entry_named new (entries_at apart d)) here.1
+        ∙ named_before old new (apart.tree.node from) number
+        (sym (ap (λ o. entry_named new (entries_in o)) (ap left.tree.node here.1
+        ∙ node_set apart.tree from (node_without_entry old (apart.tree.node from)))) ∙ e))
+        (λ other. ap (entry_named new) (sym (same_apart to))
+        ∙ ap (λ o. entry_named new (entries_in o))
+        (sym (node_other apart.tree from (node_without_entry old (apart.tree.node from)) to other.1)) ∙ e)
+        (eqb_tells to from)
+
+    sorted_left : is_sorted name_cmp (entries_at left to) ≡ true
+    sorted_left =
+        ⊎_elim
+        (λ here. ap (λ o. is_sorted name_cmp (entries_in o)) (ap left.tree.node here.1
+        ∙ node_set apart.tree from (node_without_entry old (apart.tree.node from)))
+        ∙ sorted_without old (apart.tree.node from) (ap (is_sorted name_cmp) (same_apart from) ∙ sorted from))
+        (λ other. ap (λ o. is_sorted name_cmp (entries_in o))
+        (node_other apart.tree from (node_without_entry old (apart.tree.node from)) to other.1)
+        ∙ ap (is_sorted name_cmp) (same_apart to) ∙ sorted to)
+        (eqb_tells to from)
+
+    directory_left : is_directory_node (left.tree.node to) ≡ true
+    directory_left =
+        grind (
+          arith,
+          common_steps,
+          part_kept is_directory_node apart.tree from (node_without_entry old
+              (apart.tree.node from)) (is_directory-node_without_entry old (apart.tree.node from)) to,
+          part_kept,
+          is_directory-node_with_parent,
+        )
+
+    to_last : (d : ℕ) (e : Entry) → Among e (entries_at placed d) → Among e (entries_at last d)
+    to_last d e m = subst (Among e) (sym (same_last d)) m
+
+    object_named : (number : ℕ) → number ≡ object → Left last (option_to_list replaced) (old, number)
+    object_named number same =
+        let has = node_has new object (left.tree.node to) directory_left in
+        inl (
+          to,
+          has.0,
+          subst (Among to) (sym numbers_last) (there to moves.in_directory),
+          to_last to has.0 (subst (λ o. Among has.0 (entries_in o))
+              (sym (node_set left.tree to (node_with_entry new object (left.tree.node to)))) has.1),
+          has.2 ∙ sym same,
+        )
+
+    left_so : (d : ℕ) → Among d files.numbers → (e : Entry) → Among e (entries_at files d)
+        → Left last (option_to_list replaced) e
+    left_so d m e n =
+        ⊎_elim
+        (λ still. ⊎_elim
+        (λ there_still. inl (d, e, subst (Among d) (sym numbers_last) m, to_last d e there_still, refl))
+        (λ lost. inr (some_lost replaced e.1 (was_there e.1 lost.1)))
+        (one_changed left to new (node_with_entry new object)
+        (node_keeps_given new object (left.tree.node to)) sorted_left d e still))
+        (λ gone. object_named e.1 (same_Some e.1 object
+        (sym gone.1 ∙ ap (entry_named old) (same_apart from) ∙ moves.named)))
+        (one_changed apart from old (node_without_entry old) (node_keeps_taken old (apart.tree.node from))
+        (ap (is_sorted name_cmp) (same_apart from) ∙ sorted from) d e (subst (Among e) (sym (same_apart d)) n))
+
+    moves_so : IsListedTree last → ChangesTree files last (option_to_list replaced)
+    moves_so after = record {
+      tree = after;
+      root = root-without_parent files replaced;
+      inodes = same_numbers files last numbers_last;
+      names = all_names files last (option_to_list replaced) left_so;
     }
 
 pub changes_keep_names : ChangesKeepNames

@@ -1,6 +1,6 @@
 -- Whether a mount in the first namespace has room: it comes to the shared mount, and to its peer in the other
 -- namespace.
-use Rattle.std.proofs.Common.{◌≡◌, refl, sym, ap, subst, ◌∙◌, true≢false, ℕ, suc, nat_eq, nat_lt, eqb-true, Bool, true, false, cond, not, ◌&&◌, ◌||◌, ◌+◌, ◌*◌, List, [], ◌∷◌, ◌++◌, Option, None, Some, Ok, filter, find, is_some, length, map, option_map}
+use Rattle.std.proofs.Common.{◌≡◌, refl, sym, ap, subst, ◌∙◌, inl, inr, ⊎_elim, true≢false, ℕ, suc, nat_eq, nat_lt, eqb-true, Bool, true, false, cond, not, ◌&&◌, ◌||◌, ◌+◌, ◌*◌, List, [], ◌∷◌, ◌++◌, Option, None, Some, Ok, filter, find, is_some, length, map, option_map}
 use Rattle.std.proofs.Math.Bool.{or-false}
 use Rattle.std.specs.Prelude.{codes, option_to_list, unwrap_or}
 use Rattle.std.specs.List.{list_all, list_any}

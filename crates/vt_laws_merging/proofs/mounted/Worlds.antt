@@ -3,13 +3,17 @@ use Rattle.std.proofs.Common.{◌≡◌, refl, sym, ap, subst, ◌∙◌, true�
 use Rattle.std.specs.List.{cons_option, filter_map, list_all}
 use Rattle.std.specs.Prelude.{option_map, ⊤}
 use Rattle.std.proofs.lemmas.Bool.{and_parts}
+use Rattle.vt_spec.specs.Language.Calls.Call.{MountOverlay}
+use Rattle.vt_spec.specs.Machine.Policy.{call_outcome}
 use Rattle.vt_spec.specs.Language.Calls.{MountFlags, OverlayWords}
 use Rattle.vt_spec.specs.Lists.{Fresh, each_once, evens, odds, index_from}
 use Rattle.vt_spec.specs.Machine.Attach.{has_too_many}
 use Rattle.vt_spec.specs.Machine.Invariants.{IsWorld, MountInvariants, NamespaceInvariants, TaskInvariants, has_its_root, is_there}
 use Rattle.vt_spec.specs.Machine.Layers.{OpenLayer}
+use Rattle.vt_spec.specs.Machine.Looks.{looks_of}
 use Rattle.vt_spec.specs.Machine.Merging.{Merged, MergedInode, is_one_inode, layer_node, merged_inode, merged_objects}
 use Rattle.vt_spec.specs.Machine.Mounts.{Location, Mount}
+use Rattle.vt_spec.proofs.Tables.{destination_walk, overlay_at, overlay_mounted}
 use Rattle.vt_spec.specs.Machine.NewMounts.{inode_count, mounted, new_mount, overlay_filesystem, with_new_filesystem}
 use Rattle.vt_spec.specs.Machine.Run.{Serves, numbers_in_use, used_by_filesystem, used_by_mount}
 use Rattle.vt_spec.specs.Machine.World.{Filesystem, Namespace, Overlay, Task, World, mount_at, no_filesystem, open_layer, shown_layers, task_called}
@@ -23,24 +27,34 @@ use Rattle.vt_laws_mounts.proofs.attached.BindsStand.{new_mounts_keep_numbers, n
 use Rattle.vt_laws_mounts.proofs.GroupsLiving.{all_live, tested_live}
 use Rattle.vt_laws_mounts.proofs.mounts.MountsAttached.{supplied}
 use Rattle.vt_laws_mounts.proofs.moves.MovingRoots.{new_mounts_keep_root_mounts, new_mounts_stay_in_namespaces}
+use Rattle.vt_laws_trees.proofs.trees.TreesWalked.{at_end}
 use Rattle.vt_laws_layers.specs.Layers.Mounted.{AreLayers}
 use Rattle.vt_laws_layers.specs.Layers.Mounting.{AreNewNumbers}
 use Rattle.vt_laws_layers.proofs.directories.Fit.{new_overlay_is_tree}
 use Rattle.vt_laws_layers.proofs.directories.Later.{not_found}
 use Rattle.vt_laws_layers.proofs.directories.Still.{find_new}
+use Rattle.vt_laws_layers.proofs.mounting.Walked.{are_walked, has_layers, shown_plain}
 use Rattle.vt_laws_worlds.specs.Worlds.Permits.{IsDestination}
 use Rattle.vt_laws_worlds.proofs.kept.NamespacesListed.{are_namespaces, attached_stay, from_namespaces, namespaces_stay, same_tasks_stay}
 use Rattle.vt_laws_worlds.proofs.worlds.Placed.{all_are_placed, all_placed_after, locations_are_there, open_files_are_regular, tasks_stand_on_directories}
+use Rattle.vt_laws_worlds.proofs.worlds.ReachedPlaces.{IsTopmost, destination_walk_end}
 use Rattle.vt_laws_worlds.proofs.worlds.Seen.{KeepsWhatIsSeen, directory_after}
 use Rattle.vt_laws_worlds.proofs.worlds.SeenMounts.{added_seen, attached_seen, mounted_seen}
 use Rattle.vt_laws_worlds.proofs.worlds.SeenTrees.{unused_by_filesystem, unused_number}
-use Rattle.vt_laws_worlds.proofs.worlds.Shows.{AllShow, IsPlace, all_show_after, world_shows}
+use Rattle.vt_laws_worlds.proofs.worlds.Shows.{AllShow, IsPlace, all_show_after, mounts_show, world_shows}
 use Rattle.vt_laws_worlds.proofs.worlds.ShowsAttached.{attached_show}
 use Rattle.vt_laws_merging.specs.MountedAnew.{MountingLeavesAWorld}
+use Rattle.vt_laws_merging.proofs.mounted.Left.{mounting_lets_nothing_go}
+use Rattle.vt_laws_layers.proofs.mounting.Kept.{mounting_keeps_overlays, mounting_keeps_trees}
 use Rattle.vt_spec.proofs.Truths.{nat_eq_itself}
 use Rattle.vt_spec.proofs.FreshNumbers.{evens-distinct, served-distinct, served-differ}
 use Rattle.vt_laws_trees.specs.Trees.Settling.{inode_in}
 use Rattle.vt_laws_worlds.proofs.worlds.FitPermits.{destination}
+use Rattle.vt_laws_rules.proofs.given.CallsGranted.{call_holds}
+use Rattle.vt_laws_rules.specs.Granted.{IsGranted}
+use Rattle.vt_laws_rules.specs.Granted.IsGranted.{mounts_overlayfs}
+use Rattle.vt_spec.specs.Machine.Apply.{apply, overfills}
+use Rattle.vt_spec.specs.Machine.Permits.{Permit}
 
 -- each of a list is one of the numbers that are handed in
 abbrev AreOf : Fresh ℕ → List ℕ → Type 0
@@ -80,6 +94,15 @@ made_are fresh has_upper layers objects (object ∷ list) =
     rest : List (MergedInode ℕ)
     rest = filter_map (merged_inode nat_eq fresh has_upper layers objects) list
 
+    made : Node ℕ → MergedInode ℕ
+    made node = record {
+      number = Rattle.vt_spec.specs.Machine.Merging.merged_number nat_eq fresh has_upper objects object;
+      node = record {
+        attr = node.attr;
+        content = Rattle.vt_spec.specs.Machine.Merging.merged_content nat_eq fresh has_upper objects object.path
+            node.content;
+      };
+      real = Rattle.vt_spec.specs.Machine.Merging.real_object has_upper object.seen.layer object;
     }
 
     by : (o : Option (Node ℕ)) → AreOf fresh
@@ -276,7 +299,42 @@ module _ (world : World ℕ) (is : IsWorld nat_eq world) (fresh : Fresh ℕ) (se
     tasks : TaskInvariants nat_eq later
     roots : list_all (has_its_root nat_eq later) later.mounts ≡ true
 
+  granted_leaves : (path : List ℕ) (options : Option OverlayWords) (flags : MountFlags) (permit : Permit ℕ)
+      → IsGranted nat_eq (looks_of nat_eq world) (overfills nat_eq fresh world task) task
+      (MountOverlay path options flags) permit
+      → MayLeave (apply nat_eq fresh world task permit).world
+  granted_leaves path options flags permit (mounts_overlayfs _ words _ here places admin end walked passed free) =
+      let reached = are_walked world task words places walked in
+      let overlay = overlay_at nat_eq world task places in
+      let layers : AreLayers world overlay =
+      (has_layers world task places reached passed, shown_plain world task places reached passed) in
+      let top = at_end (IsTopmost world is task called) (destination_walk nat_eq world task path) here
+      (destination_walk_end world is task called path) end in
+      let to = destination world is task called here top free.0 in
+      record {
+        mounts = mounts_kept overlay layers here.location flags to;
+        namespaces = namespaces_kept overlay layers here.location flags to free.1.0;
+        tasks = tasks_kept overlay layers here.location flags to;
+        roots = mounts_show (overlay_mounted nat_eq fresh world task here.location places flags)
+            (shows overlay layers here.location flags to);
+      }
+
   module _ (path : List ℕ) (options : Option OverlayWords) (flags : MountFlags) where
+    leaves : MayLeave (call_outcome nat_eq fresh world task (MountOverlay path options flags)).world
+    leaves =
+        call_holds MayLeave fresh world task (MountOverlay path options flags)
+        (record { mounts = is.mounts; namespaces = is.namespaces; tasks = is.tasks; roots = is.roots })
+        (granted_leaves path options flags)
+
+    pub leaves_a_world : IsWorld nat_eq (call_outcome nat_eq fresh world task (MountOverlay path options flags)).world
+    leaves_a_world = record {
+      files = mounting_keeps_trees fresh world task path options flags is are_new;
+      overlays = mounting_keeps_overlays fresh world task path options flags is are_new;
+      mounts = leaves.mounts;
+      namespaces = leaves.namespaces;
+      tasks = leaves.tasks;
+      roots = leaves.roots;
+      nothing_unused = mounting_lets_nothing_go fresh world task path options flags is are_new;
     }
 
 pub mounting_leaves_a_world : MountingLeavesAWorld

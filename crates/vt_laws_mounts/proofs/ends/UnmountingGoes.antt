@@ -1,26 +1,33 @@
 -- What goes at an unmount is what propagation names.
 use Rattle.std.proofs.Common.{arith}
 use Rattle.std.proofs.lemmas.Grind.{common_steps}
-use Rattle.std.proofs.Common.{◌≡◌, refl, ap, ◌∙◌, ℕ, nat_eq, true, false, true≢false, List, [], Some, Ok}
-use Rattle.std.specs.Prelude.{option_map, unwrap_or}
+use Rattle.std.proofs.Common.{◌≡◌, refl, sym, ap, subst, ◌∙◌, inl, ⊎_elim, ℕ, nat_eq, Bool, true, false, true≢false, List, [], ◌∷◌, map, Option, Some, None, is_some, Ok}
+use Rattle.std.specs.Prelude.{Contains, filter_map, option_map, unwrap_or}
 use Rattle.vt_spec.specs.Machine.Attach.{receivers_of}
 use Rattle.vt_spec.specs.Language.Calls.Call.{Umount}
-use Rattle.vt_spec.specs.Machine.Detach.{goes_at, may_go, unmounted}
+use Rattle.vt_spec.specs.Machine.Detach.{going, going_at, going_from, goes_at, is_going, may_go, unmounted}
 use Rattle.vt_spec.specs.Lists.{then_some, when, Fresh}
-use Rattle.vt_spec.specs.Machine.Mounts.{Mount, child_at, group_of}
-use Rattle.vt_spec.specs.Machine.Mounts.Propagation.{Shared}
+use Rattle.vt_spec.specs.Machine.Mounts.{Location, Mount, Propagation, child_at, group_of, is_shared}
+use Rattle.vt_spec.specs.Machine.Mounts.Propagation.{Private, Shared, Slave, Unbindable}
 use Rattle.vt_spec.specs.Language.Answers.Answer.{Done}
-use Rattle.vt_spec.specs.Machine.Receives.{receivers}
+use Rattle.vt_spec.specs.Machine.Receives.{Receives, receivers}
 use Rattle.vt_spec.specs.Machine.Walking.{Here, walk_end, directory_walk}
-use Rattle.vt_spec.specs.Machine.World.{Task, World, mount_numbered}
+use Rattle.vt_spec.specs.Machine.World.{Task, World, mount_at, mount_numbered}
 use Rattle.vt_laws_mounts.specs.Mounts.Receivers.{GroupsLive}
-use Rattle.vt_laws_mounts.specs.Mounts.Unmounting.{UmountUnmounts, WhatGoesIsNamed}
+use Rattle.vt_laws_mounts.specs.Mounts.Unmounting.{Goes, UmountUnmounts, WhatGoesIsNamed}
+use Rattle.vt_laws_mounts.specs.Mounts.Unmounting.Goes.{alone, at_receiver, from_nowhere}
+use Rattle.vt_spec.proofs.Lists.{Among, among-filter_map, among-from_filter_map, among-from_map, among-map, among_from_contains, among_numbers, contains_from_among, is_among_numbers}
+use Rattle.vt_laws_mounts.proofs.mounts.Receivers.{receivers_receive}
 use Rattle.vt_laws_rules.specs.Granted.{IsGranted}
 use Rattle.vt_laws_rules.specs.Granted.IsGranted.{unmounts}
 use Rattle.vt_laws_mounts.proofs.mounts.MountsGranted.{leaves_mounts, one_end}
 use Rattle.vt_spec.specs.Machine.Apply.{apply, overfills}
 use Rattle.vt_spec.specs.Machine.Looks.{looks_of}
 use Rattle.vt_spec.specs.Machine.Permits.{Permit}
+
+-- one number alone
+only_one : (number one : ℕ) → Among number (one ∷ []) → number ≡ one
+only_one number one m = ⊎_elim (λ e. e) (λ none. absurd none) m
 
 module _ (world : World ℕ) where
   -- what goes at a receiver
@@ -41,6 +48,77 @@ module _ (world : World ℕ) where
   receivers_of_shared parent group e = ap (λ kind. unwrap_or (option_map (receivers nat_eq world) (group_of kind)) []) e
 
 module _ (world : World ℕ) (live : GroupsLive world) (mount : Mount ℕ) where
+  is_named : (number : ℕ) → is_going nat_eq (going nat_eq world mount) number ≡ true → Goes world mount number
+  is_named number h = by mount.mount_point refl
+    where
+      itself : Goes world mount mount.number → Among number (mount.number ∷ []) → Goes world mount number
+      itself goes m = subst (Goes world mount) (sym (only_one number mount.number m)) goes
+
+      listed : (numbers : List ℕ) → going nat_eq world mount ≡ numbers → Among number numbers
+      listed numbers e = among_numbers numbers number (sym (ap (λ ns. is_going nat_eq ns number) e) ∙ h)
+
+      shared : (place : Location ℕ) (group : ℕ) → mount.mount_point ≡ Some place
+          → (mount_at nat_eq world place).propagation ≡ Shared group
+          → Among number (map (λ gone. gone.number)
+          (filter_map (goes_at nat_eq world place.node) (receivers nat_eq world group)))
+          → Goes world mount number
+      shared place group e f m =
+          let gone : (x : Mount ℕ)
+          × Among x (filter_map (goes_at nat_eq world place.node) (receivers nat_eq world group))
+          × (number ≡ x.number) =
+          among-from_map (λ gone. gone.number)
+          (filter_map (goes_at nat_eq world place.node) (receivers nat_eq world group)) number m in
+          let heard : (x : Mount ℕ) × Among x (receivers nat_eq world group)
+          × (goes_at nat_eq world place.node x ≡ Some gone.0) =
+          among-from_filter_map (goes_at nat_eq world place.node) (receivers nat_eq world group) gone.0 gone.1 in
+          let child : (child_at nat_eq world.mounts (record { mount = heard.0.number; node = place.node })
+          ≡ Some gone.0) × (may_go nat_eq world gone.0 ≡ true) =
+          child_goes world place.node heard.0 gone.0 heard.2 in
+          let hears : Contains world.mounts heard.0 × Receives world group heard.0 =
+          (receivers_receive world group heard.0 live).0 (contains_from_among _ heard.0 heard.1) in
+          subst (Goes world mount) (sym gone.2)
+          (at_receiver place group heard.0 gone.0 e f hears.0 hears.1 child.0 child.1)
+
+      at_place : (place : Location ℕ) → mount.mount_point ≡ Some place → (kind : Propagation ℕ)
+          → (mount_at nat_eq world place).propagation ≡ kind → Goes world mount number
+      at_place place e kind f =
+          on kind f (listed (going_from nat_eq world mount place (is_shared kind)) (ap (going_at nat_eq world mount) e
+          ∙ ap (λ k. going_from nat_eq world mount place (is_shared k)) f))
+        where
+          on : (k : Propagation ℕ) → (mount_at nat_eq world place).propagation ≡ k
+              → Among number (going_from nat_eq world mount place (is_shared k)) → Goes world mount number
+          on (Shared group) g m =
+              shared place group e g
+              (subst (λ rs. Among number (map (λ gone. gone.number) (filter_map (goes_at nat_eq world place.node) rs)))
+              (receivers_of_shared world (mount_at nat_eq world place) group g) m)
+          on (Slave above) g m = itself (alone place e (ap is_shared g)) m
+          on Private g m = itself (alone place e (ap is_shared g)) m
+          on Unbindable g m = itself (alone place e (ap is_shared g)) m
+
+      by : (place : Option (Location ℕ)) → mount.mount_point ≡ place → Goes world mount number
+      by None e = itself (from_nowhere e) (listed (mount.number ∷ []) (ap (going_at nat_eq world mount) e))
+      by (Some place) e = at_place place e (mount_at nat_eq world place).propagation refl
+
+  goes_so_named : (number : ℕ) → Goes world mount number → is_going nat_eq (going nat_eq world mount) number ≡ true
+  goes_so_named number (from_nowhere e) =
+      ap (λ ns. is_going nat_eq ns mount.number) (ap (going_at nat_eq world mount) e)
+      ∙ is_among_numbers (mount.number ∷ []) mount.number (inl refl)
+  goes_so_named number (alone place e f) =
+      ap (λ ns. is_going nat_eq ns mount.number)
+      (ap (going_at nat_eq world mount) e ∙ ap (going_from nat_eq world mount place) f)
+      ∙ is_among_numbers (mount.number ∷ []) mount.number (inl refl)
+  goes_so_named number (at_receiver place group receiver child e f contained hears found may) =
+      let heard : Among receiver (receivers nat_eq world group) =
+      among_from_contains _ receiver ((receivers_receive world group receiver live).1 (contained, hears)) in
+      ap (λ ns. is_going nat_eq ns child.number)
+      (ap (going_at nat_eq world mount) e
+      ∙ ap (λ k. going_from nat_eq world mount place (is_shared k)) f
+      ∙ ap (λ rs. map (λ gone. gone.number) (filter_map (goes_at nat_eq world place.node) rs))
+      (receivers_of_shared world (mount_at nat_eq world place) group f))
+      ∙ is_among_numbers _ child.number
+      (among-map (λ gone. gone.number) _ child
+      (among-filter_map (goes_at nat_eq world place.node) (receivers nat_eq world group) receiver child heard
+      (child_goes_so world place.node receiver child found may)))
 
 pub what_goes_is_named : WhatGoesIsNamed
 what_goes_is_named world one number live = (

@@ -229,6 +229,14 @@ count_folded namespace mounts (copy ∷ copies) placed had =
         ap (λ (y : Mount ℕ). is_some y.mount_point) kept
         ∙ had old c l (inr n) (ap (λ (y : Mount ℕ). nat_eq c.number y.number) (sym kept) ∙ same)
 
+    alike : (x : Mount ℕ) → Among x mounts → (b : Bool) → nat_eq copy.number x.number ≡ b
+        → is_root_in namespace (replaced_if_same nat_eq copy x) ≡ is_root_in namespace x
+    alike x m true f =
+        ap (is_root_in namespace) (replaced_there copy x f)
+        ∙ placed_no_root namespace copy (placed copy (inl refl))
+        ∙ sym (placed_no_root namespace x (had x copy m (inl refl) f))
+    alike x m false f = ap (is_root_in namespace) (replaced_elsewhere copy x f)
+
 -- each mount of a tree has a place, where its top has one
 pub tree_placed : (fuel : ℕ) (mounts : List (Mount ℕ)) (top x : Mount ℕ) → is_some top.mount_point ≡ true
     → Among x (tree_from nat_eq fuel mounts top) → is_some x.mount_point ≡ true

@@ -1,8 +1,8 @@
 -- Worlds that are the same but for change numbers and the order of numbers beside trees, list by list.
-use Rattle.std.proofs.Common.{◌≡◌, subst, ◌∙◌, ℕ, List, [], ◌∷◌}
+use Rattle.std.proofs.Common.{◌≡◌, sym, subst, ◌∙◌, ℕ, List, [], ◌∷◌}
 use Rattle.vt_laws_rules.proofs.judged.NumbersRaised.{bare_namespace, bare_task}
-use Rattle.vt_laws_runs.proofs.answered.AlikeWorlds.{SameNamespace, SameTask, files_onward, with_mounts_of}
-use Rattle.vt_laws_runs.proofs.Each.{Each, each_onward, each_to_one, each_told}
+use Rattle.vt_laws_runs.proofs.answered.AlikeWorlds.{SameNamespace, SameTask, files_back, files_onward, with_mounts_of}
+use Rattle.vt_laws_runs.proofs.Each.{Each, each_back, each_onward, each_to_one, each_told}
 use Rattle.vt_spec.specs.Machine.SameWorlds.{SameFilesystem, SameFilesystems, SameWorlds}
 use Rattle.vt_spec.specs.Machine.World.{Filesystem, World}
 
@@ -50,8 +50,20 @@ same_from_alike one other same = record {
   tasks = each_to_one SameTask bare_task bare_task (λ a b e. e) one.tasks other.tasks same.tasks;
 }
 
+pub filesystem_back : (a b : Filesystem ℕ) → SameFilesystem a b → SameFilesystem b a
+filesystem_back a b same = record {
+  number = sym same.number;
+  files = files_back a.files b.files same.files;
+  overlay = sym same.overlay;
 }
 
+pub alike_back : (one other : World ℕ) → Alike one other → Alike other one
+alike_back one other same = record {
+  mounts = sym same.mounts;
+  master = sym same.master;
+  filesystems = each_back SameFilesystem filesystem_back one.filesystems other.filesystems same.filesystems;
+  namespaces = each_back SameNamespace (λ a b e. sym e) one.namespaces other.namespaces same.namespaces;
+  tasks = each_back SameTask (λ a b e. sym e) one.tasks other.tasks same.tasks;
 }
 
 pub alike_onward : (one other last : World ℕ) → Alike one other → Alike other last → Alike one last

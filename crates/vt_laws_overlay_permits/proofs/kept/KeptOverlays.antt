@@ -91,6 +91,10 @@ makes world fresh task (ToOpen file access) =
     as_made (when (is_copied_up nat_eq world file access) (file, CopyUp file.node))
     (opens world fresh file (is_copied_up nat_eq world file access))
   where
+    as_made : (o : Option (Location ℕ × Change ℕ)) → Opens world fresh file (is_copied_up nat_eq world file access) o
+        → Makes world fresh task (ToOpen file access) o
+    as_made None e = tt
+    as_made (Some made) e = e
 makes world fresh task (ToOpenNew directory name node access) = refl
 makes world fresh task (ToWritePart file offset []) = tt
 makes world fresh task (ToWritePart file offset (byte ∷ bytes)) = refl

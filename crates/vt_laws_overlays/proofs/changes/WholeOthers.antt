@@ -241,6 +241,23 @@ module _ (fresh : Fresh ℕ) (world : World ℕ) (location : Location ℕ) (chan
         ∙ (overlay_merges world conditions number other is_other).upper_there of.0 object of.1)
         (apart_upper layer m object (object_counts world conditions number other is_other layer e object of))
 
+    same_filesystem : filesystem_numbered nat_eq later number ≡ filesystem_numbered nat_eq world number
+    same_filesystem =
+        others_elsewhere fresh world location change number differ
+        (λ o u f g s. none_is_some other (sym (no_overlay_in world conditions upper
+        (layer_plain world conditions (mount_at nat_eq world location).filesystem overlay is upper
+        (subst (λ x. Lists.Among upper (option_to_list x ++ option_to_list overlay.work ++ overlay.lowers)) (sym has)
+        (inl refl))))
+        ∙ ap (λ n. (filesystem_numbered nat_eq world n).overlay)
+        (ap (λ l. l.filesystem) (same_Some upper u
+        (sym has ∙ ap (λ v. v.upper) (same_Some overlay o (sym is ∙ f)) ∙ g)) ∙ sym s) ∙ is_other))
+
+    pub other_merged : (filesystem_numbered nat_eq later number ≡ filesystem_numbered nat_eq world number)
+        × IsMerged nat_eq later (filesystem_numbered nat_eq world number) other
+    other_merged = (
+      same_filesystem,
+      stays_merged world later (filesystem_numbered nat_eq world number) other leads own
+          (overlay_merges world conditions number other is_other),
     )
 
 pub other_overlays_stay_merged : OtherOverlaysStayMerged

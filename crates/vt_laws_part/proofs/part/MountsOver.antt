@@ -86,8 +86,7 @@ module _ (world : World ℕ) (names : List TaskName) (is : MountInvariants nat_e
         skip None e f = refl
         skip (Some y) e f =
             ap (λ b. cond b (Some y) (find (stands_at nat_eq here) (filter_map kept rest)))
-            (⊎_elim (λ same. ap (stands_at nat_eq here) (sym same) ∙ f)
-            (λ stub. ap (stands_at nat_eq here) (sym stub.0))
+            (⊎_elim (λ same. ap (stands_at nat_eq here) (sym same) ∙ f) (λ stub. ap (stands_at nat_eq here) (sym stub.0))
             (kept_how world names theirs x y e))
 
         by : (b : Bool) → stands_at nat_eq here x ≡ b
@@ -163,8 +162,7 @@ module _ (world : World ℕ) (names : List TaskName) (is : MountInvariants nat_e
       length-map part.mounts (λ (mount : Mount ℕ). suc mount.number) in
       let less : length part.mounts ≤ length world.mounts = length-filter_map kept world.mounts in
       sym (chains_alike (up world) (up part) key there by_key (length world.mounts) (length part.mounts) here
-      (way (length world.mounts) here own (ap (option_map root_of) (topmost_is_free world here is)))
-      (omega (arith, size, less)) (omega (arith, size)))
+      (way (length world.mounts) here own (ap (option_map root_of) (topmost_is_free world here is))) (omega (arith, size, less)) (omega (arith, size)))
 
 pub mounts_over_are_those_of_the_part : MountsOverAreThoseOfThePart
 mounts_over_are_those_of_the_part world names mount here is there on stands =

@@ -8,6 +8,7 @@ use Rattle.vt_spec.proofs.Truths.{or_false_left}
 use Rattle.vt_spec.proofs.Walk.{new_name_rules}
 use Rattle.vt_spec.specs.Laws.Trees.{IsNewIn}
 use Rattle.vt_spec.specs.Machine.Invariants.{IsWorld, ListsNumbers}
+use Rattle.vt_spec.specs.Machine.Looks.{Looks, looks_of}
 use Rattle.vt_spec.specs.Machine.Mounts.{Location}
 use Rattle.vt_spec.specs.Machine.Rules.Removing.{object_there}
 use Rattle.vt_spec.specs.Machine.Walking.{Place, is_special, name_of}
@@ -53,6 +54,9 @@ same_kind false true first next = absurd (true≢false first)
 same_kind false false first next = refl
 
 module _ (world : World ℕ) (task : Task ℕ) where
+  abbrev looks : Looks ℕ
+  looks = looks_of nat_eq world
+
   -- the object of an old place is seen through its directory's mount
   pub old_mount : (place : Place ℕ) → is_special place.last ≡ false → IsOldPlace world task place
       → (object_there place).mount ≡ place.parent.mount

@@ -87,13 +87,7 @@ supplies_do_not_matter world other same first second name call keeps kept =
     agree (is_kept first) world before joint keeps
     (λ number is. allotted_kept first second same.there number (kept_lot (first.lot number) is)) ∙ same.same in
     let again : SameWorld world other =
-    record {
-      there = joint.there;
-      back = joint.back;
-      there_back = joint.there_back;
-      back_there = joint.back_there;
-      same = agrees;
-    } in
+    record { there = joint.there; back = joint.back; there_back = joint.there_back; back_there = joint.back_there; same = agrees } in
     let supplied : (k : ℕ) → joint.there (first.new k) ≡ second.new k =
     λ k. allotted_new first second same.there (first.new k) k (first.new_lot k) in
     let P : Fresh ℕ → Type 0 = λ new.
@@ -113,6 +107,10 @@ module _ (grammar : Grammar) where
       step_text number (line_step nat_eq grammar world line (Some (spread (suc m))))
       ++ rows_text (suc m) (step_world world (line_step nat_eq grammar world line (Some (spread (suc m)))))
       (number + 1) lines refused
+
+  -- the numbers in hand are renamed to numbers of the rows so far
+  AreEarly : (ℕ → Bool) → (ℕ → ℕ) → ℕ → Type 0
+  AreEarly in_hand rename m = (number : ℕ) → in_hand number ≡ true → row (rename number) ≤ m
 
   -- A line that is handed some supply, and the same line in the renamed world that is handed the next row
   module _ (m : ℕ) (renaming : Renaming ℕ ℕ) (in_hand : ℕ → Bool) (world other : World ℕ)

@@ -19,8 +19,7 @@ pub record IsWorldOfTrees (world : World ℕ) : Type 0 where
 -- the root of each mount, and the place that it stands at, are directories
 pub record IsStanding (world : World ℕ) : Type 0 where
   pub roots : All (λ mount. is_directory_at nat_eq world (root_of mount) ≡ true) world.mounts
-  pub places : All (λ mount. (place : Location ℕ) → mount.mount_point ≡ Some place → is_directory_at nat_eq world place
-      ≡ true) world.mounts
+  pub places : All (λ mount. (place : Location ℕ) → mount.mount_point ≡ Some place → is_directory_at nat_eq world place ≡ true) world.mounts
 
 -- In each world that has the invariants of worlds they are.
 abbrev pub WorldsAreStanding : Type 0

@@ -37,6 +37,9 @@ module _ (world : World ℕ) (fresh : Fresh ℕ) (task : Task ℕ) (serves : Ser
   abbrev after : Permit ℕ → World ℕ
   after permit = (apply nat_eq fresh world task permit).world
 
+  abbrev same_number : ℕ → ℕ
+  same_number number = number
+
   -- tasks alone are others
   of_tasks : (other : World ℕ) → other.mounts ≡ world.mounts → other.master ≡ world.master
       → MountInvariants nat_eq other

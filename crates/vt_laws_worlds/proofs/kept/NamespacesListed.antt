@@ -1,5 +1,5 @@
 -- Namespaces of a world with their mounts and tasks, as facts on what stands in its lists.
-use Rattle.std.proofs.Common.{◌≡◌, refl, sym, ap, subst, ◌∙◌, ℕ, nat_eq, Bool, true, false, List, [], Option, Some, None, eq-eqb, eqb-true, is_some, length, map, true≢false, ⊎_elim, ◌&&◌}
+use Rattle.std.proofs.Common.{◌≡◌, refl, sym, ap, subst, ◌∙◌, ℕ, nat_eq, Bool, true, false, List, [], ◌∷◌, Option, Some, None, arith, eq-eqb, eqb-true, inl, is_some, length, map, true≢false, ⊎_elim, ◌&&◌}
 use Rattle.std.specs.Prelude.{Contains, option_to_list}
 use Rattle.std.specs.List.{list_all}
 use Rattle.std.proofs.lemmas.Bool.{and_parts}
@@ -184,6 +184,11 @@ counted_stay before after counts mount m number e =
     let old = among-from_filter lies_in before.mounts one.0 one.1 in
     (one.0, old.0, inside one.0.namespace old.1)
   where
+    some_of : (xs ys : List (Mount ℕ)) (x : Mount ℕ) → Among x xs → length xs ≡ length ys → (y : Mount ℕ) × Among y ys
+    some_of [] ys x m same = absurd m
+    some_of (first ∷ rest) [] x m same = absurd (omega (arith, same))
+    some_of (first ∷ rest) (y ∷ ys) x m same = (y, inl refl)
+
     inside : (found : Option ℕ) → holds_of (nat_eq number) found ≡ true → found ≡ Some number
     inside None h = absurd (true≢false (sym h))
     inside (Some other) h = ap Some (sym (eqb-true number other h))

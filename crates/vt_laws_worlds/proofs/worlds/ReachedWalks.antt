@@ -1,7 +1,7 @@
 -- Where the walks of a task end: at what is there, on a mount of the task's namespace or on one that is in none.
 use Rattle.std.proofs.Common.{arith}
 use Rattle.std.proofs.lemmas.Grind.{common_steps}
-use Rattle.std.proofs.Common.{◌≡◌, refl, ℕ, zero, suc, nat_eq, Bool, true, false, not, cond, List, [], ◌∷◌, ◌+◌, reverse, Option, Some, None, Ok, Result, inl, inr}
+use Rattle.std.proofs.Common.{◌≡◌, refl, ℕ, zero, suc, nat_eq, Bool, true, false, not, cond, List, [], ◌∷◌, ◌+◌, reverse, Option, Some, None, Ok, Err, Result, inl, inr}
 use Rattle.std.proofs.lemmas.Bool.{and_parts}
 use Rattle.vt_spec.specs.declared.errors.Rule.TheVariants.{W3}
 use Rattle.vt_spec.specs.PathText.{ends_in_slash, is_absolute, words}
@@ -16,6 +16,7 @@ use Rattle.vt_spec.specs.Machine.Invariants.{IsWorld, is_directory_seen_in, is_l
 use Rattle.vt_spec.proofs.Lists.{Among, among-flat_map, among_from_list_all}
 use Rattle.vt_laws_trees.proofs.trees.TreesWalked.{Ends, ends_next, ends_step, ends_then, ends_unless, not_true}
 use Rattle.vt_laws_worlds.proofs.worlds.Reached.{IsEnd, IsFound, IsFoundDirectory, directory_end, step_found}
+use Rattle.vt_spec.proofs.Found.{found_among}
 use Rattle.vt_laws_trees.proofs.trees.TreesTasks.{called_there, called_stands}
 pub use Rattle.vt_spec.proofs.Found.{found_among}
 

@@ -1,5 +1,5 @@
 -- A directory that was renamed is found at its new path, by whoever stands outside of it, and its old path is missing.
-use Rattle.std.proofs.Common.{◌≡◌, refl, sym, ap, subst, ◌∙◌, inl, inr, ◌⊎◌, ⊎_elim, true≢false, ℕ, nat_eq, true, false, cond, List, Option, Some, None, is_some, map, Ok, Err}
+use Rattle.std.proofs.Common.{◌≡◌, refl, sym, ap, subst, ◌∙◌, inl, inr, ◌⊎◌, ⊎_elim, true≢false, ℕ, nat_eq, Bool, true, false, cond, List, Option, Some, None, is_some, map, Ok, Err}
 use Rattle.std.proofs.lemmas.Option.{same_Some}
 use Rattle.vt_spec.specs.declared.errors.Rule.{Rule}
 use Rattle.vt_spec.specs.declared.errors.Rule.TheVariants.{C1, W4, W6}
@@ -270,6 +270,25 @@ module _ (world : World ℕ) (fresh : Fresh ℕ) (name : TaskName) (old new : Li
 
     abbrev RefusedBy : Fresh ℕ → Rule → Type 0
     RefusedBy later_fresh rule = (policy nat_eq later_fresh later reader (Ls new)).answer ≡ Err (denial rule)
+
+    new_listed : (later_fresh : Fresh ℕ) → Listed later_fresh ⊎ (RefusedBy later_fresh C1 ⊎ RefusedBy later_fresh W6)
+    new_listed later_fresh = by list_walk
+      where
+        read : (b : Bool)
+            → (policy nat_eq later_fresh later reader (Ls new)).answer
+            ≡ cond b (Ok (Names (names_in (node_at nat_eq later place_after)))) (Err (denial C1))
+            → Listed later_fresh ⊎ (RefusedBy later_fresh C1 ⊎ RefusedBy later_fresh W6)
+        read true e = inl (e ∙ ap (λ entries. Ok (Names (map (λ (entry : List ℕ × ℕ). entry.0) entries))) kept.names)
+        read false e = inr (inl e)
+
+        by : EndsThere Missing (directory_walk nat_eq (looks_of nat_eq later) reading new) place_after
+            (named_place (looks_of nat_eq world) did.task new to to_walked parts.to_named).here.left
+            → Listed later_fresh ⊎ (RefusedBy later_fresh C1 ⊎ RefusedBy later_fresh W6)
+        by (inl ends) =
+            read (node_allows reading.credentials read_right (node_at nat_eq later place_after))
+            (list_of later later_fresh reader reading called new is_left.1 _ ends.1)
+        by (inr stop) = inr (inr (list_refused later later_fresh reader reading called new stop.0 stop.2
+            ∙ ap Err stop.1))
 
     all_listed : reads_all reading.credentials ≡ true → (later_fresh : Fresh ℕ)
         → Listed later_fresh ⊎ RefusedBy later_fresh W6

@@ -44,11 +44,12 @@ use Rattle.vt_laws_later_calls.specs.LaterPaths.{RenameThenLstat}
 use Rattle.vt_laws_later_calls.proofs.AfterChange.{all_stays, later_mounts, node_changed, spent}
 use Rattle.vt_laws_later_calls.proofs.Granted.{IsPermitted, permitted}
 use Rattle.vt_laws_later_calls.proofs.Looked.{lstat_of, lstat_refused}
-use Rattle.vt_laws_later_calls.proofs.MadeSeen.{new_parts, no_slash_there}
+use Rattle.vt_laws_later_calls.proofs.MadeSeen.{Never, new_parts, no_slash_there, surely}
 use Rattle.vt_laws_later_calls.proofs.Opened.{walk_ended}
 use Rattle.vt_laws_later_calls.proofs.OpenedNew.{given_of}
 use Rattle.vt_laws_later_calls.proofs.Readers.{KnownToo, MayLook, all_stands, caller, known_there, leads, own_name, raised_credentials, raised_stands, seen_at, seen_there, stepped_by, uncovered}
 use Rattle.vt_spec.proofs.Refusals.{passing, same_ok}
+use Rattle.vt_laws_later_calls.proofs.Stays.{called_own}
 use Rattle.vt_laws_later_calls.proofs.later.later_calls_see_it_at_the_path.Answers.Unlinked.{Missing, old_parts}
 use Rattle.vt_laws_later_calls.proofs.Ways.{LeadsToo, both_walked, same_end, walk_passing}
 use Rattle.vt_laws_later_calls.proofs.WaysChanges.{RightsStay, TreeStays, moved_entry, moved_missing, moved_object, rights_moved, ways_moved}
@@ -231,6 +232,20 @@ module _ (world : World ℕ) (fresh : Fresh ℕ) (name : TaskName) (old new : Li
 
   abbrev line : StatLine
   line = stat_line (node_at nat_eq world (record { mount = from.parent.mount; node = object }))
+
+  -- before
+  old_told : (other_fresh : Fresh ℕ) → (policy nat_eq other_fresh world name (Lstat old)).answer ≡ Ok (Told line)
+  old_told other_fresh =
+      let at_name = named_place (looks_of nat_eq world) did.task old from parts.from_walked parts.from_named in
+      let own = called_own world fresh name (Rename old new) Done is plain serves refl refl did in
+      let walk = surely _ _ _ (symlink_named_too (looks_of nat_eq world) (looks_of nat_eq world) did.task did.task Never
+      (IsFound world is did.task)
+      (itself_leads Never world is plain did.task own) old from parts.from_named at_name
+      (record { mount = from.parent.mount; node = object })
+      (λ known. stepped_by world did.task from.parent from.last parts.from_named (Some object) may.moves.named
+      ∙ ap Ok (uncovered world is (record { mount = from.parent.mount; node = object }) no_directory))
+      (λ slash. absurd (true≢false (sym slash ∙ at_name.slash_is ∙ parts.from_slash)))) in
+      lstat_of world other_fresh name did.task did.called old _ walk.1
 
   module _ (reader : TaskName) (reading : Task ℕ) (called : task_called later reader ≡ Some reading)
       (stands : StandsAs did.task reading) (looks : MayLook did.task reading) where
