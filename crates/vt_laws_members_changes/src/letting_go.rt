@@ -6,10 +6,11 @@ ghost use Rattle.vt_laws_members_changes.specs.LettingGo.{ChdirsEndAlike, Chroot
 /// longer goes in both: detached mounts, filesystems, inodes and their real objects. The answers are the same, and so
 /// are the parts of the worlds that are left, with their change numbers. The numbers handed in do not matter.
 ///
-/// So does each `exit` of one of them that leaves another task in its namespace (`exit`). The set is then that without
-/// the task. It may see less after each of these calls, and need not be sealed off any more.
+/// So does each `exit` of one of them (`exit`), of the set without the task. Where it was the last task of its
+/// namespace, the namespace ends in both, and its mounts are detached. The groups and masters of other mounts of theirs
+/// change alike, and so do the change numbers of their namespaces.
 ///
-/// Not proved yet of the `exit` of the last task of a namespace, whose mounts are detached.
+/// After each of these calls the set may see less, and need not be sealed off any more.
 pub fn calls_of_theirs_that_let_locations_go_end_alike()
     ensures close { ClosesEndAlike }
     ensures chdir { ChdirsEndAlike }

@@ -30,7 +30,7 @@ use Rattle.vt_laws_members_changes.proofs.letting_go.SeeLess.{part_of_less}
 use Rattle.vt_laws_members_changes.proofs.letting_go.Sweep.{part_of_settled, swept_of}
 use Rattle.vt_laws_members_changes.proofs.letting_go.WorldReady.{world_ready}
 
-raised_is : {A : Type 0} (name : TaskName) (what : Task ℕ → A)
+pub raised_is : {A : Type 0} (name : TaskName) (what : Task ℕ → A)
     → ((t : Task ℕ) → what (record t { change = raised t.change }) ≡ what t) → (t : Task ℕ)
     → what (raised_task name t) ≡ what t
 raised_is {A} name what same t = by (same_name name t.name)
@@ -57,7 +57,7 @@ private_in_part world names is y n none =
     (kept_how world names (members world names) from.0 y from.2)
 
 -- tasks whose change numbers are raised see what they saw
-raised_sees : (u : World ℕ) (set : List TaskName) (name : TaskName) (change : ℕ)
+pub raised_sees : (u : World ℕ) (set : List TaskName) (name : TaskName) (change : ℕ)
     → SeeAlike u set set (map (raised_task name) u.tasks) change
 raised_sees u set name change =
     sees_alike u set (raised_task name) (raised_is name (λ (t : Task ℕ). t.name) (λ t. refl))
