@@ -3,6 +3,7 @@ pub mod Callers
 pub mod Changed
 pub mod CutAgain
 pub mod CutNamespace
+pub mod Detached
 pub mod EndedPartReady
 pub mod EndedRaised
 pub mod EndedReady
@@ -23,5 +24,6 @@ pub mod SeeLess
 pub mod Sweep
 pub mod Sweeping
 pub mod SweptPart
+pub mod Umounting
 pub mod UsedAlike
 pub mod WorldReady

@@ -1,5 +1,5 @@
 //! Calls of members that let something go.
-ghost use Rattle.vt_laws_members_changes.specs.LettingGo.{ChdirsEndAlike, ChrootsEndAlike, ClosesEndAlike, ExitsEndAlike, LessIsSeenAlike, SweepsAlike};
+ghost use Rattle.vt_laws_members_changes.specs.LettingGo.{ChdirsEndAlike, ChrootsEndAlike, ClosesEndAlike, ExitsEndAlike, LessIsSeenAlike, SweepsAlike, UmountsEndAlike};
 
 /// In a world with all invariants in which a set of tasks is sealed off, **each `close`, `chdir` and `chroot` of one of
 /// them does in the part of the set what it does in the world** (`EndAlike`), granted or refused. What nothing uses any
@@ -10,12 +10,17 @@ ghost use Rattle.vt_laws_members_changes.specs.LettingGo.{ChdirsEndAlike, Chroot
 /// namespace, the namespace ends in both, and its mounts are detached. The groups and masters of other mounts of theirs
 /// change alike, and so do the change numbers of their namespaces.
 ///
-/// After each of these calls the set may see less, and need not be sealed off any more.
+/// So does a `umount` of one of them that is granted, where no mount that it detaches has a child (`umount`): neither
+/// the named mount nor one that the unmount event reaches has another mount on it.
+///
+/// After each of these calls the set may see less, and need not be sealed off any more. Not proved yet of `umount` where
+/// the event reaches a mount that another one covers, and of the lazy `umount`.
 pub fn calls_of_theirs_that_let_locations_go_end_alike()
     ensures close { ClosesEndAlike }
     ensures chdir { ChdirsEndAlike }
     ensures chroot { ChrootsEndAlike }
     ensures exit { ExitsEndAlike }
+    ensures umount { UmountsEndAlike }
 {}
 
 /// In a world with all invariants in which a set of tasks is sealed off, other tasks take the place of the world's. Those

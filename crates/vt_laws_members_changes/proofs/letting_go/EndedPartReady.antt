@@ -1,4 +1,4 @@
--- So is the part, where the namespace ends in it, too.
+-- So is the part, where they are detached in it, too.
 use Rattle.std.proofs.Common.{◌≡◌, refl, sym, ap, subst, ◌∙◌, ◌⊎◌, inl, inr, ⊎_elim, ℕ, nat_eq, Bool, true, false, true≢false, List, Option, Some, None, filter, is_some, eq-eqb}
 use Rattle.std.specs.List.{list_any}
 use Rattle.std.proofs.lemmas.Bool.{or_left, or_right}
@@ -19,7 +19,6 @@ use Rattle.vt_laws_members.proofs.judging.Grounds.{nowhere_stands}
 use Rattle.vt_laws_members.proofs.judging.MountPoints.{part_mount}
 use Rattle.vt_laws_members.proofs.judging.MountTrees.{part_one_number}
 use Rattle.vt_laws_members_changes.proofs.letting_go.Changed.{parent_of}
-use Rattle.vt_laws_members_changes.proofs.letting_go.CutNamespace.{in_space}
 use Rattle.vt_laws_members_changes.proofs.letting_go.LessSeen.{AreLess, less_lowers, less_used}
 use Rattle.vt_laws_members_changes.proofs.letting_go.NamespaceLess.{KeepsShape, ended, ended_less, ended_mount, ended_part, place_was, placed_old, placed_so, shape_kept}
 use Rattle.vt_laws_members_changes.proofs.letting_go.PartFiles.{cut_in_part, numbers_in_part, plain_in_part}
@@ -28,14 +27,18 @@ use Rattle.vt_laws_members_changes.proofs.letting_go.Regrouped.{left_part}
 use Rattle.vt_laws_members_changes.proofs.letting_go.WorldReady.{sees_living}
 
 module _ (world : World ℕ) (names : List TaskName) (is : IsWorld nat_eq world)
-    (sealed_off : sealed nat_eq world names ≡ true) (set : List TaskName) (k : ℕ)
-    (theirs_ends : is_own_namespace nat_eq world names k ≡ true) (tasks tasks_too : List (Task ℕ))
+    (sealed_off : sealed nat_eq world names ≡ true) (set : List TaskName) (goes : Mount ℕ → Bool)
+    (own_go : (m : Mount ℕ) → Among m world.mounts → goes m ≡ true
+    → is_own world names (members world names) m ≡ true)
+    (lasts : ℕ → Bool) (tasks tasks_too : List (Task ℕ))
     (change change_too : ℕ)
     (same : filter (is_member_task set) tasks_too ≡ filter (is_member_task set) tasks)
     (fewer : (t : Task ℕ) → Among t (filter (is_member_task set) tasks) → Among t (members world names))
     (all : (t : Task ℕ) → Among t tasks_too → is_member_task set t ≡ true)
-    (still : (n : ℕ) → nat_eq k n ≡ false → list_any (λ (t : Task ℕ). nat_eq n t.namespace) (members world names) ≡ true
-    → list_any (λ (t : Task ℕ). nat_eq n t.namespace) (filter (is_member_task set) tasks) ≡ true)
+    (still : (m : Mount ℕ) → goes m ≡ false → is_own world names (members world names) m ≡ true
+    → is_own world names (filter (is_member_task set) tasks) m ≡ true)
+    (parents_stay : (m up : Mount ℕ) (l : Location ℕ) → Among m world.mounts → Among up world.mounts
+    → m.mount_point ≡ Some l → l.mount ≡ up.number → goes m ≡ false → goes up ≡ false)
     (b : Bool) where
   abbrev part : World ℕ
   part = part_of nat_eq world names
@@ -51,26 +54,26 @@ module _ (world : World ℕ) (names : List TaskName) (is : IsWorld nat_eq world)
 
   abbrev after_world : World ℕ
   after_world =
-      ended world names is sealed_off set k theirs_ends tasks tasks_too change change_too same fewer b
+      ended world names is sealed_off set goes own_go lasts tasks tasks_too change change_too same fewer b
 
   abbrev after_part : World ℕ
   after_part =
-      ended_part world names is sealed_off set k theirs_ends tasks tasks_too change change_too same fewer b
+      ended_part world names is sealed_off set goes own_go lasts tasks tasks_too change change_too same fewer b
 
   less : AreLess world names set after_world after_part
-  less = ended_less world names is sealed_off set k theirs_ends tasks tasks_too change change_too same fewer b
+  less = ended_less world names is sealed_off set goes own_go lasts tasks tasks_too change change_too same fewer b
 
   abbrev t_part : World ℕ
-  t_part = left_part world names is sealed_off k theirs_ends
+  t_part = left_part world names is sealed_off goes own_go
 
   abbrev after : Mount ℕ → Mount ℕ
-  after = ended_mount b t_part k
+  after = ended_mount b t_part goes
 
   abbrev living : World ℕ
   living = without_dead_mounts nat_eq after_part
 
   shape : (m : Mount ℕ) → KeepsShape m (after m)
-  shape m = shape_kept b t_part k m
+  shape m = shape_kept b t_part goes m
 
   was : (y : Mount ℕ) → Among y living.mounts → (z : Mount ℕ) × Among z part.mounts × (y ≡ after z)
   was y n =
@@ -104,9 +107,9 @@ module _ (world : World ℕ) (names : List TaskName) (is : IsWorld nat_eq world)
 
   located_so : (l : Location ℕ) → Among l (locations new) → (y : Mount ℕ) × Among y living.mounts × (l.mount ≡ y.number)
   located_so l m =
-      let before = place_was world names is sealed_off set k theirs_ends tasks tasks_too change change_too same fewer b l
+      let before = place_was world names is sealed_off set goes own_go lasts tasks tasks_too change change_too same fewer b l
       (subst (λ ts. Among l (locations ts)) same m) in
-      let on = placed_old world names is sealed_off set k theirs_ends tasks tasks_too change change_too same fewer b l
+      let on = placed_old world names is sealed_off set goes own_go lasts tasks tasks_too change change_too same fewer b l
       before in
       let shown = shown_at world names on.0 (any_from_among (λ (p : Location ℕ). nat_eq p.mount on.0.number) (locations old) l
       before (eq-eqb l.mount on.0.number on.2)) in
@@ -142,11 +145,11 @@ module _ (world : World ℕ) (names : List TaskName) (is : IsWorld nat_eq world)
       → (n : ℕ) × (y.namespace ≡ Some n) × (u : Mount ℕ) × Among u living.mounts × (l.mount ≡ u.number)
       × (u.namespace ≡ Some n)
   parents_so y l n point =
-      let from = was y n in by from.0 from.1 from.2 (placed_so b t_part k from.0)
+      let from = was y n in by from.0 from.1 from.2 (placed_so b t_part goes from.0)
     where
       by : (z : Mount ℕ) → Among z part.mounts → y ≡ after z
-          → (((after z).namespace ≡ None) × ((after z).mount_point ≡ None) × (in_space k z ≡ true))
-          ⊎ (((after z).namespace ≡ z.namespace) × ((after z).mount_point ≡ z.mount_point) × (in_space k z ≡ false))
+          → (((after z).namespace ≡ None) × ((after z).mount_point ≡ None) × (goes z ≡ true))
+          ⊎ (((after z).namespace ≡ z.namespace) × ((after z).mount_point ≡ z.mount_point) × (goes z ≡ false))
           → (n : ℕ) × (y.namespace ≡ Some n) × (u : Mount ℕ) × Among u living.mounts × (l.mount ≡ u.number)
           × (u.namespace ≡ Some n)
       by z at e (inl gone) =
@@ -157,9 +160,9 @@ module _ (world : World ℕ) (names : List TaskName) (is : IsWorld nat_eq world)
           let up = parent_of world is names z l whole.0 its in
           let own : is_own world names old up.2 ≡ true =
           ap (holds_of (λ i. list_any (λ (t : Task ℕ). nat_eq i t.namespace) old)) (up.5 ∙ sym up.1) ∙ whole.1 in
-          let outside : in_space k up.2 ≡ false = ap (holds_of (nat_eq k)) (up.5 ∙ sym up.1) ∙ stays.2 in
+          let outside = parents_stay z up.2 l whole.0 up.3 its up.4 stays.2 in
           let placed : (after up.2).namespace ≡ Some up.0 =
-          ⊎_elim (λ gone. absurd (true≢false (sym gone.2 ∙ outside))) (λ its. its.0 ∙ up.5) (placed_so b t_part k up.2) in (
+          ⊎_elim (λ gone. absurd (true≢false (sym gone.2 ∙ outside))) (λ its. its.0 ∙ up.5) (placed_so b t_part goes up.2) in (
             up.0,
             ap (λ (q : Mount ℕ). q.namespace) e ∙ stays.0 ∙ up.1,
             after up.2,
@@ -170,22 +173,15 @@ module _ (world : World ℕ) (names : List TaskName) (is : IsWorld nat_eq world)
 
   -- a mount of theirs is theirs after, or in no namespace
   own_after : (z : Mount ℕ) → is_own world names old z ≡ true → (is_own world names new (after z) ≡ true) ⊎ ((after z).namespace ≡ None)
-  own_after z own = by z.namespace refl
-    where
-      by : (o : Option ℕ) → z.namespace ≡ o
-          → (is_own world names new (after z) ≡ true) ⊎ ((after z).namespace ≡ None)
-      by None e = absurd (true≢false (sym own ∙ ap (holds_of (λ i. list_any (λ (t : Task ℕ). nat_eq i t.namespace) old)) e))
-      by (Some j) e =
-          ⊎_elim (λ gone. inr gone.0)
-          (λ stays. inl (ap (λ ts. is_own world names ts (after z)) same
-          ∙ ap (holds_of (λ i. list_any (λ (t : Task ℕ). nat_eq i t.namespace) (filter (is_member_task set) tasks)))
-          (stays.0 ∙ e)
-          ∙ still j (sym (ap (holds_of (nat_eq k)) e) ∙ stays.2)
-          (sym (ap (holds_of (λ i. list_any (λ (t : Task ℕ). nat_eq i t.namespace) old)) e) ∙ own)))
-          (placed_so b t_part k z)
+  own_after z own =
+      ⊎_elim (λ gone. inr gone.0)
+      (λ stays. inl (ap (λ ts. is_own world names ts (after z)) same
+      ∙ ap (holds_of (λ i. list_any (λ (t : Task ℕ). nat_eq i t.namespace) (filter (is_member_task set) tasks))) stays.0
+      ∙ still z stays.2 own))
+      (placed_so b t_part goes z)
 
   none_after : (z : Mount ℕ) → z.namespace ≡ None → (after z).namespace ≡ None
-  none_after z e = ⊎_elim (λ gone. gone.0) (λ stays. stays.0 ∙ e) (placed_so b t_part k z)
+  none_after z e = ⊎_elim (λ gone. gone.0) (λ stays. stays.0 ∙ e) (placed_so b t_part goes z)
 
   in_or_out : (z : Mount ℕ) → Among z part.mounts
       → (is_own world names new (after z) ≡ true) ⊎ ((after z).namespace ≡ None)

@@ -1,4 +1,4 @@
--- Where a namespace of theirs ends, the world is ready to be swept.
+-- Where mounts of theirs are detached, the world is ready to be swept.
 use Rattle.std.proofs.Common.{◌≡◌, refl, sym, ap, subst, ◌∙◌, ◌⊎◌, inl, inr, ⊎_elim, ℕ, nat_eq, Bool, true, false, true≢false, List, Option, Some, None, filter, is_some, not, ◌||◌, eq-eqb}
 use Rattle.std.specs.List.{list_all, list_any}
 use Rattle.std.proofs.lemmas.Bool.{and_parts, not-true, or_cases, or_left, or_right}
@@ -19,7 +19,6 @@ use Rattle.vt_laws_part.proofs.part.PartOfPart.{is_own}
 use Rattle.vt_laws_part.proofs.seals.ByPart.{used_are_free}
 use Rattle.vt_laws_members.proofs.judging.Grounds.{nowhere_stands}
 use Rattle.vt_laws_members_changes.proofs.letting_go.Changed.{mount_under, parent_of}
-use Rattle.vt_laws_members_changes.proofs.letting_go.CutNamespace.{in_space}
 use Rattle.vt_laws_members_changes.proofs.letting_go.LessSeen.{used_was}
 use Rattle.vt_laws_members_changes.proofs.letting_go.NamespaceLess.{KeepsShape, ended, ended_less, ended_mount, ended_part, one_after, place_was, placed_old, placed_so, root_was, shape_kept, stands_on}
 use Rattle.vt_laws_members_changes.proofs.letting_go.Ready.{Alone, NoOthers, Ready, layered_overlay}
@@ -27,15 +26,19 @@ use Rattle.vt_laws_members_changes.proofs.letting_go.Regrouped.{left}
 use Rattle.vt_laws_members_changes.proofs.letting_go.WorldReady.{all_named_there, plain_in, sees_living, whole_cut}
 
 module _ (world : World ℕ) (names : List TaskName) (is : IsWorld nat_eq world)
-    (sealed_off : sealed nat_eq world names ≡ true) (set : List TaskName) (k : ℕ)
-    (theirs_ends : is_own_namespace nat_eq world names k ≡ true) (tasks tasks_too : List (Task ℕ))
+    (sealed_off : sealed nat_eq world names ≡ true) (set : List TaskName) (goes : Mount ℕ → Bool)
+    (own_go : (m : Mount ℕ) → Among m world.mounts → goes m ≡ true
+    → is_own world names (members world names) m ≡ true)
+    (lasts : ℕ → Bool) (tasks tasks_too : List (Task ℕ))
     (change change_too : ℕ)
     (same : filter (is_member_task set) tasks_too ≡ filter (is_member_task set) tasks)
     (fewer : (t : Task ℕ) → Among t (filter (is_member_task set) tasks) → Among t (members world names))
     (others : (l : Location ℕ) → Among l (locations (filter (λ t. not (is_member_task set t)) tasks))
     → Among l (locations (outsiders world names)))
-    (still : (n : ℕ) → nat_eq k n ≡ false → list_any (λ (t : Task ℕ). nat_eq n t.namespace) (members world names) ≡ true
-    → list_any (λ (t : Task ℕ). nat_eq n t.namespace) (filter (is_member_task set) tasks) ≡ true)
+    (still : (m : Mount ℕ) → goes m ≡ false → is_own world names (members world names) m ≡ true
+    → is_own world names (filter (is_member_task set) tasks) m ≡ true)
+    (parents_stay : (m up : Mount ℕ) (l : Location ℕ) → Among m world.mounts → Among up world.mounts
+    → m.mount_point ≡ Some l → l.mount ≡ up.number → goes m ≡ false → goes up ≡ false)
     (b : Bool) where
   abbrev old : List (Task ℕ)
   old = members world names
@@ -45,10 +48,10 @@ module _ (world : World ℕ) (names : List TaskName) (is : IsWorld nat_eq world)
 
   abbrev after_world : World ℕ
   after_world =
-      ended world names is sealed_off set k theirs_ends tasks tasks_too change change_too same fewer b
+      ended world names is sealed_off set goes own_go lasts tasks tasks_too change change_too same fewer b
 
   abbrev after : Mount ℕ → Mount ℕ
-  after = ended_mount b (left world names is sealed_off k theirs_ends) k
+  after = ended_mount b (left world names is sealed_off goes own_go) goes
 
   abbrev living : World ℕ
   living = without_dead_mounts nat_eq after_world
@@ -71,7 +74,7 @@ module _ (world : World ℕ) (names : List TaskName) (is : IsWorld nat_eq world)
       (eq-eqb (after m).number l.mount (number m ∙ sym e))))
     where
       number : (m : Mount ℕ) → (after m).number ≡ m.number
-      number m = (shape_kept b (left world names is sealed_off k theirs_ends) k m).number
+      number m = (shape_kept b (left world names is sealed_off goes own_go) goes m).number
 
   of_all : (l : Location ℕ) → Among l (locations new) → Among l (all_locations after_world)
   of_all l m =
@@ -79,25 +82,25 @@ module _ (world : World ℕ) (names : List TaskName) (is : IsWorld nat_eq world)
       among-flat_map locations_of tasks t.0 l (among-from_filter (is_member_task set) tasks t.0 t.1).0 t.2
 
   shape : (m : Mount ℕ) → KeepsShape m (after m)
-  shape m = shape_kept b (left world names is sealed_off k theirs_ends) k m
+  shape m = shape_kept b (left world names is sealed_off goes own_go) goes m
 
   one_living : OneNumberEach living
   one_living =
       pair-filter (λ (p q : Mount ℕ). nat_eq p.number q.number) (mount_lives nat_eq after_world) after_world.mounts
-      (one_after world names is sealed_off set k theirs_ends tasks tasks_too change change_too same fewer b)
+      (one_after world names is sealed_off set goes own_go lasts tasks tasks_too change change_too same fewer b)
 
   -- a mount in a namespace of theirs is theirs after, or in none
   own_after : (m : Mount ℕ) (n : ℕ) → m.namespace ≡ Some n → is_own_namespace nat_eq world names n ≡ true
       → (is_own world names new (after m) ≡ true) ⊎ ((after m).namespace ≡ None)
   own_after m n e own =
       ⊎_elim (λ gone. inr gone.0)
-      (λ stays. inl (ap (holds_of (λ i. list_any (λ (t : Task ℕ). nat_eq i t.namespace) new)) (stays.0 ∙ e)
-      ∙ still n (sym (ap (holds_of (nat_eq k)) e) ∙ stays.2) own))
-      (placed_so b (left world names is sealed_off k theirs_ends) k m)
+      (λ stays. inl (ap (holds_of (λ i. list_any (λ (t : Task ℕ). nat_eq i t.namespace) new)) stays.0
+      ∙ still m stays.2 (ap (holds_of (is_own_namespace nat_eq world names)) e ∙ own)))
+      (placed_so b (left world names is sealed_off goes own_go) goes m)
 
   none_after : (m : Mount ℕ) → m.namespace ≡ None → (after m).namespace ≡ None
   none_after m e =
-      ⊎_elim (λ gone. gone.0) (λ stays. stays.0 ∙ e) (placed_so b (left world names is sealed_off k theirs_ends) k m)
+      ⊎_elim (λ gone. gone.0) (λ stays. stays.0 ∙ e) (placed_so b (left world names is sealed_off goes own_go) goes m)
 
   -- where others have no foothold
   module _ (number : ℕ) (none : no_outsider_on nat_eq world names number ≡ true) where
@@ -186,8 +189,8 @@ module _ (world : World ℕ) (names : List TaskName) (is : IsWorld nat_eq world)
 
   located_so : (l : Location ℕ) → Among l (locations new) → (y : Mount ℕ) × Among y living.mounts × (l.mount ≡ y.number)
   located_so l m =
-      let on = placed_old world names is sealed_off set k theirs_ends tasks tasks_too change change_too same fewer b l
-      (place_was world names is sealed_off set k theirs_ends tasks tasks_too change change_too same fewer b l m) in
+      let on = placed_old world names is sealed_off set goes own_go lasts tasks tasks_too change change_too same fewer b l
+      (place_was world names is sealed_off set goes own_go lasts tasks tasks_too change change_too same fewer b l m) in
       (after on.0, located_lives on.0 l on.1 (of_all l m) on.2, on.2 ∙ sym (shape on.0).number)
 
   parents_so : (y : Mount ℕ) (l : Location ℕ) → Among y living.mounts → y.mount_point ≡ Some l
@@ -195,11 +198,11 @@ module _ (world : World ℕ) (names : List TaskName) (is : IsWorld nat_eq world)
       × (u.namespace ≡ Some n)
   parents_so y l n point =
       let from = was y n in
-      by from.0 from.1 from.2 (placed_so b (left world names is sealed_off k theirs_ends) k from.0)
+      by from.0 from.1 from.2 (placed_so b (left world names is sealed_off goes own_go) goes from.0)
     where
       by : (m : Mount ℕ) → Among m world.mounts → y ≡ after m
-          → (((after m).namespace ≡ None) × ((after m).mount_point ≡ None) × (in_space k m ≡ true))
-          ⊎ (((after m).namespace ≡ m.namespace) × ((after m).mount_point ≡ m.mount_point) × (in_space k m ≡ false))
+          → (((after m).namespace ≡ None) × ((after m).mount_point ≡ None) × (goes m ≡ true))
+          ⊎ (((after m).namespace ≡ m.namespace) × ((after m).mount_point ≡ m.mount_point) × (goes m ≡ false))
           → (n : ℕ) × (y.namespace ≡ Some n) × (u : Mount ℕ) × Among u living.mounts × (l.mount ≡ u.number)
           × (u.namespace ≡ Some n)
       by m at e (inl gone) =
@@ -207,10 +210,11 @@ module _ (world : World ℕ) (names : List TaskName) (is : IsWorld nat_eq world)
       by m at e (inr stays) =
           let up = parent_of world is names m l at
           (sym stays.1 ∙ ap (λ (q : Mount ℕ). q.mount_point) (sym e) ∙ point) in
-          let outside : in_space k up.2 ≡ false = ap (holds_of (nat_eq k)) (up.5 ∙ sym up.1) ∙ stays.2 in
+          let outside = parents_stay m up.2 l at up.3 (sym stays.1 ∙ ap (λ (q : Mount ℕ). q.mount_point) (sym e) ∙ point)
+          up.4 stays.2 in
           let placed : (after up.2).namespace ≡ Some up.0 =
           ⊎_elim (λ gone. absurd (true≢false (sym gone.2 ∙ outside))) (λ its. its.0 ∙ up.5)
-          (placed_so b (left world names is sealed_off k theirs_ends) k up.2) in (
+          (placed_so b (left world names is sealed_off goes own_go) goes up.2) in (
             up.0,
             ap (λ (q : Mount ℕ). q.namespace) e ∙ stays.0 ∙ up.1,
             after up.2,
@@ -226,7 +230,7 @@ module _ (world : World ℕ) (names : List TaskName) (is : IsWorld nat_eq world)
       let l = any_among (λ (p : Location ℕ). nat_eq p.mount y.number) (roots_and_directories new) h in
       let stands : is_at nat_eq (roots_and_directories old) from.0 ≡ true =
       any_from_among (λ (p : Location ℕ). nat_eq p.mount from.0.number) (roots_and_directories old) l.0
-      (root_was world names is sealed_off set k theirs_ends tasks tasks_too change change_too same fewer b l.0 l.1)
+      (root_was world names is sealed_off set goes own_go lasts tasks tasks_too change change_too same fewer b l.0 l.1)
       (ap (nat_eq l.0.mount) (sym (ap (λ (q : Mount ℕ). q.number) from.2 ∙ (shape from.0).number)) ∙ l.2) in
       subst (λ (q : Mount ℕ). (is_own world names new q ≡ true) ⊎ (q.mount_point ≡ None)) (sym from.2)
       (by from.0 from.1 (stands_on world names is from.0 from.1 stands) from.0.namespace refl from.0.mount_point refl)
@@ -236,15 +240,14 @@ module _ (world : World ℕ) (names : List TaskName) (is : IsWorld nat_eq world)
           → (is_own world names new (after m) ≡ true) ⊎ ((after m).mount_point ≡ None)
       by m at how o e None f =
           inr (⊎_elim (λ gone. gone.1) (λ stays. stays.1 ∙ f)
-          (placed_so b (left world names is sealed_off k theirs_ends) k m))
+          (placed_so b (left world names is sealed_off goes own_go) goes m))
       by m at (inr none) o e (Some l) f = absurd (nowhere_stands world names is.mounts m l at none f)
       by m at (inl own) None e (Some l) f = absurd (nowhere_stands world names is.mounts m l at e f)
       by m at (inl own) (Some j) e (Some l) f =
           ⊎_elim (λ gone. inr gone.1)
-          (λ stays. inl (ap (holds_of (λ i. list_any (λ (t : Task ℕ). nat_eq i t.namespace) new)) (stays.0 ∙ e)
-          ∙ still j (sym (ap (holds_of (nat_eq k)) e) ∙ stays.2)
-          (sym (ap (holds_of (λ i. list_any (λ (t : Task ℕ). nat_eq i t.namespace) old)) e) ∙ own)))
-          (placed_so b (left world names is sealed_off k theirs_ends) k m)
+          (λ stays. inl (ap (holds_of (λ i. list_any (λ (t : Task ℕ). nat_eq i t.namespace) new)) stays.0
+          ∙ still m stays.2 own))
+          (placed_so b (left world names is sealed_off goes own_go) goes m)
 
   pub ended_ready : Ready living set (used_filesystems nat_eq after_world set) (own_lowers nat_eq after_world set)
   ended_ready = record {
@@ -262,8 +265,8 @@ module _ (world : World ℕ) (names : List TaskName) (is : IsWorld nat_eq world)
         (used_are_free world names sealed_off x.number
         (among_numbers (used_filesystems nat_eq world names) x.number
         (used_was world names is set after_world
-        (ended_part world names is sealed_off set k theirs_ends tasks tasks_too change change_too same fewer b)
-        (ended_less world names is sealed_off set k theirs_ends tasks tasks_too change change_too same fewer b)
+        (ended_part world names is sealed_off set goes own_go lasts tasks tasks_too change change_too same fewer b)
+        (ended_less world names is sealed_off set goes own_go lasts tasks tasks_too change change_too same fewer b)
         x.number u))));
     cut = λ x m unused low. whole_cut world is (own_lowers nat_eq after_world set) x m;
   }

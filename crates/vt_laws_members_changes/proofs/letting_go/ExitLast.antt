@@ -1,5 +1,5 @@
 -- An exit of the last task of its namespace ends in the part as in the world: the mounts of the namespace are detached.
-use Rattle.std.proofs.Common.{◌≡◌, refl, sym, ap, subst, ◌∙◌, ⊎_elim, ℕ, nat_eq, Bool, true, false, cond, true≢false, List, [], Option, Some, Ok, filter, map, not, ◌||◌, eq-eqb, eqb-true}
+use Rattle.std.proofs.Common.{◌≡◌, refl, sym, ap, subst, ◌∙◌, ⊎_elim, ℕ, nat_eq, Bool, true, false, cond, true≢false, List, [], Option, Some, None, Ok, filter, map, not, ◌||◌, eq-eqb, eqb-true}
 use Rattle.std.specs.List.{list_all, list_any}
 use Rattle.std.proofs.lemmas.Bool.{or_left, or_right}
 use Rattle.vt_spec.specs.Language.Answers.Answer.{Done}
@@ -7,20 +7,21 @@ use Rattle.vt_spec.specs.Language.Calls.{TaskName, same_name}
 use Rattle.vt_spec.specs.Language.Calls.Call.{Exit}
 use Rattle.vt_spec.specs.Lists.{Fresh, holds_of, is_among}
 use Rattle.vt_spec.specs.Machine.Filesystems.{raised, raised_if_changed}
-use Rattle.vt_spec.specs.Machine.Mounts.{Mount}
+use Rattle.vt_spec.specs.Machine.Mounts.{Location, Mount}
 use Rattle.vt_spec.specs.Machine.Namespaces.{has_tasks, namespaces_ended}
 use Rattle.vt_spec.specs.Machine.Outcomes.{granted}
 use Rattle.vt_spec.specs.Machine.Policy.{numbers_raised, policy, raised_namespace, raised_task}
 use Rattle.vt_spec.specs.Machine.Receives.{lost_a_group, regrouped, regrouped_by}
 use Rattle.vt_spec.specs.Machine.Sealed.{is_at, is_member_task, is_own_namespace, members, own_lowers, part_of, roots_and_directories, used_filesystems}
 use Rattle.vt_spec.specs.Machine.Settled.{settled}
-use Rattle.vt_spec.specs.Machine.World.{Namespace, Task, World, task_called, with_mounts}
+use Rattle.vt_spec.specs.Machine.World.{Namespace, Task, World, mount_numbered, task_called, with_mounts}
 use Rattle.vt_spec.proofs.Lists.{Among, among-filter, among-filter_map, among-from_filter, among-from_filter_map, among_from_list_all, any_among, any_from_among, list_all_from_among, map_same, map_twice, none_among, none_from_among}
 use Rattle.vt_spec.proofs.Options.{none_is_some}
 use Rattle.vt_laws_letting_go.specs.Ends.{MountsAreListed}
 use Rattle.vt_laws_letting_go.proofs.Lists.{filter-map}
 use Rattle.vt_laws_letting_go.proofs.ends.NamespacesEnd.{one_namespace_ends}
 use Rattle.vt_laws_mounts.specs.Mounts.Invariants.{OneNumberEach}
+use Rattle.vt_laws_mounts.proofs.mounts.MountsReplaced.{found_itself}
 use Rattle.vt_laws_part.proofs.part.PartOfPart.{is_own, keep, kept_how, kept_whole}
 use Rattle.vt_laws_members.proofs.judging.Grounds.{nowhere_stands}
 use Rattle.vt_laws_members.proofs.judging.MountPoints.{part_mount}
@@ -29,38 +30,13 @@ use Rattle.vt_laws_members_changes.specs.Changes.{EndAlike, EndsAlike, IsCallOfT
 use Rattle.vt_laws_members_changes.proofs.looks.Told.{ran, same_caller}
 use Rattle.vt_laws_members_changes.proofs.tasks.Retasked.{retasked}
 use Rattle.vt_laws_members_changes.proofs.letting_go.Changed.{parent_of}
-use Rattle.vt_laws_members_changes.proofs.letting_go.CutNamespace.{HasParents, cut_mount, mounts_cut}
-use Rattle.vt_laws_members_changes.proofs.letting_go.EndedPartReady.{ended_part_ready}
-use Rattle.vt_laws_members_changes.proofs.letting_go.EndedRaised.{raised_alike}
-use Rattle.vt_laws_members_changes.proofs.letting_go.EndedReady.{ended_ready}
-use Rattle.vt_laws_members_changes.proofs.letting_go.Ends.{raised_is, raised_sees}
+use Rattle.vt_laws_members_changes.proofs.letting_go.CutNamespace.{HasParents, cut_mount, in_space, mounts_cut}
+use Rattle.vt_laws_members_changes.proofs.letting_go.Detached.{detached_parts}
 use Rattle.vt_laws_members_changes.proofs.letting_go.Leaving.{all_left, in_world, is_task, its_name, member, new_old, old_new, others_left, part_listed, same_left, stays, tasks, tasks_too}
 use Rattle.vt_laws_members_changes.proofs.letting_go.LessSeen.{one_part}
 use Rattle.vt_laws_members_changes.proofs.letting_go.NamespaceLess.{ended, ended_less, ended_part}
 use Rattle.vt_laws_members_changes.proofs.letting_go.Regrouped.{flags_same, regroup_is, regrouped_mount, regrouped_so}
 use Rattle.vt_laws_members_changes.proofs.letting_go.Sweep.{part_of_settled, swept_of}
-
--- the part of a world after the last step
-raised_part : (before w : World ℕ) (set : List TaskName) (name : TaskName)
-    → part_of nat_eq (numbers_raised nat_eq before name [] (settled nat_eq w)) set
-    ≡ record (part_of nat_eq (settled nat_eq w) set) {
-      namespaces = filter (λ (n : Namespace ℕ). is_own_namespace nat_eq w set n.number)
-          (map (raised_namespace nat_eq before (settled nat_eq w)) w.namespaces);
-      tasks = filter (is_member_task set) (map (raised_task name) w.tasks);
-    }
-raised_part before w set name =
-    (λ i. part_of nat_eq (record renamed {
-      filesystems = map_same (raised_if_changed nat_eq []) (settled nat_eq w).filesystems (λ f m. refl) i;
-      tasks = map (raised_task name) w.tasks;
-      change = raised w.change;
-    }) set)
-    ∙ retasked renamed set set (map (raised_task name) w.tasks) (raised w.change)
-    (raised_sees renamed set name (raised w.change))
-  where
-    renamed : World ℕ
-    renamed = record (settled nat_eq w) {
-      namespaces = map (raised_namespace nat_eq before (settled nat_eq w)) w.namespaces;
-    }
 
 -- A world in which one namespace has lost its last task
 module _ (w : World ℕ) (k : ℕ) where
@@ -118,6 +94,16 @@ module _ (world : World ℕ) (names : List TaskName) (name : TaskName) (it : IsC
       any_from_among (λ (t : Task ℕ). nat_eq k t.namespace) old task (member world names name it task called)
       (eq-eqb k k refl)
 
+  own_go : (m : Mount ℕ) → Among m world.mounts → in_space k m ≡ true → is_own world names old m ≡ true
+  own_go m there = by m.namespace
+    where
+      by : (o : Option ℕ) → holds_of (nat_eq k) o ≡ true → holds_of (is_own_namespace nat_eq world names) o ≡ true
+      by None h = absurd (true≢false (sym h))
+      by (Some n) h = ap (is_own_namespace nat_eq world names) (sym (eqb-true k n h)) ∙ theirs_ends
+
+  abbrev lasts : ℕ → Bool
+  lasts n = not (nat_eq k n)
+
   -- other namespaces have the tasks that they had
   still_in : (n : ℕ) → nat_eq k n ≡ false → (list : List (Task ℕ)) → ((t : Task ℕ) → Among t list → Among t world.tasks)
       → list_any (λ (t : Task ℕ). nat_eq n t.namespace) list ≡ true
@@ -144,16 +130,34 @@ module _ (world : World ℕ) (names : List TaskName) (name : TaskName) (it : IsC
       any_from_among (λ (t : Task ℕ). nat_eq n t.namespace) (filter (is_member_task set) rest) at.0
       (old_new world names name it task called at.0 at.1) at.2
 
+  mounts_stay : (m : Mount ℕ) → in_space k m ≡ false → is_own world names old m ≡ true
+      → is_own world names (filter (is_member_task set) rest) m ≡ true
+  mounts_stay m = by m.namespace
+    where
+      by : (o : Option ℕ) → holds_of (nat_eq k) o ≡ false → holds_of (is_own_namespace nat_eq world names) o ≡ true
+          → holds_of (λ n. list_any (λ (t : Task ℕ). nat_eq n t.namespace) (filter (is_member_task set) rest)) o ≡ true
+      by None h own = own
+      by (Some n) h own = still n h own
+
+  parents_stay : (m up : Mount ℕ) (l : Location ℕ) → Among m world.mounts → Among up world.mounts
+      → m.mount_point ≡ Some l → l.mount ≡ up.number → in_space k m ≡ false → in_space k up ≡ false
+  parents_stay m up l at above point on out =
+      let it_is = parent_of world it.is names m l at point in
+      let same : it_is.2 ≡ up =
+      sym (found_itself world.mounts it.is.mounts.one_number it_is.2 it_is.3)
+      ∙ ap (mount_numbered nat_eq world) (sym it_is.4 ∙ on) ∙ found_itself world.mounts it.is.mounts.one_number up above in
+      ap (in_space k) (sym same) ∙ ap (holds_of (nat_eq k)) (it_is.5 ∙ sym it_is.1) ∙ out
+
   abbrev flag : Bool
   flag = list_any (lost_a_group nat_eq (record world { mounts = map (cut_mount k) world.mounts }))
       (map (cut_mount k) world.mounts)
 
   abbrev v : World ℕ
-  v = ended world names it.is it.sealed_off set k theirs_ends rest rest_too world.change part.change
+  v = ended world names it.is it.sealed_off set (in_space k) own_go lasts rest rest_too world.change part.change
       (same_left world names name it task called) (new_old world names name it task called) flag
 
   abbrev v_part : World ℕ
-  v_part = ended_part world names it.is it.sealed_off set k theirs_ends rest rest_too world.change part.change
+  v_part = ended_part world names it.is it.sealed_off set (in_space k) own_go lasts rest rest_too world.change part.change
       (same_left world names name it task called) (new_old world names name it task called) flag
 
   world_ends : namespaces_ended nat_eq (record world { tasks = rest }) ≡ v
@@ -206,7 +210,7 @@ module _ (world : World ℕ) (names : List TaskName) (name : TaskName) (it : IsC
       (among-filter stays_on world.tasks t (in_world world names name it task called t from.0) from.1)))
       (list_all_from_among (λ (n : Namespace ℕ). nat_eq k n.number || has_tasks nat_eq (record part { tasks = rest_too }) n)
       part.namespaces (λ n m. by n m (nat_eq k n.number) refl)) flag
-      (sym (flags_same world names it.is it.sealed_off k theirs_ends))
+      (sym (flags_same world names it.is it.sealed_off (in_space k) own_go))
     where
       by : (n : Namespace ℕ) → Among n part.namespaces → (b : Bool) → nat_eq k n.number ≡ b
           → (nat_eq k n.number || has_tasks nat_eq (record part { tasks = rest_too }) n) ≡ true
@@ -217,42 +221,13 @@ module _ (world : World ℕ) (names : List TaskName) (name : TaskName) (it : IsC
           (among-from_filter (λ (s : Namespace ℕ). list_any (λ (t : Task ℕ). nat_eq s.number t.namespace) old)
           world.namespaces n m).1)
 
-  swept_alike : part_of nat_eq (settled nat_eq v) set ≡ part_of nat_eq (settled nat_eq v_part) set
-  swept_alike =
-      part_of_settled v set (used_filesystems nat_eq v set) (own_lowers nat_eq v set)
-      (ended_ready world names it.is it.sealed_off set k theirs_ends rest rest_too world.change part.change
-      (same_left world names name it task called) (new_old world names name it task called)
-      (others_left world names name it task called) still flag)
-      ∙ sym (ap (swept_of set) (one_part world names it.is set v v_part
-      (ended_less world names it.is it.sealed_off set k theirs_ends rest rest_too world.change part.change
-      (same_left world names name it task called) (new_old world names name it task called) flag)))
-      ∙ sym (part_of_settled v_part set (used_filesystems nat_eq v set) (own_lowers nat_eq v set)
-      (ended_part_ready world names it.is it.sealed_off set k theirs_ends rest rest_too world.change part.change
-      (same_left world names name it task called) (new_old world names name it task called)
-      (all_left world names name it task called) still flag))
-
-  raised_members : (list : List (Task ℕ))
-      → filter (is_member_task set) (map (raised_task name) list) ≡ map (raised_task name) (filter (is_member_task set) list)
-  raised_members list =
-      filter-map (is_member_task set) (raised_task name) list
-      (λ t. ap (λ n. is_among same_name n set) (raised_is name (λ (x : Task ℕ). x.name) (λ x. refl) t))
-
-  abbrev spaces : List (Task ℕ) → Namespace ℕ → Bool
-  spaces ts n = list_any (λ (t : Task ℕ). nat_eq n.number t.namespace) ts
-
   parts : part_of nat_eq (numbers_raised nat_eq world name [] (settled nat_eq v)) set
       ≡ part_of nat_eq (numbers_raised nat_eq part name [] (settled nat_eq v_part)) set
   parts =
-      raised_part world v set name
-      ∙ (λ i. record (swept_alike i) {
-        namespaces = (sym (raised_alike world names it.is it.sealed_off set k theirs_ends rest rest_too world.change
-            part.change (same_left world names name it task called) (new_old world names name it task called) flag)
-            ∙ ap (λ ts. filter (spaces ts) (map (raised_namespace nat_eq part (settled nat_eq v_part)) v_part.namespaces))
-            (sym (same_left world names name it task called))) i;
-        tasks = (raised_members rest ∙ ap (map (raised_task name)) (sym (same_left world names name it task called))
-            ∙ sym (raised_members rest_too)) i;
-      })
-      ∙ sym (raised_part part v_part set name)
+      detached_parts world names it.is it.sealed_off set (in_space k) own_go lasts rest rest_too world.change part.change
+      (same_left world names name it task called) (new_old world names name it task called)
+      (others_left world names name it task called) (all_left world names name it task called) mounts_stay parents_stay
+      flag name
 
   abbrev left_one : World ℕ
   left_one = numbers_raised nat_eq world name [] (settled nat_eq v)

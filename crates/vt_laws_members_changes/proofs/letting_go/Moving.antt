@@ -48,23 +48,23 @@ closes task number = closes_after number (descriptor_at task number (λ descript
 
 module _ (world : World ℕ) (names : List TaskName) (is : IsWorld nat_eq world)
     (sealed_off : sealed nat_eq world names ≡ true) (task : Task ℕ) (member : Among task (members world names)) where
-  abbrev one : Looks ℕ
+  abbrev pub one : Looks ℕ
   one = looks_of nat_eq world
 
-  abbrev other : Looks ℕ
+  abbrev pub other : Looks ℕ
   other = looks_of nat_eq (part_of nat_eq world names)
 
-  abbrev On : ℕ → Type 0
+  abbrev pub On : ℕ → Type 0
   On number = is_theirs world names number ≡ true
 
-  alike : JudgesAlike one other task (is_theirs world names)
+  pub alike : JudgesAlike one other task (is_theirs world names)
       (λ number. is_among nat_eq number (used_filesystems nat_eq world names))
   alike = judges world names is sealed_off task member
 
-  abbrev StandsHere : Here ℕ → Type 0
+  abbrev pub StandsHere : Here ℕ → Type 0
   StandsHere = HereAt one other task On alike.walks alike.directory alike.rules.removed
 
-  at_directory : (path : List ℕ) → IfOk (directory_walk nat_eq one task path) StandsHere
+  pub at_directory : (path : List ℕ) → IfOk (directory_walk nat_eq one task path) StandsHere
   at_directory path = (directory_agrees one other task On alike.walks alike.directory alike.rules.removed path).1
 
   -- The permits of chdir(2) and chroot(2)

@@ -1,4 +1,4 @@
--- Where a namespace of theirs ends with its last task, the tasks that are left see less.
+-- Where mounts of theirs are detached, and tasks and namespaces end, the tasks that are left see less.
 use Rattle.std.proofs.Common.{◌≡◌, refl, sym, ap, subst, ◌∙◌, ◌⊎◌, inl, inr, ⊎_elim, ℕ, nat_eq, Bool, true, false, cond, true≢false, List, [], ◌∷◌, Option, Some, None, filter, is_some, map, not, ◌||◌, ◌&&◌, eqb-true}
 use Rattle.std.specs.List.{filter_map, list_any}
 use Rattle.std.proofs.lemmas.Bool.{and_parts, or_cases, or_left, or_right}
@@ -20,7 +20,7 @@ use Rattle.vt_laws_part.proofs.part.PartOfPart.{is_own, keep}
 use Rattle.vt_laws_members.proofs.judging.Grounds.{IsTheirs, numbered}
 use Rattle.vt_laws_members.proofs.judging.SeenInPart.{directory_theirs, root_theirs}
 use Rattle.vt_laws_members_changes.proofs.letting_go.Changed.{mount_under}
-use Rattle.vt_laws_members_changes.proofs.letting_go.CutNamespace.{cut_mount, in_space}
+use Rattle.vt_laws_members_changes.proofs.letting_go.CutNamespace.{cut_by}
 use Rattle.vt_laws_members_changes.proofs.letting_go.Leaving.{filter_mid}
 use Rattle.vt_laws_members_changes.proofs.letting_go.LessSeen.{AreLess, filter_map_then}
 use Rattle.vt_laws_members_changes.proofs.letting_go.Regrouped.{heard_by_own, left, left_part, master_after, master_alike, mount_alike, regrouped_mount}
@@ -33,11 +33,11 @@ pub record KeepsShape (m y : Mount ℕ) : Type 0 where
   pub root : y.root ≡ m.root
 
 -- a mount where a namespace ends
-abbrev pub ended_mount : Bool → World ℕ → ℕ → Mount ℕ → Mount ℕ
-ended_mount b t k m = regrouped_mount b t (cut_mount k m)
+abbrev pub ended_mount : Bool → World ℕ → (Mount ℕ → Bool) → Mount ℕ → Mount ℕ
+ended_mount b t goes m = regrouped_mount b t (cut_by goes m)
 
-pub shape_kept : (b : Bool) (t : World ℕ) (k : ℕ) (m : Mount ℕ) → KeepsShape m (ended_mount b t k m)
-shape_kept b t k m = by b (in_space k m)
+pub shape_kept : (b : Bool) (t : World ℕ) (goes : Mount ℕ → Bool) (m : Mount ℕ) → KeepsShape m (ended_mount b t goes m)
+shape_kept b t goes m = by b (goes m)
   where
     by : (b c : Bool) → KeepsShape m (regrouped_mount b t (cond c (detached m) m))
     by true true = record { number = refl; filesystem = refl; stub = refl; root = refl }
@@ -46,26 +46,26 @@ shape_kept b t k m = by b (in_space k m)
     by false false = record { number = refl; filesystem = refl; stub = refl; root = refl }
 
 -- it is in no namespace, or in its own, and then at its mount point
-pub placed_so : (b : Bool) (t : World ℕ) (k : ℕ) (m : Mount ℕ)
-    → (((ended_mount b t k m).namespace ≡ None) × ((ended_mount b t k m).mount_point ≡ None) × (in_space k m ≡ true))
-    ⊎ (((ended_mount b t k m).namespace ≡ m.namespace) × ((ended_mount b t k m).mount_point ≡ m.mount_point)
-    × (in_space k m ≡ false))
-placed_so b t k m = by b (in_space k m) refl
+pub placed_so : (b : Bool) (t : World ℕ) (goes : Mount ℕ → Bool) (m : Mount ℕ)
+    → (((ended_mount b t goes m).namespace ≡ None) × ((ended_mount b t goes m).mount_point ≡ None) × (goes m ≡ true))
+    ⊎ (((ended_mount b t goes m).namespace ≡ m.namespace) × ((ended_mount b t goes m).mount_point ≡ m.mount_point)
+    × (goes m ≡ false))
+placed_so b t goes m = by b (goes m) refl
   where
-    by : (b c : Bool) → in_space k m ≡ c
+    by : (b c : Bool) → goes m ≡ c
         → (((regrouped_mount b t (cond c (detached m) m)).namespace ≡ None)
-        × ((regrouped_mount b t (cond c (detached m) m)).mount_point ≡ None) × (in_space k m ≡ true))
+        × ((regrouped_mount b t (cond c (detached m) m)).mount_point ≡ None) × (goes m ≡ true))
         ⊎ (((regrouped_mount b t (cond c (detached m) m)).namespace ≡ m.namespace)
-        × ((regrouped_mount b t (cond c (detached m) m)).mount_point ≡ m.mount_point) × (in_space k m ≡ false))
+        × ((regrouped_mount b t (cond c (detached m) m)).mount_point ≡ m.mount_point) × (goes m ≡ false))
     by true true e = inl (refl, refl, e)
     by true false e = inr (refl, refl, e)
     by false true e = inl (refl, refl, e)
     by false false e = inr (refl, refl, e)
 
 -- a member of a group after was one before
-pub member_was : (b : Bool) (t : World ℕ) (k : ℕ) (g : ℕ) (m : Mount ℕ)
-    → is_member_of nat_eq g (ended_mount b t k m) ≡ true → is_member_of nat_eq g m ≡ true
-member_was b t k g m = by b (in_space k m)
+pub member_was : (b : Bool) (t : World ℕ) (goes : Mount ℕ → Bool) (g : ℕ) (m : Mount ℕ)
+    → is_member_of nat_eq g (ended_mount b t goes m) ≡ true → is_member_of nat_eq g m ≡ true
+member_was b t goes g m = by b (goes m)
   where
     kind_of : (kind : Propagation ℕ) → holds_of (nat_eq g) (group_of (inherited nat_eq t kind)) ≡ true
         → holds_of (nat_eq g) (group_of kind) ≡ true
@@ -86,9 +86,9 @@ member_was b t k g m = by b (in_space k m)
     by false false h = h
 
 -- a private mount, and what a descriptor shows, stay
-private_alike : (b : Bool) (t u : World ℕ) (k : ℕ) (m : Mount ℕ) → is_private m.propagation ≡ true
-    → ended_mount b t k m ≡ ended_mount b u k m
-private_alike b t u k m e = by b (in_space k m) m.propagation refl
+private_alike : (b : Bool) (t u : World ℕ) (goes : Mount ℕ → Bool) (m : Mount ℕ) → is_private m.propagation ≡ true
+    → ended_mount b t goes m ≡ ended_mount b u goes m
+private_alike b t u goes m e = by b (goes m) m.propagation refl
   where
     by : (b c : Bool) (kind : Propagation ℕ) → m.propagation ≡ kind
         → regrouped_mount b t (cond c (detached m) m) ≡ regrouped_mount b u (cond c (detached m) m)
@@ -101,10 +101,16 @@ private_alike b t u k m e = by b (in_space k m) m.propagation refl
     by true false Unbindable f = absurd (true≢false (sym e ∙ ap is_private f))
     by false c kind f = refl
 
-pub stub_stays : (b : Bool) (t : World ℕ) (k : ℕ) (m : Mount ℕ)
-    → ended_mount b t k (seen_by_descriptor m) ≡ seen_by_descriptor m
-stub_stays true t k m = refl
-stub_stays false t k m = refl
+pub stub_stays : (b : Bool) (t : World ℕ) (goes : Mount ℕ → Bool) (m : Mount ℕ)
+    → ended_mount b t goes (seen_by_descriptor m) ≡ seen_by_descriptor m
+stub_stays b t goes m = by b (goes (seen_by_descriptor m))
+  where
+    by : (b c : Bool) → regrouped_mount b t (cond c (detached (seen_by_descriptor m)) (seen_by_descriptor m))
+        ≡ seen_by_descriptor m
+    by true true = refl
+    by true false = refl
+    by false true = refl
+    by false false = refl
 
 source_from : (kind : Propagation ℕ) (g : ℕ) → group_of kind ≡ Some g → source_of kind ≡ Some g
 source_from (Shared h) g e = e
@@ -137,8 +143,10 @@ stands_on world names is m n h =
         (λ none. absurd none) rest) at
 
 module _ (world : World ℕ) (names : List TaskName) (is : IsWorld nat_eq world)
-    (sealed_off : sealed nat_eq world names ≡ true) (set : List TaskName) (k : ℕ)
-    (theirs_ends : is_own_namespace nat_eq world names k ≡ true) (tasks tasks_too : List (Task ℕ))
+    (sealed_off : sealed nat_eq world names ≡ true) (set : List TaskName) (goes : Mount ℕ → Bool)
+    (own_go : (m : Mount ℕ) → Among m world.mounts → goes m ≡ true
+    → is_own world names (members world names) m ≡ true)
+    (lasts : ℕ → Bool) (tasks tasks_too : List (Task ℕ))
     (change change_too : ℕ)
     (same : filter (is_member_task set) tasks_too ≡ filter (is_member_task set) tasks)
     (fewer : (t : Task ℕ) → Among t (filter (is_member_task set) tasks) → Among t (members world names))
@@ -153,19 +161,19 @@ module _ (world : World ℕ) (names : List TaskName) (is : IsWorld nat_eq world)
   new = filter (is_member_task set) tasks
 
   abbrev t_world : World ℕ
-  t_world = left world names is sealed_off k theirs_ends
+  t_world = left world names is sealed_off goes own_go
 
   abbrev t_part : World ℕ
-  t_part = left_part world names is sealed_off k theirs_ends
+  t_part = left_part world names is sealed_off goes own_go
 
   abbrev after : Mount ℕ → Mount ℕ
-  after = ended_mount b t_world k
+  after = ended_mount b t_world goes
 
   abbrev after_part : Mount ℕ → Mount ℕ
-  after_part = ended_mount b t_part k
+  after_part = ended_mount b t_part goes
 
   abbrev stays : Namespace ℕ → Bool
-  stays n = not (nat_eq k n.number)
+  stays n = lasts n.number
 
   abbrev pub ended : World ℕ
   ended = record world {
@@ -217,7 +225,7 @@ module _ (world : World ℕ) (names : List TaskName) (is : IsWorld nat_eq world)
       ∙ ap (holds_of (λ n. list_any (λ (t : Task ℕ). nat_eq n t.namespace) new)) gone.0)))
       (λ stays. let mine = sym (ap (holds_of (λ n. list_any (λ (t : Task ℕ). nat_eq n t.namespace) new)) stays.0) ∙ h in
       (mine, own_was m mine))
-      (placed_so b t_world k m)
+      (placed_so b t_world goes m)
 
   pub place_was : (l : Location ℕ) → Among l (locations new) → Among l (locations old)
   place_was l m =
@@ -244,9 +252,9 @@ module _ (world : World ℕ) (names : List TaskName) (is : IsWorld nat_eq world)
       → (owns old m || stands old m) ≡ true → (owns old m ≡ true) ⊎ (is_private m.propagation ≡ true)
       → after_part m ≡ after m
   whole_alike m n o e whole (inl own) =
-      mount_alike world names is sealed_off k theirs_ends b m
+      mount_alike world names is sealed_off goes own_go b m
       (among-filter (is_own_mount nat_eq world names) world.mounts m n own)
-  whole_alike m n o e whole (inr alone) = private_alike b t_part t_world k m alone
+  whole_alike m n o e whole (inr alone) = private_alike b t_part t_world goes m alone
 
   -- what is kept of a mount that is no more than shown to a descriptor
   abbrev kept_as : Bool → Bool → Mount ℕ → Option (Mount ℕ)
@@ -263,7 +271,7 @@ module _ (world : World ℕ) (names : List TaskName) (is : IsWorld nat_eq world)
       by false f true g =
           absurd (true≢false (sym (or_right (owns old m) (stands old m)
           (stands_was m (ap (λ i. list_any (λ (l : Location ℕ). nat_eq l.mount i) (roots_and_directories new))
-          (sym (shape_kept b t_world k m).number) ∙ g))) ∙ e))
+          (sym (shape_kept b t_world goes m).number) ∙ g))) ∙ e))
       by false f false g = ap (λ c. c || stands new (after m)) f ∙ g
 
   stub_kept : (m : Mount ℕ) → (owns old m || stands old m) ≡ false → keep world names new (after m)
@@ -271,13 +279,13 @@ module _ (world : World ℕ) (names : List TaskName) (is : IsWorld nat_eq world)
   stub_kept m e =
       ap (λ c. kept_as c (at new (after m)) (after m)) (less_whole m e)
       ∙ ap (λ i. when (list_any (λ (l : Location ℕ). nat_eq l.mount i) (locations new)) (seen_by_descriptor (after m)))
-      (shape_kept b t_world k m).number
-      ∙ ap (when (at new m)) (shape_kept b t_world k m).stub
+      (shape_kept b t_world goes m).number
+      ∙ ap (when (at new m)) (shape_kept b t_world goes m).stub
 
   stub_whole : (m : Mount ℕ) → (owns old m || stands old m) ≡ false
       → keep world names new (after_part (seen_by_descriptor m)) ≡ when (at new m) (seen_by_descriptor m)
   stub_whole m e =
-      ap (keep world names new) (stub_stays b t_part k m)
+      ap (keep world names new) (stub_stays b t_part goes m)
       ∙ by (stands new m) refl
     where
       by : (q : Bool) → stands new m ≡ q
@@ -332,20 +340,20 @@ module _ (world : World ℕ) (names : List TaskName) (is : IsWorld nat_eq world)
   pub one_after : OneNumberEach ended
   one_after =
       pair-map (λ (p q : Mount ℕ). nat_eq p.number q.number) (λ (p q : Mount ℕ). nat_eq p.number q.number) after world.mounts
-      (λ p q m n e. ap (λ i. nat_eq i (after q).number) (shape_kept b t_world k p).number
-      ∙ ap (nat_eq p.number) (shape_kept b t_world k q).number ∙ e)
+      (λ p q m n e. ap (λ i. nat_eq i (after q).number) (shape_kept b t_world goes p).number
+      ∙ ap (nat_eq p.number) (shape_kept b t_world goes q).number ∙ e)
       is.mounts.one_number
 
   pub shown_after : (m : Mount ℕ) → Among m world.mounts → (l : Location ℕ) → l.mount ≡ m.number
       → mount_at nat_eq ended l ≡ after m
   shown_after m n l e =
-      ap (mount_numbered nat_eq ended) (e ∙ sym (shape_kept b t_world k m).number)
+      ap (mount_numbered nat_eq ended) (e ∙ sym (shape_kept b t_world goes m).number)
       ∙ found_itself ended.mounts one_after (after m) (among-map after world.mounts m n)
 
   pub filesystem_after : (m : Mount ℕ) → Among m world.mounts → (l : Location ℕ) → l.mount ≡ m.number
       → (mount_at nat_eq ended l).filesystem ≡ (mount_at nat_eq world l).filesystem
   filesystem_after m n l e =
-      ap (λ (x : Mount ℕ). x.filesystem) (shown_after m n l e) ∙ (shape_kept b t_world k m).filesystem
+      ap (λ (x : Mount ℕ). x.filesystem) (shown_after m n l e) ∙ (shape_kept b t_world goes m).filesystem
       ∙ ap (λ (x : Mount ℕ). x.filesystem)
       (sym (ap (mount_numbered nat_eq world) e ∙ found_itself world.mounts is.mounts.one_number m n))
 
@@ -370,7 +378,7 @@ module _ (world : World ℕ) (names : List TaskName) (is : IsWorld nat_eq world)
       let was = own_before from.0 (ap (owns new) (sym from.2) ∙ own.1) in
       among-append_left mounted (map shows (locations old)) n
       (subst (λ i. Among i mounted)
-      (sym (y.2 ∙ ap (λ (x : Mount ℕ). x.filesystem) from.2 ∙ (shape_kept b t_world k from.0).filesystem))
+      (sym (y.2 ∙ ap (λ (x : Mount ℕ). x.filesystem) from.2 ∙ (shape_kept b t_world goes from.0).filesystem))
       (among-map (λ (m : Mount ℕ). m.filesystem) (own_mounts nat_eq world names) from.0
       (among-filter (is_own_mount nat_eq world names) world.mounts from.0 from.1 was.1))))
       (λ placed. let l = among-from_map (λ (l : Location ℕ). (mount_at nat_eq ended l).filesystem) (locations new) n placed in
@@ -390,9 +398,9 @@ module _ (world : World ℕ) (names : List TaskName) (is : IsWorld nat_eq world)
       let own = among-from_filter (owns new) (map after world.mounts) y.0 y.1 in
       let from = among-from_map after world.mounts y.0 own.0 in
       let was = own_before from.0 (ap (owns new) (sym from.2) ∙ own.1) in
-      let is_in = member_was b t_world k group from.0 (ap (is_member_of nat_eq group) (sym from.2) ∙ y.2) in
-      master_alike world names is sealed_off k theirs_ends b group
-      (heard_by_own world names is sealed_off k theirs_ends from.0
+      let is_in = member_was b t_world goes group from.0 (ap (is_member_of nat_eq group) (sym from.2) ∙ y.2) in
+      master_alike world names is sealed_off goes own_go b group
+      (heard_by_own world names is sealed_off goes own_go from.0
       (among-filter (is_own_mount nat_eq world names) world.mounts from.0 from.1 was.1) group
       (source_from from.0.propagation group (member_group group from.0 is_in)))
 

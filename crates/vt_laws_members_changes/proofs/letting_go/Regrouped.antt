@@ -1,7 +1,7 @@
--- Where a namespace of a sealed set ends, groups and masters are left in the part as in the world.
+-- Where mounts of a sealed set are detached, groups and masters are left in the part as in the world.
 use Rattle.std.proofs.Common.{◌≡◌, refl, sym, ap, subst, ◌∙◌, ◌⊎◌, inl, inr, ⊎_elim, ℕ, nat_eq, Bool, true, false, cond, true≢false, List, [], ◌∷◌, Option, Some, None, find, is_some, length, map, not, ◌||◌, ◌&&◌, eqb-true}
 use Rattle.std.specs.List.{list_any}
-use Rattle.std.proofs.lemmas.Bool.{and_parts, not-true}
+use Rattle.std.proofs.lemmas.Bool.{and_parts, false_from_ne_true}
 use Rattle.std.proofs.lemmas.List.{length-map}
 use Rattle.vt_spec.specs.Language.Calls.{TaskName}
 use Rattle.vt_spec.specs.Lists.{chain, holds_of, then_some}
@@ -18,11 +18,11 @@ use Rattle.vt_laws_mounts.proofs.mounts.Receivers.{along_chain}
 use Rattle.vt_laws_part.specs.Seals.{IsApart}
 use Rattle.vt_laws_part.proofs.groups.EventsApart.{Hears, heard_above, members_of, none_hears, sides}
 use Rattle.vt_laws_part.proofs.groups.ReceiversAlike.{Living, OtherLives, member_group, none_other, other_above, own_member, same_up, start_hears}
-use Rattle.vt_laws_part.proofs.part.PartOfPart.{keep, kept_how}
+use Rattle.vt_laws_part.proofs.part.PartOfPart.{is_own, keep, kept_how}
 use Rattle.vt_laws_part.proofs.seals.ByPart.{apart_if_sealed}
 use Rattle.vt_laws_members.proofs.judging.MountPoints.{part_mount}
 use Rattle.vt_laws_members.proofs.judging.MountTrees.{own_whole}
-use Rattle.vt_laws_members_changes.proofs.letting_go.CutNamespace.{cut_mount, in_space}
+use Rattle.vt_laws_members_changes.proofs.letting_go.CutNamespace.{cut_by}
 
 -- a search by tests that agree
 find_alike : (p q : ℕ → Bool) (xs : List ℕ) → ((x : ℕ) → Among x xs → p x ≡ q x) → find p xs ≡ find q xs
@@ -49,6 +49,11 @@ pub regroup_is : (b : Bool) (t : World ℕ) → regrouped_by nat_eq b t ≡ regr
 regroup_is true t = refl
 regroup_is false t = ap (λ l. record t { mounts = l }) (sym (map_itself t.mounts))
 
+-- a namespace is theirs, or it is not
+one_side : (p : ℕ → Bool) (o : Option ℕ) → holds_of p o ≡ true → holds_of (λ i. not (p i)) o ≡ true → ⊥
+one_side p None h g = true≢false (sym h)
+one_side p (Some n) h g = true≢false (sym g ∙ ap not h)
+
 -- a mount without a source has lost no group
 unlost_none : (t : World ℕ) (m : Mount ℕ) → source_of m.propagation ≡ None → lost_a_group nat_eq t m ≡ false
 unlost_none t m e = ap (λ o. is_lost_group nat_eq t o || is_lost_group nat_eq t (then_some o t.master)) e
@@ -66,8 +71,10 @@ member_source Private g e = none_is_some g e
 member_source Unbindable g e = none_is_some g e
 
 module _ (world : World ℕ) (names : List TaskName) (is : IsWorld nat_eq world)
-    (sealed_off : sealed nat_eq world names ≡ true) (k : ℕ)
-    (theirs_ends : is_own_namespace nat_eq world names k ≡ true) where
+    (sealed_off : sealed nat_eq world names ≡ true) (goes : Mount ℕ → Bool)
+    (own_go : (m : Mount ℕ) → Among m world.mounts → goes m ≡ true
+    → is_own world names (members world names) m ≡ true)
+  where
   abbrev pub apart : IsApart world names
   apart = apart_if_sealed world names is sealed_off
 
@@ -81,7 +88,7 @@ module _ (world : World ℕ) (names : List TaskName) (is : IsWorld nat_eq world)
   owns = own_mounts nat_eq world names
 
   abbrev cut : Mount ℕ → Mount ℕ
-  cut = cut_mount k
+  cut = cut_by goes
 
   abbrev pub left : World ℕ
   left = record world { mounts = map cut world.mounts }
@@ -132,7 +139,7 @@ module _ (world : World ℕ) (names : List TaskName) (is : IsWorld nat_eq world)
   -- members that stay
   cut_member : (g : ℕ) (m : Mount ℕ) → is_member_of nat_eq g (cut m) ≡ true
       → (is_member_of nat_eq g m ≡ true) × (cut m ≡ m)
-  cut_member g m = by (in_space k m)
+  cut_member g m = by (goes m)
     where
       by : (b : Bool) → is_member_of nat_eq g (cond b (detached m) m) ≡ true
           → (is_member_of nat_eq g m ≡ true) × (cond b (detached m) m ≡ m)
@@ -209,22 +216,12 @@ module _ (world : World ℕ) (names : List TaskName) (is : IsWorld nat_eq world)
       → lost_a_group nat_eq left m ≡ false
   other_stays m other n = by (source_of m.propagation) refl
     where
-      outside : (m : Mount ℕ) → Among m (other_mounts nat_eq world names) → in_space k m ≡ false
-      outside m o = which m.namespace refl
-        where
-          which : (p : Option ℕ) → m.namespace ≡ p → holds_of (nat_eq k) p ≡ false
-          which None e = refl
-          which (Some j) e = differ (nat_eq k j) refl
-            where
-              differ : (b : Bool) → nat_eq k j ≡ b → b ≡ false
-              differ false f = refl
-              differ true f =
-                  let from = among-from_filter (λ (x : Mount ℕ). holds_of (λ i. not (is_own_namespace nat_eq world names i))
-                  x.namespace) world.mounts m o in
-                  absurd (true≢false (sym theirs_ends
-                  ∙ ap (is_own_namespace nat_eq world names) (eqb-true k j f)
-                  ∙ not-true (is_own_namespace nat_eq world names j)
-                  (sym (ap (holds_of (λ i. not (is_own_namespace nat_eq world names i))) e) ∙ from.1)))
+      outside : (m : Mount ℕ) → Among m (other_mounts nat_eq world names) → goes m ≡ false
+      outside m o =
+          false_from_ne_true (goes m) (λ h.
+          let from = among-from_filter (λ (x : Mount ℕ). holds_of (λ i. not (is_own_namespace nat_eq world names i)) x.namespace)
+          world.mounts m o in
+          one_side (is_own_namespace nat_eq world names) m.namespace (own_go m from.0 h) from.1)
 
       still : (g : ℕ) → OtherLives world names is.mounts apart.events g → has_members nat_eq left.mounts g ≡ true
       still g (heard, lives) =
@@ -254,7 +251,7 @@ module _ (world : World ℕ) (names : List TaskName) (is : IsWorld nat_eq world)
 
   cut_lost : (t : World ℕ) (m : Mount ℕ) → lost_a_group nat_eq t (cut m) ≡ true
       → (cut m ≡ m) × (lost_a_group nat_eq t m ≡ true)
-  cut_lost t m = by (in_space k m)
+  cut_lost t m = by (goes m)
     where
       by : (b : Bool) → lost_a_group nat_eq t (cond b (detached m) m) ≡ true
           → (cond b (detached m) m ≡ m) × (lost_a_group nat_eq t m ≡ true)
@@ -316,7 +313,7 @@ module _ (world : World ℕ) (names : List TaskName) (is : IsWorld nat_eq world)
   -- a mount of theirs after
   pub mount_alike : (b : Bool) (m : Mount ℕ) → Among m owns
       → regrouped_mount b left_part (cut m) ≡ regrouped_mount b left (cut m)
-  mount_alike b m n = by (in_space k m) b
+  mount_alike b m n = by (goes m) b
     where
       by : (c d : Bool) → regrouped_mount d left_part (cond c (detached m) m) ≡ regrouped_mount d left (cond c (detached m) m)
       by true true = refl
