@@ -11,11 +11,13 @@ pub mod Ends
 pub mod ExitLast
 pub mod Exiting
 pub mod Gone
+pub mod Heard
 pub mod Leaving
 pub mod LessSeen
 pub mod Moving
 pub mod NamespaceLess
 pub mod PartFiles
+pub mod PartMounts
 pub mod PartReady
 pub mod Raised
 pub mod Ready

@@ -1,16 +1,13 @@
 -- Calls of tasks of a sealed set that let something go, in the world and in the part of the set (profile).
-use Rattle.std.specs.Prelude.{Contains, List, Ok, Some, false, nat_eq, true, ℕ, ◌≡◌}
+use Rattle.std.specs.Prelude.{Contains, List, nat_eq, true, ℕ, ◌≡◌}
 use Rattle.vt_spec.specs.Language.Calls.{TaskName}
 use Rattle.vt_spec.specs.Language.Calls.Call.{Chdir, Chroot, Close, Exit, Umount}
 use Rattle.vt_spec.specs.Lists.{Fresh}
-use Rattle.vt_spec.specs.Machine.Detach.{going, has_child}
 use Rattle.vt_spec.specs.Machine.Invariants.{IsWorld}
-use Rattle.vt_spec.specs.Machine.Judge.{judge_in}
 use Rattle.vt_spec.specs.Machine.Mounts.{Location}
-use Rattle.vt_spec.specs.Machine.Permits.Permit.{ToUnmount}
 use Rattle.vt_spec.specs.Machine.Sealed.{is_own_namespace, locations, members, outsiders, part_of, roots_and_directories, sealed}
 use Rattle.vt_spec.specs.Machine.Settled.{settled}
-use Rattle.vt_spec.specs.Machine.World.{Task, World, mount_numbered, task_called}
+use Rattle.vt_spec.specs.Machine.World.{Task, World}
 use Rattle.vt_laws_members_changes.specs.Changes.{EndsAlike, IsCallOfTheirs}
 
 -- Each call of close(2) does in the part what it does in the world,
@@ -40,14 +37,11 @@ ExitsEndAlike =
     (world : World ℕ) (names : List TaskName) (name : TaskName) → IsCallOfTheirs world names name Exit
     → (fresh other : Fresh ℕ) → EndsAlike world names name Exit fresh other
 
--- So does a umount(2) that is granted, where no mount that it detaches has a child.
+-- So does each call of umount(2).
 abbrev pub UmountsEndAlike : Type 0
 UmountsEndAlike =
     (world : World ℕ) (names : List TaskName) (name : TaskName) (path : List ℕ)
-    → IsCallOfTheirs world names name (Umount path) → (task : Task ℕ) → task_called world name ≡ Some task
-    → (fresh other : Fresh ℕ) (mount : ℕ) → judge_in nat_eq fresh world task (Umount path) ≡ Ok (ToUnmount mount)
-    → ((gone : ℕ) → Contains (going nat_eq world (mount_numbered nat_eq world mount)) gone
-    → has_child nat_eq world gone ≡ false)
+    → IsCallOfTheirs world names name (Umount path) → (fresh other : Fresh ℕ)
     → EndsAlike world names name (Umount path) fresh other
 
 -- each location of one list is one of the other

@@ -10,11 +10,11 @@ ghost use Rattle.vt_laws_members_changes.specs.LettingGo.{ChdirsEndAlike, Chroot
 /// namespace, the namespace ends in both, and its mounts are detached. The groups and masters of other mounts of theirs
 /// change alike, and so do the change numbers of their namespaces.
 ///
-/// So does a `umount` of one of them that is granted, where no mount that it detaches has a child (`umount`): neither
-/// the named mount nor one that the unmount event reaches has another mount on it.
+/// So does each `umount` of one of them (`umount`). The unmount event reaches the same mounts in both. A mount that covers
+/// one of them takes its mount point.
 ///
-/// After each of these calls the set may see less, and need not be sealed off any more. Not proved yet of `umount` where
-/// the event reaches a mount that another one covers, and of the lazy `umount`.
+/// After each of these calls the set may see less, and need not be sealed off any more. Not proved yet of the lazy
+/// `umount`.
 pub fn calls_of_theirs_that_let_locations_go_end_alike()
     ensures close { ClosesEndAlike }
     ensures chdir { ChdirsEndAlike }

@@ -1,24 +1,24 @@
 -- So is the part, where they are detached in it, too.
-use Rattle.std.proofs.Common.{◌≡◌, refl, sym, ap, subst, ◌∙◌, ◌⊎◌, inl, inr, ⊎_elim, ℕ, nat_eq, Bool, true, false, true≢false, List, Option, Some, None, filter, is_some, eq-eqb}
+use Rattle.std.proofs.Common.{◌≡◌, refl, sym, ap, subst, ◌∙◌, ◌⊎◌, inl, inr, ⊎_elim, ℕ, nat_eq, Bool, true, false, List, Option, Some, None, filter, is_some, eq-eqb}
 use Rattle.std.specs.List.{list_any}
 use Rattle.std.proofs.lemmas.Bool.{or_left, or_right}
 use Rattle.vt_spec.specs.Language.Calls.{TaskName}
 use Rattle.vt_spec.specs.Lists.{holds_of}
-use Rattle.vt_spec.specs.Machine.Invariants.{IsWorld}
+use Rattle.vt_spec.specs.Machine.Detach.{is_going}
+use Rattle.vt_spec.specs.Machine.Invariants.{IsWorld, MountInvariants}
 use Rattle.vt_spec.specs.Machine.Mounts.{Location, Mount}
-use Rattle.vt_spec.specs.Machine.Sealed.{is_at, is_member_task, is_own_namespace, locations, members, own_lowers, part_of, roots_and_directories, sealed, used_filesystems}
+use Rattle.vt_spec.specs.Machine.Sealed.{is_at, is_member_task, locations, members, own_lowers, part_of, roots_and_directories, sealed, used_filesystems}
 use Rattle.vt_spec.specs.Machine.Settled.{is_located, mount_lives, without_dead_mounts}
 use Rattle.vt_spec.specs.Machine.World.{Task, World, all_locations, locations_of}
 use Rattle.vt_spec.proofs.Lists.{Among, among-filter, among-filter_map, among-flat_map, among-from_filter, among-from_filter_map, among-from_flat_map, among-from_map, among-map, any_from_among, pair-filter, pair-map}
 use Rattle.vt_spec.proofs.Options.{none_is_some}
 use Rattle.vt_laws_mounts.specs.Mounts.Invariants.{OneNumberEach}
 use Rattle.vt_laws_part.proofs.part.Observed.{lowers_same, used_same}
-use Rattle.vt_laws_part.proofs.part.PartOfPart.{is_own, keep, kept_how, kept_whole}
+use Rattle.vt_laws_part.proofs.part.PartOfPart.{is_own, keep, kept_how}
 use Rattle.vt_laws_sealed.proofs.outsiders.SeenLater.{shown_at}
-use Rattle.vt_laws_members.proofs.judging.Grounds.{nowhere_stands}
 use Rattle.vt_laws_members.proofs.judging.MountPoints.{part_mount}
 use Rattle.vt_laws_members.proofs.judging.MountTrees.{part_one_number}
-use Rattle.vt_laws_members_changes.proofs.letting_go.Changed.{parent_of}
+use Rattle.vt_laws_members_changes.proofs.letting_go.Changed.{mount_parent}
 use Rattle.vt_laws_members_changes.proofs.letting_go.LessSeen.{AreLess, less_lowers, less_used}
 use Rattle.vt_laws_members_changes.proofs.letting_go.NamespaceLess.{KeepsShape, ended, ended_less, ended_mount, ended_part, place_was, placed_old, placed_so, shape_kept}
 use Rattle.vt_laws_members_changes.proofs.letting_go.PartFiles.{cut_in_part, numbers_in_part, plain_in_part}
@@ -27,19 +27,20 @@ use Rattle.vt_laws_members_changes.proofs.letting_go.Regrouped.{left_part}
 use Rattle.vt_laws_members_changes.proofs.letting_go.WorldReady.{sees_living}
 
 module _ (world : World ℕ) (names : List TaskName) (is : IsWorld nat_eq world)
-    (sealed_off : sealed nat_eq world names ≡ true) (set : List TaskName) (goes : Mount ℕ → Bool)
-    (own_go : (m : Mount ℕ) → Among m world.mounts → goes m ≡ true
+    (sealed_off : sealed nat_eq world names ≡ true) (set : List TaskName) (gone : List ℕ)
+    (own_go : (m : Mount ℕ) → Among m world.mounts → is_going nat_eq gone m.number ≡ true
     → is_own world names (members world names) m ≡ true)
     (lasts : ℕ → Bool) (tasks tasks_too : List (Task ℕ))
     (change change_too : ℕ)
     (same : filter (is_member_task set) tasks_too ≡ filter (is_member_task set) tasks)
     (fewer : (t : Task ℕ) → Among t (filter (is_member_task set) tasks) → Among t (members world names))
     (all : (t : Task ℕ) → Among t tasks_too → is_member_task set t ≡ true)
-    (still : (m : Mount ℕ) → goes m ≡ false → is_own world names (members world names) m ≡ true
-    → is_own world names (filter (is_member_task set) tasks) m ≡ true)
-    (parents_stay : (m up : Mount ℕ) (l : Location ℕ) → Among m world.mounts → Among up world.mounts
-    → m.mount_point ≡ Some l → l.mount ≡ up.number → goes m ≡ false → goes up ≡ false)
-    (b : Bool) where
+    (still : (m : Mount ℕ) → Among m world.mounts → is_going nat_eq gone m.number ≡ false
+    → is_own world names (members world names) m ≡ true → is_own world names (filter (is_member_task set) tasks) m
+    ≡ true)
+    (b : Bool)
+    (kept_there : MountInvariants nat_eq
+    (ended_part world names is sealed_off set gone own_go lasts tasks tasks_too change change_too same fewer b)) where
   abbrev part : World ℕ
   part = part_of nat_eq world names
 
@@ -54,35 +55,30 @@ module _ (world : World ℕ) (names : List TaskName) (is : IsWorld nat_eq world)
 
   abbrev after_world : World ℕ
   after_world =
-      ended world names is sealed_off set goes own_go lasts tasks tasks_too change change_too same fewer b
+      ended world names is sealed_off set gone own_go lasts tasks tasks_too change change_too same fewer b
 
   abbrev after_part : World ℕ
   after_part =
-      ended_part world names is sealed_off set goes own_go lasts tasks tasks_too change change_too same fewer b
+      ended_part world names is sealed_off set gone own_go lasts tasks tasks_too change change_too same fewer b
 
   less : AreLess world names set after_world after_part
-  less = ended_less world names is sealed_off set goes own_go lasts tasks tasks_too change change_too same fewer b
+  less = ended_less world names is sealed_off set gone own_go lasts tasks tasks_too change change_too same fewer b
 
   abbrev t_part : World ℕ
-  t_part = left_part world names is sealed_off goes own_go
+  t_part = left_part world names is sealed_off gone own_go
 
   abbrev after : Mount ℕ → Mount ℕ
-  after = ended_mount b t_part goes
+  after = ended_mount b t_part part gone
 
   abbrev living : World ℕ
   living = without_dead_mounts nat_eq after_part
 
   shape : (m : Mount ℕ) → KeepsShape m (after m)
-  shape m = shape_kept b t_part goes m
+  shape m = shape_kept b t_part part gone m
 
   was : (y : Mount ℕ) → Among y living.mounts → (z : Mount ℕ) × Among z part.mounts × (y ≡ after z)
   was y n =
       among-from_map after part.mounts y (among-from_filter (mount_lives nat_eq after_part) after_part.mounts y n).0
-
-  attached_lives : (z : Mount ℕ) (n : ℕ) → Among z part.mounts → (after z).namespace ≡ Some n → Among (after z) living.mounts
-  attached_lives z n at e =
-      among-filter (mount_lives nat_eq after_part) after_part.mounts (after z) (among-map after part.mounts z at)
-      (or_left (is_some (after z).namespace) (is_located nat_eq after_part (after z).number) (ap is_some e))
 
   located_lives : (z : Mount ℕ) (l : Location ℕ) → Among z part.mounts → Among l (all_locations after_part)
       → l.mount ≡ (after z).number → Among (after z) living.mounts
@@ -95,7 +91,8 @@ module _ (world : World ℕ) (names : List TaskName) (is : IsWorld nat_eq world)
   one_living : OneNumberEach living
   one_living =
       pair-filter (λ (p q : Mount ℕ). nat_eq p.number q.number) (mount_lives nat_eq after_part) after_part.mounts
-      (pair-map (λ (p q : Mount ℕ). nat_eq p.number q.number) (λ (p q : Mount ℕ). nat_eq p.number q.number) after part.mounts
+      (pair-map (λ (p q : Mount ℕ). nat_eq p.number q.number)
+      (λ (p q : Mount ℕ). nat_eq p.number q.number) after part.mounts
       (λ p q m n e. ap (λ i. nat_eq i (after q).number) (shape p).number
       ∙ ap (nat_eq p.number) (shape q).number ∙ e)
       (part_one_number world names is))
@@ -107,11 +104,14 @@ module _ (world : World ℕ) (names : List TaskName) (is : IsWorld nat_eq world)
 
   located_so : (l : Location ℕ) → Among l (locations new) → (y : Mount ℕ) × Among y living.mounts × (l.mount ≡ y.number)
   located_so l m =
-      let before = place_was world names is sealed_off set goes own_go lasts tasks tasks_too change change_too same fewer b l
+      let before = place_was world names is sealed_off set gone own_go lasts
+      tasks tasks_too change change_too same fewer b l
       (subst (λ ts. Among l (locations ts)) same m) in
-      let on = placed_old world names is sealed_off set goes own_go lasts tasks tasks_too change change_too same fewer b l
+      let on = placed_old world names is sealed_off set gone own_go lasts
+      tasks tasks_too change change_too same fewer b l
       before in
-      let shown = shown_at world names on.0 (any_from_among (λ (p : Location ℕ). nat_eq p.mount on.0.number) (locations old) l
+      let shown = shown_at world names on.0
+      (any_from_among (λ (p : Location ℕ). nat_eq p.mount on.0.number) (locations old) l
       before (eq-eqb l.mount on.0.number on.2)) in
       let there = among-filter_map kept world.mounts on.0 shown.0 on.1 shown.1 in
       let t = among-from_flat_map locations_of new l m in
@@ -119,75 +119,49 @@ module _ (world : World ℕ) (names : List TaskName) (is : IsWorld nat_eq world)
       on.2 ∙ sym (number_kept on.0 shown.0 shown.1) ∙ sym (shape shown.0).number in (
         after shown.0,
         located_lives shown.0 l there
-            (among-flat_map locations_of tasks_too t.0 l (among-from_filter (is_member_task set) tasks_too t.0 t.1).0 t.2)
+            (among-flat_map locations_of tasks_too t.0 l
+            (among-from_filter (is_member_task set) tasks_too t.0 t.1).0 t.2)
             number,
         number,
       )
-
-  -- a mount of the part with a mount point is theirs, and stands in the world
-  whole_point : (z : Mount ℕ) (l : Location ℕ) → Among z part.mounts → z.mount_point ≡ Some l
-      → Among z world.mounts × (is_own world names old z ≡ true)
-  whole_point z l n point =
-      let from = among-from_filter_map kept world.mounts z n in
-      ⊎_elim
-      (λ its. let there = subst (λ q. Among q world.mounts) its from.1 in
-      (there, ⊎_elim (λ own. own) (λ none. absurd (nowhere_stands world names is.mounts z l there none point))
-      (part_mount world names is from.0 z from.1 from.2)))
-      (λ stub. none_is_some l (ap (λ (q : Mount ℕ). q.mount_point) stub.0 ∙ point))
-      (kept_how world names old from.0 z from.2)
-
-  own_whole : (u : Mount ℕ) → Among u world.mounts → is_own world names old u ≡ true → Among u part.mounts
-  own_whole u n own =
-      among-filter_map kept world.mounts u u n
-      (kept_whole world names old u (or_left (is_own world names old u) (is_at nat_eq (roots_and_directories old) u) own))
 
   parents_so : (y : Mount ℕ) (l : Location ℕ) → Among y living.mounts → y.mount_point ≡ Some l
       → (n : ℕ) × (y.namespace ≡ Some n) × (u : Mount ℕ) × Among u living.mounts × (l.mount ≡ u.number)
       × (u.namespace ≡ Some n)
   parents_so y l n point =
-      let from = was y n in by from.0 from.1 from.2 (placed_so b t_part goes from.0)
-    where
-      by : (z : Mount ℕ) → Among z part.mounts → y ≡ after z
-          → (((after z).namespace ≡ None) × ((after z).mount_point ≡ None) × (goes z ≡ true))
-          ⊎ (((after z).namespace ≡ z.namespace) × ((after z).mount_point ≡ z.mount_point) × (goes z ≡ false))
-          → (n : ℕ) × (y.namespace ≡ Some n) × (u : Mount ℕ) × Among u living.mounts × (l.mount ≡ u.number)
-          × (u.namespace ≡ Some n)
-      by z at e (inl gone) =
-          none_is_some l (sym gone.1 ∙ ap (λ (q : Mount ℕ). q.mount_point) (sym e) ∙ point)
-      by z at e (inr stays) =
-          let its : z.mount_point ≡ Some l = sym stays.1 ∙ ap (λ (q : Mount ℕ). q.mount_point) (sym e) ∙ point in
-          let whole = whole_point z l at its in
-          let up = parent_of world is names z l whole.0 its in
-          let own : is_own world names old up.2 ≡ true =
-          ap (holds_of (λ i. list_any (λ (t : Task ℕ). nat_eq i t.namespace) old)) (up.5 ∙ sym up.1) ∙ whole.1 in
-          let outside = parents_stay z up.2 l whole.0 up.3 its up.4 stays.2 in
-          let placed : (after up.2).namespace ≡ Some up.0 =
-          ⊎_elim (λ gone. absurd (true≢false (sym gone.2 ∙ outside))) (λ its. its.0 ∙ up.5) (placed_so b t_part goes up.2) in (
-            up.0,
-            ap (λ (q : Mount ℕ). q.namespace) e ∙ stays.0 ∙ up.1,
-            after up.2,
-            attached_lives up.2 up.0 (own_whole up.2 up.3 own) placed,
-            up.4 ∙ sym (shape up.2).number,
-            placed,
-          )
+      let up = mount_parent after_part kept_there y l
+      (among-from_filter (mount_lives nat_eq after_part) after_part.mounts y n).0 point in (
+        up.0,
+        up.1,
+        up.2,
+        among-filter (mount_lives nat_eq after_part) after_part.mounts up.2 up.3
+            (or_left (is_some up.2.namespace) (is_located nat_eq after_part up.2.number) (ap is_some up.5)),
+        up.4,
+        up.5,
+      )
 
   -- a mount of theirs is theirs after, or in no namespace
-  own_after : (z : Mount ℕ) → is_own world names old z ≡ true → (is_own world names new (after z) ≡ true) ⊎ ((after z).namespace ≡ None)
-  own_after z own =
-      ⊎_elim (λ gone. inr gone.0)
+  own_after : (z : Mount ℕ) → Among z world.mounts → is_own world names old z ≡ true →
+      (is_own world names new (after z) ≡ true) ⊎ ((after z).namespace ≡ None)
+  own_after z at own =
+      ⊎_elim (λ out. inr out.0)
       (λ stays. inl (ap (λ ts. is_own world names ts (after z)) same
       ∙ ap (holds_of (λ i. list_any (λ (t : Task ℕ). nat_eq i t.namespace) (filter (is_member_task set) tasks))) stays.0
-      ∙ still z stays.2 own))
-      (placed_so b t_part goes z)
+      ∙ still z at stays.2 own))
+      (placed_so b t_part part gone z)
 
   none_after : (z : Mount ℕ) → z.namespace ≡ None → (after z).namespace ≡ None
-  none_after z e = ⊎_elim (λ gone. gone.0) (λ stays. stays.0 ∙ e) (placed_so b t_part goes z)
+  none_after z e = ⊎_elim (λ out. out.0) (λ stays. stays.0 ∙ e) (placed_so b t_part part gone z)
 
   in_or_out : (z : Mount ℕ) → Among z part.mounts
       → (is_own world names new (after z) ≡ true) ⊎ ((after z).namespace ≡ None)
   in_or_out z n =
       let from = among-from_filter_map kept world.mounts z n in
-      ⊎_elim (own_after z) (λ none. inr (none_after z none)) (part_mount world names is from.0 z from.1 from.2)
+      ⊎_elim
+      (λ same. ⊎_elim (own_after z (subst (λ q. Among q world.mounts) same from.1)) (λ none. inr (none_after z none))
+      (part_mount world names is from.0 z from.1 from.2))
+      (λ stub. inr (none_after z (ap (λ (q : Mount ℕ). q.namespace) (sym stub.0))))
+      (kept_how world names old from.0 z from.2)
 
   alone : (number : ℕ) → NoOthers living set number
   alone number = record {

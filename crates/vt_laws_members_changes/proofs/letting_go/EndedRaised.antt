@@ -1,33 +1,33 @@
 -- Where mounts of theirs are detached, the change numbers of namespaces are raised alike.
-use Rattle.std.proofs.Common.{◌≡◌, refl, sym, ap, subst, ◌∙◌, ◌⊎◌, inl, inr, ⊎_elim, ℕ, nat_eq, Bool, true, false, cond, true≢false, List, [], ◌∷◌, Option, Some, None, filter, find, is_some, map, not, ◌||◌, ◌&&◌, eqb-true}
+use Rattle.std.proofs.Common.{◌≡◌, refl, sym, ap, subst, ◌∙◌, ◌⊎◌, inl, inr, ⊎_elim, ℕ, nat_eq, Bool, true, false, cond, true≢false, List, [], ◌∷◌, Option, Some, None, filter, is_some, map, ◌&&◌}
 use Rattle.std.specs.List.{cons_option, filter_map, list_any}
-use Rattle.std.proofs.lemmas.Bool.{and_parts, or_left}
+use Rattle.std.proofs.lemmas.Bool.{or_left}
 use Rattle.std.proofs.lemmas.List.{length-map}
 use Rattle.std.proofs.lemmas.Option.{same_Some}
 use Rattle.vt_spec.specs.Language.Calls.{TaskName}
 use Rattle.vt_spec.specs.Lists.{chain, holds_of, same_list, same_option, then_some}
-use Rattle.vt_spec.specs.Machine.Filesystems.{raised, raised_if_changed}
+use Rattle.vt_spec.specs.Machine.Detach.{after_going, is_going}
+use Rattle.vt_spec.specs.Machine.Filesystems.{raised}
 use Rattle.vt_spec.specs.Machine.Invariants.{IsWorld}
-use Rattle.vt_spec.specs.Machine.Mounts.{Mount, Propagation, detached, group_of, same_location, source_of}
+use Rattle.vt_spec.specs.Machine.Mounts.{Mount, Propagation, group_of, same_location, source_of}
 use Rattle.vt_spec.specs.Machine.Mounts.Propagation.{Private, Shared, Slave, Unbindable}
 use Rattle.vt_spec.specs.Machine.Policy.{master_above, raised_namespace, same_flags, same_mount, same_mounts_in, same_propagation}
 use Rattle.vt_spec.specs.Machine.Receives.{groups_up, has_members, heir, inherited, is_member_of, slave_of_heir}
-use Rattle.vt_spec.specs.Machine.Sealed.{is_at, is_member_task, is_own_mount, is_own_namespace, locations, members, own_mounts, part_of, roots_and_directories, sealed, seen_by_descriptor}
+use Rattle.vt_spec.specs.Machine.Sealed.{is_member_task, is_own_mount, members, own_mounts, part_of, sealed}
 use Rattle.vt_spec.specs.Machine.Settled.{is_located, mount_lives, settled}
 use Rattle.vt_spec.specs.Machine.World.{Namespace, Task, World, mounts_of}
 use Rattle.vt_spec.proofs.Found.{found_among}
-use Rattle.vt_spec.proofs.Lists.{Among, among-filter, among-filter_map, among-from_filter, among-from_map, among-map, any_among, any_from_among, map_alike, map_same}
+use Rattle.vt_spec.proofs.Lists.{Among, among-filter, among-filter_map, among-from_filter, among-from_map, among-map, any_among, any_from_among, map_alike}
 use Rattle.vt_spec.proofs.Options.{none_is_some}
 use Rattle.vt_spec.proofs.Truths.{same_truth}
 use Rattle.vt_laws_letting_go.proofs.Lists.{filter-map}
-use Rattle.vt_laws_part.proofs.Kept.{filter_both}
 use Rattle.vt_laws_part.proofs.groups.EventsApart.{none_hears, sides}
 use Rattle.vt_laws_part.proofs.groups.ReceiversAlike.{member_group}
-use Rattle.vt_laws_part.proofs.part.PartOfPart.{is_own, keep, kept_how, kept_whole}
-use Rattle.vt_laws_members_changes.proofs.letting_go.CutNamespace.{cut_by}
+use Rattle.vt_laws_part.proofs.part.PartOfPart.{is_own, keep, kept_how}
+use Rattle.vt_laws_members_changes.proofs.letting_go.Heard.{IsHeard, apart, heard_by_own, master_same, own_in, own_kept, part_source, space_in_part, up_heard}
 use Rattle.vt_laws_members_changes.proofs.letting_go.Leaving.{filter_mid}
-use Rattle.vt_laws_members_changes.proofs.letting_go.NamespaceLess.{ended, ended_mount, ended_part, entered_was, member_was, placed_so, stub_stays}
-use Rattle.vt_laws_members_changes.proofs.letting_go.Regrouped.{IsHeard, apart, heard_by_own, left, left_part, master_after, master_alike, master_same, mount_alike, part_source, regrouped_mount, up_heard}
+use Rattle.vt_laws_members_changes.proofs.letting_go.NamespaceLess.{ended, ended_by, ended_mount, ended_part, entered_was, member_was, placed_so, stub_stays}
+use Rattle.vt_laws_members_changes.proofs.letting_go.Regrouped.{left, left_part, master_alike, mount_alike}
 use Rattle.vt_laws_members_changes.proofs.letting_go.SeeLess.{filter_less}
 
 -- lists whose elements are compared alike
@@ -69,22 +69,23 @@ kept_alike p f g k (x ∷ xs) pass fail =
         ∙ sym (ap (λ b. cond b (f x ∷ filter p (map f xs)) (filter p (map f xs))) h)
 
 -- the namespace of a mount after does not depend on the groups
-space_same : (b : Bool) (t u : World ℕ) (goes : Mount ℕ → Bool) (m : Mount ℕ)
-    → (ended_mount b t goes m).namespace ≡ (ended_mount b u goes m).namespace
-space_same b t u goes m = by b (goes m)
+space_same : (b : Bool) (t u w x : World ℕ) (gone : List ℕ) (m : Mount ℕ)
+    → (ended_mount b t w gone m).namespace ≡ (ended_mount b u x gone m).namespace
+space_same b t u w x gone m = by b (is_going nat_eq gone m.number)
   where
-    by : (b c : Bool) → (regrouped_mount b t (cond c (detached m) m)).namespace
-        ≡ (regrouped_mount b u (cond c (detached m) m)).namespace
+    by : (b c : Bool) → (ended_by b c t w gone m).namespace ≡ (ended_by b c u x gone m).namespace
     by true true = refl
     by true false = refl
-    by false c = refl
+    by false true = refl
+    by false false = refl
 
 -- the group of a mount after
-kind_after : (b : Bool) (t : World ℕ) (goes : Mount ℕ → Bool) (m : Mount ℕ) → goes m ≡ false
-    → (ended_mount b t goes m).propagation ≡ cond b (inherited nat_eq t m.propagation) m.propagation
-kind_after b t goes m e = ap (λ c. (regrouped_mount b t (cond c (detached m) m)).propagation) e ∙ by b
+kind_after : (b : Bool) (t w : World ℕ) (gone : List ℕ) (m : Mount ℕ) → is_going nat_eq gone m.number ≡ false
+    → (ended_mount b t w gone m).propagation ≡ cond b (inherited nat_eq t m.propagation) m.propagation
+kind_after b t w gone m e = ap (λ c. (ended_by b c t w gone m).propagation) e ∙ by b
   where
-    by : (b : Bool) → (regrouped_mount b t m).propagation ≡ cond b (inherited nat_eq t m.propagation) m.propagation
+    by : (b : Bool) → (ended_by b false t w gone m).propagation ≡ cond b
+        (inherited nat_eq t m.propagation) m.propagation
     by true = refl
     by false = refl
 
@@ -102,8 +103,8 @@ raised_number before after n = by (same_mounts_in nat_eq before after n.number)
     by false = refl
 
 module _ (world : World ℕ) (names : List TaskName) (is : IsWorld nat_eq world)
-    (sealed_off : sealed nat_eq world names ≡ true) (set : List TaskName) (goes : Mount ℕ → Bool)
-    (own_go : (m : Mount ℕ) → Among m world.mounts → goes m ≡ true
+    (sealed_off : sealed nat_eq world names ≡ true) (set : List TaskName) (gone : List ℕ)
+    (own_go : (m : Mount ℕ) → Among m world.mounts → is_going nat_eq gone m.number ≡ true
     → is_own world names (members world names) m ≡ true)
     (lasts : ℕ → Bool) (tasks tasks_too : List (Task ℕ))
     (change change_too : ℕ)
@@ -126,22 +127,22 @@ module _ (world : World ℕ) (names : List TaskName) (is : IsWorld nat_eq world)
   kept = keep world names old
 
   abbrev v : World ℕ
-  v = ended world names is sealed_off set goes own_go lasts tasks tasks_too change change_too same fewer b
+  v = ended world names is sealed_off set gone own_go lasts tasks tasks_too change change_too same fewer b
 
   abbrev v_part : World ℕ
-  v_part = ended_part world names is sealed_off set goes own_go lasts tasks tasks_too change change_too same fewer b
+  v_part = ended_part world names is sealed_off set gone own_go lasts tasks tasks_too change change_too same fewer b
 
   abbrev t_world : World ℕ
-  t_world = left world names is sealed_off goes own_go
+  t_world = left world names is sealed_off gone own_go
 
   abbrev t_part : World ℕ
-  t_part = left_part world names is sealed_off goes own_go
+  t_part = left_part world names is sealed_off gone own_go
 
   abbrev after : Mount ℕ → Mount ℕ
-  after = ended_mount b t_world goes
+  after = ended_mount b t_world world gone
 
   abbrev after_part : Mount ℕ → Mount ℕ
-  after_part = ended_mount b t_part goes
+  after_part = ended_mount b t_part part gone
 
   abbrev u : World ℕ
   u = settled nat_eq v
@@ -150,21 +151,13 @@ module _ (world : World ℕ) (names : List TaskName) (is : IsWorld nat_eq world)
   u_part = settled nat_eq v_part
 
   abbrev Heard : ℕ → Type 0
-  Heard g = IsHeard world names is sealed_off goes own_go g
+  Heard g = IsHeard world names is sealed_off g
 
   abbrev its_in : ℕ → Mount ℕ → Bool
   its_in n m = holds_of (nat_eq n) m.namespace
 
   abbrev is_theirs : ℕ → Bool
   is_theirs n = list_any (λ (t : Task ℕ). nat_eq n t.namespace) old
-
-  -- a mount in a namespace of theirs is theirs
-  own_in : (n : ℕ) → is_theirs n ≡ true → (m : Mount ℕ) → its_in n m ≡ true → is_own world names old m ≡ true
-  own_in n own m = by m.namespace
-    where
-      by : (o : Option ℕ) → holds_of (nat_eq n) o ≡ true → holds_of is_theirs o ≡ true
-      by None h = absurd (true≢false (sym h))
-      by (Some j) h = ap is_theirs (sym (eqb-true n j h)) ∙ own
 
   attached : (n : ℕ) (m : Mount ℕ) → its_in n m ≡ true → is_some m.namespace ≡ true
   attached n m = by m.namespace
@@ -176,41 +169,32 @@ module _ (world : World ℕ) (names : List TaskName) (is : IsWorld nat_eq world)
   mine : (m : Mount ℕ) → Among m world.mounts → is_own world names old m ≡ true → Among m owns
   mine m n own = among-filter (is_own_mount nat_eq world names) world.mounts m n own
 
-  whole : (m : Mount ℕ) → is_own world names old m ≡ true → kept m ≡ Some m
-  whole m own =
-      kept_whole world names old m
-      (or_left (is_own world names old m) (is_at nat_eq (roots_and_directories old) m) own)
-
-  -- mounts of a namespace of theirs, before
-  mounts_before : (n : ℕ) → is_theirs n ≡ true → mounts_of nat_eq part n ≡ mounts_of nat_eq world n
-  mounts_before n own =
-      filter_both kept (its_in n) (its_in n) world.mounts
-      (λ m at h. (whole m (own_in n own m h), h))
-      (λ m y at h e. ⊎_elim (λ same. ap (its_in n) (sym same) ∙ h) (λ stub. ap (its_in n) (sym stub.0))
-      (kept_how world names old m y e))
-
   -- and after
   settled_mounts : (w : World ℕ) (n : ℕ) → mounts_of nat_eq (settled nat_eq w) n ≡ filter (its_in n) w.mounts
   settled_mounts w n =
       filter_less (its_in n) (mount_lives nat_eq w) w.mounts
       (λ m h. or_left (is_some m.namespace) (is_located nat_eq w m.number) (attached n m h))
 
-  after_in : (n : ℕ) (m : Mount ℕ) → its_in n (after m) ≡ true → (its_in n m ≡ true) × (goes m ≡ false)
+  after_in : (n : ℕ) (m : Mount ℕ) → its_in n (after m) ≡ true → (its_in n m ≡ true)
+      × (is_going nat_eq gone m.number ≡ false)
   after_in n m h =
       ⊎_elim (λ gone. absurd (true≢false (sym h ∙ ap (holds_of (nat_eq n)) gone.0)))
-      (λ stays. (sym (ap (holds_of (nat_eq n)) stays.0) ∙ h, stays.2)) (placed_so b t_world goes m)
+      (λ stays. (sym (ap (holds_of (nat_eq n)) stays.0) ∙ h, stays.2)) (placed_so b t_world world gone m)
 
   mounts_after : (n : ℕ) → is_theirs n ≡ true → mounts_of nat_eq u_part n ≡ mounts_of nat_eq u n
   mounts_after n own =
       settled_mounts v_part n
       ∙ kept_alike (its_in n) after after_part kept world.mounts
-      (λ m at h. let own_one = own_in n own m (after_in n m h).0 in
-      (whole m own_one, mount_alike world names is sealed_off goes own_go b m (mine m at own_one)))
+      (λ m at h. let own_one = own_in world names is sealed_off n own m (after_in n m h).0 in (
+        own_kept world names is sealed_off m own_one,
+        mount_alike world names is sealed_off gone own_go b m
+            (mine m at own_one),
+      ))
       (λ m y at h e. ⊎_elim
       (λ same. ap (λ (q : Mount ℕ). its_in n (after_part q)) (sym same)
-      ∙ ap (holds_of (nat_eq n)) (space_same b t_part t_world goes m) ∙ h)
+      ∙ ap (holds_of (nat_eq n)) (space_same b t_part t_world part world gone m) ∙ h)
       (λ stub. ap (λ (q : Mount ℕ). its_in n (after_part q)) (sym stub.0)
-      ∙ ap (its_in n) (stub_stays b t_part goes m))
+      ∙ ap (its_in n) (stub_stays b t_part part gone m))
       (kept_how world names old m y e))
       ∙ sym (settled_mounts v n)
 
@@ -221,44 +205,44 @@ module _ (world : World ℕ) (names : List TaskName) (is : IsWorld nat_eq world)
       by : (o : Option ℕ) → source_of m.propagation ≡ o → then_some o part.master ≡ then_some o world.master
       by None e = refl
       by (Some g) e =
-          master_same world names is sealed_off goes own_go g (heard_by_own world names is sealed_off goes own_go m n g e)
+          master_same world names is sealed_off g (heard_by_own world names is sealed_off m n g e)
 
   -- the source of a mount of theirs after is heard
-  heard_after : (m : Mount ℕ) → Among m owns → goes m ≡ false → (g : ℕ)
+  heard_after : (m : Mount ℕ) → Among m owns → is_going nat_eq gone m.number ≡ false → (g : ℕ)
       → source_of (after m).propagation ≡ Some g → Heard g
   heard_after m n out g e =
-      by b m.propagation refl (sym (ap source_of (kind_after b t_world goes m out)) ∙ e)
+      by b m.propagation refl (sym (ap source_of (kind_after b t_world world gone m out)) ∙ e)
     where
       from_heir : (s : ℕ) → Heard s → (o : Option ℕ) → heir nat_eq t_world (Some s) ≡ o
           → source_of (slave_of_heir o) ≡ Some g → Heard g
       from_heir s heard None f h = none_is_some g h
       from_heir s heard (Some above) f h =
           subst Heard (same_Some above g h)
-          (up_heard world names is sealed_off goes own_go s above heard
+          (up_heard world names is sealed_off s above heard
           (subst (Among above) (ap (λ i. chain i world.master s)
-          (length-map world.mounts (cut_by goes)))
+          (length-map world.mounts (after_going nat_eq world gone)))
           (found_among (has_members nat_eq t_world.mounts) (groups_up t_world s) above f)))
 
       by : (b : Bool) (kind : Propagation ℕ) → m.propagation ≡ kind
           → source_of (cond b (inherited nat_eq t_world m.propagation) m.propagation) ≡ Some g → Heard g
-      by false kind f h = heard_by_own world names is sealed_off goes own_go m n g h
+      by false kind f h = heard_by_own world names is sealed_off m n g h
       by true (Shared s) f h =
-          heard_by_own world names is sealed_off goes own_go m n g
+          heard_by_own world names is sealed_off m n g
           (ap source_of f ∙ sym (ap (λ q. source_of (inherited nat_eq t_world q)) f) ∙ h)
       by true (Slave s) f h =
-          from_heir s (heard_by_own world names is sealed_off goes own_go m n s (ap source_of f))
+          from_heir s (heard_by_own world names is sealed_off m n s (ap source_of f))
           (heir nat_eq t_world (Some s)) refl
           (sym (ap (λ q. source_of (inherited nat_eq t_world q)) f) ∙ h)
       by true Private f h = none_is_some g (sym (ap (λ q. source_of (inherited nat_eq t_world q)) f) ∙ h)
       by true Unbindable f h = none_is_some g (sym (ap (λ q. source_of (inherited nat_eq t_world q)) f) ∙ h)
 
   -- a member after is in its namespace
-  member_placed : (t : World ℕ) (g : ℕ) (m : Mount ℕ) → is_member_of nat_eq g (ended_mount b t goes m) ≡ true
-      → (ended_mount b t goes m).namespace ≡ m.namespace
-  member_placed t g m = by b (goes m)
+  member_placed : (t w : World ℕ) (g : ℕ) (m : Mount ℕ) → is_member_of nat_eq g (ended_mount b t w gone m) ≡ true
+      → (ended_mount b t w gone m).namespace ≡ m.namespace
+  member_placed t w g m = by b (is_going nat_eq gone m.number)
     where
-      by : (b c : Bool) → is_member_of nat_eq g (regrouped_mount b t (cond c (detached m) m)) ≡ true
-          → (regrouped_mount b t (cond c (detached m) m)).namespace ≡ m.namespace
+      by : (b c : Bool) → is_member_of nat_eq g (ended_by b c t w gone m) ≡ true
+          → (ended_by b c t w gone m).namespace ≡ m.namespace
       by true true h = absurd (true≢false (sym h))
       by true false h = refl
       by false true h = absurd (true≢false (sym h))
@@ -279,50 +263,52 @@ module _ (world : World ℕ) (names : List TaskName) (is : IsWorld nat_eq world)
       let lives = among-from_filter (mount_lives nat_eq v_part) v_part.mounts y.0 y.1 in
       let z = among-from_map after_part part.mounts y.0 lives.0 in
       let is_in = ap (is_member_of nat_eq g) (sym z.2) ∙ y.2 in
-      let was = member_was b t_part goes g z.0 is_in in
-      let own = part_source world names is sealed_off goes own_go z.0 z.1 g
+      let was = member_was b t_part part gone g z.0 is_in in
+      let own = part_source world names is sealed_off z.0 z.1 g
       (member_source z.0.propagation g (member_group g z.0 was)) in
       let from = among-from_filter (is_own_mount nat_eq world names) world.mounts z.0 own in
-      let alike = mount_alike world names is sealed_off goes own_go b z.0 own in
-      lives_on v t_world z.0 (among-map after world.mounts z.0 from.0)
+      let alike = mount_alike world names is sealed_off gone own_go b z.0 own in
+      lives_on v t_world world z.0 (among-map after world.mounts z.0 from.0)
       (ap (is_member_of nat_eq g) (sym alike) ∙ is_in) from.1)
       (λ h. let y = any_among (is_member_of nat_eq g) u.mounts h in
       let lives = among-from_filter (mount_lives nat_eq v) v.mounts y.0 y.1 in
       let z = among-from_map after world.mounts y.0 lives.0 in
       let is_in = ap (is_member_of nat_eq g) (sym z.2) ∙ y.2 in
-      let was = member_was b t_world goes g z.0 is_in in
+      let was = member_was b t_world world gone g z.0 is_in in
       let own = its_own z.0 z.1 was in
       let from = among-from_filter (is_own_mount nat_eq world names) world.mounts z.0 own in
-      let alike = mount_alike world names is sealed_off goes own_go b z.0 own in
-      lives_on v_part t_part z.0
+      let alike = mount_alike world names is sealed_off gone own_go b z.0 own in
+      lives_on v_part t_part part z.0
       (among-map after_part part.mounts z.0
-      (among-filter_map kept world.mounts z.0 z.0 from.0 (whole z.0 from.1)))
+      (among-filter_map kept world.mounts z.0 z.0 from.0 (own_kept world names is sealed_off z.0 from.1)))
       (ap (is_member_of nat_eq g) alike ∙ is_in) from.1)
     where
       its_own : (m : Mount ℕ) → Among m world.mounts → is_member_of nat_eq g m ≡ true → Among m owns
       its_own m n was =
           ⊎_elim (λ own. own)
-          (λ other. absurd (none_hears world names is.mounts (apart world names is sealed_off goes own_go).events g m heard.0
+          (λ other. absurd (none_hears world names is.mounts (apart world names is sealed_off).events g m heard.0
           other was))
-          (sides world names is.mounts (apart world names is sealed_off goes own_go).events m g n (member_group g m was))
+          (sides world names is.mounts (apart world names is sealed_off).events m g n (member_group g m was))
 
-      lives_on : (w t : World ℕ) (m : Mount ℕ) → Among (ended_mount b t goes m) w.mounts
-          → is_member_of nat_eq g (ended_mount b t goes m) ≡ true → is_own world names old m ≡ true
+      lives_on : (w t x : World ℕ) (m : Mount ℕ) → Among (ended_mount b t x gone m) w.mounts
+          → is_member_of nat_eq g (ended_mount b t x gone m) ≡ true → is_own world names old m ≡ true
           → list_any (is_member_of nat_eq g) (filter (mount_lives nat_eq w) w.mounts) ≡ true
-      lives_on w t m there is_in own =
-          any_from_among (is_member_of nat_eq g) (filter (mount_lives nat_eq w) w.mounts) (ended_mount b t goes m)
-          (among-filter (mount_lives nat_eq w) w.mounts (ended_mount b t goes m) there
-          (or_left (is_some (ended_mount b t goes m).namespace) (is_located nat_eq w (ended_mount b t goes m).number)
-          (ap is_some (member_placed t g m is_in) ∙ placed_own m own))) is_in
+      lives_on w t x m there is_in own =
+          any_from_among (is_member_of nat_eq g) (filter (mount_lives nat_eq w) w.mounts) (ended_mount b t x gone m)
+          (among-filter (mount_lives nat_eq w) w.mounts (ended_mount b t x gone m) there
+          (or_left (is_some (ended_mount b t x gone m).namespace)
+          (is_located nat_eq w (ended_mount b t x gone m).number)
+          (ap is_some (member_placed t x g m is_in) ∙ placed_own m own))) is_in
 
   -- so has its master
   settled_master : (g : ℕ) → Heard g → u_part.master g ≡ u.master g
   settled_master g heard =
       ap (λ c. cond c (v_part.master g) None) (members_after g heard)
       ∙ ap (λ o. cond (has_members nat_eq u.mounts g) o None)
-      (master_alike world names is sealed_off goes own_go b g heard)
+      (master_alike world names is sealed_off gone own_go b g heard)
 
-  above_after : (m : Mount ℕ) → Among m owns → goes m ≡ false → master_above u_part (after m) ≡ master_above u (after m)
+  above_after : (m : Mount ℕ) → Among m owns → is_going nat_eq gone m.number ≡ false → master_above u_part
+      (after m) ≡ master_above u (after m)
   above_after m n out = by (source_of (after m).propagation) refl
     where
       by : (o : Option ℕ) → source_of (after m).propagation ≡ o → then_some o u_part.master ≡ then_some o u.master
@@ -332,7 +318,8 @@ module _ (world : World ℕ) (names : List TaskName) (is : IsWorld nat_eq world)
   -- the mounts of a namespace of theirs changed in both, or in none
   spaces_alike : (n : ℕ) → is_theirs n ≡ true → same_mounts_in nat_eq part u_part n ≡ same_mounts_in nat_eq world u n
   spaces_alike n own =
-      ap (λ l. same_list (same_mount nat_eq part u_part) l (mounts_of nat_eq u_part n)) (mounts_before n own)
+      ap (λ l. same_list (same_mount nat_eq part u_part) l (mounts_of nat_eq u_part n))
+      (space_in_part world names is sealed_off n own)
       ∙ ap (same_list (same_mount nat_eq part u_part) (mounts_of nat_eq world n)) (mounts_after n own)
       ∙ same_list_alike (same_mount nat_eq part u_part) (same_mount nat_eq world u) (mounts_of nat_eq world n)
       (mounts_of nat_eq u n)
@@ -342,9 +329,9 @@ module _ (world : World ℕ) (names : List TaskName) (is : IsWorld nat_eq world)
       (subst (Among y) (settled_mounts v n) l) in
       let from = among-from_map after world.mounts y second.0 in
       let its = after_in n from.0 (ap (its_in n) (sym from.2) ∙ second.1) in
-      compared x y (above_before x (mine x first.0 (own_in n own x first.1)))
+      compared x y (above_before x (mine x first.0 (own_in world names is sealed_off n own x first.1)))
       (subst (λ (q : Mount ℕ). master_above u_part q ≡ master_above u q) (sym from.2)
-      (above_after from.0 (mine from.0 from.1 (own_in n own from.0 its.0)) its.1)))
+      (above_after from.0 (mine from.0 from.1 (own_in world names is sealed_off n own from.0 its.0)) its.1)))
     where
       same_ones : Mount ℕ → Mount ℕ → Bool
       same_ones x y =
@@ -371,12 +358,14 @@ module _ (world : World ℕ) (names : List TaskName) (is : IsWorld nat_eq world)
       (λ n. ap (λ i. list_any (λ (t : Task ℕ). nat_eq i t.namespace) new) (raised_number part u_part n))
       ∙ ap (map (raised_namespace nat_eq part u_part))
       (filter_mid (spaces new) stays (spaces old) world.namespaces (λ n h.
-      entered_was world names is sealed_off set goes own_go lasts tasks tasks_too change change_too same fewer b n.number h))
+      entered_was world names is sealed_off set gone own_go lasts
+      tasks tasks_too change change_too same fewer b n.number h))
       ∙ map_alike (raised_namespace nat_eq part u_part) (raised_namespace nat_eq world u)
       (filter (spaces new) (filter stays world.namespaces))
       (λ n m. ap (λ c. cond c n (record n { change = raised n.change }))
       (spaces_alike n.number
-      (entered_was world names is sealed_off set goes own_go lasts tasks tasks_too change change_too same fewer b n.number
+      (entered_was world names is sealed_off set gone own_go lasts
+      tasks tasks_too change change_too same fewer b n.number
       (among-from_filter (spaces new) (filter stays world.namespaces) n m).1)))
       ∙ sym (filter-map (spaces new) (raised_namespace nat_eq world u) v.namespaces
       (λ n. ap (λ i. list_any (λ (t : Task ℕ). nat_eq i t.namespace) new) (raised_number world u n)))

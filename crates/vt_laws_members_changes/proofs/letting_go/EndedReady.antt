@@ -1,24 +1,25 @@
 -- Where mounts of theirs are detached, the world is ready to be swept.
 use Rattle.std.proofs.Common.{◌≡◌, refl, sym, ap, subst, ◌∙◌, ◌⊎◌, inl, inr, ⊎_elim, ℕ, nat_eq, Bool, true, false, true≢false, List, Option, Some, None, filter, is_some, not, ◌||◌, eq-eqb}
+use Rattle.std.specs.Prelude.{option_map}
 use Rattle.std.specs.List.{list_all, list_any}
 use Rattle.std.proofs.lemmas.Bool.{and_parts, not-true, or_cases, or_left, or_right}
 use Rattle.vt_spec.specs.Language.Calls.{TaskName}
 use Rattle.vt_spec.specs.Lists.{holds_of}
-use Rattle.vt_spec.specs.Machine.Invariants.{IsWorld}
+use Rattle.vt_spec.specs.Machine.Detach.{is_going, mount_point_left}
+use Rattle.vt_spec.specs.Machine.Invariants.{IsWorld, MountInvariants}
 use Rattle.vt_spec.specs.Machine.Locked.{overlays}
 use Rattle.vt_spec.specs.Machine.Mounts.{Location, Mount}
 use Rattle.vt_spec.specs.Machine.Sealed.{is_at, is_member_task, is_own_namespace, locations, members, no_outsider_on, other_mounts, outsiders, own_lowers, roots_and_directories, sealed, used_alone, used_filesystems, wholly_locked}
 use Rattle.vt_spec.specs.Machine.Settled.{has_layer_on, is_located, mount_lives, without_dead_mounts}
 use Rattle.vt_spec.specs.Machine.World.{Filesystem, Task, World, all_locations, is_overlay, locations_of, mount_at, mount_numbered}
 use Rattle.vt_spec.proofs.Lists.{Among, among-filter, among-flat_map, among-from_filter, among-from_flat_map, among-from_map, among-map, among_from_list_all, among_numbers, any_among, any_from_among, none_among, pair-filter}
-use Rattle.vt_spec.proofs.Options.{none_is_some}
 use Rattle.vt_laws_mounts.specs.Mounts.Invariants.{OneNumberEach}
 use Rattle.vt_laws_mounts.proofs.mounts.MountsReplaced.{found_itself}
 use Rattle.vt_laws_part.proofs.part.Observed.{lowers_same, used_same}
 use Rattle.vt_laws_part.proofs.part.PartOfPart.{is_own}
 use Rattle.vt_laws_part.proofs.seals.ByPart.{used_are_free}
 use Rattle.vt_laws_members.proofs.judging.Grounds.{nowhere_stands}
-use Rattle.vt_laws_members_changes.proofs.letting_go.Changed.{mount_under, parent_of}
+use Rattle.vt_laws_members_changes.proofs.letting_go.Changed.{mount_under, mount_parent}
 use Rattle.vt_laws_members_changes.proofs.letting_go.LessSeen.{used_was}
 use Rattle.vt_laws_members_changes.proofs.letting_go.NamespaceLess.{KeepsShape, ended, ended_less, ended_mount, ended_part, one_after, place_was, placed_old, placed_so, root_was, shape_kept, stands_on}
 use Rattle.vt_laws_members_changes.proofs.letting_go.Ready.{Alone, NoOthers, Ready, layered_overlay}
@@ -26,8 +27,8 @@ use Rattle.vt_laws_members_changes.proofs.letting_go.Regrouped.{left}
 use Rattle.vt_laws_members_changes.proofs.letting_go.WorldReady.{all_named_there, plain_in, sees_living, whole_cut}
 
 module _ (world : World ℕ) (names : List TaskName) (is : IsWorld nat_eq world)
-    (sealed_off : sealed nat_eq world names ≡ true) (set : List TaskName) (goes : Mount ℕ → Bool)
-    (own_go : (m : Mount ℕ) → Among m world.mounts → goes m ≡ true
+    (sealed_off : sealed nat_eq world names ≡ true) (set : List TaskName) (gone : List ℕ)
+    (own_go : (m : Mount ℕ) → Among m world.mounts → is_going nat_eq gone m.number ≡ true
     → is_own world names (members world names) m ≡ true)
     (lasts : ℕ → Bool) (tasks tasks_too : List (Task ℕ))
     (change change_too : ℕ)
@@ -35,11 +36,12 @@ module _ (world : World ℕ) (names : List TaskName) (is : IsWorld nat_eq world)
     (fewer : (t : Task ℕ) → Among t (filter (is_member_task set) tasks) → Among t (members world names))
     (others : (l : Location ℕ) → Among l (locations (filter (λ t. not (is_member_task set t)) tasks))
     → Among l (locations (outsiders world names)))
-    (still : (m : Mount ℕ) → goes m ≡ false → is_own world names (members world names) m ≡ true
-    → is_own world names (filter (is_member_task set) tasks) m ≡ true)
-    (parents_stay : (m up : Mount ℕ) (l : Location ℕ) → Among m world.mounts → Among up world.mounts
-    → m.mount_point ≡ Some l → l.mount ≡ up.number → goes m ≡ false → goes up ≡ false)
-    (b : Bool) where
+    (still : (m : Mount ℕ) → Among m world.mounts → is_going nat_eq gone m.number ≡ false
+    → is_own world names (members world names) m ≡ true → is_own world names (filter (is_member_task set) tasks) m
+    ≡ true)
+    (b : Bool)
+    (kept : MountInvariants nat_eq
+    (ended world names is sealed_off set gone own_go lasts tasks tasks_too change change_too same fewer b)) where
   abbrev old : List (Task ℕ)
   old = members world names
 
@@ -48,10 +50,10 @@ module _ (world : World ℕ) (names : List TaskName) (is : IsWorld nat_eq world)
 
   abbrev after_world : World ℕ
   after_world =
-      ended world names is sealed_off set goes own_go lasts tasks tasks_too change change_too same fewer b
+      ended world names is sealed_off set gone own_go lasts tasks tasks_too change change_too same fewer b
 
   abbrev after : Mount ℕ → Mount ℕ
-  after = ended_mount b (left world names is sealed_off goes own_go) goes
+  after = ended_mount b (left world names is sealed_off gone own_go) world gone
 
   abbrev living : World ℕ
   living = without_dead_mounts nat_eq after_world
@@ -59,11 +61,6 @@ module _ (world : World ℕ) (names : List TaskName) (is : IsWorld nat_eq world)
   was : (y : Mount ℕ) → Among y living.mounts → (m : Mount ℕ) × Among m world.mounts × (y ≡ after m)
   was y n =
       among-from_map after world.mounts y (among-from_filter (mount_lives nat_eq after_world) after_world.mounts y n).0
-
-  attached_lives : (m : Mount ℕ) (n : ℕ) → Among m world.mounts → (after m).namespace ≡ Some n → Among (after m) living.mounts
-  attached_lives m n at e =
-      among-filter (mount_lives nat_eq after_world) after_world.mounts (after m) (among-map after world.mounts m at)
-      (or_left (is_some (after m).namespace) (is_located nat_eq after_world (after m).number) (ap is_some e))
 
   located_lives : (m : Mount ℕ) (l : Location ℕ) → Among m world.mounts → Among l (all_locations after_world)
       → l.mount ≡ m.number → Among (after m) living.mounts
@@ -74,7 +71,7 @@ module _ (world : World ℕ) (names : List TaskName) (is : IsWorld nat_eq world)
       (eq-eqb (after m).number l.mount (number m ∙ sym e))))
     where
       number : (m : Mount ℕ) → (after m).number ≡ m.number
-      number m = (shape_kept b (left world names is sealed_off goes own_go) goes m).number
+      number m = (shape_kept b (left world names is sealed_off gone own_go) world gone m).number
 
   of_all : (l : Location ℕ) → Among l (locations new) → Among l (all_locations after_world)
   of_all l m =
@@ -82,33 +79,38 @@ module _ (world : World ℕ) (names : List TaskName) (is : IsWorld nat_eq world)
       among-flat_map locations_of tasks t.0 l (among-from_filter (is_member_task set) tasks t.0 t.1).0 t.2
 
   shape : (m : Mount ℕ) → KeepsShape m (after m)
-  shape m = shape_kept b (left world names is sealed_off goes own_go) goes m
+  shape m = shape_kept b (left world names is sealed_off gone own_go) world gone m
 
   one_living : OneNumberEach living
   one_living =
       pair-filter (λ (p q : Mount ℕ). nat_eq p.number q.number) (mount_lives nat_eq after_world) after_world.mounts
-      (one_after world names is sealed_off set goes own_go lasts tasks tasks_too change change_too same fewer b)
+      (one_after world names is sealed_off set gone own_go lasts tasks tasks_too change change_too same fewer b)
 
   -- a mount in a namespace of theirs is theirs after, or in none
-  own_after : (m : Mount ℕ) (n : ℕ) → m.namespace ≡ Some n → is_own_namespace nat_eq world names n ≡ true
+  own_after : (m : Mount ℕ) (n : ℕ) → Among m world.mounts → m.namespace ≡ Some n
+      → is_own_namespace nat_eq world names n ≡ true
       → (is_own world names new (after m) ≡ true) ⊎ ((after m).namespace ≡ None)
-  own_after m n e own =
-      ⊎_elim (λ gone. inr gone.0)
+  own_after m n at e own =
+      ⊎_elim (λ out. inr out.0)
       (λ stays. inl (ap (holds_of (λ i. list_any (λ (t : Task ℕ). nat_eq i t.namespace) new)) stays.0
-      ∙ still m stays.2 (ap (holds_of (is_own_namespace nat_eq world names)) e ∙ own)))
-      (placed_so b (left world names is sealed_off goes own_go) goes m)
+      ∙ still m at stays.2 (ap (holds_of (is_own_namespace nat_eq world names)) e ∙ own)))
+      (placed_so b (left world names is sealed_off gone own_go) world gone m)
 
   none_after : (m : Mount ℕ) → m.namespace ≡ None → (after m).namespace ≡ None
   none_after m e =
-      ⊎_elim (λ gone. gone.0) (λ stays. stays.0 ∙ e) (placed_so b (left world names is sealed_off goes own_go) goes m)
+      ⊎_elim (λ out. out.0) (λ stays. stays.0 ∙ e)
+      (placed_so b (left world names is sealed_off gone own_go) world gone m)
 
   -- where others have no foothold
   module _ (number : ℕ) (none : no_outsider_on nat_eq world names number ≡ true) where
     abbrev nobody : (list_any (λ (m : Mount ℕ). nat_eq number m.filesystem) (other_mounts nat_eq world names) ≡ false)
-        × (list_any (λ l. nat_eq number (mount_at nat_eq world l).filesystem) (locations (outsiders world names)) ≡ false)
+        × (list_any (λ l. nat_eq number (mount_at nat_eq world l).filesystem) (locations (outsiders world names))
+        ≡ false)
     nobody =
-        let both = and_parts (not (list_any (λ (m : Mount ℕ). nat_eq number m.filesystem) (other_mounts nat_eq world names)))
-        (not (list_any (λ l. nat_eq number (mount_at nat_eq world l).filesystem) (locations (outsiders world names)))) none in
+        let both = and_parts (not
+        (list_any (λ (m : Mount ℕ). nat_eq number m.filesystem) (other_mounts nat_eq world names)))
+        (not (list_any (λ l. nat_eq number (mount_at nat_eq world l).filesystem)
+        (locations (outsiders world names)))) none in
         (not-true _ both.0, not-true _ both.1)
 
     by_mount : (m : Mount ℕ) → Among m world.mounts → m.filesystem ≡ number → (o : Option ℕ) → m.namespace ≡ o
@@ -118,7 +120,7 @@ module _ (world : World ℕ) (names : List TaskName) (is : IsWorld nat_eq world)
       where
         which : (c : Bool) → is_own_namespace nat_eq world names j ≡ c
             → (is_own world names new (after m) ≡ true) ⊎ ((after m).namespace ≡ None)
-        which true own = own_after m j f own
+        which true own = own_after m j n f own
         which false other =
             absurd (true≢false
             (sym (eq-eqb number m.filesystem (sym e))
@@ -177,7 +179,8 @@ module _ (world : World ℕ) (names : List TaskName) (is : IsWorld nat_eq world)
         overlays = λ merged m has. no_others merged.number (by both.1 merged m has);
       }
     where
-      by : list_all (λ merged. not (has_layer_on nat_eq number merged) || no_outsider_on nat_eq world names merged.number)
+      by : list_all (λ merged. not (has_layer_on nat_eq number merged)
+          || no_outsider_on nat_eq world names merged.number)
           (overlays world) ≡ true → (merged : Filesystem ℕ) → Among merged world.filesystems
           → has_layer_on nat_eq number merged ≡ true → no_outsider_on nat_eq world names merged.number ≡ true
       by all merged m has =
@@ -189,39 +192,25 @@ module _ (world : World ℕ) (names : List TaskName) (is : IsWorld nat_eq world)
 
   located_so : (l : Location ℕ) → Among l (locations new) → (y : Mount ℕ) × Among y living.mounts × (l.mount ≡ y.number)
   located_so l m =
-      let on = placed_old world names is sealed_off set goes own_go lasts tasks tasks_too change change_too same fewer b l
-      (place_was world names is sealed_off set goes own_go lasts tasks tasks_too change change_too same fewer b l m) in
+      let on = placed_old world names is sealed_off set gone own_go lasts
+      tasks tasks_too change change_too same fewer b l
+      (place_was world names is sealed_off set gone own_go lasts tasks tasks_too change change_too same fewer b l m) in
       (after on.0, located_lives on.0 l on.1 (of_all l m) on.2, on.2 ∙ sym (shape on.0).number)
 
   parents_so : (y : Mount ℕ) (l : Location ℕ) → Among y living.mounts → y.mount_point ≡ Some l
       → (n : ℕ) × (y.namespace ≡ Some n) × (u : Mount ℕ) × Among u living.mounts × (l.mount ≡ u.number)
       × (u.namespace ≡ Some n)
   parents_so y l n point =
-      let from = was y n in
-      by from.0 from.1 from.2 (placed_so b (left world names is sealed_off goes own_go) goes from.0)
-    where
-      by : (m : Mount ℕ) → Among m world.mounts → y ≡ after m
-          → (((after m).namespace ≡ None) × ((after m).mount_point ≡ None) × (goes m ≡ true))
-          ⊎ (((after m).namespace ≡ m.namespace) × ((after m).mount_point ≡ m.mount_point) × (goes m ≡ false))
-          → (n : ℕ) × (y.namespace ≡ Some n) × (u : Mount ℕ) × Among u living.mounts × (l.mount ≡ u.number)
-          × (u.namespace ≡ Some n)
-      by m at e (inl gone) =
-          none_is_some l (sym gone.1 ∙ ap (λ (q : Mount ℕ). q.mount_point) (sym e) ∙ point)
-      by m at e (inr stays) =
-          let up = parent_of world is names m l at
-          (sym stays.1 ∙ ap (λ (q : Mount ℕ). q.mount_point) (sym e) ∙ point) in
-          let outside = parents_stay m up.2 l at up.3 (sym stays.1 ∙ ap (λ (q : Mount ℕ). q.mount_point) (sym e) ∙ point)
-          up.4 stays.2 in
-          let placed : (after up.2).namespace ≡ Some up.0 =
-          ⊎_elim (λ gone. absurd (true≢false (sym gone.2 ∙ outside))) (λ its. its.0 ∙ up.5)
-          (placed_so b (left world names is sealed_off goes own_go) goes up.2) in (
-            up.0,
-            ap (λ (q : Mount ℕ). q.namespace) e ∙ stays.0 ∙ up.1,
-            after up.2,
-            attached_lives up.2 up.0 up.3 placed,
-            up.4 ∙ sym (shape up.2).number,
-            placed,
-          )
+      let up = mount_parent after_world kept y l
+      (among-from_filter (mount_lives nat_eq after_world) after_world.mounts y n).0 point in (
+        up.0,
+        up.1,
+        up.2,
+        among-filter (mount_lives nat_eq after_world) after_world.mounts up.2 up.3
+            (or_left (is_some up.2.namespace) (is_located nat_eq after_world up.2.number) (ap is_some up.5)),
+        up.4,
+        up.5,
+      )
 
   stood_so : (y : Mount ℕ) → Among y living.mounts → is_at nat_eq (roots_and_directories new) y ≡ true
       → (is_own world names new y ≡ true) ⊎ (y.mount_point ≡ None)
@@ -230,7 +219,7 @@ module _ (world : World ℕ) (names : List TaskName) (is : IsWorld nat_eq world)
       let l = any_among (λ (p : Location ℕ). nat_eq p.mount y.number) (roots_and_directories new) h in
       let stands : is_at nat_eq (roots_and_directories old) from.0 ≡ true =
       any_from_among (λ (p : Location ℕ). nat_eq p.mount from.0.number) (roots_and_directories old) l.0
-      (root_was world names is sealed_off set goes own_go lasts tasks tasks_too change change_too same fewer b l.0 l.1)
+      (root_was world names is sealed_off set gone own_go lasts tasks tasks_too change change_too same fewer b l.0 l.1)
       (ap (nat_eq l.0.mount) (sym (ap (λ (q : Mount ℕ). q.number) from.2 ∙ (shape from.0).number)) ∙ l.2) in
       subst (λ (q : Mount ℕ). (is_own world names new q ≡ true) ⊎ (q.mount_point ≡ None)) (sym from.2)
       (by from.0 from.1 (stands_on world names is from.0 from.1 stands) from.0.namespace refl from.0.mount_point refl)
@@ -239,15 +228,15 @@ module _ (world : World ℕ) (names : List TaskName) (is : IsWorld nat_eq world)
           → (o : Option ℕ) → m.namespace ≡ o → (p : Option (Location ℕ)) → m.mount_point ≡ p
           → (is_own world names new (after m) ≡ true) ⊎ ((after m).mount_point ≡ None)
       by m at how o e None f =
-          inr (⊎_elim (λ gone. gone.1) (λ stays. stays.1 ∙ f)
-          (placed_so b (left world names is sealed_off goes own_go) goes m))
+          inr (⊎_elim (λ out. out.1) (λ stays. stays.1 ∙ ap (option_map (mount_point_left nat_eq world gone)) f)
+          (placed_so b (left world names is sealed_off gone own_go) world gone m))
       by m at (inr none) o e (Some l) f = absurd (nowhere_stands world names is.mounts m l at none f)
       by m at (inl own) None e (Some l) f = absurd (nowhere_stands world names is.mounts m l at e f)
       by m at (inl own) (Some j) e (Some l) f =
-          ⊎_elim (λ gone. inr gone.1)
+          ⊎_elim (λ out. inr out.1)
           (λ stays. inl (ap (holds_of (λ i. list_any (λ (t : Task ℕ). nat_eq i t.namespace) new)) stays.0
-          ∙ still m stays.2 own))
-          (placed_so b (left world names is sealed_off goes own_go) goes m)
+          ∙ still m at stays.2 own))
+          (placed_so b (left world names is sealed_off gone own_go) world gone m)
 
   pub ended_ready : Ready living set (used_filesystems nat_eq after_world set) (own_lowers nat_eq after_world set)
   ended_ready = record {
@@ -265,8 +254,8 @@ module _ (world : World ℕ) (names : List TaskName) (is : IsWorld nat_eq world)
         (used_are_free world names sealed_off x.number
         (among_numbers (used_filesystems nat_eq world names) x.number
         (used_was world names is set after_world
-        (ended_part world names is sealed_off set goes own_go lasts tasks tasks_too change change_too same fewer b)
-        (ended_less world names is sealed_off set goes own_go lasts tasks tasks_too change change_too same fewer b)
+        (ended_part world names is sealed_off set gone own_go lasts tasks tasks_too change change_too same fewer b)
+        (ended_less world names is sealed_off set gone own_go lasts tasks tasks_too change change_too same fewer b)
         x.number u))));
     cut = λ x m unused low. whole_cut world is (own_lowers nat_eq after_world set) x m;
   }

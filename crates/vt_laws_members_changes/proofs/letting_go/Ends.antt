@@ -143,7 +143,8 @@ let_go_alike world names set name call it task called fresh other answer stays t
         (part_ready world names it.is it.sealed_off set tasks tasks_too world.change part.change lets same all))
 
     raised_members : (list : List (Task ℕ))
-        → filter (is_member_task set) (map (raised_task name) list) ≡ map (raised_task name) (filter (is_member_task set) list)
+        → filter (is_member_task set) (map (raised_task name) list) ≡ map (raised_task name)
+        (filter (is_member_task set) list)
     raised_members list =
         filter-map (is_member_task set) (raised_task name) list
         (λ t. ap (λ n. is_among same_name n set) (raised_is name (λ (x : Task ℕ). x.name) (λ x. refl) t))

@@ -1,66 +1,59 @@
 -- An exit of the last task of its namespace ends in the part as in the world: the mounts of the namespace are detached.
-use Rattle.std.proofs.Common.{◌≡◌, refl, sym, ap, subst, ◌∙◌, ⊎_elim, ℕ, nat_eq, Bool, true, false, cond, true≢false, List, [], Option, Some, None, Ok, filter, map, not, ◌||◌, eq-eqb, eqb-true}
+use Rattle.std.proofs.Common.{◌≡◌, refl, sym, ap, subst, ◌∙◌, ℕ, nat_eq, Bool, true, false, true≢false, List, [], Option, Some, None, filter, map, not, ◌||◌, eq-eqb, eqb-true}
 use Rattle.std.specs.List.{list_all, list_any}
 use Rattle.std.proofs.lemmas.Bool.{or_left, or_right}
 use Rattle.vt_spec.specs.Language.Answers.Answer.{Done}
 use Rattle.vt_spec.specs.Language.Calls.{TaskName, same_name}
 use Rattle.vt_spec.specs.Language.Calls.Call.{Exit}
-use Rattle.vt_spec.specs.Lists.{Fresh, holds_of, is_among}
-use Rattle.vt_spec.specs.Machine.Filesystems.{raised, raised_if_changed}
-use Rattle.vt_spec.specs.Machine.Mounts.{Location, Mount}
+use Rattle.vt_spec.specs.Lists.{Fresh, holds_of}
+use Rattle.vt_spec.specs.Machine.Detach.{after_going, is_going, taken_away}
+use Rattle.vt_spec.specs.Machine.Invariants.{MountInvariants}
+use Rattle.vt_spec.specs.Machine.Mounts.{Mount}
 use Rattle.vt_spec.specs.Machine.Namespaces.{has_tasks, namespaces_ended}
 use Rattle.vt_spec.specs.Machine.Outcomes.{granted}
-use Rattle.vt_spec.specs.Machine.Policy.{numbers_raised, policy, raised_namespace, raised_task}
-use Rattle.vt_spec.specs.Machine.Receives.{lost_a_group, regrouped, regrouped_by}
-use Rattle.vt_spec.specs.Machine.Sealed.{is_at, is_member_task, is_own_namespace, members, own_lowers, part_of, roots_and_directories, used_filesystems}
+use Rattle.vt_spec.specs.Machine.Policy.{numbers_raised, policy}
+use Rattle.vt_spec.specs.Machine.Receives.{lost_a_group, regrouped_by}
+use Rattle.vt_spec.specs.Machine.Sealed.{is_member_task, is_own_namespace, members, part_of}
 use Rattle.vt_spec.specs.Machine.Settled.{settled}
-use Rattle.vt_spec.specs.Machine.World.{Namespace, Task, World, mount_numbered, task_called, with_mounts}
-use Rattle.vt_spec.proofs.Lists.{Among, among-filter, among-filter_map, among-from_filter, among-from_filter_map, among_from_list_all, any_among, any_from_among, list_all_from_among, map_same, map_twice, none_among, none_from_among}
-use Rattle.vt_spec.proofs.Options.{none_is_some}
+use Rattle.vt_spec.specs.Machine.World.{Namespace, Task, World, task_called}
+use Rattle.vt_spec.proofs.Lists.{Among, among-filter, among-from_filter, among_from_list_all, any_among, any_from_among, list_all_from_among, map_twice, none_among, none_from_among}
 use Rattle.vt_laws_letting_go.specs.Ends.{MountsAreListed}
-use Rattle.vt_laws_letting_go.proofs.Lists.{filter-map}
 use Rattle.vt_laws_letting_go.proofs.ends.NamespacesEnd.{one_namespace_ends}
-use Rattle.vt_laws_mounts.specs.Mounts.Invariants.{OneNumberEach}
-use Rattle.vt_laws_mounts.proofs.mounts.MountsReplaced.{found_itself}
-use Rattle.vt_laws_part.proofs.part.PartOfPart.{is_own, keep, kept_how, kept_whole}
-use Rattle.vt_laws_members.proofs.judging.Grounds.{nowhere_stands}
-use Rattle.vt_laws_members.proofs.judging.MountPoints.{part_mount}
-use Rattle.vt_laws_members.proofs.judging.MountTrees.{part_one_number}
+use Rattle.vt_laws_mounts.proofs.ends.Ending.{ended_namespaces_keep_mounts}
+use Rattle.vt_laws_worlds.proofs.kept.MountsAlike.{same_mounts}
+use Rattle.vt_laws_part.proofs.part.PartOfPart.{is_own}
 use Rattle.vt_laws_members_changes.specs.Changes.{EndAlike, EndsAlike, IsCallOfTheirs, grown, left}
 use Rattle.vt_laws_members_changes.proofs.looks.Told.{ran, same_caller}
-use Rattle.vt_laws_members_changes.proofs.tasks.Retasked.{retasked}
-use Rattle.vt_laws_members_changes.proofs.letting_go.Changed.{parent_of}
-use Rattle.vt_laws_members_changes.proofs.letting_go.CutNamespace.{HasParents, cut_mount, in_space, mounts_cut}
+use Rattle.vt_laws_members_changes.proofs.letting_go.CutNamespace.{in_same, in_space, numbers_in}
 use Rattle.vt_laws_members_changes.proofs.letting_go.Detached.{detached_parts}
+use Rattle.vt_laws_members_changes.proofs.letting_go.Heard.{own_in, space_in_part}
 use Rattle.vt_laws_members_changes.proofs.letting_go.Leaving.{all_left, in_world, is_task, its_name, member, new_old, old_new, others_left, part_listed, same_left, stays, tasks, tasks_too}
-use Rattle.vt_laws_members_changes.proofs.letting_go.LessSeen.{one_part}
-use Rattle.vt_laws_members_changes.proofs.letting_go.NamespaceLess.{ended, ended_less, ended_part}
+use Rattle.vt_laws_members_changes.proofs.letting_go.NamespaceLess.{ended, ended_part}
+use Rattle.vt_laws_members_changes.proofs.letting_go.PartMounts.{part_mounts}
 use Rattle.vt_laws_members_changes.proofs.letting_go.Regrouped.{flags_same, regroup_is, regrouped_mount, regrouped_so}
-use Rattle.vt_laws_members_changes.proofs.letting_go.Sweep.{part_of_settled, swept_of}
 
 -- A world in which one namespace has lost its last task
-module _ (w : World ℕ) (k : ℕ) where
-  abbrev cut : World ℕ
-  cut = record w { mounts = map (cut_mount k) w.mounts }
+module _ (w : World ℕ) (k : ℕ) (gone : List ℕ) (same : numbers_in w k ≡ gone) where
+  abbrev left_by : World ℕ
+  left_by = record w { mounts = map (after_going nat_eq w gone) w.mounts }
 
   abbrev remain : List (Namespace ℕ)
   remain = filter (λ (n : Namespace ℕ). not (nat_eq k n.number)) w.namespaces
 
-  ends_so : MountsAreListed w → OneNumberEach w → HasParents w
-      → list_any (λ (t : Task ℕ). nat_eq k t.namespace) w.tasks ≡ false
+  ends_so : MountsAreListed w → list_any (λ (t : Task ℕ). nat_eq k t.namespace) w.tasks ≡ false
       → list_all (λ (n : Namespace ℕ). nat_eq k n.number || has_tasks nat_eq w n) w.namespaces ≡ true
-      → (b : Bool) → list_any (lost_a_group nat_eq cut) cut.mounts ≡ b
-      → namespaces_ended nat_eq w ≡ record (regrouped_so b cut) {
-        mounts = map (λ m. regrouped_mount b cut (cut_mount k m)) w.mounts;
+      → (b : Bool) → list_any (lost_a_group nat_eq left_by) left_by.mounts ≡ b
+      → namespaces_ended nat_eq w ≡ record (regrouped_so b left_by) {
+        mounts = map (λ m. regrouped_mount b left_by (after_going nat_eq w gone m)) w.mounts;
         namespaces = remain;
       }
-  ends_so listed one parents empty others b flag =
+  ends_so listed empty others b flag =
       one_namespace_ends w k listed empty others
-      ∙ ap (λ ms. record (regrouped nat_eq (with_mounts w ms)) { namespaces = remain }) (mounts_cut w k one parents)
-      ∙ ap (λ c. record (regrouped_by nat_eq c cut) { namespaces = remain }) flag
-      ∙ ap (λ (r : World ℕ). record r { namespaces = remain }) (regroup_is b cut)
-      ∙ (λ i. record (regrouped_so b cut) {
-        mounts = map_twice (regrouped_mount b cut) (cut_mount k) w.mounts i;
+      ∙ ap (λ l. record (taken_away nat_eq w l) { namespaces = remain }) same
+      ∙ ap (λ c. record (regrouped_by nat_eq c left_by) { namespaces = remain }) flag
+      ∙ ap (λ (r : World ℕ). record r { namespaces = remain }) (regroup_is b left_by)
+      ∙ (λ i. record (regrouped_so b left_by) {
+        mounts = map_twice (regrouped_mount b left_by) (after_going nat_eq w gone) w.mounts i;
         namespaces = remain;
       })
 
@@ -94,12 +87,14 @@ module _ (world : World ℕ) (names : List TaskName) (name : TaskName) (it : IsC
       any_from_among (λ (t : Task ℕ). nat_eq k t.namespace) old task (member world names name it task called)
       (eq-eqb k k refl)
 
-  own_go : (m : Mount ℕ) → Among m world.mounts → in_space k m ≡ true → is_own world names old m ≡ true
-  own_go m there = by m.namespace
-    where
-      by : (o : Option ℕ) → holds_of (nat_eq k) o ≡ true → holds_of (is_own_namespace nat_eq world names) o ≡ true
-      by None h = absurd (true≢false (sym h))
-      by (Some n) h = ap (is_own_namespace nat_eq world names) (sym (eqb-true k n h)) ∙ theirs_ends
+  abbrev gone : List ℕ
+  gone = numbers_in world k
+
+  gone_same : (m : Mount ℕ) → Among m world.mounts → is_going nat_eq gone m.number ≡ in_space k m
+  gone_same m n = in_same world k it.is.mounts.one_number m n
+
+  own_go : (m : Mount ℕ) → Among m world.mounts → is_going nat_eq gone m.number ≡ true → is_own world names old m ≡ true
+  own_go m there h = own_in world names it.is it.sealed_off k theirs_ends m (sym (gone_same m there) ∙ h)
 
   abbrev lasts : ℕ → Bool
   lasts n = not (nat_eq k n)
@@ -130,41 +125,32 @@ module _ (world : World ℕ) (names : List TaskName) (name : TaskName) (it : IsC
       any_from_among (λ (t : Task ℕ). nat_eq n t.namespace) (filter (is_member_task set) rest) at.0
       (old_new world names name it task called at.0 at.1) at.2
 
-  mounts_stay : (m : Mount ℕ) → in_space k m ≡ false → is_own world names old m ≡ true
-      → is_own world names (filter (is_member_task set) rest) m ≡ true
-  mounts_stay m = by m.namespace
+  mounts_stay : (m : Mount ℕ) → Among m world.mounts → is_going nat_eq gone m.number ≡ false
+      → is_own world names old m ≡ true → is_own world names (filter (is_member_task set) rest) m ≡ true
+  mounts_stay m there out own = by m.namespace (sym (gone_same m there) ∙ out) own
     where
       by : (o : Option ℕ) → holds_of (nat_eq k) o ≡ false → holds_of (is_own_namespace nat_eq world names) o ≡ true
           → holds_of (λ n. list_any (λ (t : Task ℕ). nat_eq n t.namespace) (filter (is_member_task set) rest)) o ≡ true
       by None h own = own
       by (Some n) h own = still n h own
 
-  parents_stay : (m up : Mount ℕ) (l : Location ℕ) → Among m world.mounts → Among up world.mounts
-      → m.mount_point ≡ Some l → l.mount ≡ up.number → in_space k m ≡ false → in_space k up ≡ false
-  parents_stay m up l at above point on out =
-      let it_is = parent_of world it.is names m l at point in
-      let same : it_is.2 ≡ up =
-      sym (found_itself world.mounts it.is.mounts.one_number it_is.2 it_is.3)
-      ∙ ap (mount_numbered nat_eq world) (sym it_is.4 ∙ on) ∙ found_itself world.mounts it.is.mounts.one_number up above in
-      ap (in_space k) (sym same) ∙ ap (holds_of (nat_eq k)) (it_is.5 ∙ sym it_is.1) ∙ out
-
   abbrev flag : Bool
-  flag = list_any (lost_a_group nat_eq (record world { mounts = map (cut_mount k) world.mounts }))
-      (map (cut_mount k) world.mounts)
+  flag = list_any (lost_a_group nat_eq (record world { mounts = map (after_going nat_eq world gone) world.mounts }))
+      (map (after_going nat_eq world gone) world.mounts)
 
   abbrev v : World ℕ
-  v = ended world names it.is it.sealed_off set (in_space k) own_go lasts rest rest_too world.change part.change
+  v = ended world names it.is it.sealed_off set gone own_go lasts rest rest_too world.change part.change
       (same_left world names name it task called) (new_old world names name it task called) flag
 
   abbrev v_part : World ℕ
-  v_part = ended_part world names it.is it.sealed_off set (in_space k) own_go lasts rest rest_too world.change part.change
+  v_part = ended_part world names it.is it.sealed_off set gone own_go lasts rest rest_too world.change part.change
       (same_left world names name it task called) (new_old world names name it task called) flag
 
   world_ends : namespaces_ended nat_eq (record world { tasks = rest }) ≡ v
   world_ends =
-      ends_so (record world { tasks = rest }) k it.is.namespaces.mounts_listed it.is.mounts.one_number
-      (λ m l n point. parent_of world it.is names m l n point) empty
-      (list_all_from_among (λ (n : Namespace ℕ). nat_eq k n.number || has_tasks nat_eq (record world { tasks = rest }) n)
+      ends_so (record world { tasks = rest }) k gone refl it.is.namespaces.mounts_listed empty
+      (list_all_from_among (λ (n : Namespace ℕ). nat_eq k n.number || has_tasks nat_eq
+      (record world { tasks = rest }) n)
       world.namespaces (λ n m. by n m (nat_eq k n.number) refl)) flag refl
     where
       by : (n : Namespace ℕ) → Among n world.namespaces → (b : Bool) → nat_eq k n.number ≡ b
@@ -175,42 +161,19 @@ module _ (world : World ℕ) (names : List TaskName) (name : TaskName) (it : IsC
           (still_in n.number e world.tasks (λ t q. q)
           (among_from_list_all (has_tasks nat_eq world) world.namespaces it.is.namespaces.namespaces_live n m))
 
-  part_parents : HasParents (record part { tasks = rest_too })
-  part_parents y l n point =
-      let from = among-from_filter_map (keep world names old) world.mounts y n in
-      ⊎_elim
-      (λ same.
-      let there = subst (λ q. Among q world.mounts) same from.1 in
-      ⊎_elim
-      (λ own.
-      let up = parent_of world it.is names y l there point in
-      let theirs : is_own world names old up.2 ≡ true =
-      ap (holds_of (λ i. list_any (λ (t : Task ℕ). nat_eq i t.namespace) old)) (up.5 ∙ sym up.1) ∙ own in (
-        up.0,
-        up.1,
-        up.2,
-        among-filter_map (keep world names old) world.mounts up.2 up.2 up.3
-            (kept_whole world names old up.2
-            (or_left (is_own world names old up.2) (is_at nat_eq (roots_and_directories old) up.2) theirs)),
-        up.4,
-        up.5,
-      ))
-      (λ none. absurd (nowhere_stands world names it.is.mounts y l there none point))
-      (part_mount world names it.is from.0 y from.1 from.2))
-      (λ stub. none_is_some l (ap (λ (q : Mount ℕ). q.mount_point) stub.0 ∙ point))
-      (kept_how world names old from.0 y from.2)
-
   part_ends : namespaces_ended nat_eq (record part { tasks = rest_too }) ≡ v_part
   part_ends =
-      ends_so (record part { tasks = rest_too }) k (part_listed world names name it task called)
-      (part_one_number world names it.is) part_parents
+      ends_so (record part { tasks = rest_too }) k gone
+      (ap (map (λ (m : Mount ℕ). m.number)) (space_in_part world names it.is it.sealed_off k theirs_ends))
+      (part_listed world names name it task called)
       (none_from_among (λ (t : Task ℕ). nat_eq k t.namespace) rest_too (λ t m.
       let from = among-from_filter stays_on part.tasks t m in
       none_among (λ (t : Task ℕ). nat_eq k t.namespace) rest empty t
       (among-filter stays_on world.tasks t (in_world world names name it task called t from.0) from.1)))
-      (list_all_from_among (λ (n : Namespace ℕ). nat_eq k n.number || has_tasks nat_eq (record part { tasks = rest_too }) n)
+      (list_all_from_among (λ (n : Namespace ℕ). nat_eq k n.number || has_tasks nat_eq
+      (record part { tasks = rest_too }) n)
       part.namespaces (λ n m. by n m (nat_eq k n.number) refl)) flag
-      (sym (flags_same world names it.is it.sealed_off (in_space k) own_go))
+      (sym (flags_same world names it.is it.sealed_off gone own_go))
     where
       by : (n : Namespace ℕ) → Among n part.namespaces → (b : Bool) → nat_eq k n.number ≡ b
           → (nat_eq k n.number || has_tasks nat_eq (record part { tasks = rest_too }) n) ≡ true
@@ -221,13 +184,25 @@ module _ (world : World ℕ) (names : List TaskName) (name : TaskName) (it : IsC
           (among-from_filter (λ (s : Namespace ℕ). list_any (λ (t : Task ℕ). nat_eq s.number t.namespace) old)
           world.namespaces n m).1)
 
+  kept : MountInvariants nat_eq v
+  kept =
+      subst (MountInvariants nat_eq) world_ends
+      (ended_namespaces_keep_mounts (record world { tasks = rest })
+      (same_mounts world (record world { tasks = rest }) refl refl it.is.mounts))
+
+  kept_there : MountInvariants nat_eq v_part
+  kept_there =
+      subst (MountInvariants nat_eq) part_ends
+      (ended_namespaces_keep_mounts (record part { tasks = rest_too })
+      (same_mounts part (record part { tasks = rest_too }) refl refl (part_mounts world names it.is it.sealed_off)))
+
   parts : part_of nat_eq (numbers_raised nat_eq world name [] (settled nat_eq v)) set
       ≡ part_of nat_eq (numbers_raised nat_eq part name [] (settled nat_eq v_part)) set
   parts =
-      detached_parts world names it.is it.sealed_off set (in_space k) own_go lasts rest rest_too world.change part.change
+      detached_parts world names it.is it.sealed_off set gone own_go lasts rest rest_too world.change part.change
       (same_left world names name it task called) (new_old world names name it task called)
-      (others_left world names name it task called) (all_left world names name it task called) mounts_stay parents_stay
-      flag name
+      (others_left world names name it task called) (all_left world names name it task called) mounts_stay flag kept
+      kept_there name
 
   abbrev left_one : World ℕ
   left_one = numbers_raised nat_eq world name [] (settled nat_eq v)

@@ -80,7 +80,8 @@ module _ (world : World ℕ) (names : List TaskName) (name : TaskName) (it : IsC
       by true e = refl
       by false e =
           absurd (true≢false
-          (sym (any_from_among (λ (t : Task ℕ). nat_eq other.namespace t.namespace) old task (member world names name it task called)
+          (sym (any_from_among (λ (t : Task ℕ). nat_eq other.namespace t.namespace) old task
+          (member world names name it task called)
           (eq-eqb other.namespace task.namespace together))
           ∙ namespace_outside world names apart other
           (among-filter (λ t. not (is_member_task names t)) world.tasks other there (ap not e))))
@@ -115,10 +116,12 @@ module _ (world : World ℕ) (names : List TaskName) (name : TaskName) (it : IsC
     own = λ n. same_truth (list_any (λ (t : Task ℕ). nat_eq n t.namespace) new)
         (list_any (λ (t : Task ℕ). nat_eq n t.namespace) old)
         (λ h. let at = any_among (λ (t : Task ℕ). nat_eq n t.namespace) new h in
-        any_from_among (λ (t : Task ℕ). nat_eq n t.namespace) old at.0 (new_old world names name it task called at.0 at.1) at.2)
+        any_from_among (λ (t : Task ℕ). nat_eq n t.namespace) old at.0
+        (new_old world names name it task called at.0 at.1) at.2)
         (λ h. let at = any_among (λ (t : Task ℕ). nat_eq n t.namespace) (filter stays old)
         (entered n old (λ t m. (among-from_filter (is_member_task names) world.tasks t m).0) in_old h) in
-        any_from_among (λ (t : Task ℕ). nat_eq n t.namespace) new at.0 (old_new world names name it task called at.0 at.1) at.2);
+        any_from_among (λ (t : Task ℕ). nat_eq n t.namespace) new at.0
+        (old_new world names name it task called at.0 at.1) at.2);
     roots = λ l m.
         let from = among-from_flat_map (λ (t : Task ℕ). t.root ∷ t.directory ∷ []) new l m in
         let t = new_old world names name it task called from.0 from.1 in
@@ -206,11 +209,13 @@ module _ (world : World ℕ) (names : List TaskName) (name : TaskName) (it : IsC
   exit_alike fresh supply =
       let_go_alike world names set name Exit it task called fresh supply Done refl rest rest_too
       (ap (λ n. granted Done (numbers_raised nat_eq world name []
-      (settled nat_eq (namespaces_ended nat_eq (record world { tasks = filter (λ (t : Task ℕ). not (same_name n t.name)) world.tasks })))))
+      (settled nat_eq (namespaces_ended nat_eq
+      (record world { tasks = filter (λ (t : Task ℕ). not (same_name n t.name)) world.tasks })))))
       (sym (its_name world names name it task called))
       ∙ ap (λ w. granted Done (numbers_raised nat_eq world name [] (settled nat_eq w))) world_stays)
       (ap (λ n. granted Done (numbers_raised nat_eq part name []
-      (settled nat_eq (namespaces_ended nat_eq (record part { tasks = filter (λ (t : Task ℕ). not (same_name n t.name)) part.tasks })))))
+      (settled nat_eq (namespaces_ended nat_eq
+      (record part { tasks = filter (λ (t : Task ℕ). not (same_name n t.name)) part.tasks })))))
       (sym (its_name world names name it task called))
       ∙ ap (λ w. granted Done (numbers_raised nat_eq part name [] (settled nat_eq w))) part_stays)
       lets_go (same_left world names name it task called) (all_left world names name it task called)

@@ -118,7 +118,8 @@ module _ (world : World ℕ) (names : List TaskName) (name : TaskName) (it : IsC
       (among-filter (λ t. not (is_member_task names t)) world.tasks from.0 of.0
       (outside from.0 of.1 left_out.1 (is_member_task names from.0) refl)) from.2
     where
-      outside : (t : Task ℕ) → stays t ≡ true → not (its t) ≡ true → (b : Bool) → is_member_task names t ≡ b → not b ≡ true
+      outside : (t : Task ℕ) → stays t ≡ true → not (its t) ≡ true → (b : Bool) → is_member_task names t ≡ b
+          → not b ≡ true
       outside t s out true e = absurd (true≢false (sym out ∙ ap not (set_from t e s)))
       outside t s out false e = refl
 
@@ -136,8 +137,11 @@ module _ (world : World ℕ) (names : List TaskName) (name : TaskName) (it : IsC
   own_part y m n e =
       let from = among-from_filter_map (keep world names old) world.mounts y m in
       ⊎_elim
-      (λ same. (subst (λ k. Among k world.mounts) same from.1, ⊎_elim (λ own. own)
-      (λ none. none_is_some n (sym none ∙ e)) (part_mount world names it.is from.0 y from.1 from.2)))
+      (λ same. (
+        subst (λ k. Among k world.mounts) same from.1,
+        ⊎_elim (λ own. own)
+            (λ none. none_is_some n (sym none ∙ e)) (part_mount world names it.is from.0 y from.1 from.2),
+      ))
       (λ stub. none_is_some n (ap (λ (k : Mount ℕ). k.namespace) stub.0 ∙ e))
       (kept_how world names old from.0 y from.2)
 

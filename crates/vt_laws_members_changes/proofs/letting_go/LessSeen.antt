@@ -95,7 +95,8 @@ module _ (world : World ℕ) (names : List TaskName) (is : IsWorld nat_eq world)
 
   pub less_used : used_filesystems nat_eq other set ≡ used_filesystems nat_eq one set
   less_used =
-      ap (λ d. each_once nat_eq (d ++ flat_map (λ n. change_layers (filesystem_numbered nat_eq part n)) d)) directly_same
+      ap (λ d. each_once nat_eq
+      (d ++ flat_map (λ n. change_layers (filesystem_numbered nat_eq part n)) d)) directly_same
       ∙ ap (λ l. each_once nat_eq (direct ++ l))
       (flat_map_alike (λ n. change_layers (filesystem_numbered nat_eq part n))
       (λ n. change_layers (filesystem_numbered nat_eq world n)) direct (λ n m. ap change_layers (direct_found n m)))
@@ -129,7 +130,8 @@ module _ (world : World ℕ) (names : List TaskName) (is : IsWorld nat_eq world)
       is_among_numbers used_before n
       (among-each_once (used_directly nat_eq world names ++ flat_map changed_in (used_directly nat_eq world names)) n
       (⊎_elim
-      (λ m. among-append_left (used_directly nat_eq world names) (flat_map changed_in (used_directly nat_eq world names)) n
+      (λ m. among-append_left (used_directly nat_eq world names)
+      (flat_map changed_in (used_directly nat_eq world names)) n
       (less.direct n m))
       (λ m. let from = among-from_flat_map changed_in direct n m in
       among-append_right (used_directly nat_eq world names) (flat_map changed_in (used_directly nat_eq world names)) n
@@ -140,7 +142,8 @@ module _ (world : World ℕ) (names : List TaskName) (is : IsWorld nat_eq world)
   pub lower_was : (layer : Layer ℕ) → Among layer lowers → Among layer lowers_before
   lower_was layer m =
       let from = among-from_flat_map (lowers_in world) direct layer m in
-      among-flat_map (lowers_in world) (used_directly nat_eq world names) from.0 layer (less.direct from.0 from.1) from.2
+      among-flat_map (lowers_in world) (used_directly nat_eq world names) from.0 layer
+      (less.direct from.0 from.1) from.2
 
   abbrev has_lower : List (Layer ℕ) → ℕ → Bool
   has_lower layers n = list_any (λ (layer : Layer ℕ). nat_eq n layer.filesystem) layers
@@ -186,10 +189,12 @@ module _ (world : World ℕ) (names : List TaskName) (is : IsWorld nat_eq world)
           (when (has_lower lowers x.number) (lowered (filesystem_numbered nat_eq world x.number).files x))
       by true f b g c h d k =
           none_is_some x
-          (sym e ∙ ap (λ q. cond q (Some x) (when (has_lower lowers_before x.number) (part_of_lower nat_eq world names x))) f)
+          (sym e ∙ ap (λ q. cond q (Some x)
+          (when (has_lower lowers_before x.number) (part_of_lower nat_eq world names x))) f)
       by false f true g c h d k =
           none_is_some (part_of_lower nat_eq world names x)
-          (sym e ∙ ap (λ q. cond q (Some x) (when (has_lower lowers_before x.number) (part_of_lower nat_eq world names x))) f
+          (sym e ∙ ap (λ q. cond q (Some x)
+          (when (has_lower lowers_before x.number) (part_of_lower nat_eq world names x))) f
           ∙ ap (λ q. when q (part_of_lower nat_eq world names x)) g)
       by false f false g true h d k = absurd (true≢false (sym (used_was x.number h) ∙ f))
       by false f false g false h true k = absurd (true≢false (sym (has_was x.number k) ∙ g))

@@ -38,7 +38,8 @@ use Rattle.vt_laws_members_changes.proofs.letting_go.Callers.{moved_alike}
 abbrev Closes : ℕ → Permit ℕ → Type 0
 Closes number permit = permit ≡ ToClose number
 
-closes_after : (number : ℕ) (r : Result (Descriptor ℕ) Deny) → IfOk (and_then r (λ descriptor. Ok (ToClose number))) (Closes number)
+closes_after : (number : ℕ) (r : Result (Descriptor ℕ) Deny) → IfOk
+    (and_then r (λ descriptor. Ok (ToClose number))) (Closes number)
 closes_after number (Ok descriptor) = refl
 closes_after number (Err deny) = tt
 
@@ -112,9 +113,11 @@ closes_end_alike world names name number it fresh other = by (task_called world 
           places = λ l m. inl (⊎_elim inl (λ rest. inr (⊎_elim inl (λ open_file.
               let d = among-from_map (λ (d : Descriptor ℕ). d.location)
               (filter (λ (d : Descriptor ℕ). not (number == d.number)) task.descriptors) l open_file in
-              inr (subst (λ (k : Location ℕ). Among k (map (λ (d : Descriptor ℕ). d.location) task.descriptors)) (sym d.2)
+              inr (subst (λ (k : Location ℕ). Among k (map (λ (d : Descriptor ℕ). d.location) task.descriptors))
+              (sym d.2)
               (among-map (λ (d : Descriptor ℕ). d.location) task.descriptors d.0
-              (among-from_filter (λ (d : Descriptor ℕ). not (number == d.number)) task.descriptors d.0 d.1).0))) rest)) m);
+              (among-from_filter (λ (d : Descriptor ℕ). not
+              (number == d.number)) task.descriptors d.0 d.1).0))) rest)) m);
         }) fresh other refl
         (ap (run_by world names name (Close number) it fresh other world fresh task) judged)
         (ap (run_by world names name (Close number) it fresh other part other task)

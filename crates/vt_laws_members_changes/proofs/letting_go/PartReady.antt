@@ -18,7 +18,7 @@ use Rattle.vt_laws_sealed.proofs.outsiders.SeenLater.{shown_at}
 use Rattle.vt_laws_members.proofs.judging.Grounds.{IsTheirs, nowhere_stands}
 use Rattle.vt_laws_members.proofs.judging.MountPoints.{part_mount}
 use Rattle.vt_laws_members.proofs.judging.MountTrees.{part_one_number}
-use Rattle.vt_laws_members_changes.proofs.letting_go.Changed.{LetsGo, ground_is, ground_whole, owned_same, parent_of, placed_on, sees_less}
+use Rattle.vt_laws_members_changes.proofs.letting_go.Changed.{LetsGo, ground_is, ground_whole, owned_same, mount_parent, placed_on, sees_less}
 use Rattle.vt_laws_members_changes.proofs.letting_go.Ready.{NoOthers, Ready}
 use Rattle.vt_laws_members_changes.proofs.letting_go.LessSeen.{AreLess, less_lowers, less_used}
 use Rattle.vt_laws_members_changes.proofs.letting_go.PartFiles.{cut_in_part, numbers_in_part, plain_in_part}
@@ -93,7 +93,8 @@ module _ (world : World ℕ) (names : List TaskName) (is : IsWorld nat_eq world)
       let number : l.mount ≡ shows.0.number = on.2 ∙ sym (number_kept on.0 shows.0 shows.1) in (
         shows.0,
         located_lives shows.0 l there_too
-            (among-flat_map locations_of tasks_too t.0 l (among-from_filter (is_member_task set) tasks_too t.0 t.1).0 t.2)
+            (among-flat_map locations_of tasks_too t.0 l
+            (among-from_filter (is_member_task set) tasks_too t.0 t.1).0 t.2)
             number,
         number,
       )
@@ -120,7 +121,8 @@ module _ (world : World ℕ) (names : List TaskName) (is : IsWorld nat_eq world)
       (λ its. (
         its,
         ⊎_elim (λ own. own)
-            (λ none. absurd (nowhere_stands world names is.mounts y l (subst (λ k. Among k world.mounts) its n) none point))
+            (λ none. absurd (nowhere_stands world names is.mounts y l
+            (subst (λ k. Among k world.mounts) its n) none point))
             (part_mount world names is m y n e),
       ))
       (λ stub. none_is_some l (ap (λ (k : Mount ℕ). k.mount_point) stub.0 ∙ point))
@@ -129,7 +131,8 @@ module _ (world : World ℕ) (names : List TaskName) (is : IsWorld nat_eq world)
   own_whole : (k : Mount ℕ) → Among k world.mounts → is_own world names old k ≡ true → Among k part.mounts
   own_whole k n own =
       among-filter_map kept world.mounts k k n
-      (kept_whole world names old k (or_left (is_own world names old k) (is_at nat_eq (roots_and_directories old) k) own))
+      (kept_whole world names old k
+      (or_left (is_own world names old k) (is_at nat_eq (roots_and_directories old) k) own))
 
   parents_so : (y : Mount ℕ) (l : Location ℕ) → Among y living.mounts → y.mount_point ≡ Some l
       → (n : ℕ) × (y.namespace ≡ Some n) × (k : Mount ℕ) × Among k living.mounts × (l.mount ≡ k.number)
@@ -137,7 +140,7 @@ module _ (world : World ℕ) (names : List TaskName) (is : IsWorld nat_eq world)
   parents_so y l n point =
       let from = was y n in
       let whole = whole_point from.0 y l from.1 from.2 point in
-      let up = parent_of world is names y l (subst (λ k. Among k world.mounts) whole.0 from.1) point in
+      let up = mount_parent world is.mounts y l (subst (λ k. Among k world.mounts) whole.0 from.1) point in
       let own : is_own world names old up.2 ≡ true =
       ap (holds_of (λ i. list_any (λ (t : Task ℕ). nat_eq i t.namespace) old)) (up.5 ∙ sym up.1) ∙ whole.1 in
       (up.0, up.1, up.2, attached_lives up.2 up.0 (own_whole up.2 up.3 own) up.5, up.4, up.5)

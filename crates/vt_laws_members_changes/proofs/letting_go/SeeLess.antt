@@ -47,7 +47,8 @@ module _ (world : World ℕ) (names set : List TaskName) (tasks : List (Task ℕ
         → then_some (keep world names old mount) (keep world names new) ≡ keep world names new mount
     -- their locations are on mounts of the part
     pub located : (location : Location ℕ) → Among location (locations new)
-        → (mount_at nat_eq (part_of nat_eq world names) location).filesystem ≡ (mount_at nat_eq world location).filesystem
+        → (mount_at nat_eq (part_of nat_eq world names) location).filesystem
+        ≡ (mount_at nat_eq world location).filesystem
     pub direct : (number : ℕ) → Among number (used_directly nat_eq later set)
         → Among number (used_directly nat_eq world names)
 

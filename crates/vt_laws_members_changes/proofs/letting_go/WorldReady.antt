@@ -20,7 +20,7 @@ use Rattle.vt_laws_part.proofs.part.DeadMounts.{mounts_kept}
 use Rattle.vt_laws_part.proofs.part.PartOfPart.{is_own}
 use Rattle.vt_laws_part.proofs.part.Observed.{lowers_same, used_same}
 use Rattle.vt_laws_part.proofs.seals.ByPart.{layer_plain, used_are_free}
-use Rattle.vt_laws_members_changes.proofs.letting_go.Changed.{LetsGo, mount_under, owned_same, parent_of, placed_on, sees_less, stood_so}
+use Rattle.vt_laws_members_changes.proofs.letting_go.Changed.{LetsGo, mount_under, owned_same, mount_parent, placed_on, sees_less, stood_so}
 use Rattle.vt_laws_members_changes.proofs.letting_go.CutAgain.{uncut}
 use Rattle.vt_laws_members_changes.proofs.letting_go.Ready.{AllNamed, Alone, IsCut, NoOthers, Ready, layered_overlay}
 use Rattle.vt_laws_members_changes.proofs.letting_go.LessSeen.{used_was}
@@ -74,7 +74,7 @@ whole_cut world is lowers x m =
 
 -- where each inode has a name
 pub all_named_there : (world : World ℕ) (names : List TaskName) (is : IsWorld nat_eq world) (x : Filesystem ℕ)
-  → Among x world.filesystems → wholly_locked nat_eq world names x.number ≡ true
+    → Among x world.filesystems → wholly_locked nat_eq world names x.number ≡ true
     → AllNamed x
 all_named_there world names is x m locked object n =
     let all : all_named nat_eq x.files ≡ true =
@@ -126,10 +126,13 @@ module _ (world : World ℕ) (names : List TaskName) (is : IsWorld nat_eq world)
   -- where others have no foothold
   module _ (number : ℕ) (none : no_outsider_on nat_eq world names number ≡ true) where
     abbrev nobody : (list_any (λ (m : Mount ℕ). nat_eq number m.filesystem) (other_mounts nat_eq world names) ≡ false)
-        × (list_any (λ l. nat_eq number (mount_at nat_eq world l).filesystem) (locations (outsiders world names)) ≡ false)
+        × (list_any (λ l. nat_eq number (mount_at nat_eq world l).filesystem) (locations (outsiders world names))
+        ≡ false)
     nobody =
-        let both = and_parts (not (list_any (λ (m : Mount ℕ). nat_eq number m.filesystem) (other_mounts nat_eq world names)))
-        (not (list_any (λ l. nat_eq number (mount_at nat_eq world l).filesystem) (locations (outsiders world names)))) none in
+        let both = and_parts (not
+        (list_any (λ (m : Mount ℕ). nat_eq number m.filesystem) (other_mounts nat_eq world names)))
+        (not (list_any (λ l. nat_eq number (mount_at nat_eq world l).filesystem)
+        (locations (outsiders world names)))) none in
         (not-true _ both.0, not-true _ both.1)
 
     mounts_own : (m : Mount ℕ) → Among m living.mounts → m.filesystem ≡ number
@@ -200,7 +203,8 @@ module _ (world : World ℕ) (names : List TaskName) (is : IsWorld nat_eq world)
       is_one : (merged : Filesystem ℕ) → has_layer_on nat_eq number merged ≡ true → is_overlay merged ≡ true
       is_one merged = layered_overlay number merged
 
-      by : list_all (λ merged. not (has_layer_on nat_eq number merged) || no_outsider_on nat_eq world names merged.number)
+      by : list_all (λ merged. not (has_layer_on nat_eq number merged)
+          || no_outsider_on nat_eq world names merged.number)
           (overlays world) ≡ true → (merged : Filesystem ℕ) → Among merged world.filesystems
           → has_layer_on nat_eq number merged ≡ true → no_outsider_on nat_eq world names merged.number ≡ true
       by all merged m has =
@@ -218,7 +222,7 @@ module _ (world : World ℕ) (names : List TaskName) (is : IsWorld nat_eq world)
     lives = λ m n. (among-from_filter (mount_lives nat_eq later) world.mounts m n).1;
     located = λ l m. let on = placed_on world names is sealed_off set tasks change it l m in
         (on.0, located_lives on.0 l on.1 (of_all l m) on.2, on.2);
-    parents = λ m l n point. let up = parent_of world is names m l (there m n) point in
+    parents = λ m l n point. let up = mount_parent world is.mounts m l (there m n) point in
         (up.0, up.1, up.2, attached_lives up.2 up.0 up.3 up.5, up.4, up.5);
     stood = λ m n h. stood_so world names is sealed_off set tasks change it m (there m n) h;
     one_filesystem = is.files.one_filesystem;
