@@ -1,13 +1,13 @@
 -- Calls of tasks of a sealed set that let something go, in the world and in the part of the set (profile).
-use Rattle.std.specs.Prelude.{Contains, List, Some, false, nat_eq, true, ℕ, ◌≡◌}
-use Rattle.vt_spec.specs.Language.Calls.{TaskName, same_name}
-use Rattle.vt_spec.specs.Language.Calls.Call.{Chdir, Chroot, Close, Exit}
+use Rattle.std.specs.Prelude.{Contains, List, nat_eq, true, ℕ, ◌≡◌}
+use Rattle.vt_spec.specs.Language.Calls.{TaskName}
+use Rattle.vt_spec.specs.Language.Calls.Call.{Chdir, Chroot, Close, Exit, Umount}
 use Rattle.vt_spec.specs.Lists.{Fresh}
 use Rattle.vt_spec.specs.Machine.Invariants.{IsWorld}
 use Rattle.vt_spec.specs.Machine.Mounts.{Location}
 use Rattle.vt_spec.specs.Machine.Sealed.{is_own_namespace, locations, members, outsiders, part_of, roots_and_directories, sealed}
 use Rattle.vt_spec.specs.Machine.Settled.{settled}
-use Rattle.vt_spec.specs.Machine.World.{Task, World, task_called}
+use Rattle.vt_spec.specs.Machine.World.{Task, World}
 use Rattle.vt_laws_members_changes.specs.Changes.{EndsAlike, IsCallOfTheirs}
 
 -- Each call of close(2) does in the part what it does in the world,
@@ -31,13 +31,18 @@ ChrootsEndAlike =
     → IsCallOfTheirs world names name (Chroot path) → (fresh other : Fresh ℕ)
     → EndsAlike world names name (Chroot path) fresh other
 
--- Each exit of a task that leaves another one in its namespace does, of the set without it.
+-- Each call of _exit(2) does, of the set without the task.
 abbrev pub ExitsEndAlike : Type 0
 ExitsEndAlike =
     (world : World ℕ) (names : List TaskName) (name : TaskName) → IsCallOfTheirs world names name Exit
-    → (task : Task ℕ) → task_called world name ≡ Some task → (other : Task ℕ) → Contains world.tasks other
-    → other.namespace ≡ task.namespace → same_name name other.name ≡ false → (fresh supply : Fresh ℕ)
-    → EndsAlike world names name Exit fresh supply
+    → (fresh other : Fresh ℕ) → EndsAlike world names name Exit fresh other
+
+-- So does each call of umount(2).
+abbrev pub UmountsEndAlike : Type 0
+UmountsEndAlike =
+    (world : World ℕ) (names : List TaskName) (name : TaskName) (path : List ℕ)
+    → IsCallOfTheirs world names name (Umount path) → (fresh other : Fresh ℕ)
+    → EndsAlike world names name (Umount path) fresh other
 
 -- each location of one list is one of the other
 abbrev pub AreAmong : List (Location ℕ) → List (Location ℕ) → Type 0

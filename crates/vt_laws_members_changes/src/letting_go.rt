@@ -1,20 +1,26 @@
 //! Calls of members that let something go.
-ghost use Rattle.vt_laws_members_changes.specs.LettingGo.{ChdirsEndAlike, ChrootsEndAlike, ClosesEndAlike, ExitsEndAlike, LessIsSeenAlike, SweepsAlike};
+ghost use Rattle.vt_laws_members_changes.specs.LettingGo.{ChdirsEndAlike, ChrootsEndAlike, ClosesEndAlike, ExitsEndAlike, LessIsSeenAlike, SweepsAlike, UmountsEndAlike};
 
 /// In a world with all invariants in which a set of tasks is sealed off, **each `close`, `chdir` and `chroot` of one of
 /// them does in the part of the set what it does in the world** (`EndAlike`), granted or refused. What nothing uses any
 /// longer goes in both: detached mounts, filesystems, inodes and their real objects. The answers are the same, and so
 /// are the parts of the worlds that are left, with their change numbers. The numbers handed in do not matter.
 ///
-/// So does each `exit` of one of them that leaves another task in its namespace (`exit`). The set is then that without
-/// the task. It may see less after each of these calls, and need not be sealed off any more.
+/// So does each `exit` of one of them (`exit`), of the set without the task. Where it was the last task of its
+/// namespace, the namespace ends in both, and its mounts are detached. The groups and masters of other mounts of theirs
+/// change alike, and so do the change numbers of their namespaces.
 ///
-/// Not proved yet of the `exit` of the last task of a namespace, whose mounts are detached.
+/// So does each `umount` of one of them (`umount`). The unmount event reaches the same mounts in both. A mount that covers
+/// one of them takes its mount point.
+///
+/// After each of these calls the set may see less, and need not be sealed off any more. Not proved yet of the lazy
+/// `umount`.
 pub fn calls_of_theirs_that_let_locations_go_end_alike()
     ensures close { ClosesEndAlike }
     ensures chdir { ChdirsEndAlike }
     ensures chroot { ChrootsEndAlike }
     ensures exit { ExitsEndAlike }
+    ensures umount { UmountsEndAlike }
 {}
 
 /// In a world with all invariants in which a set of tasks is sealed off, other tasks take the place of the world's. Those

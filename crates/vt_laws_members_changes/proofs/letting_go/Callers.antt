@@ -31,7 +31,8 @@ pub record StandsOnTheirs (world : World ℕ) (names : List TaskName) (name : Ta
   pub places : (l : Location ℕ) → Among l (locations_of mine)
       → Among l (locations_of task) ⊎ IsTheirs world names it.is.mounts l.mount
 
-module _ (world : World ℕ) (names : List TaskName) (name : TaskName) (call : Call) (it : IsCallOfTheirs world names name call)
+module _ (world : World ℕ) (names : List TaskName) (name : TaskName) (call : Call)
+    (it : IsCallOfTheirs world names name call)
     (task : Task ℕ) (called : task_called world name ≡ Some task) (mine : Task ℕ)
     (stands : StandsOnTheirs world names name call it task mine) where
   abbrev part : World ℕ
@@ -78,7 +79,8 @@ module _ (world : World ℕ) (names : List TaskName) (name : TaskName) (call : C
       filter-map (is_member_task names) replaced tasks
       (λ t. ap (λ n. is_among same_name n names) (name-replaced_if_called mine t))
 
-  of_others : filter (λ t. not (is_member_task names t)) (map replaced world.tasks) ≡ map replaced (outsiders world names)
+  of_others : filter (λ t. not (is_member_task names t)) (map replaced world.tasks) ≡ map replaced
+      (outsiders world names)
   of_others =
       filter-map (λ t. not (is_member_task names t)) replaced world.tasks
       (λ t. ap (λ n. not (is_among same_name n names)) (name-replaced_if_called mine t))
@@ -115,7 +117,8 @@ module _ (world : World ℕ) (names : List TaskName) (name : TaskName) (call : C
       (λ its. absurd (true≢false (sym from.1
       ∙ ap not (ap (is_member_task names) (sym its.1)
       ∙ (among-from_filter (is_member_task names) world.tasks task member).1))))
-      (λ same. among-flat_map locations_of (outsiders world names) t l m (subst (λ x. Among l (locations_of x)) same at))
+      (λ same. among-flat_map locations_of (outsiders world names) t l m
+      (subst (λ x. Among l (locations_of x)) same at))
       (how t from.0)
 
   lets_go : LetsGo world names it.is it.sealed_off names (map replaced world.tasks)

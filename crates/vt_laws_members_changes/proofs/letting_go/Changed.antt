@@ -1,10 +1,10 @@
 -- Where tasks of a set let locations go, the world and the part are ready to be swept.
-use Rattle.std.proofs.Common.{◌≡◌, refl, sym, ap, subst, ◌∙◌, ◌⊎◌, inl, inr, ⊎_elim, ℕ, nat_eq, Bool, true, false, cond, true≢false, List, Option, Some, None, filter, map, not, ◌||◌, eqb-true}
+use Rattle.std.proofs.Common.{◌≡◌, refl, sym, ap, subst, ◌∙◌, ◌⊎◌, inl, inr, ⊎_elim, ℕ, nat_eq, Bool, true, false, cond, true≢false, List, [], Option, Some, None, filter, map, not, ◌||◌, eqb-true}
 use Rattle.std.specs.List.{list_any}
 use Rattle.std.proofs.lemmas.Bool.{or_cases, or_left, or_parts, or_right}
 use Rattle.vt_spec.specs.Language.Calls.{TaskName}
 use Rattle.vt_spec.specs.Lists.{holds_of, then_some, when}
-use Rattle.vt_spec.specs.Machine.Invariants.{IsWorld, Stands}
+use Rattle.vt_spec.specs.Machine.Invariants.{IsWorld, MountInvariants, Stands}
 use Rattle.vt_spec.specs.Machine.Mounts.{Location, Mount}
 use Rattle.vt_spec.specs.Machine.Sealed.{is_at, is_member_task, locations, members, outsiders, roots_and_directories, sealed, seen_by_descriptor, used_directly}
 use Rattle.vt_spec.specs.Machine.World.{Task, World, all_locations, locations_of, mount_at, mount_numbered}
@@ -29,29 +29,29 @@ mount_under world names is sealed_off l m =
     (at.0, at.1, eqb-true l.mount at.0.number at.2)
 
 -- a mount point is on a mount of the same namespace
-pub parent_of : (world : World ℕ) (is : IsWorld nat_eq world) (names : List TaskName) (m : Mount ℕ) (l : Location ℕ)
-    → Among m world.mounts → m.mount_point ≡ Some l
-    → (n : ℕ) × (m.namespace ≡ Some n) × (k : Mount ℕ) × Among k world.mounts × (l.mount ≡ k.number)
+pub mount_parent : (b : World ℕ) → MountInvariants nat_eq b → (m : Mount ℕ) (l : Location ℕ)
+    → Among m b.mounts → m.mount_point ≡ Some l
+    → (n : ℕ) × (m.namespace ≡ Some n) × (k : Mount ℕ) × Among k b.mounts × (l.mount ≡ k.number)
     × (k.namespace ≡ Some n)
-parent_of world is names m l at point = by m.namespace refl
+mount_parent b kept m l at point = by m.namespace refl
   where
-    below : m.namespace ≡ (mount_numbered nat_eq world l.mount).namespace
+    below : m.namespace ≡ (mount_numbered nat_eq b l.mount).namespace
     below =
-        sym (ap (λ (y : Mount ℕ). y.namespace) (found_itself world.mounts is.mounts.one_number m at))
-        ∙ namespace_below world m.number l
-        (among_from_all (λ (y : Mount ℕ). Stands nat_eq world y.number) world.mounts is.mounts.standing m at)
-        (ap (λ (y : Mount ℕ). y.mount_point) (found_itself world.mounts is.mounts.one_number m at) ∙ point)
+        sym (ap (λ (y : Mount ℕ). y.namespace) (found_itself b.mounts kept.one_number m at))
+        ∙ namespace_below b m.number l
+        (among_from_all (λ (y : Mount ℕ). Stands nat_eq b y.number) b.mounts kept.standing m at)
+        (ap (λ (y : Mount ℕ). y.mount_point) (found_itself b.mounts kept.one_number m at) ∙ point)
 
     by : (o : Option ℕ) → m.namespace ≡ o
-        → (n : ℕ) × (m.namespace ≡ Some n) × (k : Mount ℕ) × Among k world.mounts × (l.mount ≡ k.number)
+        → (n : ℕ) × (m.namespace ≡ Some n) × (k : Mount ℕ) × Among k b.mounts × (l.mount ≡ k.number)
         × (k.namespace ≡ Some n)
-    by None e = absurd (nowhere_stands world names is.mounts m l at e point)
+    by None e = absurd (nowhere_stands b [] kept m l at e point)
     by (Some n) e =
-        let up : (mount_numbered nat_eq world l.mount).namespace ≡ Some n = sym below ∙ e in
+        let up : (mount_numbered nat_eq b l.mount).namespace ≡ Some n = sym below ∙ e in
         ⊎_elim
-        (λ found. (n, e, mount_numbered nat_eq world l.mount, found, sym (number-mount_in world.mounts l.mount), up))
+        (λ found. (n, e, mount_numbered nat_eq b l.mount, found, sym (number-mount_in b.mounts l.mount), up))
         (λ none. none_is_some n (sym (ap (λ (y : Mount ℕ). y.namespace) none) ∙ up))
-        (found_or_none world.mounts l.mount)
+        (found_or_none b.mounts l.mount)
 
 -- The tasks of a set let locations go.
 module _ (world : World ℕ) (names : List TaskName) (is : IsWorld nat_eq world)
@@ -66,7 +66,8 @@ module _ (world : World ℕ) (names : List TaskName) (is : IsWorld nat_eq world)
   pub record LetsGo (tasks : List (Task ℕ)) : Type 0 where
     pub own : (n : ℕ) → list_any (λ (t : Task ℕ). nat_eq n t.namespace) (of_set tasks)
         ≡ list_any (λ (t : Task ℕ). nat_eq n t.namespace) old
-    pub roots : (l : Location ℕ) → Among l (roots_and_directories (of_set tasks)) → IsTheirs world names is.mounts l.mount
+    pub roots : (l : Location ℕ) → Among l (roots_and_directories (of_set tasks))
+        → IsTheirs world names is.mounts l.mount
     pub places : (l : Location ℕ) → Among l (locations (of_set tasks))
         → Among l (locations old) ⊎ IsTheirs world names is.mounts l.mount
     pub others : (l : Location ℕ) → Among l (locations (filter (λ t. not (is_member_task set t)) tasks))
@@ -166,7 +167,8 @@ module _ (world : World ℕ) (names : List TaskName) (is : IsWorld nat_eq world)
 
     direct_was : (n : ℕ) → Among n (used_directly nat_eq later set) → Among n (used_directly nat_eq world names)
     direct_was n m =
-        ⊎_elim (λ shown. among-append_left (mounted old) (map shows (locations old)) n (subst (Among n) mounted_same shown))
+        ⊎_elim (λ shown. among-append_left (mounted old) (map shows (locations old)) n
+        (subst (Among n) mounted_same shown))
         (λ placed. let l = among-from_map shows (locations new) n placed in
         ⊎_elim
         (λ was. among-append_right (mounted old) (map shows (locations old)) n
@@ -181,7 +183,8 @@ module _ (world : World ℕ) (names : List TaskName) (is : IsWorld nat_eq world)
       own = λ n h. sym (it.own n) ∙ h;
       mounts = kept_by;
       located = λ l m. ⊎_elim (located world names l)
-          (λ theirs. ap (λ (k : Mount ℕ). k.filesystem) (same_mount world names is.mounts l.mount theirs)) (it.places l m);
+          (λ theirs. ap (λ (k : Mount ℕ). k.filesystem) (same_mount world names is.mounts l.mount theirs))
+          (it.places l m);
       direct = direct_was;
     }
 
@@ -189,7 +192,8 @@ module _ (world : World ℕ) (names : List TaskName) (is : IsWorld nat_eq world)
     pub stood_so : (m : Mount ℕ) → Among m world.mounts → stands new m ≡ true
         → (owns new m ≡ true) ⊎ (m.mount_point ≡ None)
     stood_so m n h =
-        ⊎_elim (λ own. inl (owned_same m ∙ own)) (λ stood. inr (nowhere stood.0 m.mount_point refl)) (stood_ground m n h)
+        ⊎_elim (λ own. inl (owned_same m ∙ own)) (λ stood. inr (nowhere stood.0 m.mount_point refl))
+        (stood_ground m n h)
       where
         nowhere : m.namespace ≡ None → (o : Option (Location ℕ)) → m.mount_point ≡ o → m.mount_point ≡ None
         nowhere none None e = e
@@ -202,5 +206,6 @@ module _ (world : World ℕ) (names : List TaskName) (is : IsWorld nat_eq world)
         ⊎_elim
         (λ was. let t = among-from_flat_map locations_of old l was in
         mount_under world names is sealed_off l
-        (among-flat_map locations_of world.tasks t.0 l (among-from_filter (is_member_task names) world.tasks t.0 t.1).0 t.2))
+        (among-flat_map locations_of world.tasks t.0 l
+        (among-from_filter (is_member_task names) world.tasks t.0 t.1).0 t.2))
         (λ theirs. (theirs.0, theirs.1, sym theirs.2)) (it.places l m)

@@ -32,7 +32,8 @@ filter_in p q r (x ∷ xs) same none =
         later ∙ sym (ap (λ b. cond b (x ∷ filter q xs) (filter q xs)) (none x (inl refl) e))
 
 among_both : (used chosen : List ℕ) (n : ℕ)
-    → is_among nat_eq n (filter (λ k. is_among nat_eq k used) chosen) ≡ (is_among nat_eq n chosen && is_among nat_eq n used)
+    → is_among nat_eq n (filter (λ k. is_among nat_eq k used) chosen)
+    ≡ (is_among nat_eq n chosen && is_among nat_eq n used)
 among_both used chosen n =
     same_truth (is_among nat_eq n (filter (λ k. is_among nat_eq k used) chosen))
     (is_among nat_eq n chosen && is_among nat_eq n used)
@@ -70,7 +71,8 @@ cut_twice used chosen files = λ i. record {
     numbers : filter (λ k. is_among nat_eq k used) (filter (λ k. is_among nat_eq k chosen) files.numbers)
         ≡ filter (λ k. is_among nat_eq k both) files.numbers
     numbers =
-        filter_in (λ k. is_among nat_eq k used) (λ k. is_among nat_eq k both) (λ k. is_among nat_eq k chosen) files.numbers
+        filter_in (λ k. is_among nat_eq k used) (λ k. is_among nat_eq k both)
+        (λ k. is_among nat_eq k chosen) files.numbers
         (λ k m e. sym (among_both used chosen k ∙ ap (λ b. b && is_among nat_eq k used) e))
         (λ k m e. among_both used chosen k ∙ ap (λ b. b && is_among nat_eq k used) e)
 
@@ -79,7 +81,8 @@ module _ (files : FileTree ℕ) (chosen : List ℕ) (top : ℕ) where
   abbrev cut : FileTree ℕ
   cut = only_among nat_eq chosen files
 
-  entry_was : (b object : ℕ) → has_entry_to nat_eq cut.tree b object ≡ true → has_entry_to nat_eq files.tree b object ≡ true
+  entry_was : (b object : ℕ) → has_entry_to nat_eq cut.tree b object ≡ true
+      → has_entry_to nat_eq files.tree b object ≡ true
   entry_was b object = by (is_among nat_eq b chosen)
     where
       by : (c : Bool) → is_among nat_eq object (targets_in (cond c (files.tree.node b) None)) ≡ true
@@ -114,7 +117,8 @@ module _ (files : FileTree ℕ) (chosen : List ℕ) (top : ℕ) where
   chain_was (suc n) d h = by (named_parent nat_eq cut.tree d) refl h (chain_was n)
     where
       by : (o : Option ℕ) → named_parent nat_eq cut.tree d ≡ o
-          → is_among nat_eq top (elim o [ None ↦ d ∷ [] | Some b ↦ d ∷ chain n (named_parent nat_eq cut.tree) b ]) ≡ true
+          → is_among nat_eq top (elim o [ None ↦ d ∷ [] | Some b ↦ d ∷ chain n (named_parent nat_eq cut.tree) b ])
+          ≡ true
           → ((b : ℕ) → reaches top n (named_parent nat_eq cut.tree) b ≡ true
           → reaches top n (named_parent nat_eq files.tree) b ≡ true)
           → reaches top (suc n) (named_parent nat_eq files.tree) d ≡ true
@@ -148,7 +152,8 @@ module _ (files : FileTree ℕ) (chosen : List ℕ) (top : ℕ) where
       by false h =
           let at = any_among (λ d. has_entry_to nat_eq cut.tree d object && is_directory_under nat_eq cut top d)
           cut.numbers h in
-          let both = and_parts (has_entry_to nat_eq cut.tree at.0 object) (is_directory_under nat_eq cut top at.0) at.2 in
+          let both = and_parts (has_entry_to nat_eq cut.tree at.0 object)
+          (is_directory_under nat_eq cut top at.0) at.2 in
           any_from_among (λ d. has_entry_to nat_eq files.tree d object && is_directory_under nat_eq files top d)
           files.numbers at.0 (among-from_filter (λ n. is_among nat_eq n chosen) files.numbers at.0 at.1).0
           (and_from (has_entry_to nat_eq files.tree at.0 object) (is_directory_under nat_eq files top at.0)
@@ -158,7 +163,8 @@ module _ (files : FileTree ℕ) (chosen : List ℕ) (top : ℕ) where
 module _ (number : ℕ) (lowers : List (Layer ℕ)) where
   abbrev pub lies_under : FileTree ℕ → ℕ → Bool
   lies_under files object =
-      list_any (λ (layer : Layer ℕ). nat_eq number layer.filesystem && is_under nat_eq files layer.directory object) lowers
+      list_any (λ (layer : Layer ℕ). nat_eq number layer.filesystem
+      && is_under nat_eq files layer.directory object) lowers
 
   -- what lies under them
   abbrev pub cut_to : FileTree ℕ → FileTree ℕ
@@ -181,7 +187,8 @@ module _ (number : ℕ) (lowers : List (Layer ℕ)) where
     all_under layer at on object there under =
         has.all object (among_numbers whole.numbers object (has.listed object ∙ there))
         (any_from_among (λ (l : Layer ℕ). nat_eq number l.filesystem && is_under nat_eq whole l.directory object)
-        lowers layer at (and_from (nat_eq number layer.filesystem) (is_under nat_eq whole layer.directory object) on under))
+        lowers layer at (and_from (nat_eq number layer.filesystem)
+        (is_under nat_eq whole layer.directory object) on under))
 
     pub lies_alike : (object : ℕ) → Among object whole.numbers → is_among nat_eq object chosen ≡ true
         → lies_under part object ≡ lies_under whole object
@@ -203,7 +210,8 @@ module _ (number : ℕ) (lowers : List (Layer ℕ)) where
 
     -- it is a layer's directory, or has a name
     pub named_there : (object : ℕ) → Among object part.numbers → lies_under part object ≡ true
-        → ((layer : Layer ℕ) × Among layer lowers × (nat_eq number layer.filesystem ≡ true) × (layer.directory ≡ object))
+        → ((layer : Layer ℕ) × Among layer lowers × (nat_eq number layer.filesystem ≡ true)
+        × (layer.directory ≡ object))
         ⊎ Among object (named_in part)
     named_there object there h =
         let kept = among-from_filter (λ n. is_among nat_eq n chosen) whole.numbers object there in
@@ -243,7 +251,8 @@ module _ (number : ℕ) (lowers : List (Layer ℕ)) where
         ap (λ list. only_among nat_eq list part) same_numbers
         ∙ (λ i. record {
           tree = record { root = whole.tree.root; node = λ n. node n (is_among nat_eq n left) refl i };
-          numbers = filter_in (λ n. is_among nat_eq n left) (λ n. is_among nat_eq n left) (λ n. is_among nat_eq n chosen)
+          numbers = filter_in (λ n. is_among nat_eq n left) (λ n. is_among nat_eq n left)
+              (λ n. is_among nat_eq n chosen)
               whole.numbers (λ n m e. refl) (λ n m e. out n e (is_among nat_eq n left) refl) i;
         })
       where

@@ -30,7 +30,7 @@ use Rattle.vt_laws_members_changes.proofs.letting_go.SeeLess.{part_of_less}
 use Rattle.vt_laws_members_changes.proofs.letting_go.Sweep.{part_of_settled, swept_of}
 use Rattle.vt_laws_members_changes.proofs.letting_go.WorldReady.{world_ready}
 
-raised_is : {A : Type 0} (name : TaskName) (what : Task ℕ → A)
+pub raised_is : {A : Type 0} (name : TaskName) (what : Task ℕ → A)
     → ((t : Task ℕ) → what (record t { change = raised t.change }) ≡ what t) → (t : Task ℕ)
     → what (raised_task name t) ≡ what t
 raised_is {A} name what same t = by (same_name name t.name)
@@ -57,7 +57,7 @@ private_in_part world names is y n none =
     (kept_how world names (members world names) from.0 y from.2)
 
 -- tasks whose change numbers are raised see what they saw
-raised_sees : (u : World ℕ) (set : List TaskName) (name : TaskName) (change : ℕ)
+pub raised_sees : (u : World ℕ) (set : List TaskName) (name : TaskName) (change : ℕ)
     → SeeAlike u set set (map (raised_task name) u.tasks) change
 raised_sees u set name change =
     sees_alike u set (raised_task name) (raised_is name (λ (t : Task ℕ). t.name) (λ t. refl))
@@ -143,7 +143,8 @@ let_go_alike world names set name call it task called fresh other answer stays t
         (part_ready world names it.is it.sealed_off set tasks tasks_too world.change part.change lets same all))
 
     raised_members : (list : List (Task ℕ))
-        → filter (is_member_task set) (map (raised_task name) list) ≡ map (raised_task name) (filter (is_member_task set) list)
+        → filter (is_member_task set) (map (raised_task name) list) ≡ map (raised_task name)
+        (filter (is_member_task set) list)
     raised_members list =
         filter-map (is_member_task set) (raised_task name) list
         (λ t. ap (λ n. is_among same_name n set) (raised_is name (λ (x : Task ℕ). x.name) (λ x. refl) t))

@@ -42,7 +42,8 @@ kept_filtered k later p (x ∷ xs) same none =
         ap (λ o. cons_option o (filter_map later (filter p xs))) (same x (inl refl) e) ∙ ap (cons_option (k x)) rest
     by false e rest = rest ∙ sym (ap (λ o. cons_option o (filter_map k xs)) (none x (inl refl) e))
 
-module _ (a : World ℕ) (set : List TaskName) (used : List ℕ) (lowers : List (Layer ℕ)) (it : Ready a set used lowers) where
+module _ (a : World ℕ) (set : List TaskName) (used : List ℕ) (lowers : List (Layer ℕ))
+    (it : Ready a set used lowers) where
   abbrev direct : List ℕ
   direct = used_directly nat_eq a set
 
@@ -61,7 +62,8 @@ module _ (a : World ℕ) (set : List TaskName) (used : List ℕ) (lowers : List 
       → has_layer_on nat_eq number merged ≡ true → alive number ≡ true
   layer_alive number merged m at has =
       or_right (is_mounted nat_eq a number) _
-      (any_from_among (λ other. has_layer_on nat_eq number other && is_mounted nat_eq a other.number) a.filesystems merged m
+      (any_from_among (λ other. has_layer_on nat_eq number other
+      && is_mounted nat_eq a other.number) a.filesystems merged m
       (and_from (has_layer_on nat_eq number merged) (is_mounted nat_eq a merged.number) has
       (direct_mounted a set used lowers it merged.number at)))
 
@@ -177,7 +179,8 @@ module _ (a : World ℕ) (set : List TaskName) (used : List ℕ) (lowers : List 
   living_mounted merged m over =
       let from = among-from_filter (filesystem_lives nat_eq a) a.filesystems merged m in
       ⊎_elim (λ mounted. mounted)
-      (λ layer. let at = any_among (λ other. has_layer_on nat_eq merged.number other && is_mounted nat_eq a other.number)
+      (λ layer. let at = any_among
+      (λ other. has_layer_on nat_eq merged.number other && is_mounted nat_eq a other.number)
       a.filesystems layer in
       absurd (true≢false (sym over
       ∙ ap is_some (it.plain merged at.0 from.0 at.1

@@ -38,7 +38,8 @@ use Rattle.vt_laws_members_changes.proofs.letting_go.Callers.{moved_alike}
 abbrev Closes : ℕ → Permit ℕ → Type 0
 Closes number permit = permit ≡ ToClose number
 
-closes_after : (number : ℕ) (r : Result (Descriptor ℕ) Deny) → IfOk (and_then r (λ descriptor. Ok (ToClose number))) (Closes number)
+closes_after : (number : ℕ) (r : Result (Descriptor ℕ) Deny) → IfOk
+    (and_then r (λ descriptor. Ok (ToClose number))) (Closes number)
 closes_after number (Ok descriptor) = refl
 closes_after number (Err deny) = tt
 
@@ -48,23 +49,23 @@ closes task number = closes_after number (descriptor_at task number (λ descript
 
 module _ (world : World ℕ) (names : List TaskName) (is : IsWorld nat_eq world)
     (sealed_off : sealed nat_eq world names ≡ true) (task : Task ℕ) (member : Among task (members world names)) where
-  abbrev one : Looks ℕ
+  abbrev pub one : Looks ℕ
   one = looks_of nat_eq world
 
-  abbrev other : Looks ℕ
+  abbrev pub other : Looks ℕ
   other = looks_of nat_eq (part_of nat_eq world names)
 
-  abbrev On : ℕ → Type 0
+  abbrev pub On : ℕ → Type 0
   On number = is_theirs world names number ≡ true
 
-  alike : JudgesAlike one other task (is_theirs world names)
+  pub alike : JudgesAlike one other task (is_theirs world names)
       (λ number. is_among nat_eq number (used_filesystems nat_eq world names))
   alike = judges world names is sealed_off task member
 
-  abbrev StandsHere : Here ℕ → Type 0
+  abbrev pub StandsHere : Here ℕ → Type 0
   StandsHere = HereAt one other task On alike.walks alike.directory alike.rules.removed
 
-  at_directory : (path : List ℕ) → IfOk (directory_walk nat_eq one task path) StandsHere
+  pub at_directory : (path : List ℕ) → IfOk (directory_walk nat_eq one task path) StandsHere
   at_directory path = (directory_agrees one other task On alike.walks alike.directory alike.rules.removed path).1
 
   -- The permits of chdir(2) and chroot(2)
@@ -112,9 +113,11 @@ closes_end_alike world names name number it fresh other = by (task_called world 
           places = λ l m. inl (⊎_elim inl (λ rest. inr (⊎_elim inl (λ open_file.
               let d = among-from_map (λ (d : Descriptor ℕ). d.location)
               (filter (λ (d : Descriptor ℕ). not (number == d.number)) task.descriptors) l open_file in
-              inr (subst (λ (k : Location ℕ). Among k (map (λ (d : Descriptor ℕ). d.location) task.descriptors)) (sym d.2)
+              inr (subst (λ (k : Location ℕ). Among k (map (λ (d : Descriptor ℕ). d.location) task.descriptors))
+              (sym d.2)
               (among-map (λ (d : Descriptor ℕ). d.location) task.descriptors d.0
-              (among-from_filter (λ (d : Descriptor ℕ). not (number == d.number)) task.descriptors d.0 d.1).0))) rest)) m);
+              (among-from_filter (λ (d : Descriptor ℕ). not
+              (number == d.number)) task.descriptors d.0 d.1).0))) rest)) m);
         }) fresh other refl
         (ap (run_by world names name (Close number) it fresh other world fresh task) judged)
         (ap (run_by world names name (Close number) it fresh other part other task)

@@ -1,27 +1,29 @@
 -- So is the part, where the tasks let go in it what they let go in the world.
-use Rattle.std.proofs.Common.{◌≡◌, refl, sym, ap, subst, ◌∙◌, ◌⊎◌, inl, inr, ⊎_elim, ℕ, nat_eq, true, false, List, Option, Some, None, filter, is_some, eq-eqb}
+use Rattle.std.proofs.Common.{◌≡◌, refl, sym, ap, subst, ◌∙◌, ◌⊎◌, inl, inr, ⊎_elim, ℕ, nat_eq, true, List, Option, Some, None, filter, is_some, eq-eqb}
 use Rattle.std.specs.List.{list_any}
 use Rattle.std.proofs.lemmas.Bool.{or_left, or_right}
 use Rattle.vt_spec.specs.Language.Calls.{TaskName}
-use Rattle.vt_spec.specs.Lists.{holds_of, is_among}
+use Rattle.vt_spec.specs.Lists.{holds_of}
 use Rattle.vt_spec.specs.Machine.Invariants.{IsWorld}
 use Rattle.vt_spec.specs.Machine.Mounts.{Location, Mount}
-use Rattle.vt_spec.specs.Machine.Sealed.{is_at, is_member_task, lies_in_own_lower, locations, members, own_lowers, part_of, part_of_filesystem, roots_and_directories, sealed, used_filesystems}
-use Rattle.vt_spec.specs.Machine.Settled.{has_layer_on, is_located, mount_lives, without_dead_mounts}
-use Rattle.vt_spec.specs.Machine.World.{Filesystem, Layer, Task, World, all_locations, locations_of}
+use Rattle.vt_spec.specs.Machine.Sealed.{is_at, is_member_task, locations, members, own_lowers, part_of, part_of_filesystem, roots_and_directories, sealed, used_filesystems}
+use Rattle.vt_spec.specs.Machine.Settled.{is_located, mount_lives, without_dead_mounts}
+use Rattle.vt_spec.specs.Machine.World.{Filesystem, Task, World, all_locations, locations_of}
 use Rattle.vt_spec.proofs.Lists.{Among, among-filter, among-filter_map, among-flat_map, among-from_filter, among-from_filter_map, among-from_flat_map, any_from_among, pair-filter}
 use Rattle.vt_spec.proofs.Options.{none_is_some}
 use Rattle.vt_laws_mounts.specs.Mounts.Invariants.{OneNumberEach}
 use Rattle.vt_laws_part.proofs.part.Observed.{lowers_same, used_same}
-use Rattle.vt_laws_part.proofs.part.PartOfPart.{is_own, keep, kept_how, kept_whole, shown_how}
+use Rattle.vt_laws_part.proofs.part.PartOfPart.{is_own, keep, kept_how, kept_whole}
 use Rattle.vt_laws_sealed.proofs.outsiders.SeenLater.{shown_at}
 use Rattle.vt_laws_members.proofs.judging.Grounds.{IsTheirs, nowhere_stands}
 use Rattle.vt_laws_members.proofs.judging.MountPoints.{part_mount}
 use Rattle.vt_laws_members.proofs.judging.MountTrees.{part_one_number}
-use Rattle.vt_laws_members_changes.proofs.letting_go.Changed.{LetsGo, ground_is, ground_whole, owned_same, parent_of, placed_on, sees_less}
-use Rattle.vt_laws_members_changes.proofs.letting_go.Ready.{IsCut, NoOthers, Ready, numbers_kept}
-use Rattle.vt_laws_members_changes.proofs.letting_go.SeeLess.{SeeLess, has_lowers, less_lowers, less_used}
-use Rattle.vt_laws_members_changes.proofs.letting_go.WorldReady.{plain_in, sees_living, whole_cut}
+use Rattle.vt_laws_members_changes.proofs.letting_go.Changed.{LetsGo, ground_is, ground_whole, owned_same, mount_parent, placed_on, sees_less}
+use Rattle.vt_laws_members_changes.proofs.letting_go.Ready.{NoOthers, Ready}
+use Rattle.vt_laws_members_changes.proofs.letting_go.LessSeen.{AreLess, less_lowers, less_used}
+use Rattle.vt_laws_members_changes.proofs.letting_go.PartFiles.{cut_in_part, numbers_in_part, plain_in_part}
+use Rattle.vt_laws_members_changes.proofs.letting_go.SeeLess.{SeeLess, now_less}
+use Rattle.vt_laws_members_changes.proofs.letting_go.WorldReady.{sees_living}
 
 module _ (world : World ℕ) (names : List TaskName) (is : IsWorld nat_eq world)
     (sealed_off : sealed nat_eq world names ≡ true) (set : List TaskName) (tasks tasks_too : List (Task ℕ))
@@ -91,7 +93,8 @@ module _ (world : World ℕ) (names : List TaskName) (is : IsWorld nat_eq world)
       let number : l.mount ≡ shows.0.number = on.2 ∙ sym (number_kept on.0 shows.0 shows.1) in (
         shows.0,
         located_lives shows.0 l there_too
-            (among-flat_map locations_of tasks_too t.0 l (among-from_filter (is_member_task set) tasks_too t.0 t.1).0 t.2)
+            (among-flat_map locations_of tasks_too t.0 l
+            (among-from_filter (is_member_task set) tasks_too t.0 t.1).0 t.2)
             number,
         number,
       )
@@ -118,7 +121,8 @@ module _ (world : World ℕ) (names : List TaskName) (is : IsWorld nat_eq world)
       (λ its. (
         its,
         ⊎_elim (λ own. own)
-            (λ none. absurd (nowhere_stands world names is.mounts y l (subst (λ k. Among k world.mounts) its n) none point))
+            (λ none. absurd (nowhere_stands world names is.mounts y l
+            (subst (λ k. Among k world.mounts) its n) none point))
             (part_mount world names is m y n e),
       ))
       (λ stub. none_is_some l (ap (λ (k : Mount ℕ). k.mount_point) stub.0 ∙ point))
@@ -127,7 +131,8 @@ module _ (world : World ℕ) (names : List TaskName) (is : IsWorld nat_eq world)
   own_whole : (k : Mount ℕ) → Among k world.mounts → is_own world names old k ≡ true → Among k part.mounts
   own_whole k n own =
       among-filter_map kept world.mounts k k n
-      (kept_whole world names old k (or_left (is_own world names old k) (is_at nat_eq (roots_and_directories old) k) own))
+      (kept_whole world names old k
+      (or_left (is_own world names old k) (is_at nat_eq (roots_and_directories old) k) own))
 
   parents_so : (y : Mount ℕ) (l : Location ℕ) → Among y living.mounts → y.mount_point ≡ Some l
       → (n : ℕ) × (y.namespace ≡ Some n) × (k : Mount ℕ) × Among k living.mounts × (l.mount ≡ k.number)
@@ -135,7 +140,7 @@ module _ (world : World ℕ) (names : List TaskName) (is : IsWorld nat_eq world)
   parents_so y l n point =
       let from = was y n in
       let whole = whole_point from.0 y l from.1 from.2 point in
-      let up = parent_of world is names y l (subst (λ k. Among k world.mounts) whole.0 from.1) point in
+      let up = mount_parent world is.mounts y l (subst (λ k. Among k world.mounts) whole.0 from.1) point in
       let own : is_own world names old up.2 ≡ true =
       ap (holds_of (λ i. list_any (λ (t : Task ℕ). nat_eq i t.namespace) old)) (up.5 ∙ sym up.1) ∙ whole.1 in
       (up.0, up.1, up.2, attached_lives up.2 up.0 (own_whole up.2 up.3 own) up.5, up.4, up.5)
@@ -167,44 +172,8 @@ module _ (world : World ℕ) (names : List TaskName) (is : IsWorld nat_eq world)
         (among-filter (is_member_task set) tasks_too t.0 t.1 (all t.0 t.1)) t.2;
   }
 
-  shown_number : (x y : Filesystem ℕ) → shown x ≡ Some y → (y.number ≡ x.number) × (y.overlay ≡ x.overlay)
-  shown_number x y e =
-      ⊎_elim
-      (λ whole. (ap (λ (f : Filesystem ℕ). f.number) (sym whole.0), ap (λ (f : Filesystem ℕ). f.overlay) (sym whole.0)))
-      (λ low. (ap (λ (f : Filesystem ℕ). f.number) (sym low.0), ap (λ (f : Filesystem ℕ). f.overlay) (sym low.0)))
-      (shown_how world names x y e)
-
-  plain_there : (y merged : Filesystem ℕ) → Among y part.filesystems → Among merged part.filesystems
-      → has_layer_on nat_eq y.number merged ≡ true → y.overlay ≡ None
-  plain_there y merged m n has =
-      let one = among-from_filter_map shown world.filesystems y m in
-      let two = among-from_filter_map shown world.filesystems merged n in
-      let its = shown_number one.0 y one.2 in
-      let other = shown_number two.0 merged two.2 in
-      its.1
-      ∙ plain_in world names is one.0 two.0 one.1 two.1
-      (ap (λ o. has_layer_on nat_eq one.0.number (record merged { overlay = o }))
-      (sym other.1)
-      ∙ ap (λ k. has_layer_on nat_eq k merged) (sym its.0) ∙ has)
-
-  cut_there : (y : Filesystem ℕ) → Among y part.filesystems
-      → is_among nat_eq y.number (used_filesystems nat_eq later set) ≡ false
-      → list_any (λ (layer : Layer ℕ). nat_eq y.number layer.filesystem) (own_lowers nat_eq later set) ≡ true
-      → IsCut y.number (own_lowers nat_eq later set) y.files
-  cut_there y m unused low =
-      let from = among-from_filter_map shown world.filesystems y m in
-      ⊎_elim
-      (λ whole. subst (λ (f : Filesystem ℕ). IsCut f.number (own_lowers nat_eq later set) f.files) whole.0
-      (whole_cut world is (own_lowers nat_eq later set) from.0 from.1))
-      (λ lower. subst (λ (f : Filesystem ℕ). IsCut f.number (own_lowers nat_eq later set) f.files) lower.0
-      (record {
-        whole = from.0.files;
-        chosen = filter (lies_in_own_lower nat_eq world names from.0.number)
-            from.0.files.numbers;
-        has = has_lowers world names is set tasks tasks_too change change_too less same from.0 from.1 lower.1 lower.2;
-        same = refl;
-      }))
-      (shown_how world names from.0 y from.2)
+  sees : AreLess world names set later later_part
+  sees = now_less world names is set tasks tasks_too change change_too less same
 
   one_number : OneNumberEach living
   one_number =
@@ -214,19 +183,16 @@ module _ (world : World ℕ) (names : List TaskName) (is : IsWorld nat_eq world)
   pub part_ready : Ready living set (used_filesystems nat_eq later set) (own_lowers nat_eq later set)
   part_ready = record {
     used_are = used_same later_part living set (sees_living later_part set)
-        ∙ less_used world names is set tasks tasks_too change
-        change_too less same;
+        ∙ less_used world names is set later later_part sees;
     lowers_are = lowers_same later_part living set (sees_living later_part set)
-        ∙ less_lowers world names is set tasks tasks_too change
-        change_too less same;
+        ∙ less_lowers world names is set later later_part sees;
     one = one_number;
     lives = λ y n. (among-from_filter (mount_lives nat_eq later_part) part.mounts y n).1;
     located = located_so;
     parents = parents_so;
     stood = stood_there;
-    one_filesystem = numbers_kept (λ (f : Filesystem ℕ). f.number) shown (λ x y e. (shown_number x y e).0) world.filesystems
-        is.files.one_filesystem;
-    plain = plain_there;
+    one_filesystem = numbers_in_part world names is;
+    plain = plain_in_part world names is;
     free = λ y m u. inl (record { itself = alone y.number; overlays = λ merged n has. alone merged.number });
-    cut = cut_there;
+    cut = cut_in_part world names is set later later_part sees;
   }

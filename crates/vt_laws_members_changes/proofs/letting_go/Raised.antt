@@ -22,7 +22,8 @@ attached number None h = h
 attached number (Some n) h = refl
 
 -- a private mount is in no group
-in_no_group : (group : ℕ) (kind : Propagation ℕ) → is_private kind ≡ true → holds_of (nat_eq group) (group_of kind) ≡ false
+in_no_group : (group : ℕ) (kind : Propagation ℕ) → is_private kind ≡ true → holds_of (nat_eq group) (group_of kind)
+    ≡ false
 in_no_group group (Shared other) e = absurd (true≢false (sym e))
 in_no_group group (Slave master) e = refl
 in_no_group group Private e = refl
@@ -50,7 +51,8 @@ module _ (before : World ℕ) (in_use : AllInUse before) (private_ones : Detache
       (λ m h. or_left (is_some m.namespace) (is_located nat_eq later m.number) (attached n m.namespace h))
 
   -- a group with a member keeps one
-  members_stay : (group : ℕ) → has_members nat_eq before.mounts group ≡ true → has_members nat_eq after.mounts group ≡ true
+  members_stay : (group : ℕ) → has_members nat_eq before.mounts group ≡ true
+      → has_members nat_eq after.mounts group ≡ true
   members_stay group h =
       let at = any_among (is_member_of nat_eq group) before.mounts h in
       by at.0 at.1 at.2 at.0.namespace refl

@@ -44,7 +44,8 @@ pub numbers_kept : {A : Type 0} (key : A → ℕ) (k : A → Option A) → ((x y
     → any_pair (λ x y. nat_eq (key x) (key y)) (filter_map k list) ≡ false
 numbers_kept key k same [] e = refl
 numbers_kept {A} key k same (x ∷ rest) e =
-    let parts = or_parts (list_any (λ y. nat_eq (key x) (key y)) rest) (any_pair (λ y z. nat_eq (key y) (key z)) rest) e in
+    let parts = or_parts (list_any (λ y. nat_eq (key x) (key y)) rest)
+    (any_pair (λ y z. nat_eq (key y) (key z)) rest) e in
     by (k x) refl parts.0 (numbers_kept key k same rest parts.1)
   where
     by : (o : Option A) → k x ≡ o → list_any (λ y. nat_eq (key x) (key y)) rest ≡ false
@@ -125,7 +126,8 @@ module _ (a : World ℕ) (set : List TaskName) where
       (merged : Filesystem ℕ) → Among merged a.filesystems → is_overlay merged ≡ true
       → is_mounted nat_eq a merged.number ≡ true
 
-module _ (a : World ℕ) (set : List TaskName) (used : List ℕ) (lowers : List (Layer ℕ)) (it : Ready a set used lowers) where
+module _ (a : World ℕ) (set : List TaskName) (used : List ℕ) (lowers : List (Layer ℕ))
+    (it : Ready a set used lowers) where
   abbrev members_of : List (Task ℕ)
   members_of = members a set
 
@@ -164,7 +166,8 @@ module _ (a : World ℕ) (set : List TaskName) (used : List ℕ) (lowers : List 
           let same : l.0.mount ≡ m.number = sym (eqb-true m.number l.0.mount l.2) in
           let on : shows l.0 ≡ number = ap (λ (x : Mount ℕ). x.filesystem) (mount_is m at l.0 same) ∙ e in
           let its = none.locations l.0 l.1 on in (
-            shown_at a set m (any_from_among (λ (k : Location ℕ). nat_eq k.mount m.number) (locations members_of) l.0 its
+            shown_at a set m (any_from_among (λ (k : Location ℕ). nat_eq k.mount m.number)
+                (locations members_of) l.0 its
                 (eq-eqb l.0.mount m.number same)),
             among-append_right mounted_there (map shows (locations members_of)) number
                 (subst (λ k. Among k (map shows (locations members_of))) on

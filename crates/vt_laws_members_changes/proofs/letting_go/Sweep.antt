@@ -27,7 +27,8 @@ groups_part b set = λ i. record (part_of nat_eq b set) {
     same group true e =
         let own = any_among (is_member_of nat_eq group) (own_mounts nat_eq b set) e in
         let from = among-from_filter (is_own_mount nat_eq b set) b.mounts own.0 own.1 in
-        ap (λ c. cond (list_any (is_member_of nat_eq group) (own_mounts nat_eq b set)) (cond c (b.master group) None) None)
+        ap (λ c. cond (list_any (is_member_of nat_eq group) (own_mounts nat_eq b set))
+        (cond c (b.master group) None) None)
         (any_from_among (is_member_of nat_eq group) b.mounts own.0 from.0 own.2)
     same group false e =
         ap (λ c. cond c (cond (has_members nat_eq b.mounts group) (b.master group) None) None) e

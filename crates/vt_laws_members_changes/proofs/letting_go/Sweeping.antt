@@ -17,7 +17,8 @@ use Rattle.vt_laws_members_changes.proofs.letting_go.Sweep.{part_of_settled, swe
 use Rattle.vt_laws_members_changes.proofs.letting_go.WorldReady.{world_ready}
 
 module _ (world : World ℕ) (names set : List TaskName) (is : IsWorld nat_eq world)
-    (sealed_off : sealed nat_eq world names ≡ true) (tasks : List (Task ℕ)) (uses : UsesNoMore world names set tasks) where
+    (sealed_off : sealed nat_eq world names ≡ true) (tasks : List (Task ℕ))
+    (uses : UsesNoMore world names set tasks) where
   abbrev old : List (Task ℕ)
   old = members world names
 

@@ -62,7 +62,8 @@ map_kept g k [] = refl
 map_kept {A} {B} g k (x ∷ xs) = by (k x) (map_kept g k xs)
   where
     by : (o : Option B) → map g (filter_map k xs) ≡ filter_map (λ y. option_map g (k y)) xs
-        → map g (cons_option o (filter_map k xs)) ≡ cons_option (option_map g o) (filter_map (λ y. option_map g (k y)) xs)
+        → map g (cons_option o (filter_map k xs)) ≡ cons_option (option_map g o)
+        (filter_map (λ y. option_map g (k y)) xs)
     by None later = later
     by (Some y) later = ap (λ l. g y ∷ l) later
 
@@ -83,7 +84,8 @@ layers_kept world false x = refl
 layers_kept world true x = by (list_all (λ n. is_among nat_eq n (used_in nat_eq world x)) x.files.numbers)
   where
     of : (o : Option (Overlay ℕ))
-        → overlay_or [] (λ (overlay : Overlay ℕ). overlay.lowers) (option_map (real_among nat_eq (used_in nat_eq world x)) o)
+        → overlay_or [] (λ (overlay : Overlay ℕ). overlay.lowers)
+        (option_map (real_among nat_eq (used_in nat_eq world x)) o)
         ≡ overlay_or [] (λ (overlay : Overlay ℕ). overlay.lowers) o
     of None = refl
     of (Some overlay) = refl
@@ -237,12 +239,14 @@ module _ (a : World ℕ) (set : List TaskName) (used_now : List ℕ) (lowers : L
         used a x layer.directory (by_layer of.0 layer of.1 of.3 on refl)
 
     shown_named : (object : ℕ) → Among object x.files.numbers → lies_under x.number lowers x.files object ≡ true
-        → ((layer : Layer ℕ) × Among layer lowers × (nat_eq x.number layer.filesystem ≡ true) × (layer.directory ≡ object))
+        → ((layer : Layer ℕ) × Among layer lowers × (nat_eq x.number layer.filesystem ≡ true)
+        × (layer.directory ≡ object))
         ⊎ Among object (named_in x.files)
     shown_named =
         subst (λ (files : FileTree ℕ). (object : ℕ) → Among object files.numbers
         → lies_under x.number lowers files object ≡ true
-        → ((layer : Layer ℕ) × Among layer lowers × (nat_eq x.number layer.filesystem ≡ true) × (layer.directory ≡ object))
+        → ((layer : Layer ℕ) × Among layer lowers × (nat_eq x.number layer.filesystem ≡ true)
+        × (layer.directory ≡ object))
         ⊎ Among object (named_in files)) cut.same
         (named_there x.number lowers cut.whole cut.chosen cut.has)
 
@@ -274,7 +278,10 @@ module _ (a : World ℕ) (set : List TaskName) (used_now : List ℕ) (lowers : L
           overlay = option_map (real_among nat_eq all_used) x.overlay;
           change = 0;
         }) cut_same
-        ∙ ap (λ o. record (lowered x.number lowers x.files x) { overlay = option_map (real_among nat_eq all_used) o }) plain
+        ∙ ap (λ o. record (lowered x.number lowers x.files x) {
+          overlay = option_map
+              (real_among nat_eq all_used) o;
+        }) plain
         ∙ ap (λ o. record (lowered x.number lowers x.files x) { overlay = o }) (sym plain)
 
     lowered_same : (c : Bool) → lowered x.number lowers (only_used nat_eq a c x).files (only_used nat_eq a c x)
@@ -358,7 +365,8 @@ module _ (a : World ℕ) (set : List TaskName) (used_now : List ℕ) (lowers : L
           };
     }
 
-    free_swept : (y : Filesystem ℕ) → Among y swept.filesystems → uses y.number ≡ true → Alone swept set y.number ⊎ AllNamed y
+    free_swept : (y : Filesystem ℕ) → Among y swept.filesystems → uses y.number ≡ true → Alone swept set y.number
+        ⊎ AllNamed y
     free_swept y m u =
         let from = was y m in
         let same : y.number ≡ from.0.number =

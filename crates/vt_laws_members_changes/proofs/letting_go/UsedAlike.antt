@@ -31,7 +31,8 @@ pub data IsPlace (b : World ℕ) (l : Location ℕ) : Type 0 where
 pub data IsUsed (b : World ℕ) (x : Filesystem ℕ) (object : ℕ) : Type 0 where
   as_root : object ≡ x.files.tree.root → IsUsed b x object
   by_name : Among object (named_in x.files) → IsUsed b x object
-  by_place : (l : Location ℕ) → IsPlace b l → (mount_at nat_eq b l).filesystem ≡ x.number → object ≡ l.node → IsUsed b x object
+  by_place : (l : Location ℕ) → IsPlace b l → (mount_at nat_eq b l).filesystem ≡ x.number → object ≡ l.node
+      → IsUsed b x object
   by_layer : (merged : Filesystem ℕ) (layer : Layer ℕ) → Among merged b.filesystems
       → Among layer (of_overlay [] layers_of merged) → nat_eq x.number layer.filesystem ≡ true
       → object ≡ layer.directory → IsUsed b x object
@@ -216,7 +217,8 @@ module _ (a : World ℕ) (set : List TaskName) (used_now : List ℕ) (lowers : L
   own_by m k n e f own =
       ap (holds_of (λ i. list_any (λ (t : Task ℕ). nat_eq i t.namespace) theirs)) (f ∙ sym e) ∙ own
 
-  shown_used : (x : Filesystem ℕ) → Among x a.filesystems → is_among nat_eq x.number (used_filesystems nat_eq a set) ≡ true
+  shown_used : (x : Filesystem ℕ) → Among x a.filesystems → is_among nat_eq x.number
+      (used_filesystems nat_eq a set) ≡ true
       → Among x part.filesystems
   shown_used x m e =
       among-filter_map (part_of_filesystem nat_eq a set) a.filesystems x x m
@@ -233,7 +235,8 @@ module _ (a : World ℕ) (set : List TaskName) (used_now : List ℕ) (lowers : L
       by true own q at = (same_Some m y (sym (own_whole m own) ∙ e), own)
       by false own true at =
           let same : m ≡ y =
-          same_Some m y (sym (ap (λ b. cond b (Some m) (when (is_at nat_eq (locations theirs) m) (seen_by_descriptor m)))
+          same_Some m y (sym (ap
+          (λ b. cond b (Some m) (when (is_at nat_eq (locations theirs) m) (seen_by_descriptor m)))
           (ap (λ b. owns m || b) at ∙ ap (λ b. b || true) own)) ∙ e) in
           ⊎_elim (λ its. (same, its))
           (λ none. none_is_some l (sym none ∙ ap (λ (k : Mount ℕ). k.mount_point) same ∙ point))

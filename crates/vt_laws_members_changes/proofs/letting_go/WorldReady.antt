@@ -7,7 +7,7 @@ use Rattle.vt_spec.specs.Lists.{holds_of, is_among}
 use Rattle.vt_spec.specs.Machine.Invariants.{IsWorld, ListsNumbers}
 use Rattle.vt_spec.specs.Machine.Locked.{overlay_or, overlays}
 use Rattle.vt_spec.specs.Machine.Mounts.{Location, Mount}
-use Rattle.vt_spec.specs.Machine.Sealed.{all_named, is_lower_root, is_member_task, is_own_namespace, locations, members, no_outsider_on, other_mounts, outsiders, own_lowers, sealed, used_alone, used_filesystems, wholly_locked}
+use Rattle.vt_spec.specs.Machine.Sealed.{all_named, is_lower_root, is_member_task, is_own_namespace, locations, members, no_outsider_on, other_mounts, outsiders, own_lowers, part_of, sealed, used_alone, used_filesystems, wholly_locked}
 use Rattle.vt_spec.specs.Machine.Settled.{has_layer_on, is_located, mount_lives, named_in, without_dead_mounts}
 use Rattle.vt_spec.specs.Machine.World.{Filesystem, Layer, Overlay, Task, World, all_locations, filesystem_numbered, is_overlay, layers_of, locations_of, mount_at, mount_numbered}
 use Rattle.vt_spec.specs.TreeInvariant.{IsTree}
@@ -20,10 +20,11 @@ use Rattle.vt_laws_part.proofs.part.DeadMounts.{mounts_kept}
 use Rattle.vt_laws_part.proofs.part.PartOfPart.{is_own}
 use Rattle.vt_laws_part.proofs.part.Observed.{lowers_same, used_same}
 use Rattle.vt_laws_part.proofs.seals.ByPart.{layer_plain, used_are_free}
-use Rattle.vt_laws_members_changes.proofs.letting_go.Changed.{LetsGo, mount_under, owned_same, parent_of, placed_on, sees_less, stood_so}
+use Rattle.vt_laws_members_changes.proofs.letting_go.Changed.{LetsGo, mount_under, owned_same, mount_parent, placed_on, sees_less, stood_so}
 use Rattle.vt_laws_members_changes.proofs.letting_go.CutAgain.{uncut}
 use Rattle.vt_laws_members_changes.proofs.letting_go.Ready.{AllNamed, Alone, IsCut, NoOthers, Ready, layered_overlay}
-use Rattle.vt_laws_members_changes.proofs.letting_go.SeeLess.{used_was}
+use Rattle.vt_laws_members_changes.proofs.letting_go.LessSeen.{used_was}
+use Rattle.vt_laws_members_changes.proofs.letting_go.SeeLess.{now_less}
 
 -- without dead mounts the set sees what it saw
 pub sees_living : (b : World ℕ) (set : List TaskName) → SeesTheSame b (without_dead_mounts nat_eq b) set
@@ -71,6 +72,24 @@ whole_cut world is lowers x m =
       same = uncut x.files listed;
     }
 
+-- where each inode has a name
+pub all_named_there : (world : World ℕ) (names : List TaskName) (is : IsWorld nat_eq world) (x : Filesystem ℕ)
+    → Among x world.filesystems → wholly_locked nat_eq world names x.number ≡ true
+    → AllNamed x
+all_named_there world names is x m locked object n =
+    let all : all_named nat_eq x.files ≡ true =
+    ap (λ (f : Filesystem ℕ). all_named nat_eq f.files)
+    (sym (found_filesystem world.filesystems is.files.one_filesystem x m))
+    ∙ (and_parts (list_any (λ merged. is_lower_root nat_eq x.number
+    (filesystem_numbered nat_eq world x.number).files.tree.root merged
+    && used_alone nat_eq world names merged.number) (overlays world))
+    (all_named nat_eq (filesystem_numbered nat_eq world x.number).files) locked).1 in
+    ⊎_elim (λ root. inl (eqb-true object x.files.tree.root root))
+    (λ named. inr (among_numbers (named_in x.files) object named))
+    (or_cases (nat_eq object x.files.tree.root) (is_among nat_eq object (named_in x.files))
+    (among_from_list_all (λ k. nat_eq k x.files.tree.root || is_among nat_eq k (named_in x.files)) x.files.numbers all
+    object n))
+
 module _ (world : World ℕ) (names : List TaskName) (is : IsWorld nat_eq world)
     (sealed_off : sealed nat_eq world names ≡ true) (set : List TaskName) (tasks : List (Task ℕ)) (change : ℕ)
     (it : LetsGo world names is sealed_off set tasks) where
@@ -107,10 +126,13 @@ module _ (world : World ℕ) (names : List TaskName) (is : IsWorld nat_eq world)
   -- where others have no foothold
   module _ (number : ℕ) (none : no_outsider_on nat_eq world names number ≡ true) where
     abbrev nobody : (list_any (λ (m : Mount ℕ). nat_eq number m.filesystem) (other_mounts nat_eq world names) ≡ false)
-        × (list_any (λ l. nat_eq number (mount_at nat_eq world l).filesystem) (locations (outsiders world names)) ≡ false)
+        × (list_any (λ l. nat_eq number (mount_at nat_eq world l).filesystem) (locations (outsiders world names))
+        ≡ false)
     nobody =
-        let both = and_parts (not (list_any (λ (m : Mount ℕ). nat_eq number m.filesystem) (other_mounts nat_eq world names)))
-        (not (list_any (λ l. nat_eq number (mount_at nat_eq world l).filesystem) (locations (outsiders world names)))) none in
+        let both = and_parts (not
+        (list_any (λ (m : Mount ℕ). nat_eq number m.filesystem) (other_mounts nat_eq world names)))
+        (not (list_any (λ l. nat_eq number (mount_at nat_eq world l).filesystem)
+        (locations (outsiders world names)))) none in
         (not-true _ both.0, not-true _ both.1)
 
     mounts_own : (m : Mount ℕ) → Among m living.mounts → m.filesystem ≡ number
@@ -181,7 +203,8 @@ module _ (world : World ℕ) (names : List TaskName) (is : IsWorld nat_eq world)
       is_one : (merged : Filesystem ℕ) → has_layer_on nat_eq number merged ≡ true → is_overlay merged ≡ true
       is_one merged = layered_overlay number merged
 
-      by : list_all (λ merged. not (has_layer_on nat_eq number merged) || no_outsider_on nat_eq world names merged.number)
+      by : list_all (λ merged. not (has_layer_on nat_eq number merged)
+          || no_outsider_on nat_eq world names merged.number)
           (overlays world) ≡ true → (merged : Filesystem ℕ) → Among merged world.filesystems
           → has_layer_on nat_eq number merged ≡ true → no_outsider_on nat_eq world names merged.number ≡ true
       by all merged m has =
@@ -189,22 +212,6 @@ module _ (world : World ℕ) (names : List TaskName) (is : IsWorld nat_eq world)
           (or_cases (not (has_layer_on nat_eq number merged)) (no_outsider_on nat_eq world names merged.number)
           (among_from_list_all (λ y. not (has_layer_on nat_eq number y) || no_outsider_on nat_eq world names y.number)
           (overlays world) all merged (among-filter is_overlay world.filesystems merged m (is_one merged has))))
-
-  all_are_named : (x : Filesystem ℕ) → Among x world.filesystems → wholly_locked nat_eq world names x.number ≡ true
-      → AllNamed x
-  all_are_named x m locked object n =
-      let all : all_named nat_eq x.files ≡ true =
-      ap (λ (f : Filesystem ℕ). all_named nat_eq f.files)
-      (sym (found_filesystem world.filesystems is.files.one_filesystem x m))
-      ∙ (and_parts (list_any (λ merged. is_lower_root nat_eq x.number
-      (filesystem_numbered nat_eq world x.number).files.tree.root merged
-      && used_alone nat_eq world names merged.number) (overlays world))
-      (all_named nat_eq (filesystem_numbered nat_eq world x.number).files) locked).1 in
-      ⊎_elim (λ root. inl (eqb-true object x.files.tree.root root))
-      (λ named. inr (among_numbers (named_in x.files) object named))
-      (or_cases (nat_eq object x.files.tree.root) (is_among nat_eq object (named_in x.files))
-      (among_from_list_all (λ k. nat_eq k x.files.tree.root || is_among nat_eq k (named_in x.files)) x.files.numbers all
-      object n))
 
   pub world_ready : Ready living set (used_filesystems nat_eq later set) (own_lowers nat_eq later set)
   world_ready = record {
@@ -215,16 +222,17 @@ module _ (world : World ℕ) (names : List TaskName) (is : IsWorld nat_eq world)
     lives = λ m n. (among-from_filter (mount_lives nat_eq later) world.mounts m n).1;
     located = λ l m. let on = placed_on world names is sealed_off set tasks change it l m in
         (on.0, located_lives on.0 l on.1 (of_all l m) on.2, on.2);
-    parents = λ m l n point. let up = parent_of world is names m l (there m n) point in
+    parents = λ m l n point. let up = mount_parent world is.mounts m l (there m n) point in
         (up.0, up.1, up.2, attached_lives up.2 up.0 up.3 up.5, up.4, up.5);
     stood = λ m n h. stood_so world names is sealed_off set tasks change it m (there m n) h;
     one_filesystem = is.files.one_filesystem;
     plain = plain_in world names is;
-    free = λ x m u. ⊎_elim (λ h. inl (alone x.number h)) (λ h. inr (all_are_named x m h))
+    free = λ x m u. ⊎_elim (λ h. inl (alone x.number h)) (λ h. inr (all_named_there world names is x m h))
         (or_cases (used_alone nat_eq world names x.number) (wholly_locked nat_eq world names x.number)
         (used_are_free world names sealed_off x.number
         (among_numbers (used_filesystems nat_eq world names) x.number
-        (used_was world names is set tasks tasks change change (sees_less world names is sealed_off set tasks change it)
-        refl x.number u))));
+        (used_was world names is set later (record (part_of nat_eq world names) { tasks = tasks; change = change })
+        (now_less world names is set tasks tasks change change (sees_less world names is sealed_off set tasks change it)
+        refl) x.number u))));
     cut = λ x m unused low. whole_cut world is (own_lowers nat_eq later set) x m;
   }

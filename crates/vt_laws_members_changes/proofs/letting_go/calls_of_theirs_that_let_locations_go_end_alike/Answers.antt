@@ -1,3 +1,4 @@
+use Rattle.vt_laws_members_changes.proofs.letting_go.Umounting.{umounts_end_alike}
 use Rattle.vt_laws_members_changes.proofs.letting_go.Exiting.{exits_end_alike}
 use Rattle.vt_laws_members_changes.proofs.letting_go.Moving.{chdirs_end_alike, chroots_end_alike, closes_end_alike}
 use Rattle.vt_laws_members_changes.proofs.letting_go.calls_of_theirs_that_let_locations_go_end_alike.Goals as goal
@@ -13,3 +14,6 @@ returns-clause-chroot c = chroots_end_alike
 
 pub returns-clause-exit : goal.returns-clause-exit
 returns-clause-exit c = exits_end_alike
+
+pub returns-clause-umount : goal.returns-clause-umount
+returns-clause-umount c = umounts_end_alike

@@ -1,0 +1,31 @@
+-- The mounts of a namespace, by their numbers.
+use Rattle.std.proofs.Common.{◌≡◌, sym, ap, ◌∙◌, ℕ, nat_eq, Bool, List, map}
+use Rattle.vt_spec.specs.Lists.{holds_of}
+use Rattle.vt_spec.specs.Machine.Detach.{is_going}
+use Rattle.vt_spec.specs.Machine.Mounts.{Mount}
+use Rattle.vt_spec.specs.Machine.World.{World, mount_numbered, mounts_of}
+use Rattle.vt_spec.proofs.Lists.{Among, among-filter, among-from_filter, among-from_map, among-map, among_numbers, is_among_numbers}
+use Rattle.vt_spec.proofs.Truths.{same_truth}
+use Rattle.vt_laws_mounts.specs.Mounts.Invariants.{OneNumberEach}
+use Rattle.vt_laws_mounts.proofs.mounts.MountsReplaced.{found_itself}
+
+-- the mount is in the namespace
+abbrev pub in_space : ℕ → Mount ℕ → Bool
+in_space k m = holds_of (nat_eq k) m.namespace
+
+abbrev pub numbers_in : World ℕ → ℕ → List ℕ
+numbers_in b k = map (λ (m : Mount ℕ). m.number) (mounts_of nat_eq b k)
+
+pub in_same : (b : World ℕ) (k : ℕ) → OneNumberEach b → (m : Mount ℕ) → Among m b.mounts
+    → is_going nat_eq (numbers_in b k) m.number ≡ in_space k m
+in_same b k one m n =
+    same_truth (is_going nat_eq (numbers_in b k) m.number) (in_space k m)
+    (λ h. let at = among-from_map (λ (x : Mount ℕ). x.number) (mounts_of nat_eq b k) m.number
+    (among_numbers (numbers_in b k) m.number h) in
+    let from = among-from_filter (in_space k) b.mounts at.0 at.1 in
+    let same : at.0 ≡ m =
+    sym (found_itself b.mounts one at.0 from.0) ∙ ap (mount_numbered nat_eq b) (sym at.2)
+    ∙ found_itself b.mounts one m n in
+    ap (in_space k) (sym same) ∙ from.1)
+    (λ h. is_among_numbers (numbers_in b k) m.number
+    (among-map (λ (x : Mount ℕ). x.number) (mounts_of nat_eq b k) m (among-filter (in_space k) b.mounts m n h)))

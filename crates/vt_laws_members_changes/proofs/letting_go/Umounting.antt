@@ -1,0 +1,273 @@
+-- Each umount(2) ends in the part as in the world.
+use Rattle.std.proofs.Common.{◌≡◌, refl, sym, ap, subst, ◌∙◌, ⊎_elim, ℕ, nat_eq, Bool, true, false, true≢false, List, [], ◌∷◌, Option, Some, None, Ok, Err, filter, is_some, map, not}
+use Rattle.std.specs.Prelude.{⊤, IfOk, is_ok}
+use Rattle.std.specs.List.{list_any}
+use Rattle.std.proofs.lemmas.Bool.{or_parts}
+use Rattle.vt_spec.specs.Errors.{Rules, unless}
+use Rattle.vt_spec.specs.Language.Answers.Answer.{Done}
+use Rattle.vt_spec.specs.Language.Calls.{TaskName}
+use Rattle.vt_spec.specs.Language.Calls.Call.{Umount}
+use Rattle.vt_spec.specs.Lists.{Fresh}
+use Rattle.vt_spec.specs.Machine.Detach.{after_going, going, has_child, is_going, taken_away}
+use Rattle.vt_spec.specs.Machine.Invariants.{IsWorld, MountInvariants}
+use Rattle.vt_spec.specs.Machine.Judge.{Judgement, judge_in, umount_permit}
+use Rattle.vt_spec.specs.Machine.Mounts.{Location, Mount, stands_on}
+use Rattle.vt_spec.specs.Machine.Outcomes.{granted}
+use Rattle.vt_spec.specs.Machine.Permits.{Permit}
+use Rattle.vt_spec.specs.Machine.Permits.Permit.{ToUnmount}
+use Rattle.vt_spec.specs.Machine.Policy.{numbers_raised, policy}
+use Rattle.vt_spec.specs.Machine.Receives.{lost_a_group, regrouped_by}
+use Rattle.vt_spec.specs.Machine.Rules.Mounting.{admin_rules, umount_rules}
+use Rattle.vt_spec.specs.Machine.Sealed.{is_member_task, members, part_of, sealed}
+use Rattle.vt_spec.specs.Machine.Settled.{settled}
+use Rattle.vt_spec.specs.Machine.Walking.{directory_walk}
+use Rattle.vt_spec.specs.Machine.World.{Namespace, Task, World, mount_at, mount_numbered, task_called}
+use Rattle.vt_spec.proofs.Lists.{Among, among-from_filter, among-from_filter_map, among_numbers, map_twice, none_among, none_from_among}
+use Rattle.vt_laws_mounts.proofs.ends.Ending.{unmount_keeps_mounts}
+use Rattle.vt_laws_part.proofs.part.PartOfPart.{is_own, keep, kept_how, same_members}
+use Rattle.vt_laws_members.specs.Judging.{is_theirs}
+use Rattle.vt_laws_members.proofs.judging.Busy.{going_alike, going_own}
+use Rattle.vt_laws_members.proofs.judging.Grounds.{IsTheirs, nowhere_stands, numbered, same_mount, theirs_from}
+use Rattle.vt_laws_members_changes.specs.Changes.{EndAlike, EndsAlike, IsCallOfTheirs, grown}
+use Rattle.vt_laws_members_changes.specs.LettingGo.{UmountsEndAlike}
+use Rattle.vt_laws_members_changes.proofs.looks.Granted.{of_rules, of_walk}
+use Rattle.vt_laws_members_changes.proofs.looks.Told.{member_called, ran, same_caller}
+use Rattle.vt_laws_members_changes.proofs.tasks.Denied.{denial_ends_alike, run_by, same_judgement, unnamed_ends_alike}
+use Rattle.vt_laws_members_changes.proofs.letting_go.Detached.{detached_parts}
+use Rattle.vt_laws_members_changes.proofs.letting_go.Moving.{StandsHere, at_directory, one}
+use Rattle.vt_laws_members_changes.proofs.letting_go.NamespaceLess.{ended, ended_part}
+use Rattle.vt_laws_members_changes.proofs.letting_go.PartMounts.{part_mounts}
+use Rattle.vt_laws_members_changes.proofs.letting_go.Regrouped.{flags_same, regroup_is, regrouped_mount, regrouped_so}
+
+-- What is granted has passed all rules.
+abbrev Passed : Rules → Type 0
+Passed [] = ⊤
+Passed ((failed, rule) ∷ rules) = (failed ≡ false) × Passed rules
+
+of_passed : (P : Permit ℕ → Type 0) (rules : Rules) (r : Judgement ℕ) → (Passed rules → IfOk r P) → IfOk
+    (unless rules r) P
+of_passed P [] r next = next tt
+of_passed P ((true, rule) ∷ rules) r next = tt
+of_passed P ((false, rule) ∷ rules) r next = of_passed P rules r (λ passed. next (refl, passed))
+
+-- all of a list pass
+filter_true : {A : Type 0} (xs : List A) → filter (λ (x : A). true) xs ≡ xs
+filter_true [] = refl
+filter_true (x ∷ xs) = ap (λ l. x ∷ l) (filter_true xs)
+
+-- mounts of a world go
+module _ (w : World ℕ) (gone : List ℕ) where
+  abbrev left_by : World ℕ
+  left_by = record w { mounts = map (after_going nat_eq w gone) w.mounts }
+
+  taken_so : (b : Bool) → list_any (lost_a_group nat_eq left_by) left_by.mounts ≡ b
+      → taken_away nat_eq w gone ≡ record (regrouped_so b left_by) {
+        mounts = map (λ m. regrouped_mount b left_by (after_going nat_eq w gone m)) w.mounts;
+        namespaces = filter (λ (n : Namespace ℕ). true) w.namespaces;
+      }
+  taken_so b flag =
+      ap (λ c. regrouped_by nat_eq c left_by) flag
+      ∙ regroup_is b left_by
+      ∙ (λ i. record (regrouped_so b left_by) {
+        mounts = map_twice (regrouped_mount b left_by) (after_going nat_eq w gone) w.mounts i;
+        namespaces = sym (filter_true w.namespaces) i;
+      })
+
+-- What a granted umount takes away
+module _ (world : World ℕ) (names : List TaskName) (is : IsWorld nat_eq world)
+    (sealed_off : sealed nat_eq world names ≡ true) (task : Task ℕ) (member : Among task (members world names)) where
+  abbrev On : ℕ → Type 0
+  On number = is_theirs world names number ≡ true
+
+  abbrev Unmounts : Permit ℕ → Type 0
+  Unmounts permit =
+      (here : Location ℕ) × (permit ≡ ToUnmount here.mount) × On here.mount
+      × (is_some (mount_at nat_eq world here).mount_point ≡ true) × (has_child nat_eq world here.mount ≡ false)
+
+  pointed : (b : Bool) → not b ≡ false → b ≡ true
+  pointed true e = refl
+  pointed false e = sym e
+
+  unmounts : (path : List ℕ) → IfOk
+      (umount_permit nat_eq (one world names is sealed_off task member) task path) Unmounts
+  unfolding umount_permit
+  unmounts path =
+      of_rules Unmounts (admin_rules task) _
+      (of_walk (StandsHere world names is sealed_off task member) Unmounts
+      (directory_walk nat_eq (one world names is sealed_off task member) task path)
+      (λ here. unless (umount_rules nat_eq (one world names is sealed_off task member) task here.location)
+      (Ok (ToUnmount here.location.mount))) (at_directory world names is sealed_off task member path)
+      (λ here on. of_passed Unmounts
+      (umount_rules nat_eq (one world names is sealed_off task member) task here.location)
+      (Ok (ToUnmount here.location.mount))
+      (λ passed. (
+        here.location,
+        refl,
+        on,
+        pointed (is_some (mount_at nat_eq world here.location).mount_point) passed.1.1.1.0,
+        (or_parts (has_child nat_eq world here.location.mount) _ passed.1.1.0).0,
+      ))))
+
+module _ (world : World ℕ) (names : List TaskName) (is : IsWorld nat_eq world)
+    (sealed_off : sealed nat_eq world names ≡ true) (name : TaskName) (mount : Mount ℕ)
+    (there : Among mount world.mounts) (own : is_own world names (members world names) mount ≡ true)
+    (kept_world : MountInvariants nat_eq (taken_away nat_eq world (going nat_eq world mount)))
+    (kept_part : MountInvariants nat_eq
+    (taken_away nat_eq (part_of nat_eq world names) (going nat_eq world mount))) where
+  abbrev part : World ℕ
+  part = part_of nat_eq world names
+
+  abbrev old : List (Task ℕ)
+  old = members world names
+
+  abbrev gone : List ℕ
+  gone = going nat_eq world mount
+
+  pub own_go : (m : Mount ℕ) → Among m world.mounts → is_going nat_eq gone m.number ≡ true
+      → is_own world names old m ≡ true
+  own_go m n h =
+      let its = going_own world names is sealed_off mount m.number there own (among_numbers gone m.number h) in
+      let same : its.0 ≡ m =
+      sym (numbered world names is.mounts its.0 its.1) ∙ ap (mount_numbered nat_eq world) its.3
+      ∙ numbered world names is.mounts m n in
+      ap (is_own world names old) (sym same) ∙ its.2
+
+  abbrev flag : Bool
+  flag = list_any (lost_a_group nat_eq (record world { mounts = map (after_going nat_eq world gone) world.mounts }))
+      (map (after_going nat_eq world gone) world.mounts)
+
+  abbrev lasts : ℕ → Bool
+  lasts n = true
+
+  abbrev v : World ℕ
+  v = ended world names is sealed_off names gone own_go lasts world.tasks part.tasks world.change part.change
+      (same_members world names) (λ t m. m) flag
+
+  abbrev v_part : World ℕ
+  v_part = ended_part world names is sealed_off names gone own_go lasts world.tasks part.tasks world.change part.change
+      (same_members world names) (λ t m. m) flag
+
+  pub world_taken : taken_away nat_eq world gone ≡ v
+  world_taken = taken_so world gone flag refl
+
+  pub part_taken : taken_away nat_eq part gone ≡ v_part
+  part_taken =
+      taken_so part gone flag
+      (sym (flags_same world names is sealed_off gone own_go))
+
+  pub parts : part_of nat_eq (numbers_raised nat_eq world name [] (settled nat_eq (taken_away nat_eq world gone))) names
+      ≡ part_of nat_eq (numbers_raised nat_eq part name [] (settled nat_eq (taken_away nat_eq part gone))) names
+  parts =
+      ap (λ w. part_of nat_eq (numbers_raised nat_eq world name [] (settled nat_eq w)) names) world_taken
+      ∙ detached_parts world names is sealed_off names gone own_go lasts world.tasks part.tasks world.change part.change
+      (same_members world names) (λ t m. m) (λ l m. m)
+      (λ t m. (among-from_filter (is_member_task names) world.tasks t m).1) (λ m there out its. its) flag
+      (subst (MountInvariants nat_eq) world_taken kept_world) (subst (MountInvariants nat_eq) part_taken kept_part) name
+      ∙ sym (ap (λ w. part_of nat_eq (numbers_raised nat_eq part name [] (settled nat_eq w)) names) part_taken)
+
+-- A granted umount
+module _ (world : World ℕ) (names : List TaskName) (name : TaskName) (path : List ℕ)
+    (it : IsCallOfTheirs world names name (Umount path)) (task : Task ℕ) (called : task_called world name ≡ Some task)
+    (fresh other : Fresh ℕ) (here : Location ℕ) (on : is_theirs world names here.mount ≡ true)
+    (has_point : is_some (mount_at nat_eq world here).mount_point ≡ true)
+    (alone : has_child nat_eq world here.mount ≡ false)
+    (judged : judge_in nat_eq fresh world task (Umount path) ≡ Ok (ToUnmount here.mount)) where
+  abbrev there : World ℕ
+  there = part_of nat_eq world names
+
+  abbrev mount_of : Mount ℕ
+  mount_of = mount_numbered nat_eq world here.mount
+
+  theirs : IsTheirs world names it.is.mounts here.mount
+  theirs = theirs_from world names it.is.mounts here.mount on
+
+  is_it : mount_of ≡ theirs.0
+  is_it = ap (mount_numbered nat_eq world) (sym theirs.2) ∙ numbered world names it.is.mounts theirs.0 theirs.1
+
+  mount_there : Among mount_of world.mounts
+  mount_there = subst (λ m. Among m world.mounts) (sym is_it) theirs.1
+
+  mount_own : is_own world names (members world names) mount_of ≡ true
+  mount_own =
+      ⊎_elim (λ own. ap (is_own world names (members world names)) is_it ∙ own)
+      (λ stood. absurd (by stood.0 mount_of.mount_point refl has_point))
+      theirs.3
+    where
+      by : theirs.0.namespace ≡ None → (o : Option (Location ℕ)) → mount_of.mount_point ≡ o → is_some o ≡ true → ⊥
+      by none None e h = true≢false (sym h)
+      by none (Some l) e h =
+          nowhere_stands world names it.is.mounts mount_of l mount_there
+          (ap (λ (m : Mount ℕ). m.namespace) is_it ∙ none) e
+
+  same_going : going nat_eq there (mount_numbered nat_eq there here.mount) ≡ going nat_eq world mount_of
+  same_going =
+      ap (going nat_eq there) (same_mount world names it.is.mounts here.mount theirs)
+      ∙ going_alike world names it.is it.sealed_off mount_of mount_there mount_own
+
+  alone_there : has_child nat_eq there here.mount ≡ false
+  alone_there =
+      none_from_among (stands_on nat_eq here.mount) there.mounts (λ y m.
+      let from = among-from_filter_map (keep world names (members world names)) world.mounts y m in
+      ⊎_elim
+      (λ same. ap (stands_on nat_eq here.mount) (sym same)
+      ∙ none_among (stands_on nat_eq here.mount) world.mounts alone from.0 from.1)
+      (λ stub. ap (λ (q : Mount ℕ). stands_on nat_eq here.mount q) (sym stub.0))
+      (kept_how world names (members world names) from.0 y from.2))
+
+  kept_world : MountInvariants nat_eq (taken_away nat_eq world (going nat_eq world mount_of))
+  kept_world = unmount_keeps_mounts world here.mount it.is.mounts alone
+
+  kept_part : MountInvariants nat_eq (taken_away nat_eq there (going nat_eq world mount_of))
+  kept_part =
+      subst (λ l. MountInvariants nat_eq (taken_away nat_eq there l)) same_going
+      (unmount_keeps_mounts there here.mount (part_mounts world names it.is it.sealed_off) alone_there)
+
+  first : policy nat_eq fresh world name (Umount path)
+      ≡ granted Done (numbers_raised nat_eq world name []
+      (settled nat_eq (taken_away nat_eq world (going nat_eq world mount_of))))
+  first =
+      ap (ran name (Umount path) world fresh) called
+      ∙ ap (run_by world names name (Umount path) it fresh other world fresh task) judged
+
+  second : policy nat_eq other there name (Umount path)
+      ≡ granted Done (numbers_raised nat_eq there name []
+      (settled nat_eq (taken_away nat_eq there (going nat_eq world mount_of))))
+  second =
+      ap (ran name (Umount path) there other) (same_caller world names it.is it.sealed_off name it.theirs ∙ called)
+      ∙ ap (run_by world names name (Umount path) it fresh other there other task)
+      (sym (same_judgement world names name (Umount path) it fresh other task called) ∙ judged)
+      ∙ ap (λ l. granted Done
+      (numbers_raised nat_eq there name [] (settled nat_eq (taken_away nat_eq there l)))) same_going
+
+  umount_alike : EndsAlike world names name (Umount path) fresh other
+  umount_alike =
+      subst (λ p. EndAlike (grown names name (Umount path) (policy nat_eq fresh world name (Umount path)).answer)
+      (policy nat_eq fresh world name (Umount path)) p) (sym second)
+      (subst (λ o. EndAlike (grown names name (Umount path) o.answer) o
+      (granted Done (numbers_raised nat_eq there name []
+      (settled nat_eq (taken_away nat_eq there (going nat_eq world mount_of)))))) (sym first)
+      (record {
+        answer = refl;
+        part = parts world names it.is it.sealed_off name mount_of mount_there mount_own kept_world kept_part;
+      }))
+
+pub umounts_end_alike : UmountsEndAlike
+umounts_end_alike world names name path it fresh other = by (task_called world name) refl
+  where
+    judged_by : (task : Task ℕ) (member : Among task (members world names)) → task_called world name ≡ Some task
+        → (j : Judgement ℕ) → judge_in nat_eq fresh world task (Umount path) ≡ j
+        → IfOk j (Unmounts world names it.is it.sealed_off task member)
+        → EndsAlike world names name (Umount path) fresh other
+    judged_by task member e (Ok permit) judged its =
+        umount_alike world names name path it task e fresh other its.0 its.2 its.3 its.4 (judged ∙ ap Ok its.1)
+    judged_by task member e (Err deny) judged its =
+        denial_ends_alike world names name (Umount path) it fresh other
+        (ap (λ o. is_ok (ran name (Umount path) world fresh o).answer) e
+        ∙ ap (λ j. is_ok (run_by world names name (Umount path) it fresh other world fresh task j).answer) judged)
+
+    by : (o : Option (Task ℕ)) → task_called world name ≡ o → EndsAlike world names name (Umount path) fresh other
+    by None e = unnamed_ends_alike world names name (Umount path) it fresh other e
+    by (Some task) e =
+        let member = member_called world names it.is it.sealed_off name it.theirs task e in
+        judged_by task member e (judge_in nat_eq fresh world task (Umount path)) refl
+        (unmounts world names it.is it.sealed_off task member path)
