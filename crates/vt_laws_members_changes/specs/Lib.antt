@@ -1,3 +1,4 @@
 pub mod Changes
 pub mod NameChanges
+pub mod OverlayEdits
 pub mod Parts

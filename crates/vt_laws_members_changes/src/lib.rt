@@ -6,5 +6,6 @@
 pub mod files;
 pub mod looks;
 pub mod names;
+pub mod overlays;
 pub mod part;
 pub mod tasks;

@@ -49,7 +49,7 @@ use Rattle.vt_laws_members_changes.proofs.tasks.Retasked.{SeeAlike}
 use Rattle.vt_laws_members_changes.proofs.tasks.Rights.{members_changed, only_task, own_alike, roots_alike}
 
 -- What is opened is on a mount of theirs
-abbrev OpensOn : (own : ℕ → Bool) → Permit ℕ → Type 0
+abbrev pub OpensOn : (own : ℕ → Bool) → Permit ℕ → Type 0
 OpensOn own (ToOpen file access) = own file.mount ≡ true
 OpensOn own permit = ⊤
 
