@@ -8,3 +8,4 @@ pub mod Opening
 pub mod RaisedTasks
 pub mod Retasked
 pub mod Rights
+pub mod WholeMounts

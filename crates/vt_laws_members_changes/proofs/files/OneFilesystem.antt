@@ -1,15 +1,27 @@
 -- A filesystem that a set uses, by its number: it is one in the world, and the same one in the part.
-use Rattle.std.proofs.Common.{◌≡◌, sym, ap, ◌∙◌, ⊎_elim, ℕ, nat_eq, eqb-true, true, false, cond, true≢false, List, Some}
+use Rattle.std.proofs.Common.{◌≡◌, refl, sym, ap, ◌∙◌, ⊎_elim, ℕ, nat_eq, eqb-true, Bool, true, false, cond, true≢false, List, [], ◌∷◌, Some, find}
+use Rattle.std.specs.Prelude.{unwrap_or}
 use Rattle.vt_spec.specs.Language.Calls.{TaskName}
 use Rattle.std.specs.List.{list_any}
 use Rattle.vt_spec.specs.Lists.{is_among, when}
 use Rattle.vt_spec.specs.Machine.Invariants.{IsWorld}
 use Rattle.vt_spec.specs.Machine.Sealed.{own_lowers, part_of, part_of_filesystem, part_of_lower, used_filesystems}
-use Rattle.vt_spec.specs.Machine.World.{Filesystem, World, filesystem_numbered}
+use Rattle.vt_spec.specs.Machine.World.{Filesystem, World, filesystem_numbered, no_filesystem}
 use Rattle.vt_spec.proofs.Lists.{Among, among-filter_map, among-from_filter_map}
 use Rattle.vt_laws_letting_go.proofs.sweeps.OfWorlds.{found_filesystem}
 use Rattle.vt_laws_part.proofs.part.PartOfPart.{shown_how}
-use Rattle.vt_laws_members_changes.proofs.files.FilesEnding.{found_numbered}
+
+-- what is found by a number has it
+pub found_numbered : (k : ℕ) (list : List (Filesystem ℕ))
+    → (unwrap_or (find (λ (f : Filesystem ℕ). nat_eq k f.number) list) (no_filesystem k)).number ≡ k
+found_numbered k [] = refl
+found_numbered k (x ∷ rest) = by (nat_eq k x.number) refl (found_numbered k rest)
+  where
+    by : (b : Bool) → nat_eq k x.number ≡ b
+        → (unwrap_or (find (λ (f : Filesystem ℕ). nat_eq k f.number) rest) (no_filesystem k)).number ≡ k
+        → (unwrap_or (cond b (Some x) (find (λ (f : Filesystem ℕ). nat_eq k f.number) rest)) (no_filesystem k)).number ≡ k
+    by true e later = sym (eqb-true k x.number e)
+    by false e later = later
 
 module _ (world : World ℕ) (names : List TaskName) (is : IsWorld nat_eq world) (number : ℕ)
     (used : is_among nat_eq number (used_filesystems nat_eq world names) ≡ true) where
