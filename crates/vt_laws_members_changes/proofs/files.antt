@@ -4,4 +4,6 @@ pub mod FilesChanged
 pub mod FilesEnding
 pub mod FilesInUse
 pub mod FilesRaised
+pub mod OneFilesystem
 pub mod PartWritten
+pub mod StepsInUse

@@ -3,7 +3,9 @@ pub mod Denied
 pub mod Ending
 pub mod Forking
 pub mod MoreLocations
+pub mod OpenedFiles
 pub mod Opening
 pub mod RaisedTasks
 pub mod Retasked
 pub mod Rights
+pub mod WholeMounts

@@ -1,4 +1,5 @@
 pub mod Changes
 pub mod NameChanges
 pub mod LettingGo
+pub mod OverlayEdits
 pub mod Parts

@@ -10,7 +10,8 @@ ghost use Rattle.vt_laws_members_changes.specs.Changes.{ChmodsEndAlike, ChownsEn
 /// goes, in either world.
 ///
 /// Of calls that make and take names see `calls_of_theirs_that_make_names_end_alike` and
-/// `calls_of_theirs_that_take_names_end_alike`. Not proved yet of filesystems that are overlays.
+/// `calls_of_theirs_that_take_names_end_alike`, of overlays
+/// `calls_of_theirs_that_edit_files_through_overlays_end_alike`.
 pub fn calls_of_theirs_that_edit_files_end_alike()
     ensures write { WritesEndAlike }
     ensures chmod { ChmodsEndAlike }

@@ -7,5 +7,6 @@ pub mod files;
 pub mod letting_go;
 pub mod looks;
 pub mod names;
+pub mod overlays;
 pub mod part;
 pub mod tasks;

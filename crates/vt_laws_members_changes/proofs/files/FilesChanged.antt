@@ -1,11 +1,11 @@
 -- The part of a world in which a filesystem of theirs has another tree is the part with that tree.
 use Rattle.std.proofs.Common.{◌≡◌, refl, sym, ap, ◌∙◌, inl, inr, ℕ, nat_eq, eqb-true, Bool, true, false, cond, List, [], ◌∷◌, ◌++◌, Option, Some, None, find, filter, flat_map, map, ◌&&◌}
-use Rattle.std.specs.Prelude.{option_map, unwrap_or}
+use Rattle.std.specs.Prelude.{option_map, option_to_list, unwrap_or}
 use Rattle.std.specs.List.{cons_option, filter_map, list_any}
 use Rattle.vt_spec.specs.FileTree.{is_under}
 use Rattle.vt_spec.specs.Language.Calls.{TaskName}
 use Rattle.vt_spec.specs.Lists.{each_once, is_among, when}
-use Rattle.vt_spec.specs.Machine.Locked.{of_overlay}
+use Rattle.vt_spec.specs.Machine.Locked.{of_overlay, overlay_or}
 use Rattle.vt_spec.specs.Machine.Sealed.{change_layers, own_lowers, part_of, part_of_filesystem, part_of_lower, used_directly, used_filesystems}
 use Rattle.vt_spec.specs.Machine.Settled.{only_among}
 use Rattle.vt_spec.specs.Machine.World.{Filesystem, Layer, Overlay, World, filesystem_numbered, no_filesystem}
@@ -25,10 +25,15 @@ filter_map_changed {A} f g h (x ∷ xs) same =
     by None later = later
     by (Some y) later = ap (λ l. h y ∷ l) later
 
+-- the lower layers of an overlay
+abbrev pub lowers_in : Filesystem ℕ → List (Layer ℕ)
+lowers_in = of_overlay [] (λ (overlay : Overlay ℕ). overlay.lowers)
+
 -- The filesystems that they use keep their numbers and layers, and no other changes.
 module _ (world : World ℕ) (names : List TaskName) (h : Filesystem ℕ → Filesystem ℕ)
     (numbered : (x : Filesystem ℕ) → (h x).number ≡ x.number)
-    (overlaid : (x : Filesystem ℕ) → Among x world.filesystems → (h x).overlay ≡ x.overlay)
+    (changing : (x : Filesystem ℕ) → Among x world.filesystems → change_layers (h x) ≡ change_layers x)
+    (lowering : (x : Filesystem ℕ) → Among x world.filesystems → lowers_in (h x) ≡ lowers_in x)
     (kept : (x : Filesystem ℕ) → is_among nat_eq x.number (used_filesystems nat_eq world names) ≡ false → h x ≡ x) where
   abbrev later : World ℕ
   later = with_filesystems world h
@@ -60,9 +65,6 @@ module _ (world : World ℕ) (names : List TaskName) (h : Filesystem ℕ → Fil
           by true e rest_same = same x (all x (inl refl)) e
           by false e rest_same = rest_same
 
-  overlay_found : (k : ℕ) → (filesystem_numbered nat_eq later k).overlay ≡ (filesystem_numbered nat_eq world k).overlay
-  overlay_found k = found (λ (f : Filesystem ℕ). f.overlay) k (λ x m e. overlaid x m)
-
   unused_found : (k : ℕ) → is_among nat_eq k used ≡ false → filesystem_numbered nat_eq later k ≡ filesystem_numbered nat_eq world k
   unused_found k e =
       found (λ (f : Filesystem ℕ). f) k (λ x there m. kept x (ap (λ n. is_among nat_eq n used) (sym (eqb-true k x.number m)) ∙ e))
@@ -70,13 +72,10 @@ module _ (world : World ℕ) (names : List TaskName) (h : Filesystem ℕ → Fil
   used_later : used_filesystems nat_eq later names ≡ used
   used_later i =
       each_once nat_eq (used_directly nat_eq world names
-      ++ flat_map (λ k. change_layers (record (filesystem_numbered nat_eq world k) { overlay = overlay_found k i }))
-      (used_directly nat_eq world names))
+      ++ flat_map (λ k. found change_layers k (λ x m e. changing x m) i) (used_directly nat_eq world names))
 
   lowers_later : own_lowers nat_eq later names ≡ own_lowers nat_eq world names
-  lowers_later i =
-      flat_map (λ k. of_overlay [] (λ (overlay : Overlay ℕ). overlay.lowers)
-      (record (filesystem_numbered nat_eq world k) { overlay = overlay_found k i })) (used_directly nat_eq world names)
+  lowers_later i = flat_map (λ k. found lowers_in k (λ x m e. lowering x m) i) (used_directly nat_eq world names)
 
   abbrev has_lower : ℕ → Bool
   has_lower number = list_any (λ (layer : Layer ℕ). nat_eq number layer.filesystem) (own_lowers nat_eq world names)
@@ -120,8 +119,20 @@ module _ (world : World ℕ) (names : List TaskName) (h : Filesystem ℕ → Fil
       by true e = refl
       by false e = low e (has_lower x.number)
 
-  pub part_with_files : part_of nat_eq later names ≡ with_filesystems (part_of nat_eq world names) h
-  part_with_files i = record (part_of nat_eq world names) {
+  pub part_with_layers : part_of nat_eq later names ≡ with_filesystems (part_of nat_eq world names) h
+  part_with_layers i = record (part_of nat_eq world names) {
     filesystems = filter_map_changed (part_of_filesystem nat_eq later names) (part_of_filesystem nat_eq world names) h
         world.filesystems shown_later i;
   }
+
+-- so where they keep their overlays
+pub part_with_files : (world : World ℕ) (names : List TaskName) (h : Filesystem ℕ → Filesystem ℕ)
+    → ((x : Filesystem ℕ) → (h x).number ≡ x.number)
+    → ((x : Filesystem ℕ) → Among x world.filesystems → (h x).overlay ≡ x.overlay)
+    → ((x : Filesystem ℕ) → is_among nat_eq x.number (used_filesystems nat_eq world names) ≡ false → h x ≡ x)
+    → part_of nat_eq (with_filesystems world h) names ≡ with_filesystems (part_of nat_eq world names) h
+part_with_files world names h numbered overlaid kept =
+    part_with_layers world names h numbered
+    (λ x m. ap (overlay_or [] (λ (overlay : Overlay ℕ). map (λ (layer : Layer ℕ). layer.filesystem)
+    (option_to_list overlay.upper ++ option_to_list overlay.work))) (overlaid x m))
+    (λ x m. ap (overlay_or [] (λ (overlay : Overlay ℕ). overlay.lowers)) (overlaid x m)) kept

@@ -1,6 +1,6 @@
 -- An edit of a file on a plain filesystem ends in the part as in the world.
-use Rattle.std.proofs.Common.{◌≡◌, refl, sym, ap, subst, ◌∙◌, ⊎_elim, ℕ, nat_eq, eqb-true, Bool, true, false, cond, true≢false, List, [], ◌∷◌, Option, Some, None, Ok, filter, find, is_some, map, ◌||◌}
-use Rattle.std.specs.Prelude.{IfOk, unwrap_or}
+use Rattle.std.proofs.Common.{◌≡◌, refl, sym, ap, subst, ◌∙◌, ℕ, nat_eq, true, false, true≢false, List, [], ◌∷◌, Option, Some, None, Ok, filter, is_some, map, ◌||◌}
+use Rattle.std.specs.Prelude.{IfOk}
 use Rattle.vt_spec.specs.FileTree.{FileTree}
 use Rattle.vt_spec.specs.Language.Answers.Answer.{Done}
 use Rattle.vt_spec.specs.Language.Calls.{Call, TaskName, same_name}
@@ -14,21 +14,22 @@ use Rattle.vt_spec.specs.Machine.Mounts.{Location}
 use Rattle.vt_spec.specs.Machine.Outcomes.{granted}
 use Rattle.vt_spec.specs.Machine.Permits.Permit.{ToChange}
 use Rattle.vt_spec.specs.Machine.Policy.{finished_by, numbers_raised, only_looks, policy, raised_task}
-use Rattle.vt_spec.specs.Machine.Sealed.{is_member_task, part_of, part_of_filesystem, used_filesystems}
+use Rattle.vt_spec.specs.Machine.Sealed.{is_member_task, part_of, used_filesystems}
 use Rattle.vt_spec.specs.Machine.Settled.{settled}
-use Rattle.vt_spec.specs.Machine.World.{Filesystem, Overlay, Task, World, filesystem_at, filesystem_numbered, is_overlay, mount_at, no_filesystem, task_called}
-use Rattle.vt_spec.proofs.Lists.{Among, among-from_filter_map}
+use Rattle.vt_spec.specs.Machine.World.{Filesystem, Overlay, Task, World, filesystem_at, is_overlay, mount_at, task_called}
+use Rattle.vt_spec.proofs.Lists.{Among}
 use Rattle.vt_laws_letting_go.specs.InUse.{AllInUse}
 use Rattle.vt_laws_letting_go.specs.TreesOverlays.{with_filesystems}
 use Rattle.vt_laws_letting_go.proofs.Lists.{filter-map}
-use Rattle.vt_laws_letting_go.proofs.sweeps.OfWorlds.{all_in_use, found_filesystem}
-use Rattle.vt_laws_part.proofs.part.PartOfPart.{same_members, same_used, shown_how}
+use Rattle.vt_laws_letting_go.proofs.sweeps.OfWorlds.{all_in_use}
+use Rattle.vt_laws_part.proofs.part.PartOfPart.{same_members, same_used}
 use Rattle.vt_laws_members.specs.Judging.{is_theirs}
 use Rattle.vt_laws_members.proofs.judging.Grounds.{theirs_from}
 use Rattle.vt_laws_members.proofs.judging.SeenInPart.{filesystem_alike, theirs_used}
 use Rattle.vt_laws_members_changes.specs.Changes.{ChmodsEndAlike, ChownsEndAlike, EndAlike, EndsAlike, IsCallOfTheirs, OpaquesEndAlike, WritesEndAlike, grown}
 use Rattle.vt_laws_members_changes.proofs.files.Edits.{Edits, IsEdit, chmods_edit, chowns_edit, edits_keep, opaques_edit, writes_edit}
 use Rattle.vt_laws_members_changes.proofs.files.FilesInUse.{in_use_changed, tree_changes}
+use Rattle.vt_laws_members_changes.proofs.files.OneFilesystem.{old_used, one_in_part, one_in_world}
 use Rattle.vt_laws_members_changes.proofs.files.FilesRaised.{both, left, left_so, part_left, raised_is, swap}
 use Rattle.vt_laws_members_changes.proofs.looks.Told.{member_called, ran, same_caller}
 use Rattle.vt_laws_members_changes.proofs.part.PartAgain.{part_again}
@@ -38,18 +39,6 @@ use Rattle.vt_laws_members_changes.proofs.tasks.Denied.{run_by, same_judgement}
 pub no_overlay : (o : Option (Overlay ℕ)) → is_some o ≡ false → o ≡ None
 no_overlay None e = refl
 no_overlay (Some overlay) e = absurd (true≢false e)
-
--- what is found by a number has it
-pub found_numbered : (k : ℕ) (list : List (Filesystem ℕ))
-    → (unwrap_or (find (λ (f : Filesystem ℕ). nat_eq k f.number) list) (no_filesystem k)).number ≡ k
-found_numbered k [] = refl
-found_numbered k (x ∷ rest) = by (nat_eq k x.number) refl (found_numbered k rest)
-  where
-    by : (b : Bool) → nat_eq k x.number ≡ b
-        → (unwrap_or (find (λ (f : Filesystem ℕ). nat_eq k f.number) rest) (no_filesystem k)).number ≡ k
-        → (unwrap_or (cond b (Some x) (find (λ (f : Filesystem ℕ). nat_eq k f.number) rest)) (no_filesystem k)).number ≡ k
-    by true e later = sym (eqb-true k x.number e)
-    by false e later = later
 
 module _ (world : World ℕ) (names : List TaskName) (name : TaskName) (call : Call) (it : IsCallOfTheirs world names name call)
     (fresh other : Fresh ℕ) (task : Task ℕ) (found : task_called world name ≡ Some task) (looks : only_looks call ≡ false)
@@ -68,30 +57,6 @@ module _ (world : World ℕ) (names : List TaskName) (name : TaskName) (call : C
 
   abbrev files : FileTree ℕ
   files = Changes.changed nat_eq old.files change
-
-  old_number : old.number ≡ number
-  old_number = found_numbered number world.filesystems
-
-  old_used : is_among nat_eq old.number (used_filesystems nat_eq world names) ≡ true
-  old_used = ap (λ n. is_among nat_eq n (used_filesystems nat_eq world names)) old_number ∙ used
-
-  one_in_world : (x : Filesystem ℕ) → Among x world.filesystems → nat_eq old.number x.number ≡ true → x ≡ old
-  one_in_world x m e =
-      sym (found_filesystem world.filesystems it.is.files.one_filesystem x m)
-      ∙ ap (filesystem_numbered nat_eq world) (sym (eqb-true old.number x.number e) ∙ old_number)
-
-  one_in_part : (x : Filesystem ℕ) → Among x part.filesystems → nat_eq old.number x.number ≡ true → x ≡ old
-  one_in_part x m e =
-      let from = among-from_filter_map (part_of_filesystem nat_eq world names) world.filesystems x m in
-      ⊎_elim
-      (λ same. sym same.0 ∙ one_in_world from.0 from.1
-      (ap (λ (f : Filesystem ℕ). nat_eq old.number f.number) same.0 ∙ e))
-      (λ low. absurd (true≢false
-      (sym old_used
-      ∙ ap (λ n. is_among nat_eq n (used_filesystems nat_eq world names)) (eqb-true old.number x.number e)
-      ∙ ap (λ (f : Filesystem ℕ). is_among nat_eq f.number (used_filesystems nat_eq world names)) (sym low.0)
-      ∙ low.1)))
-      (shown_how world names from.0 x from.2)
 
   -- a run of the change
   changes_so : (w : World ℕ) (supply : Fresh ℕ) → filesystem_at nat_eq w location ≡ old
@@ -134,10 +99,10 @@ module _ (world : World ℕ) (names : List TaskName) (name : TaskName) (call : C
 
   parts_alike : part_of nat_eq left_here names ≡ part_of nat_eq left_there names
   parts_alike =
-      part_left old files world name names old_used one_in_world
+      part_left old files world name names (old_used world names it.is number used) (one_in_world world names it.is number used)
       ∙ (λ i. record (with_filesystems (sym (part_again world names it.is) i) (both old files)) { tasks = tasks_alike i })
       ∙ sym (part_left old files part name names
-      (ap (is_among nat_eq old.number) (same_used world names) ∙ old_used) one_in_part)
+      (ap (is_among nat_eq old.number) (same_used world names) ∙ (old_used world names it.is number used)) (one_in_part world names it.is number used))
 
   pub edit_ends : ran name call world fresh (Some task)
       ≡ run_by world names name call it fresh other world fresh task (Ok (ToChange location change))
@@ -147,12 +112,12 @@ module _ (world : World ℕ) (names : List TaskName) (name : TaskName) (call : C
   edit_ends one two =
       let first : policy nat_eq fresh world name call ≡ granted Done left_here =
       ap (ran name call world fresh) found ∙ one ∙ changes_so world fresh refl
-      ∙ ap (granted Done) (left_so old files world name (in_use world (all_in_use world it.is) one_in_world)) in
+      ∙ ap (granted Done) (left_so old files world name (in_use world (all_in_use world it.is) (one_in_world world names it.is number used))) in
       let second : policy nat_eq other part name call ≡ granted Done left_there =
       ap (ran name call part other) (same_caller world names it.is it.sealed_off name it.theirs ∙ found) ∙ two
       ∙ changes_so part other (sym alike)
       ∙ ap (granted Done)
-      (left_so old files part name (in_use part (part_in_use world names it.is it.sealed_off) one_in_part)) in
+      (left_so old files part name (in_use part (part_in_use world names it.is it.sealed_off) (one_in_part world names it.is number used))) in
       subst (λ p. EndAlike (grown names name call (policy nat_eq fresh world name call).answer)
       (policy nat_eq fresh world name call) p) (sym second)
       (subst (λ o. EndAlike (grown names name call o.answer) o (granted Done left_there)) (sym first)

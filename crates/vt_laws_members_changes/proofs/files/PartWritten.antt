@@ -28,7 +28,7 @@ use Rattle.vt_laws_members_changes.proofs.looks.Told.{member_called, open_file}
 use Rattle.vt_laws_members_changes.proofs.tasks.Denied.{run_by, same_judgement}
 
 -- these bytes to one of these files, if it is a write at an offset
-abbrev Writes : (files : List (Location ℕ)) (bytes : List ℕ) → Permit ℕ → Type 0
+abbrev pub Writes : (files : List (Location ℕ)) (bytes : List ℕ) → Permit ℕ → Type 0
 Writes files bytes (ToWritePart file at written) = Among file files × (written ≡ bytes)
 Writes files bytes permit = ⊤
 
@@ -41,7 +41,7 @@ module _ (world : World ℕ) (names : List TaskName) (is : IsWorld nat_eq world)
   abbrev Written : Permit ℕ → Type 0
   Written = Writes (locations (members world names)) bytes
 
-  writes_theirs : (number offset : ℕ) → IfOk (pwrite_permit one task number offset bytes) Written
+  pub writes_theirs : (number offset : ℕ) → IfOk (pwrite_permit one task number offset bytes) Written
   unfolding pwrite_permit
   writes_theirs number offset = by (descriptor_numbered task number) refl
     where

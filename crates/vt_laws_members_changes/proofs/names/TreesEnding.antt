@@ -1,5 +1,5 @@
 -- A call of theirs that changes one plain tree, which they use alone, ends in the part as in the world.
-use Rattle.std.proofs.Common.{◌≡◌, refl, sym, ap, subst, ◌∙◌, ⊎_elim, ℕ, nat_eq, eqb-true, true, false, true≢false, List, [], ◌∷◌, Some, Ok, filter, map, ◌||◌}
+use Rattle.std.proofs.Common.{◌≡◌, refl, sym, ap, subst, ◌∙◌, ℕ, nat_eq, true, false, List, [], ◌∷◌, Some, Ok, filter, map, ◌||◌}
 use Rattle.vt_spec.specs.FileTree.{FileTree}
 use Rattle.vt_spec.specs.Language.Answers.Answer.{Done}
 use Rattle.vt_spec.specs.Language.Calls.{Call, TaskName, same_name}
@@ -10,19 +10,20 @@ use Rattle.vt_spec.specs.Machine.Filesystems.{changed_at, filesystem_changed, nu
 use Rattle.vt_spec.specs.Machine.Mounts.{Location}
 use Rattle.vt_spec.specs.Machine.Outcomes.{Outcome, granted}
 use Rattle.vt_spec.specs.Machine.Policy.{finished, finished_by, numbers_raised, only_looks, policy, raised_task}
-use Rattle.vt_spec.specs.Machine.Sealed.{is_member_task, part_of, part_of_filesystem, used_alone, used_filesystems}
+use Rattle.vt_spec.specs.Machine.Sealed.{is_member_task, part_of, used_alone, used_filesystems}
 use Rattle.vt_spec.specs.Machine.Settled.{settled, used_in}
-use Rattle.vt_spec.specs.Machine.World.{Filesystem, Task, World, filesystem_at, filesystem_numbered, is_overlay, mount_at, task_called}
-use Rattle.vt_spec.proofs.Lists.{Among, among-from_filter_map, map_twice}
+use Rattle.vt_spec.specs.Machine.World.{Filesystem, Task, World, filesystem_at, is_overlay, mount_at, task_called}
+use Rattle.vt_spec.proofs.Lists.{Among, map_twice}
 use Rattle.vt_laws_letting_go.specs.InUse.{AllInUse}
 use Rattle.vt_laws_letting_go.specs.OneByOne.{Inode, is_inode_among}
 use Rattle.vt_laws_letting_go.specs.TreesOverlays.{ChangesFilesystem, with_filesystems}
 use Rattle.vt_laws_letting_go.proofs.Lists.{filter-map}
-use Rattle.vt_laws_letting_go.proofs.sweeps.OfWorlds.{all_in_use, found_filesystem}
-use Rattle.vt_laws_part.proofs.part.PartOfPart.{same_members, same_used, shown_how}
+use Rattle.vt_laws_letting_go.proofs.sweeps.OfWorlds.{all_in_use}
+use Rattle.vt_laws_part.proofs.part.PartOfPart.{same_members, same_used}
 use Rattle.vt_laws_members_changes.specs.Changes.{EndAlike, EndsAlike, IsCallOfTheirs, grown}
-use Rattle.vt_laws_members_changes.proofs.files.FilesEnding.{found_numbered, no_overlay}
+use Rattle.vt_laws_members_changes.proofs.files.FilesEnding.{no_overlay}
 use Rattle.vt_laws_members_changes.proofs.files.FilesRaised.{both, left, part_left, raised_is, swap}
+use Rattle.vt_laws_members_changes.proofs.files.OneFilesystem.{old_number, old_used, one_in_part, one_in_world}
 use Rattle.vt_laws_members_changes.proofs.looks.Told.{ran, same_caller}
 use Rattle.vt_laws_members_changes.proofs.names.Swept.{cut, settled_so}
 use Rattle.vt_laws_members_changes.proofs.names.UsedAlike.{cut_alike, used_alike, used_still}
@@ -69,30 +70,6 @@ module _ (world : World ℕ) (names : List TaskName) (name : TaskName) (call : C
   abbrev old : Filesystem ℕ
   old = filesystem_at nat_eq world location
 
-  old_number : old.number ≡ number
-  old_number = found_numbered number world.filesystems
-
-  old_used : is_among nat_eq old.number (used_filesystems nat_eq world names) ≡ true
-  old_used = ap (λ n. is_among nat_eq n (used_filesystems nat_eq world names)) old_number ∙ used
-
-  one_in_world : (x : Filesystem ℕ) → Among x world.filesystems → nat_eq old.number x.number ≡ true → x ≡ old
-  one_in_world x m e =
-      sym (found_filesystem world.filesystems it.is.files.one_filesystem x m)
-      ∙ ap (filesystem_numbered nat_eq world) (sym (eqb-true old.number x.number e) ∙ old_number)
-
-  one_in_part : (x : Filesystem ℕ) → Among x part.filesystems → nat_eq old.number x.number ≡ true → x ≡ old
-  one_in_part x m e =
-      let from = among-from_filter_map (part_of_filesystem nat_eq world names) world.filesystems x m in
-      ⊎_elim
-      (λ same. sym same.0 ∙ one_in_world from.0 from.1
-      (ap (λ (f : Filesystem ℕ). nat_eq old.number f.number) same.0 ∙ e))
-      (λ low. absurd (true≢false
-      (sym old_used
-      ∙ ap (λ n. is_among nat_eq n (used_filesystems nat_eq world names)) (eqb-true old.number x.number e)
-      ∙ ap (λ (f : Filesystem ℕ). is_among nat_eq f.number (used_filesystems nat_eq world names)) (sym low.0)
-      ∙ low.1)))
-      (shown_how world names from.0 x from.2)
-
   -- what the sweep leaves of the tree
   abbrev pub cut_in : World ℕ → FileTree ℕ
   cut_in w = cut (with_files old files) (used_in nat_eq (with_filesystems w (swap old files)) (with_files old files))
@@ -134,10 +111,10 @@ module _ (world : World ℕ) (names : List TaskName) (name : TaskName) (call : C
   same =
       cut_alike (with_files old files) (used_in nat_eq (with_filesystems world (swap old files)) (with_files old files))
       (used_in nat_eq (with_filesystems part (swap old files)) (with_files old files))
-      (λ n. ap (is_among nat_eq n) (used_still world old files plain one_in_world)
+      (λ n. ap (is_among nat_eq n) (used_still world old files plain (one_in_world world names it.is number used))
       ∙ used_alike world names it.is (with_files old files) it.sealed_off
-      (ap (used_alone nat_eq world names) old_number ∙ alone) n
-      ∙ ap (is_among nat_eq n) (sym (used_still part old files plain one_in_part)))
+      (ap (used_alone nat_eq world names) (old_number world names it.is number used) ∙ alone) n
+      ∙ ap (is_among nat_eq n) (sym (used_still part old files plain (one_in_part world names it.is number used))))
 
   abbrev left_here : World ℕ
   left_here = left old (cut_in world) world name
@@ -147,22 +124,25 @@ module _ (world : World ℕ) (names : List TaskName) (name : TaskName) (call : C
 
   parts_alike : part_of nat_eq left_here names ≡ part_of nat_eq left_there names
   parts_alike =
-      part_left old (cut_in world) world name names old_used one_in_world
+      part_left old (cut_in world) world name names (old_used world names it.is number used)
+      (one_in_world world names it.is number used)
       ∙ (λ i. record (with_filesystems (sym (part_again world names it.is) i) (both old (same i))) {
         tasks = tasks_alike i;
       })
       ∙ sym (part_left old (cut_in part) part name names
-      (ap (is_among nat_eq old.number) (same_used world names) ∙ old_used) one_in_part)
+      (ap (is_among nat_eq old.number) (same_used world names) ∙ old_used world names it.is number used)
+      (one_in_part world names it.is number used))
 
   pub tree_ends : ran name call world fresh (Some task) ≡ with_tree world name old files
       → ran name call part other (Some task) ≡ with_tree part name old files
       → EndsAlike world names name call fresh other
   tree_ends runs runs_there =
       let first : policy nat_eq fresh world name call ≡ granted Done left_here =
-      ap (ran name call world fresh) found ∙ runs ∙ left_so world (all_in_use world it.is) one_in_world in
+      ap (ran name call world fresh) found ∙ runs
+      ∙ left_so world (all_in_use world it.is) (one_in_world world names it.is number used) in
       let second : policy nat_eq other part name call ≡ granted Done left_there =
       ap (ran name call part other) (same_caller world names it.is it.sealed_off name it.theirs ∙ found) ∙ runs_there
-      ∙ left_so part (part_in_use world names it.is it.sealed_off) one_in_part in
+      ∙ left_so part (part_in_use world names it.is it.sealed_off) (one_in_part world names it.is number used) in
       subst (λ p. EndAlike (grown names name call (policy nat_eq fresh world name call).answer)
       (policy nat_eq fresh world name call) p) (sym second)
       (subst (λ o. EndAlike (grown names name call o.answer) o (granted Done left_there)) (sym first)

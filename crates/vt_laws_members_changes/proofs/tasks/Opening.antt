@@ -1,9 +1,7 @@
 -- An open of a file that is there, and is not copied up, ends in the part as in the world.
-use Rattle.std.proofs.Common.{◌≡◌, refl, sym, ap, subst, ◌∙◌, ◌⊎◌, inl, inr, ⊎_elim, ℕ, nat_eq, Bool, true, false, cond, true≢false, List, [], ◌∷◌, ◌++◌, Option, Some, None, Ok, filter, map, ◌&&◌, ◌||◌, eqb-true}
+use Rattle.std.proofs.Common.{◌≡◌, refl, sym, ap, subst, ◌∙◌, ◌⊎◌, inl, inr, ⊎_elim, ℕ, nat_eq, Bool, true, false, cond, true≢false, List, [], ◌∷◌, ◌++◌, Option, Some, None, Ok, filter, map, ◌&&◌, ◌||◌}
 use Rattle.std.specs.Prelude.{⊤, IfOk, nat_lt}
 use Rattle.std.specs.List.{list_any}
-use Rattle.std.proofs.lemmas.Bool.{or_left, or_right}
-use Rattle.std.proofs.lemmas.Option.{same_Some}
 use Rattle.vt_spec.specs.Errors.{unless}
 use Rattle.vt_spec.specs.Language.Answers.Answer.{Opened}
 use Rattle.vt_spec.specs.Language.Calls.{Access, Creation, TaskName, opens_for_reading, opens_for_writing, same_name}
@@ -27,16 +25,16 @@ use Rattle.vt_spec.specs.Machine.Rules.Descriptors.{descriptor_rules, exclusive_
 use Rattle.vt_spec.specs.Machine.Rules.Making.{file_word_rules, make_rules}
 use Rattle.vt_spec.specs.Machine.Sealed.{is_at, is_member_task, locations, members, part_of, roots_and_directories, seen_by_descriptor, sealed, used_directly, used_filesystems}
 use Rattle.vt_spec.specs.Machine.Walking.{Here, Place, file_walk, new_walk, object_walk}
-use Rattle.vt_spec.specs.Machine.World.{Descriptor, Filesystem, Task, World, locations_of, mount_at, mount_numbered, replaced_if_called, task_called}
+use Rattle.vt_spec.specs.Machine.World.{Descriptor, Filesystem, Task, World, locations_of, mount_at, replaced_if_called, task_called}
 use Rattle.vt_spec.proofs.Found.{found_among}
-use Rattle.vt_spec.proofs.Lists.{Among, among-append, among-append_left, among-append_right, among-flat_map, among-from_filter, among-from_filter_map, among-from_flat_map, among-from_map, among-map, any_among, any_from_among, map_twice}
+use Rattle.vt_spec.proofs.Lists.{Among, among-append, among-append_left, among-append_right, among-flat_map, among-from_filter, among-from_flat_map, among-from_map, among-map, any_among, any_from_among, map_twice}
 use Rattle.vt_spec.proofs.Truths.{same_truth}
 use Rattle.vt_spec.proofs.Worlds.{name-replaced_if_called, same_task_name}
 use Rattle.vt_laws_letting_go.proofs.Lists.{filter-map}
-use Rattle.vt_laws_part.proofs.part.PartOfPart.{is_own, keep, kept_how, kept_whole, same_directly, same_members}
+use Rattle.vt_laws_part.proofs.part.PartOfPart.{is_own, keep, same_members}
 use Rattle.vt_laws_members.specs.Judging.{is_theirs}
 use Rattle.vt_laws_members.proofs.judging.AllJudged.{judges}
-use Rattle.vt_laws_members.proofs.judging.Grounds.{IsTheirs, numbered, same_mount, theirs_from}
+use Rattle.vt_laws_members.proofs.judging.Grounds.{IsTheirs, theirs_from}
 use Rattle.vt_laws_members.proofs.judging.Judged.{JudgesAlike}
 use Rattle.vt_laws_members.proofs.judging.SeenInPart.{filesystem_alike, theirs_directly}
 use Rattle.vt_laws_members.proofs.judging.WalksLead.{FoundAt, HereAt, PlaceAt, file_agrees, new_agrees, object_agrees}
@@ -46,10 +44,11 @@ use Rattle.vt_laws_members_changes.proofs.looks.Told.{member_called}
 use Rattle.vt_laws_members_changes.proofs.tasks.Denied.{run_by, same_judgement}
 use Rattle.vt_laws_members_changes.proofs.tasks.Ending.{LeavesTasks, tasks_end_alike}
 use Rattle.vt_laws_members_changes.proofs.tasks.Retasked.{SeeAlike}
+use Rattle.vt_laws_members_changes.proofs.tasks.WholeMounts.{used_in_part, whole_in_part, whole_in_world}
 use Rattle.vt_laws_members_changes.proofs.tasks.Rights.{members_changed, only_task, own_alike, roots_alike}
 
 -- What is opened is on a mount of theirs
-abbrev OpensOn : (own : ℕ → Bool) → Permit ℕ → Type 0
+abbrev pub OpensOn : (own : ℕ → Bool) → Permit ℕ → Type 0
 OpensOn own (ToOpen file access) = own file.mount ≡ true
 OpensOn own permit = ⊤
 
@@ -384,8 +383,10 @@ opens_end_alike world names name path access how it task called fresh other file
     (ap (run_by world names name (OpenFile path access how) it fresh other part other task)
     (sym (same_judgement world names name (OpenFile path access how) it fresh other task called) ∙ granted_so)
     ∙ ap (opened_by part other) copied_alike)
-    (leaves world names name it.is task called file wanted world (λ t m. m) whole_in_world used_in_world)
-    (leaves world names name it.is task called file wanted part in_world whole_in_part used_in_part)
+    (leaves world names name it.is task called file wanted world (λ t m. m)
+    (whole_in_world world names it.is file ground) used_in_world)
+    (leaves world names name it.is task called file wanted part in_world
+    (whole_in_part world names it.is file ground) (used_in_part world names it.is file ground))
     (replaced_members world.tasks
     ∙ sym (replaced_members part.tasks ∙ ap (map (both world names name it.is task called file wanted))
     (same_members world names)))
@@ -420,53 +421,8 @@ opens_end_alike world names name path access how it task called fresh other file
     in_world : (t : Task ℕ) → Among t part.tasks → Among t world.tasks
     in_world t m = (among-from_filter (is_member_task names) world.tasks t m).0
 
-    whole_is : (is_own world names (members world names) ground.0
-        || is_at nat_eq (roots_and_directories (members world names)) ground.0) ≡ true
-    whole_is =
-        ⊎_elim (or_left (is_own world names (members world names) ground.0) _)
-        (λ stood. or_right (is_own world names (members world names) ground.0)
-        (is_at nat_eq (roots_and_directories (members world names)) ground.0) stood.1) ground.3
-
-    ground_is : (m : Mount ℕ) → Among m world.mounts → nat_eq file.mount m.number ≡ true → ground.0 ≡ m
-    ground_is m n e =
-        sym (numbered world names it.is.mounts ground.0 ground.1)
-        ∙ ap (mount_numbered nat_eq world) (ground.2 ∙ eqb-true file.mount m.number e)
-        ∙ numbered world names it.is.mounts m n
-
-    whole_in_world : (m : Mount ℕ) → Among m world.mounts → nat_eq file.mount m.number ≡ true
-        → (is_own world names (members world names) m
-        || is_at nat_eq (roots_and_directories (members world names)) m) ≡ true
-    whole_in_world m n e =
-        subst (λ x. (is_own world names (members world names) x
-        || is_at nat_eq (roots_and_directories (members world names)) x) ≡ true) (ground_is m n e) whole_is
-
-    whole_in_part : (m : Mount ℕ) → Among m part.mounts → nat_eq file.mount m.number ≡ true
-        → (is_own part names (members part names) m
-        || is_at nat_eq (roots_and_directories (members part names)) m) ≡ true
-    whole_in_part m n e =
-        let from = among-from_filter_map (keep world names (members world names)) world.mounts m n in
-        let same : from.0.number ≡ m.number = sym (kept_number from.0 m from.2) in
-        let here : nat_eq file.mount from.0.number ≡ true = ap (nat_eq file.mount) same ∙ e in
-        let its = whole_in_world from.0 from.1 here in
-        let it_is : from.0 ≡ m =
-        same_Some from.0 m (sym (kept_whole world names (members world names) from.0 its) ∙ from.2) in
-        ap (λ tasks. is_own world names tasks m || is_at nat_eq (roots_and_directories tasks) m) (same_members world names)
-        ∙ subst (λ x. (is_own world names (members world names) x
-        || is_at nat_eq (roots_and_directories (members world names)) x) ≡ true) it_is its
-      where
-        kept_number : (x y : Mount ℕ) → keep world names (members world names) x ≡ Some y → y.number ≡ x.number
-        kept_number x y k =
-            ⊎_elim (λ same. ap (λ (z : Mount ℕ). z.number) (sym same))
-            (λ stub. ap (λ (z : Mount ℕ). z.number) (sym stub.0)) (kept_how world names (members world names) x y k)
-
     used_in_world : Among (mount_at nat_eq world file).filesystem (used_directly nat_eq world names)
     used_in_world = theirs_directly world names it.is file ground
-
-    used_in_part : Among (mount_at nat_eq part file).filesystem (used_directly nat_eq part names)
-    used_in_part =
-        subst (λ n. Among n (used_directly nat_eq part names))
-        (sym (ap (λ (m : Mount ℕ). m.filesystem) (same_mount world names it.is.mounts file.mount ground)))
-        (subst (Among (mount_at nat_eq world file).filesystem) (sym (same_directly world names)) used_in_world)
 
     replaced_members : (tasks : List (Task ℕ))
         → filter (is_member_task names) (map (raised_task name) (map changed tasks))
