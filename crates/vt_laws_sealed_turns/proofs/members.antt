@@ -1,0 +1,5 @@
+-- What the proofs of src/members.rt use.
+pub mod Numbers
+pub mod RoutesAlike
+pub mod TurnsAlike
+pub mod Overtaking

@@ -1,0 +1,15 @@
+use Rattle.vt_laws_sealed_turns.proofs.members.Overtaking.{outsiders_overtake_no_call_of_theirs, their_calls_are_overtaken_alike}
+use Rattle.vt_laws_sealed_turns.proofs.members.TurnsAlike.{their_turns_answer_alike, their_words_are_of_their_part}
+use Rattle.vt_laws_sealed_turns.proofs.members.turns_of_theirs_are_of_their_part.Goals as goal
+
+pub returns-clause-overtaken : goal.returns-clause-overtaken
+returns-clause-overtaken c = their_calls_are_overtaken_alike
+
+pub returns-clause-answers : goal.returns-clause-answers
+returns-clause-answers c = their_turns_answer_alike
+
+pub returns-clause-words : goal.returns-clause-words
+returns-clause-words c = their_words_are_of_their_part
+
+pub returns-clause-others : goal.returns-clause-others
+returns-clause-others c = outsiders_overtake_no_call_of_theirs

@@ -1,0 +1,2 @@
+pub mod MembersTurns
+pub mod OutsidersTurns

@@ -1,0 +1,58 @@
+-- Turns of the tasks of a set that answer nothing: they are those of the part alone (profile).
+use Rattle.std.specs.Prelude.{List, None, Option, is_some, nat_eq, true, ℕ, ◌≡◌}
+use Rattle.vt_spec.specs.Language.Calls.{TaskName, same_name}
+use Rattle.vt_spec.specs.Language.Script.Who.{Someone}
+use Rattle.vt_spec.specs.Lists.{Fresh, is_among}
+use Rattle.vt_spec.specs.Machine.Invariants.{IsWorld}
+use Rattle.vt_spec.specs.Machine.Sealed.{part_of}
+use Rattle.vt_spec.specs.Machine.Turns.{Progress, Sched, is_overtaken, turn}
+use Rattle.vt_spec.specs.Machine.World.{Task}
+use Rattle.vt_laws_turns.specs.Commits.{Turn, left_by}
+use Rattle.vt_laws_turn_holds.specs.Held.{HoldsWhatIsSeen, IsUnderWayOf}
+use Rattle.vt_laws_sealed_turns.specs.OutsidersTurns.{AreOutsidersTurns, HasItSealed, their_calls}
+
+-- the part of a scheduler's state that is theirs: the part of its world, and their calls under way; queues are whole
+abbrev pub part_of_sched : List TaskName → Sched ℕ → Sched ℕ
+part_of_sched names sched = record {
+  world = part_of nat_eq sched.world names;
+  queues = sched.queues;
+  under_way = their_calls names sched.under_way;
+}
+
+-- a world with all invariants, and calls under way that hold what their tasks see
+pub record HasCallsUnderWay (sched : Sched ℕ) : Type 0 where
+  pub is : IsWorld nat_eq sched.world
+  pub holds : HoldsWhatIsSeen sched
+
+-- A call of theirs is overtaken in the world just if it is in their part.
+abbrev pub TheirCallsAreOvertakenAlike : Type 0
+TheirCallsAreOvertakenAlike =
+    (sched : Sched ℕ) (names : List TaskName) (task : Task ℕ) (progress : Progress ℕ) → HasCallsUnderWay sched
+    → IsUnderWayOf sched task progress → is_among same_name progress.task names ≡ true
+    → is_overtaken nat_eq (part_of nat_eq sched.world names) task progress
+    ≡ is_overtaken nat_eq sched.world task progress
+
+-- A turn of one of their tasks answers something in the world just if it does in their part,
+abbrev pub TheirTurnsAnswerAlike : Type 0
+TheirTurnsAnswerAlike =
+    (sched : Sched ℕ) (names : List TaskName) (name : TaskName) (fresh : Option (Fresh ℕ)) → HasCallsUnderWay sched
+    → is_among same_name name names ≡ true
+    → is_some (turn nat_eq (part_of_sched names sched) (Someone name) fresh).reply
+    ≡ is_some (turn nat_eq sched (Someone name) fresh).reply
+
+-- and where it answers nothing it leaves of the part what it leaves in the part.
+abbrev pub TheirWordsAreOfTheirPart : Type 0
+TheirWordsAreOfTheirPart =
+    (sched : Sched ℕ) (names : List TaskName) (name : TaskName) (fresh : Option (Fresh ℕ)) → HasCallsUnderWay sched
+    → is_among same_name name names ≡ true → (turn nat_eq sched (Someone name) fresh).reply ≡ None
+    → (turn nat_eq (part_of_sched names sched) (Someone name) fresh).sched
+    ≡ part_of_sched names (turn nat_eq sched (Someone name) fresh).sched
+
+-- Turns of outsiders overtake no call of theirs.
+abbrev pub OutsidersOvertakeNoCallOfTheirs : Type 0
+OutsidersOvertakeNoCallOfTheirs =
+    (sched : Sched ℕ) (names : List TaskName) (schedule : List Turn) (task : Task ℕ) (progress : Progress ℕ)
+    → HasItSealed sched names → HoldsWhatIsSeen sched → AreOutsidersTurns sched names schedule
+    → IsUnderWayOf sched task progress → is_among same_name progress.task names ≡ true
+    → IsUnderWayOf (left_by sched schedule) task progress
+    × (is_overtaken nat_eq (left_by sched schedule).world task progress ≡ is_overtaken nat_eq sched.world task progress)
