@@ -1,5 +1,5 @@
 //! The command is carried out: the script is opened, read and answered.
-ghost use Rattle.std.specs.Prelude.{◌≡◌, ◌<◌, ◌⊎◌, Some, None, IfErr, IsErr, IsErrOf, OnOk, true, false};
+ghost use Rattle.std.specs.Prelude.{◌≡◌, ◌<◌, ◌⊎◌, Some, None, IfErr, IfOk, IsErr, IsErrOf, OnOk, true, false};
 ghost use Rattle.std.specs.Io.{ReadsAtMost};
 ghost use Rattle.std.specs.Io.KnownBytes.{ReadConsumes};
 ghost use Rattle.vt_line.specs.Versions.{version_of};
@@ -97,7 +97,8 @@ pub fn answer<R: Read + Drop, W: Write + Drop>(
     }
 }
 
-// Answers the script that a reader gives, with the fault that the program tells.
+// Answers the script that a reader gives, with the fault that the program tells. The writer that is returned was handed
+// all that was kept back.
 fn answer_named<R: Read + Drop, W: Write + Drop>(
     version: Version,
     alloc: Global,
@@ -106,7 +107,9 @@ fn answer_named<R: Read + Drop, W: Write + Drop>(
     pace: Pace,
     output: W,
 ) -> Result<W, Fault>
-    ensures { IfErr result (λ fault. comes_before_output fault ≡ false) }
+    ensures answers { IfOk result (λ writer. AnswersKnown (version_of version) (R.remaining script) (W.contents output)
+        (W.contents writer)) }
+    ensures fault { IfErr result (λ fault. comes_before_output fault ≡ false) }
 {
     let buffered = BufWriter::with_capacity(alloc, pace.capacity(), output);
     let mut sink = WriteSink::new(buffered.map_err(out_of_memory)?);
