@@ -1,3 +1,4 @@
 pub mod Changes
+pub mod NameChanges
 pub mod LettingGo
 pub mod Parts

@@ -9,7 +9,8 @@ ghost use Rattle.vt_laws_members_changes.specs.Changes.{ChmodsEndAlike, ChownsEn
 /// The filesystem is one that the set uses, and it stays whole in the part. All inodes keep their names, so nothing
 /// goes, in either world.
 ///
-/// Not proved yet of calls that give, take or change names, and of filesystems that are overlays.
+/// Of calls that make and take names see `calls_of_theirs_that_make_names_end_alike` and
+/// `calls_of_theirs_that_take_names_end_alike`. Not proved yet of filesystems that are overlays.
 pub fn calls_of_theirs_that_edit_files_end_alike()
     ensures write { WritesEndAlike }
     ensures chmod { ChmodsEndAlike }

@@ -6,5 +6,6 @@
 pub mod files;
 pub mod letting_go;
 pub mod looks;
+pub mod names;
 pub mod part;
 pub mod tasks;

@@ -1,4 +1,5 @@
 -- What the proofs of src/frames.rt use.
+pub mod DetachedStay
 pub mod FilesystemsGoOn
 pub mod FilesystemsUnraised
 pub mod NamespacesGoOn

@@ -1,2 +1,3 @@
+pub mod Detached
 pub mod InTurn
 pub mod Unraised

@@ -1,4 +1,5 @@
 //! What a call left as it was, where change numbers are what they were.
+ghost use Rattle.vt_laws_turn_frames.specs.Detached.{DetachedMountsStay};
 ghost use Rattle.vt_laws_turn_frames.specs.Unraised.{OtherTasksOfUnraisedNamespacesStay, UnraisedFilesystemsStay, UnraisedNamespacesKeepMounts};
 
 /// A namespace whose change number is what it was before a call, and not the largest one, has the mounts that it had,
@@ -14,4 +15,10 @@ pub fn unraised_namespaces_keep_their_mounts()
 /// longer may be gone.
 pub fn unraised_filesystems_stay()
     ensures { UnraisedFilesystemsStay }
+{}
+
+/// A mount in no namespace that a call leaves has the record that it had: no call gives it flags, a mount point, a
+/// namespace or a peer group.
+pub fn detached_mounts_stay()
+    ensures { DetachedMountsStay }
 {}

@@ -1,12 +1,15 @@
 //! What several calls left as it was, where change numbers are what they were.
+ghost use Rattle.vt_laws_turn_frames.specs.Detached.{OtherTasksStandInTurn};
 ghost use Rattle.vt_laws_turn_frames.specs.InTurn.{OtherTasksStayInTurn, UnraisedFilesystemsStayInTurn, UnraisedNamespacesKeepMountsInTurn};
 
 /// However many calls follow one another: a namespace whose change number is after them what it was before has the
-/// mounts that it had (`mounts`), and a task of it that made none of these calls is what it was (`tasks`). No number
-/// handed in is that of the namespace: a number that came again would hide its end.
+/// mounts that it had (`mounts`), and a task of it that made none of these calls is what it was (`tasks`). The mounts
+/// under its root and working directory are the same records, in the namespace or in none (`stood`). No number handed
+/// in is that of the namespace: a number that came again would hide its end.
 pub fn unraised_namespaces_keep_their_mounts_in_turn()
     ensures mounts { UnraisedNamespacesKeepMountsInTurn }
     ensures tasks { OtherTasksStayInTurn }
+    ensures stood { OtherTasksStandInTurn }
 {}
 
 /// However many calls follow one another: a filesystem whose change number is after them what it was before has the

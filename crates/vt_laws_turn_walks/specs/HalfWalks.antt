@@ -44,8 +44,6 @@ FirstWordsLeadAlikeInTurn =
     → IsWorld nat_eq world → task_called world task.name ≡ Some task → AreOfOthers task.name calls
     → AreBeside task.namespace world calls
     → IsNamespaceUnraised world (after_calls world calls) task.namespace
-    → (mount_at nat_eq world task.root).namespace ≡ Some task.namespace
-    → (mount_at nat_eq world task.directory).namespace ≡ Some task.namespace
     → ((number : ℕ) → Contains (met_in (words_walked_in count world task aim path)) number
     → AreBeside number world calls × IsFilesystemUnraised world (after_calls world calls) number)
     → words_walked_in count (after_calls world calls) task aim path ≡ words_walked_in count world task aim path

@@ -6,8 +6,7 @@ ghost use Rattle.vt_laws_turn_walks.specs.HalfWalks.{FirstWordsLeadAlike, FirstW
 /// what it was, but for what is gone (`worlds`). Inodes that nothing uses any longer may be gone; a walk meets none.
 ///
 /// So it is after any number of calls of other tasks, where no change number that a call under way holds is overtaken:
-/// of the namespace, and of each filesystem met (`in_turn`). The task's root and working directory are on mounts of its
-/// namespace there. What comes behind these words may lead elsewhere.
+/// of the namespace, and of each filesystem met (`in_turn`). What comes behind these words may lead elsewhere.
 pub fn half_done_walks_stand_where_they_stood()
     ensures worlds { FirstWordsLeadAlike }
     ensures in_turn { FirstWordsLeadAlikeInTurn }

@@ -2,3 +2,4 @@
 pub mod Fronts
 pub mod Texts
 pub mod Turning
+pub mod Leaving

@@ -35,12 +35,12 @@ use Rattle.vt_laws_members_changes.proofs.part.PartAgain.{part_again}
 use Rattle.vt_laws_members_changes.proofs.part.SettledPart.{part_in_use}
 use Rattle.vt_laws_members_changes.proofs.tasks.Denied.{run_by, same_judgement}
 
-no_overlay : (o : Option (Overlay ℕ)) → is_some o ≡ false → o ≡ None
+pub no_overlay : (o : Option (Overlay ℕ)) → is_some o ≡ false → o ≡ None
 no_overlay None e = refl
 no_overlay (Some overlay) e = absurd (true≢false e)
 
 -- what is found by a number has it
-found_numbered : (k : ℕ) (list : List (Filesystem ℕ))
+pub found_numbered : (k : ℕ) (list : List (Filesystem ℕ))
     → (unwrap_or (find (λ (f : Filesystem ℕ). nat_eq k f.number) list) (no_filesystem k)).number ≡ k
 found_numbered k [] = refl
 found_numbered k (x ∷ rest) = by (nat_eq k x.number) refl (found_numbered k rest)

@@ -50,21 +50,21 @@ module _ (old : Filesystem ℕ) (files : FileTree ℕ) where
       by true = refl
       by false = refl
 
-  both_numbered : (x : Filesystem ℕ) → (both x).number ≡ x.number
+  pub both_numbered : (x : Filesystem ℕ) → (both x).number ≡ x.number
   both_numbered x = raised_numbered (swap x) ∙ by (nat_eq old.number x.number) refl
     where
       by : (b : Bool) → nat_eq old.number x.number ≡ b → (cond b (with_files old files) x).number ≡ x.number
       by true e = eqb-true old.number x.number e
       by false e = refl
 
-  both_overlaid : (x : Filesystem ℕ) → (nat_eq old.number x.number ≡ true → x ≡ old) → (both x).overlay ≡ x.overlay
+  pub both_overlaid : (x : Filesystem ℕ) → (nat_eq old.number x.number ≡ true → x ≡ old) → (both x).overlay ≡ x.overlay
   both_overlaid x one = raised_overlaid (swap x) ∙ by (nat_eq old.number x.number) refl
     where
       by : (b : Bool) → nat_eq old.number x.number ≡ b → (cond b (with_files old files) x).overlay ≡ x.overlay
       by true e = ap (λ (f : Filesystem ℕ). f.overlay) (sym (one e))
       by false e = refl
 
-  both_kept : (x : Filesystem ℕ) → nat_eq old.number x.number ≡ false → both x ≡ x
+  pub both_kept : (x : Filesystem ℕ) → nat_eq old.number x.number ≡ false → both x ≡ x
   both_kept x e =
       ap (λ b. raised_if_changed nat_eq (old.number ∷ []) (cond b (with_files old files) x)) e
       ∙ ap (λ b. cond (b || false) (record x { change = raised x.change }) x) e

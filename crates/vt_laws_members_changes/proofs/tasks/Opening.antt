@@ -192,7 +192,7 @@ module _ (world : World ℕ) (names : List TaskName) (name : TaskName) (is : IsW
   replaced_is what same t m =
       ⊎_elim (λ its. ap what its.0 ∙ same ∙ ap what its.1) (λ other. ap what other) (replaced_how t m)
 
-  both_named : (t : Task ℕ) → (both t).name ≡ t.name
+  pub both_named : (t : Task ℕ) → (both t).name ≡ t.name
   both_named t = raised_is (λ (x : Task ℕ). x.name) (λ x. refl) (replaced t) ∙ name-replaced_if_called new t
 
   both_spaced : (t : Task ℕ) → Among t world.tasks → (both t).namespace ≡ t.namespace

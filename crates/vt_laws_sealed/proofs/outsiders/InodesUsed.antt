@@ -38,8 +38,7 @@ module _ {A : Type 0} (a b c : List A) (x : A) where
 -- The inodes of a filesystem that they use are used there, too.
 module _ (world later : World ℕ) (names : List TaskName) (apart : IsApart world names)
     (sealed_off : sealed nat_eq world names ≡ true) (sees : SeesTheSame world later names) (one : OneNumberEach later)
-    (x : Filesystem ℕ) (there : Among x world.filesystems)
-    (used : is_among nat_eq x.number (used_filesystems nat_eq world names) ≡ true) where
+    (x : Filesystem ℕ) where
   abbrev IsUsed : ℕ → Type 0
   IsUsed object = Among object (used_in nat_eq later x)
 
@@ -68,26 +67,6 @@ module _ (world later : World ℕ) (names : List TaskName) (apart : IsApart worl
   object_is_used object m =
       inr (among-append_right (named_in x.files ++ located_in nat_eq later x.number ++ layers_in nat_eq later x.number)
       of_overlays object m)
-
-  found_x : filesystem_numbered nat_eq world x.number ≡ x
-  found_x = found_filesystem world.filesystems apart.is.files.one_filesystem x there
-
-  -- what has a name
-  named_used : (object : ℕ) → Among object x.files.numbers → wholly_locked nat_eq world names x.number ≡ true
-      → IsUsed object
-  named_used object m locked =
-      let all : all_named nat_eq x.files ≡ true =
-      ap (λ (f : Filesystem ℕ). all_named nat_eq f.files) (sym found_x)
-      ∙ (and_parts (list_any (λ merged. is_lower_root nat_eq x.number
-      (filesystem_numbered nat_eq world x.number).files.tree.root merged
-      && used_alone nat_eq world names merged.number) (overlays world))
-      (all_named nat_eq (filesystem_numbered nat_eq world x.number).files) locked).1 in
-      ⊎_elim
-      (λ root. inl (eqb-true object x.files.tree.root root))
-      (λ named. name_is_used object (among_numbers (named_in x.files) object named))
-      (or_cases (nat_eq object x.files.tree.root) (is_among nat_eq object (named_in x.files))
-      (among_from_list_all (λ n. nat_eq n x.files.tree.root || is_among nat_eq n (named_in x.files)) x.files.numbers all
-      object m))
 
   module _ (alone : used_alone nat_eq world names x.number ≡ true) where
     abbrev parts_alone : (no_outsider_on nat_eq world names x.number ≡ true)
@@ -380,7 +359,8 @@ module _ (world later : World ℕ) (names : List TaskName) (apart : IsApart worl
             by None k = absurd k
             by (Some overlay) k = upper overlay overlay.upper refl k
 
-    alone_used : (object : ℕ) → Among object (used_in nat_eq world x) → IsUsed object
+    -- what is used in the world is used then
+    pub alone_used : (object : ℕ) → Among object (used_in nat_eq world x) → IsUsed object
     alone_used object m =
         ⊎_elim inl
         (λ more. ⊎_elim
@@ -395,23 +375,45 @@ module _ (world later : World ℕ) (names : List TaskName) (apart : IsApart worl
         (flat_map (objects_of_overlay nat_eq x.number) world.filesystems) object more))
         m
 
-  pub inodes_used : (object : ℕ) → Among object x.files.numbers → is_among nat_eq object (used_in nat_eq later x) ≡ true
-  inodes_used object m =
-      is_among_numbers (used_in nat_eq later x) object
-      (⊎_elim
-      (λ alone. alone_used alone object
-      (among_numbers (used_in nat_eq world x) object
-      (among_from_list_all (λ n. is_among nat_eq n (used_in nat_eq world x)) x.files.numbers
-      (among_from_all (λ (f : Filesystem ℕ). list_all (λ n. is_among nat_eq n (used_in nat_eq world f)) f.files.numbers
-      ≡ true) world.filesystems (all_in_use world apart.is).inodes x there) object m)))
-      (named_used object m)
-      (or_cases (used_alone nat_eq world names x.number) (wholly_locked nat_eq world names x.number)
-      (used_are_free world names sealed_off x.number
-      (among_numbers (used_filesystems nat_eq world names) x.number used))))
+  module _ (there : Among x world.filesystems)
+      (used : is_among nat_eq x.number (used_filesystems nat_eq world names) ≡ true) where
+    found_x : filesystem_numbered nat_eq world x.number ≡ x
+    found_x = found_filesystem world.filesystems apart.is.files.one_filesystem x there
 
-  -- so the sweep leaves it whole
-  pub used_whole : (chosen : Bool) → only_used nat_eq later chosen x ≡ x
-  used_whole true =
-      ap (λ b. only_used_by nat_eq b (used_in nat_eq later x) x)
-      (list_all_from_among (λ n. is_among nat_eq n (used_in nat_eq later x)) x.files.numbers inodes_used)
-  used_whole false = refl
+    -- what has a name
+    named_used : (object : ℕ) → Among object x.files.numbers → wholly_locked nat_eq world names x.number ≡ true
+        → IsUsed object
+    named_used object m locked =
+        let all : all_named nat_eq x.files ≡ true =
+        ap (λ (f : Filesystem ℕ). all_named nat_eq f.files) (sym found_x)
+        ∙ (and_parts (list_any (λ merged. is_lower_root nat_eq x.number
+        (filesystem_numbered nat_eq world x.number).files.tree.root merged
+        && used_alone nat_eq world names merged.number) (overlays world))
+        (all_named nat_eq (filesystem_numbered nat_eq world x.number).files) locked).1 in
+        ⊎_elim
+        (λ root. inl (eqb-true object x.files.tree.root root))
+        (λ named. name_is_used object (among_numbers (named_in x.files) object named))
+        (or_cases (nat_eq object x.files.tree.root) (is_among nat_eq object (named_in x.files))
+        (among_from_list_all (λ n. nat_eq n x.files.tree.root || is_among nat_eq n (named_in x.files)) x.files.numbers all
+        object m))
+
+    pub inodes_used : (object : ℕ) → Among object x.files.numbers → is_among nat_eq object (used_in nat_eq later x) ≡ true
+    inodes_used object m =
+        is_among_numbers (used_in nat_eq later x) object
+        (⊎_elim
+        (λ alone. alone_used alone object
+        (among_numbers (used_in nat_eq world x) object
+        (among_from_list_all (λ n. is_among nat_eq n (used_in nat_eq world x)) x.files.numbers
+        (among_from_all (λ (f : Filesystem ℕ). list_all (λ n. is_among nat_eq n (used_in nat_eq world f)) f.files.numbers
+        ≡ true) world.filesystems (all_in_use world apart.is).inodes x there) object m)))
+        (named_used object m)
+        (or_cases (used_alone nat_eq world names x.number) (wholly_locked nat_eq world names x.number)
+        (used_are_free world names sealed_off x.number
+        (among_numbers (used_filesystems nat_eq world names) x.number used))))
+
+    -- so the sweep leaves it whole
+    pub used_whole : (chosen : Bool) → only_used nat_eq later chosen x ≡ x
+    used_whole true =
+        ap (λ b. only_used_by nat_eq b (used_in nat_eq later x) x)
+        (list_all_from_among (λ n. is_among nat_eq n (used_in nat_eq later x)) x.files.numbers inodes_used)
+    used_whole false = refl

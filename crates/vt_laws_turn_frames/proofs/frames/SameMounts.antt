@@ -63,7 +63,7 @@ kinds_same Unbindable (Shared b) e = absurd (true≢false (sym e))
 kinds_same Unbindable (Slave b) e = absurd (true≢false (sym e))
 kinds_same Unbindable Private e = absurd (true≢false (sym e))
 
-one_record : (a b : Mount ℕ) → a.number ≡ b.number → a.namespace ≡ b.namespace → a.mount_point ≡ b.mount_point
+pub one_record : (a b : Mount ℕ) → a.number ≡ b.number → a.namespace ≡ b.namespace → a.mount_point ≡ b.mount_point
     → a.filesystem ≡ b.filesystem → a.root ≡ b.root → a.flags ≡ b.flags → a.propagation ≡ b.propagation → a ≡ b
 one_record a b n s p f r g k =
     ap (λ x. record a { number = x }) n

@@ -128,7 +128,7 @@ module _ (world : World ℕ) (fresh : Fresh ℕ) (given : IsCallIn world fresh) 
           (was_there n e) (same_mounts_in nat_eq world (settled nat_eq applied) n.number)
           (now_is ∙ ap (λ o. change_in (option_map raise o)) e)
 
-namespace_rises : (world : World ℕ) (fresh : Fresh ℕ) (name : TaskName) (call : Call) (number : ℕ)
+pub namespace_rises : (world : World ℕ) (fresh : Fresh ℕ) (name : TaskName) (call : Call) (number : ℕ)
     → IsCallIn world fresh → fresh (2 * 0) ≢ number
     → Rises (namespace_change_of nat_eq world number)
     (namespace_change_of nat_eq (policy nat_eq fresh world name call).world number)
@@ -170,10 +170,10 @@ module _ (number : ℕ) (change_of : World ℕ → ℕ)
       (step world one is beside.0)
       (all_rise rest (after_call world one) (next_is number world one is beside.0) beside.1) unraised
 
-abbrev namespace_change : ℕ → World ℕ → ℕ
+abbrev pub namespace_change : ℕ → World ℕ → ℕ
 namespace_change number world = namespace_change_of nat_eq world number
 
-namespace_step : (number : ℕ) (world : World ℕ) (one : CallBetween) → IsWorld nat_eq world
+pub namespace_step : (number : ℕ) (world : World ℕ) (one : CallBetween) → IsWorld nat_eq world
     → IsBeside number world one → Rises (namespace_change number world) (namespace_change number (after_call world one))
 namespace_step number world one is beside =
     namespace_rises world one.fresh one.name one.call number (given_in number world one is beside)

@@ -201,7 +201,7 @@ module _ (sched : Sched ℕ) (is : IsSched sched) (name : TaskName) where
       let after : restarts_of (under_way_of turned.sched.under_way name) ≡ before.restarts =
       ap (λ (t : Turned ℕ). restarts_of (under_way_of t.sched.under_way name)) further.is
       ∙ ap restarts_of (found_first name (one_further nat_eq sched.world further.met before)
-      (without_progress before.task sched.under_way) (named sched is task before at ∙ sym same)) in
+      (without_progress before.task sched.under_way) (named sched task before at ∙ sym same)) in
       subst (λ n. restarts_of (under_way_of sched.under_way name) + cond finds 1 0 ≤ n) (sym after)
       (by same called at)
     where
@@ -238,7 +238,7 @@ module _ (sched : Sched ℕ) (is : IsSched sched) (name : TaskName) where
       ap (λ (t : Turned ℕ). under_way_of t.sched.under_way name) e
       ∙ found_without name other sched.under_way (ap (same_who (Someone name)) (sym w) ∙ apart)
   other_turn who fresh turned apart (Further task w line call given g next before at further) =
-      let same : before.task ≡ task.name = named sched is task before at in
+      let same : before.task ≡ task.name = named sched task before at in
       let differ : same_name name before.task ≡ false =
       ap (same_name name) same ∙ ap (same_who (Someone name)) (sym w) ∙ apart in
       ap (λ (t : Turned ℕ). under_way_of t.sched.under_way name) further.is

@@ -53,6 +53,14 @@ other_first who queues name e h =
     ∙ ap (λ b. cond b (rest_of (queue_of queues (Someone name))) (queue_of queues (Someone name))) e)
     ∙ h
 
+-- what goes on is of the task
+pub named : (sched : Sched ℕ) (task : Task ℕ) (before : Progress ℕ) → Before sched task before → before.task ≡ task.name
+named sched task before (AtStart none e) = ap (λ (p : Progress ℕ). p.task) e
+named sched task before (OnWay found current) =
+    sym (same_task_name task.name before.task (found_passes
+    (λ (p : Progress ℕ). same_name task.name p.task) sched.under_way before found))
+named sched task before (Again progress found stale few e) = ap (λ (p : Progress ℕ). p.task) e
+
 module _ (sched : Sched ℕ) (is : IsSched sched) where
   -- what is under way but for a task's
   kept_among : (name : TaskName) (progress : Progress ℕ) → Among progress (without_progress name sched.under_way)
@@ -120,13 +128,6 @@ module _ (sched : Sched ℕ) (is : IsSched sched) where
       below : (n : ℕ) → nat_le most_restarts n ≡ false → n + 1 ≤ most_restarts
       below n h = grind (arith, h)
 
-  pub named : (task : Task ℕ) (before : Progress ℕ) → Before sched task before → before.task ≡ task.name
-  named task before (AtStart none e) = ap (λ (p : Progress ℕ). p.task) e
-  named task before (OnWay found current) =
-      sym (same_task_name task.name before.task (found_passes
-      (λ (p : Progress ℕ). same_name task.name p.task) sched.under_way before found))
-  named task before (Again progress found stale fewer e) = ap (λ (p : Progress ℕ). p.task) e
-
   -- a call goes on
   goes_on : (name : TaskName) (progress : Progress ℕ) → progress.task ≡ name → progress.restarts ≤ most_restarts
       → has_call_first sched.queues name ≡ true
@@ -169,7 +170,7 @@ module _ (sched : Sched ℕ) (is : IsSched sched) where
   by_shape who fresh turned (Further task w line call given g next before at further) =
       subst (λ (t : Turned ℕ). IsSched t.sched) (sym further.is)
       (goes_on task.name (one_further nat_eq sched.world further.met before)
-      (named task before at) (few task before at)
+      (named sched task before at) (few task before at)
       (ap (holds_of (λ (queued : Queued). is_call queued.item)) next.first))
 
 pub turns_keep_schedulers : TurnsKeepSchedulers

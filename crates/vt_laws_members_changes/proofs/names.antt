@@ -1,0 +1,10 @@
+-- What the proofs of src/names.rt use.
+pub mod AskedNames
+pub mod GrantedNames
+pub mod NamesEnding
+pub mod NewOpensEnding
+pub mod NothingMounted
+pub mod RemovalsEnding
+pub mod Swept
+pub mod TreesEnding
+pub mod UsedAlike

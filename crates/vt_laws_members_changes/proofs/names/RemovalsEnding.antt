@@ -1,0 +1,198 @@
+-- A call of theirs that removes a directory, or that renames, ends in the part as in the world, if nothing is mounted on
+-- what goes.
+use Rattle.std.proofs.Common.{◌≡◌, refl, sym, ap, subst, ◌∙◌, ℕ, nat_eq, true, false, List, Option, Some, None, Ok}
+use Rattle.std.specs.Prelude.{IfOk, option_to_list, unwrap_or}
+use Rattle.std.specs.List.{list_any}
+use Rattle.std.proofs.lemmas.Bool.{not-true, or_parts}
+use Rattle.vt_spec.specs.Language.Answers.Answer.{Done}
+use Rattle.vt_spec.specs.Language.Calls.{Call, TaskName}
+use Rattle.vt_spec.specs.Language.Calls.Call.{Rename, Rmdir}
+use Rattle.vt_spec.specs.Language.Changes.{Change, changed}
+use Rattle.vt_spec.specs.Language.Changes.Change.{Move, Remove}
+use Rattle.vt_spec.specs.Lists.{Fresh, is_among}
+use Rattle.vt_spec.specs.Machine.Apply.{overfills}
+use Rattle.vt_spec.specs.Machine.Detach.{without_mounts_on}
+use Rattle.vt_spec.specs.Machine.Filesystems.{changed_at, with_change}
+use Rattle.vt_spec.specs.Machine.Invariants.{IsWorld}
+use Rattle.vt_spec.specs.Machine.Judge.{judge_in}
+use Rattle.vt_spec.specs.Machine.Locked.{is_locked_at}
+use Rattle.vt_spec.specs.Machine.Looks.{Looks, looks_of}
+use Rattle.vt_spec.specs.Machine.Mounts.{Location}
+use Rattle.vt_spec.specs.Machine.Outcomes.{granted}
+use Rattle.vt_spec.specs.Machine.Permits.{Permit}
+use Rattle.vt_spec.specs.Machine.Permits.Permit.{ToRemoveDirectory, ToRename}
+use Rattle.vt_spec.specs.Machine.Policy.{finished, only_looks}
+use Rattle.vt_spec.specs.Machine.Rules.Conditions.{is_mount_point_anywhere}
+use Rattle.vt_spec.specs.Machine.Rules.Removing.{object_there}
+use Rattle.vt_spec.specs.Machine.Sealed.{members, part_of, sealed, used_filesystems}
+use Rattle.vt_spec.specs.Machine.Walking.{Place, is_directory_there}
+use Rattle.vt_spec.specs.Machine.World.{Task, World, filesystem_at, is_overlay, task_called}
+use Rattle.vt_spec.proofs.Lists.{Among}
+use Rattle.vt_laws_rules.specs.Granted.{IsGranted}
+use Rattle.vt_laws_rules.specs.Granted.IsGranted.{removes_directory, renames}
+use Rattle.vt_laws_rules.proofs.given.Inversion.{calls_are_granted}
+use Rattle.vt_laws_overlay_permits.specs.Asked.{change_asked}
+use Rattle.vt_laws_members.specs.Judging.{is_theirs}
+use Rattle.vt_laws_members.proofs.judging.AllJudged.{judges}
+use Rattle.vt_laws_members.proofs.judging.Grounds.{theirs_from}
+use Rattle.vt_laws_members.proofs.judging.Judged.{JudgesAlike}
+use Rattle.vt_laws_members.proofs.judging.WalksLead.{PlaceAt, old_agrees, rename_new_agrees}
+use Rattle.vt_laws_members_changes.specs.Changes.{EndsAlike, IsCallOfTheirs, grown}
+use Rattle.vt_laws_members_changes.specs.NameChanges.{RenamesEndAlike, RmdirsEndAlike, nothing_mounted_on}
+use Rattle.vt_laws_members_changes.proofs.looks.Told.{member_called}
+use Rattle.vt_laws_members_changes.proofs.names.NamesEnding.{alike, naming_ends, unused_numbers, unused_serve}
+use Rattle.vt_laws_members_changes.proofs.names.GrantedNames.{Names}
+use Rattle.vt_laws_members_changes.proofs.names.NothingMounted.{none_taken, none_taken_in_part}
+use Rattle.vt_laws_members_changes.proofs.names.TreesEnding.{plain_run, with_tree}
+use Rattle.vt_laws_members_changes.proofs.tasks.Denied.{run_by, same_judgement}
+
+-- What is removed or replaced is on a mount of theirs, and not locked.
+module _ (world : World ℕ) (names : List TaskName) (is : IsWorld nat_eq world)
+    (sealed_off : sealed nat_eq world names ≡ true) (task : Task ℕ) (member : Among task (members world names))
+    (fresh : Fresh ℕ) where
+  abbrev one : Looks ℕ
+  one = looks_of nat_eq world
+
+  abbrev other_looks : Looks ℕ
+  other_looks = looks_of nat_eq (part_of nat_eq world names)
+
+  abbrev On : ℕ → Type 0
+  On number = is_theirs world names number ≡ true
+
+  judged_alike : JudgesAlike one other_looks task (is_theirs world names)
+      (λ number. is_among nat_eq number (used_filesystems nat_eq world names))
+  judged_alike = judges world names is sealed_off task member
+
+  abbrev IsPlaced : Place ℕ → Type 0
+  IsPlaced = PlaceAt one other_looks task On judged_alike.walks judged_alike.directory judged_alike.rules.removed
+
+  abbrev IsFree : Location ℕ → Type 0
+  IsFree object = On object.mount × (is_locked_at nat_eq world object ≡ false)
+
+  object_on : (place : Place ℕ) → IsPlaced place → On (object_there place).mount
+  object_on place at = by place.object refl
+    where
+      by : (o : Option (Location ℕ)) → place.object ≡ o
+          → On (unwrap_or o place.parent).mount
+      by None e = at.0
+      by (Some object) e = at.1 object e
+
+  removed_free : (asked : Call) (permit : Permit ℕ)
+      → IsGranted nat_eq one (overfills nat_eq fresh world task) task asked permit
+      → (parent : Location ℕ) (entry : List ℕ) (directory : Location ℕ)
+      → permit ≡ ToRemoveDirectory parent entry directory → IsFree directory
+  removed_free asked permit (removes_directory path place walk word passed) parent entry directory e =
+      let same : object_there place ≡ directory = cc in
+      subst IsFree same (
+        object_on place (subst (λ r. IfOk r IsPlaced) walk
+            (old_agrees one other_looks task On judged_alike.walks judged_alike.directory judged_alike.rules.removed path).1),
+        (or_parts (is_locked_at nat_eq world (object_there place)) (is_locked_at nat_eq world place.parent)
+            passed.1.1.1.1.0).0,
+      )
+  removed_free asked permit other_way parent entry directory e = absurd cc
+
+  replaced_free : (asked : Call) (permit : Permit ℕ)
+      → IsGranted nat_eq one (overfills nat_eq fresh world task) task asked permit
+      → (from : Location ℕ) (old : List ℕ) (to : Location ℕ) (new : List ℕ) (object replaced : Location ℕ)
+      → permit ≡ ToRename from old to new object (Some replaced) → IsFree replaced
+  replaced_free asked permit (renames path other from_place to_place both two passed) from old to new object replaced e =
+      let same : to_place.object ≡ Some replaced = cc in (
+        (subst (λ r. IfOk r IsPlaced) both.to_end
+            (rename_new_agrees one other_looks task On judged_alike.walks judged_alike.directory judged_alike.rules.removed
+            other (is_directory_there nat_eq one from_place)).1).1 replaced same,
+        (or_parts (is_locked_at nat_eq world replaced) false
+            (subst (λ o. list_any one.is_locked (option_to_list o) ≡ false) same
+            (or_parts (is_locked_at nat_eq world (object_there from_place)) _
+            (or_parts (is_locked_at nat_eq world to_place.parent) _
+            (or_parts (is_locked_at nat_eq world from_place.parent) _
+            passed.1.1.1.1.1.1.0).1).1).1)).0,
+      )
+  replaced_free asked permit other_way from old to new object replaced e = absurd cc
+
+-- The change is made after the mounts on what goes are taken away, and there are none.
+module _ (world : World ℕ) (names : List TaskName) (name : TaskName) (call : Call) (it : IsCallOfTheirs world names name call)
+    (fresh other : Fresh ℕ) (task : Task ℕ) (found : task_called world name ≡ Some task)
+    (stays : grown names name call (Ok Done) ≡ names) (looks : only_looks call ≡ false) (gone : Location ℕ)
+    (free : (is_theirs world names gone.mount ≡ true) × (is_locked_at nat_eq world gone ≡ false))
+    (none : is_mount_point_anywhere (looks_of nat_eq world) gone ≡ false) (permit : Permit ℕ)
+    (judged : judge_in nat_eq fresh world task call ≡ Ok permit)
+    (judged_too : judge_in nat_eq (unused_numbers world) world task call ≡ Ok permit) (location : Location ℕ)
+    (change : Change ℕ) (asks : change_asked (unused_numbers world) world permit ≡ Some (location, change))
+    (names_it : Names change) (plain : is_overlay (filesystem_at nat_eq world location) ≡ false)
+    (runs : (w : World ℕ) (supply : Fresh ℕ) → run_by world names name call it fresh other w supply task (Ok permit)
+    ≡ finished nat_eq w name call (changed_at nat_eq (without_mounts_on nat_eq w gone) location)
+    (granted Done (with_change nat_eq supply (without_mounts_on nat_eq w gone) location change))) where
+  abbrev part : World ℕ
+  part = part_of nat_eq world names
+
+  run_without : (w : World ℕ) (supply : Fresh ℕ) → without_mounts_on nat_eq w gone ≡ w
+      → filesystem_at nat_eq w location ≡ filesystem_at nat_eq world location
+      → run_by world names name call it fresh other w supply task (Ok permit)
+      ≡ with_tree w name (filesystem_at nat_eq world location)
+      (changed nat_eq (filesystem_at nat_eq world location).files change)
+  run_without w supply e same =
+      runs w supply
+      ∙ ap (λ v. finished nat_eq w name call (changed_at nat_eq v location)
+      (granted Done (with_change nat_eq supply v location change))) e
+      ∙ plain_run w name call supply location change (filesystem_at nat_eq world location) looks same plain
+
+  pub removal_ends : EndsAlike world names name call fresh other
+  removal_ends =
+      naming_ends world names name call it fresh other (unused_numbers world) (unused_serve world) task found stays permit
+      judged_too location change asks names_it plain
+      (ap (run_by world names name call it fresh other world fresh task) judged
+      ∙ run_without world fresh (none_taken world names it.is it.sealed_off gone none) refl)
+      (ap (run_by world names name call it fresh other part other task)
+      (sym (same_judgement world names name call it fresh other task found) ∙ judged)
+      ∙ run_without part other
+      (none_taken_in_part world names it.is it.sealed_off gone
+      (theirs_from world names it.is.mounts gone.mount free.0) free.1 none)
+      (alike world names name call it fresh other (unused_numbers world) (unused_serve world) task found stays permit
+      judged_too location change asks names_it plain))
+
+pub rmdirs_end_alike : RmdirsEndAlike
+rmdirs_end_alike world names name path it task found fresh other parent entry directory judged plain none =
+    removal_ends world names name (Rmdir path) it fresh other task found refl refl directory
+    (removed_free world names it.is it.sealed_off task
+    (member_called world names it.is it.sealed_off name it.theirs task found) fresh (Rmdir path)
+    (ToRemoveDirectory parent entry directory)
+    (calls_are_granted nat_eq (looks_of nat_eq world) (overfills nat_eq fresh world task) task (Rmdir path)
+    (ToRemoveDirectory parent entry directory) judged)
+    parent entry directory refl)
+    (not-true (is_mount_point_anywhere (looks_of nat_eq world) directory) none)
+    (ToRemoveDirectory parent entry directory) judged judged parent (Remove parent.node entry directory.node) refl tt
+    plain (λ w supply. refl)
+
+pub renames_end_alike : RenamesEndAlike
+renames_end_alike world names name first second it task found fresh other from old to new object replaced judged plain none =
+    by replaced judged none
+  where
+    part : World ℕ
+    part = part_of nat_eq world names
+
+    change : Change ℕ
+    change = Move from.node old to.node new object.node
+
+    by : (o : Option (Location ℕ))
+        → judge_in nat_eq fresh world task (Rename first second) ≡ Ok (ToRename from old to new object o)
+        → nothing_mounted_on world o ≡ true → EndsAlike world names name (Rename first second) fresh other
+    by None so free =
+        naming_ends world names name (Rename first second) it fresh other (unused_numbers world) (unused_serve world) task
+        found refl (ToRename from old to new object None) so from change refl tt plain
+        (ap (run_by world names name (Rename first second) it fresh other world fresh task) so
+        ∙ plain_run world name (Rename first second) fresh from change (filesystem_at nat_eq world from) refl refl plain)
+        (ap (run_by world names name (Rename first second) it fresh other part other task)
+        (sym (same_judgement world names name (Rename first second) it fresh other task found) ∙ so)
+        ∙ plain_run part name (Rename first second) other from change (filesystem_at nat_eq world from) refl
+        (alike world names name (Rename first second) it fresh other (unused_numbers world) (unused_serve world) task found
+        refl (ToRename from old to new object None) so from change refl tt plain) plain)
+    by (Some gone) so free =
+        removal_ends world names name (Rename first second) it fresh other task found refl refl gone
+        (replaced_free world names it.is it.sealed_off task
+        (member_called world names it.is it.sealed_off name it.theirs task found) fresh (Rename first second)
+        (ToRename from old to new object (Some gone))
+        (calls_are_granted nat_eq (looks_of nat_eq world) (overfills nat_eq fresh world task) task (Rename first second)
+        (ToRename from old to new object (Some gone)) so)
+        from old to new object gone refl)
+        (not-true (is_mount_point_anywhere (looks_of nat_eq world) gone) free)
+        (ToRename from old to new object (Some gone)) so so from change refl tt plain (λ w supply. refl)

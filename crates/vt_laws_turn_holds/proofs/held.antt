@@ -1,0 +1,4 @@
+-- What the proofs of src/held.rt use.
+pub mod Grounds
+pub mod Meeting
+pub mod Holding
