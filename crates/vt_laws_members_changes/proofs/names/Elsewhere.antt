@@ -1,5 +1,5 @@
 -- On a plain filesystem that a set uses alone, only mounts of its own namespaces stand on directories.
-use Rattle.std.proofs.Common.{◌≡◌, refl, sym, ap, subst, ◌∙◌, ⊎_elim, ℕ, nat_eq, eqb-true, eq-eqb, Bool, true, false, true≢false, List, [], ◌∷◌, Option, Some, None, is_some, not, ◌&&◌}
+use Rattle.std.proofs.Common.{◌≡◌, refl, sym, ap, subst, ◌∙◌, ⊎_elim, ℕ, nat_eq, eqb-true, eq-eqb, Bool, true, false, true≢false, List, [], Option, Some, None, is_some, not, ◌&&◌}
 use Rattle.std.specs.List.{list_any}
 use Rattle.std.proofs.lemmas.Bool.{and_parts, not-true}
 use Rattle.vt_spec.specs.Language.Calls.{TaskName}

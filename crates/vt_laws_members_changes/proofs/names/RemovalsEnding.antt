@@ -1,6 +1,6 @@
 -- A call of theirs that removes a directory, or that renames, ends in the part as in the world, if no mount of another
 -- namespace of theirs is on what goes.
-use Rattle.std.proofs.Common.{◌≡◌, refl, sym, ap, subst, ◌∙◌, ℕ, nat_eq, eqb-true, true, false, List, Option, Some, None, Ok, ◌||◌}
+use Rattle.std.proofs.Common.{◌≡◌, refl, sym, ap, subst, ◌∙◌, ℕ, nat_eq, eqb-true, true, false, List, Option, Some, None, Ok}
 use Rattle.std.specs.Prelude.{IfOk, option_map, option_to_list, unwrap_or}
 use Rattle.std.specs.List.{list_any}
 use Rattle.std.proofs.lemmas.Bool.{or_parts}
