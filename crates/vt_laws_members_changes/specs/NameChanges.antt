@@ -1,15 +1,16 @@
 -- Calls of tasks of a sealed set that make, give and take names on plain filesystems, in the world and in the part of
 -- the set (profile).
-use Rattle.std.specs.Prelude.{Bool, List, None, Ok, Option, Some, false, nat_eq, not, true, ℕ, ◌≡◌}
+use Rattle.std.specs.Prelude.{Bool, List, None, Ok, Option, Some, false, nat_eq, not, ℕ, ◌&&◌, ◌≡◌}
+use Rattle.std.specs.List.{list_any}
 use Rattle.vt_spec.specs.Language.Calls.{Access, Call, Creation, TaskName}
 use Rattle.vt_spec.specs.Language.Calls.Call.{LinkTo, MakeWhiteout, Mkdir, OpenFile, Rename, Rmdir, SymlinkAt, Unlink, Write}
-use Rattle.vt_spec.specs.Lists.{Fresh}
+use Rattle.vt_spec.specs.Lists.{Fresh, holds_of}
+use Rattle.vt_spec.specs.Machine.Detach.{mounts_on}
 use Rattle.vt_spec.specs.Machine.Judge.{judge_in}
-use Rattle.vt_spec.specs.Machine.Looks.{looks_of}
-use Rattle.vt_spec.specs.Machine.Mounts.{Location}
+use Rattle.vt_spec.specs.Machine.Mounts.{Location, Mount}
 use Rattle.vt_spec.specs.Machine.Permits.Permit.{ToMake, ToOpenNew, ToRemoveDirectory, ToRename}
-use Rattle.vt_spec.specs.Machine.Rules.Conditions.{is_mount_point_anywhere}
 use Rattle.vt_spec.specs.Machine.Run.{Serves}
+use Rattle.vt_spec.specs.Machine.Sealed.{is_own_namespace}
 use Rattle.vt_spec.specs.Machine.World.{Task, World, filesystem_at, is_overlay, task_called}
 use Rattle.vt_spec.specs.Tree.{Node}
 use Rattle.vt_laws_members_changes.specs.Changes.{EndsAlike, IsCallOfTheirs, PlainChangeEndsAlike}
@@ -73,22 +74,29 @@ UnlinksEndAlike =
     (world : World ℕ) (names : List TaskName) (name : TaskName) (path : List ℕ)
     → PlainChangeEndsAlike world names name (Unlink path)
 
--- nothing is mounted on what goes, in any namespace
-abbrev pub nothing_mounted_on : World ℕ → Option (Location ℕ) → Bool
-nothing_mounted_on world None = true
-nothing_mounted_on world (Some object) = not (is_mount_point_anywhere (looks_of nat_eq world) object)
+-- the mount is in a namespace of theirs, and not in the caller's
+abbrev pub stands_elsewhere : World ℕ → List TaskName → Task ℕ → Mount ℕ → Bool
+stands_elsewhere world names task mount =
+    holds_of (λ namespace. is_own_namespace nat_eq world names namespace && not (nat_eq task.namespace namespace))
+    mount.namespace
 
--- So does rmdir(2) of a directory on which nothing is mounted,
+-- such a mount stands on what goes, if something does
+abbrev pub mounted_elsewhere : World ℕ → List TaskName → Task ℕ → Option (Location ℕ) → Bool
+mounted_elsewhere world names task None = false
+mounted_elsewhere world names task (Some object) =
+    list_any (stands_elsewhere world names task) (mounts_on nat_eq world object)
+
+-- So does rmdir(2), if no mount of theirs of another namespace stands on the directory,
 abbrev pub RmdirsEndAlike : Type 0
 RmdirsEndAlike =
     (world : World ℕ) (names : List TaskName) (name : TaskName) (path : List ℕ)
     → IsCallOfTheirs world names name (Rmdir path) → (task : Task ℕ) → task_called world name ≡ Some task
     → (fresh other : Fresh ℕ) (parent : Location ℕ) (entry : List ℕ) (directory : Location ℕ)
     → judge_in nat_eq fresh world task (Rmdir path) ≡ Ok (ToRemoveDirectory parent entry directory)
-    → is_overlay (filesystem_at nat_eq world parent) ≡ false → nothing_mounted_on world (Some directory) ≡ true
+    → is_overlay (filesystem_at nat_eq world parent) ≡ false → mounted_elsewhere world names task (Some directory) ≡ false
     → EndsAlike world names name (Rmdir path) fresh other
 
--- and rename(2), if nothing is mounted on what it replaces.
+-- and rename(2), if none stands on what it replaces.
 abbrev pub RenamesEndAlike : Type 0
 RenamesEndAlike =
     (world : World ℕ) (names : List TaskName) (name : TaskName) (old new : List ℕ)
@@ -96,5 +104,5 @@ RenamesEndAlike =
     → (fresh other : Fresh ℕ) (from : Location ℕ) (entry : List ℕ) (to : Location ℕ) (entry_new : List ℕ)
     (object : Location ℕ) (replaced : Option (Location ℕ))
     → judge_in nat_eq fresh world task (Rename old new) ≡ Ok (ToRename from entry to entry_new object replaced)
-    → is_overlay (filesystem_at nat_eq world from) ≡ false → nothing_mounted_on world replaced ≡ true
+    → is_overlay (filesystem_at nat_eq world from) ≡ false → mounted_elsewhere world names task replaced ≡ false
     → EndsAlike world names name (Rename old new) fresh other

@@ -20,14 +20,16 @@ pub fn calls_of_theirs_that_make_names_end_alike()
 
 /// In a world with all invariants in which a set of tasks is sealed off, **a granted call of one of them that takes a
 /// name on a plain filesystem does in the part of the set what it does in the world** (`EndAlike`): `unlink`, `rmdir`
-/// of a directory on which nothing is mounted in any namespace, and `rename`, if nothing is mounted on what it replaces.
-/// The numbers handed in do not matter.
+/// and `rename`. The numbers handed in do not matter.
+///
+/// Of `rmdir` and `rename` this asks that no mount of another namespace of theirs stands on what is removed or replaced
+/// (`mounted_elsewhere`): so it is where the set has one namespace. None of the caller's namespace stands there (P1),
+/// and none of others.
 ///
 /// The set uses the filesystem alone, for one in which others have a foothold is locked (L1). So each inode of it is
 /// used in both or in none, and what lost its last use goes in both.
 ///
-/// Not proved yet where mounts of other namespaces of theirs are taken away with a directory, and of filesystems that
-/// are overlays.
+/// Not proved yet where mounts of theirs are taken away with a directory, and of filesystems that are overlays.
 pub fn calls_of_theirs_that_take_names_end_alike()
     ensures unlink { UnlinksEndAlike }
     ensures rmdir { RmdirsEndAlike }

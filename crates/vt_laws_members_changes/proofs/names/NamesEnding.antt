@@ -17,7 +17,7 @@ use Rattle.vt_spec.specs.Machine.Policy.{only_looks}
 use Rattle.vt_spec.specs.Machine.Rows.{linking}
 use Rattle.vt_spec.specs.Machine.Rules.Removing.{object_there, removing}
 use Rattle.vt_spec.specs.Machine.Run.{Serves, numbers_in_use}
-use Rattle.vt_spec.specs.Machine.Sealed.{part_of, used_filesystems}
+use Rattle.vt_spec.specs.Machine.Sealed.{part_of, used_alone, used_filesystems}
 use Rattle.vt_spec.specs.Machine.World.{Filesystem, Task, World, filesystem_at, is_overlay, mount_at, task_called}
 use Rattle.vt_laws_rules.specs.Granted.{IsGranted}
 use Rattle.vt_laws_rules.specs.Granted.IsGranted.{makes_hard_link, unlinks}
@@ -85,6 +85,12 @@ module _ (world : World ℕ) (names : List TaskName) (name : TaskName) (call : C
   pub alike : filesystem_at nat_eq part location ≡ old
   alike = sym (filesystem_alike world names it.is location on)
 
+  -- others have no foothold on the filesystem
+  pub naming_alone : used_alone nat_eq world names (mount_at nat_eq world location).filesystem ≡ true
+  naming_alone =
+      old_alone world names name call it.is it.sealed_off task found served serves permit judged location change asks
+      names_it used
+
   pub naming_ends : ran name call world fresh (Some task) ≡ with_tree world name old (changed nat_eq old.files change)
       → ran name call part other (Some task) ≡ with_tree part name old (changed nat_eq old.files change)
       → EndsAlike world names name call fresh other
@@ -92,8 +98,7 @@ module _ (world : World ℕ) (names : List TaskName) (name : TaskName) (call : C
       let so = changes_so world names name call it.is it.sealed_off task found served serves permit judged location change
       asks names_it in
       tree_ends world names name call it fresh other task found stays location plain used
-      (old_alone world names name call it.is it.sealed_off task found served serves permit judged location change asks
-      names_it used)
+      naming_alone
       (changed nat_eq old.files change)
       (lost world old (changed nat_eq old.files change) plain (names_lost old.files change) so)
       (tree_changes world old (changed nat_eq old.files change) plain (names_lost old.files change) so)

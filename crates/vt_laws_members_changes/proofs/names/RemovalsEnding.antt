@@ -1,15 +1,16 @@
--- A call of theirs that removes a directory, or that renames, ends in the part as in the world, if nothing is mounted on
--- what goes.
-use Rattle.std.proofs.Common.{◌≡◌, refl, sym, ap, subst, ◌∙◌, ℕ, nat_eq, true, false, List, Option, Some, None, Ok}
-use Rattle.std.specs.Prelude.{IfOk, option_to_list, unwrap_or}
+-- A call of theirs that removes a directory, or that renames, ends in the part as in the world, if no mount of another
+-- namespace of theirs is on what goes.
+use Rattle.std.proofs.Common.{◌≡◌, refl, sym, ap, subst, ◌∙◌, ℕ, nat_eq, eqb-true, true, false, List, Option, Some, None, Ok}
+use Rattle.std.specs.Prelude.{IfOk, option_map, option_to_list, unwrap_or}
 use Rattle.std.specs.List.{list_any}
-use Rattle.std.proofs.lemmas.Bool.{not-true, or_parts}
+use Rattle.std.proofs.lemmas.Bool.{or_parts}
+use Rattle.std.proofs.lemmas.Option.{same_Some}
 use Rattle.vt_spec.specs.Language.Answers.Answer.{Done}
 use Rattle.vt_spec.specs.Language.Calls.{Call, TaskName}
 use Rattle.vt_spec.specs.Language.Calls.Call.{Rename, Rmdir}
 use Rattle.vt_spec.specs.Language.Changes.{Change, changed}
 use Rattle.vt_spec.specs.Language.Changes.Change.{Move, Remove}
-use Rattle.vt_spec.specs.Lists.{Fresh, is_among}
+use Rattle.vt_spec.specs.Lists.{Fresh, holds_of, is_among}
 use Rattle.vt_spec.specs.Machine.Apply.{overfills}
 use Rattle.vt_spec.specs.Machine.Detach.{without_mounts_on}
 use Rattle.vt_spec.specs.Machine.Filesystems.{changed_at, with_change}
@@ -22,15 +23,21 @@ use Rattle.vt_spec.specs.Machine.Outcomes.{granted}
 use Rattle.vt_spec.specs.Machine.Permits.{Permit}
 use Rattle.vt_spec.specs.Machine.Permits.Permit.{ToRemoveDirectory, ToRename}
 use Rattle.vt_spec.specs.Machine.Policy.{finished, only_looks}
-use Rattle.vt_spec.specs.Machine.Rules.Conditions.{is_mount_point_anywhere}
+use Rattle.vt_spec.specs.Machine.Rules.Conditions.{is_mount_point_anywhere, is_mount_point_in}
 use Rattle.vt_spec.specs.Machine.Rules.Removing.{object_there}
-use Rattle.vt_spec.specs.Machine.Sealed.{members, part_of, sealed, used_filesystems}
-use Rattle.vt_spec.specs.Machine.Walking.{Place, is_directory_there}
-use Rattle.vt_spec.specs.Machine.World.{Task, World, filesystem_at, is_overlay, task_called}
+use Rattle.vt_spec.specs.Machine.Sealed.{members, part_of, sealed, used_alone, used_filesystems}
+use Rattle.vt_spec.specs.Machine.Walking.{Place, is_directory_there, name_of}
+use Rattle.vt_spec.specs.Machine.World.{Filesystem, Task, World, files_at, filesystem_at, filesystem_numbered, is_overlay, mount_at, mount_numbered, task_called}
+use Rattle.vt_spec.specs.TreeInvariant.{entry_at}
 use Rattle.vt_spec.proofs.Lists.{Among}
+use Rattle.vt_spec.proofs.Options.{none_is_some}
+use Rattle.vt_spec.proofs.Worlds.{special_word}
 use Rattle.vt_laws_rules.specs.Granted.{IsGranted}
 use Rattle.vt_laws_rules.specs.Granted.IsGranted.{removes_directory, renames}
 use Rattle.vt_laws_rules.proofs.given.Inversion.{calls_are_granted}
+use Rattle.vt_laws_trees.proofs.trees.PlacesReached.{old_is, rename_new_is}
+use Rattle.vt_laws_trees.proofs.trees.TreesWalked.{not_true, place_named}
+use Rattle.vt_laws_permits.proofs.sees.SeesNames.{old_mount}
 use Rattle.vt_laws_overlay_permits.specs.Asked.{change_asked}
 use Rattle.vt_laws_members.specs.Judging.{is_theirs}
 use Rattle.vt_laws_members.proofs.judging.AllJudged.{judges}
@@ -38,9 +45,12 @@ use Rattle.vt_laws_members.proofs.judging.Grounds.{theirs_from}
 use Rattle.vt_laws_members.proofs.judging.Judged.{JudgesAlike}
 use Rattle.vt_laws_members.proofs.judging.WalksLead.{PlaceAt, old_agrees, rename_new_agrees}
 use Rattle.vt_laws_members_changes.specs.Changes.{EndsAlike, IsCallOfTheirs, grown}
-use Rattle.vt_laws_members_changes.specs.NameChanges.{RenamesEndAlike, RmdirsEndAlike, nothing_mounted_on}
+use Rattle.vt_laws_members_changes.specs.NameChanges.{RenamesEndAlike, RmdirsEndAlike, mounted_elsewhere}
+use Rattle.vt_laws_members_changes.proofs.files.FilesEnding.{no_overlay}
+use Rattle.vt_laws_members_changes.proofs.files.OneFilesystem.{found_numbered}
 use Rattle.vt_laws_members_changes.proofs.looks.Told.{member_called}
-use Rattle.vt_laws_members_changes.proofs.names.NamesEnding.{alike, naming_ends, unused_numbers, unused_serve}
+use Rattle.vt_laws_members_changes.proofs.names.Elsewhere.{none_anywhere}
+use Rattle.vt_laws_members_changes.proofs.names.NamesEnding.{alike, naming_alone, naming_ends, unused_numbers, unused_serve}
 use Rattle.vt_laws_members_changes.proofs.names.GrantedNames.{Names}
 use Rattle.vt_laws_members_changes.proofs.names.NothingMounted.{none_taken, none_taken_in_part}
 use Rattle.vt_laws_members_changes.proofs.names.TreesEnding.{plain_run, with_tree}
@@ -66,46 +76,69 @@ module _ (world : World ℕ) (names : List TaskName) (is : IsWorld nat_eq world)
   abbrev IsPlaced : Place ℕ → Type 0
   IsPlaced = PlaceAt one other_looks task On judged_alike.walks judged_alike.directory judged_alike.rules.removed
 
-  abbrev IsFree : Location ℕ → Type 0
-  IsFree object = On object.mount × (is_locked_at nat_eq world object ≡ false)
+  -- what goes is on the mount of the directory, not locked, and no mount of the caller's namespace is on it
+  abbrev IsFree : Location ℕ → Location ℕ → Type 0
+  IsFree object parent =
+      On object.mount × (is_locked_at nat_eq world object ≡ false)
+      × (is_mount_point_in nat_eq one task.namespace object ≡ false) × (object.mount ≡ parent.mount)
 
   object_on : (place : Place ℕ) → IsPlaced place → On (object_there place).mount
   object_on place at = by place.object refl
     where
-      by : (o : Option (Location ℕ)) → place.object ≡ o
-          → On (unwrap_or o place.parent).mount
+      by : (o : Option (Location ℕ)) → place.object ≡ o → On (unwrap_or o place.parent).mount
       by None e = at.0
       by (Some object) e = at.1 object e
 
   removed_free : (asked : Call) (permit : Permit ℕ)
       → IsGranted nat_eq one (overfills nat_eq fresh world task) task asked permit
       → (parent : Location ℕ) (entry : List ℕ) (directory : Location ℕ)
-      → permit ≡ ToRemoveDirectory parent entry directory → IsFree directory
+      → permit ≡ ToRemoveDirectory parent entry directory → IsFree directory parent
   removed_free asked permit (removes_directory path place walk word passed) parent entry directory e =
       let same : object_there place ≡ directory = cc in
-      subst IsFree same (
+      let above : place.parent ≡ parent = cc in
+      subst (IsFree directory) above
+      (subst (λ object. IsFree object place.parent) same (
         object_on place (subst (λ r. IfOk r IsPlaced) walk
-            (old_agrees one other_looks task On judged_alike.walks judged_alike.directory judged_alike.rules.removed path).1),
+            (old_agrees one other_looks task On judged_alike.walks judged_alike.directory judged_alike.rules.removed
+            path).1),
         (or_parts (is_locked_at nat_eq world (object_there place)) (is_locked_at nat_eq world place.parent)
             passed.1.1.1.1.0).0,
-      )
+        passed.1.1.1.1.1.0,
+        old_mount world task place (special_word place.last word.0 word.1.0 word.1.1.0) (old_is world task path place walk),
+      ))
   removed_free asked permit other_way parent entry directory e = absurd cc
+
+  on_mount : (mount : ℕ) (replaced : Location ℕ) (o : Option ℕ)
+      → option_map (λ n. record { mount = mount; node = n }) o ≡ Some replaced → replaced.mount ≡ mount
+  on_mount mount replaced None f = none_is_some replaced f
+  on_mount mount replaced (Some n) f =
+      ap (λ (l : Location ℕ). l.mount) (sym (same_Some (record { mount = mount; node = n }) replaced f))
 
   replaced_free : (asked : Call) (permit : Permit ℕ)
       → IsGranted nat_eq one (overfills nat_eq fresh world task) task asked permit
       → (from : Location ℕ) (old : List ℕ) (to : Location ℕ) (new : List ℕ) (object replaced : Location ℕ)
-      → permit ≡ ToRename from old to new object (Some replaced) → IsFree replaced
+      → permit ≡ ToRename from old to new object (Some replaced) → IsFree replaced from
   replaced_free asked permit (renames path other from_place to_place both two passed) from old to new object replaced e =
-      let same : to_place.object ≡ Some replaced = cc in (
+      let same : to_place.object ≡ Some replaced = cc in
+      let source : from_place.parent ≡ from = cc in
+      let to_is = rename_new_is world task other (is_directory_there nat_eq one from_place) to_place both.to_end in
+      let together = eqb-true from_place.parent.mount to_place.parent.mount
+      (not_true (nat_eq from_place.parent.mount to_place.parent.mount) passed.1.1.1.1.1.1.1.1.0) in
+      subst (IsFree replaced) source (
         (subst (λ r. IfOk r IsPlaced) both.to_end
-            (rename_new_agrees one other_looks task On judged_alike.walks judged_alike.directory judged_alike.rules.removed
-            other (is_directory_there nat_eq one from_place)).1).1 replaced same,
+            (rename_new_agrees one other_looks task On judged_alike.walks judged_alike.directory
+            judged_alike.rules.removed other (is_directory_there nat_eq one from_place)).1).1 replaced same,
         (or_parts (is_locked_at nat_eq world replaced) false
             (subst (λ o. list_any one.is_locked (option_to_list o) ≡ false) same
             (or_parts (is_locked_at nat_eq world (object_there from_place)) _
             (or_parts (is_locked_at nat_eq world to_place.parent) _
-            (or_parts (is_locked_at nat_eq world from_place.parent) _
-            passed.1.1.1.1.1.1.0).1).1).1)).0,
+            (or_parts (is_locked_at nat_eq world from_place.parent) _ passed.1.1.1.1.1.1.0).1).1).1)).0,
+        subst (λ o. holds_of (is_mount_point_in nat_eq one task.namespace) o ≡ false) same
+            (or_parts (is_mount_point_anywhere one (object_there from_place)) _ passed.1.1.1.1.1.1.1.0).1,
+        on_mount to_place.parent.mount replaced
+            (entry_at (files_at nat_eq world to_place.parent).tree to_place.parent.node (name_of to_place.last))
+            (sym (place_named world to_place.parent to_place.last to_place.object both.to_named.0 to_is.0.0).1 ∙ same)
+            ∙ sym together,
       )
   replaced_free asked permit other_way from old to new object replaced e = absurd cc
 
@@ -113,17 +146,32 @@ module _ (world : World ℕ) (names : List TaskName) (is : IsWorld nat_eq world)
 module _ (world : World ℕ) (names : List TaskName) (name : TaskName) (call : Call) (it : IsCallOfTheirs world names name call)
     (fresh other : Fresh ℕ) (task : Task ℕ) (found : task_called world name ≡ Some task)
     (stays : grown names name call (Ok Done) ≡ names) (looks : only_looks call ≡ false) (gone : Location ℕ)
-    (free : (is_theirs world names gone.mount ≡ true) × (is_locked_at nat_eq world gone ≡ false))
-    (none : is_mount_point_anywhere (looks_of nat_eq world) gone ≡ false) (permit : Permit ℕ)
+    (permit : Permit ℕ)
     (judged : judge_in nat_eq fresh world task call ≡ Ok permit)
     (judged_too : judge_in nat_eq (unused_numbers world) world task call ≡ Ok permit) (location : Location ℕ)
     (change : Change ℕ) (asks : change_asked (unused_numbers world) world permit ≡ Some (location, change))
     (names_it : Names change) (plain : is_overlay (filesystem_at nat_eq world location) ≡ false)
+    (free : (is_theirs world names gone.mount ≡ true) × (is_locked_at nat_eq world gone ≡ false)
+    × (is_mount_point_in nat_eq (looks_of nat_eq world) task.namespace gone ≡ false) × (gone.mount ≡ location.mount))
+    (elsewhere : mounted_elsewhere world names task (Some gone) ≡ false)
     (runs : (w : World ℕ) (supply : Fresh ℕ) → run_by world names name call it fresh other w supply task (Ok permit)
     ≡ finished nat_eq w name call (changed_at nat_eq (without_mounts_on nat_eq w gone) location)
     (granted Done (with_change nat_eq supply (without_mounts_on nat_eq w gone) location change))) where
   abbrev part : World ℕ
   part = part_of nat_eq world names
+
+  one_filesystem : filesystem_at nat_eq world gone ≡ filesystem_at nat_eq world location
+  one_filesystem = ap (λ m. filesystem_numbered nat_eq world (mount_numbered nat_eq world m).filesystem) free.3
+
+  none : is_mount_point_anywhere (looks_of nat_eq world) gone ≡ false
+  none =
+      none_anywhere world names it.is task gone
+      (ap (λ (f : Filesystem ℕ). f.overlay) one_filesystem ∙ no_overlay (filesystem_at nat_eq world location).overlay plain)
+      (ap (λ (f : Filesystem ℕ). used_alone nat_eq world names f.number) one_filesystem
+      ∙ ap (used_alone nat_eq world names) (found_numbered (mount_at nat_eq world location).filesystem world.filesystems)
+      ∙ naming_alone world names name call it fresh other (unused_numbers world) (unused_serve world) task found stays permit
+      judged_too location change asks names_it plain)
+      free.2 elsewhere
 
   run_without : (w : World ℕ) (supply : Fresh ℕ) → without_mounts_on nat_eq w gone ≡ w
       → filesystem_at nat_eq w location ≡ filesystem_at nat_eq world location
@@ -153,15 +201,14 @@ module _ (world : World ℕ) (names : List TaskName) (name : TaskName) (call : C
 pub rmdirs_end_alike : RmdirsEndAlike
 rmdirs_end_alike world names name path it task found fresh other parent entry directory judged plain none =
     removal_ends world names name (Rmdir path) it fresh other task found refl refl directory
+    (ToRemoveDirectory parent entry directory) judged judged parent (Remove parent.node entry directory.node) refl tt plain
     (removed_free world names it.is it.sealed_off task
     (member_called world names it.is it.sealed_off name it.theirs task found) fresh (Rmdir path)
     (ToRemoveDirectory parent entry directory)
     (calls_are_granted nat_eq (looks_of nat_eq world) (overfills nat_eq fresh world task) task (Rmdir path)
     (ToRemoveDirectory parent entry directory) judged)
     parent entry directory refl)
-    (not-true (is_mount_point_anywhere (looks_of nat_eq world) directory) none)
-    (ToRemoveDirectory parent entry directory) judged judged parent (Remove parent.node entry directory.node) refl tt
-    plain (λ w supply. refl)
+    none (λ w supply. refl)
 
 pub renames_end_alike : RenamesEndAlike
 renames_end_alike world names name first second it task found fresh other from old to new object replaced judged plain none =
@@ -175,7 +222,7 @@ renames_end_alike world names name first second it task found fresh other from o
 
     by : (o : Option (Location ℕ))
         → judge_in nat_eq fresh world task (Rename first second) ≡ Ok (ToRename from old to new object o)
-        → nothing_mounted_on world o ≡ true → EndsAlike world names name (Rename first second) fresh other
+        → mounted_elsewhere world names task o ≡ false → EndsAlike world names name (Rename first second) fresh other
     by None so free =
         naming_ends world names name (Rename first second) it fresh other (unused_numbers world) (unused_serve world) task
         found refl (ToRename from old to new object None) so from change refl tt plain
@@ -188,11 +235,11 @@ renames_end_alike world names name first second it task found fresh other from o
         refl (ToRename from old to new object None) so from change refl tt plain) plain)
     by (Some gone) so free =
         removal_ends world names name (Rename first second) it fresh other task found refl refl gone
+        (ToRename from old to new object (Some gone)) so so from change refl tt plain
         (replaced_free world names it.is it.sealed_off task
         (member_called world names it.is it.sealed_off name it.theirs task found) fresh (Rename first second)
         (ToRename from old to new object (Some gone))
         (calls_are_granted nat_eq (looks_of nat_eq world) (overfills nat_eq fresh world task) task (Rename first second)
         (ToRename from old to new object (Some gone)) so)
         from old to new object gone refl)
-        (not-true (is_mount_point_anywhere (looks_of nat_eq world) gone) free)
-        (ToRename from old to new object (Some gone)) so so from change refl tt plain (λ w supply. refl)
+        free (λ w supply. refl)

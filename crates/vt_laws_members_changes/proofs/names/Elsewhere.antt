@@ -1,0 +1,117 @@
+-- On a plain filesystem that a set uses alone, only mounts of its own namespaces stand on directories.
+use Rattle.std.proofs.Common.{◌≡◌, refl, sym, ap, subst, ◌∙◌, ⊎_elim, ℕ, nat_eq, eqb-true, eq-eqb, Bool, true, false, true≢false, List, [], Option, Some, None, is_some, not, ◌&&◌}
+use Rattle.std.specs.List.{list_any}
+use Rattle.std.proofs.lemmas.Bool.{and_parts, not-true}
+use Rattle.vt_spec.specs.Language.Calls.{TaskName}
+use Rattle.vt_spec.specs.Lists.{holds_of}
+use Rattle.vt_spec.specs.Machine.Detach.{is_point, mounts_on, points_of, upper_points}
+use Rattle.vt_spec.specs.Machine.Invariants.{IsWorld, Stands}
+use Rattle.vt_spec.specs.Machine.Locked.{overlay_or}
+use Rattle.vt_spec.specs.Machine.Looks.{looks_of}
+use Rattle.vt_spec.specs.Machine.Mounts.{Location, Mount}
+use Rattle.vt_spec.specs.Machine.Rules.Conditions.{is_mount_point_anywhere, is_mount_point_in}
+use Rattle.vt_spec.specs.Machine.Sealed.{is_own_namespace, no_outsider_on, other_mounts, used_alone}
+use Rattle.vt_spec.specs.Machine.World.{Filesystem, Overlay, Task, World, filesystem_at, mount_at, mount_numbered}
+use Rattle.vt_spec.proofs.Lists.{Among, among-filter, among-from_filter, among_from_all, any_among, any_from_among, none_from_among}
+use Rattle.vt_spec.proofs.Options.{none_is_some}
+use Rattle.vt_spec.proofs.Worlds.{found_or_none}
+use Rattle.vt_laws_mounts.proofs.mounts.MountsReplaced.{found_itself}
+use Rattle.vt_laws_worlds.proofs.worlds.Reached.{namespace_below}
+use Rattle.vt_laws_members_changes.specs.NameChanges.{mounted_elsewhere, stands_elsewhere}
+
+module _ (world : World ℕ) (names : List TaskName) (is : IsWorld nat_eq world) where
+  -- a mount on a filesystem that they use alone is of a namespace of theirs
+  own_there : (number : ℕ) → used_alone nat_eq world names number ≡ true → (mount : Mount ℕ) → Among mount world.mounts
+      → (point : Location ℕ) → mount.mount_point ≡ Some point → (mount_at nat_eq world point).filesystem ≡ number
+      → (n : ℕ) → mount.namespace ≡ Some n → is_own_namespace nat_eq world names n ≡ true
+  own_there number alone mount m point stands shows n placed = by (is_own_namespace nat_eq world names n) refl
+    where
+      itself : mount_numbered nat_eq world mount.number ≡ mount
+      itself = found_itself world.mounts is.mounts.one_number mount m
+
+      above_placed : (mount_at nat_eq world point).namespace ≡ Some n
+      above_placed =
+          sym (namespace_below world mount.number point
+          (among_from_all (λ (y : Mount ℕ). Stands nat_eq world y.number) world.mounts is.mounts.standing mount m)
+          (ap (λ (y : Mount ℕ). y.mount_point) itself ∙ stands))
+          ∙ ap (λ (y : Mount ℕ). y.namespace) itself ∙ placed
+
+      above_there : Among (mount_at nat_eq world point) world.mounts
+      above_there =
+          ⊎_elim (λ k. k)
+          (λ none. none_is_some n (sym (ap (λ (y : Mount ℕ). y.namespace) none) ∙ above_placed))
+          (found_or_none world.mounts point.mount)
+
+      nobody : list_any (λ (y : Mount ℕ). nat_eq number y.filesystem) (other_mounts nat_eq world names) ≡ false
+      nobody =
+          not-true _ (and_parts (not (list_any (λ (y : Mount ℕ). nat_eq number y.filesystem)
+          (other_mounts nat_eq world names))) _ (and_parts (no_outsider_on nat_eq world names number) _ alone).0).0
+
+      by : (b : Bool) → is_own_namespace nat_eq world names n ≡ b → is_own_namespace nat_eq world names n ≡ true
+      by true own = own
+      by false other =
+          absurd (true≢false
+          (sym (any_from_among (λ (y : Mount ℕ). nat_eq number y.filesystem) (other_mounts nat_eq world names)
+          (mount_at nat_eq world point)
+          (among-filter (λ (y : Mount ℕ). holds_of (λ k. not (is_own_namespace nat_eq world names k)) y.namespace)
+          world.mounts (mount_at nat_eq world point) above_there
+          (ap (holds_of (λ k. not (is_own_namespace nat_eq world names k))) above_placed ∙ ap not other))
+          (eq-eqb number (mount_at nat_eq world point).filesystem (sym shows)))
+          ∙ nobody))
+
+  -- so none stands there, if none of the caller's does, nor one of another namespace of theirs
+  module _ (task : Task ℕ) (directory : Location ℕ) (plain : (filesystem_at nat_eq world directory).overlay ≡ None)
+      (alone : used_alone nat_eq world names (filesystem_at nat_eq world directory).number ≡ true)
+      (in_own : is_mount_point_in nat_eq (looks_of nat_eq world) task.namespace directory ≡ false)
+      (elsewhere : mounted_elsewhere world names task (Some directory) ≡ false) where
+    abbrev there : Filesystem ℕ
+    there = filesystem_at nat_eq world directory
+
+    only_point : (point : ℕ × ℕ) → Among point (points_of nat_eq world directory) → point.0 ≡ there.number
+    only_point point m =
+        ⊎_elim (λ same. ap (λ (p : ℕ × ℕ). p.0) same)
+        (λ more. absurd (subst (λ o. Among point (overlay_or [] (λ (overlay : Overlay ℕ).
+        upper_points world there overlay directory.node) o)) plain more)) m
+
+    own_here : (mount : Mount ℕ) → Among mount (mounts_on nat_eq world directory) → (n : ℕ) → mount.namespace ≡ Some n
+        → is_own_namespace nat_eq world names n ≡ true
+    own_here mount m n placed =
+        let from = among-from_filter (λ (x : Mount ℕ). list_any (λ (point : ℕ × ℕ).
+        is_point nat_eq world point.0 point.1 x) (points_of nat_eq world directory)) world.mounts mount m in
+        let at = any_among (λ (point : ℕ × ℕ). is_point nat_eq world point.0 point.1 mount)
+        (points_of nat_eq world directory) from.1 in
+        by from.0 at.0 (only_point at.0 at.1) mount.mount_point refl at.2
+      where
+        by : Among mount world.mounts → (at : ℕ × ℕ) → at.0 ≡ there.number → (o : Option (Location ℕ))
+            → mount.mount_point ≡ o
+            → holds_of (λ (point : Location ℕ). nat_eq point.node at.1
+            && nat_eq (mount_at nat_eq world point).filesystem at.0) o ≡ true
+            → is_own_namespace nat_eq world names n ≡ true
+        by k at same None e h = absurd (true≢false (sym h))
+        by k at same (Some point) e h =
+            own_there there.number alone mount k point e
+            (eqb-true (mount_at nat_eq world point).filesystem at.0
+            (and_parts (nat_eq point.node at.1) (nat_eq (mount_at nat_eq world point).filesystem at.0) h).1 ∙ same)
+            n placed
+
+    pub none_anywhere : is_mount_point_anywhere (looks_of nat_eq world) directory ≡ false
+    none_anywhere =
+        none_from_among (λ (mount : Mount ℕ). is_some mount.namespace) (mounts_on nat_eq world directory)
+        (λ mount m. by mount m mount.namespace refl)
+      where
+        which : (mount : Mount ℕ) → Among mount (mounts_on nat_eq world directory) → (n : ℕ) → mount.namespace ≡ Some n
+            → (b : Bool) → nat_eq task.namespace n ≡ b → is_some mount.namespace ≡ false
+        which mount m n placed true e =
+            absurd (true≢false
+            (sym (any_from_among (λ (y : Mount ℕ). holds_of (nat_eq task.namespace) y.namespace)
+            (mounts_on nat_eq world directory) mount m (ap (holds_of (nat_eq task.namespace)) placed ∙ e)) ∙ in_own))
+        which mount m n placed false e =
+            absurd (true≢false
+            (sym (any_from_among (stands_elsewhere world names task) (mounts_on nat_eq world directory) mount m
+            (ap (holds_of (λ k. is_own_namespace nat_eq world names k && not (nat_eq task.namespace k))) placed
+            ∙ (λ i. own_here mount m n placed i && not (e i)))) ∙ elsewhere))
+
+        by : (mount : Mount ℕ) → Among mount (mounts_on nat_eq world directory) → (o : Option ℕ) → mount.namespace ≡ o
+            → is_some mount.namespace ≡ false
+        by mount m None e = ap is_some e
+        by mount m (Some n) e = which mount m n e (nat_eq task.namespace n) refl
