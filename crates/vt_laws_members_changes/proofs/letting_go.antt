@@ -25,6 +25,7 @@ pub mod Regrouped
 pub mod SeeLess
 pub mod Sweep
 pub mod Sweeping
+pub mod SweptAlike
 pub mod SweptPart
 pub mod Umounting
 pub mod UsedAlike

@@ -1,8 +1,7 @@
 -- Where mounts of theirs are detached, and the rest is swept and raised, the part is what is left of the part.
 use Rattle.std.proofs.Common.{◌≡◌, refl, sym, ap, ◌∙◌, ℕ, nat_eq, Bool, true, false, List, [], filter, map, not}
 use Rattle.std.specs.List.{list_any}
-use Rattle.vt_spec.specs.Language.Calls.{TaskName, same_name}
-use Rattle.vt_spec.specs.Lists.{is_among}
+use Rattle.vt_spec.specs.Language.Calls.{TaskName}
 use Rattle.vt_spec.specs.Machine.Detach.{is_going}
 use Rattle.vt_spec.specs.Machine.Filesystems.{raised, raised_if_changed}
 use Rattle.vt_spec.specs.Machine.Invariants.{IsWorld, MountInvariants}
@@ -12,13 +11,12 @@ use Rattle.vt_spec.specs.Machine.Sealed.{is_member_task, is_own_namespace, locat
 use Rattle.vt_spec.specs.Machine.Settled.{settled}
 use Rattle.vt_spec.specs.Machine.World.{Namespace, Task, World}
 use Rattle.vt_spec.proofs.Lists.{Among, map_same}
-use Rattle.vt_laws_letting_go.proofs.Lists.{filter-map}
 use Rattle.vt_laws_part.proofs.part.PartOfPart.{is_own}
 use Rattle.vt_laws_members_changes.proofs.tasks.Retasked.{retasked}
 use Rattle.vt_laws_members_changes.proofs.letting_go.EndedPartReady.{ended_part_ready}
 use Rattle.vt_laws_members_changes.proofs.letting_go.EndedRaised.{raised_alike}
 use Rattle.vt_laws_members_changes.proofs.letting_go.EndedReady.{ended_ready}
-use Rattle.vt_laws_members_changes.proofs.letting_go.Ends.{raised_is, raised_sees}
+use Rattle.vt_laws_members_changes.proofs.letting_go.Ends.{raised_members, raised_sees}
 use Rattle.vt_laws_members_changes.proofs.letting_go.LessSeen.{one_part}
 use Rattle.vt_laws_members_changes.proofs.letting_go.NamespaceLess.{ended, ended_less, ended_part}
 use Rattle.vt_laws_members_changes.proofs.letting_go.Sweep.{part_of_settled, swept_of}
@@ -85,13 +83,6 @@ module _ (world : World ℕ) (names : List TaskName) (is : IsWorld nat_eq world)
       (ended_part_ready world names is sealed_off set gone own_go lasts tasks tasks_too change change_too same fewer all
       still b kept_there))
 
-  raised_members : (list : List (Task ℕ))
-      → filter (is_member_task set) (map (raised_task name) list) ≡ map (raised_task name)
-      (filter (is_member_task set) list)
-  raised_members list =
-      filter-map (is_member_task set) (raised_task name) list
-      (λ t. ap (λ n. is_among same_name n set) (raised_is name (λ (x : Task ℕ). x.name) (λ x. refl) t))
-
   abbrev spaces : List (Task ℕ) → Namespace ℕ → Bool
   spaces ts n = list_any (λ (t : Task ℕ). nat_eq n.number t.namespace) ts
 
@@ -105,6 +96,7 @@ module _ (world : World ℕ) (names : List TaskName) (is : IsWorld nat_eq world)
             ∙ ap (λ ts. filter (spaces ts)
             (map (raised_namespace nat_eq part (settled nat_eq v_part)) v_part.namespaces))
             (sym same)) i;
-        tasks = (raised_members tasks ∙ ap (map (raised_task name)) (sym same) ∙ sym (raised_members tasks_too)) i;
+        tasks = (raised_members set name tasks ∙ ap (map (raised_task name)) (sym same)
+            ∙ sym (raised_members set name tasks_too)) i;
       })
       ∙ sym (raised_part part v_part set name)

@@ -9,7 +9,7 @@ use Rattle.vt_spec.specs.Machine.Invariants.{IsWorld, is_nowhere_or_attached, is
 use Rattle.vt_spec.specs.Machine.Mounts.{Mount}
 use Rattle.vt_spec.specs.Machine.Outcomes.{granted}
 use Rattle.vt_spec.specs.Machine.Policy.{policy, raised_task}
-use Rattle.vt_spec.specs.Machine.Sealed.{is_member_task, members, own_lowers, part_of, used_filesystems}
+use Rattle.vt_spec.specs.Machine.Sealed.{is_member_task, members, part_of}
 use Rattle.vt_spec.specs.Machine.Settled.{settled}
 use Rattle.vt_spec.specs.Machine.World.{Task, World, locations_of, task_called}
 use Rattle.vt_spec.proofs.Lists.{Among, among-from_filter_map, among_from_list_all}
@@ -23,12 +23,9 @@ use Rattle.vt_laws_members_changes.proofs.part.SettledPart.{part_in_use}
 use Rattle.vt_laws_members_changes.proofs.tasks.Ending.{with_tasks}
 use Rattle.vt_laws_members_changes.proofs.tasks.Retasked.{SeeAlike, retasked}
 use Rattle.vt_laws_members_changes.proofs.tasks.Rights.{sees_alike}
-use Rattle.vt_laws_members_changes.proofs.letting_go.Changed.{LetsGo, sees_less}
-use Rattle.vt_laws_members_changes.proofs.letting_go.PartReady.{part_ready}
+use Rattle.vt_laws_members_changes.proofs.letting_go.Changed.{LetsGo}
 use Rattle.vt_laws_members_changes.proofs.letting_go.Raised.{DetachedArePrivate, swept_raised}
-use Rattle.vt_laws_members_changes.proofs.letting_go.SeeLess.{part_of_less}
-use Rattle.vt_laws_members_changes.proofs.letting_go.Sweep.{part_of_settled, swept_of}
-use Rattle.vt_laws_members_changes.proofs.letting_go.WorldReady.{world_ready}
+use Rattle.vt_laws_members_changes.proofs.letting_go.SweptAlike.{swept_alike}
 
 pub raised_is : {A : Type 0} (name : TaskName) (what : Task ℕ → A)
     → ((t : Task ℕ) → what (record t { change = raised t.change }) ≡ what t) → (t : Task ℕ)
@@ -38,6 +35,14 @@ raised_is {A} name what same t = by (same_name name t.name)
     by : (b : Bool) → what (cond b (record t { change = raised t.change }) t) ≡ what t
     by true = same t
     by false = refl
+
+-- a task whose change number is raised stays a member
+pub raised_members : (set : List TaskName) (name : TaskName) (list : List (Task ℕ))
+    → filter (is_member_task set) (map (raised_task name) list)
+    ≡ map (raised_task name) (filter (is_member_task set) list)
+raised_members set name list =
+    filter-map (is_member_task set) (raised_task name) list
+    (λ t. ap (λ n. is_among same_name n set) (raised_is name (λ (x : Task ℕ). x.name) (λ x. refl) t))
 
 -- detached mounts are private
 pub private_in_world : (world : World ℕ) → IsWorld nat_eq world → DetachedArePrivate world
@@ -126,33 +131,11 @@ let_go_alike world names set name call it task called fresh other answer stays t
         ap (ran name call part other) (same_caller world names it.is it.sealed_off name it.theirs ∙ called) ∙ two
         ∙ ends_so part in_part (private_in_part world names it.is) name set tasks_too answer
 
-    now : World ℕ
-    now = record world { tasks = tasks }
-
-    now_part : World ℕ
-    now_part = record part { tasks = tasks_too }
-
-    swept_alike : part_of nat_eq (settled nat_eq now) set ≡ part_of nat_eq (settled nat_eq now_part) set
-    swept_alike =
-        part_of_settled now set (used_filesystems nat_eq now set) (own_lowers nat_eq now set)
-        (world_ready world names it.is it.sealed_off set tasks world.change lets)
-        ∙ sym (ap (swept_of set)
-        (part_of_less world names it.is set tasks tasks_too world.change part.change
-        (sees_less world names it.is it.sealed_off set tasks world.change lets) same))
-        ∙ sym (part_of_settled now_part set (used_filesystems nat_eq now set) (own_lowers nat_eq now set)
-        (part_ready world names it.is it.sealed_off set tasks tasks_too world.change part.change lets same all))
-
-    raised_members : (list : List (Task ℕ))
-        → filter (is_member_task set) (map (raised_task name) list) ≡ map (raised_task name)
-        (filter (is_member_task set) list)
-    raised_members list =
-        filter-map (is_member_task set) (raised_task name) list
-        (λ t. ap (λ n. is_among same_name n set) (raised_is name (λ (x : Task ℕ). x.name) (λ x. refl) t))
-
     parts : part_of nat_eq left set ≡ part_of nat_eq left_too set
     parts =
         part_of_ended world in_world (private_in_world world it.is) name set tasks answer
-        ∙ (λ i. record (swept_alike i) {
-          tasks = (raised_members tasks ∙ ap (map (raised_task name)) (sym same) ∙ sym (raised_members tasks_too)) i;
+        ∙ (λ i. record (swept_alike world names set it.is it.sealed_off tasks tasks_too lets same all i) {
+          tasks = (raised_members set name tasks ∙ ap (map (raised_task name)) (sym same)
+              ∙ sym (raised_members set name tasks_too)) i;
         })
         ∙ sym (part_of_ended part in_part (private_in_part world names it.is) name set tasks_too answer)

@@ -1,5 +1,5 @@
 -- The groups that a sealed set hears are in its part, with their masters.
-use Rattle.std.proofs.Common.{◌≡◌, refl, sym, ap, subst, ◌∙◌, ⊎_elim, ℕ, nat_eq, Bool, true, false, cond, true≢false, List, Option, Some, None, is_some, length, not, ◌||◌, ◌&&◌, eqb-true}
+use Rattle.std.proofs.Common.{◌≡◌, refl, sym, ap, subst, ◌∙◌, ⊎_elim, ℕ, nat_eq, Bool, true, cond, true≢false, List, Option, Some, None, is_some, length, not, ◌||◌, ◌&&◌, eqb-true}
 use Rattle.std.specs.List.{list_any}
 use Rattle.std.proofs.lemmas.Bool.{and_parts, or_left}
 use Rattle.vt_spec.specs.Language.Calls.{TaskName}

@@ -1,9 +1,9 @@
 -- The sweep of a part is the part of the sweep, where the tasks of a sealed set use no more than before.
-use Rattle.std.proofs.Common.{◌≡◌, sym, ap, subst, ◌∙◌, inl, ⊎_elim, ℕ, nat_eq, true, List, [], ◌∷◌, filter, not}
+use Rattle.std.proofs.Common.{◌≡◌, sym, subst, inl, ⊎_elim, ℕ, nat_eq, true, List, [], ◌∷◌, filter, not}
 use Rattle.vt_spec.specs.Language.Calls.{TaskName}
 use Rattle.vt_spec.specs.Machine.Invariants.{IsWorld}
 use Rattle.vt_spec.specs.Machine.Mounts.{Location}
-use Rattle.vt_spec.specs.Machine.Sealed.{is_member_task, locations, members, outsiders, own_lowers, part_of, roots_and_directories, sealed, used_filesystems}
+use Rattle.vt_spec.specs.Machine.Sealed.{is_member_task, locations, members, outsiders, part_of, roots_and_directories, sealed}
 use Rattle.vt_spec.specs.Machine.World.{Task, World}
 use Rattle.vt_spec.proofs.Lists.{Among, among-from_filter, among-from_flat_map, among_from_contains, contains_from_among}
 use Rattle.vt_laws_part.proofs.Kept.{filter_again}
@@ -11,10 +11,8 @@ use Rattle.vt_laws_members.proofs.judging.Grounds.{IsTheirs}
 use Rattle.vt_laws_members.proofs.judging.SeenInPart.{directory_theirs, root_theirs}
 use Rattle.vt_laws_members_changes.specs.LettingGo.{LessIsSeenAlike, SweepsAlike, UsesNoMore}
 use Rattle.vt_laws_members_changes.proofs.letting_go.Changed.{LetsGo, sees_less}
-use Rattle.vt_laws_members_changes.proofs.letting_go.PartReady.{part_ready}
 use Rattle.vt_laws_members_changes.proofs.letting_go.SeeLess.{part_of_less}
-use Rattle.vt_laws_members_changes.proofs.letting_go.Sweep.{part_of_settled, swept_of}
-use Rattle.vt_laws_members_changes.proofs.letting_go.WorldReady.{world_ready}
+use Rattle.vt_laws_members_changes.proofs.letting_go.SweptAlike.{swept_alike}
 
 module _ (world : World ℕ) (names set : List TaskName) (is : IsWorld nat_eq world)
     (sealed_off : sealed nat_eq world names ≡ true) (tasks : List (Task ℕ))
@@ -57,16 +55,6 @@ less_is_seen_alike world names set is sealed_off tasks uses =
 
 pub sweeps_alike : SweepsAlike
 sweeps_alike world names set is sealed_off tasks uses =
-    let lets = lets_go world names set is sealed_off tasks uses in
-    let new : List (Task ℕ) = filter (is_member_task set) tasks in
-    let later : World ℕ = record world { tasks = tasks } in
-    let part : World ℕ = part_of nat_eq world names in
-    part_of_settled later set (used_filesystems nat_eq later set) (own_lowers nat_eq later set)
-    (world_ready world names is sealed_off set tasks world.change lets)
-    ∙ sym (ap (swept_of set)
-    (part_of_less world names is set tasks new world.change part.change
-    (sees_less world names is sealed_off set tasks world.change lets) (filter_again (is_member_task set) tasks)))
-    ∙ sym (part_of_settled (record part { tasks = new }) set (used_filesystems nat_eq later set)
-    (own_lowers nat_eq later set)
-    (part_ready world names is sealed_off set tasks new world.change part.change lets
-    (filter_again (is_member_task set) tasks) (λ t m. (among-from_filter (is_member_task set) tasks t m).1)))
+    swept_alike world names set is sealed_off tasks (filter (is_member_task set) tasks)
+    (lets_go world names set is sealed_off tasks uses) (filter_again (is_member_task set) tasks)
+    (λ t m. (among-from_filter (is_member_task set) tasks t m).1)
