@@ -1,6 +1,7 @@
 -- Names found by going up from a directory of a tree: path_resolution(7) on "..".
-use Rattle.std.specs.Prelude.{List, Option, [], find, nat_eq, option_map, suc, unwrap_or, zero, ℕ, ◌∷◌}
+use Rattle.std.specs.Prelude.{List, Option, [], find, nat_eq, option_map, suc, unwrap_or, zero, ℕ, ◌+◌, ◌<◌, ◌∷◌, ◌^◌}
 use Rattle.vt_spec.specs.Tree.{Tree, entries_in, parent_in}
+use Rattle.vt_tree.specs.Paths.{NamesDirectoriesOnce}
 
 -- the directory so many steps up
 abbrev pub climbed : Tree ℕ → ℕ → ℕ → ℕ
@@ -19,3 +20,8 @@ abbrev pub names_up : Tree ℕ → ℕ → ℕ → List (List ℕ)
 names_up tree zero directory = []
 names_up tree (suc steps) directory =
     unwrap_or (name_up tree (climbed tree steps directory)) [] ∷ names_up tree steps directory
+
+-- a tree names each directory once, and a way in it leaves room for one more name
+pub record IsWay (tree : Tree ℕ) (len : ℕ) : Type 0 where
+  pub once : NamesDirectoriesOnce tree
+  pub room : len + 1 < 2 ^ 64

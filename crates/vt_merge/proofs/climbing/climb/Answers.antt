@@ -14,7 +14,12 @@ loop-len-init c = record {
 }
 
 pub invariant_of-result : goal.invariant_of-result
-invariant_of-result c = once_in_slots c.args.filesystem.count c.args.tree.now c.requires.tree
+invariant_of-result c =
+    let within = c.loop-len-test.true in
+    record {
+      once = once_in_slots c.args.filesystem.count c.args.tree.now c.requires.tree;
+      room = omega (arith, within);
+    }
 
 pub name_above-requires : goal.name_above-requires
 name_above-requires c = once_in_slots c.args.filesystem.count c.args.tree.now c.requires.tree

@@ -12,6 +12,9 @@ overflow_sub-self-inside-2 c =
     ∙ length-names_up (tree_of c.self.inside.tree.now) c.self.inside.len c.self.inside.directory in
     omega (arith, within, many)
 
+pub name_climbed-requires : goal.name_climbed-requires
+name_climbed-requires c = c.self.invariant.once
+
 pub returns : goal.returns
 returns c =
     let within = c.requires in
