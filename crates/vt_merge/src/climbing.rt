@@ -1,5 +1,5 @@
 //! The way from one directory of a tree down to another, found by going up from that one.
-ghost use Rattle.std.specs.Prelude.{◌≡◌, ◌≢◌, ◌++◌, ◌∷◌, [], IfSome, List, None, Some, ℕ, option_copied, unwrap_or};
+ghost use Rattle.std.specs.Prelude.{◌≡◌, ◌≢◌, ◌++◌, ◌∷◌, [], IfSome, List, None, Some, ℕ, option_copied};
 ghost use Rattle.vt_spec.specs.Machine.Layers.{at_path};
 ghost use Rattle.vt_spec.specs.Tree.{is_directory_node};
 ghost use Rattle.vt_spec.specs.TreeInvariant.{IsDirectory, IsTree, led};
@@ -37,7 +37,7 @@ impl<'a> Model for WayDown<'a> {
 
     ghost view = { λ way. names_up (tree_of way.tree.now) way.len way.directory };
 
-    ghost invariant = { λ way. IsWay (tree_of way.tree.now) way.len };
+    ghost invariant = { λ way. IsWay (tree_of way.tree.now) way.len way.directory };
 }
 
 impl<'a> WayDown<'a> {
@@ -61,7 +61,10 @@ impl<'a> Way for WayDown<'a> {
     }
 
     fn name(&self, index: usize) -> &[u8] {
-        name_climbed(self.tree, self.directory, self.len - 1 - index)
+        match name_climbed(self.tree, self.directory, self.len - 1 - index) {
+            Some(name) => name,
+            None => unreachable!(),
+        }
     }
 }
 
@@ -100,19 +103,16 @@ impl<'a> Way for Under<'a> {
 }
 
 // The name of the directory so many steps up.
-fn name_climbed(tree: &Tree, directory: NodeId, steps: usize) -> &[u8]
+fn name_climbed(tree: &Tree, directory: NodeId, steps: usize) -> Option<&[u8]>
     requires { NamesDirectoriesOnce (tree_of tree.now) }
-    ensures { result.now
-        ≡ unwrap_or (name_up (tree_of tree.now) (climbed (tree_of tree.now) steps directory)) [] }
+    ensures { option_copied result
+        ≡ name_up (tree_of tree.now) (climbed (tree_of tree.now) steps directory) }
 {
     let mut here = directory;
     for _step in 0..steps {
         here = tree.parent(here);
     }
-    match name_above(tree, here) {
-        Some(name) => name,
-        None => &[],
-    }
+    name_above(tree, here)
 }
 
 // The name of a directory in its parent.

@@ -12,6 +12,7 @@ mod showing;
 mod ways;
 
 pub use climbing::{Under, WayDown, way_down};
+pub use entries::slot_of;
 pub use following::led_to;
 pub use layers::{LayerRef, MergedDirectory, Real};
 pub use merging::{MOST_LAYERS, MergedDirectories, merged_dirs, merged_dirs_at};

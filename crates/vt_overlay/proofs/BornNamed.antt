@@ -13,24 +13,26 @@ use Rattle.vt_spec.proofs.Truths.{and_true_left, and_true_right}
 use Rattle.vt_spec.specs.Lists.{last_or, then_some, without_last}
 use Rattle.vt_spec.specs.Machine.Layers.{Shown, shown}
 use Rattle.vt_spec.specs.Machine.Merging.{is_root_path}
-use Rattle.vt_spec.specs.Tree.{Entries, Tree, entries_in, entry_named, is_directory_node, name_cmp}
+use Rattle.vt_spec.specs.Tree.{Node, Tree, entries_in, entries_of, entry_named, is_directory_node, name_cmp}
 use Rattle.vt_spec.specs.TreeInvariant.{IsDirectory, IsTree, entry_at, led}
 use Rattle.vt_laws_layers.proofs.layers.ShownNames.{last_name}
 use Rattle.vt_laws_layers.proofs.layers.ShownPaths.{last_of_longer, one_path, root_of_longer}
 use Rattle.vt_laws_layers.proofs.layers.UpperLine.{has_entries}
 use Rattle.vt_laws_layers.proofs.layers.UpperShown.{without_last_of_longer}
-use Rattle.vt_location.proofs.NumberLemmas.{exchanged_back}
+use Rattle.vt_location.proofs.NumberLemmas.{exchanged_back, exchanged_slot}
+use Rattle.vt_location.specs.declared.locations.InodeRef.{InodeRef}
 use Rattle.vt_location.specs.declared.births.Birth.TheVariants.{Below, Here}
 use Rattle.vt_location.specs.Births.{born_in}
 use Rattle.vt_location.specs.Locations.{inode_of, number_of}
 use Rattle.vt_location.specs.Numbers.{exchanged, inode_number}
-use Rattle.vt_fs.specs.FilesystemsValue.{Filesystems, files_at}
+use Rattle.vt_fs.specs.FilesystemsValue.{Filesystems, files_at, node_seen}
 use Rattle.vt_merge.specs.LayerValue.{layer_of}
 use Rattle.vt_merge.specs.declared.layers.LayerRef.{LayerRef}
 use Rattle.vt_node.proofs.RankLemmas.{before, found_is_there, ranked_is_found, ranked_is_there}
 use Rattle.vt_node.specs.Ranks.{name_ranked, rank_among}
 use Rattle.vt_overlay.specs.MergedTree.{AreLayers, IsLayer, OverlayValue, birth_at, born_below, node_born, object_shown, rank_at, slot_at}
 use Rattle.vt_overlay.proofs.BirthsFound.{Birthplace, IsBorn, has_last, in_slot, is_born}
+use Rattle.vt_overlay.proofs.RanksSeen.{ranked_seen}
 use Rattle.vt_overlay.proofs.TreeFound.{IsAt, found_at, found_is, found_is_at, in_layer, layers}
 
 none_counts : {X : Type 0} (p : X → Bool) (xs : List X) → find p xs ≡ None → length (filter p xs) ≡ 0
@@ -62,7 +64,7 @@ alone_rank tree directory object name is object_is entry =
         e in
         let leads : object ≡ other.1 = eqb-true object other.1 (and_true_left (nat_eq object other.1) _ both) in
         let same = is.one_name directory other.0 name object (there ∙ ap Some (sym leads)) entry object_is in
-        absurd (not_before_itself (name_cmp name name) (tied_itself nat_list_cmp_total name)
+        absurd (not_before_itself (name_cmp name name) (ap is_eq (tied_itself nat_list_cmp_total name))
         (ap (λ n. is_lt (name_cmp n name)) (sym same) ∙ and_true_right (nat_eq object other.1) _ both))
 
 module _ (trees : Filesystems) (overlay : OverlayValue) (b : Birthplace trees overlay) where
@@ -165,6 +167,29 @@ module _ (trees : Filesystems) (overlay : OverlayValue) (b : Birthplace trees ov
           ranked = sym is.ranked
               ∙ rank_is path (without_last path) last.name last.split leads is.leads entry;
         }
+
+    -- the directory, and its names, as they are found in its slot
+    module _ (inode : InodeRef) (is : inode ≡ record { filesystem = lower.directory.filesystem; slot = b.directory })
+      where
+      in_slot_above : inode_of (record { filesystem = lower.directory.filesystem; slot = b.directory }) ≡ above
+      in_slot_above = sym (exchanged_slot count b.directory b.directory_small)
+
+      pub above_number : inode_of inode ≡ above
+      above_number = ap inode_of is ∙ in_slot_above
+
+      pub above_node : (files_at trees inode.filesystem.count).tree.node (inode_of inode) ≡ files.node above
+      above_node =
+          ap (λ (n : InodeRef). (files_at trees n.filesystem.count).tree.node (inode_of n)) is
+          ∙ ap files.node in_slot_above
+
+      pub name_seen : (node : Node ℕ)
+          → Some (node_seen inode.filesystem.count node)
+          ≡ (files_at trees inode.filesystem.count).tree.node (inode_of inode)
+          → (id : ℕ) → id ≡ b.slot
+          → name_ranked (entries_of node.content) id b.rank ≡ name_ranked (entries_in (files.node above)) object b.rank
+      name_seen node seen id same =
+          ranked_seen inode.filesystem.count node id b.rank
+          ∙ (λ i. name_ranked (entries_in ((seen ∙ above_node) i)) (exchanged (is i).filesystem.count (same i)) b.rank)
 
     -- where it has no such name, it has no real object
     unnamed : ((path : List (List ℕ)) → Born path lower → IsNamed path → ⊥) → None ≡ object_shown trees overlay number

@@ -1,5 +1,5 @@
 -- Ranks by slots are ranks by the numbers of inodes.
-use Rattle.std.proofs.Common.{◌≡◌, ◌∙◌, ◌∷◌, ◌&&◌, [], ap, Bool, eq-eqb, eqb-true, false, length, List, map, nat_eq, None, option_map, Option, refl, Some, sym, true, true≢false, ℕ}
+use Rattle.std.proofs.Common.{◌≡◌, ◌∙◌, ◌∷◌, ◌&&◌, ◌+◌, [], ap, Bool, eq-eqb, eqb-true, false, length, List, map, nat_eq, None, option_map, Option, refl, Some, sym, true, true≢false, ℕ}
 use Rattle.std.specs.Ordering.{is_lt}
 use Rattle.std.specs.Prelude.{filter, find, if◌then◌else◌}
 use Rattle.vt_spec.specs.Machine.Renaming.{renamed_entry}
@@ -12,7 +12,7 @@ use Rattle.vt_node.specs.Ranks.{name_ranked, rank_among}
 
 module _ (f : ℕ) where
   abbrev numbered : Entries ℕ → Entries ℕ
-  numbered entries = map (renamed_entry (exchanged f)) entries
+  numbered entries = map (renamed_entry (exchanged f) (exchanged f)) entries
 
   same_truth : (a b : Bool) → (a ≡ true → b ≡ true) → (b ≡ true → a ≡ true) → a ≡ b
   same_truth true b there back = sym (there refl)
@@ -39,7 +39,7 @@ module _ (f : ℕ) where
       by : (b : Bool) → rank_among entries name id ≡ rank_among (numbered entries) name (exchanged f id)
           → length (if b then entry ∷ filter (λ e. nat_eq id e.1 && is_lt (name_cmp e.0 name)) entries
           else filter (λ e. nat_eq id e.1 && is_lt (name_cmp e.0 name)) entries)
-          ≡ length (if b then renamed_entry (exchanged f) entry
+          ≡ length (if b then renamed_entry (exchanged f) (exchanged f) entry
           ∷ filter (λ e. nat_eq (exchanged f id) e.1 && is_lt (name_cmp e.0 name)) (numbered entries)
           else filter (λ e. nat_eq (exchanged f id) e.1 && is_lt (name_cmp e.0 name)) (numbered entries))
       by true rest = ap (λ n. 1 + n) rest
@@ -70,7 +70,7 @@ module _ (f : ℕ) where
           (if b then Some entry
           else find (λ e. nat_eq id e.1 && nat_eq rank (rank_among all e.0 id)) entries)
           ≡ option_map (λ (e : List ℕ × ℕ). e.0)
-          (if b then Some (renamed_entry (exchanged f) entry)
+          (if b then Some (renamed_entry (exchanged f) (exchanged f) entry)
           else find (λ e. nat_eq (exchanged f id) e.1
           && nat_eq rank (rank_among (numbered all) e.0 (exchanged f id))) (numbered entries))
       by true rest = refl

@@ -17,8 +17,8 @@ ghost use Rattle.vt_overlay.specs.MergedTree.{AreLayers, birth_at, born_below, b
 use crate::overlays::{Overlay, inode_in};
 use vt_fs::Filesystems;
 use vt_location::{Birth, FilesystemId, InodeRef, NodeRef};
-use vt_merge::{Front, Real, Way, led_to, real_of, shown, way_down};
-use vt_node::{Node, NodeId};
+use vt_merge::{Front, Real, Way, led_to, real_of, shown, slot_of, way_down};
+use vt_node::Node;
 
 impl Overlay {
     /// The root: the highest layer's directory.
@@ -103,9 +103,9 @@ impl Overlay {
         let lower = self.layer_at(layer)?;
         let above = inode_in(lower, directory);
         let way = way_down(trees, lower.directory, above)?;
-        let name = trees
-            .node(above.node_ref())?
-            .name_ranked(NodeId::new(slot), rank)?;
+        let node = trees.node(above.node_ref())?;
+        let object = inode_in(lower, slot);
+        let name = node.name_ranked(slot_of(object), rank)?;
         let real = shown(trees, self.lowers.as_slice(), &way.under(name))?;
         if real.layer != usize::from(layer) {
             return None;
@@ -163,7 +163,7 @@ impl Overlay {
         if path.len() == 0 {
             return Some(Birth::Here);
         }
-        let lower = *self.lowers.as_slice().get(real.layer)?;
+        let lower = self.lowers.as_slice().get(real.layer).copied()?;
         let directory = led_to(trees, lower.directory, &Front { path })?;
         let name = path.name(path.len() - 1);
         let rank = rank_in(trees, directory, name, real.inode);
@@ -217,7 +217,7 @@ fn rank_of(trees: &Filesystems, directory: InodeRef, name: &[u8], object: InodeR
         name.now (inode_of object) }
 {
     match trees.node(directory.node_ref()) {
-        Some(node) => node.rank_of(name, object.node()),
+        Some(node) => node.rank_of(name, slot_of(object)),
         None => 0,
     }
 }

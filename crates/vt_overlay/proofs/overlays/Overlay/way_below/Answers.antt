@@ -67,8 +67,8 @@ returns-in_err-parent_slot c =
     ∙ no_inode trees overlay b lower layer c.inode_in-inode.result c.inode_in-inode.ensures.is c.parent_slot.result
     c.parent_slot.ensures c.in_err-parent_slot.was
 
-pub returns-then-directory : goal.returns-then-directory
-returns-then-directory c =
+pub returns-then-branch-directory : goal.returns-then-branch-directory
+returns-then-branch-directory c =
     let trees = c.args.trees.now in
     let overlay = c.args.self.now in
     let b : Birthplace c.args.trees.now c.args.self.now =
@@ -86,7 +86,9 @@ returns-then-directory c =
     let lower = c.in_ok-lower.lower in
     let layer : slice_get overlay.lowers c.args.layer ≡ Some lower =
     sym c.layer_at.ensures ∙ c.in_ok-lower.was in
-    ?
+    let other : c.in_ok-parent_slot.field-0 ≢ c.args.directory = search rules in
+    not_its_parent trees overlay b lower layer c.inode_in-inode.result c.inode_in-inode.ensures.is c.parent_slot.result
+    c.parent_slot.ensures c.in_ok-parent_slot.field-0 c.in_ok-parent_slot.was other
 
 pub way_down-requires-clause-tree : goal.way_down-requires-clause-tree
 way_down-requires-clause-tree c =
@@ -200,6 +202,9 @@ returns c =
     subst (IsDirectory (files trees overlay b lower layer)) number c.in_ok-way.ensures.directory in
     let some : length way ≢ 0 = search rules in
     let none : c.args.rank ≡ 0 = search rules in
-    let h = c.parent_slot in
-    let k = c.in_ok-parent_slot in
-    ?
+    let same : c.in_ok-parent_slot.field-0 ≡ c.args.directory = search rules in
+    let up =
+    its_parent trees overlay b lower layer c.inode_in-inode.result c.inode_in-inode.ensures.is c.parent_slot.result
+    c.parent_slot.ensures (c.in_ok-parent_slot.was ∙ ap Some same) in
+    is_shown trees overlay b lower layer way leads is none (some_names way some) up
+    (sym c.shows_in.ensures ∙ c.if-not-shows_in.false)

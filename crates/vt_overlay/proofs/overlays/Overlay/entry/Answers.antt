@@ -2,7 +2,7 @@ use Rattle.std.proofs.Common.{ap, option_map, sym, ◌∙◌}
 use Rattle.vt_location.specs.Locations.{number_of}
 use Rattle.vt_overlay.specs.MergedTree.{number_at}
 use Rattle.vt_overlay.proofs.DirectoriesSeen.{entry_of, no_entry_of}
-use Rattle.vt_overlay.proofs.nodes.Overlay.entry.Goals as goal
+use Rattle.vt_overlay.proofs.overlays.Overlay.entry.Goals as goal
 
 pub returns-in_err-way : goal.returns-in_err-way
 returns-in_err-way c =

@@ -4,7 +4,7 @@ use Rattle.vt_location.specs.Locations.{number_of}
 use Rattle.vt_merge.specs.LayerValue.{seen_of}
 use Rattle.vt_overlay.specs.Alike.{front}
 use Rattle.vt_overlay.proofs.ObjectsAlike.{none_alike, some_alike}
-use Rattle.vt_overlay.proofs.nodes.Overlay.inode.Goals as goal
+use Rattle.vt_overlay.proofs.overlays.Overlay.inode.Goals as goal
 
 pub returns-in_err-real : goal.returns-in_err-real
 returns-in_err-real c =

@@ -1,7 +1,7 @@
 use Rattle.std.proofs.Common.{ap, option_map, sym, ◌∙◌}
 use Rattle.vt_location.specs.Locations.{number_of}
 use Rattle.vt_overlay.proofs.DirectoriesSeen.{no_parent_of, parent_of}
-use Rattle.vt_overlay.proofs.nodes.Overlay.parent.Goals as goal
+use Rattle.vt_overlay.proofs.overlays.Overlay.parent.Goals as goal
 
 pub returns-in_err-way : goal.returns-in_err-way
 returns-in_err-way c =
