@@ -1,5 +1,5 @@
 -- Ranks by slots are ranks by the numbers of inodes.
-use Rattle.std.proofs.Common.{◌≡◌, ◌∙◌, ◌∷◌, ◌&&◌, ◌+◌, [], ap, Bool, eq-eqb, eqb-true, false, length, List, map, nat_eq, None, option_map, Option, refl, Some, sym, true, true≢false, ℕ}
+use Rattle.std.proofs.Common.{◌≡◌, ◌∙◌, ◌∷◌, ◌&&◌, [], ap, Bool, eq-eqb, eqb-true, false, length, List, map, nat_eq, None, option_map, Option, refl, Some, suc, sym, true, ℕ}
 use Rattle.std.specs.Ordering.{is_lt}
 use Rattle.std.specs.Prelude.{filter, find, if◌then◌else◌}
 use Rattle.vt_spec.specs.Machine.Renaming.{renamed_entry}
@@ -42,7 +42,7 @@ module _ (f : ℕ) where
           ≡ length (if b then renamed_entry (exchanged f) (exchanged f) entry
           ∷ filter (λ e. nat_eq (exchanged f id) e.1 && is_lt (name_cmp e.0 name)) (numbered entries)
           else filter (λ e. nat_eq (exchanged f id) e.1 && is_lt (name_cmp e.0 name)) (numbered entries))
-      by true rest = ap (λ n. 1 + n) rest
+      by true rest = ap suc rest
       by false rest = rest
 
   -- the entry of a rank, among some of the entries

@@ -163,11 +163,12 @@ impl Overlay {
         if path.len() == 0 {
             return Some(Birth::Here);
         }
-        let lower = self.lowers.as_slice().get(real.layer).copied()?;
+        let lower = self.layer_in(real.layer)?;
         let directory = led_to(trees, lower.directory, &Front { path })?;
         let name = path.name(path.len() - 1);
         let rank = rank_in(trees, directory, name, real.inode);
-        Some(born_in(real.layer as u8, directory, rank))
+        let layer = real.layer as u8;
+        Some(born_in(layer, directory, rank))
     }
 }
 

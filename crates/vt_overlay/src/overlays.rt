@@ -151,7 +151,14 @@ impl Overlay {
     pub(crate) fn layer_at(&self, place: u8) -> Option<LayerRef>
         ensures { result ≡ slice_get self.now.lowers place }
     {
-        self.lowers.as_slice().get(usize::from(place)).copied()
+        self.layer_in(usize::from(place))
+    }
+
+    // The same, by a place in the list.
+    pub(crate) fn layer_in(&self, place: usize) -> Option<LayerRef>
+        ensures { result ≡ slice_get self.now.lowers place }
+    {
+        self.lowers.as_slice().get(place).copied()
     }
 
     // Whether what the layers show at a path is in this one.

@@ -1,5 +1,5 @@
-use Rattle.std.proofs.Common.{None, Some, ap, arith, option_map, rules, sym, ◌≡◌, ◌≢◌, ◌-◌, ◌∙◌, [], length, slice_get}
-use Rattle.std.proofs.lemmas.Option.{same_Some}
+use Rattle.std.proofs.Common.{None, Some, ap, arith, option_map, rules, sym, ◌≡◌, ◌≢◌, ◌≤◌, ◌-◌, ◌∙◌, [], length, slice_get}
+use Rattle.std.proofs.lemmas.Option.{same_Some, slice_get_within}
 use Rattle.std.specs.Prelude.{if◌then◌else◌}
 use Rattle.vt_spec.specs.Lists.{last_or, without_last}
 use Rattle.vt_spec.specs.Machine.Layers.{at_path}
@@ -24,7 +24,8 @@ pub returns-in_err-directory : goal.returns-in_err-directory
 returns-in_err-directory g c = λ lower layer.
     let names = g.W.Way.names c.args.path.now in
     let some : length names ≢ 0 = search rules in
-    let at : slice_get c.args.self.now.lowers c.args.real.layer ≡ Some c.in_ok-lower.lower = search rules in
+    let at : slice_get c.args.self.now.lowers c.args.real.layer ≡ Some c.in_ok-lower.lower =
+    sym c.layer_in.ensures ∙ c.in_ok-lower.was in
     let same : lower ≡ c.in_ok-lower.lower = same_Some lower c.in_ok-lower.lower (sym layer ∙ at) in
     let none : at_path (layer_of c.args.trees.now lower) (without_last names) ≡ None =
     ap (λ (l : LayerRef). at_path (layer_of c.args.trees.now l) (without_last names)) same
@@ -34,10 +35,18 @@ returns-in_err-directory g c = λ lower layer.
 
 pub rank_in-rank-requires : goal.rank_in-rank-requires
 rank_in-rank-requires g c =
-    let at : slice_get c.args.self.now.lowers c.args.real.layer ≡ Some c.in_ok-lower.lower = search rules in
+    let at : slice_get c.args.self.now.lowers c.args.real.layer ≡ Some c.in_ok-lower.lower =
+    sym c.layer_in.ensures ∙ c.in_ok-lower.was in
     same_Some c.args.real.inode.filesystem c.in_ok-lower.lower.directory.filesystem
     (sym c.requires.tree ∙ ap (option_map (λ (layer : LayerRef). layer.directory.filesystem)) at)
     ∙ sym c.in_ok-directory.ensures.filesystem
+
+pub overflow_cast-layer : goal.overflow_cast-layer
+overflow_cast-layer g c =
+    let within = slice_get_within c.args.self.now.lowers c.args.real.layer c.in_ok-lower.lower
+    (sym c.layer_in.ensures ∙ c.in_ok-lower.was) in
+    let few : length c.args.self.now.lowers ≤ 129 = c.requires.few in
+    omega (arith, within, few)
 
 pub returns : goal.returns
 returns g c = λ lower layer.
@@ -47,7 +56,8 @@ returns g c = λ lower layer.
     let directory = c.in_ok-directory.directory in
     let name = c.name-name.result.now in
     let some : length names ≢ 0 = search rules in
-    let at : slice_get c.args.self.now.lowers real.layer ≡ Some c.in_ok-lower.lower = search rules in
+    let at : slice_get c.args.self.now.lowers real.layer ≡ Some c.in_ok-lower.lower =
+    sym c.layer_in.ensures ∙ c.in_ok-lower.was in
     let same : lower ≡ c.in_ok-lower.lower = same_Some lower c.in_ok-lower.lower (sym layer ∙ at) in
     let own : real.inode.filesystem ≡ lower.directory.filesystem =
     same_Some real.inode.filesystem lower.directory.filesystem
