@@ -19,7 +19,7 @@ use Rattle.vt_location.specs.declared.mounts.Mount.{Mount}
 use Rattle.vt_location.specs.Locations.{location_of, number_of}
 use Rattle.vt_location.specs.MountValue.{mount_of}
 use Rattle.vt_location.specs.Numbers.{counted}
-use Rattle.vt_location.proofs.NumberLemmas.{inode_same, slot_of}
+use Rattle.vt_location.proofs.NodeLemmas.{own_count}
 use Rattle.vt_laws_worlds.specs.Worlds.Kept.{IsUnderWay}
 use Rattle.vt_laws_worlds.proofs.worlds.Roots.{directory_there}
 use Rattle.vt_detach.proofs.Detached.{inodes_of_point}
@@ -64,13 +64,11 @@ module _ (after : World ℕ) (is_world : IsUnderWay after) (front : List (meant.
       (no_filesystem (mount_at nat_eq after (location_of point)).filesystem)).files.tree.node (number_of point.node))
       ≡ true)
       after_files (directory_there (node_at nat_eq after (location_of point)) directory)) in
-      let slot = slot_of seen.entry.count (number_of point.node) seen.own in
       let small : point.node.slot < 18446744073709551616 =
       ltb-true point.node.slot 18446744073709551616
       (subst (λ o. point_is_small o ≡ true) is
       (and_parts (nat_lt mount.root.slot 18446744073709551616) _ (passes has_small_slots new slots mount m)).1) in
-      seen.number_is ∙ ap counted (sym
-      (inode_same point.node.filesystem.count seen.entry.count point.node.slot slot.0 small slot.1 slot.2).0)
+      seen.number_is ∙ ap counted (own_count seen.entry.count point.node small seen.own)
 
   pub new_found : (mount : Mount) → Among mount new → IsFoundIn after mount
   new_found mount m = record {

@@ -23,7 +23,7 @@ use Rattle.vt_location.specs.declared.mounts.Mount.{Mount}
 use Rattle.vt_location.specs.Locations.{location_of, number_of}
 use Rattle.vt_location.specs.MountValue.{mount_of}
 use Rattle.vt_location.specs.Numbers.{counted}
-use Rattle.vt_location.proofs.NumberLemmas.{inode_same, slot_of}
+use Rattle.vt_location.proofs.NodeLemmas.{own_count, small_parts}
 use Rattle.vt_mount.specs.MountsValue.{MountEntry, are_ascending, mounts_in}
 use Rattle.vt_laws_mounts.proofs.mounts.MountsReplaced.{one_number_by_numbers}
 use Rattle.vt_propagate.specs.Pushing.{MovesOnce}
@@ -108,10 +108,8 @@ point_shown world base own files point small directory =
     (no_filesystem (mount_at nat_eq world (location_of point)).filesystem)).files.tree.node (number_of point.node))
     ≡ true)
     files (directory_there (node_at nat_eq world (location_of point)) directory)) in
-    let slot = slot_of seen.entry.count (number_of point.node) seen.own in
     seen.number_is
-    ∙ ap counted (sym (inode_same point.node.filesystem.count seen.entry.count point.node.slot slot.0
-    (ltb-true point.node.slot 18446744073709551616 small) slot.1 slot.2).0)
+    ∙ ap counted (own_count seen.entry.count point.node (small_parts point.node small).slot seen.own)
 
 -- Mounts that come behind others, which get other mount points
 

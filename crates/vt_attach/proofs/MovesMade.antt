@@ -11,7 +11,7 @@ use Rattle.vt_location.specs.declared.locations.Location.{Location}
 use Rattle.vt_location.specs.Locations.{location_of}
 use Rattle.vt_location.specs.Numbers.{counted}
 use Rattle.vt_mount.specs.declared.moving.Moved.{Moved}
-use Rattle.vt_mount.specs.Moving.{all_moves, has_small_slot, is_small as has_small_points, move_of, moves_by}
+use Rattle.vt_mount.specs.Moving.{all_moves, is_small_point, is_small as has_small_points, move_of, moves_by}
 use Rattle.vt_mount.specs.MountsValue.{MountEntry, entry_numbered}
 use Rattle.vt_spec.specs.Machine.Mounts as meant
 use Rattle.vt_attach.specs.Planned.{AreMoves, Point, is_small, left_of, points_left, points_taken, taken_of, with_points}
@@ -68,17 +68,17 @@ small-taken : (moved : List Moved) → list_all has_small_points moved ≡ true 
 small-taken [] all = refl
 small-taken (one ∷ rest) all =
     let parts = and_parts (has_small_points one) (list_all has_small_points rest) all in
-    λ i. (and_parts (has_small_slot one.from) (has_small_slot (Some one.to)) parts.0).1 i && small-taken rest parts.1 i
+    λ i. (and_parts (is_small_point one.from) (is_small_point (Some one.to)) parts.0).1 i && small-taken rest parts.1 i
 
 small-left : (moved : List Moved) → list_all has_small_points moved ≡ true → list_all is_small (left_of moved) ≡ true
 small-left [] all = refl
 small-left (one ∷ rest) all =
     let parts = and_parts (has_small_points one) (list_all has_small_points rest) all in
     list_all-append is_small (option_to_list one.from) (left_of rest)
-    ∙ (λ i. at one.from (and_parts (has_small_slot one.from) (has_small_slot (Some one.to)) parts.0).0 i
+    ∙ (λ i. at one.from (and_parts (is_small_point one.from) (is_small_point (Some one.to)) parts.0).0 i
     && small-left rest parts.1 i)
   where
-    at : (point : Option Location) → has_small_slot point ≡ true → list_all is_small (option_to_list point) ≡ true
+    at : (point : Option Location) → is_small_point point ≡ true → list_all is_small (option_to_list point) ≡ true
     at None small = refl
     at (Some point) small = ap (λ b. b && true) small
 

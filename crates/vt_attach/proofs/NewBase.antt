@@ -1,5 +1,5 @@
 -- A new filesystem stands beside the others before its mount comes: mount(2) of a tmpfs.
-use Rattle.std.proofs.Common.{◌≡◌, ◌⊎◌, refl, sym, ap, subst, ◌∙◌, inl, inr, ⊎_elim, ℕ, ◌+◌, ◌*◌, nat_eq, eq-eqb, true, false, cond, not, ◌&&◌, ◌||◌, List, [], ◌∷◌, ◌++◌, map, filter, find, flat_map, Option, Some, None, is_some, option_map, arith}
+use Rattle.std.proofs.Common.{◌≡◌, ◌⊎◌, refl, sym, ap, subst, ◌∙◌, inl, inr, ⊎_elim, ℕ, ◌<◌, ◌+◌, ◌*◌, nat_eq, eq-eqb, true, false, cond, not, ◌&&◌, ◌||◌, List, [], ◌∷◌, ◌++◌, map, filter, find, flat_map, Option, Some, None, is_some, option_map, arith}
 use Rattle.std.specs.Prelude.{filter_map, option_to_list, unwrap_or}
 use Rattle.std.specs.List.{list_all}
 use Rattle.std.proofs.lemmas.Bool.{and_parts, ne_eqb}
@@ -280,9 +280,9 @@ module _ (value : WorldValue) (whole : IsHeld value) (name : TaskName) (place : 
         (new_tree_is_counted middle (counted value.next)
         (inode_number value.next 0) left_world.1 whole.in_world.mounts.one_number roots_elsewhere all_outside))))
 
-    pub new_base : IsBase value (value.filesystems ++ entry ∷ [])
-    new_base = record {
-      own = all_own value whole entry is_new;
+    pub new_base : value.next < 18446744073709551616 → IsBase value (value.filesystems ++ entry ∷ [])
+    new_base small = record {
+      own = all_own value whole entry small is_new;
       trees = subst HasTrees base_is (worlds_have_trees left left_world.0);
       in_use = subst InodesInUse base_is in_use_then;
       roots = subst (λ (w : World ℕ). list_all (has_its_root nat_eq w) (mounts_in value.mounts)

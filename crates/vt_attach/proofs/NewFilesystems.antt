@@ -12,8 +12,8 @@ use Rattle.vt_laws_counts.specs.Using.{root_counted}
 use Rattle.vt_fs.specs.FilesystemsValue.{FilesystemEntry, Filesystems, IsNew, entry_of, filesystem_seen, inodes_seen, without}
 use Rattle.vt_laws_rules.proofs.numbers.Supports.{used_numbers_are_named}
 use Rattle.vt_laws_letting_go.proofs.Lists.{Among, all_from_among, among-append, among-append_left, among-append_right, among-flat_map, among-map, among_from_all, filter_here, filter_skip, is_among_numbers}
-use Rattle.vt_location.specs.Numbers.{counted, inode_number, is_inode_of}
-use Rattle.vt_location.proofs.NumberLemmas.{is_inode}
+use Rattle.vt_location.specs.Numbers.{counted, inode_number, is_own_number}
+use Rattle.vt_location.proofs.NumberLemmas.{is_own}
 use Rattle.vt_laws_runs.specs.Handed.{is_counted_before}
 use Rattle.vt_world.specs.Held.{HasOwnInodes, IsHeld}
 use Rattle.vt_world.specs.WorldValue.{WorldValue, world_of}
@@ -88,24 +88,25 @@ removed_again (first ∷ rest) entry count is above =
     low = ltb-true first.count count (and_true_left _ _ above)
 
 -- its inodes have numbers of its own
-pub new_is_own : (count : ℕ) (entry : FilesystemEntry) → IsNew count root_attr entry
+pub new_is_own : (count : ℕ) (entry : FilesystemEntry) → count < 18446744073709551616 → IsNew count root_attr entry
     → IsOwn entry.count (inodes_seen entry)
-new_is_own count entry is number other = ap (λ (all : Inodes ℕ). all.inode number) is.inodes
+new_is_own count entry small is number other = ap (λ (all : Inodes ℕ). all.inode number) is.inodes
     ∙ by (nat_eq number (inode_number count 0)) refl
   where
     by : (b : Bool) → nat_eq number (inode_number count 0) ≡ b
         → cond b (Some (root_counted (inode_number count 0) 1)) None ≡ None
     by true e =
-        absurd (true≢false (sym (is_inode count 0 (omega arith))
-        ∙ ap (is_inode_of count) (sym (eqb-true number (inode_number count 0) e))
-        ∙ ap (λ c. is_inode_of c number) (sym is.counts) ∙ other))
+        absurd (true≢false (sym (is_own count 0 small (omega arith))
+        ∙ ap (is_own_number count) (sym (eqb-true number (inode_number count 0) e))
+        ∙ ap (λ c. is_own_number c number) (sym is.counts) ∙ other))
     by false e = refl
 
-pub all_own : (value : WorldValue) → IsHeld value → (entry : FilesystemEntry) → IsNew value.next root_attr entry
+pub all_own : (value : WorldValue) → IsHeld value → (entry : FilesystemEntry) → value.next < 18446744073709551616
+    → IsNew value.next root_attr entry
     → All HasOwnInodes (value.filesystems ++ entry ∷ [])
-all_own value whole entry is =
+all_own value whole entry small is =
     all_from_among HasOwnInodes (value.filesystems ++ entry ∷ []) (λ one m.
     ⊎_elim
     (λ old. among_from_all HasOwnInodes value.filesystems whole.own_inodes one old)
-    (λ last. ⊎_elim (λ same. subst HasOwnInodes (sym same) (new_is_own value.next entry is)) (λ none. absurd none) last)
+    (λ last. ⊎_elim (λ same. subst HasOwnInodes (sym same) (new_is_own value.next entry small is)) (λ none. absurd none) last)
     (among-append value.filesystems (entry ∷ []) one m))

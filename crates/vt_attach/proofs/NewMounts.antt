@@ -104,7 +104,8 @@ module _ (value : WorldValue) (whole : IsHeld value) (name : TaskName) (graft : 
       ascending = rising_in world whole.in_world.mounts.one_number;
     }
 
-    module _ (entry : FilesystemEntry) (is_new : IsNew value.next root_attr entry) where
+    module _ (entry : FilesystemEntry) (is_new : IsNew value.next root_attr entry)
+        (small : value.next < 18446744073709551616) where
       abbrev base : Filesystems
       base = value.filesystems ++ entry ∷ []
 
@@ -163,7 +164,7 @@ module _ (value : WorldValue) (whole : IsHeld value) (name : TaskName) (graft : 
           (base_is value whole name place flags permits entry is_new)
           ∙ ap (λ list. attach nat_eq (with_base value base) (odds fresh) place false list) (sym tree_is)
           ∙ attach_is in
-          graft_is_done value whole base (new_base value whole name place flags permits entry is_new) graft counts
+          graft_is_done value whole base (new_base value whole name place flags permits entry is_new small) graft counts
           mounts groups filesystems next is attaches groups_there
           rising name permit permits (takes value whole name place flags permits) left_is
           (subst (λ n. KeepsTo (is_counted_before n) (left_by value permits.task permit))

@@ -20,6 +20,7 @@ use Rattle.vt_group.specs.Grouping.{Grouping, Has, no_groups}
 use Rattle.vt_group.proofs.Showing.{opening_has_no_groups}
 use Rattle.vt_laws_letting_go.specs.Counts.{mounts_showing}
 use Rattle.vt_cred.specs.declared.mount_flags.MountFlags.{MountFlags}
+use Rattle.vt_location.specs.declared.births.Birth.TheVariants.{Here}
 use Rattle.vt_location.specs.declared.locations.NodeRef.{NodeRef}
 use Rattle.vt_location.specs.declared.mounts.Propagation.TheVariants.{Private}
 use Rattle.vt_location.specs.declared.numbers.FilesystemId.{FilesystemId}
@@ -28,8 +29,8 @@ use Rattle.vt_location.specs.declared.numbers.NamespaceId.{NamespaceId}
 use Rattle.vt_cred.specs.MountFlags.{flags_of}
 use Rattle.vt_location.specs.Locations.{location_of}
 use Rattle.vt_location.specs.MountValue.{mount_of}
-use Rattle.vt_location.specs.Numbers.{counted, inode_number, is_inode_of}
-use Rattle.vt_location.proofs.NumberLemmas.{is_inode}
+use Rattle.vt_location.specs.Numbers.{counted, inode_number, is_own_number}
+use Rattle.vt_location.proofs.NumberLemmas.{is_own}
 use Rattle.vt_laws_runs.specs.Handed.{is_counted_before}
 use Rattle.vt_laws_worlds.proofs.opening.OpeningWorld.{opening_is_a_world}
 use Rattle.vt_fs.specs.FilesystemsValue.{ChangesInodes, FilesystemEntry, Filesystems, IsNew, Shown, filesystem_seen, inodes_seen, numbers_seen, shown, shown_entry, shown_with, with_changed}
@@ -158,8 +159,8 @@ module _ (entry : FilesystemEntry) (counts : entry.count ≡ 2)
     where
       by : (b : Bool) → nat_eq number root ≡ b → (if b then Some (root_counted root 4) else None) ≡ None
       by true e =
-          absurd (true≢false (sym (is_inode 2 0 (omega arith)) ∙ ap (is_inode_of 2) (sym (eqb-true number root e))
-          ∙ ap (λ c. is_inode_of c number) (sym counts) ∙ other))
+          absurd (true≢false (sym (is_own 2 0 (omega arith) (omega arith)) ∙ ap (is_own_number 2) (sym (eqb-true number root e))
+          ∙ ap (λ c. is_own_number c number) (sym counts) ∙ other))
       by false e = refl
 
 numbers_apart : (j k : ℕ) → opening_numbers j ≡ opening_numbers k → j ≡ k
@@ -260,7 +261,7 @@ module _ (number : MountId) (namespace : NamespaceId) (filesystem : FilesystemId
     (number_is : number ≡ record { count = 0 }) (namespace_is : namespace ≡ record { count = 1 })
     (filesystem_is : filesystem ≡ record { count = 2 }) (flags_are : flags_of flags ≡ plain_flags) where
   abbrev root_place : NodeRef
-  root_place = record { filesystem = filesystem; slot = 0 }
+  root_place = record { filesystem = filesystem; slot = 0; birth = Here }
 
   pub mounts_made : record {
     mount = mount_of (record {

@@ -26,7 +26,7 @@ use Rattle.vt_location.specs.declared.mounts.Mount.{Mount}
 use Rattle.vt_location.specs.Locations.{location_of, number_of}
 use Rattle.vt_location.specs.MountValue.{mount_of}
 use Rattle.vt_location.specs.Numbers.{counted}
-use Rattle.vt_location.proofs.NumberLemmas.{inode_same, slot_of}
+use Rattle.vt_location.proofs.NodeLemmas.{own_count}
 use Rattle.vt_laws_mounts.proofs.namespaces.Unsharing.{parent_of}
 use Rattle.vt_laws_worlds.proofs.worlds.Roots.{directory_there}
 use Rattle.vt_detach.proofs.Detached.{inodes_of_point}
@@ -123,10 +123,8 @@ module _ (value : WorldValue) (whole : IsHeld value) (name : TaskName) (task : T
       ∙ (and_parts _ _ well).1 in
       let seen = seen_in value.filesystems whole.own_inodes (mount_at nat_eq world place).filesystem
       (number_of point.node) there in
-      let slot = slot_of seen.entry.count (number_of point.node) seen.own in
       let shown_in : (mount_at nat_eq world place).filesystem ≡ counted point.node.filesystem.count =
-      seen.number_is ∙ ap counted (sym
-      (inode_same point.node.filesystem.count seen.entry.count point.node.slot slot.0 small slot.1 slot.2).0) in
+      seen.number_is ∙ ap counted (own_count seen.entry.count point.node small seen.own) in
       record {
         shown = through ∙ shown_in;
         there = ap (λ f. is_there nat_eq world f (number_of point.node)) (sym shown_in) ∙ there;

@@ -3,7 +3,7 @@ use Rattle.std.specs.List.{list_all}
 use Rattle.std.specs.Prelude.{Bool, List, [], flat_map, if◌then◌else◌, is_some, map, nat_lt, option_to_list, true, ℕ, ◌++◌, ◌∷◌, ◌≡◌, ◌^◌}
 use Rattle.vt_location.specs.declared.locations.Location.{Location}
 use Rattle.vt_location.specs.declared.mounts.Mount.{Mount}
-use Rattle.vt_location.specs.Locations.{location_of}
+use Rattle.vt_location.specs.Locations.{is_small_node, location_of}
 use Rattle.vt_location.specs.Numbers.{counted}
 use Rattle.vt_fs.specs.FilesystemsValue.{Shown}
 use Rattle.vt_mount.specs.MountsValue.{MountEntry, entry_numbered}
@@ -48,7 +48,7 @@ abbrev pub unpinned_by : List Shown → Location → List Shown
 unpinned_by all point = unpinned_in (inode_of point.node) all
 
 abbrev pub is_small : Location → Bool
-is_small point = nat_lt point.node.slot (2 ^ 64)
+is_small point = is_small_node point.node
 
 -- these are the mount points that mounts get and leave
 pub record AreMoves (points : List Point) (entries : List MountEntry) (taken left : List Location) : Type 0 where

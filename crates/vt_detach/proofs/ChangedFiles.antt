@@ -28,7 +28,7 @@ use Rattle.vt_laws_rules.specs.Numbers.{IsSuppliedFrom, KeepsTo}
 use Rattle.vt_laws_letting_go.specs.Counts.{mounts_showing}
 use Rattle.vt_laws_letting_go.specs.TreeChanges.{with_tree}
 use Rattle.vt_laws_letting_go.proofs.Lists.{Among, all_from_among, among_from_all}
-use Rattle.vt_location.specs.Numbers.{counted, is_inode_of}
+use Rattle.vt_location.specs.Numbers.{counted, is_own_number}
 use Rattle.vt_location.proofs.NumberLemmas.{counted_same, counted_test}
 use Rattle.vt_laws_permits.specs.Named.{permit_named}
 use Rattle.vt_laws_permits.proofs.named.PermitsKeepTo.{same_keeps_to_numbers_too}
@@ -151,7 +151,7 @@ pub record ChangesFiles (value : WorldValue) (location : Location ℕ) (change :
   pub fits : Fits (inodes_seen entry) change
   pub links : LinksWhatIsThere (inodes_seen entry) change
   pub changes : ChangesInodes entry.count (changed_by change) value.filesystems filesystems
-  pub own : (number : ℕ) → is_inode_of entry.count number ≡ false → MakesOther number change
+  pub own : (number : ℕ) → is_own_number entry.count number ≡ false → MakesOther number change
 
 module _ (value : WorldValue) (held : IsHeld value) (location : Location ℕ) (change : Change ℕ)
     (filesystems : Filesystems)
@@ -314,8 +314,8 @@ module _ (value : WorldValue) (held : IsHeld value) (location : Location ℕ) (c
       source : HasSource count (changed_by change) entry value.filesystems
       source = was_one count (changed_by change) value.filesystems filesystems pairs entry m
 
-      other_too : is_inode_of source.was.count number ≡ false
-      other_too = ap (λ n. is_inode_of n number) (sym source.is.count_is) ∙ other
+      other_too : is_own_number source.was.count number ≡ false
+      other_too = ap (λ n. is_own_number n number) (sym source.is.count_is) ∙ other
 
       none_before : (inodes_seen source.was).inode number ≡ None
       none_before = among_from_all HasOwnInodes value.filesystems held.own_inodes source.was source.among number other_too
@@ -326,7 +326,7 @@ module _ (value : WorldValue) (held : IsHeld value) (location : Location ℕ) (c
       by true e is =
           ap (λ (inodes : Inodes ℕ). inodes.inode number) is
           ∙ none_stays number (inodes_seen source.was) change
-          (made.own number (ap (λ n. is_inode_of n number) (eqb-true count source.was.count e) ∙ other_too)) none_before
+          (made.own number (ap (λ n. is_own_number n number) (eqb-true count source.was.count e) ∙ other_too)) none_before
       by false e is = ap (λ (inodes : Inodes ℕ). inodes.inode number) is ∙ none_before
 
   pub change_is_held : IsWorld nat_eq (world_of new) → KeepsTo (is_counted_before value.next) (world_of new)

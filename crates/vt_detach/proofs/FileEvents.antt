@@ -12,7 +12,7 @@ use Rattle.vt_laws_counts.specs.Changing.{LinksWhatIsThere}
 use Rattle.vt_fs.specs.FilesystemsValue.{ChangesInodes, Filesystems, inodes_at, inodes_seen}
 use Rattle.vt_location.specs.declared.locations.Location.{Location}
 use Rattle.vt_location.specs.Locations.{location_of, number_of}
-use Rattle.vt_location.specs.Numbers.{is_inode_of}
+use Rattle.vt_location.specs.Numbers.{is_own_number}
 use Rattle.vt_laws_permits.specs.Named.{change_named}
 use Rattle.vt_laws_permits.specs.Sees.{SeesToChange}
 use Rattle.vt_laws_permits.proofs.sees.SeesFit.{given_changes_fit}
@@ -25,7 +25,7 @@ use Rattle.vt_world.specs.Held.{IsHeld}
 use Rattle.vt_world.specs.WorldValue.{WorldValue, world_of}
 use Rattle.vt_detach.proofs.ChangedFiles.{IsFilesEvent, changed_by, files_are_changed, with_filesystems}
 use Rattle.vt_detach.proofs.ChangedNumbers.{MakesOther}
-use Rattle.vt_detach.proofs.FilesSeen.{IsLocated, files_are_plain, inodes_named, located, located_filesystem, located_inodes}
+use Rattle.vt_detach.proofs.FilesSeen.{IsLocated, files_are_plain, nodes_named, located, located_filesystem, located_inodes}
 
 -- what the permit of a call names is there
 pub permit_fits : (value : WorldValue) → IsHeld value
@@ -49,7 +49,7 @@ module _ (value : WorldValue) (held : IsHeld value) (name : TaskName) (at : Loca
 
   pub change_is_done : (filesystems : Filesystems) → change_named (is_counted_before value.next) change ≡ true
       → LinksWhatIsThere (inodes_seen change_at.entry) change
-      → ((number : ℕ) → is_inode_of change_at.entry.count number ≡ false → MakesOther number change)
+      → ((number : ℕ) → is_own_number change_at.entry.count number ≡ false → MakesOther number change)
       → ChangesInodes at.node.filesystem.count (changed_by change) value.filesystems filesystems
       → IsFilesEvent value name (ToChange (location_of at) change) (with_filesystems value filesystems)
   change_is_done filesystems named links own changes =
@@ -105,7 +105,7 @@ pub attr_is_set : (value : WorldValue) → IsHeld value
     (with_filesystems value filesystems)
 attr_is_set value held name object attr filesystems small permits changes =
     change_is_done value held name object small (SetAttr (number_of object.node) attr) permits filesystems
-    (inodes_named value.next object.node.filesystem.count object.node.slot) tt (λ number other. tt) changes
+    (nodes_named value.next object.node) tt (λ number other. tt) changes
 
 -- setxattr(2) of the opaque mark
 pub mark_is_set : (value : WorldValue) → IsHeld value
@@ -119,4 +119,4 @@ pub mark_is_set : (value : WorldValue) → IsHeld value
     (with_filesystems value filesystems)
 mark_is_set value held name directory opaque filesystems small permits changes =
     change_is_done value held name directory small (SetMark (number_of directory.node) opaque) permits filesystems
-    (inodes_named value.next directory.node.filesystem.count directory.node.slot) tt (λ number other. tt) changes
+    (nodes_named value.next directory.node) tt (λ number other. tt) changes

@@ -9,7 +9,7 @@ use Rattle.vt_spec.specs.Machine.Mounts.{Mount, source_of}
 use Rattle.vt_spec.specs.Machine.Run.{used_by_filesystem, used_by_mount}
 use Rattle.vt_spec.specs.Machine.World.{Filesystem, Namespace, filesystem_at, filesystem_numbered, is_overlay, mount_at, node_at}
 use Rattle.vt_spec.specs.Machine.Invariants.{is_located_well}
-use Rattle.vt_spec.specs.Inodes.{node_in}
+use Rattle.vt_spec.specs.Inodes.{Inodes, node_in}
 use Rattle.vt_spec.specs.TreeInvariant.{IsTree}
 use Rattle.vt_fs.specs.FilesystemsValue.{FilesystemEntry, Filesystems, entry_of, files_at, filesystem_seen, filesystems_seen, inodes_at, inodes_seen, no_entry}
 use Rattle.vt_laws_rules.specs.Numbers.{location_named}
@@ -17,9 +17,12 @@ use Rattle.vt_laws_rules.proofs.numbers.Supports.{used_numbers_are_named}
 use Rattle.vt_laws_letting_go.proofs.Lists.{Among, all_from_among, among_from_all, among-from_map, among-map, fails}
 use Rattle.vt_location.specs.declared.locations.Location.{Location}
 use Rattle.vt_location.specs.declared.locations.NodeRef.{NodeRef}
+use Rattle.vt_location.specs.declared.births.Birth.TheVariants.{Here}
+use Rattle.vt_location.specs.Births.{born_in}
 use Rattle.vt_location.specs.Locations.{location_of, number_of}
-use Rattle.vt_location.specs.Numbers.{counted, inode_number, is_inode_of}
-use Rattle.vt_location.proofs.NumberLemmas.{counted_same, counted_test, inode_same, slot_of}
+use Rattle.vt_location.specs.Numbers.{counted, inode_number, is_own_number}
+use Rattle.vt_location.proofs.NodeLemmas.{own_birth, own_count}
+use Rattle.vt_location.proofs.NumberLemmas.{counted_same, counted_test}
 use Rattle.vt_laws_runs.specs.Handed.{is_counted_before}
 use Rattle.vt_world.specs.Held.{HasOwnInodes, IsHeld}
 use Rattle.vt_world.specs.WorldValue.{WorldValue, world_of}
@@ -71,7 +74,7 @@ pub record IsSeenIn (fs : Filesystems) (number inode : ℕ) : Type 0 where
   pub among : Among entry fs
   pub found : entry_of fs entry.count ≡ Some entry
   pub number_is : number ≡ counted entry.count
-  pub own : is_inode_of entry.count inode ≡ true
+  pub own : is_own_number entry.count inode ≡ true
 
 -- an inode that is found stands in a filesystem of code
 pub seen_in : (fs : Filesystems) → All HasOwnInodes fs → (number inode : ℕ)
@@ -80,8 +83,8 @@ seen_in [] own number inode there = absurd (true≢false (sym there))
 seen_in (x ∷ fs) own number inode there =
     by (nat_eq number (counted x.count)) refl there (seen_in fs (All-tail HasOwnInodes x fs own) number inode)
   where
-    here : (b : Bool) → is_inode_of x.count inode ≡ b → is_some ((filesystem_seen x).files.tree.node inode) ≡ true
-        → is_inode_of x.count inode ≡ true
+    here : (b : Bool) → is_own_number x.count inode ≡ b → is_some ((filesystem_seen x).files.tree.node inode) ≡ true
+        → is_own_number x.count inode ≡ true
     here true e there = e
     here false e there =
         absurd (true≢false (sym there ∙ ap (λ o. is_some (node_in o)) (All-head HasOwnInodes x fs own inode e)))
@@ -95,7 +98,7 @@ seen_in (x ∷ fs) own number inode there =
       among = inl refl;
       found = ap (λ b. cond b (Some x) (entry_of fs x.count)) (eq-eqb x.count x.count refl);
       number_is = eqb-true number (counted x.count) e;
-      own = here (is_inode_of x.count inode) refl there;
+      own = here (is_own_number x.count inode) refl there;
     }
     by false e there rest = let later = rest there in record {
       entry = later.entry;
@@ -111,13 +114,16 @@ seen_in (x ∷ fs) own number inode there =
 
 -- Numbers that are counted before the next one
 
--- the number of an inode was counted
-pub inodes_named : (next f slot : ℕ) → is_counted_before next (inode_number f slot) ≡ true
+-- the number of a node was counted
+inodes_named : (next f slot : ℕ) → is_counted_before next (inode_number f slot) ≡ true
 inodes_named next f slot = ap (λ b. b || is_counted_before_odd) (eq-eqb (inode_number f slot % 2) 0 (omega arith))
   where
     is_counted_before_odd : Bool
     is_counted_before_odd =
         nat_eq (inode_number f slot % 4) 1 && nat_lt (inode_number f slot / 4) next
+
+pub nodes_named : (next : ℕ) (node : NodeRef) → is_counted_before next (number_of node) ≡ true
+nodes_named next node = inodes_named next (born_in node.filesystem.count node.birth) node.slot
 
 true_or : (a b : Bool) → b ≡ true → (a || b) ≡ true
 true_or true b e = refl
@@ -160,6 +166,7 @@ pub record IsLocated (value : WorldValue) (at : Location) : Type 0 where
   pub among : Among entry value.filesystems
   pub found : entry_of value.filesystems entry.count ≡ Some entry
   pub count_is : entry.count ≡ at.node.filesystem.count
+  pub born_here : at.node.birth ≡ Here
   pub shows : (mount_at nat_eq (world_of value) (location_of at)).filesystem ≡ counted entry.count
   pub named : location_named (is_counted_before value.next) (location_of at) ≡ true
 
@@ -170,16 +177,16 @@ located value held at small there =
     let parts = and_parts (is_among nat_eq (counted at.mount.count)
     (map (λ (mount : Mount ℕ). mount.number) (world_of value).mounts)) _ there in
     let seen = seen_in value.filesystems held.own_inodes (mount_at nat_eq (world_of value) (location_of at)).filesystem
-    (inode_number at.node.filesystem.count at.node.slot) parts.1 in
-    let slot = slot_of seen.entry.count (inode_number at.node.filesystem.count at.node.slot) seen.own in
+    (number_of at.node) parts.1 in
     record {
       entry = seen.entry;
       among = seen.among;
       found = seen.found;
-      count_is = sym (inode_same at.node.filesystem.count seen.entry.count at.node.slot slot.0 small slot.1 slot.2).0;
+      count_is = own_count seen.entry.count at.node small seen.own;
+      born_here = own_birth seen.entry.count at.node small seen.own;
       shows = seen.number_is;
       named = λ i. mount_named value held (counted at.mount.count) parts.0 i
-          && inodes_named value.next at.node.filesystem.count at.node.slot i;
+          && nodes_named value.next at.node i;
     }
 
 -- the definitions find it there
@@ -197,6 +204,16 @@ located_inodes value at seen =
     ap (inodes_at value.filesystems) (sym seen.count_is)
     ∙ ap (λ found. inodes_seen (unwrap_or found (no_entry seen.entry.count))) seen.found
 
+-- which has the same inodes there
+pub kept_there : (value : WorldValue) (at : Location) (seen : IsLocated value at) (number : ℕ)
+    → is_some ((filesystem_at nat_eq (world_of value) (location_of at)).files.tree.node number) ≡ true
+    → is_some ((files_at value.filesystems at.node.filesystem.count).tree.node number) ≡ true
+kept_there value at seen number there =
+    ap (λ (inodes : Inodes ℕ). is_some (node_in (inodes.inode number))) (located_inodes value at seen)
+    ∙ ap (λ (filesystem : Filesystem ℕ). is_some (filesystem.files.tree.node number))
+    (sym (located_filesystem value at seen))
+    ∙ there
+
 -- another inode of that filesystem
 pub also_there : (value : WorldValue) → IsHeld value → (at : Location) (seen : IsLocated value at) (object : NodeRef)
     → object.slot < 18446744073709551616
@@ -205,9 +222,8 @@ pub also_there : (value : WorldValue) → IsHeld value → (at : Location) (seen
 also_there value held at seen object small there =
     let own = seen_in value.filesystems held.own_inodes (mount_at nat_eq (world_of value) (location_of at)).filesystem
     (number_of object) there in
-    let slot = slot_of own.entry.count (number_of object) own.own in
     let same : object.filesystem.count ≡ at.node.filesystem.count =
-    (inode_same object.filesystem.count own.entry.count object.slot slot.0 small slot.1 slot.2).0
+    sym (own_count own.entry.count object small own.own)
     ∙ counted_same own.entry.count seen.entry.count (sym own.number_is ∙ seen.shows)
     ∙ seen.count_is in
     λ i. record { count = same i }
@@ -220,6 +236,14 @@ tree_of_entry value held entry m =
     (world_of value).filesystems held.in_world.files.trees
     (filesystem_seen entry) (among-map filesystem_seen value.filesystems entry m)
 
+-- what has something was born here
+pub seen_here : (value : WorldValue) → IsHeld value → (at : Location) → at.node.slot < 18446744073709551616
+    → is_some (node_at nat_eq (world_of value) (location_of at)) ≡ true → at.node.birth ≡ Here
+seen_here value held at small there =
+    let seen = seen_in value.filesystems held.own_inodes (mount_at nat_eq (world_of value) (location_of at)).filesystem
+    (number_of at.node) there in
+    own_birth seen.entry.count at.node small seen.own
+
 -- what is at a location, as the definitions look and as code does
 pub looked_node : (value : WorldValue) → IsHeld value → (at : Location) → at.node.slot < 18446744073709551616
     → is_some (node_at nat_eq (world_of value) (location_of at)) ≡ true
@@ -228,9 +252,7 @@ pub looked_node : (value : WorldValue) → IsHeld value → (at : Location) → 
 looked_node value held at small there =
     let seen = seen_in value.filesystems held.own_inodes (mount_at nat_eq (world_of value) (location_of at)).filesystem
     (number_of at.node) there in
-    let slot = slot_of seen.entry.count (number_of at.node) seen.own in
-    let count_is : seen.entry.count ≡ at.node.filesystem.count =
-    sym (inode_same at.node.filesystem.count seen.entry.count at.node.slot slot.0 small slot.1 slot.2).0 in
+    let count_is = own_count seen.entry.count at.node small seen.own in
     ap (λ count. (files_at value.filesystems count).tree.node (number_of at.node)) (sym count_is)
     ∙ ap (λ (filesystem : Filesystem ℕ). filesystem.files.tree.node (number_of at.node))
     (sym (found_by_number value.filesystems seen.entry.count))

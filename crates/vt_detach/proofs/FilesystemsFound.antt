@@ -5,10 +5,12 @@ use Rattle.std.proofs.lemmas.List.Elements.{All-head, All-tail}
 use Rattle.vt_spec.specs.Machine.World.{Filesystem, no_filesystem}
 use Rattle.vt_spec.specs.Inodes.{node_in}
 use Rattle.vt_spec.specs.Tree.{Node}
-use Rattle.vt_location.specs.Numbers.{counted, inode_number, is_inode_of}
-use Rattle.vt_location.proofs.NumberLemmas.{counted_inode, slot_of}
+use Rattle.vt_location.specs.declared.locations.NodeRef.{NodeRef}
+use Rattle.vt_location.specs.Locations.{number_of}
+use Rattle.vt_location.specs.Numbers.{counted, is_own_number}
+use Rattle.vt_location.proofs.NodeLemmas.{own_count}
+use Rattle.vt_location.proofs.NumberLemmas.{counted_inode, own_inode, slot_of}
 use Rattle.vt_fs.specs.FilesystemsValue.{FilesystemEntry, Filesystems, entry_at, entry_of, filesystem_seen, filesystems_seen, no_entry}
-use Rattle.vt_fs.proofs.Numbers.{inode_of_one}
 use Rattle.vt_world.specs.Held.{HasOwnInodes}
 
 -- the filesystem with a number, as the definitions find it
@@ -58,13 +60,13 @@ found_plain (x ∷ fs) number = by (nat_eq number (counted x.count)) (found_plai
 -- an inode that is in it has a number of its own
 pub own_filesystem : (fs : Filesystems) → All HasOwnInodes fs → (number inode : ℕ)
     → is_some ((found fs number).files.tree.node inode) ≡ true
-    → (count : ℕ) × (number ≡ counted count) × (is_inode_of count inode ≡ true)
+    → (count : ℕ) × (number ≡ counted count) × (is_own_number count inode ≡ true)
 own_filesystem [] own number inode there = absurd (true≢false (sym there))
 own_filesystem (x ∷ fs) own number inode there =
     by (nat_eq number (counted x.count)) refl there (own_filesystem fs (All-tail HasOwnInodes x fs own) number inode)
   where
-    here : (b : Bool) → is_inode_of x.count inode ≡ b → is_some ((filesystem_seen x).files.tree.node inode) ≡ true
-        → is_inode_of x.count inode ≡ true
+    here : (b : Bool) → is_own_number x.count inode ≡ b → is_some ((filesystem_seen x).files.tree.node inode) ≡ true
+        → is_own_number x.count inode ≡ true
     here true e there = e
     here false e there =
         absurd (true≢false (sym there ∙ ap (λ o. is_some (node_in o)) (All-head HasOwnInodes x fs own inode e)))
@@ -72,24 +74,24 @@ own_filesystem (x ∷ fs) own number inode there =
     by : (b : Bool) → nat_eq number (counted x.count) ≡ b
         → is_some ((found_if b x fs number).files.tree.node inode) ≡ true
         → (is_some ((found fs number).files.tree.node inode) ≡ true
-        → (count : ℕ) × (number ≡ counted count) × (is_inode_of count inode ≡ true))
-        → (count : ℕ) × (number ≡ counted count) × (is_inode_of count inode ≡ true)
-    by true e there rest = (x.count, eqb-true number (counted x.count) e, here (is_inode_of x.count inode) refl there)
+        → (count : ℕ) × (number ≡ counted count) × (is_own_number count inode ≡ true))
+        → (count : ℕ) × (number ≡ counted count) × (is_own_number count inode ≡ true)
+    by true e there rest = (x.count, eqb-true number (counted x.count) e, here (is_own_number x.count inode) refl there)
     by false e there rest = rest there
 
 -- an inode of one filesystem is in no other
-pub in_no_other : (fs : Filesystems) → All HasOwnInodes fs → (number filesystem slot : ℕ) → slot < 18446744073709551616
-    → nat_eq number (counted filesystem) ≡ false
-    → (found fs number).files.tree.node (inode_number filesystem slot) ≡ None
-in_no_other fs own number filesystem slot small other =
-    by ((found fs number).files.tree.node (inode_number filesystem slot)) refl
+pub in_no_other : (fs : Filesystems) → All HasOwnInodes fs → (number : ℕ) (inode : NodeRef)
+    → inode.slot < 18446744073709551616 → nat_eq number (counted inode.filesystem.count) ≡ false
+    → (found fs number).files.tree.node (number_of inode) ≡ None
+in_no_other fs own number inode small other =
+    by ((found fs number).files.tree.node (number_of inode)) refl
   where
-    by : (o : Option (Node ℕ)) → (found fs number).files.tree.node (inode_number filesystem slot) ≡ o → o ≡ None
+    by : (o : Option (Node ℕ)) → (found fs number).files.tree.node (number_of inode) ≡ o → o ≡ None
     by None e = refl
     by (Some node) e =
-        let place = own_filesystem fs own number (inode_number filesystem slot) (ap is_some e) in
-        absurd (true≢false (sym (eq-eqb number (counted filesystem)
-        (place.1 ∙ ap counted (inode_of_one place.0 filesystem slot small place.2))) ∙ other))
+        let place = own_filesystem fs own number (number_of inode) (ap is_some e) in
+        absurd (true≢false (sym (eq-eqb number (counted inode.filesystem.count)
+        (place.1 ∙ ap counted (own_count place.0 inode small place.2))) ∙ other))
 
 -- what is counted is no inode
 pub no_counted_inode : (fs : Filesystems) → All HasOwnInodes fs → (number count : ℕ)
@@ -100,5 +102,5 @@ no_counted_inode fs own number count = by ((found fs number).files.tree.node (co
     by None e = refl
     by (Some node) e =
         let place = own_filesystem fs own number (counted count) (ap is_some e) in
-        let slot = slot_of place.0 (counted count) place.2 in
+        let slot = slot_of place.0 (counted count) (own_inode place.0 (counted count) place.2) in
         absurd (counted_inode count place.0 slot.0 slot.2)

@@ -18,12 +18,14 @@ use Rattle.vt_laws_mounts.proofs.mounts.MountsFound.{found_or_none}
 use Rattle.vt_laws_worlds.proofs.worlds.Roots.{directory_there}
 use Rattle.vt_location.specs.declared.locations.Location.{Location}
 use Rattle.vt_location.specs.declared.locations.NodeRef.{NodeRef}
+use Rattle.vt_location.specs.Births.{born_in}
 use Rattle.vt_location.specs.Locations.{location_of, number_of}
-use Rattle.vt_location.specs.Numbers.{counted, inode_number, is_inode_of}
+use Rattle.vt_location.specs.Numbers.{counted, inode_number, is_own_number}
+use Rattle.vt_location.proofs.NodeLemmas.{own_count}
 use Rattle.vt_location.proofs.NumberLemmas.{counted_inode, counted_test, exchanged_back}
 use Rattle.vt_fs.specs.FilesystemsValue.{entry_at, files_at, filesystem_seen, filesystems_seen}
 use Rattle.vt_fs.specs.Laws.{ParentsAreNamed}
-use Rattle.vt_fs.proofs.Numbers.{found_by_number, inode_of_one}
+use Rattle.vt_fs.proofs.Numbers.{found_by_number}
 use Rattle.vt_mount.specs.MountsValue.{mounts_in, stands_over}
 pub use Rattle.vt_spec.proofs.Truths.{nat_eq_turned as turned}
 use Rattle.vt_world.specs.Held.{IsHeld}
@@ -124,7 +126,7 @@ module _ (value : WorldValue) (held : IsHeld value) where
     pub unseen_node : is_seen value at ≡ false → node_at nat_eq (world_of value) (location_of at) ≡ None
     unseen_node unseen =
         in_no_other value.filesystems held.own_inodes (mount_at nat_eq (world_of value) (location_of at)).filesystem
-        at.node.filesystem.count at.node.slot small unseen
+        at.node small unseen
 
     -- and counts as removed
     pub unseen_removed : is_seen value at ≡ false → is_removed_at nat_eq (world_of value) (location_of at) ≡ true
@@ -136,7 +138,7 @@ module _ (value : WorldValue) (held : IsHeld value) where
         ap (λ (filesystem : Filesystem ℕ). is_removed nat_eq filesystem.files.tree (number_of at.node)) is
         ∙ nowhere_removed (files_at value.filesystems shown.0).tree (number_of at.node) none
         (ne_eqb (number_of at.node) (files_at value.filesystems shown.0).tree.root
-        (root_there shown.0 at.node.filesystem.count at.node.slot none))
+        (root_there shown.0 (born_in at.node.filesystem.count at.node.birth) at.node.slot none))
 
     -- a directory lies under what is seen in another filesystem, or not seen, only where it is that itself
     pub under_another : (directory : NodeRef) → directory.slot < 18446744073709551616
@@ -152,7 +154,7 @@ module _ (value : WorldValue) (held : IsHeld value) where
         nowhere_under (filesystem_at nat_eq (world_of value) (location_of at)).files (number_of at.node)
         (number_of directory)
         (in_no_other value.filesystems held.own_inodes (mount_at nat_eq (world_of value) (location_of at)).filesystem
-        directory.filesystem.count directory.slot directory_small
+        directory directory_small
         (ap (λ n. nat_eq n (counted directory.filesystem.count))
         (eqb-true (mount_at nat_eq (world_of value) (location_of at)).filesystem
         (counted at.node.filesystem.count) seen)
@@ -193,8 +195,8 @@ module _ (value : WorldValue) (held : IsHeld value) where
         there place is true e =
             let own = own_filesystem value.filesystems held.own_inodes
             (mount_at nat_eq (world_of value) place).filesystem place.node is in
-            let one = inode_of_one own.0 at.node.filesystem.count at.node.slot small
-            (ap (is_inode_of own.0) (sym (eqb-true place.node (number_of at.node) e)) ∙ own.2) in
+            let one = own_count own.0 at.node small
+            (ap (is_own_number own.0) (sym (eqb-true place.node (number_of at.node) e)) ∙ own.2) in
             ap (λ n. nat_eq n (mount_at nat_eq (world_of value) (location_of at)).filesystem) (own.1 ∙ ap counted one)
             ∙ turned (counted at.node.filesystem.count) (mount_at nat_eq (world_of value) (location_of at)).filesystem
             ∙ sym (and-true (is_seen value at))
@@ -237,11 +239,11 @@ module _ (value : WorldValue) (held : IsHeld value) where
         (mounts_in value.mounts) held.in_world.roots mount m) in
         let own = own_filesystem value.filesystems held.own_inodes mount.filesystem mount.root
         (directory_there _ shows.0) in
-        let one = inode_of_one own.0 at.node.filesystem.count at.node.slot small
-        (ap (is_inode_of own.0) (sym same) ∙ own.2) in
+        let one = own_count own.0 at.node small
+        (ap (is_own_number own.0) (sym same) ∙ own.2) in
         true≢false (sym (eq-eqb mount.filesystem (counted at.node.filesystem.count) (own.1 ∙ ap counted one)) ∙ unseen))
         (λ none same.
-        counted_inode at.mount.count at.node.filesystem.count at.node.slot
+        counted_inode at.mount.count (born_in at.node.filesystem.count at.node.birth) at.node.slot
         (sym (ap (λ (mount : meant.Mount ℕ). mount.root) none) ∙ same))
         (found_or_none (mounts_in value.mounts) (counted at.mount.count)))
 
@@ -266,4 +268,4 @@ module _ (value : WorldValue) (held : IsHeld value) where
         (number_of at.node)
         (no_counted_inode value.filesystems held.own_inodes (counted at.mount.count) at.mount.count)
         ∙ ne_eqb (counted at.mount.count) (number_of at.node)
-        (counted_inode at.mount.count at.node.filesystem.count at.node.slot)
+        (counted_inode at.mount.count (born_in at.node.filesystem.count at.node.birth) at.node.slot)

@@ -6,16 +6,16 @@ use Rattle.vt_spec.specs.Language.Changes.{Change, node_with_attr, node_with_mar
 use Rattle.vt_spec.specs.Language.Changes.Change.{AddName, CopyUp, Make, Move, Remove, SetAttr, SetBytes, SetMark}
 use Rattle.vt_spec.specs.Inodes.{Inode, Inodes, changed, inode_with_node, node_in, pinned, unpinned, used_once_less, used_once_more, with_changed as with_node_changed, with_inode, without_replaced}
 use Rattle.vt_spec.specs.Tree.{Node, entries_in, entry_named, node_with_bytes, node_with_entry}
-use Rattle.vt_location.specs.Numbers.{is_inode_of}
+use Rattle.vt_location.specs.Numbers.{is_own_number}
 use Rattle.vt_fs.specs.FilesystemsValue.{ChangesInodes, FilesystemEntry, Filesystems, Shown, shown, shown_entry, shown_with, with_changed, without}
 use Rattle.vt_world.specs.Held.{HasOwnInodes}
 
 abbrev pub IsOwn : ℕ → Inodes ℕ → Type 0
-IsOwn count inodes = (number : ℕ) → is_inode_of count number ≡ false → inodes.inode number ≡ None
+IsOwn count inodes = (number : ℕ) → is_own_number count number ≡ false → inodes.inode number ≡ None
 
 -- a new inode has a number of its own
 abbrev pub MakesOwn : ℕ → Change ℕ → Type 0
-MakesOwn count (Make directory name number node) = is_inode_of count number ≡ true
+MakesOwn count (Make directory name number node) = is_own_number count number ≡ true
 MakesOwn count (AddName directory name object) = ⊤
 MakesOwn count (Remove directory name object) = ⊤
 MakesOwn count (Move from old to new object) = ⊤
@@ -26,12 +26,12 @@ MakesOwn count (CopyUp object) = ⊤
 
 module _ (count : ℕ) where
   inode_set : (inodes : Inodes ℕ) (number : ℕ) (inode : Option (Inode ℕ))
-      → (is_inode_of count number ≡ false → inode ≡ None)
+      → (is_own_number count number ≡ false → inode ≡ None)
       → IsOwn count inodes → IsOwn count (with_inode nat_eq inodes number inode)
   inode_set inodes number inode none own other e = by (nat_eq other number) refl
     where
       by : (b : Bool) → nat_eq other number ≡ b → (if b then inode else inodes.inode other) ≡ None
-      by true same = none (ap (is_inode_of count) (sym (eqb-true other number same)) ∙ e)
+      by true same = none (ap (is_own_number count) (sym (eqb-true other number same)) ∙ e)
       by false same = own other e
 
   node_set : (inodes : Inodes ℕ) (number : ℕ) (change : Option (Node ℕ) → Option (Node ℕ)) → IsOwn count inodes

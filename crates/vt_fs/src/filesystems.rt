@@ -258,6 +258,7 @@ impl Filesystems {
     pub fn next_number(&self, filesystem: FilesystemId) -> Option<NodeRef>
         ensures number { option_map number_of result ≡ option_map next_seen (entry_of self.now filesystem.count) }
         ensures filesystem { IfSome result (λ next. next.filesystem ≡ filesystem) }
+        ensures birth { IfSome result (λ next. next.birth ≡ Here) }
         ensures vacant { IfSome result (λ next. (inodes_at self.now filesystem.count).inode (number_of next) ≡ None) }
     {
         let tree = self.get(filesystem)?;
@@ -384,6 +385,7 @@ impl Filesystems {
         ensures number { IfOk result (λ made.
             number_of made ≡ next_seen (entry_at self.old directory.filesystem.count)) }
         ensures filesystem { IfOk result (λ made. made.filesystem ≡ directory.filesystem) }
+        ensures birth { IfOk result (λ made. made.birth ≡ Here) }
         ensures err { OnErr result (self.new ≡ self.old) }
     {
         let parent = self.slot_of(directory).unwrap();

@@ -13,12 +13,15 @@ use Rattle.vt_spec.specs.Machine.World.{Filesystem, filesystem_numbered}
 use Rattle.vt_location.specs.declared.locations.Location.{Location}
 use Rattle.vt_location.specs.declared.locations.NodeRef.{NodeRef}
 use Rattle.vt_location.specs.declared.mounts.Mount.{Mount}
-use Rattle.vt_location.specs.Locations.{location_of, number_of}
+use Rattle.vt_location.specs.Births.{born_in}
+use Rattle.vt_location.specs.SameNodes.{same_birth}
+use Rattle.vt_location.specs.Locations.{is_small_node, location_of, number_of}
 use Rattle.vt_location.specs.MountValue.{mount_of}
-use Rattle.vt_location.specs.Numbers.{counted, inode_number, is_inode_of}
-use Rattle.vt_location.proofs.NumberLemmas.{counted_inode, nodes_test, slot_of}
+use Rattle.vt_location.specs.Numbers.{counted, is_inode_of}
+use Rattle.vt_location.proofs.NodeLemmas.{nodes_test, own_count, small_parts}
+use Rattle.vt_location.proofs.NumberLemmas.{counted_inode, own_number, slot_of}
 use Rattle.vt_fs.specs.FilesystemsValue.{Filesystems, files_at, inodes_at}
-use Rattle.vt_fs.proofs.Numbers.{found_by_number, inode_of_one}
+use Rattle.vt_fs.proofs.Numbers.{found_by_number}
 use Rattle.vt_fs.proofs.TreesLookedAt.{nowhere_under, under_nowhere}
 use Rattle.vt_mount.specs.MountsValue.{mounts_in}
 use Rattle.vt_listing.specs.Shown.{world_shown}
@@ -36,13 +39,14 @@ abbrev pub HasOwnNumbers : Filesystems → ℕ → Type 0
 HasOwnNumbers filesystems count =
     (number : ℕ) → is_inode_of count number ≡ false → (inodes_at filesystems count).inode number ≡ None
 
-other_inode : (count filesystem slot : ℕ) → slot < 18446744073709551616 → nat_eq count filesystem ≡ false
-    → is_inode_of count (inode_number filesystem slot) ≡ false
-other_inode count filesystem slot small other = by (is_inode_of count (inode_number filesystem slot)) refl
+other_inode : (count : ℕ) (inode : NodeRef) → count < 18446744073709551616 → inode.slot < 18446744073709551616
+    → nat_eq count inode.filesystem.count ≡ false → is_inode_of count (number_of inode) ≡ false
+other_inode count inode small slot_small other = by (is_inode_of count (number_of inode)) refl
   where
-    by : (b : Bool) → is_inode_of count (inode_number filesystem slot) ≡ b → b ≡ false
+    by : (b : Bool) → is_inode_of count (number_of inode) ≡ b → b ≡ false
     by true e = absurd (true≢false
-        (sym (eq-eqb count filesystem (inode_of_one count filesystem slot small e)) ∙ other))
+        (sym (eq-eqb count inode.filesystem.count
+        (own_count count inode slot_small (own_number count (number_of inode) small e))) ∙ other))
     by false e = refl
 
 no_inode : (count other : ℕ) → is_inode_of count (counted other) ≡ false
@@ -54,7 +58,7 @@ no_inode count other = by (is_inode_of count (counted other)) refl
 
 -- from a directory of one filesystem nothing leads to an inode of another
 pub spot_apart : (filesystems : Filesystems) (top directory : NodeRef)
-    → top.slot < 18446744073709551616 → directory.slot < 18446744073709551616
+    → is_small_node top ≡ true → is_small_node directory ≡ true
     → nat_eq top.filesystem.count directory.filesystem.count ≡ false → HasOwnNumbers filesystems top.filesystem.count
     → Gone ≡ spot_of (path_down nat_eq (files_at filesystems top.filesystem.count) (number_of top) (number_of directory))
 spot_apart filesystems top directory top_small small other own =
@@ -62,9 +66,10 @@ spot_apart filesystems top directory top_small small other own =
     sym (no_path files (number_of top) (number_of directory)
     (nowhere_under files (number_of top) (number_of directory)
     (ap node_in (own (number_of directory)
-    (other_inode top.filesystem.count directory.filesystem.count directory.slot small other)))
+    (other_inode top.filesystem.count directory (small_parts top top_small).filesystem
+    (small_parts directory small).slot other)))
     ∙ nodes_test top directory top_small small
-    ∙ ap (λ b. b && nat_eq top.slot directory.slot) other))
+    ∙ ap (λ b. b && (nat_eq top.slot directory.slot && same_birth top.birth directory.birth)) other))
 
 module _ (table : MountTable) (at : Location) (got : Option Mount)
     (is_found : option_map mount_of got
@@ -97,7 +102,7 @@ module _ (table : MountTable) (at : Location) (got : Option Mount)
       sym (no_path files number (number_of at.node)
       (under_nowhere files number (number_of at.node) (ap node_in (own number (no_inode at.mount.count at.mount.count)))
       ∙ ne_eqb number (number_of at.node)
-      (counted_inode at.mount.count at.node.filesystem.count at.node.slot)))
+      (counted_inode at.mount.count (born_in at.node.filesystem.count at.node.birth) at.node.slot)))
       ∙ ap (λ (filesystem : Filesystem ℕ). spot_of (path_down nat_eq filesystem.files number (number_of at.node)))
       (sym (found_by_number table.filesystems.now at.mount.count))
       ∙ ap (λ o. spot_by (unwrap_or (option_map mount_of o) (no_mount (counted at.mount.count)))) (sym none)

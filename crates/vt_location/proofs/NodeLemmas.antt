@@ -6,11 +6,12 @@ use Rattle.vt_location.specs.declared.births.Birth.{Birth}
 use Rattle.vt_location.specs.declared.births.Birth.TheVariants.{Below, Here}
 use Rattle.vt_location.specs.declared.locations.Location.{Location}
 use Rattle.vt_location.specs.declared.locations.NodeRef.{NodeRef}
-use Rattle.vt_location.specs.Births.{IsSmallBirth, born_in, is_small_birth, same_birth}
-use Rattle.vt_location.specs.Locations.{is_small, location_of, number_of, same_node}
+use Rattle.vt_location.specs.Births.{IsSmallBirth, born_in, is_small_birth}
+use Rattle.vt_location.specs.Locations.{is_small_node, location_of, number_of}
+use Rattle.vt_location.specs.SameNodes.{same_birth, same_node}
 use Rattle.vt_location.specs.NodeNumbers.{BirthsAreNoInodes, IsSmall, NumbersAreOneToOne}
-use Rattle.vt_location.specs.Numbers.{inode_number}
-use Rattle.vt_location.proofs.NumberLemmas.{counted_test}
+use Rattle.vt_location.specs.Numbers.{inode_number, is_own_number}
+use Rattle.vt_location.proofs.NumberLemmas.{counted_test, is_own, own_inode, slot_of}
 use Rattle.vt_spec.proofs.Truths.{and_true_left, and_true_right, same_truth}
 
 -- two digits of a number
@@ -34,7 +35,7 @@ small_births (Below layer directory rank) e = (
   ltb-true layer 18446744073709551616 (and_true_right (nat_lt directory 18446744073709551616) _ e),
 )
 
-pub small_parts : (node : NodeRef) → is_small node ≡ true → IsSmall node
+pub small_parts : (node : NodeRef) → is_small_node node ≡ true → IsSmall node
 small_parts node e =
     let rest = and_true_right (nat_lt node.filesystem.count 18446744073709551616) _ e in
     record {
@@ -104,6 +105,33 @@ pub no_inodes : BirthsAreNoInodes
 no_inodes node filesystem slot small f_small s_small e =
     (inode_is node filesystem slot small.slot f_small s_small e).2
 
+-- so is one with a number of a filesystem's own
+own_node : (count : ℕ) (node : NodeRef) → node.slot < 18446744073709551616
+    → is_own_number count (number_of node) ≡ true → (node.filesystem.count ≡ count) × (node.birth ≡ Here)
+own_node count node small e =
+    let slot = slot_of count (number_of node) (own_inode count (number_of node) e) in
+    let is = inode_is node count slot.0 small (ltb-true count 18446744073709551616 (and_true_left _ _ e)) slot.1 slot.2 in
+    (is.0, is.2)
+
+pub own_count : (count : ℕ) (node : NodeRef) → node.slot < 18446744073709551616
+    → is_own_number count (number_of node) ≡ true → count ≡ node.filesystem.count
+own_count count node small e = sym (own_node count node small e).0
+
+pub own_birth : (count : ℕ) (node : NodeRef) → node.slot < 18446744073709551616
+    → is_own_number count (number_of node) ≡ true → node.birth ≡ Here
+own_birth count node small e = (own_node count node small e).1
+
+-- what was born here has the number of an inode
+pub here_number : (node : NodeRef) → node.birth ≡ Here
+    → number_of node ≡ inode_number node.filesystem.count node.slot
+here_number node here = λ i. inode_number (born_in node.filesystem.count (here i)) node.slot
+
+pub here_is_own : (node : NodeRef) → node.filesystem.count < 18446744073709551616 → node.slot < 18446744073709551616
+    → node.birth ≡ Here → is_own_number node.filesystem.count (number_of node) ≡ true
+here_is_own node small slot_small here =
+    ap (is_own_number node.filesystem.count) (here_number node here)
+    ∙ is_own node.filesystem.count node.slot small slot_small
+
 -- The tests of code, and those of the definitions
 
 same_births : (a : Birth) → same_birth a a ≡ true
@@ -135,7 +163,7 @@ same_node-itself a =
     (λ i. eq-eqb a.filesystem.count a.filesystem.count refl i
     && (eq-eqb a.slot a.slot refl i && same_births a.birth i))
 
-pub nodes_test : (a b : NodeRef) → is_small a ≡ true → is_small b ≡ true
+pub nodes_test : (a b : NodeRef) → is_small_node a ≡ true → is_small_node b ≡ true
     → nat_eq (number_of a) (number_of b) ≡ same_node a b
 nodes_test a b a_small b_small =
     same_truth _ _
@@ -143,7 +171,7 @@ nodes_test a b a_small b_small =
     ∙ same_node-itself a)
     (λ e. eq-eqb (number_of a) (number_of b) (ap number_of (one_node a b e)))
 
-pub same_locations : (a b : Location) → is_small a.node ≡ true → is_small b.node ≡ true
+pub same_locations : (a b : Location) → is_small_node a.node ≡ true → is_small_node b.node ≡ true
     → same_location nat_eq (location_of a) (location_of b)
     ≡ (nat_eq a.mount.count b.mount.count && same_node a.node b.node)
 same_locations a b a_small b_small =

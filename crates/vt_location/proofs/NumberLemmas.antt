@@ -2,7 +2,7 @@
 use Rattle.std.proofs.Common.{◌≡◌, ◌≢◌, ◌<◌, ◌≤◌, ◌+◌, ◌-◌, ◌*◌, ℕ, Bool, true, false, not, nat_eq, nat_lt, ◌&&◌, refl, sym, ap, ◌∙◌, arith, lt-ltb, le-ltb, eq-eqb}
 use Rattle.std.specs.Prelude.{if◌then◌else◌, ◌/◌}
 use Rattle.std.proofs.lemmas.Bool.{eqb-true, ltb-true, ltb-false, not-true}
-use Rattle.vt_location.specs.Numbers.{counted, exchanged, inode_number, is_inode_of}
+use Rattle.vt_location.specs.Numbers.{counted, exchanged, inode_number, is_inode_of, is_own_number}
 use Rattle.vt_spec.proofs.Truths.{and_from_three, and_true_first, and_true_left, and_true_right, same_truth}
 
 pub counted_same : (a b : ℕ) → counted a ≡ counted b → a ≡ b
@@ -32,6 +32,16 @@ is_inode f slot small =
     (negated _ (le-ltb (inode_number f slot) (inode_number f 0) (omega arith)))
     (lt-ltb (inode_number f slot) (inode_number (f + 1) 0) (omega arith))
     (eq-eqb (2 * (inode_number f slot / 2)) (inode_number f slot) (omega arith))
+
+pub own_number : (f n : ℕ) → f < 18446744073709551616 → is_inode_of f n ≡ true → is_own_number f n ≡ true
+own_number f n small e = λ i. lt-ltb f 18446744073709551616 small i && e i
+
+pub own_inode : (f n : ℕ) → is_own_number f n ≡ true → is_inode_of f n ≡ true
+own_inode f n e = and_true_right (nat_lt f 18446744073709551616) _ e
+
+pub is_own : (f slot : ℕ) → f < 18446744073709551616 → slot < 18446744073709551616
+    → is_own_number f (inode_number f slot) ≡ true
+is_own f slot small slot_small = own_number f (inode_number f slot) small (is_inode f slot slot_small)
 
 at_number : (f n slot : ℕ) → nat_lt n 18446744073709551616 ≡ false → is_inode_of f n ≡ true → n ≡ inode_number f slot
     → exchanged f n ≡ slot

@@ -1,6 +1,6 @@
 -- The numbers of nodes by where they were born. An inode number that stays the same for an object as long as it is in
 -- use: the kernel's overlayfs document, "inode properties".
-use Rattle.std.specs.Prelude.{Bool, nat_eq, nat_lt, true, false, ℕ, ⊤, ◌&&◌, ◌*◌, ◌+◌, ◌<◌}
+use Rattle.std.specs.Prelude.{Bool, nat_lt, true, ℕ, ⊤, ◌&&◌, ◌*◌, ◌+◌, ◌<◌}
 use Rattle.vt_location.specs.declared.births.Birth.{Birth}
 use Rattle.vt_location.specs.declared.births.Birth.TheVariants.{Below, Here}
 
@@ -21,10 +21,3 @@ abbrev pub is_small_birth : Birth → Bool
 is_small_birth Here = true
 is_small_birth (Below layer directory rank) =
     nat_lt directory 18446744073709551616 && nat_lt layer 18446744073709551616
-
--- two births are one
-abbrev pub same_birth : Birth → Birth → Bool
-same_birth Here Here = true
-same_birth Here (Below layer directory rank) = false
-same_birth (Below layer directory rank) Here = false
-same_birth (Below l d r) (Below m e s) = nat_eq l m && (nat_eq d e && nat_eq r s)

@@ -3,4 +3,5 @@ pub mod Births
 pub mod Locations
 pub mod MountValue
 pub mod NodeNumbers
+pub mod SameNodes
 pub mod InOrder

@@ -1,12 +1,12 @@
 -- What the definitions see of nodes and locations.
-use Rattle.std.specs.Prelude.{Bool, None, Option, Some, nat_eq, nat_lt, ℕ, ◌&&◌}
+use Rattle.std.specs.Prelude.{Bool, None, Option, Some, nat_lt, ℕ, ◌&&◌}
 use Rattle.vt_spec.specs.Machine.Mounts as meant
 use Rattle.vt_location.specs.declared.births.Birth.{Birth}
 use Rattle.vt_location.specs.declared.births.Birth.TheVariants.{Below, Here}
 use Rattle.vt_location.specs.declared.locations.InodeRef.{InodeRef}
 use Rattle.vt_location.specs.declared.locations.Location.{Location}
 use Rattle.vt_location.specs.declared.locations.NodeRef.{NodeRef}
-use Rattle.vt_location.specs.Births.{born_in, is_small_birth, same_birth}
+use Rattle.vt_location.specs.Births.{born_in, is_small_birth}
 use Rattle.vt_location.specs.Numbers.{counted, inode_number}
 
 -- the number of an inode of a plain filesystem
@@ -29,12 +29,7 @@ abbrev pub plain_of : NodeRef → Option InodeRef
 plain_of node = plain_at node node.birth
 
 -- what code has in 64 bits is below 2^64
-abbrev pub is_small : NodeRef → Bool
-is_small node =
+abbrev pub is_small_node : NodeRef → Bool
+is_small_node node =
     nat_lt node.filesystem.count 18446744073709551616
     && (nat_lt node.slot 18446744073709551616 && is_small_birth node.birth)
-
--- two nodes are one
-abbrev pub same_node : NodeRef → NodeRef → Bool
-same_node a b =
-    nat_eq a.filesystem.count b.filesystem.count && (nat_eq a.slot b.slot && same_birth a.birth b.birth)

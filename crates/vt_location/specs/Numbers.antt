@@ -37,6 +37,10 @@ is_inode_of filesystem number =
     not (nat_lt number (inode_number filesystem 0)) && nat_lt number (inode_number (filesystem + 1) 0)
     && nat_eq (2 * (number / 2)) number
 
+-- so it is, and the filesystem's count is one that code has, below 2^64
+abbrev pub is_own_number : ℕ → ℕ → Bool
+is_own_number filesystem number = nat_lt filesystem 18446744073709551616 && is_inode_of filesystem number
+
 -- Exchanges each slot with the number of its inode, and keeps all other numbers; it is its own inverse.
 abbrev pub exchanged : ℕ → ℕ → ℕ
 exchanged filesystem number =

@@ -2,7 +2,7 @@
 ghost use Rattle.std.specs.Prelude.{◌≡◌, None, Some, nat_eq, option_map};
 ghost use Rattle.vt_spec.specs.Machine.Mounts.{same_location};
 ghost use Rattle.vt_location.specs.declared.births.Birth.TheVariants.{Here};
-ghost use Rattle.vt_location.specs.Locations.{inode_of, is_small, location_of, number_of, plain_of};
+ghost use Rattle.vt_location.specs.Locations.{inode_of, is_small_node, location_of, number_of, plain_of};
 
 use crate::births::Birth;
 use crate::numbers::{FilesystemId, MountId};
@@ -80,6 +80,7 @@ impl NodeRef {
     }
 
     /// Whether it is the same node.
+    #[inline(always)]
     pub fn is_same(self, other: NodeRef) -> bool
         ensures { result ≡ nat_eq (number_of self) (number_of other) }
     {
@@ -96,6 +97,7 @@ pub struct Location {
 
 impl Location {
     /// Whether it is the same location.
+    #[inline(always)]
     pub fn is_same(self, other: Location) -> bool
         ensures { result ≡ same_location nat_eq (location_of self) (location_of other) }
     {

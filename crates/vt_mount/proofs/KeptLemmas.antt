@@ -11,7 +11,7 @@ use Rattle.vt_location.specs.declared.numbers.MountId.{MountId}
 use Rattle.vt_location.specs.declared.numbers.NamespaceId.{NamespaceId}
 use Rattle.vt_mount.specs.declared.indexes.Indexes.{Indexes}
 use Rattle.vt_mount.specs.declared.mounted.Mounted.{Mounted}
-use Rattle.vt_mount.specs.Indexed.{IsIndexed, is_in_slot, numbers_where}
+use Rattle.vt_mount.specs.Indexed.{IsIndexed, is_kept_small, numbers_where}
 use Rattle.vt_mount.specs.Indexes.{is_at, is_in, is_on, is_over, listed_at, listed_in, listed_on, listed_over, pushed, taken}
 use Rattle.vt_mount.specs.Listed.{same_id}
 use Rattle.vt_mount.specs.MountsValue.{MountEntry, mount_kept, without}
@@ -40,33 +40,33 @@ pub loses-detached : (id : MountId) (kept : List (MountId × Mounted))
     → LosesOne id kept (map (change_kept id detached_kept) kept)
 loses-detached id kept = λ test fails. numbers-left test id detached_kept fails kept
 
-pub slots-detached : (id : MountId) (kept : List (MountId × Mounted)) → list_all is_in_slot kept ≡ true
-    → list_all is_in_slot (map (change_kept id detached_kept) kept) ≡ true
+pub slots-detached : (id : MountId) (kept : List (MountId × Mounted)) → list_all is_kept_small kept ≡ true
+    → list_all is_kept_small (map (change_kept id detached_kept) kept) ≡ true
 slots-detached id [] slots = refl
 slots-detached id (one ∷ kept) slots =
-    ap (λ b. b && list_all is_in_slot (map (change_kept id detached_kept) kept)) (by (same_id id one.0))
+    ap (λ b. b && list_all is_kept_small (map (change_kept id detached_kept) kept)) (by (same_id id one.0))
     ∙ slots-detached id kept (and_true_right _ _ slots)
   where
-    by : (b : Bool) → is_in_slot (one.0, cond b (detached_kept one.1) one.1) ≡ true
+    by : (b : Bool) → is_kept_small (one.0, cond b (detached_kept one.1) one.1) ≡ true
     by true = refl
     by false = and_true_left _ _ slots
 
-pub slots-without : (id : MountId) (kept : List (MountId × Mounted)) → list_all is_in_slot kept ≡ true
-    → list_all is_in_slot (without_kept id kept) ≡ true
+pub slots-without : (id : MountId) (kept : List (MountId × Mounted)) → list_all is_kept_small kept ≡ true
+    → list_all is_kept_small (without_kept id kept) ≡ true
 slots-without id [] slots = refl
 slots-without id (one ∷ kept) slots = by (same_id id one.0) (slots-without id kept (and_true_right _ _ slots))
   where
-    by : (b : Bool) → list_all is_in_slot (without_kept id kept) ≡ true
-        → list_all is_in_slot (cond (not b) (one ∷ without_kept id kept) (without_kept id kept)) ≡ true
+    by : (b : Bool) → list_all is_kept_small (without_kept id kept) ≡ true
+        → list_all is_kept_small (cond (not b) (one ∷ without_kept id kept) (without_kept id kept)) ≡ true
     by true rest = rest
-    by false rest = ap (λ b. b && list_all is_in_slot (without_kept id kept)) (and_true_left _ _ slots) ∙ rest
+    by false rest = ap (λ b. b && list_all is_kept_small (without_kept id kept)) (and_true_left _ _ slots) ∙ rest
 
-slots-last : (one : MountId × Mounted) (kept : List (MountId × Mounted)) → is_in_slot one ≡ true
-    → list_all is_in_slot kept ≡ true
-    → list_all is_in_slot (kept ++ one ∷ []) ≡ true
+slots-last : (one : MountId × Mounted) (kept : List (MountId × Mounted)) → is_kept_small one ≡ true
+    → list_all is_kept_small kept ≡ true
+    → list_all is_kept_small (kept ++ one ∷ []) ≡ true
 slots-last one [] slot slots = ap (λ b. b && true) slot
 slots-last one (other ∷ kept) slot slots =
-    ap (λ b. b && list_all is_in_slot (kept ++ one ∷ [])) (and_true_left _ _ slots)
+    ap (λ b. b && list_all is_kept_small (kept ++ one ∷ [])) (and_true_left _ _ slots)
     ∙ slots-last one kept slot (and_true_right _ _ slots)
 
 -- Lists that one mount left
@@ -83,7 +83,7 @@ module _ (id : MountId) (x : Mounted) (mount : Mount) (kept left : List (MountId
       ∙ others-taken test id x kept rising there
       ∙ sym (loses test fails)
 
-  pub indexed-left : (old new : Indexes) → list_all is_in_slot left ≡ true
+  pub indexed-left : (old new : Indexes) → list_all is_kept_small left ≡ true
       → ((q : NamespaceId) → listed_in new q ≡ taken (is_in q mount) mount.number (listed_in old q))
       → ((q : MountId) → listed_on new q ≡ taken (is_on q mount) mount.number (listed_on old q))
       → ((q : Location) → listed_at new q ≡ taken (is_at q mount) mount.number (listed_at old q))
@@ -109,7 +109,7 @@ module _ (mount : Mount) (one : Mounted) (kept : List (MountId × Mounted))
       ∙ (λ i. pushed (test (sym is i)) mount.number (was i))
       ∙ sym (numbers-last test (mount.number, one) kept)
 
-  pub indexed-entered : (old new : Indexes) → is_in_slot (mount.number, one) ≡ true
+  pub indexed-entered : (old new : Indexes) → is_kept_small (mount.number, one) ≡ true
       → ((q : NamespaceId) → listed_in new q ≡ pushed (is_in q mount) mount.number (listed_in old q))
       → ((q : MountId) → listed_on new q ≡ pushed (is_on q mount) mount.number (listed_on old q))
       → ((q : Location) → listed_at new q ≡ pushed (is_at q mount) mount.number (listed_at old q))

@@ -13,10 +13,10 @@ use Rattle.vt_location.specs.declared.numbers.MountId.{MountId}
 use Rattle.vt_location.specs.declared.numbers.NamespaceId.{NamespaceId}
 use Rattle.vt_mount.specs.declared.indexes.Indexes.{Indexes}
 use Rattle.vt_mount.specs.declared.mounted.Mounted.{Mounted}
-use Rattle.vt_mount.specs.Indexed.{IsIndexed, is_in_slot, numbers_where}
+use Rattle.vt_mount.specs.Indexed.{IsIndexed, is_kept_small, numbers_where}
 use Rattle.vt_mount.specs.Indexes.{is_at, is_in, is_on, is_over, listed_at, listed_in, listed_on, listed_over, relisted, stood_at, stood_on, stood_over}
 use Rattle.vt_mount.specs.Listed.{inserted, same_id}
-use Rattle.vt_mount.specs.Moving.{has_small_slot}
+use Rattle.vt_mount.specs.Moving.{is_small_point}
 use Rattle.vt_mount.specs.MountsValue.{are_ascending, entries_of, id_cmp, in_order, mount_kept, mounts_in}
 use Rattle.vt_location.specs.Numbers.{counted}
 use Rattle.vt_mount.proofs.EntryLemmas.{entries}
@@ -158,14 +158,14 @@ module _ (id : MountId) where
       others-taken test id x kept rising there ∙ sym (numbers-left test id change never kept)
 
 slots-placed : (id : MountId) (point : Option Location) (kept : List (MountId × Mounted))
-    → has_small_slot point ≡ true → list_all is_in_slot kept ≡ true
-    → list_all is_in_slot (map (change_kept id (placed_kept point)) kept) ≡ true
+    → is_small_point point ≡ true → list_all is_kept_small kept ≡ true
+    → list_all is_kept_small (map (change_kept id (placed_kept point)) kept) ≡ true
 slots-placed id point [] slot slots = refl
 slots-placed id point (one ∷ kept) slot slots =
-    ap (λ b. b && list_all is_in_slot (map (change_kept id (placed_kept point)) kept)) (by (same_id id one.0))
+    ap (λ b. b && list_all is_kept_small (map (change_kept id (placed_kept point)) kept)) (by (same_id id one.0))
     ∙ slots-placed id point kept slot (and_true_right _ _ slots)
   where
-    by : (b : Bool) → is_in_slot (one.0, cond b (placed_kept point one.1) one.1) ≡ true
+    by : (b : Bool) → is_kept_small (one.0, cond b (placed_kept point one.1) one.1) ≡ true
     by true = slot
     by false = and_true_left _ _ slots
 
@@ -189,7 +189,7 @@ module _ (id : MountId) (point : Option Location) (x : Mounted) (kept : List (Mo
   inode-placed q =
       relisted-numbers id (is_over q) (stood_over q point) (placed_kept point) (λ n one. refl) x kept rising there
 
-  pub indexed-placed : (old new : Indexes) → has_small_slot point ≡ true
+  pub indexed-placed : (old new : Indexes) → is_small_point point ≡ true
       → ((q : NamespaceId) → listed_in new q ≡ listed_in old q)
       → ((q : MountId) → listed_on new q
       ≡ relisted (stood_on q x.mount_point) (stood_on q point) id (listed_on old q))

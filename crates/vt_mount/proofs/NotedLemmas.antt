@@ -11,9 +11,9 @@ use Rattle.vt_location.specs.declared.numbers.MountId.{MountId}
 use Rattle.vt_mount.specs.declared.mounted.Mounted.{Mounted}
 use Rattle.vt_mount.specs.declared.moving.NewPoint.{NewPoint}
 use Rattle.vt_mount.specs.declared.moving.Moved.{Moved}
-use Rattle.vt_mount.specs.Indexed.{is_in_slot}
+use Rattle.vt_mount.specs.Indexed.{is_kept_small}
 use Rattle.vt_mount.specs.Listed.{same_id}
-use Rattle.vt_mount.specs.Moving.{has_small_slot, is_small, move_of, moves_by}
+use Rattle.vt_mount.specs.Moving.{is_small_point, is_small, move_of, moves_by}
 use Rattle.vt_mount.specs.MountsValue.{MountEntry, entries_of, entry_of, id_cmp, in_order}
 use Rattle.vt_spec.specs.Machine.Mounts.{Location as Place}
 use Rattle.vt_mount.proofs.EntryLemmas.{kept-entry}
@@ -24,16 +24,16 @@ abbrev pub entry_move : NewPoint → MountEntry → ℕ × Option (Place ℕ) ×
 entry_move point entry = (entry.mount.number, entry.mount.mount_point, point.place)
 
 slot-found : (id : MountId) (x : Mounted) (kept : List (MountId × Mounted)) → found id kept ≡ Some x
-    → list_all is_in_slot kept ≡ true → has_small_slot x.mount_point ≡ true
+    → list_all is_kept_small kept ≡ true → is_small_point x.mount_point ≡ true
 slot-found id x [] there slots = absurd cc
 slot-found id x (one ∷ kept) there slots =
     by (eq_by_cmp id_cmp id one.0) there (λ later. slot-found id x kept later (and_true_right _ _ slots))
   where
     by : (b : Bool) → cond b (Some one.1) (found id kept) ≡ Some x
-        → (found id kept ≡ Some x → has_small_slot x.mount_point ≡ true) → has_small_slot x.mount_point ≡ true
+        → (found id kept ≡ Some x → is_small_point x.mount_point ≡ true) → is_small_point x.mount_point ≡ true
     by true here rest =
         let held : one.1 ≡ x = cc in
-        ap (λ (kept : Mounted). has_small_slot kept.mount_point) (sym held) ∙ and_true_left _ _ slots
+        ap (λ (kept : Mounted). is_small_point kept.mount_point) (sym held) ∙ and_true_left _ _ slots
     by false here rest = rest here
 
 module _ (moves new : List Moved) (point : NewPoint) (x : Mounted) (es : List (MountId × Mounted))
@@ -46,7 +46,7 @@ module _ (moves new : List Moved) (point : NewPoint) (x : Mounted) (es : List (M
       ∙ ap (λ (found : Option MountEntry). map move_of moves ++ option_to_list (option_map (entry_move point) found))
       (sym (kept-entry point.mount es ∙ ap (option_map (λ one. entry_of (point.mount, one))) there))
 
-  pub small-noted : list_all is_in_slot (in_order es) ≡ true → has_small_slot (Some point.place) ≡ true
+  pub small-noted : list_all is_kept_small (in_order es) ≡ true → is_small_point (Some point.place) ≡ true
       → list_all is_small moves ≡ true → list_all is_small new ≡ true
   small-noted slots to small =
       let from = slot-found point.mount x (in_order es) (found-in_order point.mount es ∙ there) slots in

@@ -11,15 +11,17 @@ use Rattle.vt_location.specs.declared.locations.NodeRef.{NodeRef}
 use Rattle.vt_location.specs.declared.mounts.Mount.{Mount}
 use Rattle.vt_location.specs.declared.numbers.MountId.{MountId}
 use Rattle.vt_location.specs.declared.numbers.NamespaceId.{NamespaceId}
-use Rattle.vt_location.specs.Locations.{location_of, number_of}
+use Rattle.vt_location.specs.Locations.{is_small_node, location_of, number_of}
+use Rattle.vt_location.specs.SameNodes.{same_node}
 use Rattle.vt_location.specs.Numbers.{counted, inode_number}
 use Rattle.vt_mount.specs.declared.mounted.Mounted.{Mounted}
-use Rattle.vt_mount.specs.Indexed.{is_in_slot, numbers_where}
-use Rattle.vt_mount.specs.Indexes.{is_at, is_in, is_on, is_over, same_inode, same_namespace, same_place}
+use Rattle.vt_mount.specs.Indexed.{is_kept_small, numbers_where}
+use Rattle.vt_mount.specs.Indexes.{is_at, is_in, is_on, is_over, same_namespace, same_place}
 use Rattle.vt_mount.specs.Listed.{same_id}
 use Rattle.vt_mount.specs.MountsValue.{mount_kept, mounts_in, stands_over}
 use Rattle.vt_mount.proofs.EntryLemmas.{entries, mount_under}
 use Rattle.vt_mount.proofs.IndexLemmas.{cons-numbers}
+use Rattle.vt_location.proofs.NodeLemmas.{nodes_test}
 use Rattle.vt_location.proofs.NumberLemmas.{counted_test}
 use Rattle.vt_spec.proofs.Truths.{and_true_left, and_true_right}
 
@@ -31,9 +33,9 @@ numbers mounts = map (λ mount. mount.number) mounts
 
 -- a test of mounts as they are kept, and the test that it stands for
 module _ (test : Mount → Bool) (seen : meant.Mount ℕ → Bool)
-    (agree : (one : MountId × Mounted) → is_in_slot one ≡ true
+    (agree : (one : MountId × Mounted) → is_kept_small one ≡ true
     → seen (mount_under one.0 one.1) ≡ test (mount_kept one.0 one.1)) where
-  pub numbers-seen : (kept : List (MountId × Mounted)) → list_all is_in_slot kept ≡ true
+  pub numbers-seen : (kept : List (MountId × Mounted)) → list_all is_kept_small kept ≡ true
       → counts (numbers_where test kept) ≡ numbers (filter seen (mounts_in (entries kept)))
   numbers-seen [] slots = refl
   numbers-seen (one ∷ kept) slots =
@@ -75,33 +77,11 @@ pub first-count : (ids : List MountId)
 first-count [] = refl
 first-count (id ∷ ids) = refl
 
--- Numbers of inodes tell them apart
+-- Numbers tell nodes apart
 
-abbrev pub slot_limit : ℕ
-slot_limit = 18446744073709551616
-
-inodes-apart : (f s g t : ℕ) → s < slot_limit → t < slot_limit → inode_number f s ≡ inode_number g t → f ≡ g
-inodes-apart f s g t less few is = omega (arith, less, few, is)
-
-pub same_number : (a b : NodeRef) → a.slot < slot_limit → b.slot < slot_limit
-    → nat_eq (number_of a) (number_of b) ≡ same_inode a b
-same_number a b less few = by (nat_eq a.filesystem.count b.filesystem.count) (nat_eq a.slot b.slot) refl refl
-  where
-    by : (s t : Bool) → nat_eq a.filesystem.count b.filesystem.count ≡ s → nat_eq a.slot b.slot ≡ t
-        → nat_eq (number_of a) (number_of b) ≡ (s && t)
-    by true true p q =
-        eq-eqb (number_of a) (number_of b)
-        (λ i. inode_number (eqb-true a.filesystem.count b.filesystem.count p i) (eqb-true a.slot b.slot q i))
-    by true false p q =
-        ne_eqb (number_of a) (number_of b) (λ is. eqb-false a.slot b.slot q
-        (omega (arith, is, eqb-true a.filesystem.count b.filesystem.count p)))
-    by false t p q =
-        ne_eqb (number_of a) (number_of b) (λ is. eqb-false a.filesystem.count b.filesystem.count p
-        (inodes-apart a.filesystem.count a.slot b.filesystem.count b.slot less few is))
-
-turned-inodes : (a b : NodeRef) → a.slot < slot_limit → b.slot < slot_limit
-    → nat_eq (number_of b) (number_of a) ≡ same_inode a b
-turned-inodes a b less few = turned (number_of b) (number_of a) ∙ same_number a b less few
+turned-nodes : (a b : NodeRef) → is_small_node a ≡ true → is_small_node b ≡ true
+    → nat_eq (number_of b) (number_of a) ≡ same_node a b
+turned-nodes a b less few = turned (number_of b) (number_of a) ∙ nodes_test a b less few
   where
     turned : (n m : ℕ) → nat_eq n m ≡ nat_eq m n
     turned n m = by (nat_eq m n) (eqb-true m n) (eqb-false m n)
@@ -112,7 +92,7 @@ turned-inodes a b less few = turned (number_of b) (number_of a) ∙ same_number 
 
 -- The tests that stand for one another
 
-pub on-agrees : (parent : MountId) (one : MountId × Mounted) → is_in_slot one ≡ true
+pub on-agrees : (parent : MountId) (one : MountId × Mounted) → is_kept_small one ≡ true
     → stands_on nat_eq (counted parent.count) (mount_under one.0 one.1) ≡ is_on parent (mount_kept one.0 one.1)
 on-agrees parent one slot = by one.1.mount_point
   where
@@ -122,7 +102,7 @@ on-agrees parent one slot = by one.1.mount_point
     by None = refl
     by (Some place) = counted_test parent.count place.mount.count
 
-pub in-agrees : (namespace : NamespaceId) (one : MountId × Mounted) → is_in_slot one ≡ true
+pub in-agrees : (namespace : NamespaceId) (one : MountId × Mounted) → is_kept_small one ≡ true
     → holds_of (nat_eq (counted namespace.count)) (mount_under one.0 one.1).namespace
     ≡ is_in namespace (mount_kept one.0 one.1)
 in-agrees namespace one slot = by one.1.namespace
@@ -133,28 +113,28 @@ in-agrees namespace one slot = by one.1.namespace
     by None = refl
     by (Some other) = counted_test namespace.count other.count
 
-pub at-agrees : (location : Location) → location.node.slot < slot_limit → (one : MountId × Mounted)
-    → is_in_slot one ≡ true
+pub at-agrees : (location : Location) → is_small_node location.node ≡ true → (one : MountId × Mounted)
+    → is_kept_small one ≡ true
     → stands_at nat_eq (location_of location) (mount_under one.0 one.1) ≡ is_at location (mount_kept one.0 one.1)
 at-agrees location less one slot = by one.1.mount_point slot
   where
     by : (point : Option Location)
-        → unwrap_or (option_map (λ place. nat_lt place.node.slot slot_limit) point) true ≡ true
+        → unwrap_or (option_map (λ place. is_small_node place.node) point) true ≡ true
         → holds_of (λ place. nat_eq (counted location.mount.count) place.mount
         && nat_eq (number_of location.node) place.node) (option_map location_of point)
         ≡ holds_of (same_place location) point
     by None slot = refl
     by (Some place) slot =
         λ i. counted_test location.mount.count place.mount.count i
-        && same_number location.node place.node less (ltb-true place.node.slot slot_limit slot) i
+        && nodes_test location.node place.node less slot i
 
-pub over-agrees : (inode : NodeRef) → inode.slot < slot_limit → (one : MountId × Mounted) → is_in_slot one ≡ true
+pub over-agrees : (inode : NodeRef) → is_small_node inode ≡ true → (one : MountId × Mounted) → is_kept_small one ≡ true
     → stands_over (number_of inode) (mount_under one.0 one.1) ≡ is_over inode (mount_kept one.0 one.1)
 over-agrees inode less one slot = by one.1.mount_point slot
   where
     by : (point : Option Location)
-        → unwrap_or (option_map (λ place. nat_lt place.node.slot slot_limit) point) true ≡ true
+        → unwrap_or (option_map (λ place. is_small_node place.node) point) true ≡ true
         → holds_of (λ place. nat_eq place.node (number_of inode)) (option_map location_of point)
-        ≡ holds_of (λ place. same_inode inode place.node) point
+        ≡ holds_of (λ place. same_node inode place.node) point
     by None slot = refl
-    by (Some place) slot = turned-inodes inode place.node less (ltb-true place.node.slot slot_limit slot)
+    by (Some place) slot = turned-nodes inode place.node less slot

@@ -1,6 +1,7 @@
 -- Room that is reserved for mounts that come and move.
 use Rattle.std.proofs.Common.{◌≡◌, ◌<◌, ◌≤◌, ◌+◌, ◌-◌, ℕ, Bool, true, false, cond, ◌&&◌, List, [], ◌∷◌, ◌++◌, map, refl, ap, subst, arith, eq-eqb}
 use Rattle.std.proofs.lemmas.List.{reverse-append}
+use Rattle.vt_location.proofs.NodeLemmas.{same_node-itself}
 use Rattle.vt_location.specs.declared.locations.Location.{Location}
 use Rattle.vt_location.specs.declared.locations.NodeRef.{NodeRef}
 use Rattle.vt_location.specs.declared.numbers.MountId.{MountId}
@@ -9,7 +10,8 @@ use Rattle.vt_mount.specs.declared.indexes.Indexes.{Indexes}
 use Rattle.vt_mount.specs.declared.lists.MountsBy.{MountsBy}
 use Rattle.vt_mount.specs.declared.moving.NewPoint.{NewPoint}
 use Rattle.vt_mount.specs.Reserved.{Reserves, ReservesBy, count_of, moved_places}
-use Rattle.vt_mount.specs.Indexes.{same_inode, same_namespace, same_place}
+use Rattle.vt_location.specs.SameNodes.{same_node}
+use Rattle.vt_mount.specs.Indexes.{same_namespace, same_place}
 use Rattle.vt_mount.specs.Listed.{reserved, same_id}
 
 count-first : {X : Type 0} (test : X → Bool) (xs ys : List X) → count_of test xs ≤ count_of test (xs ++ ys)
@@ -75,7 +77,7 @@ reserves-first indexes namespaces later places after has = record {
   namespace = λ q. fewer (λ namespace. same_namespace q namespace) namespaces later _ (has.namespace q);
   parent = λ q. fewer (λ (place : Location). same_id q place.mount) places after _ (has.parent q);
   place = λ q. fewer (λ place. same_place q place) places after _ (has.place q);
-  inode = λ q. fewer (λ (place : Location). same_inode q place.node) places after _ (has.inode q);
+  inode = λ q. fewer (λ (place : Location). same_node q place.node) places after _ (has.inode q);
 }
   where
     fewer : {X : Type 0} (test : X → Bool) (xs ys : List X) (n : ℕ) → count_of test (xs ++ ys) ≤ n
@@ -89,7 +91,7 @@ reserves-later indexes namespaces place places has = record {
   namespace = has.namespace;
   parent = reserves-rest same_id (λ (place : Location). place.mount) place places indexes.by_parent has.parent;
   place = reserves-rest same_place (λ (place : Location). place) place places indexes.by_location has.place;
-  inode = reserves-rest same_inode (λ (place : Location). place.node) place places indexes.by_inode has.inode;
+  inode = reserves-rest same_node (λ (place : Location). place.node) place places indexes.by_inode has.inode;
 }
 
 pub moved_places-last : (points : List NewPoint) (point : NewPoint)
@@ -108,11 +110,8 @@ reserves-none indexes = record {
 pub same_id-itself : (a : MountId) → same_id a a ≡ true
 same_id-itself a = eq-eqb a.count a.count refl
 
-pub same_inode-itself : (a : NodeRef) → same_inode a a ≡ true
-same_inode-itself a = λ i. eq-eqb a.filesystem.count a.filesystem.count refl i && eq-eqb a.slot a.slot refl i
-
 pub same_place-itself : (a : Location) → same_place a a ≡ true
-same_place-itself a = λ i. same_id-itself a.mount i && same_inode-itself a.node i
+same_place-itself a = λ i. same_id-itself a.mount i && same_node-itself a.node i
 
 pub same_namespace-itself : (a : NamespaceId) → same_namespace a a ≡ true
 same_namespace-itself a = eq-eqb a.count a.count refl

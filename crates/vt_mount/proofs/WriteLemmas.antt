@@ -9,8 +9,10 @@ use Rattle.vt_location.specs.Numbers.{counted}
 use Rattle.vt_location.specs.declared.numbers.MountId.{MountId}
 use Rattle.vt_mount.specs.declared.indexes.Indexes.{Indexes}
 use Rattle.vt_mount.specs.declared.mounted.Mounted.{Mounted}
-use Rattle.vt_mount.specs.Indexed.{IsIndexed, is_in_slot, numbers_where}
-use Rattle.vt_mount.specs.Indexes.{is_at, is_in, is_on, is_over, same_inode, same_namespace, same_place}
+use Rattle.vt_mount.specs.Indexed.{IsIndexed, is_kept_small, numbers_where}
+use Rattle.vt_location.specs.Locations.{is_small_node}
+use Rattle.vt_location.specs.SameNodes.{same_node}
+use Rattle.vt_mount.specs.Indexes.{is_at, is_in, is_on, is_over, same_namespace, same_place}
 use Rattle.vt_mount.specs.Listed.{same_id}
 use Rattle.vt_mount.specs.MountsValue.{MountEntry, changed, entries_of, entry_of, held, in_order, released}
 use Rattle.vt_mount.proofs.EntryLemmas.{kept-changed}
@@ -44,12 +46,12 @@ module _ (id : MountId) (change : Mounted → Mounted)
     (namespaces : (one : Mounted) → (change one).namespace ≡ one.namespace)
     (places : (one : Mounted) → (change one).mount_point ≡ one.mount_point) where
   slots-changed : (kept : List (MountId × Mounted))
-      → list_all is_in_slot (map (change_kept id change) kept) ≡ list_all is_in_slot kept
+      → list_all is_kept_small (map (change_kept id change) kept) ≡ list_all is_kept_small kept
   slots-changed [] = refl
   slots-changed (one ∷ kept) = λ i. by (same_id id one.0) i && slots-changed kept i
     where
-      by : (b : Bool) → is_in_slot (one.0, cond b (change one.1) one.1) ≡ is_in_slot one
-      by true = ap (λ point. unwrap_or (option_map (λ place. nat_lt place.node.slot 18446744073709551616) point) true)
+      by : (b : Bool) → is_kept_small (one.0, cond b (change one.1) one.1) ≡ is_kept_small one
+      by true = ap (λ point. unwrap_or (option_map (λ place. is_small_node place.node) point) true)
           (places one.1)
       by false = refl
 
@@ -73,8 +75,8 @@ module _ (id : MountId) (change : Mounted → Mounted)
         inode = λ q. old.inode q
             ∙ sym (ap (numbers_where (is_over q)) order
             ∙ numbers-changed (is_over q) id change
-            (λ n one. ap (holds_of (λ place. same_inode q place.node)) (places one)) (in_order es));
-        slots = ap (list_all is_in_slot) order ∙ slots-changed (in_order es) ∙ old.slots;
+            (λ n one. ap (holds_of (λ place. same_node q place.node)) (places one)) (in_order es));
+        slots = ap (list_all is_kept_small) order ∙ slots-changed (in_order es) ∙ old.slots;
       }
 
 -- what contracts see of it

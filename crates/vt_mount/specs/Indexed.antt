@@ -8,15 +8,15 @@ use Rattle.vt_location.specs.declared.numbers.MountId.{MountId}
 use Rattle.vt_location.specs.declared.numbers.NamespaceId.{NamespaceId}
 use Rattle.vt_mount.specs.declared.indexes.Indexes.{Indexes}
 use Rattle.vt_mount.specs.declared.mounted.Mounted.{Mounted}
-use Rattle.vt_mount.specs.Indexes.{has_slot, is_at, is_in, is_on, is_over, listed_at, listed_in, listed_on, listed_over}
+use Rattle.vt_mount.specs.Indexes.{has_small_point, is_at, is_in, is_on, is_over, listed_at, listed_in, listed_on, listed_over}
 use Rattle.vt_mount.specs.MountsValue.{mount_kept}
 
 -- the numbers of the mounts that pass a test
 abbrev pub numbers_where : (Mount → Bool) → List (MountId × Mounted) → List MountId
 numbers_where test kept = map (λ one. one.0) (filter (λ one. test (mount_kept one.0 one.1)) kept)
 
-abbrev pub is_in_slot : MountId × Mounted → Bool
-is_in_slot one = has_slot (mount_kept one.0 one.1)
+abbrev pub is_kept_small : MountId × Mounted → Bool
+is_kept_small one = has_small_point (mount_kept one.0 one.1)
 
 -- each list has the mounts that it is for, in the order of their numbers
 pub record IsIndexed (indexes : Indexes) (kept : List (MountId × Mounted)) : Type 0 where
@@ -24,4 +24,4 @@ pub record IsIndexed (indexes : Indexes) (kept : List (MountId × Mounted)) : Ty
   pub parent : (q : MountId) → listed_on indexes q ≡ numbers_where (is_on q) kept
   pub place : (q : Location) → listed_at indexes q ≡ numbers_where (is_at q) kept
   pub inode : (q : NodeRef) → listed_over indexes q ≡ numbers_where (is_over q) kept
-  pub slots : list_all is_in_slot kept ≡ true
+  pub slots : list_all is_kept_small kept ≡ true

@@ -1,11 +1,13 @@
 -- The lists of mounts by namespace, parent, mount point and inode.
-use Rattle.std.specs.Prelude.{Bool, List, Option, filter, if◌then◌else◌, nat_eq, nat_lt, not, option_map, true, unwrap_or, [], ◌&&◌, ◌++◌, ◌∷◌, ◌^◌}
+use Rattle.std.specs.Prelude.{Bool, List, Option, filter, if◌then◌else◌, nat_eq, not, option_map, true, unwrap_or, [], ◌&&◌, ◌++◌, ◌∷◌}
 use Rattle.vt_spec.specs.Lists.{holds_of}
 use Rattle.vt_location.specs.declared.locations.Location.{Location}
 use Rattle.vt_location.specs.declared.locations.NodeRef.{NodeRef}
 use Rattle.vt_location.specs.declared.mounts.Mount.{Mount}
 use Rattle.vt_location.specs.declared.numbers.MountId.{MountId}
 use Rattle.vt_location.specs.declared.numbers.NamespaceId.{NamespaceId}
+use Rattle.vt_location.specs.Locations.{is_small_node}
+use Rattle.vt_location.specs.SameNodes.{same_node}
 use Rattle.vt_mount.specs.declared.indexes.Indexes.{Indexes}
 use Rattle.vt_mount.specs.Listed.{listed}
 use Rattle.vt_mount.specs.Rising.{inserted, same_id}
@@ -13,11 +15,8 @@ use Rattle.vt_mount.specs.Rising.{inserted, same_id}
 abbrev pub same_namespace : NamespaceId → NamespaceId → Bool
 same_namespace a b = nat_eq a.count b.count
 
-abbrev pub same_inode : NodeRef → NodeRef → Bool
-same_inode a b = nat_eq a.filesystem.count b.filesystem.count && nat_eq a.slot b.slot
-
 abbrev pub same_place : Location → Location → Bool
-same_place a b = same_id a.mount b.mount && same_inode a.node b.node
+same_place a b = same_id a.mount b.mount && same_node a.node b.node
 
 -- the mounts of a namespace, on a mount, at a location and on an inode
 abbrev pub listed_in : Indexes → NamespaceId → List MountId
@@ -30,7 +29,7 @@ abbrev pub listed_at : Indexes → Location → List MountId
 listed_at indexes place = listed same_place place indexes.by_location
 
 abbrev pub listed_over : Indexes → NodeRef → List MountId
-listed_over indexes inode = listed same_inode inode indexes.by_inode
+listed_over indexes inode = listed same_node inode indexes.by_inode
 
 -- the mount is in this namespace, on this mount, at this location, on this inode
 abbrev pub is_in : NamespaceId → Mount → Bool
@@ -43,7 +42,7 @@ abbrev pub is_at : Location → Mount → Bool
 is_at location mount = holds_of (same_place location) mount.mount_point
 
 abbrev pub is_over : NodeRef → Mount → Bool
-is_over inode mount = holds_of (λ place. same_inode inode place.node) mount.mount_point
+is_over inode mount = holds_of (λ place. same_node inode place.node) mount.mount_point
 
 -- a list with a mount added to its end, or removed from it, if it belongs there
 abbrev pub pushed : Bool → MountId → List MountId → List MountId
@@ -52,9 +51,9 @@ pushed here id list = if here then list ++ id ∷ [] else list
 abbrev pub taken : Bool → MountId → List MountId → List MountId
 taken here id list = if here then filter (λ other. not (same_id other id)) list else list
 
--- the slot of the mount point's inode is below 2^64
-abbrev pub has_slot : Mount → Bool
-has_slot mount = unwrap_or (option_map (λ place. nat_lt place.node.slot (2 ^ 64)) mount.mount_point) true
+-- the mount point's node has what code has in 64 bits
+abbrev pub has_small_point : Mount → Bool
+has_small_point mount = unwrap_or (option_map (λ place. is_small_node place.node) mount.mount_point) true
 
 -- the old mount point is on this mount, at this location, on this inode
 abbrev pub stood_on : MountId → Option Location → Bool
@@ -64,7 +63,7 @@ abbrev pub stood_at : Location → Option Location → Bool
 stood_at location was = holds_of (same_place location) was
 
 abbrev pub stood_over : NodeRef → Option Location → Bool
-stood_over inode was = holds_of (λ place. same_inode inode place.node) was
+stood_over inode was = holds_of (λ place. same_node inode place.node) was
 
 -- a list with a mount inserted, or moved: removed if it was there, inserted if it is here now
 abbrev pub put_in_place : Bool → MountId → List MountId → List MountId

@@ -1,7 +1,7 @@
 -- Mounts that get other mount points together.
 use Rattle.std.specs.Prelude.{Bool, List, None, Option, Some, [], nat_eq, nat_lt, option_map, option_to_list, true, unwrap_or, ℕ, ◌&&◌, ◌++◌, ◌∷◌, ◌^◌}
 use Rattle.vt_location.specs.declared.locations.Location.{Location}
-use Rattle.vt_location.specs.Locations.{location_of}
+use Rattle.vt_location.specs.Locations.{is_small_node, location_of}
 use Rattle.vt_location.specs.Numbers.{counted}
 use Rattle.vt_mount.specs.declared.moving.NewPoint.{NewPoint}
 use Rattle.vt_mount.specs.declared.moving.Moved.{Moved}
@@ -45,9 +45,9 @@ all_moves [] entries = []
 all_moves (point ∷ rest) entries = all_moves rest entries ++ moves_by point (with_points rest entries)
 
 -- the slot of a mount point's inode is below 2^64
-abbrev pub has_small_slot : Option Location → Bool
-has_small_slot point = unwrap_or (option_map (λ place. nat_lt place.node.slot (2 ^ 64)) point) true
+abbrev pub is_small_point : Option Location → Bool
+is_small_point point = unwrap_or (option_map (λ place. is_small_node place.node) point) true
 
 -- those of both mount points are
 abbrev pub is_small : Moved → Bool
-is_small moved = has_small_slot moved.from && has_small_slot (Some moved.to)
+is_small moved = is_small_point moved.from && is_small_point (Some moved.to)

@@ -7,7 +7,8 @@ use Rattle.vt_location.specs.declared.numbers.NamespaceId.{NamespaceId}
 use Rattle.vt_mount.specs.declared.indexes.Indexes.{Indexes}
 use Rattle.vt_mount.specs.declared.lists.MountsBy.{MountsBy}
 use Rattle.vt_mount.specs.declared.moving.NewPoint.{NewPoint}
-use Rattle.vt_mount.specs.Indexes.{same_inode, same_namespace, same_place}
+use Rattle.vt_location.specs.SameNodes.{same_node}
+use Rattle.vt_mount.specs.Indexes.{same_namespace, same_place}
 use Rattle.vt_mount.specs.Listed.{reserved, same_id}
 
 -- how many of them pass a test
@@ -24,7 +25,7 @@ pub record Reserves (indexes : Indexes) (namespaces : List NamespaceId) (places 
   pub namespace : ReservesBy same_namespace (λ namespace. namespace) namespaces indexes.by_namespace
   pub parent : ReservesBy same_id (λ place. place.mount) places indexes.by_parent
   pub place : ReservesBy same_place (λ place. place) places indexes.by_location
-  pub inode : ReservesBy same_inode (λ place. place.node) places indexes.by_inode
+  pub inode : ReservesBy same_node (λ place. place.node) places indexes.by_inode
 
 -- the namespaces and the mount points of mounts that come
 abbrev pub namespaces_of : List Mount → List NamespaceId

@@ -5,8 +5,10 @@ ghost use Rattle.vt_location.specs.declared.numbers.NamespaceId.{NamespaceId};
 ghost use Rattle.vt_location.specs.declared.locations.Location.{Location};
 ghost use Rattle.vt_location.specs.declared.locations.NodeRef.{NodeRef};
 ghost use Rattle.vt_mount.specs.Reserved.{Reserves};
-ghost use Rattle.vt_mount.specs.Indexes.{has_slot, is_at, is_in, is_on, is_over, listed_at, listed_in, listed_on};
-ghost use Rattle.vt_mount.specs.Indexes.{listed_over, put_in_place, relisted, same_inode, same_namespace, same_place};
+ghost use Rattle.vt_mount.specs.Indexes.{has_small_point, is_at, is_in, is_on, is_over, listed_at, listed_in, listed_on};
+ghost use Rattle.vt_location.specs.Locations.{is_small_node};
+ghost use Rattle.vt_location.specs.SameNodes.{same_node};
+ghost use Rattle.vt_mount.specs.Indexes.{listed_over, put_in_place, relisted, same_namespace, same_place};
 ghost use Rattle.vt_mount.specs.Indexes.{stood_at, stood_on, stood_over, taken};
 ghost use Rattle.vt_mount.specs.Rising.{same_id};
 ghost use Rattle.vt_spec.specs.Lists.{holds_of};
@@ -132,7 +134,7 @@ impl Indexes {
     /// Adds a mount to its lists, in which room is reserved. It does not allocate.
     pub(crate) fn enter(&mut self, mount: &Mount)
         requires { Reserves self.old (option_to_list mount.now.namespace) (option_to_list mount.now.mount_point) }
-        ensures slot { has_slot mount.now ≡ true }
+        ensures slot { has_small_point mount.now ≡ true }
         ensures namespace { (q : NamespaceId) → listed_in self.new q
             ≡ put_in_place (is_in q mount.now) mount.now.number (listed_in self.old q) }
         ensures parent { (q : MountId) → listed_on self.new q
@@ -195,14 +197,14 @@ impl Indexes {
         place: Location,
         mount: MountId,
     ) -> Result<(), AllocError>
-        ensures slot { nat_lt place.node.slot (2 ^ 64) ≡ true }
+        ensures slot { is_small_node place.node ≡ true }
         ensures namespace { (q : NamespaceId) → listed_in self.new q ≡ listed_in self.old q }
         ensures parent_ok { OnOk result ((q : MountId) → listed_on self.new q
             ≡ relisted (stood_on q was) (same_id q place.mount) mount (listed_on self.old q)) }
         ensures place_ok { OnOk result ((q : Location) → listed_at self.new q
             ≡ relisted (stood_at q was) (same_place q place) mount (listed_at self.old q)) }
         ensures inode_ok { OnOk result ((q : NodeRef) → listed_over self.new q
-            ≡ relisted (stood_over q was) (same_inode q place.node) mount (listed_over self.old q)) }
+            ≡ relisted (stood_over q was) (same_node q place.node) mount (listed_over self.old q)) }
         ensures parent_err { OnErr result ((q : MountId) → listed_on self.new q ≡ listed_on self.old q) }
         ensures place_err { OnErr result ((q : Location) → listed_at self.new q ≡ listed_at self.old q) }
         ensures inode_err { OnErr result ((q : NodeRef) → listed_over self.new q ≡ listed_over self.old q) }
@@ -220,14 +222,14 @@ impl Indexes {
     /// allocate.
     pub(crate) fn shift(&mut self, was: Option<Location>, place: Location, mount: MountId)
         requires { Reserves self.old [] (place ∷ []) }
-        ensures slot { nat_lt place.node.slot (2 ^ 64) ≡ true }
+        ensures slot { is_small_node place.node ≡ true }
         ensures namespace { (q : NamespaceId) → listed_in self.new q ≡ listed_in self.old q }
         ensures parent { (q : MountId) → listed_on self.new q
             ≡ relisted (stood_on q was) (same_id q place.mount) mount (listed_on self.old q) }
         ensures place { (q : Location) → listed_at self.new q
             ≡ relisted (stood_at q was) (same_place q place) mount (listed_at self.old q) }
         ensures inode { (q : NodeRef) → listed_over self.new q
-            ≡ relisted (stood_over q was) (same_inode q place.node) mount (listed_over self.old q) }
+            ≡ relisted (stood_over q was) (same_node q place.node) mount (listed_over self.old q) }
         ensures reserves { (namespaces : List NamespaceId) (places : List Location)
             → Reserves self.old namespaces (place ∷ places) → Reserves self.new namespaces places }
     {
@@ -255,14 +257,14 @@ impl Indexes {
     // Inserts a mount among those at a location, where room is reserved, in the order of numbers.
     fn put_in(&mut self, place: Location, mount: MountId)
         requires { Reserves self.old [] (place ∷ []) }
-        ensures slot { nat_lt place.node.slot (2 ^ 64) ≡ true }
+        ensures slot { is_small_node place.node ≡ true }
         ensures namespace { self.new.by_namespace ≡ self.old.by_namespace }
         ensures parent { (q : MountId)
             → listed_on self.new q ≡ put_in_place (same_id q place.mount) mount (listed_on self.old q) }
         ensures place { (q : Location)
             → listed_at self.new q ≡ put_in_place (same_place q place) mount (listed_at self.old q) }
         ensures inode { (q : NodeRef) → listed_over self.new q
-            ≡ put_in_place (same_inode q place.node) mount (listed_over self.old q) }
+            ≡ put_in_place (same_node q place.node) mount (listed_over self.old q) }
         ensures reserves { (namespaces : List NamespaceId) (places : List Location)
             → Reserves self.old namespaces (place ∷ places) → Reserves self.new namespaces places }
     {

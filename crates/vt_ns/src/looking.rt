@@ -10,7 +10,7 @@ use crate::world::World;
 use vt_cred::Rights;
 use vt_location::{FilesystemId, Location, Mount, MountId, NamespaceId, NodeRef};
 use vt_looks::{Asked, Ground, Look};
-use vt_node::Node;
+use vt_node::{Node, NodeId};
 use vt_request::TaskName;
 use vt_spec::errors::Deny;
 
@@ -82,6 +82,7 @@ impl Look for World {
 
     #[inline(always)]
     fn entry(&self, at: Location, object: &Node, name: &[u8]) -> Option<NodeRef> {
+        self.is_held();
         let entry = object.entry(name)?;
         Some(NodeRef::new(at.node.filesystem, entry))
     }
@@ -97,7 +98,8 @@ impl Look for World {
         let Some(directory) = self.node(at) else {
             return at.node;
         };
-        let parent = directory.parent(at.node.node());
+        self.is_held();
+        let parent = directory.parent(NodeId::new(at.node.slot));
         NodeRef::new(at.node.filesystem, parent)
     }
 
@@ -127,7 +129,7 @@ impl Look for World {
         if self.is_seen(top) && directory.filesystem == top.node.filesystem {
             self.filesystems.is_under(top.node, directory)
         } else {
-            top.node == directory
+            top.node.is_same(directory)
         }
     }
 

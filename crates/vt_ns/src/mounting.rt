@@ -23,7 +23,7 @@ use vt_attach::grafted::attach_graft;
 use vt_cred::MountFlags;
 use vt_fs::Filesystems;
 use vt_group::Groups;
-use vt_location::{FilesystemId, Location, Mount, MountId, NodeRef, Propagation};
+use vt_location::{Birth, FilesystemId, Location, Mount, MountId, NodeRef, Propagation};
 use vt_mount::Mounts;
 use vt_node::{Attr, Mode};
 use vt_propagate::{Counts, Graft, parts};
@@ -100,6 +100,7 @@ fn mount_of_new(filesystem: FilesystemId, flags: MountFlags) -> Mount
         root: NodeRef {
             filesystem,
             slot: 0,
+            birth: Birth::Here,
         },
         flags,
         propagation: Propagation::Private,

@@ -13,7 +13,9 @@ use std::alloc::{AllocError, Global};
 use vt_cred::MountFlags;
 use vt_fs::Filesystems;
 use vt_group::Groups;
-use vt_location::{FilesystemId, Location, Mount, MountId, NamespaceId, NodeRef, Propagation};
+use vt_location::{
+    Birth, FilesystemId, Location, Mount, MountId, NamespaceId, NodeRef, Propagation,
+};
 use vt_mount::Mounts;
 use vt_tasks::Tasks;
 use vt_world::namespaces::Namespace;
@@ -29,6 +31,7 @@ impl World {
         let root = NodeRef {
             filesystem,
             slot: 0,
+            birth: Birth::Here,
         };
         let mount = Mount {
             number,
@@ -114,6 +117,7 @@ fn add_first(filesystems: &mut Filesystems, filesystem: FilesystemId) -> Result<
     let root = NodeRef {
         filesystem,
         slot: 0,
+        birth: Birth::Here,
     };
     filesystems.pin(root)?;
     filesystems.pin(root)?;

@@ -11,7 +11,10 @@ use Rattle.vt_cred.specs.Caps.{capability_bits}
 use Rattle.vt_cred.specs.MountFlags.{flags_of}
 use Rattle.vt_location.specs.Locations.{location_of, number_of}
 use Rattle.vt_location.specs.Numbers.{counted, exchanged}
+use Rattle.vt_location.specs.declared.births.Birth.{Birth}
+use Rattle.vt_location.specs.declared.births.Birth.TheVariants.{Below, Here}
 use Rattle.vt_location.specs.declared.locations.Location.{Location}
+use Rattle.vt_location.specs.declared.locations.NodeRef.{NodeRef}
 use Rattle.vt_request.specs.Requests.{access_of, type_word_of}
 use Rattle.vt_permits.specs.declared.grant.Attachment.{Attachment}
 use Rattle.vt_permits.specs.declared.grant.Attachment.TheVariants as attachment
@@ -32,9 +35,15 @@ use Rattle.vt_permits.specs.declared.grant.TaskGrant.TheVariants as task
 use Rattle.vt_permits.specs.declared.grant.WriteGrant.{WriteGrant}
 use Rattle.vt_permits.specs.declared.grant.WriteGrant.TheVariants as write
 
--- an inode that is made in a directory, its parent by the number of an inode
+-- the number of the inode in a slot of a directory's tree; a directory that was born below a layer is in no tree of its
+-- own, and what is made in it has it for its parent
+abbrev pub number_beside : NodeRef → Birth → ℕ → ℕ
+number_beside directory Here slot = exchanged directory.filesystem.count slot
+number_beside directory (Below layer parent rank) slot = number_of directory
+
+-- an inode that is made in a directory, its parent by number
 abbrev pub node_in : Location → Node ℕ → Node ℕ
-node_in directory node = renamed_node (exchanged directory.node.filesystem.count)
+node_in directory node = renamed_node (number_beside directory.node directory.node.birth)
     (exchanged directory.node.filesystem.count) node
 
 -- to look

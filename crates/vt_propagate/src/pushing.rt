@@ -162,14 +162,7 @@ pub(crate) fn stands_at(mount: &Mount, place: Location) -> bool
     ensures { result ≡ stands_at_place nat_eq (location_of place) (mount_of mount.now) }
 {
     match mount.mount_point {
-        Some(point) => is_same(place, point),
+        Some(point) => place.is_same(point),
         None => false,
     }
-}
-
-// Whether two locations are the same.
-fn is_same(place: Location, other: Location) -> bool
-    ensures { result ≡ same_location nat_eq (location_of place) (location_of other) }
-{
-    place.mount == other.mount && place.node == other.node
 }

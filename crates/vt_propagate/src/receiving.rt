@@ -118,7 +118,7 @@ fn shows<R: Reach>(
     ensures { result ≡ R.under directories.now (filesystem_number root.filesystem) (number_of root)
         (number_of directory) }
 {
-    if root == known {
+    if root.is_same(known) {
         return shown;
     }
     directories.is_under(root, directory)

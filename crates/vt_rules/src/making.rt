@@ -17,7 +17,7 @@ use std::alloc::Global;
 use vt_cred::{Mode, Rights};
 use vt_location::Location;
 use vt_looks::{Asked, Look, Place};
-use vt_node::{Attr, Kind, LARGEST_FILE, Node};
+use vt_node::{Attr, Kind, LARGEST_FILE, Node, NodeId};
 use vt_permits::{Grant, MakeGrant, ToMake, WriteGrant};
 use vt_spec::errors::{Deny, Rule};
 use vt_tasks::Task;
@@ -123,7 +123,7 @@ pub fn empty_directory(alloc: Global, attr: Attr, parent: Location) -> Node
     ensures { node_in parent result
         ≡ record { attr = attr; content = new_directory (number_of parent.node) } }
 {
-    Node::new_directory(alloc, attr, parent.node.node())
+    Node::new_directory(alloc, attr, NodeId::new(parent.node.slot))
 }
 
 // The whole content of an object that exists may be written: E2, E6, E9, F1, F2, L1, C1, B1, B2.

@@ -13,9 +13,7 @@ ghost use Rattle.vt_tasks.specs.TaskValue.{task_of};
 ghost use Rattle.vt_rules.specs.Places.{IsPlaceOf};
 ghost use Rattle.vt_rules.specs.Tables.{kind_rules, layer_rules, remove_rules, right_rules, way_rules};
 
-use crate::rights::{
-    is_directory, is_kept, is_read_only, is_same_filesystem, may,
-};
+use crate::rights::{is_directory, is_kept, is_read_only, is_same_filesystem, may};
 use vt_cred::Rights;
 use vt_location::Location;
 use vt_looks::{Asked, Look, OldPlace, Place};

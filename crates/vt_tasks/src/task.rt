@@ -121,7 +121,7 @@ impl Task {
 fn pivoted(at: Location, root: &Mount, new: &Mount) -> Location
     ensures { location_of result ≡ pivoted_location nat_eq (mount_of root.now) (mount_of new.now) (location_of at) }
 {
-    if at == root.root_location() {
+    if at.is_same(root.root_location()) {
         new.root_location()
     } else {
         at

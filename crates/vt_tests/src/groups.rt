@@ -7,7 +7,7 @@ use std::process::Abort;
 use std::test::Fail;
 use vt_cred::MountFlags;
 use vt_group::{Groups, NewGroup};
-use vt_location::{FilesystemId, GroupId, Mount, MountId, NodeRef, Propagation};
+use vt_location::{Birth, FilesystemId, GroupId, Mount, MountId, NodeRef, Propagation};
 
 fn mount(count: u64) -> MountId {
     MountId::new(count)
@@ -128,6 +128,7 @@ fn typed(count: u64, propagation: Propagation) -> Mount {
         root: NodeRef {
             filesystem: FilesystemId::new(0),
             slot: 0,
+            birth: Birth::Here,
         },
         flags: MountFlags::plain(),
         propagation,

@@ -8,7 +8,7 @@ use Rattle.vt_fs.specs.FilesystemsValue.{FilesystemEntry, filesystem_seen, inode
 use Rattle.vt_group.specs.Grouping.{Has}
 use Rattle.vt_laws_rules.specs.Numbers.{KeepsTo}
 use Rattle.vt_laws_letting_go.specs.Counts.{mount_uses, mounts_showing, times}
-use Rattle.vt_location.specs.Numbers.{counted, is_inode_of}
+use Rattle.vt_location.specs.Numbers.{counted, is_own_number}
 use Rattle.vt_mount.specs.MountsValue.{MountEntry}
 use Rattle.vt_laws_runs.specs.Handed.{is_counted_before}
 use Rattle.vt_world.specs.WorldValue.{NamespaceEntry, WorldValue, world_of}
@@ -36,7 +36,7 @@ pub record CountsItsMounts (world : World ℕ) (entry : FilesystemEntry) : Type 
 
 -- the number of each inode is one that its filesystem gives to a slot
 abbrev pub HasOwnInodes : FilesystemEntry → Type 0
-HasOwnInodes entry = (number : ℕ) → is_inode_of entry.count number ≡ false → (inodes_seen entry).inode number ≡ None
+HasOwnInodes entry = (number : ℕ) → is_own_number entry.count number ≡ false → (inodes_seen entry).inode number ≡ None
 
 -- a namespace counts its tasks
 pub record CountsWhatIsInIt (world : World ℕ) (entry : NamespaceEntry) : Type 0 where

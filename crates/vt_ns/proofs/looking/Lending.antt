@@ -1,5 +1,5 @@
 -- What is lent for a location, and what the definitions see there.
-use Rattle.std.proofs.Common.{◌≡◌, ◌<◌, ℕ, Bool, true, false, cond, List, [], ◌∷◌, None, Some, map, not, option_map, refl, sym, ap, ◌∙◌, arith}
+use Rattle.std.proofs.Common.{◌≡◌, ◌<◌, ℕ, Bool, true, false, cond, List, [], ◌∷◌, None, Some, is_some, map, not, option_map, refl, sym, ap, ◌∙◌, arith}
 use Rattle.std.specs.Prelude.{Option}
 use Rattle.std.specs.Ordering.{eq_by_cmp}
 use Rattle.vt_spec.specs.Lists.{is_empty_list}
@@ -97,38 +97,50 @@ module _ (f : ℕ) where
       by (Symlink text) = refl
       by Whiteout = refl
 
-  module _ (slot : ℕ) (small : slot < 18446744073709551616) where
-    own_filesystem : filesystem_of (inode_number f slot) ≡ f
-    own_filesystem = omega (arith, small)
+  own_filesystem : (slot : ℕ) → slot < 18446744073709551616 → filesystem_of (inode_number f slot) ≡ f
+  own_filesystem slot small = omega (arith, small)
 
-    -- an inode in its slot is what is lent for what is seen of it
-    pub lends : (node seen : Option (Node ℕ)) → lent f node ≡ seen
-        → node ≡ lent (filesystem_of (inode_number f slot)) seen
-    lends node seen e =
-        sym (lent_back node) ∙ ap (lent f) e ∙ ap (λ own. lent own seen) (sym own_filesystem)
+  -- an inode in its slot is what is lent for what is seen of it
+  pub lends : (number slot : ℕ) (node seen : Option (Node ℕ)) → slot < 18446744073709551616
+      → (is_some seen ≡ true → number ≡ inode_number f slot) → lent f node ≡ seen
+      → node ≡ lent (filesystem_of number) seen
+  lends number slot node None small number_is e = sym (lent_back node) ∙ ap (lent f) e
+  lends number slot node (Some seen) small number_is e =
+      sym (lent_back node) ∙ ap (lent f) e
+      ∙ ap (λ own. lent own (Some seen)) (sym (ap filesystem_of (number_is refl) ∙ own_filesystem slot small))
 
-    module _ (object : Node ℕ) (seen : Option (Node ℕ))
-        (is_lent : lent (filesystem_of (inode_number f slot)) seen ≡ Some object) where
-      seen_is : lent f (Some object) ≡ seen
-      seen_is = ap (lent f) (sym is_lent ∙ ap (λ own. lent own seen) own_filesystem) ∙ lent_back seen
+  -- what is lent of something is lent by its filesystem
+  pub lent_here : (number slot : ℕ) (seen : Option (Node ℕ)) (object : Node ℕ) → slot < 18446744073709551616
+      → number ≡ inode_number f slot → lent (filesystem_of number) seen ≡ Some object → lent f seen ≡ Some object
+  lent_here number slot seen object small number_is is_lent =
+      ap (λ own. lent own seen) (sym (ap filesystem_of number_is ∙ own_filesystem slot small)) ∙ is_lent
 
-      -- the entry of a name
-      pub entry_shown : (name : List ℕ)
-          → option_map (exchanged f) (entry_named name (entries_of object.content))
-          ≡ entry_named name (entries_in seen)
-      entry_shown name =
-          sym (entry-renamed name object.content) ∙ ap (λ node. entry_named name (entries_in node)) seen_is
+  pub lent_there : (seen : Option (Node ℕ)) (object : Node ℕ) → lent f seen ≡ Some object → is_some seen ≡ true
+  lent_there None object e = absurd cc
+  lent_there (Some node) object e = refl
 
-      -- whether it has entries
-      pub nonempty_shown : not (is_empty_list (entries_of object.content)) ≡ not (is_empty_list (entries_in seen))
-      nonempty_shown =
-          ap not (sym (empty-renamed object.content) ∙ ap (λ node. is_empty_list (entries_in node)) seen_is)
+  module _ (object : Node ℕ) (seen : Option (Node ℕ)) (is_lent : lent f seen ≡ Some object) where
+    seen_is : lent f (Some object) ≡ seen
+    seen_is = ap (lent f) (sym is_lent) ∙ lent_back seen
 
-      -- the parent
-      pub parent_shown : parent_of slot object.content < 18446744073709551616
-          → inode_number f (parent_of slot object.content) ≡ parent_in (inode_number f slot) seen
-      parent_shown parent_small =
-          sym (exchanged_slot f (parent_of slot object.content) parent_small)
-          ∙ parent-renamed slot object.content
-          ∙ ap (λ own. parent_in own (lent f (Some object))) (exchanged_slot f slot small)
-          ∙ ap (parent_in (inode_number f slot)) seen_is
+    -- the entry of a name
+    pub entry_shown : (name : List ℕ)
+        → option_map (exchanged f) (entry_named name (entries_of object.content))
+        ≡ entry_named name (entries_in seen)
+    entry_shown name =
+        sym (entry-renamed name object.content) ∙ ap (λ node. entry_named name (entries_in node)) seen_is
+
+    -- whether it has entries
+    pub nonempty_shown : not (is_empty_list (entries_of object.content)) ≡ not (is_empty_list (entries_in seen))
+    nonempty_shown =
+        ap not (sym (empty-renamed object.content) ∙ ap (λ node. is_empty_list (entries_in node)) seen_is)
+
+    -- the parent
+    pub parent_shown : (slot : ℕ) → slot < 18446744073709551616
+        → parent_of slot object.content < 18446744073709551616
+        → inode_number f (parent_of slot object.content) ≡ parent_in (inode_number f slot) seen
+    parent_shown slot small parent_small =
+        sym (exchanged_slot f (parent_of slot object.content) parent_small)
+        ∙ parent-renamed slot object.content
+        ∙ ap (λ own. parent_in own (lent f (Some object))) (exchanged_slot f slot small)
+        ∙ ap (parent_in (inode_number f slot)) seen_is

@@ -17,12 +17,13 @@ use Rattle.vt_spec.specs.Machine.Walking.{is_lost}
 use Rattle.vt_spec.specs.Machine.Mounts.{child_at, no_mount, root_of, same_location, stands_on}
 use Rattle.vt_spec.specs.Machine.World.{Filesystem, filesystem_at, filesystem_numbered, is_overlay, is_removed_at, layers_of, mount_at, mount_numbered, node_at, open_layer}
 use Rattle.vt_location.specs.declared.locations.Location.{Location}
+use Rattle.vt_location.specs.declared.births.Birth.TheVariants.{Here}
 use Rattle.vt_location.specs.declared.locations.NodeRef.{NodeRef}
 use Rattle.vt_location.specs.declared.mounts.Mount.{Mount}
 use Rattle.vt_location.specs.Locations.{location_of, number_of}
 use Rattle.vt_location.specs.MountValue.{mount_of}
 use Rattle.vt_location.specs.Numbers.{counted}
-use Rattle.vt_location.proofs.NumberLemmas.{counted_test, nodes_test}
+use Rattle.vt_location.proofs.NumberLemmas.{counted_test}
 use Rattle.vt_looks.specs.declared.look.Ground.{Ground}
 use Rattle.vt_looks.specs.Looking.{IsGround, is_only_below}
 use Rattle.vt_fs.proofs.Entries.{or_first, or_second}
@@ -35,6 +36,7 @@ use Rattle.std.proofs.Math.Bool.{or-true}
 use Rattle.vt_detach.specs.Looking.{is_seen, looks_of_value}
 use Rattle.vt_world.specs.WorldValue.{WorldValue, world_of}
 use Rattle.vt_detach.proofs.FilesystemsFound.{found_plain}
+use Rattle.vt_detach.proofs.FilesSeen.{seen_here}
 use Rattle.vt_detach.proofs.LookLemmas.{any_point, missing_root, seen_filesystem, under_another, unseen_node, unseen_removed, unseen_root}
 
 -- the mount that is found, or what stands for one that is not there
@@ -61,6 +63,13 @@ module _ (kept value : WorldValue) (is : kept ≡ value) (held : IsHeld kept) (a
       ≡ node_at nat_eq (world_of v) (location_of at)) is
       (λ seen. ap (λ (filesystem : Filesystem ℕ). filesystem.files.tree.node (number_of at.node))
       (sym (seen_filesystem kept held at small seen)))
+
+  -- what is there was born here
+  pub born_at : is_some (node_at nat_eq (world_of value) (location_of at)) ≡ true → at.node.birth ≡ Here
+  born_at =
+      subst (λ (v : WorldValue). is_some (node_at nat_eq (world_of v) (location_of at)) ≡ true
+      → at.node.birth ≡ Here) is
+      (seen_here kept held at small)
 
   -- at one that is not seen the world has none
   pub no_node : is_seen value at ≡ false → node_at nat_eq (world_of value) (location_of at) ≡ None
@@ -104,16 +113,15 @@ module _ (kept value : WorldValue) (is : kept ≡ value) (held : IsHeld kept) (a
   -- none lies under one of another filesystem
   pub under_apart : (directory : NodeRef) → directory.slot < 18446744073709551616
       → (is_seen value at && nat_eq directory.filesystem.count at.node.filesystem.count) ≡ false
-      → (nat_eq at.node.filesystem.count directory.filesystem.count && nat_eq at.node.slot directory.slot)
+      → nat_eq (number_of at.node) (number_of directory)
       ≡ is_directory_under nat_eq (filesystem_at nat_eq (world_of value) (location_of at)).files (number_of at.node)
       (number_of directory)
   under_apart directory directory_small =
       subst (λ (v : WorldValue). (is_seen v at && nat_eq directory.filesystem.count at.node.filesystem.count) ≡ false
-      → (nat_eq at.node.filesystem.count directory.filesystem.count && nat_eq at.node.slot directory.slot)
+      → nat_eq (number_of at.node) (number_of directory)
       ≡ is_directory_under nat_eq (filesystem_at nat_eq (world_of v) (location_of at)).files (number_of at.node)
       (number_of directory)) is
-      (λ apart. sym (under_another kept held at small directory directory_small apart
-      ∙ nodes_test at.node directory small directory_small))
+      (λ apart. sym (under_another kept held at small directory directory_small apart))
 
   -- a mount that passes stands on an inode that is seen just where one does in the world
   pub points_seen : (test : meant.Mount ℕ → Bool) → is_seen value at ≡ true

@@ -5,9 +5,11 @@ use Rattle.vt_spec.specs.Machine.World.{Filesystem, filesystem_numbered}
 use Rattle.vt_fs.specs.FilesystemsValue.{files_at}
 use Rattle.vt_fs.proofs.Numbers.{found_by_number}
 use Rattle.vt_location.specs.declared.locations.NodeRef.{NodeRef}
-use Rattle.vt_location.specs.Locations.{number_of}
+use Rattle.vt_location.specs.Locations.{is_small_node, number_of}
+use Rattle.vt_location.specs.SameNodes.{same_birth}
 use Rattle.vt_location.specs.Numbers.{counted}
-use Rattle.vt_location.proofs.NumberLemmas.{counted_test, nodes_test}
+use Rattle.vt_location.proofs.NumberLemmas.{counted_test}
+use Rattle.vt_location.proofs.NodeLemmas.{nodes_test, small_parts}
 use Rattle.vt_world.specs.Held.{IsHeld}
 use Rattle.vt_world.specs.WorldValue.{WorldValue, world_of}
 use Rattle.vt_detach.proofs.FilesystemsFound.{in_no_other}
@@ -26,7 +28,7 @@ module _ (value : WorldValue) (top directory : NodeRef) where
       (found_by_number value.filesystems top.filesystem.count)
 
   -- what is in another filesystem does not
-  pub lies_apart : IsHeld value → top.slot < 18446744073709551616 → directory.slot < 18446744073709551616
+  pub lies_apart : IsHeld value → is_small_node top ≡ true → is_small_node directory ≡ true
       → nat_eq directory.filesystem.count top.filesystem.count ≡ false
       → lies_under value (counted top.filesystem.count) (number_of top) (number_of directory) ≡ false
   lies_apart held small directory_small other =
@@ -34,7 +36,7 @@ module _ (value : WorldValue) (top directory : NodeRef) where
       nowhere_under (filesystem_numbered nat_eq (world_of value) (counted top.filesystem.count)).files (number_of top)
       (number_of directory)
       (in_no_other value.filesystems held.own_inodes
-      (counted top.filesystem.count) directory.filesystem.count directory.slot directory_small
+      (counted top.filesystem.count) directory (small_parts directory directory_small).slot
       (counted_test top.filesystem.count directory.filesystem.count ∙ apart))
       ∙ nodes_test top directory small directory_small
-      ∙ ap (λ b. b && nat_eq top.slot directory.slot) apart
+      ∙ ap (λ b. b && (nat_eq top.slot directory.slot && same_birth top.birth directory.birth)) apart

@@ -36,7 +36,7 @@ use Rattle.vt_detach.proofs.DetachingBegins.{HasChildrenOf, detached_world}
 use Rattle.vt_detach.proofs.DetachingEnds.{taken_regroups}
 use Rattle.vt_detach.proofs.FileEvents.{IsSmall, permit_fits}
 use Rattle.vt_ns.proofs.world.FileRemoving.{removal_is_done}
-use Rattle.vt_detach.proofs.FilesSeen.{IsLocated, files_are_plain, inodes_named, located, located_filesystem}
+use Rattle.vt_detach.proofs.FilesSeen.{IsLocated, files_are_plain, nodes_named, located, located_filesystem}
 use Rattle.vt_detach.proofs.LazilyUnmounted.{trees_have_children, trees_numbers}
 use Rattle.vt_ns.proofs.world.MountsOn.{none_on, one_on, tops_on, trees_collected}
 use Rattle.vt_detach.proofs.Remaining.{remade}
@@ -129,8 +129,8 @@ module _ (value : WorldValue) (held : IsHeld value) (name : TaskName) (parent : 
       let reached : NamesWhatIsThere world permits.task (ToChange (location_of parent) change) =
       (names.0.reached, tt) in
       let named : permit_named (is_counted_before value.next) (ToChange (location_of parent) change) ≡ true =
-      (λ i. parent_seen.named i && (inodes_named value.next parent.node.filesystem.count parent.node.slot i
-      && inodes_named value.next directory.node.filesystem.count directory.node.slot i)) in
+      (λ i. parent_seen.named i && (nodes_named value.next parent.node i
+      && nodes_named value.next directory.node i)) in
       let is_named : permit_named (is_counted_before value.next) permit
       ≡ true = (λ i. parent_seen.named i && directory_seen.named i) in
       let on = one_on value held directory small_directory (λ none. some (ap (trees_numbers world) none)) in

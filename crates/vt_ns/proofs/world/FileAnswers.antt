@@ -9,7 +9,7 @@ use Rattle.vt_spec.specs.Machine.Permits.Permit.{ToChange}
 use Rattle.vt_spec.specs.Machine.World.{filesystem_at}
 use Rattle.vt_spec.specs.Inodes.{changed}
 use Rattle.vt_spec.specs.TreeInvariant.{entry_at}
-use Rattle.vt_fs.specs.FilesystemsValue.{ChangesInodes, Filesystems, inodes_seen}
+use Rattle.vt_fs.specs.FilesystemsValue.{ChangesInodes, Filesystems, files_at, inodes_seen}
 use Rattle.vt_location.specs.declared.locations.Location.{Location}
 use Rattle.vt_location.specs.declared.locations.NodeRef.{NodeRef}
 use Rattle.vt_location.specs.Locations.{location_of, number_of}
@@ -18,7 +18,7 @@ use Rattle.vt_world.specs.Held.{IsHeld}
 use Rattle.vt_world.specs.WorldValue.{WorldValue, world_of}
 use Rattle.vt_detach.proofs.ChangedFiles.{IsFilesEvent, with_filesystems}
 use Rattle.vt_detach.proofs.FileEvents.{IsSmall, change_at, change_is_done, change_sees}
-use Rattle.vt_detach.proofs.FilesSeen.{also_there, inodes_named, located_filesystem, tree_of_entry}
+use Rattle.vt_detach.proofs.FilesSeen.{IsLocated, also_there, kept_there, located_filesystem, nodes_named, tree_of_entry}
 use Rattle.vt_attach.proofs.AttachedWorlds.{inode_is_there}
 use Rattle.vt_spec.proofs.Options.{OnOk_then}
 
@@ -51,7 +51,7 @@ module _ (value : WorldValue) (held : IsHeld value) (name : TaskName) (file : Lo
       (with_filesystems value filesystems)
   write_is_done filesystems changes =
       change_is_done value held name file small (SetBytes (number_of file.node) bytes) permits filesystems
-      (inodes_named value.next file.node.filesystem.count file.node.slot) tt (λ number other. tt) changes
+      (nodes_named value.next file.node) tt (λ number other. tt) changes
 
 -- link(2)
 module _ (value : WorldValue) (held : IsHeld value) (name : TaskName) (directory : Location) (entry : List ℕ)
@@ -63,6 +63,13 @@ module _ (value : WorldValue) (held : IsHeld value) (name : TaskName) (directory
       (number_of object)) ≡ true
   linked_there = (change_sees value held name directory small
       (AddName (number_of directory.node) entry (number_of object)) permits).1.is_there
+
+  pub linked_is_kept : is_some ((files_at value.filesystems directory.node.filesystem.count).tree.node
+      (number_of object)) ≡ true
+  linked_is_kept =
+      kept_there value directory
+      (change_at value held name directory small (AddName (number_of directory.node) entry (number_of object)) permits)
+      (number_of object) linked_there
 
   -- a link stays in one filesystem
   pub linked_in : object.filesystem ≡ directory.node.filesystem
@@ -89,8 +96,8 @@ module _ (value : WorldValue) (held : IsHeld value) (name : TaskName) (directory
       (OnOk_then result
       (change_is_done value held name directory small
       (AddName (number_of directory.node) entry (number_of object)) permits filesystems
-      (λ i. inodes_named value.next directory.node.filesystem.count directory.node.slot i
-      && inodes_named value.next object.filesystem.count object.slot i)
+      (λ i. nodes_named value.next directory.node i
+      && nodes_named value.next object i)
       (inode_is_there ((inodes_seen seen.entry).inode (number_of object))
       (ap (λ filesystem. is_some (filesystem.files.tree.node (number_of object)))
       (sym (located_filesystem value directory seen)) ∙ linked_there))
@@ -103,20 +110,29 @@ module _ (value : WorldValue) (held : IsHeld value) (name : TaskName) (directory
     (small : IsSmall directory) (small_object : object.slot < 18446744073709551616)
     (permits : Permits value name (ToChange (location_of directory)
     (Remove (number_of directory.node) entry (number_of object)))) where
-  -- the object of a removed name is in the filesystem of its directory
-  pub unlinked_in : object.filesystem ≡ directory.node.filesystem
-  unlinked_in =
-      let seen = change_at value held name directory small
-      (Remove (number_of directory.node) entry (number_of object)) permits in
+  seen : IsLocated value directory
+  seen = change_at value held name directory small
+      (Remove (number_of directory.node) entry (number_of object)) permits
+
+  unlinked_there : is_some ((filesystem_at nat_eq (world_of value) (location_of directory)).files.tree.node
+      (number_of object)) ≡ true
+  unlinked_there =
       let sees = change_sees value held name directory small
       (Remove (number_of directory.node) entry (number_of object)) permits in
-      also_there value held directory seen object small_object
-      (ap (λ filesystem. is_some (filesystem.files.tree.node (number_of object)))
+      ap (λ filesystem. is_some (filesystem.files.tree.node (number_of object)))
       (located_filesystem value directory seen)
       ∙ (tree_of_entry value held seen.entry seen.among).alive (number_of directory.node) entry (number_of object)
       (ap (λ filesystem. entry_at filesystem.files.tree (number_of directory.node) entry)
       (sym (located_filesystem value directory seen))
-      ∙ sees.1.named))
+      ∙ sees.1.named)
+
+  pub unlinked_is_kept : is_some ((files_at value.filesystems directory.node.filesystem.count).tree.node
+      (number_of object)) ≡ true
+  unlinked_is_kept = kept_there value directory seen (number_of object) unlinked_there
+
+  -- the object of a removed name is in the filesystem of its directory
+  pub unlinked_in : object.filesystem ≡ directory.node.filesystem
+  unlinked_in = also_there value held directory seen object small_object unlinked_there
 
   -- a name is removed
   pub unlink_is_done : (filesystems : Filesystems)
@@ -129,6 +145,6 @@ module _ (value : WorldValue) (held : IsHeld value) (name : TaskName) (directory
   unlink_is_done filesystems changes =
       change_is_done value held name directory small
       (Remove (number_of directory.node) entry (number_of object)) permits filesystems
-      (λ i. inodes_named value.next directory.node.filesystem.count directory.node.slot i
-      && inodes_named value.next object.filesystem.count object.slot i)
+      (λ i. nodes_named value.next directory.node i
+      && nodes_named value.next object i)
       tt (λ number other. tt) changes

@@ -16,11 +16,15 @@ use Rattle.vt_spec.specs.Tree.{Content, Entries, Node, kind_of}
 use Rattle.vt_spec.specs.Tree.Content.{Directory, Regular, Symlink, Whiteout}
 use Rattle.vt_fs.specs.FilesystemsValue.{ChangesInodes, Filesystems, entry_at, inodes_at, inodes_seen, next_seen, node_seen}
 use Rattle.vt_laws_rules.specs.Numbers.{content_named}
+use Rattle.vt_location.specs.declared.births.Birth.TheVariants.{Here}
 use Rattle.vt_location.specs.declared.locations.Location.{Location}
 use Rattle.vt_location.specs.declared.locations.NodeRef.{NodeRef}
 use Rattle.vt_location.specs.Locations.{location_of, number_of}
-use Rattle.vt_location.specs.Numbers.{counted, exchanged, inode_number, is_inode_of}
-use Rattle.vt_location.proofs.NumberLemmas.{exchanged_same, exchanged_slot, is_inode}
+use Rattle.vt_location.specs.Numbers.{counted, exchanged, inode_number, is_own_number}
+use Rattle.vt_location.proofs.NumberLemmas.{exchanged_same, exchanged_slot}
+use Rattle.vt_location.proofs.NodeLemmas.{here_number}
+use Rattle.vt_permits.specs.GrantValue.{node_in, number_beside}
+use Rattle.vt_spec.specs.Machine.Renaming.{renamed_node}
 use Rattle.vt_laws_permits.specs.Sees.{MayBeMade}
 use Rattle.vt_laws_permits.proofs.sees.SeesFit.{given_changes_fit}
 use Rattle.vt_laws_permits.proofs.sees.SeesTasks.{given_permits_are_seen_to}
@@ -30,7 +34,13 @@ use Rattle.vt_world.specs.Held.{IsHeld}
 use Rattle.vt_world.specs.WorldValue.{WorldValue, world_of}
 use Rattle.vt_detach.proofs.ChangedFiles.{IsFilesEvent, files_are_changed, with_filesystems}
 use Rattle.vt_detach.proofs.FileEvents.{IsSmall, permit_fits}
-use Rattle.vt_detach.proofs.FilesSeen.{IsLocated, files_are_plain, inodes_named, located, located_filesystem, located_inodes}
+use Rattle.vt_detach.proofs.FilesSeen.{IsLocated, files_are_plain, nodes_named, located, located_filesystem, located_inodes}
+
+-- what is made in a directory of a tree has its slots
+pub made_in_tree : (directory : Location) → directory.node.birth ≡ Here → (node : Node ℕ)
+    → node_in directory node ≡ node_seen directory.node.filesystem.count node
+made_in_tree directory here node =
+    λ i. renamed_node (number_beside directory.node (here i)) (exchanged directory.node.filesystem.count) node
 
 -- a new node, in the slots of its filesystem
 pub new_in_slot : (count slot : ℕ) → slot < 18446744073709551616 → (node : Node ℕ)
@@ -73,8 +83,17 @@ new_is_named named directory node there new =
 module _ (value : WorldValue) (held : IsHeld value) (name : TaskName) (directory : Location) (entry : List ℕ)
     (node : Node ℕ)
     (small : IsSmall directory)
-    (permits : Permits value name (ToMake (location_of directory) entry
-    (node_seen directory.node.filesystem.count node))) where
+    (asked : Permits value name (ToMake (location_of directory) entry (node_in directory node))) where
+  here : directory.node.birth ≡ Here
+  here =
+      let fits = permit_fits value held name (ToMake (location_of directory) entry (node_in directory node)) asked in
+      (located value held directory small fits.names.reached.there).born_here
+
+  permits : Permits value name (ToMake (location_of directory) entry
+      (node_seen directory.node.filesystem.count node))
+  permits = subst (λ n. Permits value name (ToMake (location_of directory) entry n))
+      (made_in_tree directory here node) asked
+
   abbrev permit : Permit ℕ
   permit = ToMake (location_of directory) entry (node_seen directory.node.filesystem.count node)
 
@@ -89,7 +108,10 @@ module _ (value : WorldValue) (held : IsHeld value) (name : TaskName) (directory
 
   -- it is new in its directory
   pub new_in_directory : IsNewIn directory.node.slot node
-  new_in_directory = new_in_slot directory.node.filesystem.count directory.node.slot small node sees.fits
+  new_in_directory =
+      new_in_slot directory.node.filesystem.count directory.node.slot small node
+      (subst (λ number. IsNewIn number (node_seen directory.node.filesystem.count node))
+      (here_number directory.node here) sees.fits)
 
   abbrev change : ℕ → Change ℕ
   change number = Make (number_of directory.node) entry number (node_seen directory.node.filesystem.count node)
@@ -110,25 +132,29 @@ module _ (value : WorldValue) (held : IsHeld value) (name : TaskName) (directory
       (located_inodes value directory directory_seen)
 
   -- an inode is made under its name
-  pub make_is_done : (filesystems : Filesystems) (made : NodeRef) → made.slot < 18446744073709551616
+  pub make_is_done : (filesystems : Filesystems) (made : NodeRef)
+      → is_own_number made.filesystem.count (number_of made) ≡ true
       → made.filesystem ≡ directory.node.filesystem
       → number_of made ≡ next_seen (entry_at value.filesystems directory.node.filesystem.count)
       → ChangesInodes directory.node.filesystem.count
       (λ inodes. changed nat_eq inodes (change (number_of made))) value.filesystems filesystems
-      → IsFilesEvent value name permit (with_filesystems value filesystems)
-  make_is_done filesystems made small_made inside number changes =
-      files_are_changed value name permit (location_of directory) (change (number_of made)) filesystems held permits
+      → IsFilesEvent value name (ToMake (location_of directory) entry (node_in directory node))
+      (with_filesystems value filesystems)
+  make_is_done filesystems made own_made inside number changes =
+      subst (λ n. IsFilesEvent value name (ToMake (location_of directory) entry n)
+      (with_filesystems value filesystems)) (sym (made_in_tree directory here node))
+      (files_are_changed value name permit (location_of directory) (change (number_of made)) filesystems held permits
       (record {
         named = λ i. directory_seen.named i
             && new_is_named (is_counted_before value.next) (number_of directory.node)
             (node_seen directory.node.filesystem.count node)
-            (inodes_named value.next directory.node.filesystem.count directory.node.slot) sees.fits i;
+            (nodes_named value.next directory.node) sees.fits i;
         rest = odds (supply_of value permit);
         applied =
             ap (λ n. with_change nat_eq (odds (supply_of value permit)) (world_of value) (location_of directory)
             (change n)) next_is;
         named_supply = λ k. number_of made;
-        are_named = λ k. inodes_named value.next made.filesystem.count made.slot;
+        are_named = λ k. nodes_named value.next made;
         named_rest = λ k. number_of made;
         applied_named = refl;
       })
@@ -145,11 +171,11 @@ module _ (value : WorldValue) (held : IsHeld value) (name : TaskName) (directory
             (λ inodes. changed nat_eq inodes (change (number_of made))) value.filesystems filesystems)
             (sym directory_seen.count_is) changes;
         own = λ n other same.
-            true≢false (sym (ap (λ count. is_inode_of count (number_of made))
+            true≢false (sym (ap (λ count. is_own_number count (number_of made))
             (directory_seen.count_is ∙ ap (λ filesystem. filesystem.count) (sym inside))
-            ∙ is_inode made.filesystem.count made.slot small_made)
-            ∙ ap (is_inode_of directory_seen.entry.count) (sym same) ∙ other);
-      })
+            ∙ own_made)
+            ∙ ap (is_own_number directory_seen.entry.count) (sym same) ∙ other);
+      }))
     where
       quarter : (count : ℕ) → counted count / 4 ≡ count
       quarter count = omega arith

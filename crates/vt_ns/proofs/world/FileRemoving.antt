@@ -11,7 +11,7 @@ use Rattle.vt_spec.specs.Machine.Permits.Permit.{ToRemoveDirectory}
 use Rattle.vt_spec.specs.Fits.{Fits}
 use Rattle.vt_spec.specs.Inodes.{Inodes, changed, tree_of}
 use Rattle.vt_spec.specs.TreeInvariant.{entry_at}
-use Rattle.vt_fs.specs.FilesystemsValue.{ChangesInodes, Filesystems, inodes_at, inodes_seen}
+use Rattle.vt_fs.specs.FilesystemsValue.{ChangesInodes, Filesystems, files_at, inodes_at, inodes_seen}
 use Rattle.vt_group.proofs.Together.{regrouped_living}
 use Rattle.vt_laws_letting_go.proofs.ends.NamespacesEnd.{nothing_taken}
 use Rattle.vt_location.specs.declared.locations.Location.{Location}
@@ -24,7 +24,7 @@ use Rattle.vt_world.specs.Held.{IsHeld}
 use Rattle.vt_world.specs.WorldValue.{WorldValue, world_of}
 use Rattle.vt_detach.proofs.ChangedFiles.{IsFilesEvent, files_are_changed, with_filesystems}
 use Rattle.vt_detach.proofs.FileEvents.{IsSmall, permit_fits}
-use Rattle.vt_detach.proofs.FilesSeen.{IsLocated, also_there, files_are_plain, located, located_filesystem, located_inodes, tree_of_entry}
+use Rattle.vt_detach.proofs.FilesSeen.{IsLocated, also_there, files_are_plain, kept_there, located, located_filesystem, located_inodes, tree_of_entry}
 
 -- Where no mount stands nothing is detached
 
@@ -60,17 +60,24 @@ module _ (value : WorldValue) (held : IsHeld value) (name : TaskName) (parent : 
   abbrev change : Change ℕ
   change = Remove (number_of parent.node) entry (number_of directory.node)
 
-  -- a directory is in the filesystem of its parent
-  pub removed_in : directory.node.filesystem ≡ parent.node.filesystem
-  removed_in =
-      also_there value held parent parent_seen directory.node small_directory
-      (ap (λ filesystem. is_some (filesystem.files.tree.node (number_of directory.node)))
+  removed_there : is_some ((filesystem_at nat_eq (world_of value) (location_of parent)).files.tree.node
+      (number_of directory.node)) ≡ true
+  removed_there =
+      ap (λ filesystem. is_some (filesystem.files.tree.node (number_of directory.node)))
       (located_filesystem value parent parent_seen)
       ∙ (tree_of_entry value held parent_seen.entry parent_seen.among).alive (number_of parent.node) entry
       (number_of directory.node)
       (ap (λ filesystem. entry_at filesystem.files.tree (number_of parent.node) entry)
       (sym (located_filesystem value parent parent_seen))
-      ∙ sees.1.named))
+      ∙ sees.1.named)
+
+  pub removed_is_kept : is_some ((files_at value.filesystems parent.node.filesystem.count).tree.node
+      (number_of directory.node)) ≡ true
+  removed_is_kept = kept_there value parent parent_seen (number_of directory.node) removed_there
+
+  -- a directory is in the filesystem of its parent
+  pub removed_in : directory.node.filesystem ≡ parent.node.filesystem
+  removed_in = also_there value held parent parent_seen directory.node small_directory removed_there
 
   -- the change can be made to the inodes that are kept
   change_fits : (inodes : Inodes ℕ) → inodes ≡ inodes_seen parent_seen.entry → Fits inodes change

@@ -11,11 +11,11 @@ use Rattle.vt_spec.specs.Machine.Filesystems.{with_change}
 use Rattle.vt_spec.specs.Machine.Mounts as meant
 use Rattle.vt_spec.specs.Machine.Permits.{Permit}
 use Rattle.vt_spec.specs.Machine.Permits.Permit.{ToRename}
-use Rattle.vt_spec.specs.Machine.World.{filesystem_numbered, mount_at, mount_numbered}
+use Rattle.vt_spec.specs.Machine.World.{filesystem_at, filesystem_numbered, mount_at, mount_numbered}
 use Rattle.vt_spec.specs.Machine.Invariants.{is_located_well, is_there}
 use Rattle.vt_spec.specs.Fits.{Fits}
 use Rattle.vt_spec.specs.Inodes.{Inodes, changed, tree_of}
-use Rattle.vt_fs.specs.FilesystemsValue.{ChangesInodes, Filesystems, inodes_at, inodes_seen}
+use Rattle.vt_fs.specs.FilesystemsValue.{ChangesInodes, Filesystems, files_at, inodes_at, inodes_seen}
 use Rattle.vt_laws_rules.specs.Numbers.{location_named, none_or}
 use Rattle.vt_location.specs.declared.locations.Location.{Location}
 use Rattle.vt_location.specs.Locations.{location_of, number_of}
@@ -32,7 +32,7 @@ use Rattle.vt_detach.proofs.ChangedFiles.{IsFilesEvent, files_are_changed, with_
 use Rattle.vt_detach.proofs.FileEvents.{IsSmall, permit_fits}
 use Rattle.vt_ns.proofs.world.FileRemoving.{nothing_detached}
 use Rattle.vt_detach.proofs.Places.{located_is_named}
-use Rattle.vt_detach.proofs.FilesSeen.{IsLocated, also_there, files_are_plain, located, located_filesystem, located_inodes}
+use Rattle.vt_detach.proofs.FilesSeen.{IsLocated, also_there, files_are_plain, kept_there, located, located_filesystem, located_inodes}
 
 module _ (value : WorldValue) (held : IsHeld value) (name : TaskName) (from : Location) (old : List ℕ) (to : Location)
     (new : List ℕ)
@@ -68,17 +68,27 @@ module _ (value : WorldValue) (held : IsHeld value) (name : TaskName) (from : Lo
       (files_are_plain value.filesystems) permits.given
 
   -- an inode that is seen through the same mount is in the same filesystem
-  same_filesystem : (at : Location) → IsSmall at → (location_of at).mount ≡ (location_of from).mount
+  same_there : (at : Location) → (location_of at).mount ≡ (location_of from).mount
       → is_located_well nat_eq (world_of value) (location_of at) ≡ true
-      → at.node.filesystem ≡ from.node.filesystem
-  same_filesystem at small_at same well =
-      also_there value held from from_seen at.node small_at
-      (ap (λ mount. is_some ((filesystem_numbered nat_eq (world_of value)
+      → is_some ((filesystem_at nat_eq (world_of value) (location_of from)).files.tree.node (number_of at.node)) ≡ true
+  same_there at same well =
+      ap (λ mount. is_some ((filesystem_numbered nat_eq (world_of value)
       (mount_numbered nat_eq (world_of value) mount).filesystem).files.tree.node (number_of at.node)))
       (sym same) ∙ (and_parts (is_among nat_eq (location_of at).mount
       (map (λ mount. mount.number) (world_of value).mounts))
       (is_there nat_eq (world_of value) (mount_at nat_eq (world_of value) (location_of at)).filesystem
-      (location_of at).node) well).1)
+      (location_of at).node) well).1
+
+  same_filesystem : (at : Location) → IsSmall at → (location_of at).mount ≡ (location_of from).mount
+      → is_located_well nat_eq (world_of value) (location_of at) ≡ true
+      → at.node.filesystem ≡ from.node.filesystem
+  same_filesystem at small_at same well =
+      also_there value held from from_seen at.node small_at (same_there at same well)
+
+  pub renamed_is_kept : is_some ((files_at value.filesystems from.node.filesystem.count).tree.node
+      (number_of object.node)) ≡ true
+  renamed_is_kept =
+      kept_there value from from_seen (number_of object.node) (same_there object sees.object_mount names.2.there)
 
   -- both directories are in one filesystem
   pub renamed_to : to.node.filesystem ≡ from.node.filesystem

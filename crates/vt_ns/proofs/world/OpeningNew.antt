@@ -28,11 +28,13 @@ use Rattle.vt_fs.specs.FilesystemsValue.{ChangesInodes, Filesystems, entry_at, e
 use Rattle.vt_laws_letting_go.proofs.Lists.{Among, among-append_right, among-flat_map, among-map}
 use Rattle.vt_laws_letting_go.specs.Mounting.{inode_at}
 use Rattle.vt_spec.proofs.Lists.{among_from_list_all}
+use Rattle.vt_location.specs.declared.births.Birth.TheVariants.{Here}
 use Rattle.vt_location.specs.declared.locations.Location.{Location}
 use Rattle.vt_location.specs.declared.locations.NodeRef.{NodeRef}
 use Rattle.vt_location.specs.Locations.{location_of, number_of}
-use Rattle.vt_location.specs.Numbers.{counted, is_inode_of}
-use Rattle.vt_location.proofs.NumberLemmas.{is_inode}
+use Rattle.vt_location.specs.Numbers.{counted, is_own_number}
+use Rattle.vt_location.proofs.NodeLemmas.{here_number}
+use Rattle.vt_permits.specs.GrantValue.{node_in}
 use Rattle.vt_mount.specs.MountsValue.{MountEntry}
 use Rattle.vt_laws_permits.specs.Named.{permit_named}
 use Rattle.vt_laws_permits.specs.Sees.{HasRoom, MayBeMade}
@@ -63,9 +65,9 @@ use Rattle.vt_detach.proofs.Grouped.{left_has}
 use Rattle.vt_group.specs.Grouping.{Has}
 use Rattle.vt_detach.proofs.ChangedFiles.{ChangesFiles, change_is_held, change_is_swept, inodes_after, is_change, partner, with_filesystems}
 use Rattle.vt_detach.proofs.FileEvents.{IsSmall, permit_fits}
-use Rattle.vt_ns.proofs.world.FileMaking.{new_in_slot, new_is_named}
+use Rattle.vt_ns.proofs.world.FileMaking.{made_in_tree, new_in_slot, new_is_named}
 use Rattle.vt_ns.proofs.world.FilesOpened.{inserted_goes, opened_moves, opened_stays, opened_tasks}
-use Rattle.vt_detach.proofs.FilesSeen.{IsLocated, files_are_plain, inodes_named, located, located_filesystem, located_inodes, one_entry}
+use Rattle.vt_detach.proofs.FilesSeen.{IsLocated, files_are_plain, nodes_named, located, located_filesystem, located_inodes, one_entry}
 use Rattle.vt_detach.proofs.Finishing.{swept_held}
 use Rattle.vt_detach.proofs.LocationsSeen.{seen_where_located}
 use Rattle.vt_detach.proofs.Closing.{used_by}
@@ -86,8 +88,18 @@ used_when_made inodes directory name number node =
 module _ (value : WorldValue) (held : IsHeld value) (name : TaskName) (directory : Location) (entry : List ℕ)
     (node : Node ℕ)
     (access : spoken.Access) (small : IsSmall directory)
-    (permits : Permits value name (ToOpenNew (location_of directory) entry
-    (node_seen directory.node.filesystem.count node) access)) where
+    (asked : Permits value name (ToOpenNew (location_of directory) entry (node_in directory node) access)) where
+  here : directory.node.birth ≡ Here
+  here =
+      let fits = permit_fits value held name
+      (ToOpenNew (location_of directory) entry (node_in directory node) access) asked in
+      (located value held directory small fits.names.0.reached.there).born_here
+
+  permits : Permits value name (ToOpenNew (location_of directory) entry
+      (node_seen directory.node.filesystem.count node) access)
+  permits = subst (λ n. Permits value name (ToOpenNew (location_of directory) entry n access))
+      (made_in_tree directory here node) asked
+
   abbrev count : ℕ
   count = directory.node.filesystem.count
 
@@ -118,7 +130,9 @@ module _ (value : WorldValue) (held : IsHeld value) (name : TaskName) (directory
 
   -- the new file is new in its directory
   pub new_in_directory : IsNewIn directory.node.slot node
-  new_in_directory = new_in_slot count directory.node.slot small node sees.0.fits
+  new_in_directory =
+      new_in_slot count directory.node.slot small node
+      (subst (λ number. IsNewIn number (node_seen count node)) (here_number directory.node here) sees.0.fits)
 
   -- the task may open another file
   pub may_open_one : MayOpenMore (called name value.tasks)
@@ -163,7 +177,7 @@ module _ (value : WorldValue) (held : IsHeld value) (name : TaskName) (directory
   named =
       λ i. directory_seen.named i
       && new_is_named (is_counted_before value.next) (number_of directory.node) (node_seen count node)
-      (inodes_named value.next count directory.node.slot) sees.0.fits i
+      (nodes_named value.next directory.node) sees.0.fits i
 
   under_way : IsWorldButForUse (apply nat_eq handed (world_of value) permits.task permit).world
   under_way =
@@ -175,6 +189,7 @@ module _ (value : WorldValue) (held : IsHeld value) (name : TaskName) (directory
 
   -- the file is made
   module _ (made_in : Filesystems) (made : NodeRef) (small_made : made.slot < 18446744073709551616)
+      (own_made : is_own_number made.filesystem.count (number_of made) ≡ true)
       (inside : made.filesystem ≡ directory.node.filesystem)
       (number : number_of made ≡ next_seen (entry_at value.filesystems count))
       (changes : ChangesInodes count
@@ -206,10 +221,10 @@ module _ (value : WorldValue) (held : IsHeld value) (name : TaskName) (directory
           changed nat_eq inodes (change (number_of made))) value.filesystems made_in)
           (sym directory_seen.count_is) changes;
       own = λ n other same.
-          true≢false (sym (ap (λ k. is_inode_of k (number_of made))
+          true≢false (sym (ap (λ k. is_own_number k (number_of made))
           (directory_seen.count_is ∙ ap (λ filesystem. filesystem.count) (sym inside))
-          ∙ is_inode made.filesystem.count made.slot small_made)
-          ∙ ap (is_inode_of directory_seen.entry.count) (sym same) ∙ other);
+          ∙ own_made)
+          ∙ ap (is_own_number directory_seen.entry.count) (sym same) ∙ other);
     }
 
     -- the world once it is made, whatever numbers are left over
@@ -280,7 +295,7 @@ module _ (value : WorldValue) (held : IsHeld value) (name : TaskName) (directory
         change_is_held value held (location_of directory) (change (number_of made)) made_in is_made mid_is_world
         (same_keeps_to_numbers_too (is_counted_before value.next) (λ k. number_of made)
         (world_of value) permits.task making (world_of mid)
-        permits.given.called held.given (λ k. inodes_named value.next made.filesystem.count made.slot) named
+        permits.given.called held.given (λ k. nodes_named value.next made) named
         (change_is_swept value held (location_of directory) (change (number_of made)) made_in is_made
         (λ k. number_of made))
         (files_are_plain made_in))
@@ -425,7 +440,7 @@ module _ (value : WorldValue) (held : IsHeld value) (name : TaskName) (directory
             (opened_tasks mid mid_held name permits.task permits.called descriptor file_located))
             (same_keeps_to_numbers_too (is_counted_before value.next) (λ k. number_of made)
             (world_of value) permits.task permit (world_of new)
-            permits.given.called held.given (λ k. inodes_named value.next made.filesystem.count made.slot) named
+            permits.given.called held.given (λ k. nodes_named value.next made) named
             (settled_same (λ k. number_of made)) (files_are_plain filesystems));
         becomes = becomes_so value name permit new permits.task permits.called
             (subst (λ world. SameWorlds (settled nat_eq world) (world_of new)) (sym opened_applied)
@@ -435,8 +450,11 @@ module _ (value : WorldValue) (held : IsHeld value) (name : TaskName) (directory
       -- with the tasks as code opens the file
       pub new_opens : (opened : Tasks)
           → opened ≡ changed_called name (λ task. with_descriptor task (location_of file) access) value.tasks
-          → IsDone value name permit (remade mid mounts filesystems opened)
+          → IsDone value name (ToOpenNew (location_of directory) entry (node_in directory node) access)
+          (remade mid mounts filesystems opened)
       new_opens opened is =
-          subst (λ all. IsDone value name permit (remade mid mounts filesystems all))
+          subst (λ n. IsDone value name (ToOpenNew (location_of directory) entry n access)
+          (remade mid mounts filesystems opened)) (sym (made_in_tree directory here node))
+          (subst (λ all. IsDone value name permit (remade mid mounts filesystems all))
           (sym (is ∙ ap (changed_by (λ task.
-          with_descriptor task (location_of file) access) value.tasks) permits.called)) new_is_opened
+          with_descriptor task (location_of file) access) value.tasks) permits.called)) new_is_opened)

@@ -40,7 +40,7 @@ use Rattle.vt_detach.proofs.DetachingBegins.{HasChildrenOf, detached_world}
 use Rattle.vt_detach.proofs.DetachingEnds.{taken_regroups}
 use Rattle.vt_detach.proofs.FileEvents.{IsSmall}
 use Rattle.vt_ns.proofs.world.FileRenaming as Renaming
-use Rattle.vt_detach.proofs.FilesSeen.{inodes_named}
+use Rattle.vt_detach.proofs.FilesSeen.{nodes_named}
 use Rattle.vt_detach.proofs.LazilyUnmounted.{trees_have_children, trees_numbers}
 use Rattle.vt_ns.proofs.world.MountsOn.{none_on, one_on, tops_on, trees_collected}
 use Rattle.vt_detach.proofs.Moving.{map_itself}
@@ -186,9 +186,9 @@ module _ (value : WorldValue) (held : IsHeld value) (name : TaskName) (from : Lo
       } in
       let reached : NamesWhatIsThere world permits.task (ToChange (location_of from) change) = (names.0.reached, tt) in
       let named : permit_named (is_counted_before value.next) (ToChange (location_of from) change) ≡ true =
-      (λ i. seen.named i && (inodes_named value.next from.node.filesystem.count from.node.slot i
-      && inodes_named value.next to.node.filesystem.count to.node.slot i
-      && inodes_named value.next object.node.filesystem.count object.node.slot i)) in
+      (λ i. seen.named i && (nodes_named value.next from.node i
+      && nodes_named value.next to.node i
+      && nodes_named value.next object.node i)) in
       let is_named = Renaming.is_named value held name from old to new object replaced small small_to small_object permits in
       let on = some_on replaced refl small_replaced some in
       changed_then_detached value held

@@ -12,7 +12,8 @@ use Rattle.vt_spec.specs.Machine.World.{Namespace, mount_at}
 use Rattle.vt_spec.specs.Inodes.{node_in}
 use Rattle.vt_fs.specs.FilesystemsValue.{FilesystemEntry, Filesystems, entry_at, entry_of, filesystems_seen, inodes_at, inodes_seen, next_seen, no_entry, numbers_seen}
 use Rattle.vt_laws_letting_go.proofs.Lists.{Among, among_from_all}
-use Rattle.vt_location.specs.Numbers.{counted, inode_number, is_inode_of}
+use Rattle.vt_location.proofs.NumberLemmas.{own_inode}
+use Rattle.vt_location.specs.Numbers.{counted, inode_number, is_own_number}
 use Rattle.vt_mount.specs.MountsValue.{MountEntry, mounts_in}
 use Rattle.vt_mount.specs.Sources.{has_counted_source}
 use Rattle.vt_laws_permits.specs.InUse.{is_in_use}
@@ -84,10 +85,11 @@ module _ (count slot : ℕ) (small : slot < 18446744073709551616) where
     in_no_entry : (entry : FilesystemEntry) → Among entry value.filesystems → (inodes_seen entry).inode number ≡ None
     in_no_entry entry m = by (nat_eq entry.count count) refl
       where
-        other : (own : Bool) → is_inode_of entry.count number ≡ own → nat_eq entry.count count ≡ false
+        other : (own : Bool) → is_own_number entry.count number ≡ own → nat_eq entry.count count ≡ false
             → (inodes_seen entry).inode number ≡ None
         other true e apart =
-            absurd (true≢false (sym (eq-eqb entry.count count (inode_of_one entry.count count slot small e)) ∙ apart))
+            absurd (true≢false (sym (eq-eqb entry.count count (inode_of_one entry.count count slot small (own_inode entry.count number e)))
+            ∙ apart))
         other false e apart = among_from_all HasOwnInodes value.filesystems whole.own_inodes entry m number e
 
         by : (same : Bool) → nat_eq entry.count count ≡ same → (inodes_seen entry).inode number ≡ None
@@ -95,7 +97,7 @@ module _ (count slot : ℕ) (small : slot < 18446744073709551616) where
             missing entry
             (ap (entry_of value.filesystems) (sym (eqb-true entry.count count e))
             ∙ one_entry value.filesystems whole.in_world.files.one_filesystem entry m)
-        by false e = other (is_inode_of entry.count number) refl e
+        by false e = other (is_own_number entry.count number) refl e
 
     -- a number that is not counted yet is not in use
     pub is_unused : is_in_use (world_of value) number ≡ false

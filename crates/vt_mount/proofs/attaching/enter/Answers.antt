@@ -4,7 +4,7 @@ use Rattle.vt_location.specs.MountValue.{mount_of}
 use Rattle.vt_location.specs.declared.mounts.Mount.{Mount}
 use Rattle.vt_location.specs.declared.numbers.MountId.{MountId}
 use Rattle.vt_mount.specs.Indexed.{IsIndexed, numbers_where}
-use Rattle.vt_mount.specs.Indexes.{has_slot, is_at, is_in, is_on, is_over, put_in_place, pushed}
+use Rattle.vt_mount.specs.Indexes.{has_small_point, is_at, is_in, is_on, is_over, put_in_place, pushed}
 use Rattle.vt_mount.specs.Rising.{comes_last, same_id}
 use Rattle.vt_mount.specs.MountsValue.{entries_of, in_order}
 use Rattle.vt_mount.proofs.EntryLemmas.{above-entries, kept-last}
@@ -40,7 +40,7 @@ returns-clause-indexed c =
     subst (IsIndexed c.enter.new.self)
     (sym (in_order-last number c.unused.result es _ (above-entries number kept c.requires.order) (inserted c)))
     (indexed-entered c.args.mount c.unused.result kept c.unused.ensures.mount c.args.indexes.now c.enter.new.self
-    (ap has_slot c.unused.ensures.mount ∙ entered.slot)
+    (ap has_small_point c.unused.ensures.mount ∙ entered.slot)
     (λ q. entered.namespace q ∙ last c (is_in q) (is_in q c.args.mount) _ (indexed.namespace q))
     (λ q. entered.parent q ∙ last c (is_on q) (is_on q c.args.mount) _ (indexed.parent q))
     (λ q. entered.place q ∙ last c (is_at q) (is_at q c.args.mount) _ (indexed.place q))

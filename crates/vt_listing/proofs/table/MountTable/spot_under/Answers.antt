@@ -1,4 +1,4 @@
-use Rattle.std.proofs.Common.{sym, ap, eqb-true, ◌∙◌, arith}
+use Rattle.std.proofs.Common.{sym, ap, eqb-true, rules, ◌∙◌}
 use Rattle.vt_spec.specs.Machine.Listing.{spot_of}
 use Rattle.vt_listing.proofs.MountPaths.{spot_apart}
 use Rattle.vt_listing.proofs.table.MountTable.spot_under.Goals as goal
@@ -19,6 +19,6 @@ returns-then-eq c = record {
 
 pub returns : goal.returns
 returns c = record {
-  ok = spot_apart c.args.self.now.filesystems.now c.args.top c.args.directory (omega arith) (omega arith)
+  ok = spot_apart c.args.self.now.filesystems.now c.args.top c.args.directory (search rules) (search rules)
       (sym c.eq.ensures ∙ c.if-eq.false) c.has_own_numbers.ensures;
 }

@@ -2,7 +2,8 @@ use Rattle.std.proofs.Common.{ap, sym, ◌∙◌}
 use Rattle.vt_location.specs.declared.locations.Location.{Location}
 use Rattle.vt_location.specs.declared.locations.NodeRef.{NodeRef}
 use Rattle.vt_spec.specs.Lists.{holds_of}
-use Rattle.vt_mount.specs.Indexes.{listed_at, listed_over, same_inode, same_place, taken}
+use Rattle.vt_location.specs.SameNodes.{same_node}
+use Rattle.vt_mount.specs.Indexes.{listed_at, listed_over, same_place, taken}
 use Rattle.vt_mount.proofs.indexes.Indexes.leave.Goals as goal
 use Rattle.vt_mount.proofs.indexes.Indexes.leave.Goals.{in-Some, in_default}
 
@@ -24,11 +25,11 @@ returns-in-Some-mount_point-clause-inode c =
     let number = c.args.mount.now.number in
     let place = c.in-Some-mount_point.place in
     let at = λ (q : NodeRef). ap (λ point.
-    taken (holds_of (λ place. same_inode q place.node) point) number (listed_over c.args.self.now q))
+    taken (holds_of (λ place. same_node q place.node) point) number (listed_over c.args.self.now q))
     (sym c.in-Some-mount_point.is) in
     elim c.match-mount.branch [
       | in-Some w ↦ λ q. c.remove-in-Some-mount_point-3.ensures q
-          ∙ ap (λ self. taken (same_inode q place.node) number (listed_over self q)) w.self-is ∙ at q
+          ∙ ap (λ self. taken (same_node q place.node) number (listed_over self q)) w.self-is ∙ at q
       | in_default w ↦ λ q. c.remove-in-Some-mount_point-3.ensures q
-          ∙ ap (λ self. taken (same_inode q place.node) number (listed_over self q)) w.self-is ∙ at q
+          ∙ ap (λ self. taken (same_node q place.node) number (listed_over self q)) w.self-is ∙ at q
     ]

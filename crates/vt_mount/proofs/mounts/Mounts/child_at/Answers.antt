@@ -1,19 +1,19 @@
-use Rattle.std.proofs.Common.{◌<◌, ap, arith, nat_eq, option_map, sym, ◌∙◌}
+use Rattle.std.proofs.Common.{◌≡◌, ap, true, rules, nat_eq, option_map, sym, ◌∙◌}
 use Rattle.std.specs.Prelude.{slice_get}
 use Rattle.vt_spec.specs.Machine.Mounts.{child_at, stands_at}
-use Rattle.vt_location.specs.Locations.{location_of}
+use Rattle.vt_location.specs.Locations.{is_small_node, location_of}
 use Rattle.vt_location.specs.Numbers.{counted}
 use Rattle.vt_mount.specs.Indexes.{is_at}
 use Rattle.vt_mount.specs.MountsValue.{are_ascending, in_order, mounts_in}
 use Rattle.vt_mount.proofs.EntryLemmas.{entries}
 use Rattle.vt_mount.proofs.MoveLemmas.{ascending-kept}
-use Rattle.vt_mount.proofs.PlaceLemmas.{at-agrees, first-count, found-first, numbers-seen, slot_limit}
+use Rattle.vt_mount.proofs.PlaceLemmas.{at-agrees, first-count, found-first, numbers-seen}
 use Rattle.vt_mount.proofs.mounts.Mounts.child_at.Goals as goal
 
 pub returns-clause-child : goal.returns-clause-child
 returns-clause-child c =
     let place = c.args.place in
-    let less : place.node.slot < slot_limit = omega arith in
+    let less : is_small_node place.node ≡ true = search rules in
     let kept = in_order c.self.inside.by_number.entries in
     let here = stands_at nat_eq (location_of place) in
     ap (option_map (λ id. counted id.count))

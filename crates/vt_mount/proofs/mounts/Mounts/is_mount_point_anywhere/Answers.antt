@@ -1,22 +1,22 @@
-use Rattle.std.proofs.Common.{◌<◌, ap, arith, is_some, nat_eq, rules, ◌∙◌, ℕ}
+use Rattle.std.proofs.Common.{◌≡◌, ap, true, rules, is_some, nat_eq, ◌∙◌, ℕ}
 use Rattle.std.specs.Prelude.{find}
 use Rattle.std.proofs.lemmas.Iterator.{YieldsList-from_slice}
 use Rattle.std.proofs.lemmas.Iterator.Search.{any_from_yields_List}
 use Rattle.vt_spec.specs.Lists.{holds_of}
 use Rattle.vt_spec.specs.Machine.Mounts.{Mount}
 use Rattle.vt_location.specs.declared.numbers.MountId.{MountId}
-use Rattle.vt_location.specs.Locations.{number_of}
+use Rattle.vt_location.specs.Locations.{is_small_node, number_of}
 use Rattle.vt_location.specs.Numbers.{counted}
 use Rattle.vt_mount.specs.Indexes.{is_over}
 use Rattle.vt_mount.specs.MountsValue.{in_order, mounts_in, stands_over}
-use Rattle.vt_mount.proofs.PlaceLemmas.{counts, numbers-seen, over-agrees, slot_limit}
+use Rattle.vt_mount.proofs.PlaceLemmas.{counts, numbers-seen, over-agrees}
 use Rattle.vt_mount.proofs.PointLemmas.{any-over}
 use Rattle.vt_mount.proofs.mounts.Mounts.is_mount_point_anywhere.Goals as goal
 
 pub returns : goal.returns
 returns c =
     let inode = c.args.inode in
-    let less : inode.slot < slot_limit = omega arith in
+    let less : is_small_node inode ≡ true = search rules in
     let ids = c.get.result.now in
     let p = (λ (mount : Mount ℕ). is_some mount.namespace) in
     any_from_yields_List (λ (id : MountId). holds_of p

@@ -18,7 +18,7 @@ returns-then-eq c =
 
 pub returns-else-is_seen : goal.returns-else-is_seen
 returns-else-is_seen c =
-    c.eq-else-is_seen.ensures
+    c.is_same.ensures
     ∙ under_apart (the_view c.self.inside) c.args.self.now c.self.view_is c.self.invariant c.args.top
     (omega arith) c.args.directory (omega arith)
     (elim c.else-is_seen.branch [

@@ -1,17 +1,20 @@
 use Rattle.std.proofs.Common.{false, true, nat_eq, option_copied, ◌∙◌, ap, sym, arith}
 use Rattle.vt_spec.specs.Machine.World.{node_at}
+use Rattle.vt_location.proofs.NodeLemmas.{here_number}
 use Rattle.vt_location.specs.Locations.{location_of, number_of}
 use Rattle.vt_world.specs.WorldValue.{world_of}
 use Rattle.vt_ns.specs.Lent.{filesystem_of, lent}
 use Rattle.vt_ns.proofs.looking.Lending.{lends}
-use Rattle.vt_ns.proofs.looking.LooksKept.{no_node, node_is, seen_on}
+use Rattle.vt_ns.proofs.looking.LooksKept.{born_at, no_node, node_is, seen_on}
 use Rattle.vt_ns.proofs.looking.WorldLook.node_on.Goals as goal
 use Rattle.vt_ns.specs.contracts.world.World.{the_view}
 
 pub returns-then-eq : goal.returns-then-eq
 returns-then-eq c =
-    lends c.args.at.node.filesystem.count c.args.at.node.slot (omega arith) (option_copied c.node.result)
-    (node_at nat_eq (world_of c.args.self.now) (location_of c.args.at))
+    lends c.args.at.node.filesystem.count (number_of c.args.at.node) c.args.at.node.slot (option_copied c.node.result)
+    (node_at nat_eq (world_of c.args.self.now) (location_of c.args.at)) (omega arith)
+    (λ there. here_number c.args.at.node (born_at (the_view c.self.inside) c.args.self.now c.self.view_is
+    c.self.invariant c.args.at (omega arith) there))
     (c.node.ensures
     ∙ node_is (the_view c.self.inside) c.args.self.now c.self.view_is c.self.invariant c.args.at (omega arith)
     (seen_on c.args.self.now c.args.at c.args.ground true c.requires (sym c.eq.ensures ∙ c.if-eq.true)))

@@ -1,4 +1,4 @@
-use Rattle.std.proofs.Common.{◌∙◌, ap, arith, subst, sym}
+use Rattle.std.proofs.Common.{◌∙◌, ap, rules, subst, sym}
 use Rattle.vt_detach.proofs.LookLemmas.{parents_named_at}
 use Rattle.vt_world.specs.Held.{IsHeld}
 use Rattle.vt_location.specs.Locations.{number_of}
@@ -23,5 +23,5 @@ pub returns-else-eq : goal.returns-else-eq
 returns-else-eq c =
     c.if-eq.false
     ∙ sym (lies_apart c.args.self.now c.args.top c.args.directory (subst IsHeld c.self.view_is c.self.invariant)
-    (omega arith) (omega arith)
+    (search rules) (search rules)
     (sym c.eq.ensures ∙ c.if-eq.false))

@@ -7,12 +7,19 @@ use Rattle.vt_ns.specs.contracts.world.World.{the_view}
 use Rattle.vt_detach.specs.Events.{Becomes, Permits}
 use Rattle.vt_detach.proofs.ChangedFiles.{with_filesystems}
 use Rattle.vt_detach.proofs.FileEvents.{change_fits}
-use Rattle.vt_ns.proofs.world.FileAnswers.{linked_in, link_is_answered}
+use Rattle.vt_ns.proofs.world.FileAnswers.{linked_in, linked_is_kept, link_is_answered}
 use Rattle.vt_ns.proofs.world.World.link.Goals as goal
 
 pub link-requires-clause-one_filesystem : goal.link-requires-clause-one_filesystem
 link-requires-clause-one_filesystem c =
     linked_in (the_view c.self.inside) c.self.invariant c.args.name.now c.args.new.directory c.args.new.name.items c.args.new.object (omega arith) (omega arith)
+    (subst (λ value. Permits value c.args.name.now
+    (make_permit (Link c.args.new)))
+    (sym c.self.view_is) c.requires)
+
+pub link-requires-clause-there : goal.link-requires-clause-there
+link-requires-clause-there c =
+    linked_is_kept (the_view c.self.inside) c.self.invariant c.args.name.now c.args.new.directory c.args.new.name.items c.args.new.object (omega arith) (omega arith)
     (subst (λ value. Permits value c.args.name.now
     (make_permit (Link c.args.new)))
     (sym c.self.view_is) c.requires)

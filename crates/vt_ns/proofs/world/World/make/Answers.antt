@@ -1,4 +1,5 @@
 use Rattle.std.proofs.Common.{sym, subst, arith}
+use Rattle.vt_location.proofs.NodeLemmas.{here_is_own}
 use Rattle.vt_permits.specs.GrantValue.{make_permit}
 use Rattle.vt_permits.specs.declared.grant.MakeGrant.TheVariants.{Node}
 use Rattle.vt_ns.specs.contracts.world.World.{the_view}
@@ -37,7 +38,8 @@ invariant_of-self-2 c =
     (make_permit (Node c.args.new)))
     (sym c.self.view_is) c.requires)
     c.create.new.self c.in_ok-create.field-0
-    (omega arith) c.in_ok-create.ensures.filesystem c.in_ok-create.ensures.number c.in_ok-create.ensures.ok).held
+    (here_is_own c.in_ok-create.field-0 (omega arith) (omega arith) c.in_ok-create.ensures.birth)
+    c.in_ok-create.ensures.filesystem c.in_ok-create.ensures.number c.in_ok-create.ensures.ok).held
 
 pub returns-clause-ok : goal.returns-clause-ok
 returns-clause-ok c =
@@ -49,4 +51,5 @@ returns-clause-ok c =
     (make_permit (Node c.args.new)))
     (sym c.self.view_is) c.requires)
     c.create.new.self c.in_ok-create.field-0
-    (omega arith) c.in_ok-create.ensures.filesystem c.in_ok-create.ensures.number c.in_ok-create.ensures.ok).becomes
+    (here_is_own c.in_ok-create.field-0 (omega arith) (omega arith) c.in_ok-create.ensures.birth)
+    c.in_ok-create.ensures.filesystem c.in_ok-create.ensures.number c.in_ok-create.ensures.ok).becomes

@@ -89,7 +89,7 @@ invariant_of-self-2 c =
     let made = c.in_ok-mount_new.ensures.ok in
     (new_mount_is_done value c.self.invariant c.args.name.now graft counts
     (flags_of c.args.flags) permits refl tree_is parts_are refl refl
-    c.are_ascending.ensures c.are_counted.ensures made.0 made.1
+    c.are_ascending.ensures c.are_counted.ensures made.0 made.1 (omega arith)
     c.mount_new.new.mounts c.mount_new.new.groups c.mount_new.new.filesystems
     (c.self.inside.next + c.in-Some.taken) made.2 grows).held
 
@@ -127,7 +127,7 @@ returns-clause-ok c =
     c.self.view_is
     (new_mount_is_done value c.self.invariant c.args.name.now graft counts
     (flags_of c.args.flags) permits refl tree_is parts_are refl refl
-    c.are_ascending.ensures c.are_counted.ensures made.0 made.1
+    c.are_ascending.ensures c.are_counted.ensures made.0 made.1 (omega arith)
     c.mount_new.new.mounts c.mount_new.new.groups c.mount_new.new.filesystems
     (c.self.inside.next + c.in-Some.taken) made.2 grows).becomes
 

@@ -1,6 +1,7 @@
 use Rattle.std.proofs.Common.{◌≡◌, sym, ap, subst, ◌∙◌, nat_eq, Some, None, arith}
 use Rattle.vt_spec.specs.Machine.World.{mount_numbered}
 use Rattle.vt_fs.specs.FilesystemsValue.{inodes_at}
+use Rattle.vt_location.proofs.NodeLemmas.{here_number}
 use Rattle.vt_location.specs.Locations.{location_of}
 use Rattle.vt_location.specs.Numbers.{counted, inode_number}
 use Rattle.vt_ns.specs.contracts.world.World.{the_view}
@@ -13,7 +14,8 @@ pub returns-in-Some : goal.returns-in-Some
 returns-in-Some c =
     let count = c.shown-filesystem.result.count in
     let next = c.in-Some.next in
-    let same = ap (λ filesystem. filesystem.count) c.in-Some.ensures.filesystem in
+    let number = here_number next c.in-Some.ensures.birth
+    ∙ (λ i. inode_number (c.in-Some.ensures.filesystem i).count next.slot) in
     subst (λ value. NextInodeIsVacant value (location_of c.args.directory)) c.self.view_is
     (next_is_vacant (the_view c.self.inside) c.self.invariant c.are_counted.ensures c.groups_are_counted.ensures
     (location_of c.args.directory) count
@@ -21,9 +23,8 @@ returns-in-Some c =
     ≡ (mount_numbered nat_eq (world_of value) (counted c.args.directory.mount.count)).filesystem)
     (sym c.self.view_is) c.shown-filesystem.ensures)
     next.slot (omega arith)
-    ((λ i. Some (inode_number (sym same i) next.slot)) ∙ c.in-Some.ensures.number)
-    (subst (λ f. (inodes_at c.self.inside.filesystems count).inode (inode_number f next.slot)
-    ≡ None) same c.in-Some.ensures.vacant))
+    (ap Some (sym number) ∙ c.in-Some.ensures.number)
+    (subst (λ n. (inodes_at c.self.inside.filesystems count).inode n ≡ None) number c.in-Some.ensures.vacant))
 
 pub returns-in_default : goal.returns-in_default
 returns-in_default c =

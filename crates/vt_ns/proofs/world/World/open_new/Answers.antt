@@ -5,7 +5,9 @@ use Rattle.vt_permits.specs.GrantValue.{descriptor_permit}
 use Rattle.vt_permits.specs.declared.grant.DescriptorGrant.TheVariants.{OpenNew}
 use Rattle.vt_spec.specs.Inodes.{changed, uses_in}
 use Rattle.vt_fs.specs.FilesystemsValue.{ChangesInodes, inodes_at, node_seen}
+use Rattle.vt_location.specs.declared.births.Birth.TheVariants.{Here}
 use Rattle.vt_location.specs.declared.locations.NodeRef.{NodeRef}
+use Rattle.vt_location.proofs.NodeLemmas.{here_is_own}
 use Rattle.vt_location.specs.Locations.{location_of, number_of}
 use Rattle.vt_location.specs.Numbers.{counted}
 use Rattle.vt_mount.specs.MountsValue.{changed as changed_mounts, held}
@@ -76,6 +78,9 @@ invariant_of-self-2 c =
     let inside = subst (λ next. IfSome next
     (λ (node : NodeRef). node.filesystem
     ≡ c.args.new.directory.node.filesystem)) c.unwrap-file.ensures c.next_number.ensures.filesystem in
+    let own = here_is_own c.unwrap-file.result (omega arith) (omega arith)
+    (subst (λ next. IfSome next (λ (node : NodeRef). node.birth ≡ Here)) c.unwrap-file.ensures
+    c.next_number.ensures.birth) in
     let made = subst (λ n. ChangesInodes c.args.new.directory.node.filesystem.count
     (λ inodes. changed nat_eq inodes
     (Make (number_of c.args.new.directory.node) c.args.new.name.items n
@@ -84,13 +89,13 @@ invariant_of-self-2 c =
     let once = ap (λ filesystem. uses_in ((inodes_at c.open_next.new.filesystems filesystem.count).inode
     (number_of c.unwrap-file.result))) inside
     ∙ used_once (the_view c.self.inside) c.self.invariant c.args.name.now c.args.new.directory c.args.new.name.items c.args.new.node (access_of c.args.new.access) (omega arith)
-    permits c.open_next.new.filesystems c.unwrap-file.result (omega arith) inside number made in
+    permits c.open_next.new.filesystems c.unwrap-file.result (omega arith) own inside number made in
     let room = c.mount_has_room.ensures (let room = c.if-not-mount_has_room.false in search rules) in
     let mounts = of-ok c.hold.result (c.hold.ensures.few room.0 room.1) c.hold.ensures.ok in
     let filesystems = new_pinned c.pin.result _ c.pin.ensures.limit.0 once c.pin.ensures.ok in
     (new_opens (the_view c.self.inside) c.self.invariant c.args.name.now c.args.new.directory c.args.new.name.items c.args.new.node
     (access_of c.args.new.access) (omega arith)
-    permits c.open_next.new.filesystems c.unwrap-file.result (omega arith) inside number made
+    permits c.open_next.new.filesystems c.unwrap-file.result (omega arith) own inside number made
     c.hold.new.self c.pin.new.self
     (λ i. record {
       mounts = (mounts ∙ ap (λ writes. changed_mounts (counted c.args.new.directory.mount.count)
@@ -110,6 +115,9 @@ returns-clause-ok c =
     let inside = subst (λ next. IfSome next
     (λ (node : NodeRef). node.filesystem
     ≡ c.args.new.directory.node.filesystem)) c.unwrap-file.ensures c.next_number.ensures.filesystem in
+    let own = here_is_own c.unwrap-file.result (omega arith) (omega arith)
+    (subst (λ next. IfSome next (λ (node : NodeRef). node.birth ≡ Here)) c.unwrap-file.ensures
+    c.next_number.ensures.birth) in
     let made = subst (λ n. ChangesInodes c.args.new.directory.node.filesystem.count
     (λ inodes. changed nat_eq inodes
     (Make (number_of c.args.new.directory.node) c.args.new.name.items n
@@ -118,7 +126,7 @@ returns-clause-ok c =
     let once = ap (λ filesystem. uses_in ((inodes_at c.open_next.new.filesystems filesystem.count).inode
     (number_of c.unwrap-file.result))) inside
     ∙ used_once (the_view c.self.inside) c.self.invariant c.args.name.now c.args.new.directory c.args.new.name.items c.args.new.node (access_of c.args.new.access) (omega arith)
-    permits c.open_next.new.filesystems c.unwrap-file.result (omega arith) inside number made in
+    permits c.open_next.new.filesystems c.unwrap-file.result (omega arith) own inside number made in
     let room = c.mount_has_room.ensures (let room = c.if-not-mount_has_room.false in search rules) in
     let mounts = of-ok c.hold.result (c.hold.ensures.few room.0 room.1) c.hold.ensures.ok in
     let filesystems = new_pinned c.pin.result _ c.pin.ensures.limit.0 once c.pin.ensures.ok in
@@ -128,7 +136,7 @@ returns-clause-ok c =
     c.open_next.new.tasks)) c.self.view_is
     (new_opens (the_view c.self.inside) c.self.invariant c.args.name.now c.args.new.directory c.args.new.name.items c.args.new.node
     (access_of c.args.new.access) (omega arith)
-    permits c.open_next.new.filesystems c.unwrap-file.result (omega arith) inside number made
+    permits c.open_next.new.filesystems c.unwrap-file.result (omega arith) own inside number made
     c.hold.new.self c.pin.new.self
     (λ i. record {
       mounts = (mounts ∙ ap (λ writes. changed_mounts (counted c.args.new.directory.mount.count)

@@ -9,7 +9,7 @@ use Rattle.vt_detach.specs.Uses.{kept}
 use Rattle.vt_detach.proofs.ChangedFiles.{with_filesystems}
 use Rattle.vt_ns.proofs.world.DirectoryRemoved.{alone_is_removed, collected_are, directory_is_removed}
 use Rattle.vt_ns.proofs.world.MountsOn.{none_counted, some_counted}
-use Rattle.vt_ns.proofs.world.FileRemoving.{removal_fits, removed_in}
+use Rattle.vt_ns.proofs.world.FileRemoving.{removal_fits, removed_in, removed_is_kept}
 use Rattle.vt_detach.proofs.Remaining.{remade}
 use Rattle.vt_ns.proofs.world.World.remove_directory.Goals as goal
 use Rattle.vt_ns.proofs.world.World.remove_directory.Goals.{then-not-is_empty, else-not-is_empty}
@@ -17,6 +17,14 @@ use Rattle.vt_ns.proofs.world.World.remove_directory.Goals.{then-not-is_empty, e
 pub unlink-requires-clause-one_filesystem : goal.unlink-requires-clause-one_filesystem
 unlink-requires-clause-one_filesystem c =
     removed_in (the_view c.self.inside) c.self.invariant c.args.name.now c.args.removed.parent c.args.removed.name.items c.args.removed.directory
+    (omega arith) (omega arith)
+    (subst (λ value. Permits value c.args.name.now
+    (remove_permit (Directory c.args.removed)))
+    (sym c.self.view_is) c.requires)
+
+pub unlink-requires-clause-there : goal.unlink-requires-clause-there
+unlink-requires-clause-there c =
+    removed_is_kept (the_view c.self.inside) c.self.invariant c.args.name.now c.args.removed.parent c.args.removed.name.items c.args.removed.directory
     (omega arith) (omega arith)
     (subst (λ value. Permits value c.args.name.now
     (remove_permit (Directory c.args.removed)))

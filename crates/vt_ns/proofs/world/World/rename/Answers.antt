@@ -8,7 +8,7 @@ use Rattle.vt_detach.specs.Events.{Becomes, Permits}
 use Rattle.vt_detach.specs.Uses.{kept}
 use Rattle.vt_detach.proofs.ChangedFiles.{with_filesystems}
 use Rattle.vt_ns.proofs.world.MountsOn.{none_counted, some_counted}
-use Rattle.vt_ns.proofs.world.FileRenaming.{rename_fits, rename_alone_is_done, renamed_object, renamed_to}
+use Rattle.vt_ns.proofs.world.FileRenaming.{rename_fits, rename_alone_is_done, renamed_object, renamed_is_kept, renamed_to}
 use Rattle.vt_ns.proofs.world.RenamedOver.{nothing_on_replaced, rename_is_done, replaced_collected}
 use Rattle.vt_detach.proofs.Remaining.{remade}
 use Rattle.vt_ns.proofs.world.World.rename.Goals as goal
@@ -23,6 +23,12 @@ rename-requires-clause-one_filesystem c =
 pub rename-requires-clause-of_object : goal.rename-requires-clause-of_object
 rename-requires-clause-of_object c =
     renamed_object (the_view c.self.inside) c.self.invariant c.args.name.now c.args.renamed.from c.args.renamed.old.items c.args.renamed.to c.args.renamed.new.items c.args.renamed.object c.args.renamed.replaced (omega arith) (omega arith) (omega arith)
+    (subst (λ value. Permits value c.args.name.now
+    (remove_permit (Rename c.args.renamed))) (sym c.self.view_is) c.requires)
+
+pub rename-requires-clause-there : goal.rename-requires-clause-there
+rename-requires-clause-there c =
+    renamed_is_kept (the_view c.self.inside) c.self.invariant c.args.name.now c.args.renamed.from c.args.renamed.old.items c.args.renamed.to c.args.renamed.new.items c.args.renamed.object c.args.renamed.replaced (omega arith) (omega arith) (omega arith)
     (subst (λ value. Permits value c.args.name.now
     (remove_permit (Rename c.args.renamed))) (sym c.self.view_is) c.requires)
 

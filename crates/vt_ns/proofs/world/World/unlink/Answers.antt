@@ -7,12 +7,19 @@ use Rattle.vt_ns.specs.contracts.world.World.{the_view}
 use Rattle.vt_detach.specs.Events.{Becomes, Permits}
 use Rattle.vt_detach.proofs.ChangedFiles.{with_filesystems}
 use Rattle.vt_detach.proofs.FileEvents.{change_fits}
-use Rattle.vt_ns.proofs.world.FileAnswers.{unlinked_in, unlink_is_done}
+use Rattle.vt_ns.proofs.world.FileAnswers.{unlinked_in, unlinked_is_kept, unlink_is_done}
 use Rattle.vt_ns.proofs.world.World.unlink.Goals as goal
 
 pub unlink-requires-clause-one_filesystem : goal.unlink-requires-clause-one_filesystem
 unlink-requires-clause-one_filesystem c =
     unlinked_in (the_view c.self.inside) c.self.invariant c.args.name.now c.args.gone.directory c.args.gone.name.items c.args.gone.object (omega arith) (omega arith)
+    (subst (λ value. Permits value c.args.name.now
+    (remove_permit (Unlink c.args.gone)))
+    (sym c.self.view_is) c.requires)
+
+pub unlink-requires-clause-there : goal.unlink-requires-clause-there
+unlink-requires-clause-there c =
+    unlinked_is_kept (the_view c.self.inside) c.self.invariant c.args.name.now c.args.gone.directory c.args.gone.name.items c.args.gone.object (omega arith) (omega arith)
     (subst (λ value. Permits value c.args.name.now
     (remove_permit (Unlink c.args.gone)))
     (sym c.self.view_is) c.requires)
