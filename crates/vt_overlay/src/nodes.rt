@@ -51,8 +51,8 @@ impl Overlay {
         }
     }
 
-    /// The inode of the real object of a node, in its layer's tree. It has the owner, group, mode, kind and content of the
-    /// node, but other entries, another parent and maybe a mark.
+    /// The inode of the real object of a node. Owner, group, mode, kind and content are the node's; entries and the parent
+    /// are those of one layer. It does not allocate.
     pub fn inode<'a>(&self, trees: &'a Filesystems, node: NodeRef) -> Option<&'a Node>
         requires layers { AreLayers trees.now self.now.lowers }
         requires few { length self.now.lowers ≤ MOST_LAYERS }
@@ -113,8 +113,8 @@ impl Overlay {
         Some(real)
     }
 
-    /// The node to which a name of a directory leads; in anything else no name leads anywhere. It does not allocate. It
-    /// passes over the directory of the layer that has the name, if that leads to no directory.
+    /// The node to which a name of a directory leads; anything else has no names. It does not allocate. For a name of a
+    /// file it passes over the entries of one layer's directory.
     pub fn entry(&self, trees: &Filesystems, node: NodeRef, name: &[u8]) -> Option<NodeRef>
         requires layers { AreLayers trees.now self.now.lowers }
         requires few { length self.now.lowers ≤ MOST_LAYERS }
