@@ -1,5 +1,6 @@
 -- Going up in a tree whose inodes are found by slots, as its directories are seen by numbers.
-use Rattle.std.proofs.Common.{◌≡◌, ◌≢◌, ◌∙◌, ◌+◌, ◌<◌, ◌≤◌, ◌∷◌, [], Bool, Bor, List, None, Option, Some, ap, arith, false, length, map, nat_eq, option_and_then, option_map, refl, subst, suc, sym, true, true≢false, zero, ℕ, slice_get}
+use Rattle.std.proofs.Common.{◌≡◌, ◌≢◌, ◌∙◌, ◌+◌, ◌<◌, ◌≤◌, ◌∷◌, [], Bool, Bor, List, None, Option, Some, ap, arith, false, length, map, nat_eq, option_and_then, option_map, refl, subst, suc, sym, true, true≢false, zero, ℕ, ⊎_elim, slice_get}
+use Rattle.std.proofs.lemmas.Bool.{cases_lt}
 use Rattle.std.proofs.lemmas.Grind.{common_steps}
 use Rattle.std.proofs.lemmas.Option.{same_Some}
 use Rattle.std.specs.FinMap.Entries.{is_sorted}
@@ -25,7 +26,7 @@ use Rattle.vt_tree.specs.TreeValue.{TreeValue, inodes_of, tree_of}
 use Rattle.vt_fs.proofs.Numbers.{numbers_counted, numbers_listed}
 use Rattle.vt_fs.proofs.Renamed.{entry_by_numbers, node_by_numbers, plain_by_numbers}
 use Rattle.vt_fs.specs.FilesystemsValue.{FilesystemEntry, files_seen}
-use Rattle.vt_merge.specs.Climbed.{climbed, name_up, names_up}
+use Rattle.vt_merge.specs.Climbed.{AreNamed, climbed, name_up, names_up}
 use Rattle.vt_merge.specs.LayerValue.{tree_seen}
 
 abbrev pub above_in : Tree ℕ → ℕ → ℕ
@@ -55,6 +56,17 @@ name_at tree directory steps zero (suc len) e =
     let is : len ≡ steps = omega (arith, e) in
     ap (λ n. Some (unwrap_or (name_up tree (climbed tree n directory)) [])) is
 name_at tree directory steps (suc index) (suc len) e = name_at tree directory steps index len (omega (arith, e))
+
+-- one more directory with a name
+pub named_more : (tree : Tree ℕ) (directory len : ℕ) → AreNamed tree len directory
+    → is_some (name_up tree (climbed tree len directory)) ≡ true → AreNamed tree (len + 1) directory
+named_more tree directory len named last steps within =
+    ⊎_elim
+    (λ before. named steps before)
+    (λ past.
+    let same : steps ≡ len = omega (arith, within, past) in
+    ap (λ n. is_some (name_up tree (climbed tree n directory))) same ∙ last)
+    (cases_lt steps len)
 
 some_found : (object : ℕ) (entries : Entries ℕ) → list_any (nat_eq object) (map (λ entry. entry.1) entries) ≡ true
     → is_some (find (λ entry. nat_eq object entry.1) entries) ≡ true

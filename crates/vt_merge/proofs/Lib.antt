@@ -8,3 +8,4 @@ pub mod NamesSorted
 pub mod NamesTaken
 pub mod TreesLent
 pub mod UnderNames
+pub mod PathEnds

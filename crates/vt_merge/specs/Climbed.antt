@@ -1,6 +1,7 @@
 -- Names found by going up from a directory of a tree: path_resolution(7) on "..".
-use Rattle.std.specs.Prelude.{List, Option, [], find, nat_eq, option_map, suc, unwrap_or, zero, ℕ, ◌∷◌}
+use Rattle.std.specs.Prelude.{List, Option, [], find, is_some, nat_eq, option_map, suc, true, unwrap_or, zero, ℕ, ◌+◌, ◌<◌, ◌∷◌, ◌≡◌, ◌^◌}
 use Rattle.vt_spec.specs.Tree.{Tree, entries_in, parent_in}
+use Rattle.vt_tree.specs.Paths.{NamesDirectoriesOnce}
 
 -- the directory so many steps up
 abbrev pub climbed : Tree ℕ → ℕ → ℕ → ℕ
@@ -19,3 +20,14 @@ abbrev pub names_up : Tree ℕ → ℕ → ℕ → List (List ℕ)
 names_up tree zero directory = []
 names_up tree (suc steps) directory =
     unwrap_or (name_up tree (climbed tree steps directory)) [] ∷ names_up tree steps directory
+
+-- so many steps up each directory has a name
+abbrev pub AreNamed : Tree ℕ → ℕ → ℕ → Type 0
+AreNamed tree len directory =
+    (steps : ℕ) → steps < len → is_some (name_up tree (climbed tree steps directory)) ≡ true
+
+-- a way up in a tree that names each directory once; it leaves room for one more name
+pub record IsWay (tree : Tree ℕ) (len directory : ℕ) : Type 0 where
+  pub once : NamesDirectoriesOnce tree
+  pub named : AreNamed tree len directory
+  pub room : len + 1 < 2 ^ 64

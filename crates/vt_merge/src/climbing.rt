@@ -1,5 +1,5 @@
 //! The way from one directory of a tree down to another, found by going up from that one.
-ghost use Rattle.std.specs.Prelude.{◌≡◌, ◌≢◌, [], IfSome, List, None, Some, ℕ, option_copied, unwrap_or};
+ghost use Rattle.std.specs.Prelude.{◌≡◌, ◌≢◌, ◌++◌, ◌∷◌, [], IfSome, List, None, Some, ℕ, option_copied};
 ghost use Rattle.vt_spec.specs.Machine.Layers.{at_path};
 ghost use Rattle.vt_spec.specs.Tree.{is_directory_node};
 ghost use Rattle.vt_spec.specs.TreeInvariant.{IsDirectory, IsTree, led};
@@ -30,15 +30,27 @@ pub struct WayDown<'a> {
 
 impl<'a> Model for WayDown<'a> {
     ghost use Rattle.std.specs.Prelude.{List, ℕ};
-    ghost use Rattle.vt_tree.specs.Paths.{NamesDirectoriesOnce};
     ghost use Rattle.vt_tree.specs.TreeValue.{tree_of};
-    ghost use Rattle.vt_merge.specs.Climbed.{names_up};
+    ghost use Rattle.vt_merge.specs.Climbed.{IsWay, names_up};
 
     ghost Value = { List (List ℕ) };
 
     ghost view = { λ way. names_up (tree_of way.tree.now) way.len way.directory };
 
-    ghost invariant = { λ way. NamesDirectoriesOnce (tree_of way.tree.now) };
+    ghost invariant = { λ way. IsWay (tree_of way.tree.now) way.len way.directory };
+}
+
+impl<'a> WayDown<'a> {
+    /// The path to a name of the directory.
+    pub fn under(&'a self, name: &'a [u8]) -> Under<'a>
+        ensures { result ≡ self.now ++ name.now ∷ [] }
+    {
+        Under {
+            above: self,
+            name,
+            len: self.len + 1,
+        }
+    }
 }
 
 impl<'a> Way for WayDown<'a> {
@@ -49,24 +61,58 @@ impl<'a> Way for WayDown<'a> {
     }
 
     fn name(&self, index: usize) -> &[u8] {
-        name_climbed(self.tree, self.directory, self.len - 1 - index)
+        match name_climbed(self.tree, self.directory, self.len - 1 - index) {
+            Some(name) => name,
+            None => unreachable!(),
+        }
+    }
+}
+
+/// The way down to a directory of a tree, and a name of it.
+#[derive(Debug, Drop)]
+pub struct Under<'a> {
+    above: &'a WayDown<'a>,
+    name: &'a [u8],
+    len: usize,
+}
+
+impl<'a> Model for Under<'a> {
+    ghost use Rattle.std.specs.Prelude.{List, [], length, ℕ, ◌++◌, ◌+◌, ◌∷◌, ◌≡◌};
+
+    ghost Value = { List (List ℕ) };
+
+    ghost view = { λ path. path.above.now ++ path.name.now ∷ [] };
+
+    ghost invariant = { λ path. path.len ≡ length path.above.now + 1 };
+}
+
+impl<'a> Way for Under<'a> {
+    ghost names = { λ path. path };
+
+    fn len(&self) -> usize {
+        self.len
+    }
+
+    fn name(&self, index: usize) -> &[u8] {
+        if index < self.above.len() {
+            self.above.name(index)
+        } else {
+            self.name
+        }
     }
 }
 
 // The name of the directory so many steps up.
-fn name_climbed(tree: &Tree, directory: NodeId, steps: usize) -> &[u8]
+fn name_climbed(tree: &Tree, directory: NodeId, steps: usize) -> Option<&[u8]>
     requires { NamesDirectoriesOnce (tree_of tree.now) }
-    ensures { result.now
-        ≡ unwrap_or (name_up (tree_of tree.now) (climbed (tree_of tree.now) steps directory)) [] }
+    ensures { option_copied result
+        ≡ name_up (tree_of tree.now) (climbed (tree_of tree.now) steps directory) }
 {
     let mut here = directory;
     for _step in 0..steps {
         here = tree.parent(here);
     }
-    match name_above(tree, here) {
-        Some(name) => name,
-        None => &[],
-    }
+    name_above(tree, here)
 }
 
 // The name of a directory in its parent.

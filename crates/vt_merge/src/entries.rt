@@ -16,8 +16,8 @@ use vt_location::InodeRef;
 use vt_node::{Kind, Node, NodeId};
 use vt_tree::Tree;
 
-// The number of an inode in the tree of its filesystem.
-pub(crate) fn slot_of(inode: InodeRef) -> NodeId
+/// The number of an inode in the tree of its filesystem.
+pub fn slot_of(inode: InodeRef) -> NodeId
     ensures value { result ≡ inode.slot }
     ensures number { exchanged inode.filesystem.count result ≡ inode_of inode }
 {

@@ -19,6 +19,14 @@ pub(crate) struct Followed {
     pub(crate) cut: bool,
 }
 
+/// Where names lead from a directory of a plain tree, through entries alone. It does not allocate.
+pub fn led_to<W: Way>(trees: &Filesystems, directory: InodeRef, path: &W) -> Option<InodeRef>
+    ensures object { option_map inode_of result ≡ at_path (opened trees.now directory) (W.names path.now) }
+    ensures filesystem { IfSome result (λ object. object.filesystem ≡ directory.filesystem) }
+{
+    follow(trees, directory, path).object
+}
+
 // Names followed from a directory.
 pub(crate) fn follow<W: Way>(trees: &Filesystems, directory: InodeRef, path: &W) -> Followed
     ensures object { option_map inode_of result.object ≡ at_path (opened trees.now directory) (W.names path.now) }

@@ -11,9 +11,11 @@ mod naming;
 mod showing;
 mod ways;
 
-pub use climbing::{WayDown, way_down};
+pub use climbing::{Under, WayDown, way_down};
+pub use entries::slot_of;
+pub use following::led_to;
 pub use layers::{LayerRef, MergedDirectory, Real};
 pub use merging::{MOST_LAYERS, MergedDirectories, merged_dirs, merged_dirs_at};
 pub use naming::merged_names;
 pub use showing::{real_of, shown};
-pub use ways::{Names, Way};
+pub use ways::{Front, Names, Way};

@@ -1,5 +1,6 @@
 //! Ways: paths as lists of names, however these are kept.
 ghost use Rattle.std.specs.Prelude.{◌≡◌, ◌<◌, ℕ, List, Some, length, map, slice_get};
+ghost use Rattle.vt_spec.specs.Lists.{without_last};
 
 /// A path as a list of names. A look takes the names one after the other, so that no list of them has to be made.
 pub trait Way {
@@ -30,5 +31,23 @@ impl<'a> Way for Names<'a> {
 
     fn name(&self, index: usize) -> &[u8] {
         self.names[index]
+    }
+}
+
+/// A path without its last name.
+#[derive(Clone, Copy, Debug)]
+pub struct Front<'a, W: Way> {
+    pub path: &'a W,
+}
+
+impl<'a, W: Way> Way for Front<'a, W> {
+    ghost names = { λ way. without_last (W.names way.path.now) };
+
+    fn len(&self) -> usize {
+        self.path.len().saturating_sub(1)
+    }
+
+    fn name(&self, index: usize) -> &[u8] {
+        self.path.name(index)
     }
 }

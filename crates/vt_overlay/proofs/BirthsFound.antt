@@ -1,5 +1,5 @@
 -- A directory that was born below is at one path of its layer, if at all.
-use Rattle.std.proofs.Common.{◌≡◌, ◌≢◌, ◌∙◌, ◌<◌, ◌≤◌, ◌∷◌, [], arith, ap, Bool, eq-eqb, eqb-true, false, length, List, nat_eq, None, Option, refl, Some, subst, sym, true, true≢false, ℕ, slice_get}
+use Rattle.std.proofs.Common.{◌≡◌, ◌≢◌, ◌∙◌, ◌<◌, ◌≤◌, ◌∷◌, ◌++◌, [], arith, ap, Bool, eq-eqb, eqb-true, false, length, List, nat_eq, None, Option, option_map, refl, Some, subst, sym, true, true≢false, ℕ, slice_get}
 use Rattle.std.proofs.lemmas.Option.{same_Some, slice_get_within}
 use Rattle.std.specs.Prelude.{if◌then◌else◌, is_some, unwrap_or}
 use Rattle.vt_spec.proofs.Options.{none_is_some}
@@ -8,7 +8,7 @@ use Rattle.vt_spec.specs.Inodes.{node_in}
 use Rattle.vt_spec.specs.Lists.{holds_of, then_some, without_last}
 use Rattle.vt_spec.specs.Machine.Layers.{Shown, node_at_path, shown}
 use Rattle.vt_spec.specs.Machine.Merging.{is_root_path}
-use Rattle.vt_spec.specs.Tree.{Tree, is_directory_node, parent_in}
+use Rattle.vt_spec.specs.Tree.{Node, Tree, is_directory_node, parent_in}
 use Rattle.vt_spec.specs.TreeInvariant.{IsDirectory, entry_at, led}
 use Rattle.vt_laws_layers.proofs.layers.ShownDirectories.{last_of, led_is_there}
 use Rattle.vt_laws_layers.proofs.layers.ShownNames.{last_name}
@@ -85,6 +85,7 @@ module _ (trees : Filesystems) (lower : LayerRef) (is : IsLayer trees lower) whe
     pub name : List ℕ
     pub leads : led tree top (without_last path) ≡ Some directory
     pub entry : entry_at tree directory name ≡ Some object
+    pub split : without_last path ++ name ∷ [] ≡ path
 
   pub has_last : (path : List (List ℕ)) (object : ℕ) → is_root_path path ≡ false → led tree top path ≡ Some object
       → HasLast path object
@@ -93,11 +94,14 @@ module _ (trees : Filesystems) (lower : LayerRef) (is : IsLayer trees lower) whe
       let last = last_of (first ∷ rest) (not_empty first rest) in
       let step = found (λ directory. entry_at tree directory last.1) (led tree top last.0) object
       (sym (last_name tree top last.0 last.1) ∙ ap (led tree top) last.2 ∙ leads) in
+      let front : without_last (first ∷ rest) ≡ last.0 =
+      ap without_last (sym last.2) ∙ without_last_of_longer last.0 last.1 in
       record {
         directory = step.0;
         name = last.1;
-        leads = ap (led tree top) (ap without_last (sym last.2) ∙ without_last_of_longer last.0 last.1) ∙ step.1;
+        leads = ap (led tree top) front ∙ step.1;
         entry = step.2;
+        split = ap (λ p. p ++ last.1 ∷ []) front ∙ last.2;
       }
 
   -- the slot of its directory
@@ -119,9 +123,34 @@ module _ (trees : Filesystems) (lower : LayerRef) (is : IsLayer trees lower) whe
           let last = has_last path object e leads in
           ((in_slot (without_last path) last.directory last.leads).0, small)
 
-module _ (trees : Filesystems) (overlay : OverlayValue) (are : AreLayers trees overlay.lowers)
-    (few : length overlay.lowers ≤ 129) (place directory rank slot : ℕ) (place_small : place < 18446744073709551616)
-    (directory_small : directory < 18446744073709551616) (slot_small : slot < 18446744073709551616) where
+-- the birth of a node below a layer
+pub record Birthplace (trees : Filesystems) (overlay : OverlayValue) : Type 0 where
+  pub are : AreLayers trees overlay.lowers
+  pub few : length overlay.lowers ≤ 129
+  pub place : ℕ
+  pub directory : ℕ
+  pub rank : ℕ
+  pub slot : ℕ
+  pub place_small : place < 18446744073709551616
+  pub directory_small : directory < 18446744073709551616
+  pub slot_small : slot < 18446744073709551616
+
+module _ (trees : Filesystems) (overlay : OverlayValue) (b : Birthplace trees overlay) where
+  abbrev are : AreLayers trees overlay.lowers
+  are = b.are
+
+  abbrev place : ℕ
+  place = b.place
+
+  abbrev directory : ℕ
+  directory = b.directory
+
+  abbrev rank : ℕ
+  rank = b.rank
+
+  abbrev slot : ℕ
+  slot = b.slot
+
   abbrev pub node_number : ℕ
   node_number = number_of (born_below overlay.number place directory rank slot)
 
@@ -143,11 +172,11 @@ module _ (trees : Filesystems) (overlay : OverlayValue) (are : AreLayers trees o
       let within = slice_get_within overlay.lowers at.place at.lower at.layer in
       let at_slot = in_slot trees at.lower layer_is path at.object at.leads in
       let parts = number_parts (born_in overlay.number.count (birth_at trees at.place at.lower path))
-      (born_in overlay.number.count (Below place directory rank)) (slot_at trees at.lower path) slot at_slot.0 slot_small
+      (born_in overlay.number.count (Below place directory rank)) (slot_at trees at.lower path) slot at_slot.0 b.slot_small
       at.numbered in
       let birth = births_apart overlay.number.count (birth_at trees at.place at.lower path) (Below place directory rank)
-      (small_birth trees at.lower layer_is at.place path at.object (omega (arith, within, few)) at.leads)
-      (directory_small, place_small) parts.0 in
+      (small_birth trees at.lower layer_is at.place path at.object (let few = b.few in omega (arith, within, few)) at.leads)
+      (b.directory_small, b.place_small) parts.0 in
       let f = at.lower.directory.filesystem.count in
       let object : at.object ≡ exchanged f slot =
       sym (exchanged_back f at.object) ∙ ap (exchanged f) (sym at_slot.1 ∙ parts.1) in
@@ -319,18 +348,62 @@ module _ (trees : Filesystems) (overlay : OverlayValue) (are : AreLayers trees o
     -- the same of an inode in that slot
     module _ (inode : InodeRef) (is : inode ≡ record { filesystem = lower.directory.filesystem; slot = slot }) where
       number_is : inode_of (record { filesystem = lower.directory.filesystem; slot = slot }) ≡ object
-      number_is = sym (exchanged_slot count slot slot_small)
+      number_is = sym (exchanged_slot count slot b.slot_small)
 
       pub inode_number_is : inode_of inode ≡ object
       inode_number_is = ap inode_of is ∙ number_is
 
-      pub parent_is : nat_eq (exchanged inode.filesystem.count directory) (parent_in (inode_of inode)
-          ((files_at trees inode.filesystem.count).tree.node (inode_of inode)))
-          ≡ nat_eq (exchanged count directory) parent
-      parent_is =
-          ap (λ (n : InodeRef). nat_eq (exchanged n.filesystem.count directory) (parent_in (inode_of n)
-          ((files_at trees n.filesystem.count).tree.node (inode_of n)))) is
-          ∙ ap (λ m. nat_eq (exchanged count directory) (parent_in m (files.node m))) number_is
+      -- the slot of its parent, as it is found
+      module _ (found : Option ℕ) (finds : option_map (exchanged inode.filesystem.count) found
+          ≡ option_map (λ (node : Node ℕ). parent_in (inode_of inode) (Some node))
+          ((files_at trees inode.filesystem.count).tree.node (inode_of inode))) where
+        parent_found : option_map (exchanged count) found
+            ≡ option_map (λ (node : Node ℕ). parent_in object (Some node)) (files.node object)
+        parent_found =
+            ap (λ (n : InodeRef). option_map (exchanged n.filesystem.count) found) (sym is) ∙ finds
+            ∙ ap (λ (n : InodeRef). option_map (λ (node : Node ℕ). parent_in (inode_of n) (Some node))
+            ((files_at trees n.filesystem.count).tree.node (inode_of n))) is
+            ∙ ap (λ m. option_map (λ (node : Node ℕ). parent_in m (Some node)) (files.node m)) number_is
+
+        pub no_inode : found ≡ None → None ≡ directory_path trees overlay node_number
+        no_inode none =
+            none_here (λ path born is. by (files.node object) refl is)
+          where
+            by : (o : Option (Node ℕ)) → files.node object ≡ o → is_directory_node (files.node object) ≡ true → ⊥
+            by None e is = true≢false (sym (sym (ap is_directory_node e) ∙ is))
+            by (Some node) e is =
+                none_is_some (parent_in object (Some node))
+                (ap (option_map (exchanged count)) (sym none) ∙ parent_found
+                ∙ ap (option_map (λ (node : Node ℕ). parent_in object (Some node))) e)
+
+        parent_at : (p : ℕ) → found ≡ Some p → exchanged count p ≡ parent
+        parent_at p e = by (files.node object) refl
+          where
+            by : (o : Option (Node ℕ)) → files.node object ≡ o → exchanged count p ≡ parent
+            by None none =
+                none_is_some (exchanged count p)
+                (sym (ap (option_map (exchanged count)) (sym e) ∙ parent_found
+                ∙ ap (option_map (λ (node : Node ℕ). parent_in object (Some node))) none))
+            by (Some node) some =
+                same_Some (exchanged count p) (parent_in object (Some node))
+                (ap (option_map (exchanged count)) (sym e) ∙ parent_found
+                ∙ ap (option_map (λ (node : Node ℕ). parent_in object (Some node))) some)
+                ∙ ap (parent_in object) (sym some)
+
+        pub its_parent : found ≡ Some directory → nat_eq (exchanged count directory) parent ≡ true
+        its_parent e = eq-eqb (exchanged count directory) parent (parent_at directory e)
+
+        pub not_its_parent : (p : ℕ) → found ≡ Some p → (p ≡ directory → ⊥)
+            → None ≡ directory_path trees overlay node_number
+        not_its_parent p e other = by (nat_eq (exchanged count directory) parent) refl
+          where
+            by : (b : Bool) → nat_eq (exchanged count directory) parent ≡ b
+                → None ≡ directory_path trees overlay node_number
+            by false apart = other_parent apart
+            by true same =
+                absurd (other (sym (exchanged_back count p)
+                ∙ ap (exchanged count) (parent_at p e ∙ sym (eqb-true (exchanged count directory) parent same))
+                ∙ exchanged_back count directory))
 
 -- a path without names
 pub no_names : (path : List (List ℕ)) → length path ≡ 0 → is_root_path path ≡ true

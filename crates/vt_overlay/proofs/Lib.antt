@@ -1,4 +1,9 @@
 pub mod BirthsFound
+pub mod BornNamed
+pub mod DirectoriesSeen
 pub mod NamesFound
+pub mod NodesShown
+pub mod ObjectsAlike
+pub mod RanksSeen
 pub mod RootFound
 pub mod TreeFound

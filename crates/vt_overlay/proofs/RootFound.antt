@@ -1,10 +1,10 @@
 -- The root of an overlay is at the path without names.
 use Rattle.std.proofs.Common.{◌≡◌, ◌≢◌, ◌∙◌, ◌<◌, ◌≤◌, ◌∷◌, [], arith, ap, Bool, false, length, List, None, Option, refl, Some, sym, true, true≢false, ℕ, slice_get}
 use Rattle.std.proofs.lemmas.Option.{same_Some, slice_get_within}
-use Rattle.std.specs.Prelude.{IfSome, if◌then◌else◌, not}
+use Rattle.std.specs.Prelude.{IfSome, if◌then◌else◌, not, unwrap_or}
 use Rattle.vt_spec.proofs.NodeChanges.{directory_no_whiteout}
 use Rattle.vt_spec.proofs.Options.{none_is_some}
-use Rattle.vt_spec.specs.Lists.{when, without_last}
+use Rattle.vt_spec.specs.Lists.{then_some, when, without_last}
 use Rattle.vt_spec.specs.Machine.Layers.{Shown, shown}
 use Rattle.vt_spec.specs.Machine.Merging.{is_root_path}
 use Rattle.vt_spec.specs.Tree.{Tree}
@@ -17,12 +17,12 @@ use Rattle.vt_fs.specs.FilesystemsValue.{Filesystems, files_at}
 use Rattle.vt_merge.specs.LayerValue.{layers_of}
 use Rattle.vt_merge.specs.declared.layers.LayerRef.{LayerRef}
 use Rattle.vt_location.specs.Births.{born_in}
-use Rattle.vt_overlay.specs.MergedTree.{AreLayers, IsLayer, OverlayValue, birth_at, born_here, directory_path, only_of_directory, rank_at, slot_at}
+use Rattle.vt_overlay.specs.MergedTree.{AreLayers, IsLayer, OverlayValue, birth_at, born_here, directory_path, merged_tree, object_shown, only_of_directory, rank_at, slot_at}
 use Rattle.vt_location.specs.declared.births.Birth.{Birth}
 use Rattle.vt_location.specs.declared.births.Birth.TheVariants.{Below, Here}
 use Rattle.vt_overlay.proofs.BirthsFound.{in_slot, small_birth}
 use Rattle.vt_location.proofs.NodeLemmas.{births_apart, number_parts}
-use Rattle.vt_overlay.proofs.TreeFound.{IsAt, directory_shown, found_at, found_is, found_is_at, layers}
+use Rattle.vt_overlay.proofs.TreeFound.{IsAt, directory_shown, found_at, found_is, found_is_at, layers, number_of_shown}
 
 is_here : Birth → Bool
 is_here Here = true
@@ -79,18 +79,30 @@ module _ (trees : Filesystems) (overlay : OverlayValue) (are : AreLayers trees o
       by true e birth = e
       by false e birth = absurd (true≢false (sym (ap is_here birth)))
 
-  -- where it is at no path, it is no directory
-  no_root : ((path : List (List ℕ)) → IsAt trees overlay are path root_number → ⊥)
-      → None ≡ directory_path trees overlay root_number
-  no_root none = by (found_at trees overlay are root_number) refl
+  -- where it is at no path, it is not shown, and no directory
+  nowhere : ((path : List (List ℕ)) → IsAt trees overlay are path root_number → ⊥)
+      → found_at trees overlay are root_number ≡ None
+  nowhere none = by (found_at trees overlay are root_number) refl
     where
       by : (o : Option (List (List ℕ))) → found_at trees overlay are root_number ≡ o
-          → None ≡ directory_path trees overlay root_number
-      by None e = sym (ap (only_of_directory trees overlay) e)
+          → found_at trees overlay are root_number ≡ None
+      by None e = e
       by (Some path) e = absurd (none path (found_is_at trees overlay are root_number path e))
 
+  no_way : found_at trees overlay are root_number ≡ None → None ≡ directory_path trees overlay root_number
+  no_way none = sym (ap (only_of_directory trees overlay) none)
+
+  no_object : found_at trees overlay are root_number ≡ None → None ≡ object_shown trees overlay root_number
+  no_object none = sym (ap (λ o. then_some o (shown (layers trees overlay are))) none)
+
+  nothing : slice_get overlay.lowers 0 ≡ None → found_at trees overlay are root_number ≡ None
+  nothing none = nowhere (λ path at. no_first overlay.lowers at.place at.lower none at.layer)
+
   pub no_top : slice_get overlay.lowers 0 ≡ None → None ≡ directory_path trees overlay root_number
-  no_top none = no_root (λ path at. no_first overlay.lowers at.place at.lower none at.layer)
+  no_top none = no_way (nothing none)
+
+  pub no_top_object : slice_get overlay.lowers 0 ≡ None → None ≡ object_shown trees overlay root_number
+  no_top_object none = no_object (nothing none)
 
   module _ (top : LayerRef) (layer : slice_get overlay.lowers 0 ≡ Some top) where
     abbrev count : ℕ
@@ -118,15 +130,21 @@ module _ (trees : Filesystems) (overlay : OverlayValue) (are : AreLayers trees o
         (sym at.is ∙ ap (shown (layers trees overlay are)) root.nameless ∙ top_is_shown)) in
         same_Some at.lower top (sym at.layer ∙ ap (slice_get overlay.lowers) place ∙ layer)
 
-    pub other_slot : (top.directory.slot ≡ slot → ⊥) → None ≡ directory_path trees overlay root_number
-    other_slot other =
-        no_root (λ path at.
+    elsewhere : (top.directory.slot ≡ slot → ⊥) → found_at trees overlay are root_number ≡ None
+    elsewhere other =
+        nowhere (λ path at.
         let root = is_root path at in
         let own : exchanged count start ≡ slot =
         ap (λ (l : LayerRef). slot_at trees l []) (sym (first_layer path at)) ∙ root.in_slot_of_top in
         let number : inode_number count top.directory.slot ≡ inode_number count slot =
         sym (exchanged_back count start) ∙ ap (exchanged count) own ∙ exchanged_slot count slot slot_small in
         other (omega (arith, number)))
+
+    pub other_slot : (top.directory.slot ≡ slot → ⊥) → None ≡ directory_path trees overlay root_number
+    other_slot other = no_way (elsewhere other)
+
+    pub other_object : (top.directory.slot ≡ slot → ⊥) → None ≡ object_shown trees overlay root_number
+    other_object other = no_object (elsewhere other)
 
     module _ (same : top.directory.slot ≡ slot) where
       at_root : IsAt trees overlay are [] root_number
@@ -141,11 +159,16 @@ module _ (trees : Filesystems) (overlay : OverlayValue) (are : AreLayers trees o
             (ap (λ s. exchanged count (inode_number count s)) same ∙ exchanged_number count slot slot_small);
       }
 
+      found_there : found_at trees overlay are root_number ≡ Some []
+      found_there = found_is trees overlay are root_number [] at_root (λ path at. (is_root path at).nameless)
+
+      pub root_object : Some (record { layer = 0; object = start }) ≡ object_shown trees overlay root_number
+      root_object = sym (ap (λ o. then_some o (shown (layers trees overlay are))) found_there ∙ top_is_shown)
+
       root_path : Some [] ≡ directory_path trees overlay root_number
       unfolding at_root
       root_path =
-          sym (ap (only_of_directory trees overlay)
-          (found_is trees overlay are root_number [] at_root (λ path at. (is_root path at).nameless))
+          sym (ap (only_of_directory trees overlay) found_there
           ∙ directory_shown trees overlay are root_number [] at_root is_layer.directory)
 
       pub way_of_root : (way : List (List ℕ)) → led files start way ≡ Some start
@@ -158,3 +181,13 @@ module _ (trees : Filesystems) (overlay : OverlayValue) (are : AreLayers trees o
           → r ≡ directory_path trees overlay root_number
       way_result None leads none = absurd (none refl is_layer.directory [] refl)
       way_result (Some way) leads none = way_of_root way leads
+
+-- the root of the tree is the highest layer's directory
+pub root_number_is : (trees : Filesystems) (overlay : OverlayValue) (are : AreLayers trees overlay.lowers)
+    (top : LayerRef) → slice_get overlay.lowers 0 ≡ Some top
+    → exchanged top.directory.filesystem.count (inode_of top.directory) ≡ top.directory.slot
+    → number_of (born_here overlay.number top.directory.slot) ≡ (merged_tree trees overlay).root
+root_number_is trees overlay are top layer slot =
+    sym (ap (λ o. unwrap_or o 0) (number_of_shown trees overlay are [] (record { layer = 0; object = inode_of top.directory })
+    top (top_shown trees overlay.lowers top layer (are 0 top layer).directory) layer)
+    ∙ ap (inode_number overlay.number.count) slot)

@@ -72,10 +72,10 @@ module _ (trees : Filesystems) (overlay : OverlayValue) (are : AreLayers trees o
   layers_are = all_opened overlay.lowers
 
   -- the real object at a path, and its number
-  abbrev real_of : List (List ℕ) → Option (Shown ℕ) → Option (Real ℕ)
+  abbrev pub real_of : List (List ℕ) → Option (Shown ℕ) → Option (Real ℕ)
   real_of path seen = option_map (λ (s : Shown ℕ). Lower s.layer path) seen
 
-  real_is : (path : List (List ℕ)) → real_shown nat_eq world (overlay_seen overlay) path ≡ real_of path (shown layers path)
+  pub real_is : (path : List (List ℕ)) → real_shown nat_eq world (overlay_seen overlay) path ≡ real_of path (shown layers path)
   real_is path =
       ap (λ ls. option_map (λ object. real_object false object.seen.layer object)
       (merged_at ls path)) layers_are
@@ -131,7 +131,7 @@ module _ (trees : Filesystems) (overlay : OverlayValue) (are : AreLayers trees o
       by layer l (Some lower) s m =
           (lower, s, ap (λ o. at_path o path) (same_Some (layer_of trees lower) layer m) ∙ l)
 
-  open_layers : AreOpen layers
+  pub open_layers : AreOpen layers
   open_layers place layer e =
       by (slice_get overlay.lowers place) refl
       (sym (slice_get-map (layer_of trees) overlay.lowers place) ∙ e)
@@ -156,7 +156,7 @@ module _ (trees : Filesystems) (overlay : OverlayValue) (are : AreLayers trees o
       omega (arith, within, most)
 
   -- a number that is found is at that path
-  number_of_shown : (path : List (List ℕ)) (seen : Shown ℕ) (lower : LayerRef) → shown layers path ≡ Some seen
+  pub number_of_shown : (path : List (List ℕ)) (seen : Shown ℕ) (lower : LayerRef) → shown layers path ≡ Some seen
       → slice_get overlay.lowers seen.layer ≡ Some lower
       → number_at path ≡ Some (number_of (node_born trees overlay.number seen.layer lower path))
   number_of_shown path seen lower e l =

@@ -1,18 +1,18 @@
 -- The tree of an overlay without an upper layer, as a function of the trees of its layers: the kernel's overlayfs
 -- document, "upper and lower" and "multiple lower layers".
-use Rattle.std.specs.Prelude.{Bool, List, None, Option, Some, [], false, filter, if◌then◌else◌, length, map, nat_eq, option_map, slice_get, true, unwrap_or, ℕ, ◌&&◌, ◌+◌, ◌∷◌, ◌≡◌}
-use Rattle.std.specs.declared.cmp.Ordering.{Ordering}
-use Rattle.std.specs.declared.cmp.Ordering.TheVariants.{Equal, Greater, Less}
-use Rattle.vt_spec.specs.Lists.{last_or, without_last}
+use Rattle.std.specs.Prelude.{List, None, Option, Some, [], false, if◌then◌else◌, length, map, option_map, slice_get, unwrap_or, ℕ, nat_eq, ◌+◌, ◌∷◌, ◌≡◌}
+use Rattle.vt_spec.specs.Lists.{last_or, then_some, without_last}
 use Rattle.vt_spec.specs.Machine.Invariants.{node_shown}
-use Rattle.vt_spec.specs.Machine.Layers.{at_path, node_at_path}
+use Rattle.vt_spec.specs.Machine.Layers.{Shown, at_path, node_at_path, shown}
 use Rattle.vt_spec.specs.Machine.Merging.{is_root_path}
 use Rattle.vt_spec.specs.Machine.World.{Layer, Overlay, Real, World}
 use Rattle.vt_spec.specs.Machine.World.Real.{Lower, Upper}
 use Rattle.vt_spec.specs.Rights.{Credentials}
-use Rattle.vt_spec.specs.Tree.{Entries, Tree, entries_in, is_directory_node, name_cmp}
+use Rattle.vt_spec.specs.Tree.{Tree, entries_in, is_directory_node}
 use Rattle.vt_spec.specs.TreeInvariant.{IsDirectory, IsTree}
+use Rattle.vt_laws_merging.specs.MergedTrees.{number_shown}
 use Rattle.vt_laws_seen.specs.TreesSeen.{path_numbered, tree_seen}
+use Rattle.vt_node.specs.Ranks.{rank_among}
 use Rattle.vt_location.specs.declared.births.Birth.{Birth}
 use Rattle.vt_location.specs.declared.births.Birth.TheVariants.{Below, Here}
 use Rattle.vt_location.specs.declared.locations.NodeRef.{NodeRef}
@@ -20,7 +20,7 @@ use Rattle.vt_location.specs.declared.numbers.FilesystemId.{FilesystemId}
 use Rattle.vt_location.specs.Locations.{inode_of, number_of}
 use Rattle.vt_location.specs.Numbers.{counted, exchanged, is_inode_of}
 use Rattle.vt_fs.specs.FilesystemsValue.{Filesystems, files_at, filesystems_seen, inodes_at}
-use Rattle.vt_merge.specs.LayerValue.{layer_of}
+use Rattle.vt_merge.specs.LayerValue.{layer_of, layers_of}
 use Rattle.vt_merge.specs.declared.layers.LayerRef.{LayerRef}
 
 -- an overlay: its number, its lower layers from the top, and who mounted it
@@ -69,16 +69,6 @@ abbrev pub slot_at : Filesystems → LayerRef → List (List ℕ) → ℕ
 slot_at trees layer path =
     exchanged layer.directory.filesystem.count (unwrap_or (at_path (layer_of trees layer) path) 0)
 
--- how many smaller names among some entries lead to the same object
-abbrev pub is_less : Ordering → Bool
-is_less Less = true
-is_less Equal = false
-is_less Greater = false
-
-abbrev pub rank_among : Entries ℕ → List ℕ → ℕ → ℕ
-rank_among entries name object =
-    length (filter (λ entry. nat_eq object entry.1 && is_less (name_cmp entry.0 name)) entries)
-
 -- the rank of the last name of a path; to a directory leads one name
 abbrev pub rank_at : Filesystems → LayerRef → List (List ℕ) → ℕ
 rank_at trees layer path =
@@ -115,12 +105,23 @@ merged_tree trees overlay =
     tree_seen (real_number trees overlay) (λ number. None) (longest trees overlay.lowers) (plain_world trees)
     (overlay_seen overlay)
 
--- the path at which a node is, if that shows a directory
+-- the number of what is shown at a path
+abbrev pub number_at : Filesystems → OverlayValue → List (List ℕ) → Option ℕ
+number_at trees overlay path =
+    number_shown (real_number trees overlay) (plain_world trees) (overlay_seen overlay) path
+
+-- the path at which a node is
 abbrev pub path_at : Filesystems → OverlayValue → ℕ → Option (List (List ℕ))
 path_at trees overlay number =
     path_numbered (real_number trees overlay) (longest trees overlay.lowers) (plain_world trees)
     (overlay_seen overlay) number
 
+-- the real object of a node: what the layers show at its path
+abbrev pub object_shown : Filesystems → OverlayValue → ℕ → Option (Shown ℕ)
+object_shown trees overlay number =
+    then_some (path_at trees overlay number) (shown (layers_of trees overlay.lowers))
+
+-- that path, if it shows a directory
 abbrev pub only_of_directory : Filesystems → OverlayValue → Option (List (List ℕ)) → Option (List (List ℕ))
 only_of_directory trees overlay None = None
 only_of_directory trees overlay (Some path) =

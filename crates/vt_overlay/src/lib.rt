@@ -2,6 +2,9 @@
 //! and what it is is looked up in the trees of the layers.
 #![tactic(auto)]
 
+mod laws;
+mod nodes;
 mod overlays;
 
+pub use laws::nodes_are_like_their_real_objects;
 pub use overlays::Overlay;

@@ -1,5 +1,5 @@
 //! Overlays without an upper layer, and the real objects of their directories.
-ghost use Rattle.std.specs.Prelude.{◌≡◌, ◌≤◌, ◌^◌, ℕ, IfOk, length, map, nat_eq, nat_lt, option_map, slice_get, true};
+ghost use Rattle.std.specs.Prelude.{◌≡◌, ◌≤◌, ◌^◌, ℕ, IfOk, Some, length, map, nat_eq, nat_lt, option_map, slice_get, true};
 ghost use Rattle.vt_spec.specs.Lists.{holds_of, then_some};
 ghost use Rattle.vt_spec.specs.Machine.Layers.{Shown, shown};
 ghost use Rattle.vt_spec.specs.Tree.{names_in, parent_in};
@@ -21,8 +21,8 @@ use vt_merge::{LayerRef, Real, Way, WayDown, merged_names, shown, way_down};
 /// mounted with.
 #[derive(Debug, Drop)]
 pub struct Overlay {
-    number: FilesystemId,
-    lowers: Vec<LayerRef>,
+    pub(crate) number: FilesystemId,
+    pub(crate) lowers: Vec<LayerRef>,
     mounter: Cred,
 }
 
@@ -101,7 +101,7 @@ impl Overlay {
             return None;
         }
         let inode = inode_in(lower, slot);
-        if !is_born_in(trees, inode, directory) {
+        if parent_slot(trees, inode)? != directory {
             return None;
         }
         let way = way_down(trees, lower.directory, inode)?;
@@ -148,10 +148,17 @@ impl Overlay {
     }
 
     // The lower layer at a place.
-    fn layer_at(&self, place: u8) -> Option<LayerRef>
+    pub(crate) fn layer_at(&self, place: u8) -> Option<LayerRef>
         ensures { result ≡ slice_get self.now.lowers place }
     {
-        self.lowers.as_slice().get(usize::from(place)).copied()
+        self.layer_in(usize::from(place))
+    }
+
+    // The same, by a place in the list.
+    pub(crate) fn layer_in(&self, place: usize) -> Option<LayerRef>
+        ensures { result ≡ slice_get self.now.lowers place }
+    {
+        self.lowers.as_slice().get(place).copied()
     }
 
     // Whether what the layers show at a path is in this one.
@@ -167,7 +174,7 @@ impl Overlay {
 }
 
 // The inode in a slot of a layer's tree.
-fn inode_in(layer: LayerRef, slot: usize) -> InodeRef
+pub(crate) fn inode_in(layer: LayerRef, slot: usize) -> InodeRef
     ensures is { result ≡ record { filesystem = layer.directory.filesystem; slot = slot } }
     ensures small { nat_lt slot (2 ^ 64) ≡ true }
 {
@@ -177,15 +184,12 @@ fn inode_in(layer: LayerRef, slot: usize) -> InodeRef
     }
 }
 
-// Whether the parent of a directory is in this slot of its tree.
-fn is_born_in(trees: &Filesystems, inode: InodeRef, directory: usize) -> bool
-    ensures { result
-        ≡ nat_eq (exchanged inode.filesystem.count directory) (parent_in (inode_of inode)
-        ((files_at trees.now inode.filesystem.count).tree.node (inode_of inode))) }
+// The slot of the parent of a directory; of anything else its own.
+fn parent_slot(trees: &Filesystems, inode: InodeRef) -> Option<usize>
+    ensures { option_map (exchanged inode.filesystem.count) result
+        ≡ option_map (λ node. parent_in (inode_of inode) (Some node))
+        ((files_at trees.now inode.filesystem.count).tree.node (inode_of inode)) }
 {
-    let parent = match trees.node(inode.node_ref()) {
-        Some(node) => node.parent(inode.node()),
-        None => inode.node(),
-    };
-    parent.index() == directory
+    let node = trees.node(inode.node_ref())?;
+    Some(node.parent(inode.node()).index())
 }

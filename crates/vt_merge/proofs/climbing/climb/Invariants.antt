@@ -1,5 +1,5 @@
 use Rattle.std.proofs.Common.{◌≡◌}
-use Rattle.vt_merge.specs.Climbed.{climbed}
+use Rattle.vt_merge.specs.Climbed.{AreNamed, climbed}
 use Rattle.vt_tree.specs.TreeValue.{tree_of}
 use Rattle.vt_merge.proofs.GoingUp.{ComesFromAbove, LeadsDown}
 use Rattle.vt_merge.proofs.climbing.climb.Given as goal
@@ -10,5 +10,6 @@ invariant-loop-len l =
     record {
       is : l.here ≡ climbed (tree_of l.tree) l.len l.fn.lower;
       leads : LeadsDown l.fn.filesystem.count l.tree l.fn.lower l.len;
+      named : AreNamed (tree_of l.tree) l.len l.fn.lower;
       come : ComesFromAbove l.fn.filesystem.count l.tree l.fn.top l.fn.lower l.len;
     }

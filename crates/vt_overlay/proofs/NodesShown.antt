@@ -1,0 +1,83 @@
+-- The node that is shown at a path: its number, and where it was born.
+use Rattle.std.proofs.Common.{◌≡◌, ◌≢◌, ◌∙◌, ◌∷◌, ◌+◌, [], arith, ap, Bool, false, length, List, None, Option, option_map, refl, Some, subst, suc, sym, true, true≢false, zero, ℕ, slice_get}
+use Rattle.std.proofs.lemmas.Option.{same_Some}
+use Rattle.std.specs.Prelude.{if◌then◌else◌, unwrap_or}
+use Rattle.vt_spec.proofs.Options.{none_is_some}
+use Rattle.vt_spec.specs.Lists.{last_or, then_some, without_last}
+use Rattle.vt_spec.specs.Machine.Layers.{Shown, at_path, shown}
+use Rattle.vt_spec.specs.Machine.Merging.{is_root_path}
+use Rattle.vt_spec.specs.Tree.{Tree, entries_in, is_directory_node}
+use Rattle.vt_location.specs.declared.births.Birth.{Birth}
+use Rattle.vt_location.specs.declared.births.Birth.TheVariants.{Below, Here}
+use Rattle.vt_location.specs.Locations.{number_of}
+use Rattle.vt_location.specs.Numbers.{exchanged}
+use Rattle.vt_fs.specs.FilesystemsValue.{Filesystems, files_at}
+use Rattle.vt_merge.specs.LayerValue.{layer_of}
+use Rattle.vt_merge.specs.declared.layers.LayerRef.{LayerRef}
+use Rattle.vt_node.specs.Ranks.{rank_among}
+use Rattle.vt_overlay.specs.MergedTree.{AreLayers, OverlayValue, birth_at, node_born, number_at, rank_at, real_number, slot_at}
+use Rattle.vt_overlay.proofs.BirthsFound.{has_last, no_names, some_names}
+use Rattle.vt_overlay.proofs.TreeFound.{in_layer, layers, number_of_shown, real_is, real_of}
+
+-- the last name is that at the last index
+pub last_by_index : (path : List (List ℕ)) (name default : List ℕ) (n : ℕ) → n + 1 ≡ length path
+    → slice_get path n ≡ Some name → last_or default path ≡ name
+last_by_index [] name default n e at = none_is_some name at
+last_by_index (a ∷ []) name default zero e at = same_Some a name at
+last_by_index (a ∷ []) name default (suc n) e at = none_is_some name at
+last_by_index (a ∷ b ∷ rest) name default zero e at = absurd (omega (arith, e))
+last_by_index (a ∷ b ∷ rest) name default (suc n) e at = last_by_index (b ∷ rest) name a n (omega (arith, e)) at
+
+module _ (trees : Filesystems) (overlay : OverlayValue) (are : AreLayers trees overlay.lowers) (path : List (List ℕ))
+  where
+  pub no_number : shown (layers trees overlay are) path ≡ None → number_at trees overlay path ≡ None
+  no_number none =
+      ap (option_map (real_number trees overlay)) (real_is trees overlay are path
+      ∙ ap (real_of trees overlay are path) none)
+
+  module _ (place object : ℕ) (lower : LayerRef)
+      (shows : shown (layers trees overlay are) path ≡ Some (record { layer = place; object = object }))
+      (layer : slice_get overlay.lowers place ≡ Some lower) where
+    abbrev f : ℕ
+    f = lower.directory.filesystem.count
+
+    abbrev tree : Tree ℕ
+    tree = (files_at trees f).tree
+
+    pub leads : at_path (layer_of trees lower) path ≡ Some object
+    leads =
+        let at = in_layer trees overlay are path (record { layer = place; object = object }) shows in
+        subst (λ l. at_path (layer_of trees l) path ≡ Some object) (same_Some at.0 lower (sym at.1 ∙ layer)) at.2
+
+    pub node_is : (birth : Birth) (slot : ℕ) → birth ≡ birth_at trees place lower path → exchanged f object ≡ slot
+        → Some (number_of (record { filesystem = overlay.number; slot = slot; birth = birth }))
+        ≡ number_at trees overlay path
+    node_is birth slot is at =
+        let own : slot_at trees lower path ≡ slot = ap (λ o. exchanged f (unwrap_or o 0)) leads ∙ at in
+        sym (number_of_shown trees overlay are path (record { layer = place; object = object }) lower shows layer
+        ∙ (λ i. Some (number_of (record { filesystem = overlay.number; slot = own i; birth = sym is i }))))
+
+    pub root_birth : length path ≡ 0 → Some Here ≡ Some (birth_at trees place lower path)
+    root_birth none =
+        ap (λ b. Some (if b then Here
+        else Below place (slot_at trees lower (without_last path)) (rank_at trees lower path))) (sym (no_names path none))
+
+    pub front_there : length path ≢ 0 → at_path (layer_of trees lower) (without_last path) ≢ None
+    front_there some none =
+        let last = has_last trees lower (are place lower layer) path object (some_names path some) leads in
+        none_is_some last.directory (sym none ∙ last.leads)
+
+    pub below_birth : length path ≢ 0 → (directory slot rank : ℕ) (name : List ℕ)
+        → at_path (layer_of trees lower) (without_last path) ≡ Some directory
+        → exchanged f directory ≡ slot → last_or [] path ≡ name
+        → rank ≡ (if is_directory_node (tree.node object) then 0
+        else rank_among (entries_in (tree.node directory)) name object)
+        → Some (Below place slot rank) ≡ Some (birth_at trees place lower path)
+    below_birth some directory slot rank name up at last ranked =
+        let above : slot_at trees lower (without_last path) ≡ slot = ap (λ o. exchanged f (unwrap_or o 0)) up ∙ at in
+        let rank_is : rank_at trees lower path ≡ rank =
+        (λ i. if is_directory_node (then_some (leads i) tree.node) then 0
+        else rank_among (entries_in (then_some (up i) tree.node)) (last i) (unwrap_or (leads i) 0)) ∙ sym ranked in
+        sym (ap (λ b. Some (if b then Here
+        else Below place (slot_at trees lower (without_last path)) (rank_at trees lower path))) (some_names path some)
+        ∙ (λ i. Some (Below place (above i) (rank_is i))))

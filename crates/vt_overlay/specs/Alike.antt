@@ -1,0 +1,32 @@
+-- What a node of an overlay has of its real object: the kernel's overlayfs document, "non-directories".
+use Rattle.std.specs.Prelude.{List, Option, nat_eq, option_map, ℕ, ◌≡◌}
+use Rattle.vt_spec.specs.declared.attributes.Attr.{Attr}
+use Rattle.vt_spec.specs.declared.attributes.Kind.{Kind}
+use Rattle.vt_spec.specs.Lists.{then_some}
+use Rattle.vt_spec.specs.Machine.Invariants.{node_shown}
+use Rattle.vt_spec.specs.Tree.{Node, bytes_of, kind_of}
+use Rattle.vt_fs.specs.FilesystemsValue.{Filesystems}
+use Rattle.vt_overlay.specs.MergedTree.{OverlayValue, merged_tree, overlay_seen, path_at, plain_world}
+
+-- an inode without its entries, its parent and its mark
+pub record Front : Type 0 where
+  pub attr : Attr
+  pub kind : Kind
+  pub bytes : List ℕ
+
+abbrev pub front_of : Node ℕ → Front
+front_of node = record { attr = node.attr; kind = kind_of node.content; bytes = bytes_of node.content }
+
+abbrev pub front : Option (Node ℕ) → Option Front
+front node = option_map front_of node
+
+-- the inode of the real object of a node
+abbrev pub real_inode : Filesystems → OverlayValue → ℕ → Option (Node ℕ)
+real_inode trees overlay number =
+    then_some (path_at trees overlay number) (node_shown nat_eq (plain_world trees) (overlay_seen overlay))
+
+-- A node has the owner, group, mode, kind and content of its real object.
+abbrev pub ObjectsAreAlike : Type 0
+ObjectsAreAlike =
+    (trees : Filesystems) (overlay : OverlayValue) (number : ℕ)
+    → front (real_inode trees overlay number) ≡ front ((merged_tree trees overlay).node number)
