@@ -1,4 +1,5 @@
 -- What the proofs of src/members.rt use.
+pub mod Answering
 pub mod Numbers
 pub mod RoutesAlike
 pub mod TurnsAlike

@@ -1,12 +1,15 @@
--- Turns of the tasks of a set that answer nothing: they are those of the part alone (profile).
-use Rattle.std.specs.Prelude.{List, None, Option, is_some, nat_eq, true, ℕ, ◌≡◌}
-use Rattle.vt_spec.specs.Language.Calls.{TaskName, same_name}
+-- Turns of the tasks of a set, in the world and in the part of the set (profile).
+use Rattle.std.specs.Prelude.{List, None, Option, Some, false, is_ok, is_some, nat_eq, true, ℕ, ◌≡◌}
+use Rattle.vt_spec.specs.Language.Calls.{Call, TaskName, same_name}
 use Rattle.vt_spec.specs.Language.Script.Who.{Someone}
-use Rattle.vt_spec.specs.Lists.{Fresh, is_among}
+use Rattle.vt_spec.specs.Lists.{Fresh, first_of_list, is_among}
 use Rattle.vt_spec.specs.Machine.Invariants.{IsWorld}
 use Rattle.vt_spec.specs.Machine.Sealed.{part_of}
-use Rattle.vt_spec.specs.Machine.Turns.{Progress, Sched, is_overtaken, turn}
+use Rattle.vt_spec.specs.Machine.Turns.{Progress, Sched, is_overtaken, queue_of, turn}
 use Rattle.vt_spec.specs.Machine.World.{Task}
+use Rattle.vt_spec.specs.Machine.Policy.{policy}
+use Rattle.vt_spec.specs.Machine.Turns.Item.{Calls}
+use Rattle.vt_laws_members_changes.specs.Changes.{EndsAlike, IsCallOfTheirs, grown}
 use Rattle.vt_laws_turns.specs.Commits.{Turn, left_by}
 use Rattle.vt_laws_turn_holds.specs.Held.{HoldsWhatIsSeen, IsUnderWayOf}
 use Rattle.vt_laws_sealed_turns.specs.OutsidersTurns.{AreOutsidersTurns, HasItSealed, their_calls}
@@ -47,6 +50,39 @@ TheirWordsAreOfTheirPart =
     → is_among same_name name names ≡ true → (turn nat_eq sched (Someone name) fresh).reply ≡ None
     → (turn nat_eq (part_of_sched names sched) (Someone name) fresh).sched
     ≡ part_of_sched names (turn nat_eq sched (Someone name) fresh).sched
+
+-- what a turn of theirs answers and leaves of the part is what it answers and leaves where the world is the part
+pub record IsOfTheirPart (sched : Sched ℕ) (names : List TaskName) (name : TaskName) (fresh : Option (Fresh ℕ))
+    : Type 0 where
+  pub reply : (turn nat_eq (part_of_sched names sched) (Someone name) fresh).reply
+      ≡ (turn nat_eq sched (Someone name) fresh).reply
+  pub left : part_of_sched names (turn nat_eq (part_of_sched names sched) (Someone name) fresh).sched
+      ≡ part_of_sched names (turn nat_eq sched (Someone name) fresh).sched
+
+-- a turn of a task of theirs that answers this call
+pub record AnswersACall (sched : Sched ℕ) (names : List TaskName) (name : TaskName) (call : Call) (fresh : Fresh ℕ)
+    : Type 0 where
+  pub has : HasCallsUnderWay sched
+  pub theirs : is_among same_name name names ≡ true
+  pub line : ℕ
+  pub first : first_of_list (queue_of sched.queues (Someone name)) ≡ Some (record { line = line; item = Calls call })
+  pub answers : is_some (turn nat_eq sched (Someone name) (Some fresh)).reply ≡ true
+
+-- A turn that answers a call which ends alike in the part, and leaves the set its tasks, is of their part.
+abbrev pub TheirAnswersAreOfTheirPart : Type 0
+TheirAnswersAreOfTheirPart =
+    (sched : Sched ℕ) (names : List TaskName) (name : TaskName) (call : Call) (fresh : Fresh ℕ)
+    → AnswersACall sched names name call fresh → EndsAlike sched.world names name call fresh fresh
+    → grown names name call (policy nat_eq fresh sched.world name call).answer ≡ names
+    → IsOfTheirPart sched names name (Some fresh)
+
+-- So is each that refuses a call, where the set is sealed off and the call enters no namespace but one of theirs.
+abbrev pub TheirRefusalsAreOfTheirPart : Type 0
+TheirRefusalsAreOfTheirPart =
+    (sched : Sched ℕ) (names : List TaskName) (name : TaskName) (call : Call) (fresh : Fresh ℕ)
+    → AnswersACall sched names name call fresh → IsCallOfTheirs sched.world names name call
+    → is_ok (policy nat_eq fresh sched.world name call).answer ≡ false
+    → IsOfTheirPart sched names name (Some fresh)
 
 -- Turns of outsiders overtake no call of theirs.
 abbrev pub OutsidersOvertakeNoCallOfTheirs : Type 0

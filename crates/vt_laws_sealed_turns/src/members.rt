@@ -1,21 +1,26 @@
 //! Turns of the tasks of a set, in the world and in the part of the set.
-ghost use Rattle.vt_laws_sealed_turns.specs.MembersTurns.{OutsidersOvertakeNoCallOfTheirs, TheirCallsAreOvertakenAlike, TheirTurnsAnswerAlike, TheirWordsAreOfTheirPart};
+ghost use Rattle.vt_laws_sealed_turns.specs.MembersTurns.{OutsidersOvertakeNoCallOfTheirs, TheirAnswersAreOfTheirPart, TheirCallsAreOvertakenAlike, TheirRefusalsAreOfTheirPart, TheirTurnsAnswerAlike, TheirWordsAreOfTheirPart};
 
 /// The world has all invariants, and calls under way hold what their tasks see (`HasCallsUnderWay`). Then a call under
-/// way of a task of a set is overtaken in the world just if it is in the part of the set (`overtaken`). A turn of such a
-/// task answers something in the world just if it does in the part (`answers`). The set need not be sealed off.
+/// way of a task of a set is overtaken in the world just if it is in the part of the set (`overtaken`). A turn of such
+/// a task answers something in the world just if it does in the part (`answers`). The set need not be sealed off.
 ///
 /// **A turn of theirs that answers nothing is a turn of their part alone** (`words`): it leaves of the part, of the
 /// queues and of their calls under way what it leaves where the world is the part. It walks the same word through the
-/// same filesystems, or restarts the call alike. Of a turn that answers no more is said: whether its call changes the
-/// part alike is a law of calls.
+/// same filesystems, or restarts the call alike.
+///
+/// So is a turn that answers a call which ends alike in the part by the same numbers (`EndsAlike`), and after which the
+/// set has the tasks that it had (`answered`): its reply is that of the part, too (`IsOfTheirPart`). So is each that
+/// refuses a call, if the set is sealed off and the call enters no namespace but one of theirs (`refused`).
 ///
 /// Where the set is sealed off (`HasItSealed`), turns of tasks outside, however many, leave each call of theirs under
-/// way, and none of these is overtaken that was not (`others`). Of these turns `IsOutsidersTurn` asks what it asks of
-/// each.
+/// way, and none of these is overtaken that was not (`others`). Of each of these turns `IsOutsidersTurn` says what is
+/// asked.
 pub fn turns_of_theirs_are_of_their_part()
     ensures overtaken { TheirCallsAreOvertakenAlike }
     ensures answers { TheirTurnsAnswerAlike }
     ensures words { TheirWordsAreOfTheirPart }
+    ensures answered { TheirAnswersAreOfTheirPart }
+    ensures refused { TheirRefusalsAreOfTheirPart }
     ensures others { OutsidersOvertakeNoCallOfTheirs }
 {}

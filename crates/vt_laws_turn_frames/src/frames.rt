@@ -17,8 +17,8 @@ pub fn unraised_filesystems_stay()
     ensures { UnraisedFilesystemsStay }
 {}
 
-/// A mount in no namespace that a call leaves has the record that it had: no call gives it flags, a mount point, a
-/// namespace or a peer group.
+/// In a world with all invariants, a mount in no namespace that a call leaves has the record that it had, if the numbers
+/// handed in are unused. No call gives it flags, a mount point, a namespace or a peer group.
 pub fn detached_mounts_stay()
     ensures { DetachedMountsStay }
 {}

@@ -2,3 +2,4 @@
 pub mod Grounds
 pub mod Meeting
 pub mod Holding
+pub mod Scripts

@@ -2,15 +2,15 @@
 use Rattle.std.specs.Prelude.{Contains, List, Option, Some, [], false, is_some, nat_eq, true, Bool, ℕ, ⊤, ◌||◌, ◌∷◌, ◌≡◌, ◌≤◌, ◌⊎◌}
 use Rattle.std.specs.List.{list_any}
 use Rattle.vt_spec.specs.Language.Calls.{Call}
-use Rattle.vt_spec.specs.Language.Script.{Who}
+use Rattle.vt_spec.specs.Language.Script.{Version, lines_of, whole}
 use Rattle.vt_spec.specs.Lists.{Fresh, first_of_list}
 use Rattle.vt_spec.specs.Machine.Invariants.{IsWorld}
 use Rattle.vt_spec.specs.Machine.Run.{Serves}
-use Rattle.vt_spec.specs.Machine.Turns.{Progress, Queue, Sched, is_stale, last_number, namespace_change_of, queue_of, turn}
+use Rattle.vt_spec.specs.Machine.Turns.{Progress, Queue, Sched, first_sched, is_stale, last_number, namespace_change_of, queue_of, turn}
 use Rattle.vt_spec.specs.Machine.Turns.Item.{Calls}
 use Rattle.vt_spec.specs.Machine.World.{Task, World, mount_at, mounts_of, task_called}
 use Rattle.vt_laws_trees.specs.Trees.Limits.{names_few_groups}
-use Rattle.vt_laws_turns.specs.Commits.{Turn, left_by}
+use Rattle.vt_laws_turns.specs.Commits.{Turn, left_by, turns_given}
 use Rattle.vt_laws_turn_walks.specs.ByWords.{Aim}
 use Rattle.vt_laws_turn_walks.specs.HalfWalks.{met_in, words_walked_in}
 
@@ -92,3 +92,9 @@ SchedulesHoldWhatIsSeen =
     (sched : Sched ℕ) (schedule : List Turn) → IsWorld nat_eq sched.world → HoldsWhatIsSeen sched
     → AreFitTurns sched schedule
     → IsWorld nat_eq (left_by sched schedule).world × HoldsWhatIsSeen (left_by sched schedule)
+
+-- So in each state that a schedule of a script's queues leads to, the calls under way hold what their tasks see.
+abbrev pub SchedulesOfScriptsHoldWhatIsSeen : Type 0
+SchedulesOfScriptsHoldWhatIsSeen =
+    (version : Version) (refused : List Bool) (script schedule : List ℕ)
+    → HoldsWhatIsSeen (left_by (first_sched (whole version) script) (turns_given 1 (lines_of schedule) refused))

@@ -31,7 +31,7 @@ use Rattle.vt_laws_sealed_turns.proofs.members.Numbers.{filesystem_same, found_k
 use Rattle.vt_laws_sealed_turns.proofs.members.RoutesAlike.{routes_alike}
 
 -- filters by two tests, in whatever order
-swapped : {A : Type 0} (p q : A → Bool) (list : List A) → filter p (filter q list) ≡ filter q (filter p list)
+pub swapped : {A : Type 0} (p q : A → Bool) (list : List A) → filter p (filter q list) ≡ filter q (filter p list)
 swapped p q [] = refl
 swapped {A} p q (a ∷ rest) = by (p a) (q a) refl refl (swapped p q rest)
   where

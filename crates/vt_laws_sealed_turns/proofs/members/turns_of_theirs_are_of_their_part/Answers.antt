@@ -1,3 +1,4 @@
+use Rattle.vt_laws_sealed_turns.proofs.members.Answering.{their_answers_are_of_their_part, their_refusals_are_of_their_part}
 use Rattle.vt_laws_sealed_turns.proofs.members.Overtaking.{outsiders_overtake_no_call_of_theirs, their_calls_are_overtaken_alike}
 use Rattle.vt_laws_sealed_turns.proofs.members.TurnsAlike.{their_turns_answer_alike, their_words_are_of_their_part}
 use Rattle.vt_laws_sealed_turns.proofs.members.turns_of_theirs_are_of_their_part.Goals as goal
@@ -13,3 +14,9 @@ returns-clause-words c = their_words_are_of_their_part
 
 pub returns-clause-others : goal.returns-clause-others
 returns-clause-others c = outsiders_overtake_no_call_of_theirs
+
+pub returns-clause-answered : goal.returns-clause-answered
+returns-clause-answered c = their_answers_are_of_their_part
+
+pub returns-clause-refused : goal.returns-clause-refused
+returns-clause-refused c = their_refusals_are_of_their_part

@@ -1,5 +1,6 @@
 use Rattle.vt_laws_turn_holds.proofs.held.Holding.{schedulers_begin_so, schedules_hold_what_is_seen, turns_hold_what_is_seen}
 use Rattle.vt_laws_turn_holds.proofs.held.Meeting.{words_meet_what_is_seen}
+use Rattle.vt_laws_turn_holds.proofs.held.Scripts.{schedules_of_scripts_hold_what_is_seen}
 use Rattle.vt_laws_turn_holds.proofs.held.filesystems_held_are_seen.Goals as goal
 
 pub returns-clause-words : goal.returns-clause-words
@@ -13,3 +14,6 @@ returns-clause-turns c = turns_hold_what_is_seen
 
 pub returns-clause-schedules : goal.returns-clause-schedules
 returns-clause-schedules c = schedules_hold_what_is_seen
+
+pub returns-clause-scripts : goal.returns-clause-scripts
+returns-clause-scripts c = schedules_of_scripts_hold_what_is_seen
