@@ -1,5 +1,5 @@
 -- Which directories lie under which, as filesystems are kept.
-use Rattle.std.proofs.Common.{◌≡◌, ap, ◌∙◌, ◌<◌, ◌&&◌, nat_eq, ℕ, false}
+use Rattle.std.proofs.Common.{◌≡◌, ap, ◌∙◌, ◌&&◌, nat_eq, ℕ, false, true}
 use Rattle.vt_spec.specs.FileTree.{is_directory_under}
 use Rattle.vt_spec.specs.Machine.World.{Filesystem, filesystem_numbered}
 use Rattle.vt_fs.specs.FilesystemsValue.{files_at}

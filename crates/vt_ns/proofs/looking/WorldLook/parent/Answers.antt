@@ -1,6 +1,6 @@
 use Rattle.std.proofs.Common.{Some, nat_eq, option_copied, ◌≡◌, ◌∙◌, ap, sym, arith}
 use Rattle.vt_spec.specs.Machine.World.{node_at}
-use Rattle.vt_spec.specs.Tree.{parent_in}
+use Rattle.vt_spec.specs.Tree.{parent_in, parent_of}
 use Rattle.vt_location.proofs.NodeLemmas.{here_number}
 use Rattle.vt_location.specs.Locations.{location_of, number_of}
 use Rattle.vt_location.specs.Numbers.{inode_number}
@@ -22,7 +22,9 @@ returns c =
     (lent_there (filesystem_of (number_of at.node)) seen object lends) in
     let number = here_number at.node here in
     let is_lent = lent_here f (number_of at.node) at.node.slot seen object (omega arith) number lends in
+    let parent : c.parent-parent.result ≡ parent_of at.node.slot object.content =
+    c.parent-parent.ensures ∙ ap (λ own. parent_of own object.content) c.new.ensures in
     ap number_of c.new-2.ensures
-    ∙ ap (inode_number f) c.parent.ensures
-    ∙ parent_shown f object seen is_lent at.node.slot (omega arith) (omega arith)
+    ∙ ap (inode_number f) parent
+    ∙ parent_shown f object seen is_lent at.node.slot (omega arith) (omega (arith, parent))
     ∙ ap (λ n. parent_in n seen) (sym number)
