@@ -171,25 +171,25 @@ module _ (trees : Filesystems) (overlay : OverlayValue) (b : Birthplace trees ov
     -- the directory, and its names, as they are found in its slot
     module _ (inode : InodeRef) (is : inode ≡ record { filesystem = lower.directory.filesystem; slot = b.directory })
       where
-      in_slot_above : inode_of (record { filesystem = lower.directory.filesystem; slot = b.directory }) ≡ above
-      in_slot_above = sym (exchanged_slot count b.directory b.directory_small)
+        in_slot_above : inode_of (record { filesystem = lower.directory.filesystem; slot = b.directory }) ≡ above
+        in_slot_above = sym (exchanged_slot count b.directory b.directory_small)
 
-      pub above_number : inode_of inode ≡ above
-      above_number = ap inode_of is ∙ in_slot_above
+        pub above_number : inode_of inode ≡ above
+        above_number = ap inode_of is ∙ in_slot_above
 
-      pub above_node : (files_at trees inode.filesystem.count).tree.node (inode_of inode) ≡ files.node above
-      above_node =
-          ap (λ (n : InodeRef). (files_at trees n.filesystem.count).tree.node (inode_of n)) is
-          ∙ ap files.node in_slot_above
+        pub above_node : (files_at trees inode.filesystem.count).tree.node (inode_of inode) ≡ files.node above
+        above_node =
+            ap (λ (n : InodeRef). (files_at trees n.filesystem.count).tree.node (inode_of n)) is
+            ∙ ap files.node in_slot_above
 
-      pub name_seen : (node : Node ℕ)
-          → Some (node_seen inode.filesystem.count node)
-          ≡ (files_at trees inode.filesystem.count).tree.node (inode_of inode)
-          → (id : ℕ) → id ≡ b.slot
-          → name_ranked (entries_of node.content) id b.rank ≡ name_ranked (entries_in (files.node above)) object b.rank
-      name_seen node seen id same =
-          ranked_seen inode.filesystem.count node id b.rank
-          ∙ (λ i. name_ranked (entries_in ((seen ∙ above_node) i)) (exchanged (is i).filesystem.count (same i)) b.rank)
+        pub name_seen : (node : Node ℕ)
+            → Some (node_seen inode.filesystem.count node)
+            ≡ (files_at trees inode.filesystem.count).tree.node (inode_of inode)
+            → (id : ℕ) → id ≡ b.slot
+            → name_ranked (entries_of node.content) id b.rank ≡ name_ranked (entries_in (files.node above)) object b.rank
+        name_seen node seen id same =
+            ranked_seen inode.filesystem.count node id b.rank
+            ∙ (λ i. name_ranked (entries_in ((seen ∙ above_node) i)) (exchanged (is i).filesystem.count (same i)) b.rank)
 
     -- where it has no such name, it has no real object
     unnamed : ((path : List (List ℕ)) → Born path lower → IsNamed path → ⊥) → None ≡ object_shown trees overlay number

@@ -30,54 +30,54 @@ last_by_index (a ∷ b ∷ rest) name default (suc n) e at = last_by_index (b �
 
 module _ (trees : Filesystems) (overlay : OverlayValue) (are : AreLayers trees overlay.lowers) (path : List (List ℕ))
   where
-  pub no_number : shown (layers trees overlay are) path ≡ None → number_at trees overlay path ≡ None
-  no_number none =
-      ap (option_map (real_number trees overlay)) (real_is trees overlay are path
-      ∙ ap (real_of trees overlay are path) none)
+    pub no_number : shown (layers trees overlay are) path ≡ None → number_at trees overlay path ≡ None
+    no_number none =
+        ap (option_map (real_number trees overlay)) (real_is trees overlay are path
+        ∙ ap (real_of trees overlay are path) none)
 
-  module _ (place object : ℕ) (lower : LayerRef)
-      (shows : shown (layers trees overlay are) path ≡ Some (record { layer = place; object = object }))
-      (layer : slice_get overlay.lowers place ≡ Some lower) where
-    abbrev f : ℕ
-    f = lower.directory.filesystem.count
+    module _ (place object : ℕ) (lower : LayerRef)
+        (shows : shown (layers trees overlay are) path ≡ Some (record { layer = place; object = object }))
+        (layer : slice_get overlay.lowers place ≡ Some lower) where
+      abbrev f : ℕ
+      f = lower.directory.filesystem.count
 
-    abbrev tree : Tree ℕ
-    tree = (files_at trees f).tree
+      abbrev tree : Tree ℕ
+      tree = (files_at trees f).tree
 
-    pub leads : at_path (layer_of trees lower) path ≡ Some object
-    leads =
-        let at = in_layer trees overlay are path (record { layer = place; object = object }) shows in
-        subst (λ l. at_path (layer_of trees l) path ≡ Some object) (same_Some at.0 lower (sym at.1 ∙ layer)) at.2
+      pub leads : at_path (layer_of trees lower) path ≡ Some object
+      leads =
+          let at = in_layer trees overlay are path (record { layer = place; object = object }) shows in
+          subst (λ l. at_path (layer_of trees l) path ≡ Some object) (same_Some at.0 lower (sym at.1 ∙ layer)) at.2
 
-    pub node_is : (birth : Birth) (slot : ℕ) → birth ≡ birth_at trees place lower path → exchanged f object ≡ slot
-        → Some (number_of (record { filesystem = overlay.number; slot = slot; birth = birth }))
-        ≡ number_at trees overlay path
-    node_is birth slot is at =
-        let own : slot_at trees lower path ≡ slot = ap (λ o. exchanged f (unwrap_or o 0)) leads ∙ at in
-        sym (number_of_shown trees overlay are path (record { layer = place; object = object }) lower shows layer
-        ∙ (λ i. Some (number_of (record { filesystem = overlay.number; slot = own i; birth = sym is i }))))
+      pub node_is : (birth : Birth) (slot : ℕ) → birth ≡ birth_at trees place lower path → exchanged f object ≡ slot
+          → Some (number_of (record { filesystem = overlay.number; slot = slot; birth = birth }))
+          ≡ number_at trees overlay path
+      node_is birth slot is at =
+          let own : slot_at trees lower path ≡ slot = ap (λ o. exchanged f (unwrap_or o 0)) leads ∙ at in
+          sym (number_of_shown trees overlay are path (record { layer = place; object = object }) lower shows layer
+          ∙ (λ i. Some (number_of (record { filesystem = overlay.number; slot = own i; birth = sym is i }))))
 
-    pub root_birth : length path ≡ 0 → Some Here ≡ Some (birth_at trees place lower path)
-    root_birth none =
-        ap (λ b. Some (if b then Here
-        else Below place (slot_at trees lower (without_last path)) (rank_at trees lower path))) (sym (no_names path none))
+      pub root_birth : length path ≡ 0 → Some Here ≡ Some (birth_at trees place lower path)
+      root_birth none =
+          ap (λ b. Some (if b then Here
+          else Below place (slot_at trees lower (without_last path)) (rank_at trees lower path))) (sym (no_names path none))
 
-    pub front_there : length path ≢ 0 → at_path (layer_of trees lower) (without_last path) ≢ None
-    front_there some none =
-        let last = has_last trees lower (are place lower layer) path object (some_names path some) leads in
-        none_is_some last.directory (sym none ∙ last.leads)
+      pub front_there : length path ≢ 0 → at_path (layer_of trees lower) (without_last path) ≢ None
+      front_there some none =
+          let last = has_last trees lower (are place lower layer) path object (some_names path some) leads in
+          none_is_some last.directory (sym none ∙ last.leads)
 
-    pub below_birth : length path ≢ 0 → (directory slot rank : ℕ) (name : List ℕ)
-        → at_path (layer_of trees lower) (without_last path) ≡ Some directory
-        → exchanged f directory ≡ slot → last_or [] path ≡ name
-        → rank ≡ (if is_directory_node (tree.node object) then 0
-        else rank_among (entries_in (tree.node directory)) name object)
-        → Some (Below place slot rank) ≡ Some (birth_at trees place lower path)
-    below_birth some directory slot rank name up at last ranked =
-        let above : slot_at trees lower (without_last path) ≡ slot = ap (λ o. exchanged f (unwrap_or o 0)) up ∙ at in
-        let rank_is : rank_at trees lower path ≡ rank =
-        (λ i. if is_directory_node (then_some (leads i) tree.node) then 0
-        else rank_among (entries_in (then_some (up i) tree.node)) (last i) (unwrap_or (leads i) 0)) ∙ sym ranked in
-        sym (ap (λ b. Some (if b then Here
-        else Below place (slot_at trees lower (without_last path)) (rank_at trees lower path))) (some_names path some)
-        ∙ (λ i. Some (Below place (above i) (rank_is i))))
+      pub below_birth : length path ≢ 0 → (directory slot rank : ℕ) (name : List ℕ)
+          → at_path (layer_of trees lower) (without_last path) ≡ Some directory
+          → exchanged f directory ≡ slot → last_or [] path ≡ name
+          → rank ≡ (if is_directory_node (tree.node object) then 0
+          else rank_among (entries_in (tree.node directory)) name object)
+          → Some (Below place slot rank) ≡ Some (birth_at trees place lower path)
+      below_birth some directory slot rank name up at last ranked =
+          let above : slot_at trees lower (without_last path) ≡ slot = ap (λ o. exchanged f (unwrap_or o 0)) up ∙ at in
+          let rank_is : rank_at trees lower path ≡ rank =
+          (λ i. if is_directory_node (then_some (leads i) tree.node) then 0
+          else rank_among (entries_in (then_some (up i) tree.node)) (last i) (unwrap_or (leads i) 0)) ∙ sym ranked in
+          sym (ap (λ b. Some (if b then Here
+          else Below place (slot_at trees lower (without_last path)) (rank_at trees lower path))) (some_names path some)
+          ∙ (λ i. Some (Below place (above i) (rank_is i))))
