@@ -1,6 +1,7 @@
 -- Turns of the tasks of a set, in the world and in the part of the set (profile).
 use Rattle.std.specs.Prelude.{List, None, Option, Some, false, is_ok, is_some, nat_eq, true, ℕ, ◌≡◌}
-use Rattle.vt_spec.specs.Language.Calls.{Call, TaskName, same_name}
+use Rattle.vt_spec.specs.Language.Calls.{Call, ForkWords, TaskName, same_name}
+use Rattle.vt_spec.specs.Language.Calls.Call.{Exit, Fork}
 use Rattle.vt_spec.specs.Language.Script.Who.{Someone}
 use Rattle.vt_spec.specs.Lists.{Fresh, first_of_list, is_among}
 use Rattle.vt_spec.specs.Machine.Invariants.{IsWorld}
@@ -51,13 +52,18 @@ TheirWordsAreOfTheirPart =
     → (turn nat_eq (part_of_sched names sched) (Someone name) fresh).sched
     ≡ part_of_sched names (turn nat_eq sched (Someone name) fresh).sched
 
--- what a turn of theirs answers and leaves of the part is what it answers and leaves where the world is the part
-pub record IsOfTheirPart (sched : Sched ℕ) (names : List TaskName) (name : TaskName) (fresh : Option (Fresh ℕ))
+-- a turn of theirs answers what it answers where the world is the part, and leaves what it leaves there of the part of
+-- a set, which is theirs or the one that a call leaves
+pub record TurnsAlikeFor (sched : Sched ℕ) (names set : List TaskName) (name : TaskName) (fresh : Option (Fresh ℕ))
     : Type 0 where
   pub reply : (turn nat_eq (part_of_sched names sched) (Someone name) fresh).reply
       ≡ (turn nat_eq sched (Someone name) fresh).reply
-  pub left : part_of_sched names (turn nat_eq (part_of_sched names sched) (Someone name) fresh).sched
-      ≡ part_of_sched names (turn nat_eq sched (Someone name) fresh).sched
+  pub left : part_of_sched set (turn nat_eq (part_of_sched names sched) (Someone name) fresh).sched
+      ≡ part_of_sched set (turn nat_eq sched (Someone name) fresh).sched
+
+-- what a turn of theirs answers and leaves of the part is what it answers and leaves where the world is the part
+abbrev pub IsOfTheirPart : Sched ℕ → List TaskName → TaskName → Option (Fresh ℕ) → Type 0
+IsOfTheirPart sched names name fresh = TurnsAlikeFor sched names names name fresh
 
 -- a turn of a task of theirs that answers this call
 pub record AnswersACall (sched : Sched ℕ) (names : List TaskName) (name : TaskName) (call : Call) (fresh : Fresh ℕ)
@@ -83,6 +89,31 @@ TheirRefusalsAreOfTheirPart =
     → AnswersACall sched names name call fresh → IsCallOfTheirs sched.world names name call
     → is_ok (policy nat_eq fresh sched.world name call).answer ≡ false
     → IsOfTheirPart sched names name (Some fresh)
+
+-- A turn that answers any call which ends alike in the part goes alike for the set that the call leaves: with the child
+-- that it makes, without a task that ends.
+abbrev pub TheirAnswersAreOfTheGrownPart : Type 0
+TheirAnswersAreOfTheGrownPart =
+    (sched : Sched ℕ) (names : List TaskName) (name : TaskName) (call : Call) (fresh : Fresh ℕ)
+    → AnswersACall sched names name call fresh → EndsAlike sched.world names name call fresh fresh
+    → TurnsAlikeFor sched names (grown names name call (policy nat_eq fresh sched.world name call).answer) name
+    (Some fresh)
+
+-- Where the set is sealed off, so does each that answers a fork of theirs, granted or refused,
+abbrev pub TheirForksAreOfTheGrownPart : Type 0
+TheirForksAreOfTheGrownPart =
+    (sched : Sched ℕ) (names : List TaskName) (name : TaskName) (words : Option ForkWords) (fresh : Fresh ℕ)
+    → AnswersACall sched names name (Fork words) fresh → IsCallOfTheirs sched.world names name (Fork words)
+    → TurnsAlikeFor sched names (grown names name (Fork words)
+    (policy nat_eq fresh sched.world name (Fork words)).answer) name (Some fresh)
+
+-- and each that answers an exit.
+abbrev pub TheirExitsAreOfTheGrownPart : Type 0
+TheirExitsAreOfTheGrownPart =
+    (sched : Sched ℕ) (names : List TaskName) (name : TaskName) (fresh : Fresh ℕ)
+    → AnswersACall sched names name Exit fresh → IsCallOfTheirs sched.world names name Exit
+    → TurnsAlikeFor sched names (grown names name Exit (policy nat_eq fresh sched.world name Exit).answer) name
+    (Some fresh)
 
 -- Turns of outsiders overtake no call of theirs.
 abbrev pub OutsidersOvertakeNoCallOfTheirs : Type 0
