@@ -31,7 +31,7 @@ use Rattle.vt_laws_members_changes.proofs.letting_go.Regrouped.{left, left_part,
 use Rattle.vt_laws_members_changes.proofs.letting_go.SeeLess.{filter_less}
 
 -- lists whose elements are compared alike
-same_list_alike : (f g : Mount ℕ → Mount ℕ → Bool) (xs ys : List (Mount ℕ))
+pub same_list_alike : (f g : Mount ℕ → Mount ℕ → Bool) (xs ys : List (Mount ℕ))
     → ((x y : Mount ℕ) → Among x xs → Among y ys → f x y ≡ g x y) → same_list f xs ys ≡ same_list g xs ys
 same_list_alike f g [] [] same = refl
 same_list_alike f g [] (y ∷ ys) same = refl
@@ -95,7 +95,7 @@ member_source (Slave h) g e = none_is_some g e
 member_source Private g e = none_is_some g e
 member_source Unbindable g e = none_is_some g e
 
-raised_number : (before after : World ℕ) (n : Namespace ℕ) → (raised_namespace nat_eq before after n).number ≡ n.number
+pub raised_number : (before after : World ℕ) (n : Namespace ℕ) → (raised_namespace nat_eq before after n).number ≡ n.number
 raised_number before after n = by (same_mounts_in nat_eq before after n.number)
   where
     by : (b : Bool) → (cond b n (record n { change = raised n.change })).number ≡ n.number

@@ -40,11 +40,11 @@ use Rattle.vt_laws_members_changes.proofs.letting_go.PartMounts.{part_mounts}
 use Rattle.vt_laws_members_changes.proofs.letting_go.Regrouped.{flags_same, regroup_is, regrouped_mount, regrouped_so}
 
 -- What is granted has passed all rules.
-abbrev Passed : Rules → Type 0
+abbrev pub Passed : Rules → Type 0
 Passed [] = ⊤
 Passed ((failed, rule) ∷ rules) = (failed ≡ false) × Passed rules
 
-of_passed : (P : Permit ℕ → Type 0) (rules : Rules) (r : Judgement ℕ) → (Passed rules → IfOk r P) → IfOk
+pub of_passed : (P : Permit ℕ → Type 0) (rules : Rules) (r : Judgement ℕ) → (Passed rules → IfOk r P) → IfOk
     (unless rules r) P
 of_passed P [] r next = next tt
 of_passed P ((true, rule) ∷ rules) r next = tt
