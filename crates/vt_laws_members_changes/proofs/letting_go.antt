@@ -8,6 +8,7 @@ pub mod EndedPartReady
 pub mod EndedRaised
 pub mod EndedReady
 pub mod Ends
+pub mod Entering
 pub mod ExitLast
 pub mod Exiting
 pub mod Gone

@@ -1,13 +1,14 @@
 -- Calls of tasks of a sealed set that let something go, in the world and in the part of the set (profile).
-use Rattle.std.specs.Prelude.{Contains, List, nat_eq, true, ℕ, ◌≡◌}
-use Rattle.vt_spec.specs.Language.Calls.{TaskName}
-use Rattle.vt_spec.specs.Language.Calls.Call.{Chdir, Chroot, Close, Exit, Umount}
+use Rattle.std.specs.Prelude.{Bool, Contains, List, Some, nat_eq, not, true, ℕ, ◌≡◌, ◌&&◌}
+use Rattle.std.specs.List.{list_any}
+use Rattle.vt_spec.specs.Language.Calls.{TaskName, same_name}
+use Rattle.vt_spec.specs.Language.Calls.Call.{Chdir, Chroot, Close, Exit, Setns, Umount}
 use Rattle.vt_spec.specs.Lists.{Fresh}
 use Rattle.vt_spec.specs.Machine.Invariants.{IsWorld}
 use Rattle.vt_spec.specs.Machine.Mounts.{Location}
 use Rattle.vt_spec.specs.Machine.Sealed.{is_own_namespace, locations, members, outsiders, part_of, roots_and_directories, sealed}
 use Rattle.vt_spec.specs.Machine.Settled.{settled}
-use Rattle.vt_spec.specs.Machine.World.{Task, World}
+use Rattle.vt_spec.specs.Machine.World.{Task, World, task_called}
 use Rattle.vt_laws_members_changes.specs.Changes.{EndsAlike, IsCallOfTheirs}
 
 -- Each call of close(2) does in the part what it does in the world,
@@ -43,6 +44,20 @@ UmountsEndAlike =
     (world : World ℕ) (names : List TaskName) (name : TaskName) (path : List ℕ)
     → IsCallOfTheirs world names name (Umount path) → (fresh other : Fresh ℕ)
     → EndsAlike world names name (Umount path) fresh other
+
+-- another task is in the namespace of this one
+abbrev pub is_accompanied : World ℕ → Task ℕ → Bool
+is_accompanied world task =
+    list_any (λ (other : Task ℕ). nat_eq task.namespace other.namespace && not (same_name task.name other.name))
+    world.tasks
+
+-- So does each call of setns(2), if another task is in the namespace that the caller leaves.
+abbrev pub SetnsEndsAlike : Type 0
+SetnsEndsAlike =
+    (world : World ℕ) (names : List TaskName) (name member : TaskName)
+    → IsCallOfTheirs world names name (Setns member) → (task : Task ℕ) → task_called world name ≡ Some task
+    → is_accompanied world task ≡ true → (fresh other : Fresh ℕ)
+    → EndsAlike world names name (Setns member) fresh other
 
 -- each location of one list is one of the other
 abbrev pub AreAmong : List (Location ℕ) → List (Location ℕ) → Type 0

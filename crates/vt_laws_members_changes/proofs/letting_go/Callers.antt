@@ -21,11 +21,43 @@ use Rattle.vt_laws_members_changes.proofs.tasks.Rights.{any_mapped, only_task}
 use Rattle.vt_laws_members_changes.proofs.letting_go.Changed.{LetsGo}
 use Rattle.vt_laws_members_changes.proofs.letting_go.Ends.{let_go_alike}
 
--- the caller after the call
+-- a task in the place of the caller
+module _ (world : World ℕ) (names : List TaskName) (name : TaskName) (call : Call)
+    (it : IsCallOfTheirs world names name call) (task : Task ℕ) (called : task_called world name ≡ Some task)
+    (mine : Task ℕ) (named : mine.name ≡ task.name) where
+  -- it is the caller, or as it was
+  pub replaced_how : (t : Task ℕ) → Among t world.tasks
+      → ((replaced_if_called mine t ≡ mine) × (task ≡ t)) ⊎ (replaced_if_called mine t ≡ t)
+  replaced_how t m = by (same_name mine.name t.name) refl
+    where
+      by : (b : Bool) → same_name mine.name t.name ≡ b → ((cond b mine t ≡ mine) × (task ≡ t)) ⊎ (cond b mine t ≡ t)
+      by true e =
+          inl (
+            refl,
+            only_task world.tasks it.is.tasks.one_task task t
+                (found_among (λ (x : Task ℕ). same_name name x.name) world.tasks task called) m
+                (sym named ∙ same_task_name mine.name t.name e),
+          )
+      by false e = inr refl
+
+  -- in the same namespace
+  pub spaces_kept : mine.namespace ≡ task.namespace → (n : ℕ)
+      → list_any (λ (t : Task ℕ). nat_eq n t.namespace) (map (replaced_if_called mine) (members world names))
+      ≡ list_any (λ (t : Task ℕ). nat_eq n t.namespace) (members world names)
+  spaces_kept spaced n =
+      any_mapped (λ (t : Task ℕ). nat_eq n t.namespace) (λ (t : Task ℕ). nat_eq n t.namespace)
+      (replaced_if_called mine) (members world names) (λ t m. ap (nat_eq n)
+      (⊎_elim
+      (λ its. ap (λ (x : Task ℕ). x.namespace) its.0 ∙ spaced ∙ ap (λ (x : Task ℕ). x.namespace) its.1)
+      (λ same. ap (λ (x : Task ℕ). x.namespace) same)
+      (replaced_how t (among-from_filter (is_member_task names) world.tasks t m).0)))
+
+-- the caller after the call: their namespaces are those that they were, and it is on mounts where members get
 pub record StandsOnTheirs (world : World ℕ) (names : List TaskName) (name : TaskName) (call : Call)
     (it : IsCallOfTheirs world names name call) (task mine : Task ℕ) : Type 0 where
   pub named : mine.name ≡ task.name
-  pub spaced : mine.namespace ≡ task.namespace
+  pub own : (n : ℕ) → list_any (λ (t : Task ℕ). nat_eq n t.namespace) (map (replaced_if_called mine) (members world names))
+      ≡ list_any (λ (t : Task ℕ). nat_eq n t.namespace) (members world names)
   pub root : IsTheirs world names it.is.mounts mine.root.mount
   pub directory : IsTheirs world names it.is.mounts mine.directory.mount
   pub places : (l : Location ℕ) → Among l (locations_of mine)
@@ -53,25 +85,8 @@ module _ (world : World ℕ) (names : List TaskName) (name : TaskName) (call : C
   member : Among task theirs
   member = member_called world names it.is it.sealed_off name it.theirs task called
 
-  -- it is the caller, or as it was
   how : (t : Task ℕ) → Among t world.tasks → ((replaced t ≡ mine) × (task ≡ t)) ⊎ (replaced t ≡ t)
-  how t m = by (same_name mine.name t.name) refl
-    where
-      by : (b : Bool) → same_name mine.name t.name ≡ b → ((cond b mine t ≡ mine) × (task ≡ t)) ⊎ (cond b mine t ≡ t)
-      by true e =
-          inl (
-            refl,
-            only_task world.tasks it.is.tasks.one_task task t
-                (found_among (λ (x : Task ℕ). same_name name x.name) world.tasks task called) m
-                (sym stands.named ∙ same_task_name mine.name t.name e),
-          )
-      by false e = inr refl
-
-  spaced_kept : (t : Task ℕ) → Among t world.tasks → (replaced t).namespace ≡ t.namespace
-  spaced_kept t m =
-      ⊎_elim
-      (λ its. ap (λ (x : Task ℕ). x.namespace) its.0 ∙ stands.spaced ∙ ap (λ (x : Task ℕ). x.namespace) its.1)
-      (λ same. ap (λ (x : Task ℕ). x.namespace) same) (how t m)
+  how = replaced_how world names name call it task called mine stands.named
 
   of_set : (tasks : List (Task ℕ))
       → filter (is_member_task names) (map replaced tasks) ≡ map replaced (filter (is_member_task names) tasks)
@@ -123,9 +138,7 @@ module _ (world : World ℕ) (names : List TaskName) (name : TaskName) (call : C
 
   lets_go : LetsGo world names it.is it.sealed_off names (map replaced world.tasks)
   lets_go = record {
-    own = λ n. ap (list_any (λ (t : Task ℕ). nat_eq n t.namespace)) (of_set world.tasks)
-        ∙ any_mapped (λ (t : Task ℕ). nat_eq n t.namespace) (λ (t : Task ℕ). nat_eq n t.namespace) replaced theirs
-        (λ t m. ap (nat_eq n) (spaced_kept t (there t m)));
+    own = λ n. ap (list_any (λ (t : Task ℕ). nat_eq n t.namespace)) (of_set world.tasks) ∙ stands.own n;
     roots = λ l m.
         let from = among-from_flat_map (λ (t : Task ℕ). t.root ∷ t.directory ∷ []) (map replaced theirs) l
         (subst (λ ts. Among l (roots_and_directories ts)) (of_set world.tasks) m) in

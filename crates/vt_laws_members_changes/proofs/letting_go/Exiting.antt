@@ -40,7 +40,7 @@ use Rattle.vt_laws_members_changes.proofs.letting_go.ExitLast.{last_exit_alike}
 use Rattle.vt_laws_members_changes.proofs.letting_go.Leaving.{all_left, is_task, its_name, member, new_old, old_new, others_left, own_part, part_listed, same_left, tasks, tasks_too}
 
 -- a world whose namespaces have tasks, and whose groups have members, stays
-none_ends : (b : World ℕ) → MountsAreListed b → list_all (has_tasks nat_eq b) b.namespaces ≡ true
+pub none_ends : (b : World ℕ) → MountsAreListed b → list_all (has_tasks nat_eq b) b.namespaces ≡ true
     → list_any (lost_a_group nat_eq b) b.mounts ≡ false → namespaces_ended nat_eq b ≡ b
 none_ends b listed all none =
     no_namespace_ends b listed all ∙ ap (λ lost. regrouped_by nat_eq lost b) none
@@ -108,7 +108,7 @@ module _ (world : World ℕ) (names : List TaskName) (name : TaskName) (it : IsC
           (among-filter stays list other m other_stays)
           (ap (nat_eq n) (together ∙ ap (λ (x : Task ℕ). x.namespace) one) ∙ e)
 
-  in_old : Among other old
+  pub in_old : Among other old
   in_old = among-filter (is_member_task names) world.tasks other there other_member
 
   lets_go : LetsGo world names it.is it.sealed_off set rest
@@ -163,7 +163,7 @@ module _ (world : World ℕ) (names : List TaskName) (name : TaskName) (it : IsC
   source_placed Private g e p = none_is_some g e
   source_placed Unbindable g e p = none_is_some g e
 
-  part_keeps : list_any (lost_a_group nat_eq (record part { tasks = rest_too })) part.mounts ≡ false
+  pub part_keeps : list_any (lost_a_group nat_eq (record part { tasks = rest_too })) part.mounts ≡ false
   part_keeps =
       none_from_among (lost_a_group nat_eq part) part.mounts (λ y m. by y m (source_of y.propagation) refl)
     where

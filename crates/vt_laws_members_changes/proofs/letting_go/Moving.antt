@@ -32,7 +32,7 @@ use Rattle.vt_laws_members_changes.specs.LettingGo.{ChdirsEndAlike, ChrootsEndAl
 use Rattle.vt_laws_members_changes.proofs.looks.Granted.{of_rules, of_walk}
 use Rattle.vt_laws_members_changes.proofs.looks.Told.{member_called, ran}
 use Rattle.vt_laws_members_changes.proofs.tasks.Denied.{denial_ends_alike, run_by, same_judgement, unnamed_ends_alike}
-use Rattle.vt_laws_members_changes.proofs.letting_go.Callers.{moved_alike}
+use Rattle.vt_laws_members_changes.proofs.letting_go.Callers.{moved_alike, spaces_kept}
 
 -- The permit of close(2)
 abbrev Closes : ℕ → Permit ℕ → Type 0
@@ -107,7 +107,8 @@ closes_end_alike world names name number it fresh other = by (task_called world 
         (record task { descriptors = filter (λ (d : Descriptor ℕ). not (number == d.number)) task.descriptors })
         (record {
           named = refl;
-          spaced = refl;
+          own = spaces_kept world names name (Close number) it task e
+              (record task { descriptors = filter (λ (d : Descriptor ℕ). not (number == d.number)) task.descriptors }) refl refl;
           root = root_theirs world names it.is task member;
           directory = directory_theirs world names it.is task member;
           places = λ l m. inl (⊎_elim inl (λ rest. inr (⊎_elim inl (λ open_file.
@@ -151,7 +152,8 @@ chdirs_end_alike world names name path it fresh other = by (task_called world na
         moved_alike world names name (Chdir path) it task e (record task { directory = l })
         (record {
           named = refl;
-          spaced = refl;
+          own = spaces_kept world names name (Chdir path) it task e
+              (record task { directory = l }) refl refl;
           root = root_theirs world names it.is task member;
           directory = on;
           places = λ k m. ⊎_elim (λ root. inl (inl root)) (λ rest. ⊎_elim
@@ -194,7 +196,8 @@ chroots_end_alike world names name path it fresh other = by (task_called world n
         moved_alike world names name (Chroot path) it task e (record task { root = l })
         (record {
           named = refl;
-          spaced = refl;
+          own = spaces_kept world names name (Chroot path) it task e
+              (record task { root = l }) refl refl;
           root = on;
           directory = directory_theirs world names it.is task member;
           places = λ k m. ⊎_elim

@@ -1,3 +1,4 @@
+use Rattle.vt_laws_members_changes.proofs.letting_go.Entering.{setns_ends_alike}
 use Rattle.vt_laws_members_changes.proofs.letting_go.Umounting.{umounts_end_alike}
 use Rattle.vt_laws_members_changes.proofs.letting_go.Exiting.{exits_end_alike}
 use Rattle.vt_laws_members_changes.proofs.letting_go.Moving.{chdirs_end_alike, chroots_end_alike, closes_end_alike}
@@ -17,3 +18,6 @@ returns-clause-exit c = exits_end_alike
 
 pub returns-clause-umount : goal.returns-clause-umount
 returns-clause-umount c = umounts_end_alike
+
+pub returns-clause-setns : goal.returns-clause-setns
+returns-clause-setns c = setns_ends_alike
