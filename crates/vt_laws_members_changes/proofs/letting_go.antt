@@ -13,6 +13,7 @@ pub mod ExitLast
 pub mod Exiting
 pub mod Gone
 pub mod Heard
+pub mod LazyAlone
 pub mod Leaving
 pub mod LessSeen
 pub mod Moving

@@ -1,11 +1,14 @@
 -- Calls of tasks of a sealed set that let something go, in the world and in the part of the set (profile).
-use Rattle.std.specs.Prelude.{Bool, Contains, List, Some, nat_eq, not, true, ℕ, ◌≡◌, ◌&&◌}
+use Rattle.std.specs.Prelude.{Bool, Contains, List, Ok, Some, false, nat_eq, not, true, ℕ, ◌≡◌, ◌&&◌}
 use Rattle.std.specs.List.{list_any}
 use Rattle.vt_spec.specs.Language.Calls.{TaskName, same_name}
-use Rattle.vt_spec.specs.Language.Calls.Call.{Chdir, Chroot, Close, Exit, Setns, Umount}
+use Rattle.vt_spec.specs.Language.Calls.Call.{Chdir, Chroot, Close, Exit, Lazy, Setns, Umount}
 use Rattle.vt_spec.specs.Lists.{Fresh}
+use Rattle.vt_spec.specs.Machine.Detach.{has_child}
 use Rattle.vt_spec.specs.Machine.Invariants.{IsWorld}
+use Rattle.vt_spec.specs.Machine.Judge.{judge_in}
 use Rattle.vt_spec.specs.Machine.Mounts.{Location}
+use Rattle.vt_spec.specs.Machine.Permits.Permit.{ToUnmountLazily}
 use Rattle.vt_spec.specs.Machine.Sealed.{is_own_namespace, locations, members, outsiders, part_of, roots_and_directories, sealed}
 use Rattle.vt_spec.specs.Machine.Settled.{settled}
 use Rattle.vt_spec.specs.Machine.World.{Task, World, task_called}
@@ -44,6 +47,14 @@ UmountsEndAlike =
     (world : World ℕ) (names : List TaskName) (name : TaskName) (path : List ℕ)
     → IsCallOfTheirs world names name (Umount path) → (fresh other : Fresh ℕ)
     → EndsAlike world names name (Umount path) fresh other
+
+-- So does each granted call of umount(2) with MNT_DETACH of a mount without children.
+abbrev pub LazyUmountsEndAlike : Type 0
+LazyUmountsEndAlike =
+    (world : World ℕ) (names : List TaskName) (name : TaskName) (path : List ℕ)
+    → IsCallOfTheirs world names name (Lazy path) → (task : Task ℕ) → task_called world name ≡ Some task
+    → (fresh other : Fresh ℕ) (mount : ℕ) → judge_in nat_eq fresh world task (Lazy path) ≡ Ok (ToUnmountLazily mount)
+    → has_child nat_eq world mount ≡ false → EndsAlike world names name (Lazy path) fresh other
 
 -- another task is in the namespace of this one
 abbrev pub is_accompanied : World ℕ → Task ℕ → Bool
