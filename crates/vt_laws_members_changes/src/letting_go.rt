@@ -15,8 +15,8 @@ ghost use Rattle.vt_laws_members_changes.specs.LettingGo.{ChdirsEndAlike, Chroot
 /// the mount.
 ///
 /// So does each `setns` of one of them to the namespace of another task of the set (`setns`), if another task is in the
-/// namespace that it leaves (`is_accompanied`), so that no namespace ends. The root of the entered namespace is the same
-/// in both, and the mounts over it are.
+/// namespace that it leaves (`is_accompanied`), so that no namespace ends. The root of the entered namespace and the
+/// mounts over it are the same in both.
 ///
 /// After each of these calls the set may see less, and need not be sealed off any more. Not proved yet of a `setns` of
 /// the last task of a namespace, and of a `lazy` of a mount with children.
