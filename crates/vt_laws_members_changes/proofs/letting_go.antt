@@ -9,6 +9,7 @@ pub mod EndedRaised
 pub mod EndedReady
 pub mod Ends
 pub mod Entering
+pub mod EnterLast
 pub mod ExitLast
 pub mod Exiting
 pub mod Gone

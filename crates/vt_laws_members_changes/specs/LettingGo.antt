@@ -1,7 +1,6 @@
 -- Calls of tasks of a sealed set that let something go, in the world and in the part of the set (profile).
-use Rattle.std.specs.Prelude.{Bool, Contains, List, Ok, Some, false, nat_eq, not, true, ℕ, ◌≡◌, ◌&&◌}
-use Rattle.std.specs.List.{list_any}
-use Rattle.vt_spec.specs.Language.Calls.{TaskName, same_name}
+use Rattle.std.specs.Prelude.{Contains, List, Ok, Some, false, nat_eq, true, ℕ, ◌≡◌}
+use Rattle.vt_spec.specs.Language.Calls.{TaskName}
 use Rattle.vt_spec.specs.Language.Calls.Call.{Chdir, Chroot, Close, Exit, Lazy, Setns, Umount}
 use Rattle.vt_spec.specs.Lists.{Fresh}
 use Rattle.vt_spec.specs.Machine.Detach.{has_child}
@@ -56,18 +55,11 @@ LazyUmountsEndAlike =
     → (fresh other : Fresh ℕ) (mount : ℕ) → judge_in nat_eq fresh world task (Lazy path) ≡ Ok (ToUnmountLazily mount)
     → has_child nat_eq world mount ≡ false → EndsAlike world names name (Lazy path) fresh other
 
--- another task is in the namespace of this one
-abbrev pub is_accompanied : World ℕ → Task ℕ → Bool
-is_accompanied world task =
-    list_any (λ (other : Task ℕ). nat_eq task.namespace other.namespace && not (same_name task.name other.name))
-    world.tasks
-
--- So does each call of setns(2), if another task is in the namespace that the caller leaves.
+-- So does each call of setns(2), to the namespace of a task of the set.
 abbrev pub SetnsEndsAlike : Type 0
 SetnsEndsAlike =
     (world : World ℕ) (names : List TaskName) (name member : TaskName)
-    → IsCallOfTheirs world names name (Setns member) → (task : Task ℕ) → task_called world name ≡ Some task
-    → is_accompanied world task ≡ true → (fresh other : Fresh ℕ)
+    → IsCallOfTheirs world names name (Setns member) → (fresh other : Fresh ℕ)
     → EndsAlike world names name (Setns member) fresh other
 
 -- each location of one list is one of the other

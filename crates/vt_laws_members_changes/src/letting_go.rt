@@ -14,12 +14,12 @@ ghost use Rattle.vt_laws_members_changes.specs.LettingGo.{ChdirsEndAlike, Chroot
 /// one of them takes its mount point. A granted `lazy` of a mount without children (`lazy`) does the same, whatever uses
 /// the mount.
 ///
-/// So does each `setns` of one of them to the namespace of another task of the set (`setns`), if another task is in the
-/// namespace that it leaves (`is_accompanied`), so that no namespace ends. The root of the entered namespace and the
-/// mounts over it are the same in both.
+/// So does each `setns` of one of them to the namespace of a task of the set (`setns`). The root of the entered namespace
+/// and the mounts over it are the same in both. Where the caller was the last task of the namespace that it leaves, that
+/// one ends in both, as after an `exit`.
 ///
-/// After each of these calls the set may see less, and need not be sealed off any more. Not proved yet of a `setns` of
-/// the last task of a namespace, and of a `lazy` of a mount with children.
+/// After each of these calls the set may see less, and need not be sealed off any more. Not proved yet of a `lazy` of a
+/// mount with children.
 pub fn calls_of_theirs_that_let_locations_go_end_alike()
     ensures close { ClosesEndAlike }
     ensures chdir { ChdirsEndAlike }

@@ -26,7 +26,7 @@ use Rattle.vt_laws_part.proofs.groups.ReceiversAlike.{member_group}
 use Rattle.vt_laws_part.proofs.part.PartOfPart.{is_own, keep, kept_how}
 use Rattle.vt_laws_members_changes.proofs.letting_go.Heard.{IsHeard, apart, heard_by_own, master_same, own_in, own_kept, part_source, space_in_part, up_heard}
 use Rattle.vt_laws_members_changes.proofs.letting_go.Leaving.{filter_mid}
-use Rattle.vt_laws_members_changes.proofs.letting_go.NamespaceLess.{ended, ended_by, ended_mount, ended_part, entered_was, member_was, placed_so, stub_stays}
+use Rattle.vt_laws_members_changes.proofs.letting_go.NamespaceLess.{SetIsLess, ended, ended_by, ended_mount, ended_part, entered_was, member_was, placed_so, stub_stays}
 use Rattle.vt_laws_members_changes.proofs.letting_go.Regrouped.{left, left_part, master_alike, mount_alike}
 use Rattle.vt_laws_members_changes.proofs.letting_go.SeeLess.{filter_less}
 
@@ -109,7 +109,7 @@ module _ (world : World ℕ) (names : List TaskName) (is : IsWorld nat_eq world)
     (lasts : ℕ → Bool) (tasks tasks_too : List (Task ℕ))
     (change change_too : ℕ)
     (same : filter (is_member_task set) tasks_too ≡ filter (is_member_task set) tasks)
-    (fewer : (t : Task ℕ) → Among t (filter (is_member_task set) tasks) → Among t (members world names))
+    (fewer : SetIsLess world names is set tasks)
     (b : Bool) where
   abbrev part : World ℕ
   part = part_of nat_eq world names

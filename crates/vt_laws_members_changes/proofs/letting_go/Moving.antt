@@ -107,8 +107,6 @@ closes_end_alike world names name number it fresh other = by (task_called world 
         (record task { descriptors = filter (λ (d : Descriptor ℕ). not (number == d.number)) task.descriptors })
         (record {
           named = refl;
-          own = spaces_kept world names name (Close number) it task e
-              (record task { descriptors = filter (λ (d : Descriptor ℕ). not (number == d.number)) task.descriptors }) refl refl;
           root = root_theirs world names it.is task member;
           directory = directory_theirs world names it.is task member;
           places = λ l m. inl (⊎_elim inl (λ rest. inr (⊎_elim inl (λ open_file.
@@ -120,6 +118,8 @@ closes_end_alike world names name number it fresh other = by (task_called world 
               (among-from_filter (λ (d : Descriptor ℕ). not
               (number == d.number)) task.descriptors d.0 d.1).0))) rest)) m);
         }) fresh other refl
+        (spaces_kept world names name (Close number) it task e
+        (record task { descriptors = filter (λ (d : Descriptor ℕ). not (number == d.number)) task.descriptors }) refl refl)
         (ap (run_by world names name (Close number) it fresh other world fresh task) judged)
         (ap (run_by world names name (Close number) it fresh other part other task)
         (sym (same_judgement world names name (Close number) it fresh other task e) ∙ judged))
@@ -152,14 +152,14 @@ chdirs_end_alike world names name path it fresh other = by (task_called world na
         moved_alike world names name (Chdir path) it task e (record task { directory = l })
         (record {
           named = refl;
-          own = spaces_kept world names name (Chdir path) it task e
-              (record task { directory = l }) refl refl;
           root = root_theirs world names it.is task member;
           directory = on;
           places = λ k m. ⊎_elim (λ root. inl (inl root)) (λ rest. ⊎_elim
               (λ here. inr (subst (λ (q : Location ℕ). IsTheirs world names it.is.mounts q.mount) (sym here) on))
               (λ open_file. inl (inr (inr open_file))) rest) m;
         }) fresh other refl
+        (spaces_kept world names name (Chdir path) it task e
+        (record task { directory = l }) refl refl)
         (ap (run_by world names name (Chdir path) it fresh other world fresh task) judged)
         (ap (run_by world names name (Chdir path) it fresh other part other task)
         (sym (same_judgement world names name (Chdir path) it fresh other task e) ∙ judged))
@@ -196,14 +196,14 @@ chroots_end_alike world names name path it fresh other = by (task_called world n
         moved_alike world names name (Chroot path) it task e (record task { root = l })
         (record {
           named = refl;
-          own = spaces_kept world names name (Chroot path) it task e
-              (record task { root = l }) refl refl;
           root = on;
           directory = directory_theirs world names it.is task member;
           places = λ k m. ⊎_elim
               (λ here. inr (subst (λ (q : Location ℕ). IsTheirs world names it.is.mounts q.mount) (sym here) on))
               (λ rest. inl (inr rest)) m;
         }) fresh other refl
+        (spaces_kept world names name (Chroot path) it task e
+        (record task { root = l }) refl refl)
         (ap (run_by world names name (Chroot path) it fresh other world fresh task) judged)
         (ap (run_by world names name (Chroot path) it fresh other part other task)
         (sym (same_judgement world names name (Chroot path) it fresh other task e) ∙ judged))

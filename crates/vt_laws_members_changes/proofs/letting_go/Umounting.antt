@@ -35,7 +35,7 @@ use Rattle.vt_laws_members_changes.proofs.looks.Told.{member_called, ran, same_c
 use Rattle.vt_laws_members_changes.proofs.tasks.Denied.{denial_ends_alike, run_by, same_judgement, unnamed_ends_alike}
 use Rattle.vt_laws_members_changes.proofs.letting_go.Detached.{detached_parts}
 use Rattle.vt_laws_members_changes.proofs.letting_go.Moving.{StandsHere, at_directory, one}
-use Rattle.vt_laws_members_changes.proofs.letting_go.NamespaceLess.{ended, ended_part}
+use Rattle.vt_laws_members_changes.proofs.letting_go.NamespaceLess.{ended, ended_part, less_of_fewer}
 use Rattle.vt_laws_members_changes.proofs.letting_go.PartMounts.{part_mounts}
 use Rattle.vt_laws_members_changes.proofs.letting_go.Regrouped.{flags_same, regroup_is, regrouped_mount, regrouped_so}
 
@@ -141,11 +141,11 @@ module _ (world : World ℕ) (names : List TaskName) (is : IsWorld nat_eq world)
 
   abbrev v : World ℕ
   v = ended world names is sealed_off names gone own_go lasts world.tasks part.tasks world.change part.change
-      (same_members world names) (λ t m. m) flag
+      (same_members world names) (less_of_fewer world names is names world.tasks (λ t m. m)) flag
 
   abbrev v_part : World ℕ
   v_part = ended_part world names is sealed_off names gone own_go lasts world.tasks part.tasks world.change part.change
-      (same_members world names) (λ t m. m) flag
+      (same_members world names) (less_of_fewer world names is names world.tasks (λ t m. m)) flag
 
   pub world_taken : taken_away nat_eq world gone ≡ v
   world_taken = taken_so world gone flag refl
@@ -160,7 +160,7 @@ module _ (world : World ℕ) (names : List TaskName) (is : IsWorld nat_eq world)
   parts =
       ap (λ w. part_of nat_eq (numbers_raised nat_eq world name [] (settled nat_eq w)) names) world_taken
       ∙ detached_parts world names is sealed_off names gone own_go lasts world.tasks part.tasks world.change part.change
-      (same_members world names) (λ t m. m) (λ l m. m)
+      (same_members world names) (less_of_fewer world names is names world.tasks (λ t m. m)) (λ l m. m)
       (λ t m. (among-from_filter (is_member_task names) world.tasks t m).1) (λ m there out its. its) flag
       (subst (MountInvariants nat_eq) world_taken kept_world) (subst (MountInvariants nat_eq) part_taken kept_part) name
       ∙ sym (ap (λ w. part_of nat_eq (numbers_raised nat_eq part name [] (settled nat_eq w)) names) part_taken)

@@ -1,5 +1,5 @@
 use Rattle.vt_laws_members_changes.proofs.letting_go.LazyAlone.{lazy_umounts_end_alike}
-use Rattle.vt_laws_members_changes.proofs.letting_go.Entering.{setns_ends_alike}
+use Rattle.vt_laws_members_changes.proofs.letting_go.EnterLast.{setns_ends_alike}
 use Rattle.vt_laws_members_changes.proofs.letting_go.Umounting.{umounts_end_alike}
 use Rattle.vt_laws_members_changes.proofs.letting_go.Exiting.{exits_end_alike}
 use Rattle.vt_laws_members_changes.proofs.letting_go.Moving.{chdirs_end_alike, chroots_end_alike, closes_end_alike}
