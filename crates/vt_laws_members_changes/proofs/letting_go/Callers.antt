@@ -18,7 +18,6 @@ use Rattle.vt_laws_members_changes.specs.Changes.{EndsAlike, IsCallOfTheirs, gro
 use Rattle.vt_laws_members_changes.proofs.looks.Told.{member_called, ran}
 use Rattle.vt_laws_members_changes.proofs.tasks.Ending.{with_tasks}
 use Rattle.vt_laws_members_changes.proofs.tasks.Rights.{any_mapped, only_task}
-use Rattle.vt_laws_members_changes.proofs.letting_go.Changed.{LetsGo}
 use Rattle.vt_laws_members_changes.proofs.letting_go.Ends.{let_go_alike}
 
 -- a task in the place of the caller

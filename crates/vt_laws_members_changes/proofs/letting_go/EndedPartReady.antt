@@ -15,7 +15,6 @@ use Rattle.vt_spec.proofs.Options.{none_is_some}
 use Rattle.vt_laws_mounts.specs.Mounts.Invariants.{OneNumberEach}
 use Rattle.vt_laws_part.proofs.part.Observed.{lowers_same, used_same}
 use Rattle.vt_laws_part.proofs.part.PartOfPart.{is_own, keep, kept_how}
-use Rattle.vt_laws_sealed.proofs.outsiders.SeenLater.{shown_at}
 use Rattle.vt_laws_members.proofs.judging.MountPoints.{part_mount}
 use Rattle.vt_laws_members.proofs.judging.MountTrees.{part_one_number}
 use Rattle.vt_laws_members_changes.proofs.letting_go.Changed.{mount_parent}

@@ -21,7 +21,7 @@ use Rattle.vt_laws_part.proofs.seals.ByPart.{used_are_free}
 use Rattle.vt_laws_members.proofs.judging.Grounds.{nowhere_stands}
 use Rattle.vt_laws_members_changes.proofs.letting_go.Changed.{mount_under, mount_parent}
 use Rattle.vt_laws_members_changes.proofs.letting_go.LessSeen.{used_was}
-use Rattle.vt_laws_members_changes.proofs.letting_go.NamespaceLess.{KeepsShape, SetIsLess, ended, ended_less, ended_mount, ended_part, one_after, place_shown, placed_so, root_ground, shape_kept, stands_on}
+use Rattle.vt_laws_members_changes.proofs.letting_go.NamespaceLess.{KeepsShape, SetIsLess, ended, ended_less, ended_mount, ended_part, one_after, place_shown, placed_so, root_ground, shape_kept}
 use Rattle.vt_laws_members_changes.proofs.letting_go.Ready.{Alone, NoOthers, Ready, layered_overlay}
 use Rattle.vt_laws_members_changes.proofs.letting_go.Regrouped.{left}
 use Rattle.vt_laws_members_changes.proofs.letting_go.WorldReady.{all_named_there, plain_in, sees_living, whole_cut}

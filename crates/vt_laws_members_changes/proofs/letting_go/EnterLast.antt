@@ -1,5 +1,5 @@
 -- Each setns(2) ends in the part as in the world: where the caller was the last task of its namespace, that one ends.
-use Rattle.std.proofs.Common.{◌≡◌, refl, sym, ap, subst, ◌∙◌, ◌⊎◌, inl, inr, ⊎_elim, ℕ, nat_eq, Bool, true, false, true≢false, List, [], Option, Some, None, Ok, Err, filter, map, not, ◌||◌, eq-eqb, eqb-true}
+use Rattle.std.proofs.Common.{◌≡◌, refl, sym, ap, subst, ◌∙◌, ◌⊎◌, ⊎_elim, ℕ, nat_eq, Bool, true, false, true≢false, List, [], Option, Some, None, Ok, Err, filter, map, not, ◌||◌, eq-eqb, eqb-true}
 use Rattle.std.specs.Prelude.{IfOk, is_ok, unwrap_or}
 use Rattle.std.specs.List.{list_all, list_any}
 use Rattle.std.proofs.lemmas.Bool.{not-true, or_left, or_right}

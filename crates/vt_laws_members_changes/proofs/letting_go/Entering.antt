@@ -1,15 +1,14 @@
 -- A setns(2) that ends no namespace ends in the part as in the world.
-use Rattle.std.proofs.Common.{◌≡◌, refl, sym, ap, subst, ◌∙◌, inl, inr, ⊎_elim, ℕ, nat_eq, Bool, true, false, cond, true≢false, List, [], ◌∷◌, Option, Some, None, Ok, Err, find, map, not, ◌||◌, ◌&&◌, eq-eqb, eqb-true}
-use Rattle.std.specs.Prelude.{IfOk, is_ok, is_some, ok_or, option_map, unwrap_or}
+use Rattle.std.proofs.Common.{◌≡◌, refl, sym, ap, subst, ◌∙◌, inl, inr, ⊎_elim, ℕ, nat_eq, Bool, true, false, cond, true≢false, List, [], ◌∷◌, Option, Some, None, Ok, find, map, not, ◌||◌, eq-eqb}
+use Rattle.std.specs.Prelude.{IfOk, is_some, ok_or, option_map, unwrap_or}
 use Rattle.std.specs.List.{list_any}
-use Rattle.std.proofs.lemmas.Bool.{and_parts, not-true}
 use Rattle.vt_spec.specs.declared.errors.Rule.TheVariants.{K1, S2}
 use Rattle.vt_spec.specs.Errors.{and_then, denial, unless}
 use Rattle.vt_spec.specs.Language.Answers.Answer.{Done}
 use Rattle.vt_spec.specs.Language.Calls.{Call, TaskName, same_name}
 use Rattle.vt_spec.specs.Language.Calls.Call.{Exit, Setns}
 use Rattle.vt_spec.specs.Lists.{Fresh, holds_of, is_among}
-use Rattle.vt_spec.specs.Machine.Judge.{Judgement, judge_in, setns_permit}
+use Rattle.vt_spec.specs.Machine.Judge.{judge_in, setns_permit}
 use Rattle.vt_spec.specs.Machine.Mounts.{Location, Mount, root_of, topmost}
 use Rattle.vt_spec.specs.Machine.Namespaces.{entered_at, has_tasks, namespace_root, namespaces_ended}
 use Rattle.vt_spec.specs.Machine.Outcomes.{granted}
@@ -17,9 +16,9 @@ use Rattle.vt_spec.specs.Machine.Permits.{Permit}
 use Rattle.vt_spec.specs.Machine.Permits.Permit.{ToEnterNamespace}
 use Rattle.vt_spec.specs.Machine.Policy.{numbers_raised}
 use Rattle.vt_spec.specs.Machine.Rules.Conditions.{lacks}
-use Rattle.vt_spec.specs.Machine.Sealed.{is_member_task, is_own_namespace, members, part_of, sealed}
+use Rattle.vt_spec.specs.Machine.Sealed.{is_own_namespace, members, part_of, sealed}
 use Rattle.vt_spec.specs.Machine.Settled.{settled}
-use Rattle.vt_spec.specs.Machine.World.{Namespace, Task, World, locations_of, mounts_of, replaced_if_called, root_mount, task_called}
+use Rattle.vt_spec.specs.Machine.World.{Namespace, Task, World, mounts_of, replaced_if_called, root_mount, task_called}
 use Rattle.vt_spec.specs.Machine.Invariants.{IsWorld}
 use Rattle.vt_spec.specs.Rights.{cap_sys_admin, cap_sys_chroot}
 use Rattle.vt_spec.proofs.Found.{found_among, found_passes}
@@ -38,8 +37,8 @@ use Rattle.vt_laws_members_changes.proofs.letting_go.Heard.{own_in, space_in_par
 use Rattle.vt_laws_members_changes.proofs.letting_go.Leaving.{in_world, its_name, part_listed}
 use Rattle.vt_laws_members_changes.proofs.letting_go.Moving.{On, alike, one, other}
 use Rattle.vt_laws_members_changes.proofs.looks.Granted.{of_rules}
-use Rattle.vt_laws_members_changes.proofs.looks.Told.{member_called, ran}
-use Rattle.vt_laws_members_changes.proofs.tasks.Denied.{denial_ends_alike, run_by, same_judgement}
+use Rattle.vt_laws_members_changes.proofs.looks.Told.{member_called}
+use Rattle.vt_laws_members_changes.proofs.tasks.Denied.{run_by, same_judgement}
 
 -- The permit of setns(2)
 module _ (world : World ℕ) (names : List TaskName) (is : IsWorld nat_eq world)

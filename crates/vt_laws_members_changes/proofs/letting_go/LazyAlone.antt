@@ -1,5 +1,5 @@
 -- A lazy umount(2) of a mount without children ends in the part as in the world.
-use Rattle.std.proofs.Common.{◌≡◌, refl, sym, ap, subst, ◌∙◌, ℕ, zero, suc, nat_eq, Bool, true, false, cond, List, [], ◌∷◌, Some, Ok, filter, flat_map, is_some, length, not, ◌||◌}
+use Rattle.std.proofs.Common.{◌≡◌, refl, sym, ap, subst, ◌∙◌, ℕ, zero, suc, nat_eq, Bool, true, false, cond, List, [], ◌∷◌, Ok, filter, flat_map, is_some, length, not}
 use Rattle.std.specs.Prelude.{IfOk}
 use Rattle.std.specs.List.{list_any}
 use Rattle.std.proofs.lemmas.Bool.{or_parts}
@@ -10,8 +10,8 @@ use Rattle.vt_spec.specs.Language.Calls.Call.{Lazy}
 use Rattle.vt_spec.specs.Lists.{folded}
 use Rattle.vt_spec.specs.Machine.Detach.{deepest_first, has_child, lazily_unmounted, unmounted, unmounted_if_there}
 use Rattle.vt_spec.specs.Machine.Invariants.{IsWorld}
-use Rattle.vt_spec.specs.Machine.Judge.{judge_in, lazy_permit}
-use Rattle.vt_spec.specs.Machine.Mounts.{Mount, mount_tree, stands_on, tree_from}
+use Rattle.vt_spec.specs.Machine.Judge.{lazy_permit}
+use Rattle.vt_spec.specs.Machine.Mounts.{Mount, stands_on, tree_from}
 use Rattle.vt_spec.specs.Machine.Outcomes.{granted}
 use Rattle.vt_spec.specs.Machine.Permits.{Permit}
 use Rattle.vt_spec.specs.Machine.Permits.Permit.{ToUnmountLazily}

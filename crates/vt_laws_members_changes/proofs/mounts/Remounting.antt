@@ -16,7 +16,7 @@ use Rattle.vt_spec.specs.Machine.Policy.{numbers_raised, policy}
 use Rattle.vt_spec.specs.Machine.Rules.Mounting.{admin_rules, remount_rules}
 use Rattle.vt_spec.specs.Machine.Sealed.{members, part_of, sealed}
 use Rattle.vt_spec.specs.Machine.Walking.{directory_walk}
-use Rattle.vt_spec.specs.Machine.World.{Task, World, mount_at, mount_numbered, task_called, with_flags, with_mounts}
+use Rattle.vt_spec.specs.Machine.World.{Task, World, mount_at, mount_numbered, task_called, with_mounts}
 use Rattle.vt_spec.proofs.Lists.{Among}
 use Rattle.vt_laws_letting_go.proofs.leaving.UsesKept.{set_flags_keep_all}
 use Rattle.vt_laws_letting_go.proofs.sweeps.OfWorlds.{all_in_use}
