@@ -8,10 +8,13 @@ pub mod EndedPartReady
 pub mod EndedRaised
 pub mod EndedReady
 pub mod Ends
+pub mod Entering
+pub mod EnterLast
 pub mod ExitLast
 pub mod Exiting
 pub mod Gone
 pub mod Heard
+pub mod LazyAlone
 pub mod Leaving
 pub mod LessSeen
 pub mod Moving

@@ -1,13 +1,16 @@
 -- Calls of tasks of a sealed set that let something go, in the world and in the part of the set (profile).
-use Rattle.std.specs.Prelude.{Contains, List, nat_eq, true, ℕ, ◌≡◌}
+use Rattle.std.specs.Prelude.{Contains, List, Ok, Some, false, nat_eq, true, ℕ, ◌≡◌}
 use Rattle.vt_spec.specs.Language.Calls.{TaskName}
-use Rattle.vt_spec.specs.Language.Calls.Call.{Chdir, Chroot, Close, Exit, Umount}
+use Rattle.vt_spec.specs.Language.Calls.Call.{Chdir, Chroot, Close, Exit, Lazy, Setns, Umount}
 use Rattle.vt_spec.specs.Lists.{Fresh}
+use Rattle.vt_spec.specs.Machine.Detach.{has_child}
 use Rattle.vt_spec.specs.Machine.Invariants.{IsWorld}
+use Rattle.vt_spec.specs.Machine.Judge.{judge_in}
 use Rattle.vt_spec.specs.Machine.Mounts.{Location}
+use Rattle.vt_spec.specs.Machine.Permits.Permit.{ToUnmountLazily}
 use Rattle.vt_spec.specs.Machine.Sealed.{is_own_namespace, locations, members, outsiders, part_of, roots_and_directories, sealed}
 use Rattle.vt_spec.specs.Machine.Settled.{settled}
-use Rattle.vt_spec.specs.Machine.World.{Task, World}
+use Rattle.vt_spec.specs.Machine.World.{Task, World, task_called}
 use Rattle.vt_laws_members_changes.specs.Changes.{EndsAlike, IsCallOfTheirs}
 
 -- Each call of close(2) does in the part what it does in the world,
@@ -43,6 +46,21 @@ UmountsEndAlike =
     (world : World ℕ) (names : List TaskName) (name : TaskName) (path : List ℕ)
     → IsCallOfTheirs world names name (Umount path) → (fresh other : Fresh ℕ)
     → EndsAlike world names name (Umount path) fresh other
+
+-- So does each granted call of umount(2) with MNT_DETACH of a mount without children.
+abbrev pub LazyUmountsEndAlike : Type 0
+LazyUmountsEndAlike =
+    (world : World ℕ) (names : List TaskName) (name : TaskName) (path : List ℕ)
+    → IsCallOfTheirs world names name (Lazy path) → (task : Task ℕ) → task_called world name ≡ Some task
+    → (fresh other : Fresh ℕ) (mount : ℕ) → judge_in nat_eq fresh world task (Lazy path) ≡ Ok (ToUnmountLazily mount)
+    → has_child nat_eq world mount ≡ false → EndsAlike world names name (Lazy path) fresh other
+
+-- So does each call of setns(2), to the namespace of a task of the set.
+abbrev pub SetnsEndsAlike : Type 0
+SetnsEndsAlike =
+    (world : World ℕ) (names : List TaskName) (name member : TaskName)
+    → IsCallOfTheirs world names name (Setns member) → (fresh other : Fresh ℕ)
+    → EndsAlike world names name (Setns member) fresh other
 
 -- each location of one list is one of the other
 abbrev pub AreAmong : List (Location ℕ) → List (Location ℕ) → Type 0

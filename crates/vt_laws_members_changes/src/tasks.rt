@@ -10,7 +10,7 @@ ghost use Rattle.vt_laws_members_changes.specs.Changes.{DropsEndAlike, EmptyWrit
 /// `pwrite` of no bytes (`empty_write`).
 ///
 /// Of calls that let something go see `calls_of_theirs_that_let_locations_go_end_alike`, of calls that edit files
-/// `calls_of_theirs_that_edit_files_end_alike`. Not proved yet of calls that change mounts or namespaces.
+/// `calls_of_theirs_that_edit_files_end_alike`, of `remount` `calls_of_theirs_that_change_mounts_end_alike`.
 pub fn calls_of_theirs_that_let_nothing_go_end_alike()
     ensures umask { UmasksEndAlike }
     ensures drop { DropsEndAlike }

@@ -18,14 +18,49 @@ use Rattle.vt_laws_members_changes.specs.Changes.{EndsAlike, IsCallOfTheirs, gro
 use Rattle.vt_laws_members_changes.proofs.looks.Told.{member_called, ran}
 use Rattle.vt_laws_members_changes.proofs.tasks.Ending.{with_tasks}
 use Rattle.vt_laws_members_changes.proofs.tasks.Rights.{any_mapped, only_task}
-use Rattle.vt_laws_members_changes.proofs.letting_go.Changed.{LetsGo}
 use Rattle.vt_laws_members_changes.proofs.letting_go.Ends.{let_go_alike}
+
+-- a task in the place of the caller
+module _ (world : World ℕ) (names : List TaskName) (name : TaskName) (call : Call)
+    (it : IsCallOfTheirs world names name call) (task : Task ℕ) (called : task_called world name ≡ Some task)
+    (mine : Task ℕ) (named : mine.name ≡ task.name) where
+  -- it is the caller, or as it was
+  pub replaced_apart : (t : Task ℕ) → Among t world.tasks
+      → ((replaced_if_called mine t ≡ mine) × (task ≡ t))
+      ⊎ ((replaced_if_called mine t ≡ t) × (same_name mine.name t.name ≡ false))
+  replaced_apart t m = by (same_name mine.name t.name) refl
+    where
+      by : (b : Bool) → same_name mine.name t.name ≡ b
+          → ((cond b mine t ≡ mine) × (task ≡ t)) ⊎ ((cond b mine t ≡ t) × (same_name mine.name t.name ≡ false))
+      by true e =
+          inl (
+            refl,
+            only_task world.tasks it.is.tasks.one_task task t
+                (found_among (λ (x : Task ℕ). same_name name x.name) world.tasks task called) m
+                (sym named ∙ same_task_name mine.name t.name e),
+          )
+      by false e = inr (refl, e)
+
+  pub replaced_how : (t : Task ℕ) → Among t world.tasks
+      → ((replaced_if_called mine t ≡ mine) × (task ≡ t)) ⊎ (replaced_if_called mine t ≡ t)
+  replaced_how t m = ⊎_elim inl (λ same. inr same.0) (replaced_apart t m)
+
+  -- in the same namespace
+  pub spaces_kept : mine.namespace ≡ task.namespace → (n : ℕ)
+      → list_any (λ (t : Task ℕ). nat_eq n t.namespace) (map (replaced_if_called mine) (members world names))
+      ≡ list_any (λ (t : Task ℕ). nat_eq n t.namespace) (members world names)
+  spaces_kept spaced n =
+      any_mapped (λ (t : Task ℕ). nat_eq n t.namespace) (λ (t : Task ℕ). nat_eq n t.namespace)
+      (replaced_if_called mine) (members world names) (λ t m. ap (nat_eq n)
+      (⊎_elim
+      (λ its. ap (λ (x : Task ℕ). x.namespace) its.0 ∙ spaced ∙ ap (λ (x : Task ℕ). x.namespace) its.1)
+      (λ same. ap (λ (x : Task ℕ). x.namespace) same)
+      (replaced_how t (among-from_filter (is_member_task names) world.tasks t m).0)))
 
 -- the caller after the call
 pub record StandsOnTheirs (world : World ℕ) (names : List TaskName) (name : TaskName) (call : Call)
     (it : IsCallOfTheirs world names name call) (task mine : Task ℕ) : Type 0 where
   pub named : mine.name ≡ task.name
-  pub spaced : mine.namespace ≡ task.namespace
   pub root : IsTheirs world names it.is.mounts mine.root.mount
   pub directory : IsTheirs world names it.is.mounts mine.directory.mount
   pub places : (l : Location ℕ) → Among l (locations_of mine)
@@ -53,27 +88,10 @@ module _ (world : World ℕ) (names : List TaskName) (name : TaskName) (call : C
   member : Among task theirs
   member = member_called world names it.is it.sealed_off name it.theirs task called
 
-  -- it is the caller, or as it was
   how : (t : Task ℕ) → Among t world.tasks → ((replaced t ≡ mine) × (task ≡ t)) ⊎ (replaced t ≡ t)
-  how t m = by (same_name mine.name t.name) refl
-    where
-      by : (b : Bool) → same_name mine.name t.name ≡ b → ((cond b mine t ≡ mine) × (task ≡ t)) ⊎ (cond b mine t ≡ t)
-      by true e =
-          inl (
-            refl,
-            only_task world.tasks it.is.tasks.one_task task t
-                (found_among (λ (x : Task ℕ). same_name name x.name) world.tasks task called) m
-                (sym stands.named ∙ same_task_name mine.name t.name e),
-          )
-      by false e = inr refl
+  how = replaced_how world names name call it task called mine stands.named
 
-  spaced_kept : (t : Task ℕ) → Among t world.tasks → (replaced t).namespace ≡ t.namespace
-  spaced_kept t m =
-      ⊎_elim
-      (λ its. ap (λ (x : Task ℕ). x.namespace) its.0 ∙ stands.spaced ∙ ap (λ (x : Task ℕ). x.namespace) its.1)
-      (λ same. ap (λ (x : Task ℕ). x.namespace) same) (how t m)
-
-  of_set : (tasks : List (Task ℕ))
+  pub of_set : (tasks : List (Task ℕ))
       → filter (is_member_task names) (map replaced tasks) ≡ map replaced (filter (is_member_task names) tasks)
   of_set tasks =
       filter-map (is_member_task names) replaced tasks
@@ -121,37 +139,55 @@ module _ (world : World ℕ) (names : List TaskName) (name : TaskName) (call : C
       (subst (λ x. Among l (locations_of x)) same at))
       (how t from.0)
 
-  lets_go : LetsGo world names it.is it.sealed_off names (map replaced world.tasks)
-  lets_go = record {
-    own = λ n. ap (list_any (λ (t : Task ℕ). nat_eq n t.namespace)) (of_set world.tasks)
-        ∙ any_mapped (λ (t : Task ℕ). nat_eq n t.namespace) (λ (t : Task ℕ). nat_eq n t.namespace) replaced theirs
-        (λ t m. ap (nat_eq n) (spaced_kept t (there t m)));
-    roots = λ l m.
-        let from = among-from_flat_map (λ (t : Task ℕ). t.root ∷ t.directory ∷ []) (map replaced theirs) l
-        (subst (λ ts. Among l (roots_and_directories ts)) (of_set world.tasks) m) in
-        let t = among-from_map replaced theirs from.0 from.1 in
-        root_its t.0 t.1 l (subst (λ (x : Task ℕ). Among l (x.root ∷ x.directory ∷ [])) t.2 from.2);
-    places = λ l m.
-        let from = among-from_flat_map locations_of (map replaced theirs) l
-        (subst (λ ts. Among l (locations ts)) (of_set world.tasks) m) in
-        let t = among-from_map replaced theirs from.0 from.1 in
-        place_its t.0 t.1 l (subst (λ x. Among l (locations_of x)) t.2 from.2);
-    others = λ l m.
-        let from = among-from_flat_map locations_of (map replaced (outsiders world names)) l
-        (subst (λ ts. Among l (locations ts)) of_others m) in
-        let t = among-from_map replaced (outsiders world names) from.0 from.1 in
-        other_its t.0 t.1 l (subst (λ x. Among l (locations_of x)) t.2 from.2);
-  }
+  pub roots_left : (l : Location ℕ)
+      → Among l (roots_and_directories (filter (is_member_task names) (map replaced world.tasks))) → OnTheirs l
+  roots_left l m =
+      let from = among-from_flat_map (λ (t : Task ℕ). t.root ∷ t.directory ∷ []) (map replaced theirs) l
+      (subst (λ ts. Among l (roots_and_directories ts)) (of_set world.tasks) m) in
+      let t = among-from_map replaced theirs from.0 from.1 in
+      root_its t.0 t.1 l (subst (λ (x : Task ℕ). Among l (x.root ∷ x.directory ∷ [])) t.2 from.2)
+
+  pub places_left : (l : Location ℕ) → Among l (locations (filter (is_member_task names) (map replaced world.tasks)))
+      → Among l (locations theirs) ⊎ OnTheirs l
+  places_left l m =
+      let from = among-from_flat_map locations_of (map replaced theirs) l
+      (subst (λ ts. Among l (locations ts)) (of_set world.tasks) m) in
+      let t = among-from_map replaced theirs from.0 from.1 in
+      place_its t.0 t.1 l (subst (λ x. Among l (locations_of x)) t.2 from.2)
+
+  pub others_left : (l : Location ℕ)
+      → Among l (locations (filter (λ t. not (is_member_task names t)) (map replaced world.tasks)))
+      → Among l (locations (outsiders world names))
+  others_left l m =
+      let from = among-from_flat_map locations_of (map replaced (outsiders world names)) l
+      (subst (λ ts. Among l (locations ts)) of_others m) in
+      let t = among-from_map replaced (outsiders world names) from.0 from.1 in
+      other_its t.0 t.1 l (subst (λ x. Among l (locations_of x)) t.2 from.2)
+
+  pub same_set : filter (is_member_task names) (map replaced part.tasks)
+      ≡ filter (is_member_task names) (map replaced world.tasks)
+  same_set = of_set part.tasks ∙ ap (map replaced) (same_members world names) ∙ sym (of_set world.tasks)
+
+  pub all_in_set : (t : Task ℕ) → Among t (map replaced part.tasks) → is_member_task names t ≡ true
+  all_in_set t m =
+      let from = among-from_map replaced part.tasks t m in
+      ap (is_member_task names) from.2
+      ∙ ap (λ n. is_among same_name n names) (name-replaced_if_called mine from.0)
+      ∙ (among-from_filter (is_member_task names) world.tasks from.0 from.1).1
 
   pub moved_alike : (fresh other : Fresh ℕ) → grown names name call (Ok Done) ≡ names
+      → ((n : ℕ) → list_any (λ (t : Task ℕ). nat_eq n t.namespace) (map replaced theirs)
+      ≡ list_any (λ (t : Task ℕ). nat_eq n t.namespace) theirs)
       → ran name call world fresh (Some task) ≡ with_tasks world name Done (map replaced world.tasks)
       → ran name call part other (Some task) ≡ with_tasks part name Done (map replaced part.tasks)
       → EndsAlike world names name call fresh other
-  moved_alike fresh other stays one two =
+  moved_alike fresh other stays own one two =
       let_go_alike world names names name call it task called fresh other Done stays (map replaced world.tasks)
-      (map replaced part.tasks) one two lets_go
-      (of_set part.tasks ∙ ap (map replaced) (same_members world names) ∙ sym (of_set world.tasks))
-      (λ t m. let from = among-from_map replaced part.tasks t m in
-      ap (is_member_task names) from.2
-      ∙ ap (λ n. is_among same_name n names) (name-replaced_if_called mine from.0)
-      ∙ (among-from_filter (is_member_task names) world.tasks from.0 from.1).1)
+      (map replaced part.tasks) one two
+      (record {
+        own = λ n. ap (list_any (λ (t : Task ℕ). nat_eq n t.namespace)) (of_set world.tasks) ∙ own n;
+        roots = roots_left;
+        places = places_left;
+        others = others_left;
+      })
+      same_set all_in_set

@@ -18,7 +18,7 @@ use Rattle.vt_laws_members_changes.proofs.letting_go.EndedRaised.{raised_alike}
 use Rattle.vt_laws_members_changes.proofs.letting_go.EndedReady.{ended_ready}
 use Rattle.vt_laws_members_changes.proofs.letting_go.Ends.{raised_members, raised_sees}
 use Rattle.vt_laws_members_changes.proofs.letting_go.LessSeen.{one_part}
-use Rattle.vt_laws_members_changes.proofs.letting_go.NamespaceLess.{ended, ended_less, ended_part}
+use Rattle.vt_laws_members_changes.proofs.letting_go.NamespaceLess.{SetIsLess, ended, ended_less, ended_part}
 use Rattle.vt_laws_members_changes.proofs.letting_go.Sweep.{part_of_settled, swept_of}
 
 -- the part of a world after the last step
@@ -49,7 +49,7 @@ module _ (world : World ℕ) (names : List TaskName) (is : IsWorld nat_eq world)
     → is_own world names (members world names) m ≡ true)
     (lasts : ℕ → Bool) (tasks tasks_too : List (Task ℕ)) (change change_too : ℕ)
     (same : filter (is_member_task set) tasks_too ≡ filter (is_member_task set) tasks)
-    (fewer : (t : Task ℕ) → Among t (filter (is_member_task set) tasks) → Among t (members world names))
+    (fewer : SetIsLess world names is set tasks)
     (others : (l : Location ℕ) → Among l (locations (filter (λ t. not (is_member_task set t)) tasks))
     → Among l (locations (outsiders world names)))
     (all : (t : Task ℕ) → Among t tasks_too → is_member_task set t ≡ true)

@@ -15,12 +15,11 @@ use Rattle.vt_spec.proofs.Options.{none_is_some}
 use Rattle.vt_laws_mounts.specs.Mounts.Invariants.{OneNumberEach}
 use Rattle.vt_laws_part.proofs.part.Observed.{lowers_same, used_same}
 use Rattle.vt_laws_part.proofs.part.PartOfPart.{is_own, keep, kept_how}
-use Rattle.vt_laws_sealed.proofs.outsiders.SeenLater.{shown_at}
 use Rattle.vt_laws_members.proofs.judging.MountPoints.{part_mount}
 use Rattle.vt_laws_members.proofs.judging.MountTrees.{part_one_number}
 use Rattle.vt_laws_members_changes.proofs.letting_go.Changed.{mount_parent}
 use Rattle.vt_laws_members_changes.proofs.letting_go.LessSeen.{AreLess, less_lowers, less_used}
-use Rattle.vt_laws_members_changes.proofs.letting_go.NamespaceLess.{KeepsShape, ended, ended_less, ended_mount, ended_part, place_was, placed_old, placed_so, shape_kept}
+use Rattle.vt_laws_members_changes.proofs.letting_go.NamespaceLess.{KeepsShape, SetIsLess, ended, ended_less, ended_mount, ended_part, place_shown, placed_so, shape_kept}
 use Rattle.vt_laws_members_changes.proofs.letting_go.PartFiles.{cut_in_part, numbers_in_part, plain_in_part}
 use Rattle.vt_laws_members_changes.proofs.letting_go.Ready.{NoOthers, Ready}
 use Rattle.vt_laws_members_changes.proofs.letting_go.Regrouped.{left_part}
@@ -33,7 +32,7 @@ module _ (world : World ℕ) (names : List TaskName) (is : IsWorld nat_eq world)
     (lasts : ℕ → Bool) (tasks tasks_too : List (Task ℕ))
     (change change_too : ℕ)
     (same : filter (is_member_task set) tasks_too ≡ filter (is_member_task set) tasks)
-    (fewer : (t : Task ℕ) → Among t (filter (is_member_task set) tasks) → Among t (members world names))
+    (fewer : SetIsLess world names is set tasks)
     (all : (t : Task ℕ) → Among t tasks_too → is_member_task set t ≡ true)
     (still : (m : Mount ℕ) → Among m world.mounts → is_going nat_eq gone m.number ≡ false
     → is_own world names (members world names) m ≡ true → is_own world names (filter (is_member_task set) tasks) m
@@ -104,15 +103,10 @@ module _ (world : World ℕ) (names : List TaskName) (is : IsWorld nat_eq world)
 
   located_so : (l : Location ℕ) → Among l (locations new) → (y : Mount ℕ) × Among y living.mounts × (l.mount ≡ y.number)
   located_so l m =
-      let before = place_was world names is sealed_off set gone own_go lasts
+      let on = place_shown world names is sealed_off set gone own_go lasts
       tasks tasks_too change change_too same fewer b l
       (subst (λ ts. Among l (locations ts)) same m) in
-      let on = placed_old world names is sealed_off set gone own_go lasts
-      tasks tasks_too change change_too same fewer b l
-      before in
-      let shown = shown_at world names on.0
-      (any_from_among (λ (p : Location ℕ). nat_eq p.mount on.0.number) (locations old) l
-      before (eq-eqb l.mount on.0.number on.2)) in
+      let shown : (y : Mount ℕ) × (kept on.0 ≡ Some y) = (on.3, on.4) in
       let there = among-filter_map kept world.mounts on.0 shown.0 on.1 shown.1 in
       let t = among-from_flat_map locations_of new l m in
       let number : l.mount ≡ (after shown.0).number =

@@ -26,12 +26,12 @@ use Rattle.vt_laws_part.proofs.groups.ReceiversAlike.{member_group}
 use Rattle.vt_laws_part.proofs.part.PartOfPart.{is_own, keep, kept_how}
 use Rattle.vt_laws_members_changes.proofs.letting_go.Heard.{IsHeard, apart, heard_by_own, master_same, own_in, own_kept, part_source, space_in_part, up_heard}
 use Rattle.vt_laws_members_changes.proofs.letting_go.Leaving.{filter_mid}
-use Rattle.vt_laws_members_changes.proofs.letting_go.NamespaceLess.{ended, ended_by, ended_mount, ended_part, entered_was, member_was, placed_so, stub_stays}
+use Rattle.vt_laws_members_changes.proofs.letting_go.NamespaceLess.{SetIsLess, ended, ended_by, ended_mount, ended_part, entered_was, member_was, placed_so, stub_stays}
 use Rattle.vt_laws_members_changes.proofs.letting_go.Regrouped.{left, left_part, master_alike, mount_alike}
 use Rattle.vt_laws_members_changes.proofs.letting_go.SeeLess.{filter_less}
 
 -- lists whose elements are compared alike
-same_list_alike : (f g : Mount ℕ → Mount ℕ → Bool) (xs ys : List (Mount ℕ))
+pub same_list_alike : (f g : Mount ℕ → Mount ℕ → Bool) (xs ys : List (Mount ℕ))
     → ((x y : Mount ℕ) → Among x xs → Among y ys → f x y ≡ g x y) → same_list f xs ys ≡ same_list g xs ys
 same_list_alike f g [] [] same = refl
 same_list_alike f g [] (y ∷ ys) same = refl
@@ -95,7 +95,7 @@ member_source (Slave h) g e = none_is_some g e
 member_source Private g e = none_is_some g e
 member_source Unbindable g e = none_is_some g e
 
-raised_number : (before after : World ℕ) (n : Namespace ℕ) → (raised_namespace nat_eq before after n).number ≡ n.number
+pub raised_number : (before after : World ℕ) (n : Namespace ℕ) → (raised_namespace nat_eq before after n).number ≡ n.number
 raised_number before after n = by (same_mounts_in nat_eq before after n.number)
   where
     by : (b : Bool) → (cond b n (record n { change = raised n.change })).number ≡ n.number
@@ -109,7 +109,7 @@ module _ (world : World ℕ) (names : List TaskName) (is : IsWorld nat_eq world)
     (lasts : ℕ → Bool) (tasks tasks_too : List (Task ℕ))
     (change change_too : ℕ)
     (same : filter (is_member_task set) tasks_too ≡ filter (is_member_task set) tasks)
-    (fewer : (t : Task ℕ) → Among t (filter (is_member_task set) tasks) → Among t (members world names))
+    (fewer : SetIsLess world names is set tasks)
     (b : Bool) where
   abbrev part : World ℕ
   part = part_of nat_eq world names

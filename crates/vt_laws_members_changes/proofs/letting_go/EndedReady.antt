@@ -1,5 +1,5 @@
 -- Where mounts of theirs are detached, the world is ready to be swept.
-use Rattle.std.proofs.Common.{◌≡◌, refl, sym, ap, subst, ◌∙◌, ◌⊎◌, inl, inr, ⊎_elim, ℕ, nat_eq, Bool, true, false, true≢false, List, Option, Some, None, filter, is_some, not, ◌||◌, eq-eqb}
+use Rattle.std.proofs.Common.{◌≡◌, refl, sym, ap, subst, ◌∙◌, ◌⊎◌, inl, inr, ⊎_elim, ℕ, nat_eq, Bool, true, false, true≢false, List, Option, Some, None, filter, is_some, not, ◌||◌, eq-eqb, eqb-true}
 use Rattle.std.specs.Prelude.{option_map}
 use Rattle.std.specs.List.{list_all, list_any}
 use Rattle.std.proofs.lemmas.Bool.{and_parts, not-true, or_cases, or_left, or_right}
@@ -21,7 +21,7 @@ use Rattle.vt_laws_part.proofs.seals.ByPart.{used_are_free}
 use Rattle.vt_laws_members.proofs.judging.Grounds.{nowhere_stands}
 use Rattle.vt_laws_members_changes.proofs.letting_go.Changed.{mount_under, mount_parent}
 use Rattle.vt_laws_members_changes.proofs.letting_go.LessSeen.{used_was}
-use Rattle.vt_laws_members_changes.proofs.letting_go.NamespaceLess.{KeepsShape, ended, ended_less, ended_mount, ended_part, one_after, place_was, placed_old, placed_so, root_was, shape_kept, stands_on}
+use Rattle.vt_laws_members_changes.proofs.letting_go.NamespaceLess.{KeepsShape, SetIsLess, ended, ended_less, ended_mount, ended_part, one_after, place_shown, placed_so, root_ground, shape_kept}
 use Rattle.vt_laws_members_changes.proofs.letting_go.Ready.{Alone, NoOthers, Ready, layered_overlay}
 use Rattle.vt_laws_members_changes.proofs.letting_go.Regrouped.{left}
 use Rattle.vt_laws_members_changes.proofs.letting_go.WorldReady.{all_named_there, plain_in, sees_living, whole_cut}
@@ -33,7 +33,7 @@ module _ (world : World ℕ) (names : List TaskName) (is : IsWorld nat_eq world)
     (lasts : ℕ → Bool) (tasks tasks_too : List (Task ℕ))
     (change change_too : ℕ)
     (same : filter (is_member_task set) tasks_too ≡ filter (is_member_task set) tasks)
-    (fewer : (t : Task ℕ) → Among t (filter (is_member_task set) tasks) → Among t (members world names))
+    (fewer : SetIsLess world names is set tasks)
     (others : (l : Location ℕ) → Among l (locations (filter (λ t. not (is_member_task set t)) tasks))
     → Among l (locations (outsiders world names)))
     (still : (m : Mount ℕ) → Among m world.mounts → is_going nat_eq gone m.number ≡ false
@@ -192,9 +192,8 @@ module _ (world : World ℕ) (names : List TaskName) (is : IsWorld nat_eq world)
 
   located_so : (l : Location ℕ) → Among l (locations new) → (y : Mount ℕ) × Among y living.mounts × (l.mount ≡ y.number)
   located_so l m =
-      let on = placed_old world names is sealed_off set gone own_go lasts
-      tasks tasks_too change change_too same fewer b l
-      (place_was world names is sealed_off set gone own_go lasts tasks tasks_too change change_too same fewer b l m) in
+      let on = place_shown world names is sealed_off set gone own_go lasts
+      tasks tasks_too change change_too same fewer b l m in
       (after on.0, located_lives on.0 l on.1 (of_all l m) on.2, on.2 ∙ sym (shape on.0).number)
 
   parents_so : (y : Mount ℕ) (l : Location ℕ) → Among y living.mounts → y.mount_point ≡ Some l
@@ -217,12 +216,12 @@ module _ (world : World ℕ) (names : List TaskName) (is : IsWorld nat_eq world)
   stood_so y n h =
       let from = was y n in
       let l = any_among (λ (p : Location ℕ). nat_eq p.mount y.number) (roots_and_directories new) h in
-      let stands : is_at nat_eq (roots_and_directories old) from.0 ≡ true =
-      any_from_among (λ (p : Location ℕ). nat_eq p.mount from.0.number) (roots_and_directories old) l.0
-      (root_was world names is sealed_off set gone own_go lasts tasks tasks_too change change_too same fewer b l.0 l.1)
-      (ap (nat_eq l.0.mount) (sym (ap (λ (q : Mount ℕ). q.number) from.2 ∙ (shape from.0).number)) ∙ l.2) in
+      let ground = root_ground world names is sealed_off set gone own_go lasts
+      tasks tasks_too change change_too same fewer b l.0 l.1 from.0 from.1
+      (eqb-true l.0.mount from.0.number
+      (ap (nat_eq l.0.mount) (sym (ap (λ (q : Mount ℕ). q.number) from.2 ∙ (shape from.0).number)) ∙ l.2)) in
       subst (λ (q : Mount ℕ). (is_own world names new q ≡ true) ⊎ (q.mount_point ≡ None)) (sym from.2)
-      (by from.0 from.1 (stands_on world names is from.0 from.1 stands) from.0.namespace refl from.0.mount_point refl)
+      (by from.0 from.1 (⊎_elim inl (λ stood. inr stood.0) ground) from.0.namespace refl from.0.mount_point refl)
     where
       by : (m : Mount ℕ) → Among m world.mounts → (is_own world names old m ≡ true) ⊎ (m.namespace ≡ None)
           → (o : Option ℕ) → m.namespace ≡ o → (p : Option (Location ℕ)) → m.mount_point ≡ p

@@ -28,7 +28,7 @@ use Rattle.vt_laws_members_changes.proofs.letting_go.CutNamespace.{in_same, in_s
 use Rattle.vt_laws_members_changes.proofs.letting_go.Detached.{detached_parts}
 use Rattle.vt_laws_members_changes.proofs.letting_go.Heard.{own_in, space_in_part}
 use Rattle.vt_laws_members_changes.proofs.letting_go.Leaving.{all_left, in_world, is_task, its_name, member, new_old, old_new, others_left, part_listed, same_left, stays, tasks, tasks_too}
-use Rattle.vt_laws_members_changes.proofs.letting_go.NamespaceLess.{ended, ended_part}
+use Rattle.vt_laws_members_changes.proofs.letting_go.NamespaceLess.{ended, ended_part, less_of_fewer}
 use Rattle.vt_laws_members_changes.proofs.letting_go.PartMounts.{part_mounts}
 use Rattle.vt_laws_members_changes.proofs.letting_go.Regrouped.{flags_same, regroup_is, regrouped_mount, regrouped_so}
 
@@ -40,7 +40,7 @@ module _ (w : World ℕ) (k : ℕ) (gone : List ℕ) (same : numbers_in w k ≡ 
   abbrev remain : List (Namespace ℕ)
   remain = filter (λ (n : Namespace ℕ). not (nat_eq k n.number)) w.namespaces
 
-  ends_so : MountsAreListed w → list_any (λ (t : Task ℕ). nat_eq k t.namespace) w.tasks ≡ false
+  pub ends_so : MountsAreListed w → list_any (λ (t : Task ℕ). nat_eq k t.namespace) w.tasks ≡ false
       → list_all (λ (n : Namespace ℕ). nat_eq k n.number || has_tasks nat_eq w n) w.namespaces ≡ true
       → (b : Bool) → list_any (lost_a_group nat_eq left_by) left_by.mounts ≡ b
       → namespaces_ended nat_eq w ≡ record (regrouped_so b left_by) {
@@ -140,11 +140,11 @@ module _ (world : World ℕ) (names : List TaskName) (name : TaskName) (it : IsC
 
   abbrev v : World ℕ
   v = ended world names it.is it.sealed_off set gone own_go lasts rest rest_too world.change part.change
-      (same_left world names name it task called) (new_old world names name it task called) flag
+      (same_left world names name it task called) (less_of_fewer world names it.is set rest (new_old world names name it task called)) flag
 
   abbrev v_part : World ℕ
   v_part = ended_part world names it.is it.sealed_off set gone own_go lasts rest rest_too world.change part.change
-      (same_left world names name it task called) (new_old world names name it task called) flag
+      (same_left world names name it task called) (less_of_fewer world names it.is set rest (new_old world names name it task called)) flag
 
   world_ends : namespaces_ended nat_eq (record world { tasks = rest }) ≡ v
   world_ends =
@@ -200,7 +200,7 @@ module _ (world : World ℕ) (names : List TaskName) (name : TaskName) (it : IsC
       ≡ part_of nat_eq (numbers_raised nat_eq part name [] (settled nat_eq v_part)) set
   parts =
       detached_parts world names it.is it.sealed_off set gone own_go lasts rest rest_too world.change part.change
-      (same_left world names name it task called) (new_old world names name it task called)
+      (same_left world names name it task called) (less_of_fewer world names it.is set rest (new_old world names name it task called))
       (others_left world names name it task called) (all_left world names name it task called) mounts_stay flag kept
       kept_there name
 

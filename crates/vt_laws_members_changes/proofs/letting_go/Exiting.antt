@@ -40,10 +40,74 @@ use Rattle.vt_laws_members_changes.proofs.letting_go.ExitLast.{last_exit_alike}
 use Rattle.vt_laws_members_changes.proofs.letting_go.Leaving.{all_left, is_task, its_name, member, new_old, old_new, others_left, own_part, part_listed, same_left, tasks, tasks_too}
 
 -- a world whose namespaces have tasks, and whose groups have members, stays
-none_ends : (b : World ℕ) → MountsAreListed b → list_all (has_tasks nat_eq b) b.namespaces ≡ true
+pub none_ends : (b : World ℕ) → MountsAreListed b → list_all (has_tasks nat_eq b) b.namespaces ≡ true
     → list_any (lost_a_group nat_eq b) b.mounts ≡ false → namespaces_ended nat_eq b ≡ b
 none_ends b listed all none =
     no_namespace_ends b listed all ∙ ap (λ lost. regrouped_by nat_eq lost b) none
+
+module _ (world : World ℕ) (names : List TaskName) (name : TaskName) (it : IsCallOfTheirs world names name Exit)
+    (task : Task ℕ) (called : task_called world name ≡ Some task) where
+  abbrev its_part : World ℕ
+  its_part = part_of nat_eq world names
+
+  abbrev its_old : List (Task ℕ)
+  its_old = members world names
+
+  abbrev its_rest : List (Task ℕ)
+  its_rest = tasks_too world names name it task called
+
+  apart : IsApart world names
+  apart = apart_if_sealed world names it.is it.sealed_off
+
+  -- each group that a mount of the part receives from has a member there
+  heard_there : (g : ℕ) → Hears world names it.is.mounts apart.events g
+      → Living world names it.is.mounts apart.events g
+      → has_members nat_eq its_part.mounts g ≡ true
+  heard_there g heard lives =
+      let own = own_member world names it.is.mounts apart.events g heard lives in
+      let from = among-from_filter (is_own_mount nat_eq world names) world.mounts own.0 own.1 in
+      any_from_among (is_member_of nat_eq g) its_part.mounts own.0
+      (among-filter_map (keep world names its_old) world.mounts own.0 own.0 from.0
+      (own_whole world names it.is own.0 from.1)) own.2
+
+  source_placed : (kind : Propagation ℕ) (g : ℕ) → source_of kind ≡ Some g → is_private kind ≡ true → ⊥
+  source_placed (Shared h) g e p = true≢false (sym p)
+  source_placed (Slave h) g e p = true≢false (sym p)
+  source_placed Private g e p = none_is_some g e
+  source_placed Unbindable g e p = none_is_some g e
+
+  pub part_keeps : list_any (lost_a_group nat_eq (record its_part { tasks = its_rest })) its_part.mounts ≡ false
+  part_keeps =
+      none_from_among (lost_a_group nat_eq its_part) its_part.mounts (λ y m. by y m (source_of y.propagation) refl)
+    where
+      above : (g : ℕ) → Hears world names it.is.mounts apart.events g
+          → Living world names it.is.mounts apart.events g
+          → (b : Bool) (o : Option ℕ) → world.master g ≡ o → is_lost_group nat_eq its_part (cond b o None) ≡ false
+      above g heard lives false o e = refl
+      above g heard lives true None e = refl
+      above g heard lives true (Some up) e =
+          let higher = heard_above world names it.is.mounts apart.events up g e (heard, lives) in
+          ap not (heard_there up higher.0 higher.1)
+
+      placed : (y : Mount ℕ) → Among y its_part.mounts → (g : ℕ) → source_of y.propagation ≡ Some g → (o : Option ℕ)
+          → y.namespace ≡ o → Among y world.mounts × (is_own world names its_old y ≡ true)
+      placed y m g e None f =
+          absurd (source_placed y.propagation g e (private_in_part world names it.is y m f))
+      placed y m g e (Some n) f = own_part world names name it task called y m n f
+
+      by : (y : Mount ℕ) → Among y its_part.mounts → (o : Option ℕ) → source_of y.propagation ≡ o
+          → (is_lost_group nat_eq its_part o || is_lost_group nat_eq its_part (then_some o its_part.master)) ≡ false
+      by y m None e = refl
+      by y m (Some g) e =
+          let own = placed y m g e y.namespace refl in
+          let heard : Hears world names it.is.mounts apart.events g = (
+            y,
+            among-filter (is_own_mount nat_eq world names) world.mounts y own.0 own.1,
+            start_hears world g y.propagation e,
+          ) in
+          let lives = among_from_all (HasLivingGroups nat_eq world) world.mounts it.is.mounts.groups y own.0 g e in
+          ap (λ b. not b || is_lost_group nat_eq its_part (its_part.master g)) (heard_there g heard lives)
+          ∙ above g heard lives (list_any (is_member_of nat_eq g) (own_mounts nat_eq world names)) (world.master g) refl
 
 module _ (world : World ℕ) (names : List TaskName) (name : TaskName) (it : IsCallOfTheirs world names name Exit)
     (task : Task ℕ) (called : task_called world name ≡ Some task) (other : Task ℕ) (there : Among other world.tasks)
@@ -69,9 +133,6 @@ module _ (world : World ℕ) (names : List TaskName) (name : TaskName) (it : IsC
   abbrev new : List (Task ℕ)
   new = filter (is_member_task set) rest
 
-  apart : IsApart world names
-  apart = apart_if_sealed world names it.is it.sealed_off
-
   -- the other one is theirs, and stays
   other_member : is_member_task names other ≡ true
   other_member = by (is_member_task names other) refl
@@ -83,7 +144,7 @@ module _ (world : World ℕ) (names : List TaskName) (name : TaskName) (it : IsC
           (sym (any_from_among (λ (t : Task ℕ). nat_eq other.namespace t.namespace) old task
           (member world names name it task called)
           (eq-eqb other.namespace task.namespace together))
-          ∙ namespace_outside world names apart other
+          ∙ namespace_outside world names (apart world names name it task called) other
           (among-filter (λ t. not (is_member_task names t)) world.tasks other there (ap not e))))
 
   other_stays : stays other ≡ true
@@ -108,7 +169,7 @@ module _ (world : World ℕ) (names : List TaskName) (name : TaskName) (it : IsC
           (among-filter stays list other m other_stays)
           (ap (nat_eq n) (together ∙ ap (λ (x : Task ℕ). x.namespace) one) ∙ e)
 
-  in_old : Among other old
+  pub in_old : Among other old
   in_old = among-filter (is_member_task names) world.tasks other there other_member
 
   lets_go : LetsGo world names it.is it.sealed_off set rest
@@ -146,56 +207,6 @@ module _ (world : World ℕ) (names : List TaskName) (name : TaskName) (it : IsC
       (among_from_list_all (has_tasks nat_eq world) world.namespaces it.is.namespaces.namespaces_live n m)))
       (none_lost world it.is.mounts)
 
-  -- each group that a mount of the part receives from has a member there
-  heard_there : (g : ℕ) → Hears world names it.is.mounts apart.events g
-      → Living world names it.is.mounts apart.events g
-      → has_members nat_eq part.mounts g ≡ true
-  heard_there g heard lives =
-      let own = own_member world names it.is.mounts apart.events g heard lives in
-      let from = among-from_filter (is_own_mount nat_eq world names) world.mounts own.0 own.1 in
-      any_from_among (is_member_of nat_eq g) part.mounts own.0
-      (among-filter_map (keep world names old) world.mounts own.0 own.0 from.0
-      (own_whole world names it.is own.0 from.1)) own.2
-
-  source_placed : (kind : Propagation ℕ) (g : ℕ) → source_of kind ≡ Some g → is_private kind ≡ true → ⊥
-  source_placed (Shared h) g e p = true≢false (sym p)
-  source_placed (Slave h) g e p = true≢false (sym p)
-  source_placed Private g e p = none_is_some g e
-  source_placed Unbindable g e p = none_is_some g e
-
-  part_keeps : list_any (lost_a_group nat_eq (record part { tasks = rest_too })) part.mounts ≡ false
-  part_keeps =
-      none_from_among (lost_a_group nat_eq part) part.mounts (λ y m. by y m (source_of y.propagation) refl)
-    where
-      above : (g : ℕ) → Hears world names it.is.mounts apart.events g
-          → Living world names it.is.mounts apart.events g
-          → (b : Bool) (o : Option ℕ) → world.master g ≡ o → is_lost_group nat_eq part (cond b o None) ≡ false
-      above g heard lives false o e = refl
-      above g heard lives true None e = refl
-      above g heard lives true (Some up) e =
-          let higher = heard_above world names it.is.mounts apart.events up g e (heard, lives) in
-          ap not (heard_there up higher.0 higher.1)
-
-      placed : (y : Mount ℕ) → Among y part.mounts → (g : ℕ) → source_of y.propagation ≡ Some g → (o : Option ℕ)
-          → y.namespace ≡ o → Among y world.mounts × (is_own world names old y ≡ true)
-      placed y m g e None f =
-          absurd (source_placed y.propagation g e (private_in_part world names it.is y m f))
-      placed y m g e (Some n) f = own_part world names name it task called y m n f
-
-      by : (y : Mount ℕ) → Among y part.mounts → (o : Option ℕ) → source_of y.propagation ≡ o
-          → (is_lost_group nat_eq part o || is_lost_group nat_eq part (then_some o part.master)) ≡ false
-      by y m None e = refl
-      by y m (Some g) e =
-          let own = placed y m g e y.namespace refl in
-          let heard : Hears world names it.is.mounts apart.events g = (
-            y,
-            among-filter (is_own_mount nat_eq world names) world.mounts y own.0 own.1,
-            start_hears world g y.propagation e,
-          ) in
-          let lives = among_from_all (HasLivingGroups nat_eq world) world.mounts it.is.mounts.groups y own.0 g e in
-          ap (λ b. not b || is_lost_group nat_eq part (part.master g)) (heard_there g heard lives)
-          ∙ above g heard lives (list_any (is_member_of nat_eq g) (own_mounts nat_eq world names)) (world.master g) refl
-
   part_stays : namespaces_ended nat_eq (record part { tasks = rest_too }) ≡ record part { tasks = rest_too }
   part_stays =
       none_ends (record part { tasks = rest_too }) (part_listed world names name it task called)
@@ -203,7 +214,7 @@ module _ (world : World ℕ) (names : List TaskName) (name : TaskName) (it : IsC
       (λ n m. entered n.number old (λ t k. (among-from_filter (is_member_task names) world.tasks t k).0) in_old
       (among-from_filter (λ (s : Namespace ℕ). list_any (λ (t : Task ℕ). nat_eq s.number t.namespace) old)
       world.namespaces n m).1))
-      part_keeps
+      (part_keeps world names name it task called)
 
   pub exit_alike : (fresh supply : Fresh ℕ) → EndsAlike world names name Exit fresh supply
   exit_alike fresh supply =

@@ -32,7 +32,7 @@ use Rattle.vt_laws_members_changes.specs.LettingGo.{ChdirsEndAlike, ChrootsEndAl
 use Rattle.vt_laws_members_changes.proofs.looks.Granted.{of_rules, of_walk}
 use Rattle.vt_laws_members_changes.proofs.looks.Told.{member_called, ran}
 use Rattle.vt_laws_members_changes.proofs.tasks.Denied.{denial_ends_alike, run_by, same_judgement, unnamed_ends_alike}
-use Rattle.vt_laws_members_changes.proofs.letting_go.Callers.{moved_alike}
+use Rattle.vt_laws_members_changes.proofs.letting_go.Callers.{moved_alike, spaces_kept}
 
 -- The permit of close(2)
 abbrev Closes : ℕ → Permit ℕ → Type 0
@@ -107,7 +107,6 @@ closes_end_alike world names name number it fresh other = by (task_called world 
         (record task { descriptors = filter (λ (d : Descriptor ℕ). not (number == d.number)) task.descriptors })
         (record {
           named = refl;
-          spaced = refl;
           root = root_theirs world names it.is task member;
           directory = directory_theirs world names it.is task member;
           places = λ l m. inl (⊎_elim inl (λ rest. inr (⊎_elim inl (λ open_file.
@@ -119,6 +118,8 @@ closes_end_alike world names name number it fresh other = by (task_called world 
               (among-from_filter (λ (d : Descriptor ℕ). not
               (number == d.number)) task.descriptors d.0 d.1).0))) rest)) m);
         }) fresh other refl
+        (spaces_kept world names name (Close number) it task e
+        (record task { descriptors = filter (λ (d : Descriptor ℕ). not (number == d.number)) task.descriptors }) refl refl)
         (ap (run_by world names name (Close number) it fresh other world fresh task) judged)
         (ap (run_by world names name (Close number) it fresh other part other task)
         (sym (same_judgement world names name (Close number) it fresh other task e) ∙ judged))
@@ -151,13 +152,14 @@ chdirs_end_alike world names name path it fresh other = by (task_called world na
         moved_alike world names name (Chdir path) it task e (record task { directory = l })
         (record {
           named = refl;
-          spaced = refl;
           root = root_theirs world names it.is task member;
           directory = on;
           places = λ k m. ⊎_elim (λ root. inl (inl root)) (λ rest. ⊎_elim
               (λ here. inr (subst (λ (q : Location ℕ). IsTheirs world names it.is.mounts q.mount) (sym here) on))
               (λ open_file. inl (inr (inr open_file))) rest) m;
         }) fresh other refl
+        (spaces_kept world names name (Chdir path) it task e
+        (record task { directory = l }) refl refl)
         (ap (run_by world names name (Chdir path) it fresh other world fresh task) judged)
         (ap (run_by world names name (Chdir path) it fresh other part other task)
         (sym (same_judgement world names name (Chdir path) it fresh other task e) ∙ judged))
@@ -194,13 +196,14 @@ chroots_end_alike world names name path it fresh other = by (task_called world n
         moved_alike world names name (Chroot path) it task e (record task { root = l })
         (record {
           named = refl;
-          spaced = refl;
           root = on;
           directory = directory_theirs world names it.is task member;
           places = λ k m. ⊎_elim
               (λ here. inr (subst (λ (q : Location ℕ). IsTheirs world names it.is.mounts q.mount) (sym here) on))
               (λ rest. inl (inr rest)) m;
         }) fresh other refl
+        (spaces_kept world names name (Chroot path) it task e
+        (record task { root = l }) refl refl)
         (ap (run_by world names name (Chroot path) it fresh other world fresh task) judged)
         (ap (run_by world names name (Chroot path) it fresh other part other task)
         (sym (same_judgement world names name (Chroot path) it fresh other task e) ∙ judged))

@@ -1,5 +1,5 @@
 -- Where mounts of theirs are detached, and tasks and namespaces end, the tasks that are left see less.
-use Rattle.std.proofs.Common.{◌≡◌, refl, sym, ap, subst, ◌∙◌, ◌⊎◌, inl, inr, ⊎_elim, ℕ, nat_eq, Bool, true, false, cond, true≢false, List, [], ◌∷◌, Option, Some, None, filter, is_some, map, not, ◌||◌, ◌&&◌, eqb-true}
+use Rattle.std.proofs.Common.{◌≡◌, refl, sym, ap, subst, ◌∙◌, ◌⊎◌, inl, inr, ⊎_elim, ℕ, nat_eq, Bool, true, false, cond, true≢false, List, [], ◌∷◌, Option, Some, None, filter, is_some, map, not, ◌||◌, ◌&&◌, eq-eqb, eqb-true}
 use Rattle.std.specs.Prelude.{option_map}
 use Rattle.std.specs.List.{filter_map, list_any}
 use Rattle.std.proofs.lemmas.Bool.{and_parts, or_cases, or_left, or_right}
@@ -18,9 +18,10 @@ use Rattle.vt_laws_mounts.specs.Mounts.Invariants.{OneNumberEach}
 use Rattle.vt_laws_mounts.proofs.mounts.MountsReplaced.{found_itself}
 use Rattle.vt_laws_part.proofs.Kept.{filter_map_map, filter_map_same}
 use Rattle.vt_laws_part.proofs.groups.ReceiversAlike.{member_group}
-use Rattle.vt_laws_part.proofs.part.PartOfPart.{is_own, keep}
-use Rattle.vt_laws_members.proofs.judging.Grounds.{IsTheirs, numbered}
-use Rattle.vt_laws_members.proofs.judging.SeenInPart.{directory_theirs, root_theirs}
+use Rattle.vt_laws_part.proofs.part.PartOfPart.{is_own, keep, kept_whole}
+use Rattle.vt_laws_members.proofs.judging.Grounds.{IsGround, IsTheirs, numbered}
+use Rattle.vt_laws_members.proofs.judging.SeenInPart.{directory_theirs, root_theirs, theirs_directly}
+use Rattle.vt_laws_sealed.proofs.outsiders.SeenLater.{shown_at}
 use Rattle.vt_laws_members_changes.proofs.letting_go.Changed.{mount_under}
 use Rattle.vt_laws_members_changes.proofs.letting_go.Heard.{heard_by_own}
 use Rattle.vt_laws_members_changes.proofs.letting_go.Leaving.{filter_mid}
@@ -164,6 +165,51 @@ stands_on world names is m n h =
         (directory_theirs world names is t m))
         (λ none. absurd none) rest) at
 
+-- A set of tasks that is in no other namespaces than those of before, and at locations of before or where members get
+module _ (world : World ℕ) (names : List TaskName) (is : IsWorld nat_eq world) where
+  abbrev old_ones : List (Task ℕ)
+  old_ones = members world names
+
+  abbrev OnTheirs : Location ℕ → Type 0
+  OnTheirs l = IsTheirs world names is.mounts l.mount
+
+  pub record SetIsLess (set : List TaskName) (tasks : List (Task ℕ)) : Type 0 where
+    pub entered : (n : ℕ) → list_any (λ (t : Task ℕ). nat_eq n t.namespace) (filter (is_member_task set) tasks) ≡ true
+        → list_any (λ (t : Task ℕ). nat_eq n t.namespace) old_ones ≡ true
+    pub roots : (l : Location ℕ) → Among l (roots_and_directories (filter (is_member_task set) tasks)) → OnTheirs l
+    pub places : (l : Location ℕ) → Among l (locations (filter (is_member_task set) tasks))
+        → Among l (locations old_ones) ⊎ OnTheirs l
+
+  -- so where its tasks are some of the old ones
+  pub less_of_fewer : (set : List TaskName) (tasks : List (Task ℕ))
+      → ((t : Task ℕ) → Among t (filter (is_member_task set) tasks) → Among t old_ones) → SetIsLess set tasks
+  less_of_fewer set tasks fewer = record {
+    entered = λ n h. let t = any_among (λ (t : Task ℕ). nat_eq n t.namespace) (filter (is_member_task set) tasks) h in
+        any_from_among (λ (t : Task ℕ). nat_eq n t.namespace) old_ones t.0 (fewer t.0 t.1) t.2;
+    roots = λ l m.
+        let t = among-from_flat_map (λ (t : Task ℕ). t.root ∷ t.directory ∷ []) (filter (is_member_task set) tasks) l m in
+        ⊎_elim (λ e. subst OnTheirs (sym e) (root_theirs world names is t.0 (fewer t.0 t.1)))
+        (λ rest. ⊎_elim (λ e. subst OnTheirs (sym e) (directory_theirs world names is t.0 (fewer t.0 t.1)))
+        (λ none. absurd none) rest) t.2;
+    places = λ l m. let t = among-from_flat_map locations_of (filter (is_member_task set) tasks) l m in
+        inl (among-flat_map locations_of old_ones t.0 l (fewer t.0 t.1) t.2);
+  }
+
+  -- a mount where members get
+  pub ground_at : (l : Location ℕ) → OnTheirs l → (m : Mount ℕ) → Among m world.mounts → l.mount ≡ m.number
+      → IsGround world names is.mounts m
+  ground_at l (mount, there, number, ground) m n e =
+      subst (IsGround world names is.mounts)
+      (sym (numbered world names is.mounts mount there) ∙ ap (mount_numbered nat_eq world) (number ∙ e)
+      ∙ numbered world names is.mounts m n) ground
+
+  pub ground_whole : (m : Mount ℕ) → IsGround world names is.mounts m
+      → (is_own world names old_ones m || is_at nat_eq (roots_and_directories old_ones) m) ≡ true
+  ground_whole m ground =
+      ⊎_elim (or_left (is_own world names old_ones m) (is_at nat_eq (roots_and_directories old_ones) m))
+      (λ stood. or_right (is_own world names old_ones m) (is_at nat_eq (roots_and_directories old_ones) m) stood.1)
+      ground
+
 module _ (world : World ℕ) (names : List TaskName) (is : IsWorld nat_eq world)
     (sealed_off : sealed nat_eq world names ≡ true) (set : List TaskName) (gone : List ℕ)
     (own_go : (m : Mount ℕ) → Among m world.mounts → is_going nat_eq gone m.number ≡ true
@@ -171,7 +217,7 @@ module _ (world : World ℕ) (names : List TaskName) (is : IsWorld nat_eq world)
     (lasts : ℕ → Bool) (tasks tasks_too : List (Task ℕ))
     (change change_too : ℕ)
     (same : filter (is_member_task set) tasks_too ≡ filter (is_member_task set) tasks)
-    (fewer : (t : Task ℕ) → Among t (filter (is_member_task set) tasks) → Among t (members world names))
+    (fewer : SetIsLess world names is set tasks)
     (b : Bool) where
   abbrev part : World ℕ
   part = part_of nat_eq world names
@@ -227,9 +273,7 @@ module _ (world : World ℕ) (names : List TaskName) (is : IsWorld nat_eq world)
   -- less than before
   pub entered_was : (n : ℕ) → list_any (λ (t : Task ℕ). nat_eq n t.namespace) new ≡ true
       → list_any (λ (t : Task ℕ). nat_eq n t.namespace) old ≡ true
-  entered_was n h =
-      let t = any_among (λ (t : Task ℕ). nat_eq n t.namespace) new h in
-      any_from_among (λ (t : Task ℕ). nat_eq n t.namespace) old t.0 (fewer t.0 t.1) t.2
+  entered_was = fewer.entered
 
   own_was : (m : Mount ℕ) → owns new m ≡ true → owns old m ≡ true
   own_was m = by m.namespace
@@ -249,26 +293,22 @@ module _ (world : World ℕ) (names : List TaskName) (is : IsWorld nat_eq world)
       (mine, own_was m mine))
       (placed_so b t_world world gone m)
 
-  pub place_was : (l : Location ℕ) → Among l (locations new) → Among l (locations old)
-  place_was l m =
-      let t = among-from_flat_map locations_of new l m in
-      among-flat_map locations_of old t.0 l (fewer t.0 t.1) t.2
+  pub root_ground : (l : Location ℕ) → Among l (roots_and_directories new) → (m : Mount ℕ) → Among m world.mounts
+      → l.mount ≡ m.number → IsGround world names is.mounts m
+  root_ground l at m n e = ground_at world names is l (fewer.roots l at) m n e
 
-  pub root_was : (l : Location ℕ) → Among l (roots_and_directories new) → Among l (roots_and_directories old)
-  root_was l m =
-      let t = among-from_flat_map (λ (t : Task ℕ). t.root ∷ t.directory ∷ []) new l m in
-      among-flat_map (λ (t : Task ℕ). t.root ∷ t.directory ∷ []) old t.0 l (fewer t.0 t.1) t.2
-
-  stands_was : (m : Mount ℕ) → stands new m ≡ true → stands old m ≡ true
-  stands_was m h =
+  stands_was : (m : Mount ℕ) → Among m world.mounts → stands new m ≡ true → (owns old m || stands old m) ≡ true
+  stands_was m n h =
       let l = any_among (λ (l : Location ℕ). nat_eq l.mount m.number) (roots_and_directories new) h in
-      any_from_among (λ (l : Location ℕ). nat_eq l.mount m.number) (roots_and_directories old) l.0
-      (root_was l.0 l.1) l.2
+      ground_whole world names is m (root_ground l.0 l.1 m n (eqb-true l.0.mount m.number l.2))
 
-  at_was : (m : Mount ℕ) → at new m ≡ true → at old m ≡ true
-  at_was m h =
+  at_was : (m : Mount ℕ) → Among m world.mounts → at new m ≡ true
+      → ((owns old m || stands old m) ≡ true) ⊎ (at old m ≡ true)
+  at_was m n h =
       let l = any_among (λ (l : Location ℕ). nat_eq l.mount m.number) (locations new) h in
-      any_from_among (λ (l : Location ℕ). nat_eq l.mount m.number) (locations old) l.0 (place_was l.0 l.1) l.2
+      ⊎_elim (λ before. inr (any_from_among (λ (l : Location ℕ). nat_eq l.mount m.number) (locations old) l.0 before l.2))
+      (λ on. inl (ground_whole world names is m (ground_at world names is l.0 on m n (eqb-true l.0.mount m.number l.2))))
+      (fewer.places l.0 l.1)
 
   -- a mount that is whole in the part is after alike
   whole_alike : (m : Mount ℕ) → Among m world.mounts → (o : Option ℕ) → m.namespace ≡ o
@@ -284,9 +324,9 @@ module _ (world : World ℕ) (names : List TaskName) (is : IsWorld nat_eq world)
   abbrev kept_as : Bool → Bool → Mount ℕ → Option (Mount ℕ)
   kept_as p q m = cond p (Some m) (when q (seen_by_descriptor m))
 
-  less_whole : (m : Mount ℕ) → (owns old m || stands old m) ≡ false → (owns new (after m) || stands new (after m))
+  less_whole : (m : Mount ℕ) → Among m world.mounts → (owns old m || stands old m) ≡ false → (owns new (after m) || stands new (after m))
       ≡ false
-  less_whole m e =
+  less_whole m n e =
       by (owns new (after m)) refl (stands new (after m)) refl
     where
       by : (p : Bool) → owns new (after m) ≡ p → (q : Bool) → stands new (after m) ≡ q
@@ -294,29 +334,29 @@ module _ (world : World ℕ) (names : List TaskName) (is : IsWorld nat_eq world)
       by true f q g =
           absurd (true≢false (sym (or_left (owns old m) (stands old m) (own_before m f).1) ∙ e))
       by false f true g =
-          absurd (true≢false (sym (or_right (owns old m) (stands old m)
-          (stands_was m (ap (λ i. list_any (λ (l : Location ℕ). nat_eq l.mount i) (roots_and_directories new))
-          (sym (shape_kept b t_world world gone m).number) ∙ g))) ∙ e))
+          absurd (true≢false (sym
+          (stands_was m n (ap (λ i. list_any (λ (l : Location ℕ). nat_eq l.mount i) (roots_and_directories new))
+          (sym (shape_kept b t_world world gone m).number) ∙ g)) ∙ e))
       by false f false g = ap (λ c. c || stands new (after m)) f ∙ g
 
-  stub_kept : (m : Mount ℕ) → (owns old m || stands old m) ≡ false → keep world names new (after m)
+  stub_kept : (m : Mount ℕ) → Among m world.mounts → (owns old m || stands old m) ≡ false → keep world names new (after m)
       ≡ when (at new m) (seen_by_descriptor m)
-  stub_kept m e =
-      ap (λ c. kept_as c (at new (after m)) (after m)) (less_whole m e)
+  stub_kept m n e =
+      ap (λ c. kept_as c (at new (after m)) (after m)) (less_whole m n e)
       ∙ ap (λ i. when (list_any (λ (l : Location ℕ). nat_eq l.mount i) (locations new)) (seen_by_descriptor (after m)))
       (shape_kept b t_world world gone m).number
       ∙ ap (when (at new m)) (shape_kept b t_world world gone m).stub
 
-  stub_whole : (m : Mount ℕ) → (owns old m || stands old m) ≡ false
+  stub_whole : (m : Mount ℕ) → Among m world.mounts → (owns old m || stands old m) ≡ false
       → keep world names new (after_part (seen_by_descriptor m)) ≡ when (at new m) (seen_by_descriptor m)
-  stub_whole m e =
+  stub_whole m n e =
       ap (keep world names new) (stub_stays b t_part part gone m)
       ∙ by (stands new m) refl
     where
       by : (q : Bool) → stands new m ≡ q
           → cond (stands new m) (Some (seen_by_descriptor m)) (when (at new m) (seen_by_descriptor m))
           ≡ when (at new m) (seen_by_descriptor m)
-      by true f = absurd (true≢false (sym (or_right (owns old m) (stands old m) (stands_was m f)) ∙ e))
+      by true f = absurd (true≢false (sym (stands_was m n f) ∙ e))
       by false f = ap (λ c. cond c (Some (seen_by_descriptor m)) (when (at new m) (seen_by_descriptor m))) f
 
   no_point : (o : Option (Location ℕ)) → not (is_some o) ≡ true → o ≡ None
@@ -351,12 +391,13 @@ module _ (world : World ℕ) (names : List TaskName) (is : IsWorld nat_eq world)
       by false e true f r g =
           ap (λ c. then_some (kept_as c (at old m) m) (λ y. keep world names new (after_part y))) e
           ∙ ap (λ c. then_some (when c (seen_by_descriptor m)) (λ y. keep world names new (after_part y))) f
-          ∙ stub_whole m e ∙ sym (stub_kept m e)
-      by false e false f true g = absurd (true≢false (sym (at_was m g) ∙ f))
+          ∙ stub_whole m n e ∙ sym (stub_kept m n e)
+      by false e false f true g =
+          absurd (⊎_elim (λ whole. true≢false (sym whole ∙ e)) (λ there. true≢false (sym there ∙ f)) (at_was m n g))
       by false e false f false g =
           ap (λ c. then_some (kept_as c (at old m) m) (λ y. keep world names new (after_part y))) e
           ∙ ap (λ c. then_some (when c (seen_by_descriptor m)) (λ y. keep world names new (after_part y))) f
-          ∙ sym (stub_kept m e ∙ ap (λ c. when c (seen_by_descriptor m)) g)
+          ∙ sym (stub_kept m n e ∙ ap (λ c. when c (seen_by_descriptor m)) g)
 
   mounts_less : filter_map (keep world names new) (map after_part part.mounts)
       ≡ filter_map (keep world names new) (map after world.mounts)
@@ -397,6 +438,25 @@ module _ (world : World ℕ) (names : List TaskName) (is : IsWorld nat_eq world)
       (among-flat_map locations_of world.tasks t.0 l
       (among-from_filter (is_member_task names) world.tasks t.0 t.1).0 t.2)
 
+  -- a location of the set that is left is on a mount of the part
+  pub place_shown : (l : Location ℕ) → Among l (locations new)
+      → (m : Mount ℕ) × Among m world.mounts × (l.mount ≡ m.number) × (y : Mount ℕ) × (keep world names old m ≡ Some y)
+  place_shown l m =
+      ⊎_elim
+      (λ before. let on = placed_old l before in
+      let shown = shown_at world names on.0
+      (any_from_among (λ (p : Location ℕ). nat_eq p.mount on.0.number) (locations old) l
+      before (eq-eqb l.mount on.0.number on.2)) in
+      (on.0, on.1, on.2, shown.0, shown.1))
+      (λ on. (
+        on.0,
+        on.1,
+        sym on.2,
+        on.0,
+        kept_whole world names old on.0 (ground_whole world names is on.0 on.3),
+      ))
+      (fewer.places l m)
+
   abbrev mounted : List ℕ
   mounted = map (λ (m : Mount ℕ). m.filesystem) (own_mounts nat_eq world names)
 
@@ -417,11 +477,12 @@ module _ (world : World ℕ) (names : List TaskName) (is : IsWorld nat_eq world)
       (among-filter (is_own_mount nat_eq world names) world.mounts from.0 from.1 was.1))))
       (λ placed. let l = among-from_map (λ (l : Location ℕ). (mount_at nat_eq ended l).filesystem)
       (locations new) n placed in
-      let before = place_was l.0 l.1 in
-      let on = placed_old l.0 before in
-      among-append_right mounted (map shows (locations old)) n
-      (subst (λ i. Among i (map shows (locations old))) (sym (l.2 ∙ filesystem_after on.0 on.1 l.0 on.2))
-      (among-map shows (locations old) l.0 before)))
+      let on = place_shown l.0 l.1 in
+      subst (λ i. Among i (used_directly nat_eq world names)) (sym (l.2 ∙ filesystem_after on.0 on.1 l.0 on.2))
+      (⊎_elim
+      (λ before. among-append_right mounted (map shows (locations old)) (shows l.0)
+      (among-map shows (locations old) l.0 before))
+      (λ theirs. theirs_directly world names is l.0 theirs) (fewer.places l.0 l.1)))
       (among-append (map (λ (m : Mount ℕ). m.filesystem) (own_mounts nat_eq ended set))
       (map (λ (l : Location ℕ). (mount_at nat_eq ended l).filesystem) (locations new)) n m)
 

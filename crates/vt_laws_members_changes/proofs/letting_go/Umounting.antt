@@ -5,20 +5,20 @@ use Rattle.std.specs.List.{list_any}
 use Rattle.std.proofs.lemmas.Bool.{or_parts}
 use Rattle.vt_spec.specs.Errors.{Rules, unless}
 use Rattle.vt_spec.specs.Language.Answers.Answer.{Done}
-use Rattle.vt_spec.specs.Language.Calls.{TaskName}
+use Rattle.vt_spec.specs.Language.Calls.{Call, TaskName}
 use Rattle.vt_spec.specs.Language.Calls.Call.{Umount}
-use Rattle.vt_spec.specs.Lists.{Fresh}
-use Rattle.vt_spec.specs.Machine.Detach.{after_going, going, has_child, is_going, taken_away}
+use Rattle.vt_spec.specs.Lists.{Fresh, holds_of}
+use Rattle.vt_spec.specs.Machine.Detach.{after_going, going, has_child, is_going, taken_away, unmounted}
 use Rattle.vt_spec.specs.Machine.Invariants.{IsWorld, MountInvariants}
 use Rattle.vt_spec.specs.Machine.Judge.{Judgement, judge_in, umount_permit}
 use Rattle.vt_spec.specs.Machine.Mounts.{Location, Mount, stands_on}
-use Rattle.vt_spec.specs.Machine.Outcomes.{granted}
+use Rattle.vt_spec.specs.Machine.Outcomes.{Outcome, granted}
 use Rattle.vt_spec.specs.Machine.Permits.{Permit}
 use Rattle.vt_spec.specs.Machine.Permits.Permit.{ToUnmount}
 use Rattle.vt_spec.specs.Machine.Policy.{numbers_raised, policy}
 use Rattle.vt_spec.specs.Machine.Receives.{lost_a_group, regrouped_by}
 use Rattle.vt_spec.specs.Machine.Rules.Mounting.{admin_rules, umount_rules}
-use Rattle.vt_spec.specs.Machine.Sealed.{is_member_task, members, part_of, sealed}
+use Rattle.vt_spec.specs.Machine.Sealed.{is_member_task, is_own_namespace, members, part_of, sealed}
 use Rattle.vt_spec.specs.Machine.Settled.{settled}
 use Rattle.vt_spec.specs.Machine.Walking.{directory_walk}
 use Rattle.vt_spec.specs.Machine.World.{Namespace, Task, World, mount_at, mount_numbered, task_called}
@@ -35,16 +35,16 @@ use Rattle.vt_laws_members_changes.proofs.looks.Told.{member_called, ran, same_c
 use Rattle.vt_laws_members_changes.proofs.tasks.Denied.{denial_ends_alike, run_by, same_judgement, unnamed_ends_alike}
 use Rattle.vt_laws_members_changes.proofs.letting_go.Detached.{detached_parts}
 use Rattle.vt_laws_members_changes.proofs.letting_go.Moving.{StandsHere, at_directory, one}
-use Rattle.vt_laws_members_changes.proofs.letting_go.NamespaceLess.{ended, ended_part}
+use Rattle.vt_laws_members_changes.proofs.letting_go.NamespaceLess.{ended, ended_part, less_of_fewer}
 use Rattle.vt_laws_members_changes.proofs.letting_go.PartMounts.{part_mounts}
 use Rattle.vt_laws_members_changes.proofs.letting_go.Regrouped.{flags_same, regroup_is, regrouped_mount, regrouped_so}
 
 -- What is granted has passed all rules.
-abbrev Passed : Rules → Type 0
+abbrev pub Passed : Rules → Type 0
 Passed [] = ⊤
 Passed ((failed, rule) ∷ rules) = (failed ≡ false) × Passed rules
 
-of_passed : (P : Permit ℕ → Type 0) (rules : Rules) (r : Judgement ℕ) → (Passed rules → IfOk r P) → IfOk
+pub of_passed : (P : Permit ℕ → Type 0) (rules : Rules) (r : Judgement ℕ) → (Passed rules → IfOk r P) → IfOk
     (unless rules r) P
 of_passed P [] r next = next tt
 of_passed P ((true, rule) ∷ rules) r next = tt
@@ -141,11 +141,11 @@ module _ (world : World ℕ) (names : List TaskName) (is : IsWorld nat_eq world)
 
   abbrev v : World ℕ
   v = ended world names is sealed_off names gone own_go lasts world.tasks part.tasks world.change part.change
-      (same_members world names) (λ t m. m) flag
+      (same_members world names) (less_of_fewer world names is names world.tasks (λ t m. m)) flag
 
   abbrev v_part : World ℕ
   v_part = ended_part world names is sealed_off names gone own_go lasts world.tasks part.tasks world.change part.change
-      (same_members world names) (λ t m. m) flag
+      (same_members world names) (less_of_fewer world names is names world.tasks (λ t m. m)) flag
 
   pub world_taken : taken_away nat_eq world gone ≡ v
   world_taken = taken_so world gone flag refl
@@ -160,26 +160,25 @@ module _ (world : World ℕ) (names : List TaskName) (is : IsWorld nat_eq world)
   parts =
       ap (λ w. part_of nat_eq (numbers_raised nat_eq world name [] (settled nat_eq w)) names) world_taken
       ∙ detached_parts world names is sealed_off names gone own_go lasts world.tasks part.tasks world.change part.change
-      (same_members world names) (λ t m. m) (λ l m. m)
+      (same_members world names) (less_of_fewer world names is names world.tasks (λ t m. m)) (λ l m. m)
       (λ t m. (among-from_filter (is_member_task names) world.tasks t m).1) (λ m there out its. its) flag
       (subst (MountInvariants nat_eq) world_taken kept_world) (subst (MountInvariants nat_eq) part_taken kept_part) name
       ∙ sym (ap (λ w. part_of nat_eq (numbers_raised nat_eq part name [] (settled nat_eq w)) names) part_taken)
 
--- A granted umount
-module _ (world : World ℕ) (names : List TaskName) (name : TaskName) (path : List ℕ)
-    (it : IsCallOfTheirs world names name (Umount path)) (task : Task ℕ) (called : task_called world name ≡ Some task)
-    (fresh other : Fresh ℕ) (here : Location ℕ) (on : is_theirs world names here.mount ≡ true)
-    (has_point : is_some (mount_at nat_eq world here).mount_point ≡ true)
-    (alone : has_child nat_eq world here.mount ≡ false)
-    (judged : judge_in nat_eq fresh world task (Umount path) ≡ Ok (ToUnmount here.mount)) where
+-- A call that detaches a mount of theirs without children
+module _ (world : World ℕ) (names : List TaskName) (name : TaskName) (call : Call)
+    (it : IsCallOfTheirs world names name call) (task : Task ℕ) (called : task_called world name ≡ Some task)
+    (number : ℕ) (on : is_theirs world names number ≡ true)
+    (has_point : is_some (mount_numbered nat_eq world number).mount_point ≡ true)
+    (alone : has_child nat_eq world number ≡ false) where
   abbrev there : World ℕ
   there = part_of nat_eq world names
 
   abbrev mount_of : Mount ℕ
-  mount_of = mount_numbered nat_eq world here.mount
+  mount_of = mount_numbered nat_eq world number
 
-  theirs : IsTheirs world names it.is.mounts here.mount
-  theirs = theirs_from world names it.is.mounts here.mount on
+  theirs : IsTheirs world names it.is.mounts number
+  theirs = theirs_from world names it.is.mounts number on
 
   is_it : mount_of ≡ theirs.0
   is_it = ap (mount_numbered nat_eq world) (sym theirs.2) ∙ numbered world names it.is.mounts theirs.0 theirs.1
@@ -199,57 +198,66 @@ module _ (world : World ℕ) (names : List TaskName) (name : TaskName) (path : L
           nowhere_stands world names it.is.mounts mount_of l mount_there
           (ap (λ (m : Mount ℕ). m.namespace) is_it ∙ none) e
 
-  same_going : going nat_eq there (mount_numbered nat_eq there here.mount) ≡ going nat_eq world mount_of
+  same_going : going nat_eq there (mount_numbered nat_eq there number) ≡ going nat_eq world mount_of
   same_going =
-      ap (going nat_eq there) (same_mount world names it.is.mounts here.mount theirs)
+      ap (going nat_eq there) (same_mount world names it.is.mounts number theirs)
       ∙ going_alike world names it.is it.sealed_off mount_of mount_there mount_own
 
-  alone_there : has_child nat_eq there here.mount ≡ false
+  pub alone_there : has_child nat_eq there number ≡ false
   alone_there =
-      none_from_among (stands_on nat_eq here.mount) there.mounts (λ y m.
+      none_from_among (stands_on nat_eq number) there.mounts (λ y m.
       let from = among-from_filter_map (keep world names (members world names)) world.mounts y m in
       ⊎_elim
-      (λ same. ap (stands_on nat_eq here.mount) (sym same)
-      ∙ none_among (stands_on nat_eq here.mount) world.mounts alone from.0 from.1)
-      (λ stub. ap (λ (q : Mount ℕ). stands_on nat_eq here.mount q) (sym stub.0))
+      (λ same. ap (stands_on nat_eq number) (sym same)
+      ∙ none_among (stands_on nat_eq number) world.mounts alone from.0 from.1)
+      (λ stub. ap (λ (q : Mount ℕ). stands_on nat_eq number q) (sym stub.0))
       (kept_how world names (members world names) from.0 y from.2))
 
   kept_world : MountInvariants nat_eq (taken_away nat_eq world (going nat_eq world mount_of))
-  kept_world = unmount_keeps_mounts world here.mount it.is.mounts alone
+  kept_world = unmount_keeps_mounts world number it.is.mounts alone
 
   kept_part : MountInvariants nat_eq (taken_away nat_eq there (going nat_eq world mount_of))
   kept_part =
       subst (λ l. MountInvariants nat_eq (taken_away nat_eq there l)) same_going
-      (unmount_keeps_mounts there here.mount (part_mounts world names it.is it.sealed_off) alone_there)
+      (unmount_keeps_mounts there number (part_mounts world names it.is it.sealed_off) alone_there)
 
-  first : policy nat_eq fresh world name (Umount path)
-      ≡ granted Done (numbers_raised nat_eq world name []
-      (settled nat_eq (taken_away nat_eq world (going nat_eq world mount_of))))
-  first =
-      ap (ran name (Umount path) world fresh) called
-      ∙ ap (run_by world names name (Umount path) it fresh other world fresh task) judged
+  -- it is in a namespace, in both
+  pub placed : is_some mount_of.namespace ≡ true
+  placed = by mount_of.namespace mount_own
+    where
+      by : (o : Option ℕ) → holds_of (is_own_namespace nat_eq world names) o ≡ true → is_some o ≡ true
+      by None h = h
+      by (Some n) h = refl
 
-  second : policy nat_eq other there name (Umount path)
-      ≡ granted Done (numbers_raised nat_eq there name []
-      (settled nat_eq (taken_away nat_eq there (going nat_eq world mount_of))))
-  second =
-      ap (ran name (Umount path) there other) (same_caller world names it.is it.sealed_off name it.theirs ∙ called)
-      ∙ ap (run_by world names name (Umount path) it fresh other there other task)
-      (sym (same_judgement world names name (Umount path) it fresh other task called) ∙ judged)
+  pub placed_there : is_some (mount_numbered nat_eq there number).namespace ≡ true
+  placed_there =
+      ap (λ (m : Mount ℕ). is_some m.namespace) (same_mount world names it.is.mounts number theirs) ∙ placed
+
+  -- the outcome
+  abbrev pub detaches : World ℕ → Outcome ℕ
+  detaches w = granted Done (numbers_raised nat_eq w name [] (settled nat_eq (unmounted nat_eq w number)))
+
+  pub detached_alike : (fresh other : Fresh ℕ) → grown names name call (Ok Done) ≡ names
+      → ran name call world fresh (Some task) ≡ detaches world → ran name call there other (Some task) ≡ detaches there
+      → EndsAlike world names name call fresh other
+  detached_alike fresh other stays one two =
+      let first : policy nat_eq fresh world name call ≡ detaches world =
+      ap (ran name call world fresh) called ∙ one in
+      let second : policy nat_eq other there name call ≡ granted Done (numbers_raised nat_eq there name []
+      (settled nat_eq (taken_away nat_eq there (going nat_eq world mount_of)))) =
+      ap (ran name call there other) (same_caller world names it.is it.sealed_off name it.theirs ∙ called) ∙ two
       ∙ ap (λ l. granted Done
-      (numbers_raised nat_eq there name [] (settled nat_eq (taken_away nat_eq there l)))) same_going
-
-  umount_alike : EndsAlike world names name (Umount path) fresh other
-  umount_alike =
-      subst (λ p. EndAlike (grown names name (Umount path) (policy nat_eq fresh world name (Umount path)).answer)
-      (policy nat_eq fresh world name (Umount path)) p) (sym second)
-      (subst (λ o. EndAlike (grown names name (Umount path) o.answer) o
-      (granted Done (numbers_raised nat_eq there name []
+      (numbers_raised nat_eq there name [] (settled nat_eq (taken_away nat_eq there l)))) same_going in
+      subst (λ p. EndAlike (grown names name call (policy nat_eq fresh world name call).answer)
+      (policy nat_eq fresh world name call) p) (sym second)
+      (subst (λ o. EndAlike (grown names name call o.answer) o (granted Done (numbers_raised nat_eq there name []
       (settled nat_eq (taken_away nat_eq there (going nat_eq world mount_of)))))) (sym first)
+      (subst (λ s. EndAlike s (detaches world) (granted Done (numbers_raised nat_eq there name []
+      (settled nat_eq (taken_away nat_eq there (going nat_eq world mount_of)))))) (sym stays)
       (record {
         answer = refl;
         part = parts world names it.is it.sealed_off name mount_of mount_there mount_own kept_world kept_part;
-      }))
+      })))
 
 pub umounts_end_alike : UmountsEndAlike
 umounts_end_alike world names name path it fresh other = by (task_called world name) refl
@@ -259,7 +267,10 @@ umounts_end_alike world names name path it fresh other = by (task_called world n
         → IfOk j (Unmounts world names it.is it.sealed_off task member)
         → EndsAlike world names name (Umount path) fresh other
     judged_by task member e (Ok permit) judged its =
-        umount_alike world names name path it task e fresh other its.0 its.2 its.3 its.4 (judged ∙ ap Ok its.1)
+        detached_alike world names name (Umount path) it task e its.0.mount its.2 its.3 its.4 fresh other refl
+        (ap (run_by world names name (Umount path) it fresh other world fresh task) (judged ∙ ap Ok its.1))
+        (ap (run_by world names name (Umount path) it fresh other (part_of nat_eq world names) other task)
+        (sym (same_judgement world names name (Umount path) it fresh other task e) ∙ judged ∙ ap Ok its.1))
     judged_by task member e (Err deny) judged its =
         denial_ends_alike world names name (Umount path) it fresh other
         (ap (λ o. is_ok (ran name (Umount path) world fresh o).answer) e
