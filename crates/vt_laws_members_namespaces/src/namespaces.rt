@@ -4,8 +4,8 @@ ghost use Rattle.vt_laws_members_namespaces.specs.NamespaceChanges.{PivotsEndAli
 /// In a world with all invariants in which a set of tasks is sealed off, **each `pivot_root` of one of them does in the
 /// part of the set what it does in the world** (`EndAlike`), granted or refused (`pivot`). The old and the new root
 /// mount are in the caller's namespace (M2), so they are theirs, and so are the tasks that are moved to the new root.
-/// What only the new mount's old mount point used goes in both. The answers are the same, and so are the parts of the
-/// worlds that are left, with their change numbers. The numbers handed in do not matter.
+/// The inode of the new mount's old mount point goes in both, if nothing else uses it. The answers are the same, and so
+/// are the parts of the worlds that are left, with their change numbers. The numbers handed in do not matter.
 ///
 /// So does each `unshare` of one of them (`unshare`). The new namespace has the same copies of the caller's mounts in
 /// both, and the caller's root and working directory move to copies in both. If no other task was in the namespace that
