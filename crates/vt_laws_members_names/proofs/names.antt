@@ -1,0 +1,8 @@
+-- What the proofs of src/names.rt use.
+pub mod HidingEnding
+pub mod LayersAlike
+pub mod OverlayEnding
+pub mod OverlayNaming
+pub mod OverlayNewOpens
+pub mod SteppedAlike
+pub mod SteppedReady
