@@ -1,6 +1,6 @@
 -- Calls of theirs that set the opaque mark or make a whiteout end in the part as in the world.
-use Rattle.std.proofs.Common.{◌≡◌, refl, sym, ap, ◌∙◌, ℕ, nat_eq, Bool, true, false, true≢false, List, Option, Some, None, Ok, Err}
-use Rattle.std.specs.Prelude.{⊤, is_ok}
+use Rattle.std.proofs.Common.{◌≡◌, refl, sym, ap, ◌∙◌, ℕ, nat_eq, Bool, true, false, true≢false, List, Some, Ok}
+use Rattle.std.specs.Prelude.{⊤}
 use Rattle.vt_spec.specs.declared.attributes.Kind.TheVariants.{White}
 use Rattle.vt_spec.specs.FileTree.{is_kind}
 use Rattle.vt_spec.specs.Language.Calls.{Call}
@@ -9,7 +9,7 @@ use Rattle.vt_spec.specs.Language.Changes.{Change}
 use Rattle.vt_spec.specs.Language.Changes.Change.{SetMark}
 use Rattle.vt_spec.specs.Lists.{Fresh}
 use Rattle.vt_spec.specs.Machine.Apply.{overfills}
-use Rattle.vt_spec.specs.Machine.Judge.{Judgement, judge_in}
+use Rattle.vt_spec.specs.Machine.Judge.{judge_in}
 use Rattle.vt_spec.specs.Machine.Looks.{looks_of}
 use Rattle.vt_spec.specs.Machine.Mounts.{Location}
 use Rattle.vt_spec.specs.Machine.Permits.{Permit}
@@ -24,10 +24,9 @@ use Rattle.vt_laws_overlay_permits.specs.Asked.{AsksWell}
 use Rattle.vt_laws_overlay_permits.proofs.asked.Asked.{permits_ask_well}
 use Rattle.vt_laws_members_changes.specs.Changes.{EndsAlike}
 use Rattle.vt_laws_members_changes.proofs.files.FilesEnding.{opaques_end_alike}
-use Rattle.vt_laws_members_changes.proofs.looks.Told.{ran}
 use Rattle.vt_laws_members_changes.proofs.names.NamesEnding.{unused_numbers, unused_serve, whiteouts_end_alike}
-use Rattle.vt_laws_members_changes.proofs.tasks.Denied.{denial_ends_alike, run_by, unnamed_ends_alike}
 use Rattle.vt_laws_members_names.specs.OverlayNames.{AllOpaquesEndAlike, AllWhiteoutsEndAlike}
+use Rattle.vt_laws_members_names.proofs.names.ByPermit.{by_permit}
 
 -- the permit of setxattr(2) of the mark
 abbrev Marks : Permit ℕ → Type 0
@@ -47,36 +46,26 @@ plain_mark world location (SetMark directory opaque) any asked = asked
 plain_mark world location change none asked = absurd none
 
 pub all_opaques_end_alike : AllOpaquesEndAlike
-all_opaques_end_alike world names name path mark it fresh other = by (task_called world name) refl
+all_opaques_end_alike world names name path mark it fresh other =
+    by_permit world names name call it fresh other refl (λ task called permit judged.
+    granted_so task called permit
+    (opaques_mark world fresh task call permit
+    (calls_are_granted nat_eq (looks_of nat_eq world) (overfills nat_eq fresh world task) task call permit judged) path
+    mark refl) judged judged)
   where
     call : Call
     call = Opaque path mark
 
     granted_so : (task : Task ℕ) → task_called world name ≡ Some task → (permit : Permit ℕ) → Marks permit
         → judge_in nat_eq fresh world task call ≡ Ok permit
-        → judge_in nat_eq (unused_numbers world) world task call ≡ Ok permit → EndsAlike world names name call fresh other
+        → judge_in nat_eq (unused_numbers world) world task call ≡ Ok permit
+        → EndsAlike world names name call fresh other
     granted_so task called (ToChange location change) marks judged judged_too =
         opaques_end_alike world names name path mark it task called fresh other location change judged
         (plain_mark world location change marks
         (permits_ask_well world (unused_numbers world) task call (ToChange location change) it.is (unused_serve world)
         (ap (task_called world) (sym (name_found world name task called)) ∙ called) judged_too).0)
     granted_so task called permit none judged judged_too = absurd none
-
-    judged_by : (task : Task ℕ) → task_called world name ≡ Some task → (j : Judgement ℕ)
-        → judge_in nat_eq fresh world task call ≡ j → EndsAlike world names name call fresh other
-    judged_by task called (Ok permit) judged =
-        granted_so task called permit
-        (opaques_mark world fresh task call permit
-        (calls_are_granted nat_eq (looks_of nat_eq world) (overfills nat_eq fresh world task) task call permit judged) path
-        mark refl) judged judged
-    judged_by task called (Err deny) judged =
-        denial_ends_alike world names name call it fresh other
-        (ap (λ o. is_ok (ran name call world fresh o).answer) called
-        ∙ ap (λ j. is_ok (run_by world names name call it fresh other world fresh task j).answer) judged)
-
-    by : (o : Option (Task ℕ)) → task_called world name ≡ o → EndsAlike world names name call fresh other
-    by None none = unnamed_ends_alike world names name call it fresh other none
-    by (Some task) called = judged_by task called (judge_in nat_eq fresh world task call) refl
 
 -- the permit of mknod(2) of a whiteout
 abbrev MakesWhiteout : Permit ℕ → Type 0
@@ -90,7 +79,12 @@ whiteouts_made world fresh task asked permit (makes_whiteout own_path place walk
 whiteouts_made world fresh task asked permit granted path e = absurd cc
 
 pub all_whiteouts_end_alike : AllWhiteoutsEndAlike
-all_whiteouts_end_alike world names name path it fresh serves = by (task_called world name) refl
+all_whiteouts_end_alike world names name path it fresh serves =
+    by_permit world names name call it fresh fresh refl (λ task called permit judged.
+    granted_so task called permit
+    (whiteouts_made world fresh task call permit
+    (calls_are_granted nat_eq (looks_of nat_eq world) (overfills nat_eq fresh world task) task call permit judged) path
+    refl) judged)
   where
     call : Call
     call = MakeWhiteout path
@@ -111,19 +105,3 @@ all_whiteouts_end_alike world names name path it fresh serves = by (task_called 
     granted_so task called (ToMake directory entry node) white judged =
         made_so task called directory entry node white judged (is_overlay (filesystem_at nat_eq world directory)) refl
     granted_so task called permit none judged = absurd none
-
-    judged_by : (task : Task ℕ) → task_called world name ≡ Some task → (j : Judgement ℕ)
-        → judge_in nat_eq fresh world task call ≡ j → EndsAlike world names name call fresh fresh
-    judged_by task called (Ok permit) judged =
-        granted_so task called permit
-        (whiteouts_made world fresh task call permit
-        (calls_are_granted nat_eq (looks_of nat_eq world) (overfills nat_eq fresh world task) task call permit judged) path
-        refl) judged
-    judged_by task called (Err deny) judged =
-        denial_ends_alike world names name call it fresh fresh
-        (ap (λ o. is_ok (ran name call world fresh o).answer) called
-        ∙ ap (λ j. is_ok (run_by world names name call it fresh fresh world fresh task j).answer) judged)
-
-    by : (o : Option (Task ℕ)) → task_called world name ≡ o → EndsAlike world names name call fresh fresh
-    by None none = unnamed_ends_alike world names name call it fresh fresh none
-    by (Some task) called = judged_by task called (judge_in nat_eq fresh world task call) refl
