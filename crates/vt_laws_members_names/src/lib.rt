@@ -4,4 +4,5 @@
 //! Each public function is a theorem of the written policy, and does nothing.
 #![tactic(auto)]
 
+pub mod each_call;
 pub mod names;
