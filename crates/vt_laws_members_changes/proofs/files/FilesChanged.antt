@@ -69,13 +69,13 @@ module _ (world : World ℕ) (names : List TaskName) (h : Filesystem ℕ → Fil
   unused_found k e =
       found (λ (f : Filesystem ℕ). f) k (λ x there m. kept x (ap (λ n. is_among nat_eq n used) (sym (eqb-true k x.number m)) ∙ e))
 
-  used_later : used_filesystems nat_eq later names ≡ used
-  used_later i =
+  pub used_with_layers : used_filesystems nat_eq later names ≡ used
+  used_with_layers i =
       each_once nat_eq (used_directly nat_eq world names
       ++ flat_map (λ k. found change_layers k (λ x m e. changing x m) i) (used_directly nat_eq world names))
 
-  lowers_later : own_lowers nat_eq later names ≡ own_lowers nat_eq world names
-  lowers_later i = flat_map (λ k. found lowers_in k (λ x m e. lowering x m) i) (used_directly nat_eq world names)
+  pub lowers_with_layers : own_lowers nat_eq later names ≡ own_lowers nat_eq world names
+  lowers_with_layers i = flat_map (λ k. found lowers_in k (λ x m e. lowering x m) i) (used_directly nat_eq world names)
 
   abbrev has_lower : ℕ → Bool
   has_lower number = list_any (λ (layer : Layer ℕ). nat_eq number layer.filesystem) (own_lowers nat_eq world names)
@@ -85,7 +85,7 @@ module _ (world : World ℕ) (names : List TaskName) (h : Filesystem ℕ → Fil
   lower_later x e i =
       record x {
         files = only_among nat_eq (filter (λ object. list_any (λ (layer : Layer ℕ).
-            of_number (unused_found x.number e i) object layer) (lowers_later i)) x.files.numbers) x.files;
+            of_number (unused_found x.number e i) object layer) (lowers_with_layers i)) x.files.numbers) x.files;
         change = 0;
       }
     where
@@ -98,10 +98,10 @@ module _ (world : World ℕ) (names : List TaskName) (h : Filesystem ℕ → Fil
   shown_later x =
       ap (λ u. cond (is_among nat_eq (h x).number u) (Some (h x))
       (when (list_any (λ (layer : Layer ℕ). nat_eq (h x).number layer.filesystem) (own_lowers nat_eq later names))
-      (part_of_lower nat_eq later names (h x)))) used_later
+      (part_of_lower nat_eq later names (h x)))) used_with_layers
       ∙ ap (λ l. cond (is_among nat_eq (h x).number used) (Some (h x))
       (when (list_any (λ (layer : Layer ℕ). nat_eq (h x).number layer.filesystem) l)
-      (part_of_lower nat_eq later names (h x)))) lowers_later
+      (part_of_lower nat_eq later names (h x)))) lowers_with_layers
       ∙ ap (λ n. cond (is_among nat_eq n used) (Some (h x)) (when (has_lower n) (part_of_lower nat_eq later names (h x))))
       (numbered x)
       ∙ by (is_among nat_eq x.number used) refl

@@ -166,7 +166,7 @@ module _ (a : World ℕ) (set : List TaskName) (used_now : List ℕ) (lowers : L
   abbrev direct : List ℕ
   direct = used_directly nat_eq a set
 
-  used_swept : used_filesystems nat_eq swept set ≡ used_now
+  pub used_swept : used_filesystems nat_eq swept set ≡ used_now
   used_swept =
       ap (λ l. each_once nat_eq (direct ++ l))
       (flat_map_alike (λ n. change_layers (filesystem_numbered nat_eq swept n))
