@@ -8,8 +8,8 @@ use Rattle.vt_spec.specs.Machine.World.{World}
 use Rattle.vt_laws_members_changes.specs.Changes.{IsCallOfTheirs}
 use Rattle.vt_laws_members_changes.specs.NameChanges.{EndsAlikeByOne}
 
--- Each call of mount(2) with MS_SHARED, MS_SLAVE, MS_PRIVATE or MS_UNBINDABLE, also with MS_REC, does in the part what it
--- does in the world, by one supply of unused numbers.
+-- Each call of mount(2) with MS_SHARED, MS_SLAVE, MS_PRIVATE or MS_UNBINDABLE, also with MS_REC, does in the part what
+-- it does in the world, by one supply of unused numbers.
 abbrev pub TypesEndAlike : Type 0
 TypesEndAlike =
     (world : World ℕ) (names : List TaskName) (name : TaskName) (path : List ℕ) (word : TypeWord) (recursive : Bool)

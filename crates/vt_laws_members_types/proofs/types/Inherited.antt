@@ -37,7 +37,8 @@ master-inherited t group h = by (list_any (lost_a_group nat_eq t) t.mounts) refl
         let gone = or_parts (is_lost_group nat_eq t (source_of y.0.propagation))
         (is_lost_group nat_eq t (then_some (source_of y.0.propagation) t.master))
         (none_among (lost_a_group nat_eq t) t.mounts kept y.0 y.1) in
-        let its = ap (λ o. then_some o t.master) (source_from y.0.propagation group (member_group group y.0 y.2)) ∙ e in
+        let its = ap (λ o. then_some o t.master)
+        (source_from y.0.propagation group (member_group group y.0 y.2)) ∙ e in
         sym (find-chain_start (has_members nat_eq t.mounts) t.master (length t.mounts) above
         (not-false (has_members nat_eq t.mounts above) (sym (ap (is_lost_group nat_eq t) its) ∙ gone.1)))
 
@@ -59,7 +60,8 @@ module _ (w : World ℕ) (kind : Mount ℕ → Propagation ℕ) (masters : ℕ �
 
   -- the masters of the groups that have members
   abbrev pub master_left : ℕ → Option ℕ
-  master_left group = cond (has_members nat_eq (map after w.mounts) group) ((regrouped nat_eq between).master group) None
+  master_left group =
+      cond (has_members nat_eq (map after w.mounts) group) ((regrouped nat_eq between).master group) None
 
   regrouped_keeps : (b : Bool) → regrouped_by nat_eq b between ≡ record between {
     mounts = (regrouped_by nat_eq b between).mounts;

@@ -393,7 +393,8 @@ module _ (world : World ℕ) (names : List TaskName) (is : IsWorld nat_eq world)
       by Private f e = none_is_some g e
       by Unbindable f e = none_is_some g e
 
-  pub retyped_alike : AreTypedAlike world names is sealed_off (kind_left world kind (new_masters fresh word named world))
+  pub retyped_alike : AreTypedAlike world names is sealed_off
+      (kind_left world kind (new_masters fresh word named world))
       (kind_left part kind (new_masters fresh word named part))
       (master_left world kind (new_masters fresh word named world))
       (master_left part kind (new_masters fresh word named part))

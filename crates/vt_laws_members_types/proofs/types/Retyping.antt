@@ -115,7 +115,8 @@ module _ (world : World ℕ) (names : List TaskName) (is : IsWorld nat_eq world)
       let from = among-from_flat_map (tree_from nat_eq n world.mounts)
       (children nat_eq world.mounts mount.number) x below in
       let child = children_own world names is mount.number from.0 (own_theirs world names is mount at.0 at.1) from.1 in
-      tree_own n from.0 x (among-filter (is_own_mount nat_eq world names) world.mounts from.0 child.0 child.1) from.2) m
+      tree_own n from.0 x (among-filter (is_own_mount nat_eq world names) world.mounts from.0 child.0 child.1) from.2)
+      m
 
   module _ (number : ℕ) (theirs : IsTheirs world names is.mounts number)
       (own : Among (mount_numbered nat_eq world number) owns) where
@@ -132,12 +133,14 @@ module _ (world : World ℕ) (names : List TaskName) (is : IsWorld nat_eq world)
     named_alike false = ap (λ m. m ∷ []) (same_mount world names is.mounts number theirs)
 
 -- A granted call
-module _ (world : World ℕ) (names : List TaskName) (name : TaskName) (path : List ℕ) (word : TypeWord) (recursive : Bool)
+module _ (world : World ℕ) (names : List TaskName) (name : TaskName) (path : List ℕ) (word : TypeWord)
+    (recursive : Bool)
     (it : IsCallOfTheirs world names name (SetType path word recursive)) (task : Task ℕ)
     (called : task_called world name ≡ Some task) (fresh : Fresh ℕ) (serves : Serves nat_eq world fresh)
     (here : Location ℕ) (on : is_theirs world names here.mount ≡ true)
     (own : is_own world names (members world names) (mount_at nat_eq world here) ≡ true)
-    (judged : judge_in nat_eq fresh world task (SetType path word recursive) ≡ Ok (ToSetType here.mount word recursive))
+    (judged : judge_in nat_eq fresh world task (SetType path word recursive)
+    ≡ Ok (ToSetType here.mount word recursive))
   where
     abbrev there : World ℕ
     there = part_of nat_eq world names

@@ -37,7 +37,8 @@ module _ (world : World ℕ) (names : List TaskName) (is : IsWorld nat_eq world)
   owns = own_mounts nat_eq world names
 
   -- types after a call, in the world and in the part, and masters
-  pub record AreTypedAlike (kind kind_there : Mount ℕ → Propagation ℕ) (master master_there : ℕ → Option ℕ) : Type 0 where
+  pub record AreTypedAlike (kind kind_there : Mount ℕ → Propagation ℕ) (master master_there : ℕ → Option ℕ)
+      : Type 0 where
     pub types : (m : Mount ℕ) → Among m world.mounts → (is_own world names theirs m ≡ true) ⊎ (m.namespace ≡ None)
         → kind_there m ≡ kind m
     pub masters : (m : Mount ℕ) → Among m owns → (group : ℕ) → source_of (kind m) ≡ Some group
@@ -127,7 +128,8 @@ module _ (world : World ℕ) (names : List TaskName) (is : IsWorld nat_eq world)
     mounts_alike =
         filter_map_map kept after_there part.mounts
         ∙ filter_map_then kept (λ y. kept (after_there y)) world.mounts
-        ∙ filter_map_same (λ m. then_some (kept m) (λ y. kept (after_there y))) (λ m. kept (after m)) world.mounts kept_then
+        ∙ filter_map_same (λ m. then_some (kept m) (λ y. kept (after_there y))) (λ m. kept (after m)) world.mounts
+        kept_then
         ∙ sym (filter_map_map kept after world.mounts)
 
     -- each mount shows its filesystem
@@ -154,7 +156,8 @@ module _ (world : World ℕ) (names : List TaskName) (is : IsWorld nat_eq world)
     directly_same : used_directly nat_eq later names ≡ used_directly nat_eq world names
     directly_same =
         ap (λ l. map shows l ++ map (shown_by (map after world.mounts)) (locations theirs))
-        (filter-map (is_own_mount nat_eq world names) {q = is_own_mount nat_eq world names} after world.mounts (λ m. refl))
+        (filter-map (is_own_mount nat_eq world names) {q = is_own_mount nat_eq world names} after world.mounts
+        (λ m. refl))
         ∙ ap (λ l. l ++ map (shown_by (map after world.mounts)) (locations theirs)) (map_twice shows after owns)
         ∙ ap (λ l. map shows owns ++ l)
         (map_alike (shown_by (map after world.mounts)) (shown_by world.mounts) (locations theirs)
@@ -174,7 +177,8 @@ module _ (world : World ℕ) (names : List TaskName) (is : IsWorld nat_eq world)
     less : AreLess world names names later later_part
     less = record {
       tasks = same_members world names;
-      mounts = ap (λ tasks. filter_map (keep world names tasks) (map after_there part.mounts)) (same_members world names)
+      mounts = ap (λ tasks. filter_map (keep world names tasks) (map after_there part.mounts))
+          (same_members world names)
           ∙ mounts_alike;
       masters = masters_alike;
       namespaces = ap (λ tasks. filter (spaces tasks) part.namespaces) (same_members world names)
