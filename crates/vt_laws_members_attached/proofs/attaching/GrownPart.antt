@@ -4,7 +4,7 @@ use Rattle.std.proofs.Common.{◌≡◌, refl, sym, ap, subst, ◌∙◌, ◌⊎
 use Rattle.std.specs.Prelude.{option_map, option_to_list, unwrap_or}
 use Rattle.std.specs.List.{cons_option, filter_map, list_any}
 use Rattle.std.specs.Option.{option_or}
-use Rattle.std.proofs.lemmas.Bool.{or_left}
+use Rattle.std.proofs.lemmas.Bool.{and_parts, or_left}
 use Rattle.std.proofs.lemmas.List.Elements.{filter_map-append}
 use Rattle.std.proofs.lemmas.List.Folds.{find-append}
 use Rattle.vt_spec.specs.FileTree.{is_under}
@@ -14,8 +14,8 @@ use Rattle.vt_spec.specs.Machine.Locked.{lies_in_layer, of_overlay, overlay_or}
 use Rattle.vt_spec.specs.Machine.Mounts.{Location, Mount, mount_in, no_mount}
 use Rattle.vt_spec.specs.Machine.Sealed.{change_layers, is_at, is_own_mount, lies_in_own_lower, locations, members, own_lowers, own_mounts, part_of, part_of_filesystem, part_of_lower, part_of_master, roots_and_directories, seen_by_descriptor, used_directly, used_filesystems}
 use Rattle.vt_spec.specs.Machine.Settled.{only_among}
-use Rattle.vt_spec.specs.Machine.World.{Filesystem, Layer, Overlay, Task, World, filesystem_numbered, mount_at, no_filesystem}
-use Rattle.vt_spec.proofs.Found.{filter_alike, found_among}
+use Rattle.vt_spec.specs.Machine.World.{Filesystem, Layer, Overlay, Task, World, filesystem_numbered, layers_of, mount_at, no_filesystem}
+use Rattle.vt_spec.proofs.Found.{filter_alike}
 use Rattle.vt_spec.proofs.Lists.{Among, among-append, among-append_left, among-append_right, among-filter, among-flat_map, among-from_filter, among-from_flat_map, among-from_map, among-map, among_numbers, any_among, any_from_among, is_among_numbers, none_among}
 use Rattle.vt_spec.proofs.Truths.{same_truth}
 use Rattle.vt_laws_letting_go.proofs.Lists.{find_none}
@@ -45,6 +45,18 @@ filter_map_all k (x ∷ xs) same =
 or_none : {A : Type 0} (o p : Option A) → p ≡ None → option_or o p ≡ o
 or_none None p e = e
 or_none (Some a) p e = refl
+
+-- what passes is found
+first_found : {A : Type 0} (test : A → Bool) (xs : List A) → list_any test xs ≡ true
+    → (x : A) × Among x xs × (find test xs ≡ Some x)
+first_found test [] h = absurd (true≢false (sym h))
+first_found {A} test (x ∷ xs) h = by (test x) h (first_found test xs)
+  where
+    by : (b : Bool) → (b || list_any test xs) ≡ true
+        → (list_any test xs ≡ true → (y : A) × Among y xs × (find test xs ≡ Some y))
+        → (y : A) × Among y (x ∷ xs) × (cond b (Some x) (find test xs) ≡ Some y)
+    by true g later = (x, inl refl, refl)
+    by false g later = let its = later g in (its.0, inr its.1, its.2)
 
 -- what is not among new filesystems is found before them
 pub found_before : (w : World ℕ) (new : List (Filesystem ℕ)) (n : ℕ)
@@ -116,7 +128,8 @@ module _ (v : World ℕ) (names : List TaskName) (change : Mount ℕ → Mount �
         → is_among nat_eq l.mount (map (λ (m : Mount ℕ). m.number) v.mounts) ≡ true
     pub unused : (n : ℕ) → is_new n ≡ true → is_among nat_eq n (used_filesystems nat_eq v names) ≡ false
     pub unlisted : (f : Filesystem ℕ) → Among f v.filesystems → is_new f.number ≡ false
-    pub plain : (f : Filesystem ℕ) → Among f new → f.overlay ≡ None
+    pub layers : (f : Filesystem ℕ) → Among f new → (layer : Layer ℕ) → Among layer (of_overlay [] layers_of f)
+        → Among layer.filesystem (used_directly nat_eq v names)
     pub mounted : (f : Filesystem ℕ) → Among f new → (x : Mount ℕ) × Among x added × (x.filesystem ≡ f.number)
 
 module _ (v : World ℕ) (names : List TaskName) (change : Mount ℕ → Mount ℕ) (added : List (Mount ℕ))
@@ -285,25 +298,25 @@ module _ (v : World ℕ) (names : List TaskName) (change : Mount ℕ → Mount �
   pub old_found : (n : ℕ) → fresh_one n ≡ false → filesystem_numbered nat_eq u n ≡ filesystem_numbered nat_eq v n
   old_found n other = found_before v new n other
 
-  new_plain : (n : ℕ) → fresh_one n ≡ true → (filesystem_numbered nat_eq u n).overlay ≡ None
-  new_plain n is =
-      ap (λ o. (unwrap_or o (no_filesystem n)).overlay)
-      (find-append (λ (f : Filesystem ℕ). nat_eq n f.number) v.filesystems new
-      ∙ ap (λ o. option_or o (find (λ (f : Filesystem ℕ). nat_eq n f.number) new))
-      (find_none (λ (f : Filesystem ℕ). nat_eq n f.number) v.filesystems (λ f m. not_old f m (nat_eq n f.number) refl)))
-      ∙ by (find (λ (f : Filesystem ℕ). nat_eq n f.number) new) refl
+  new_found : (n : ℕ) → fresh_one n ≡ true → (f : Filesystem ℕ) × Among f new × (filesystem_numbered nat_eq u n ≡ f)
+  new_found n is =
+      let its = first_found (λ (f : Filesystem ℕ). nat_eq n f.number) new is in (
+        its.0,
+        its.1,
+        ap (λ o. unwrap_or o (no_filesystem n))
+            (find-append (λ (f : Filesystem ℕ). nat_eq n f.number) v.filesystems new
+            ∙ ap (λ o. option_or o (find (λ (f : Filesystem ℕ). nat_eq n f.number) new))
+            (find_none (λ (f : Filesystem ℕ). nat_eq n f.number) v.filesystems
+            (λ f m. not_old f m (nat_eq n f.number) refl))
+            ∙ its.2),
+      )
     where
       not_old : (f : Filesystem ℕ) → Among f v.filesystems → (b : Bool) → nat_eq n f.number ≡ b → b ≡ false
       not_old f m true e =
           absurd (true≢false (sym is ∙ ap fresh_one (eqb-true n f.number e) ∙ it.unlisted f m))
       not_old f m false e = refl
 
-      by : (o : Option (Filesystem ℕ)) → find (λ (f : Filesystem ℕ). nat_eq n f.number) new ≡ o
-          → (unwrap_or o (no_filesystem n)).overlay ≡ None
-      by None e = refl
-      by (Some f) e = it.plain f (found_among (λ (f : Filesystem ℕ). nat_eq n f.number) new f e)
-
-  -- what is used directly is not new, or has no layers
+  -- what is used is not new
   used_is_old : (n : ℕ) → is_among nat_eq n (used_filesystems nat_eq v names) ≡ true → fresh_one n ≡ false
   used_is_old n used = by (fresh_one n) refl
     where
@@ -322,16 +335,41 @@ module _ (v : World ℕ) (names : List TaskName) (change : Mount ℕ → Mount �
     of_same : (d : ℕ) → Among d (used_directly nat_eq v names) → its u d ≡ its v d
     of_same d m = ap (of_overlay [] of) (old_found d (direct_is_old d m))
 
-    of_before : (d : ℕ) (a : A) → Among d (used_directly nat_eq u names) → Among a (its u d)
-        → Among d (used_directly nat_eq v names) × Among a (its v d)
-    of_before d a m on =
-        ⊎_elim (λ old. (old, subst (Among a) (of_same d old) on))
-        (λ is. absurd (subst (Among a) (ap (overlay_or [] of) (new_plain d is)) on))
-        (direct_from d m)
-
   abbrev changes : Overlay ℕ → List ℕ
   changes overlay =
       map (λ (layer : Layer ℕ). layer.filesystem) (option_to_list overlay.upper ++ option_to_list overlay.work)
+
+  -- the layers of new overlays lie in what is used
+  layer_used : (f : Filesystem ℕ) → Among f new → (layer : Layer ℕ) → Among layer (of_overlay [] layers_of f)
+      → is_among nat_eq layer.filesystem (used_filesystems nat_eq v names) ≡ true
+  layer_used f at layer m = used_directly_used v names layer.filesystem (it.layers f at layer m)
+
+  new_changes : (f : Filesystem ℕ) → Among f new → (n : ℕ) → Among n (change_layers f)
+      → is_among nat_eq n (used_filesystems nat_eq v names) ≡ true
+  new_changes f at n = by f.overlay refl
+    where
+      by : (o : Option (Overlay ℕ)) → f.overlay ≡ o → Among n (overlay_or [] changes o)
+          → is_among nat_eq n (used_filesystems nat_eq v names) ≡ true
+      by None e m = absurd m
+      by (Some overlay) e m =
+          let above = option_to_list overlay.upper ++ option_to_list overlay.work in
+          let layer = among-from_map (λ (layer : Layer ℕ). layer.filesystem) above n m in
+          subst (λ k. is_among nat_eq k (used_filesystems nat_eq v names) ≡ true) (sym layer.2)
+          (layer_used f at layer.0 (subst (Among layer.0) (sym (ap (overlay_or [] layers_of) e))
+          (among-append_left above overlay.lowers layer.0 layer.1)))
+
+  new_lowers : (f : Filesystem ℕ) → Among f new → (layer : Layer ℕ)
+      → Among layer (of_overlay [] (λ (overlay : Overlay ℕ). overlay.lowers) f)
+      → is_among nat_eq layer.filesystem (used_filesystems nat_eq v names) ≡ true
+  new_lowers f at layer = by f.overlay refl
+    where
+      by : (o : Option (Overlay ℕ)) → f.overlay ≡ o
+          → Among layer (overlay_or [] (λ (overlay : Overlay ℕ). overlay.lowers) o)
+          → is_among nat_eq layer.filesystem (used_filesystems nat_eq v names) ≡ true
+      by None e m = absurd m
+      by (Some overlay) e m =
+          layer_used f at layer (subst (Among layer) (sym (ap (overlay_or [] layers_of) e))
+          (among-append_right (option_to_list overlay.upper ++ option_to_list overlay.work) overlay.lowers layer m))
 
   used_same : (n : ℕ) → fresh_one n ≡ false → is_among nat_eq n (used_filesystems nat_eq u names)
       ≡ is_among nat_eq n (used_filesystems nat_eq v names)
@@ -341,50 +379,78 @@ module _ (v : World ℕ) (names : List TaskName) (change : Mount ℕ → Mount �
       (λ h. ⊎_elim
       (λ direct. ⊎_elim (used_directly_used v names n) (λ is. absurd (true≢false (sym is ∙ other)))
       (direct_from n direct))
-      (λ layer. let old = of_before changes layer.0 n layer.1 layer.2 in used_by_layer v names n layer.0 old.0 old.1)
+      (λ layer. ⊎_elim
+      (λ old. used_by_layer v names n layer.0 old (subst (Among n) (of_same changes layer.0 old) layer.2))
+      (λ is. let f = new_found layer.0 is in
+      new_changes f.0 f.1 n (subst (Among n) (ap (of_overlay [] changes) f.2) layer.2))
+      (direct_from layer.0 layer.1))
       (used_how u names n h))
       (λ h. ⊎_elim (λ direct. used_directly_used u names n (direct_to n direct))
       (λ layer. used_by_layer u names n layer.0 (direct_to layer.0 layer.1)
       (subst (Among n) (sym (of_same changes layer.0 layer.1)) layer.2))
       (used_how v names n h))
 
-  lowers_same : (test : Layer ℕ → Bool) → list_any test (own_lowers nat_eq u names)
-      ≡ list_any test (own_lowers nat_eq v names)
-  lowers_same test =
-      same_truth (list_any test (own_lowers nat_eq u names)) (list_any test (own_lowers nat_eq v names))
-      (λ h. let at = any_among test (own_lowers nat_eq u names) h in
-      let from = among-from_flat_map (lowers_at u) (used_directly nat_eq u names) at.0 at.1 in
-      let old = of_before (λ (overlay : Overlay ℕ). overlay.lowers) from.0 at.0 from.1 from.2 in
-      any_from_among test (own_lowers nat_eq v names) at.0
-      (among-flat_map (lowers_at v) (used_directly nat_eq v names) from.0 at.0 old.0 old.1) at.2)
-      (λ h. let at = any_among test (own_lowers nat_eq v names) h in
-      let from = among-from_flat_map (lowers_at v) (used_directly nat_eq v names) at.0 at.1 in
-      any_from_among test (own_lowers nat_eq u names) at.0
-      (among-flat_map (lowers_at u) (used_directly nat_eq u names) from.0 at.0 (direct_to from.0 from.1)
-      (subst (Among at.0) (sym (of_same (λ (overlay : Overlay ℕ). overlay.lowers) from.0 from.1)) from.2)) at.2)
-
   -- What the part has of filesystems
-  lower_part_same : (f : Filesystem ℕ) → Among f v.filesystems
-      → part_of_lower nat_eq u names f ≡ part_of_lower nat_eq v names f
-  lower_part_same f m =
-      ap (λ l. record f { files = only_among nat_eq l f.files; change = 0 })
-      (filter_alike (lies_in_own_lower nat_eq u names f.number) (lies_in_own_lower nat_eq v names f.number)
-      f.files.numbers
-      (λ object n.
-      ap (λ (g : Filesystem ℕ). list_any (λ (layer : Layer ℕ). nat_eq f.number layer.filesystem
-      && is_under nat_eq g.files layer.directory object) (own_lowers nat_eq u names))
-      (old_found f.number (it.unlisted f m))
-      ∙ lowers_same (lies_in_layer nat_eq v f.number object)))
+  module _ (f : Filesystem ℕ) (m : Among f v.filesystems)
+      (outside : is_among nat_eq f.number (used_filesystems nat_eq v names) ≡ false) where
+    -- new lower layers lie elsewhere
+    lowers_same : (test : Layer ℕ → Bool) → ((layer : Layer ℕ) → test layer ≡ true → f.number ≡ layer.filesystem)
+        → list_any test (own_lowers nat_eq u names) ≡ list_any test (own_lowers nat_eq v names)
+    lowers_same test on =
+        same_truth (list_any test (own_lowers nat_eq u names)) (list_any test (own_lowers nat_eq v names))
+        (λ h. let at = any_among test (own_lowers nat_eq u names) h in
+        let from = among-from_flat_map (lowers_at u) (used_directly nat_eq u names) at.0 at.1 in
+        ⊎_elim
+        (λ old. any_from_among test (own_lowers nat_eq v names) at.0
+        (among-flat_map (lowers_at v) (used_directly nat_eq v names) from.0 at.0 old
+        (subst (Among at.0) (of_same (λ (overlay : Overlay ℕ). overlay.lowers) from.0 old) from.2)) at.2)
+        (λ is. let new_one = new_found from.0 is in
+        absurd (true≢false (sym (new_lowers new_one.0 new_one.1 at.0
+        (subst (Among at.0) (ap (of_overlay [] (λ (overlay : Overlay ℕ). overlay.lowers)) new_one.2) from.2))
+        ∙ ap (λ n. is_among nat_eq n (used_filesystems nat_eq v names)) (sym (on at.0 at.2)) ∙ outside)))
+        (direct_from from.0 from.1))
+        (λ h. let at = any_among test (own_lowers nat_eq v names) h in
+        let from = among-from_flat_map (lowers_at v) (used_directly nat_eq v names) at.0 at.1 in
+        any_from_among test (own_lowers nat_eq u names) at.0
+        (among-flat_map (lowers_at u) (used_directly nat_eq u names) from.0 at.0 (direct_to from.0 from.1)
+        (subst (Among at.0) (sym (of_same (λ (overlay : Overlay ℕ). overlay.lowers) from.0 from.1)) from.2)) at.2)
+
+    lower_part_same : part_of_lower nat_eq u names f ≡ part_of_lower nat_eq v names f
+    lower_part_same =
+        ap (λ l. record f { files = only_among nat_eq l f.files; change = 0 })
+        (filter_alike (lies_in_own_lower nat_eq u names f.number) (lies_in_own_lower nat_eq v names f.number)
+        f.files.numbers
+        (λ object n.
+        ap (λ (g : Filesystem ℕ). list_any (λ (layer : Layer ℕ). nat_eq f.number layer.filesystem
+        && is_under nat_eq g.files layer.directory object) (own_lowers nat_eq u names))
+        (old_found f.number (it.unlisted f m))
+        ∙ lowers_same (lies_in_layer nat_eq v f.number object)
+        (λ layer h. eqb-true f.number layer.filesystem
+        (and_parts (nat_eq f.number layer.filesystem) _ h).0)))
+
+    outside_same : part_of_filesystem nat_eq u names f ≡ part_of_filesystem nat_eq v names f
+    outside_same =
+        ap (λ b. cond b (Some f) (when (has_lower (own_lowers nat_eq u names) f.number)
+        (part_of_lower nat_eq u names f))) (used_same f.number (it.unlisted f m))
+        ∙ ap (λ b. cond (is_among nat_eq f.number (used_filesystems nat_eq v names)) (Some f)
+        (when b (part_of_lower nat_eq u names f)))
+        (lowers_same (λ (layer : Layer ℕ). nat_eq f.number layer.filesystem)
+        (λ layer h. eqb-true f.number layer.filesystem h))
+        ∙ ap (λ g. cond (is_among nat_eq f.number (used_filesystems nat_eq v names)) (Some f)
+        (when (has_lower (own_lowers nat_eq v names) f.number) g)) lower_part_same
 
   filesystem_same : (f : Filesystem ℕ) → Among f v.filesystems
       → part_of_filesystem nat_eq u names f ≡ part_of_filesystem nat_eq v names f
-  filesystem_same f m =
-      ap (λ b. cond b (Some f) (when (has_lower (own_lowers nat_eq u names) f.number)
-      (part_of_lower nat_eq u names f))) (used_same f.number (it.unlisted f m))
-      ∙ ap (λ b. cond (is_among nat_eq f.number (used_filesystems nat_eq v names)) (Some f)
-      (when b (part_of_lower nat_eq u names f))) (lowers_same (λ (layer : Layer ℕ). nat_eq f.number layer.filesystem))
-      ∙ ap (λ g. cond (is_among nat_eq f.number (used_filesystems nat_eq v names)) (Some f)
-      (when (has_lower (own_lowers nat_eq v names) f.number) g)) (lower_part_same f m)
+  filesystem_same f m = by (is_among nat_eq f.number (used_filesystems nat_eq v names)) refl
+    where
+      by : (b : Bool) → is_among nat_eq f.number (used_filesystems nat_eq v names) ≡ b
+          → part_of_filesystem nat_eq u names f ≡ part_of_filesystem nat_eq v names f
+      by true e =
+          ap (λ b. cond b (Some f) (when (has_lower (own_lowers nat_eq u names) f.number)
+          (part_of_lower nat_eq u names f))) (used_same f.number (it.unlisted f m) ∙ e)
+          ∙ sym (ap (λ b. cond b (Some f) (when (has_lower (own_lowers nat_eq v names) f.number)
+          (part_of_lower nat_eq v names f))) e)
+      by false e = outside_same f m e
 
   filesystems_grown : filter_map (part_of_filesystem nat_eq u names) u.filesystems
       ≡ filter_map (part_of_filesystem nat_eq v names) v.filesystems ++ new

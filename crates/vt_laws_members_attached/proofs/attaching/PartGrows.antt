@@ -81,6 +81,7 @@ module _ (world : World ℕ) (names : List TaskName) (change : Mount ℕ → Mou
     located = λ l m. located_there l (subst (λ ts. Among l (locations ts)) (same_members world names) m);
     unused = λ n is. ap (is_among nat_eq n) (same_used world names) ∙ it.unused n is;
     unlisted = unlisted_there;
-    plain = it.plain;
+    layers = λ f m layer n.
+        subst (Among layer.filesystem) (sym (same_directly world names)) (it.layers f m layer n);
     mounted = it.mounted;
   }

@@ -9,6 +9,7 @@ use Rattle.vt_spec.specs.Lists.{Fresh, holds_of, is_among, odds}
 use Rattle.vt_spec.specs.Machine.Apply.{overfills}
 use Rattle.vt_spec.specs.Machine.Attach.{Copies, attached_by, copies_from}
 use Rattle.vt_spec.specs.Machine.Invariants.{IsWorld}
+use Rattle.vt_spec.specs.Machine.Locked.{of_overlay}
 use Rattle.vt_spec.specs.Machine.Judge.{Judgement, attach_permit, judge_in, mount_plain_permit}
 use Rattle.vt_spec.specs.Machine.Mounts.{Location, Mount, source_of}
 use Rattle.vt_spec.specs.Machine.NewMounts.{mounted, new_mount, plain_filesystem}
@@ -19,7 +20,7 @@ use Rattle.vt_spec.specs.Machine.Policy.{numbers_raised, policy}
 use Rattle.vt_spec.specs.Machine.Rules.Mounting.{admin_rules, destination_walk, new_mount_rules}
 use Rattle.vt_spec.specs.Machine.Run.{Serves}
 use Rattle.vt_spec.specs.Machine.Sealed.{is_own_namespace, members, part_of, sealed, used_filesystems}
-use Rattle.vt_spec.specs.Machine.World.{Filesystem, Task, World, all_locations, mount_at, task_called}
+use Rattle.vt_spec.specs.Machine.World.{Filesystem, Task, World, all_locations, layers_of, mount_at, task_called}
 use Rattle.vt_spec.proofs.Lists.{Among, list_all_from_among}
 use Rattle.vt_spec.proofs.Options.{none_is_some}
 use Rattle.vt_laws_letting_go.specs.Attaching.{is_attached}
@@ -120,7 +121,8 @@ module _ (world : World ℕ) (names : List TaskName) (name : TaskName) (path : L
     shown = λ o m. inr (⊎_elim (λ same. ap (λ (x : Mount ℕ). nat_eq x.filesystem new_one.number || false) same
         ∙ ap (λ b. b || false) (eq-eqb new_one.number new_one.number refl)) (λ none. absurd none) m);
     unlisted = λ f m. ap (λ b. b || false) (filesystem_unlike world names it.is fresh serves f m 0);
-    plain = λ f m. ⊎_elim (λ same. ap (λ (g : Filesystem ℕ). g.overlay) same) (λ none. absurd none) m;
+    layers = λ f m layer n. ⊎_elim
+        (λ same. absurd (subst (Among layer) (ap (of_overlay [] layers_of) same) n)) (λ none. absurd none) m;
     mounted = λ f m. (
       new_mount new_one.number new_one.files.tree.root flags,
       inl refl,

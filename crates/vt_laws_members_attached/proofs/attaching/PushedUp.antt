@@ -1,14 +1,15 @@
 -- What copies push up at receivers is theirs, and copies grow the world.
-use Rattle.std.proofs.Common.{◌≡◌, refl, sym, ap, subst, ◌∙◌, ◌⊎◌, inl, inr, ℕ, nat_eq, Bool, true, false, true≢false, List, Option, Some, None, flat_map, map}
+use Rattle.std.proofs.Common.{◌≡◌, refl, sym, ap, subst, ◌∙◌, ◌⊎◌, inl, inr, ℕ, nat_eq, Bool, true, false, true≢false, List, [], Option, Some, None, flat_map, map}
 use Rattle.std.specs.List.{list_any}
 use Rattle.std.proofs.lemmas.Bool.{and_parts}
 use Rattle.vt_spec.specs.Language.Calls.{TaskName}
 use Rattle.vt_spec.specs.Lists.{is_among, rest_of}
 use Rattle.vt_spec.specs.Machine.Attach.{Copies, Twig, copy_at, pushed_onto, receiver_stood_on, twig_of}
 use Rattle.vt_spec.specs.Machine.Invariants.{IsWorld, is_located_well, is_there}
+use Rattle.vt_spec.specs.Machine.Locked.{of_overlay}
 use Rattle.vt_spec.specs.Machine.Mounts.{Location, Mount, group_of, stands_at}
 use Rattle.vt_spec.specs.Machine.Sealed.{is_member_task, locations, members, sealed, seen_by_descriptor, used_directly, used_filesystems}
-use Rattle.vt_spec.specs.Machine.World.{Filesystem, Task, World, all_locations, locations_of, mount_at}
+use Rattle.vt_spec.specs.Machine.World.{Filesystem, Layer, Task, World, all_locations, layers_of, locations_of, mount_at}
 use Rattle.vt_spec.proofs.Lists.{Among, among-flat_map, among-from_filter, among-from_flat_map, among-from_map, among-map, among_from_list_all}
 use Rattle.vt_laws_mounts.proofs.mounts.MountsPlaces.{stands_there}
 use Rattle.vt_laws_letting_go.proofs.Lists.{find_none}
@@ -142,7 +143,8 @@ module _ (world : World ℕ) (names : List TaskName) (is : IsWorld nat_eq world)
     pub shown : (o : Mount ℕ) → Among o origins
         → Among o.filesystem (used_directly nat_eq world names) ⊎ (is_fresh o.filesystem ≡ true)
     pub unlisted : (f : Filesystem ℕ) → Among f world.filesystems → is_fresh f.number ≡ false
-    pub plain : (f : Filesystem ℕ) → Among f new_ones → f.overlay ≡ None
+    pub layers : (f : Filesystem ℕ) → Among f new_ones → (layer : Layer ℕ) → Among layer (of_overlay [] layers_of f)
+        → Among layer.filesystem (used_directly nat_eq world names)
     pub mounted : (f : Filesystem ℕ) → Among f new_ones → (o : Mount ℕ) × Among o origins × (o.filesystem ≡ f.number)
 
   fresh_unused : (n : ℕ) → is_fresh n ≡ true → is_among nat_eq n (used_filesystems nat_eq world names) ≡ false
@@ -167,7 +169,7 @@ module _ (world : World ℕ) (names : List TaskName) (is : IsWorld nat_eq world)
     located = λ l m. located_well world names is l m;
     unused = fresh_unused;
     unlisted = it.unlisted;
-    plain = it.plain;
+    layers = it.layers;
     mounted = λ f m. let o = it.mounted f m in (
       copy destination o.0,
       among-flat_map made_at at_parts destination (copy destination o.0) (inl refl) (copy_there destination o.0 o.1),
