@@ -55,7 +55,7 @@ module _ (world : World ℕ) (names : List TaskName) (is : IsWorld nat_eq world)
   of_part : part_of nat_eq u_part names ≡ grown_by part (part_of_master nat_eq u_part names)
   of_part =
       part_grown part names change added new_ones master_too
-      (part_grows world names change added new_ones master master_too grows)
+      (part_grows world names is change added new_ones master master_too grows)
       ∙ ap (λ (w : World ℕ). grown_by w (part_of_master nat_eq u_part names)) (part_again world names is)
 
   pub own_alike : own_mounts nat_eq u_part names ≡ own_mounts nat_eq u names

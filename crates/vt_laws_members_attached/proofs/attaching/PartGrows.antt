@@ -1,16 +1,17 @@
 -- What grows the world grows the part.
-use Rattle.std.proofs.Common.{◌≡◌, sym, ap, subst, ◌∙◌, ◌⊎◌, inl, inr, ⊎_elim, ℕ, nat_eq, true, false, true≢false, List, Option, Some, map, eq-eqb}
+use Rattle.std.proofs.Common.{◌≡◌, sym, ap, subst, ◌∙◌, ◌⊎◌, inl, inr, ⊎_elim, ℕ, nat_eq, true, false, true≢false, List, Option, Some}
 use Rattle.vt_spec.specs.Language.Calls.{TaskName}
 use Rattle.vt_spec.specs.Lists.{is_among}
-use Rattle.vt_spec.specs.Machine.Mounts.{Location, Mount}
+use Rattle.vt_spec.specs.Machine.Invariants.{IsWorld}
+use Rattle.vt_spec.specs.Machine.Mounts.{Mount}
 use Rattle.vt_spec.specs.Machine.Sealed.{locations, members, part_of, part_of_filesystem, seen_by_descriptor}
 use Rattle.vt_spec.specs.Machine.World.{Filesystem, Task, World}
-use Rattle.vt_spec.proofs.Lists.{Among, among-filter_map, among-from_filter_map, among-from_map, among-map, among_numbers, any_from_among, is_among_numbers}
+use Rattle.vt_spec.proofs.Lists.{Among, among-from_filter_map}
 use Rattle.vt_laws_part.proofs.part.PartOfPart.{is_own, keep, kept_how, same_directly, same_members, same_used, shown_how}
-use Rattle.vt_laws_sealed.proofs.outsiders.SeenLater.{shown_at}
+use Rattle.vt_laws_members_attached.proofs.attaching.Destination.{located_there}
 use Rattle.vt_laws_members_attached.proofs.attaching.GrownPart.{Grows, is_new}
 
-module _ (world : World ℕ) (names : List TaskName) (change : Mount ℕ → Mount ℕ) (added : List (Mount ℕ))
+module _ (world : World ℕ) (names : List TaskName) (is : IsWorld nat_eq world) (change : Mount ℕ → Mount ℕ) (added : List (Mount ℕ))
     (new : List (Filesystem ℕ)) (master master_too : ℕ → Option ℕ)
     (it : Grows world names change added new master) where
   abbrev part : World ℕ
@@ -47,20 +48,6 @@ module _ (world : World ℕ) (names : List TaskName) (change : Mount ℕ → Mou
       subst (λ z. (change z ≡ z) × (change (seen_by_descriptor z) ≡ seen_by_descriptor z)) stub.0 (still, still))
       (whole from.0 y from.1 from.2)
 
-  pub located_there : (l : Location ℕ) → Among l (locations theirs)
-      → is_among nat_eq l.mount (map (λ (m : Mount ℕ). m.number) part.mounts) ≡ true
-  located_there l m =
-      let number = among_numbers (map (λ (x : Mount ℕ). x.number) world.mounts) l.mount (it.located l m) in
-      let x = among-from_map (λ (x : Mount ℕ). x.number) world.mounts l.mount number in
-      let y = shown_at world names x.0 (any_from_among (λ (k : Location ℕ). nat_eq k.mount x.0.number)
-      (locations theirs) l m (eq-eqb l.mount x.0.number x.2)) in
-      let same : y.0.number ≡ l.mount =
-      ⊎_elim (λ same. ap (λ (z : Mount ℕ). z.number) (sym same) ∙ sym x.2)
-      (λ stub. ap (λ (z : Mount ℕ). z.number) (sym stub.0) ∙ sym x.2) (whole x.0 y.0 x.1 y.1) in
-      is_among_numbers (map (λ (z : Mount ℕ). z.number) part.mounts) l.mount
-      (subst (λ n. Among n (map (λ (z : Mount ℕ). z.number) part.mounts)) same
-      (among-map (λ (z : Mount ℕ). z.number) part.mounts y.0 (among-filter_map kept world.mounts x.0 y.0 x.1 y.1)))
-
   unlisted_there : (f : Filesystem ℕ) → Among f part.filesystems
       → is_new world names change added new master f.number ≡ false
   unlisted_there f n =
@@ -78,7 +65,7 @@ module _ (world : World ℕ) (names : List TaskName) (change : Mount ℕ → Mou
     ours = λ x m. owned_same x ∙ it.ours x m;
     shown = λ x m. ⊎_elim (λ old. inl (subst (Among x.filesystem) (sym (same_directly world names)) old)) inr
         (it.shown x m);
-    located = λ l m. located_there l (subst (λ ts. Among l (locations ts)) (same_members world names) m);
+    located = λ l m. located_there world names is l (subst (λ ts. Among l (locations ts)) (same_members world names) m);
     unused = λ n is. ap (is_among nat_eq n) (same_used world names) ∙ it.unused n is;
     unlisted = unlisted_there;
     layers = λ f m layer n.

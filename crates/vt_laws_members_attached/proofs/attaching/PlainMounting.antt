@@ -1,11 +1,11 @@
 -- Each mount(2) of a new plain filesystem ends in the part as in the world.
-use Rattle.std.proofs.Common.{◌≡◌, refl, sym, ap, subst, ◌∙◌, inl, inr, ⊎_elim, ℕ, nat_eq, true, false, List, [], ◌∷◌, Option, Some, None, Ok, Err, is_some, map, ◌||◌, eq-eqb}
+use Rattle.std.proofs.Common.{◌≡◌, refl, sym, ap, subst, ◌∙◌, inl, inr, ⊎_elim, ℕ, nat_eq, true, false, List, [], ◌∷◌, Option, Some, None, Ok, Err, ◌||◌, eq-eqb}
 use Rattle.std.specs.Prelude.{IfOk, is_ok}
 use Rattle.std.specs.List.{list_any}
 use Rattle.vt_spec.specs.Language.Answers.Answer.{Done}
 use Rattle.vt_spec.specs.Language.Calls.{MountFlags, TaskName}
 use Rattle.vt_spec.specs.Language.Calls.Call.{MountPlain}
-use Rattle.vt_spec.specs.Lists.{Fresh, holds_of, is_among, odds}
+use Rattle.vt_spec.specs.Lists.{Fresh, is_among, odds}
 use Rattle.vt_spec.specs.Machine.Apply.{overfills}
 use Rattle.vt_spec.specs.Machine.Attach.{Copies, attached_by, copies_from}
 use Rattle.vt_spec.specs.Machine.Invariants.{IsWorld}
@@ -19,33 +19,28 @@ use Rattle.vt_spec.specs.Machine.Permits.Permit.{ToMountPlain}
 use Rattle.vt_spec.specs.Machine.Policy.{numbers_raised, policy}
 use Rattle.vt_spec.specs.Machine.Rules.Mounting.{admin_rules, destination_walk, new_mount_rules}
 use Rattle.vt_spec.specs.Machine.Run.{Serves}
-use Rattle.vt_spec.specs.Machine.Sealed.{is_own_namespace, members, part_of, sealed, used_filesystems}
-use Rattle.vt_spec.specs.Machine.World.{Filesystem, Task, World, all_locations, layers_of, mount_at, task_called}
-use Rattle.vt_spec.proofs.Lists.{Among, list_all_from_among}
+use Rattle.vt_spec.specs.Machine.Sealed.{members, part_of, sealed, used_filesystems}
+use Rattle.vt_spec.specs.Machine.World.{Filesystem, Task, World, layers_of, mount_at, task_called}
+use Rattle.vt_spec.proofs.Lists.{Among}
 use Rattle.vt_spec.proofs.Options.{none_is_some}
-use Rattle.vt_laws_letting_go.specs.Attaching.{is_attached}
-use Rattle.vt_laws_letting_go.specs.Keeping.{LocationsStand}
 use Rattle.vt_laws_letting_go.proofs.mounting.AttachedSwept.{new_mounts_of_trees_keep_all}
-use Rattle.vt_laws_letting_go.proofs.mounting.MountsSwept.{mounts_stand}
 use Rattle.vt_laws_letting_go.proofs.sweeps.OfWorlds.{all_in_use, locations_of_worlds_stand, mounts_of_worlds_stand}
 use Rattle.vt_laws_part.proofs.part.PartOfPart.{is_own}
 use Rattle.vt_laws_members.specs.Judging.{is_theirs}
 use Rattle.vt_laws_members.proofs.judging.AllJudged.{owned}
-use Rattle.vt_laws_members.proofs.judging.Grounds.{IsTheirs, its_mount, same_mount, theirs_from}
-use Rattle.vt_laws_members.proofs.judging.WalksLead.{destination_agrees}
+use Rattle.vt_laws_members.proofs.judging.Grounds.{IsTheirs, theirs_from}
 use Rattle.vt_laws_members_changes.specs.Changes.{EndAlike, EndsAlike, IsCallOfTheirs, grown}
-use Rattle.vt_laws_members_changes.proofs.letting_go.Moving.{On, StandsHere, alike, one, other}
-use Rattle.vt_laws_members_changes.proofs.letting_go.PartMounts.{part_mounts}
+use Rattle.vt_laws_members_changes.proofs.letting_go.Moving.{StandsHere, one}
 use Rattle.vt_laws_members_changes.proofs.letting_go.Umounting.{of_passed}
 use Rattle.vt_laws_members_changes.proofs.looks.Granted.{of_rules, of_walk}
 use Rattle.vt_laws_members_changes.proofs.looks.Told.{member_called, ran, same_caller}
 use Rattle.vt_laws_members_changes.proofs.part.SettledPart.{part_in_use}
 use Rattle.vt_laws_members_changes.proofs.tasks.Denied.{denial_ends_alike, run_by, same_judgement, unnamed_ends_alike}
 use Rattle.vt_laws_members_attached.specs.Attaching.{PlainMountsEndAlike}
-use Rattle.vt_laws_members_attached.proofs.attaching.AttachedAlike.{copies_alike, grows}
-use Rattle.vt_laws_members_attached.proofs.attaching.CopiesAlike.{base_part, parts, parts_alike, push}
-use Rattle.vt_laws_members_attached.proofs.attaching.PartGrows.{located_there}
-use Rattle.vt_laws_members_attached.proofs.attaching.PushedUp.{ShowTheirs, all_copies}
+use Rattle.vt_laws_members_attached.proofs.attaching.AttachedAlike.{copies_alike}
+use Rattle.vt_laws_members_attached.proofs.attaching.CopiesAlike.{base_part, parts, parts_alike}
+use Rattle.vt_laws_members_attached.proofs.attaching.Destination.{at_destination, locations_stand_there, mounts_stand_there, placed, placed_there, there}
+use Rattle.vt_laws_members_attached.proofs.attaching.PushedUp.{ShowTheirs}
 use Rattle.vt_laws_members_attached.proofs.attaching.Unused.{filesystem_unlike, group_new, used_unlike}
 
 -- What a granted mount of a plain filesystem attaches
@@ -57,14 +52,6 @@ module _ (world : World ℕ) (names : List TaskName) (is : IsWorld nat_eq world)
       (here : Location ℕ) × (permit ≡ ToMountPlain here flags) × (is_theirs world names here.mount ≡ true)
       × (is_own world names (members world names) (mount_at nat_eq world here) ≡ true)
 
-  pub at_destination : (path : List ℕ) → IfOk
-      (destination_walk nat_eq (one world names is sealed_off task member) task path)
-      (StandsHere world names is sealed_off task member)
-  at_destination path =
-      let it = alike world names is sealed_off task member in
-      (destination_agrees (one world names is sealed_off task member) (other world names is sealed_off task member) task
-      (On world names is sealed_off task member) it.walks it.directory it.rules.removed path).1
-
   mounts_there : (fresh : Fresh ℕ) (path : List ℕ) → IfOk
       (mount_plain_permit nat_eq (one world names is sealed_off task member) (overfills nat_eq fresh world task) task path
       flags) Mounts
@@ -74,7 +61,7 @@ module _ (world : World ℕ) (names : List TaskName) (is : IsWorld nat_eq world)
       (of_walk (StandsHere world names is sealed_off task member) Mounts
       (destination_walk nat_eq (one world names is sealed_off task member) task path)
       (λ here. attach_permit (new_mount_rules nat_eq (one world names is sealed_off task member) task here.location)
-      (overfills nat_eq fresh world task) (ToMountPlain here.location flags)) (at_destination path)
+      (overfills nat_eq fresh world task) (ToMountPlain here.location flags)) (at_destination world names is sealed_off task member path)
       (λ here on. of_passed Mounts
       (new_mount_rules nat_eq (one world names is sealed_off task member) task here.location
       (overfills nat_eq fresh world task (ToMountPlain here.location flags)))
@@ -99,9 +86,8 @@ module _ (world : World ℕ) (names : List TaskName) (name : TaskName) (path : L
   theirs : IsTheirs world names it.is.mounts here.mount
   theirs = theirs_from world names it.is.mounts here.mount on
 
-  there : Among (mount_at nat_eq world here) world.mounts
-  there =
-      subst (λ m. Among m world.mounts) (sym (its_mount world names it.is.mounts here.mount theirs)) theirs.1
+  here_there : Among (mount_at nat_eq world here) world.mounts
+  here_there = there world names it.is it.sealed_off here theirs own
 
   abbrev new_one : Filesystem ℕ
   new_one = plain_filesystem nat_eq fresh
@@ -114,9 +100,9 @@ module _ (world : World ℕ) (names : List TaskName) (name : TaskName) (path : L
   unused n used = ap (λ b. b || false) (used_unlike world names it.is fresh serves n used 0)
 
   abbrev new : Copies ℕ
-  new = copies_from nat_eq (odds fresh) (parts world names it.is it.sealed_off (new_one ∷ []) unused here there own) origins
+  new = copies_from nat_eq (odds fresh) (parts world names it.is it.sealed_off (new_one ∷ []) unused here here_there own) origins
 
-  shows : ShowTheirs world names it.is it.sealed_off (new_one ∷ []) unused here there own new false origins
+  shows : ShowTheirs world names it.is it.sealed_off (new_one ∷ []) unused here here_there own new false origins
   shows = record {
     shown = λ o m. inr (⊎_elim (λ same. ap (λ (x : Mount ℕ). nat_eq x.filesystem new_one.number || false) same
         ∙ ap (λ b. b || false) (eq-eqb new_one.number new_one.number refl)) (λ none. absurd none) m);
@@ -139,27 +125,6 @@ module _ (world : World ℕ) (names : List TaskName) (name : TaskName) (path : L
   new_groups : (a b : ℕ) → world.master (new.image a b) ≡ None
   new_groups a b = group_new world names it.is fresh serves _
 
-  placed : is_attached world here.mount ≡ true
-  placed = by (mount_at nat_eq world here).namespace own
-    where
-      by : (o : Option ℕ) → holds_of (is_own_namespace nat_eq world names) o ≡ true → is_some o ≡ true
-      by None h = h
-      by (Some n) h = refl
-
-  placed_there : is_attached part here.mount ≡ true
-  placed_there =
-      ap (λ (m : Mount ℕ). is_some m.namespace) (same_mount world names it.is.mounts here.mount theirs) ∙ placed
-
-  located_in_part : LocationsStand part
-  located_in_part =
-      list_all_from_among (λ (l : Location ℕ). is_among nat_eq l.mount (map (λ (m : Mount ℕ). m.number) part.mounts))
-      (all_locations part)
-      (λ l m. located_there world names
-      (push world names it.is it.sealed_off (new_one ∷ []) unused here there own new false origins)
-      (all_copies world names it.is it.sealed_off (new_one ∷ []) unused here there own new false origins)
-      (new_one ∷ []) _ part.master
-      (grows world names it.is it.sealed_off (new_one ∷ []) unused here there own new origins new_groups sources shows) l m)
-
   abbrev now : World ℕ
   now = mounted nat_eq (odds fresh) world here new_one flags
 
@@ -173,7 +138,8 @@ module _ (world : World ℕ) (names : List TaskName) (name : TaskName) (path : L
       ∙ ap (run_by world names name (MountPlain path flags) it fresh fresh world fresh task) judged
       ∙ ap (λ w. granted Done (numbers_raised nat_eq world name [] w))
       (new_mounts_of_trees_keep_all fresh world task here flags (all_in_use world it.is)
-      (mounts_of_worlds_stand world it.is) (locations_of_worlds_stand world it.is) placed)
+      (mounts_of_worlds_stand world it.is) (locations_of_worlds_stand world it.is)
+      (placed world names it.is it.sealed_off here theirs own))
 
   second : policy nat_eq fresh part name (MountPlain path flags)
       ≡ granted Done (numbers_raised nat_eq part name [] now_there)
@@ -184,21 +150,22 @@ module _ (world : World ℕ) (names : List TaskName) (name : TaskName) (path : L
       (sym (same_judgement world names name (MountPlain path flags) it fresh fresh task called) ∙ judged)
       ∙ ap (λ w. granted Done (numbers_raised nat_eq part name [] w))
       (new_mounts_of_trees_keep_all fresh part task here flags (part_in_use world names it.is it.sealed_off)
-      (mounts_stand part (part_mounts world names it.is it.sealed_off)) located_in_part placed_there)
+      (mounts_stand_there world names it.is it.sealed_off) (locations_stand_there world names it.is)
+      (placed_there world names it.is it.sealed_off here theirs own))
 
   -- the numbers are handed out to the same parts
   same_numbers : now_there ≡ attached_by nat_eq
-      (base_part world names it.is it.sealed_off (new_one ∷ []) unused here there own) new here false origins
+      (base_part world names it.is it.sealed_off (new_one ∷ []) unused here here_there own) new here false origins
   same_numbers =
       ap (λ l. attached_by nat_eq
-      (base_part world names it.is it.sealed_off (new_one ∷ []) unused here there own)
+      (base_part world names it.is it.sealed_off (new_one ∷ []) unused here here_there own)
       (copies_from nat_eq (odds fresh) l origins) here false origins)
-      (parts_alike world names it.is it.sealed_off (new_one ∷ []) unused here there own)
+      (parts_alike world names it.is it.sealed_off (new_one ∷ []) unused here here_there own)
 
   parts_same : part_of nat_eq (numbers_raised nat_eq world name [] now) names
       ≡ part_of nat_eq (numbers_raised nat_eq part name [] now_there) names
   parts_same =
-      copies_alike world names it.is it.sealed_off (new_one ∷ []) unused here there own new origins new_groups sources
+      copies_alike world names it.is it.sealed_off (new_one ∷ []) unused here here_there own new origins new_groups sources
       shows name
       ∙ sym (ap (λ w. part_of nat_eq (numbers_raised nat_eq part name [] w) names) same_numbers)
 

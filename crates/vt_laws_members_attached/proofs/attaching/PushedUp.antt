@@ -1,35 +1,23 @@
 -- What copies push up at receivers is theirs, and copies grow the world.
 use Rattle.std.proofs.Common.{◌≡◌, refl, sym, ap, subst, ◌∙◌, ◌⊎◌, inl, inr, ℕ, nat_eq, Bool, true, false, true≢false, List, [], Option, Some, None, flat_map, map}
 use Rattle.std.specs.List.{list_any}
-use Rattle.std.proofs.lemmas.Bool.{and_parts}
 use Rattle.vt_spec.specs.Language.Calls.{TaskName}
 use Rattle.vt_spec.specs.Lists.{is_among, rest_of}
 use Rattle.vt_spec.specs.Machine.Attach.{Copies, Twig, copy_at, pushed_onto, receiver_stood_on, twig_of}
-use Rattle.vt_spec.specs.Machine.Invariants.{IsWorld, is_located_well, is_there}
+use Rattle.vt_spec.specs.Machine.Invariants.{IsWorld}
 use Rattle.vt_spec.specs.Machine.Locked.{of_overlay}
 use Rattle.vt_spec.specs.Machine.Mounts.{Location, Mount, group_of, stands_at}
-use Rattle.vt_spec.specs.Machine.Sealed.{is_member_task, locations, members, sealed, seen_by_descriptor, used_directly, used_filesystems}
-use Rattle.vt_spec.specs.Machine.World.{Filesystem, Layer, Task, World, all_locations, layers_of, locations_of, mount_at}
-use Rattle.vt_spec.proofs.Lists.{Among, among-flat_map, among-from_filter, among-from_flat_map, among-from_map, among-map, among_from_list_all}
+use Rattle.vt_spec.specs.Machine.Sealed.{members, sealed, seen_by_descriptor, used_directly, used_filesystems}
+use Rattle.vt_spec.specs.Machine.World.{Filesystem, Layer, Task, World, layers_of, mount_at}
+use Rattle.vt_spec.proofs.Lists.{Among, among-flat_map, among-from_flat_map, among-from_map, among-map}
 use Rattle.vt_laws_mounts.proofs.mounts.MountsPlaces.{stands_there}
 use Rattle.vt_laws_letting_go.proofs.Lists.{find_none}
 use Rattle.vt_laws_part.proofs.part.PartOfPart.{is_own}
 use Rattle.vt_laws_members.proofs.judging.Grounds.{child_theirs}
 use Rattle.vt_laws_members.proofs.judging.MountTrees.{own_theirs}
 use Rattle.vt_laws_members_attached.proofs.attaching.CopiesAlike.{base, copies, parts, parts_own, push, tree}
+use Rattle.vt_laws_members_attached.proofs.attaching.Destination.{located_well}
 use Rattle.vt_laws_members_attached.proofs.attaching.GrownPart.{Grows}
-
--- a location that they use is on a mount of the world
-pub located_well : (world : World ℕ) (names : List TaskName) → IsWorld nat_eq world → (l : Location ℕ)
-    → Among l (locations (members world names))
-    → is_among nat_eq l.mount (map (λ (m : Mount ℕ). m.number) world.mounts) ≡ true
-located_well world names is l m =
-    let t = among-from_flat_map locations_of (members world names) l m in
-    (and_parts (is_among nat_eq l.mount (map (λ (x : Mount ℕ). x.number) world.mounts))
-    (is_there nat_eq world (mount_at nat_eq world l).filesystem l.node)
-    (among_from_list_all (is_located_well nat_eq world) (all_locations world) is.tasks.locations_live l
-    (among-flat_map locations_of world.tasks t.0 l (among-from_filter (is_member_task names) world.tasks t.0 t.1).0
-    t.2))).0
 
 module _ (world : World ℕ) (names : List TaskName) (is : IsWorld nat_eq world)
     (sealed_off : sealed nat_eq world names ≡ true) (new_ones : List (Filesystem ℕ))

@@ -21,7 +21,7 @@ use Rattle.vt_laws_members.proofs.judging.Grounds.{numbered}
 use Rattle.vt_laws_members.proofs.judging.LowersSeen.{overlay_there}
 use Rattle.vt_laws_members_attached.proofs.attaching.CopiesAlike.{group_source}
 use Rattle.vt_laws_members_attached.proofs.attaching.GrownPart.{used_how}
-use Rattle.vt_laws_members_attached.proofs.attaching.PushedUp.{located_well}
+use Rattle.vt_laws_members_attached.proofs.attaching.Destination.{located_well}
 
 module _ (world : World ℕ) (names : List TaskName) (is : IsWorld nat_eq world) where
   -- a filesystem of the world has this number
