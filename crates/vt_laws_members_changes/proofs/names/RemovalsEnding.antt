@@ -89,7 +89,7 @@ module _ (world : World ℕ) (names : List TaskName) (is : IsWorld nat_eq world)
       by None e = at.0
       by (Some object) e = at.1 object e
 
-  removed_free : (asked : Call) (permit : Permit ℕ)
+  pub removed_free : (asked : Call) (permit : Permit ℕ)
       → IsGranted nat_eq one (overfills nat_eq fresh world task) task asked permit
       → (parent : Location ℕ) (entry : List ℕ) (directory : Location ℕ)
       → permit ≡ ToRemoveDirectory parent entry directory → IsFree directory parent
@@ -114,7 +114,7 @@ module _ (world : World ℕ) (names : List TaskName) (is : IsWorld nat_eq world)
   on_mount mount replaced (Some n) f =
       ap (λ (l : Location ℕ). l.mount) (sym (same_Some (record { mount = mount; node = n }) replaced f))
 
-  replaced_free : (asked : Call) (permit : Permit ℕ)
+  pub replaced_free : (asked : Call) (permit : Permit ℕ)
       → IsGranted nat_eq one (overfills nat_eq fresh world task) task asked permit
       → (from : Location ℕ) (old : List ℕ) (to : Location ℕ) (new : List ℕ) (object replaced : Location ℕ)
       → permit ≡ ToRename from old to new object (Some replaced) → IsFree replaced from
