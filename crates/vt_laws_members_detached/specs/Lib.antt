@@ -1,1 +1,2 @@
+pub mod Lazily
 pub mod Removals
