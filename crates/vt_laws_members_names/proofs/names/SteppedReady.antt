@@ -11,7 +11,7 @@ use Rattle.vt_spec.proofs.Lists.{Among, among-from_map, pair-map}
 use Rattle.vt_spec.proofs.Options.{none_from_not_some}
 use Rattle.vt_laws_letting_go.specs.TreesOverlays.{with_filesystems}
 use Rattle.vt_laws_letting_go.proofs.sweeps.InUse.{layers_on}
-use Rattle.vt_laws_members_changes.proofs.files.FilesChanged.{lowers_in, lowers_with_layers, used_with_layers}
+use Rattle.vt_laws_members_changes.proofs.files.FilesChanged.{lowers_in, lowers_later, used_later}
 use Rattle.vt_laws_members_changes.proofs.letting_go.Ready.{AllNamed, Alone, IsCut, NoOthers, Ready}
 
 -- Filesystems keep their numbers and layers. What the set does not use stays, and what changes it uses alone.
@@ -99,8 +99,8 @@ module _ (a : World ℕ) (set : List TaskName) (used : List ℕ) (lowers : List 
 
   pub stepped_ready : Ready later set used lowers
   stepped_ready = record {
-    used_are = used_with_layers a set step theirs.numbered theirs.changing theirs.lowering kept_here ∙ it.used_are;
-    lowers_are = lowers_with_layers a set step theirs.numbered theirs.changing theirs.lowering kept_here ∙ it.lowers_are;
+    used_are = used_later a set step theirs.numbered theirs.changing ∙ it.used_are;
+    lowers_are = lowers_later a set step theirs.numbered theirs.lowering ∙ it.lowers_are;
     one = it.one;
     lives = it.lives;
     located = it.located;
