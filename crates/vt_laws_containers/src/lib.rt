@@ -3,4 +3,5 @@
 //! Each public function is a theorem of the written policy, and does nothing.
 #![tactic(auto)]
 
+pub mod footholds;
 pub mod scripts;
