@@ -1,0 +1,7 @@
+-- What the proofs of src/footholds.rt use.
+pub mod AsBefore
+pub mod EndsAsBefore
+pub mod FilesGoOn
+pub mod Granting
+pub mod TasksAsBefore
+pub mod TasksPermits

@@ -1,0 +1,5 @@
+-- What the proofs of src/scripts.rt use.
+pub mod AnsweredAlike
+pub mod Called
+pub mod LineNumbers
+pub mod UsedThere

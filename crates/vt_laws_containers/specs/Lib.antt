@@ -1,0 +1,3 @@
+pub mod Footholds
+pub mod PermitFootholds
+pub mod Scripts
