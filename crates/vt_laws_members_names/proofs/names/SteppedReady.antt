@@ -1,4 +1,5 @@
--- A world of which a set sees the sweep by its part alone is still one after filesystems that the set uses alone change.
+-- A world of which a set sees the sweep by its part alone is still one after filesystems that the set uses alone
+-- change.
 use Rattle.std.proofs.Common.{◌≡◌, sym, ap, subst, ◌∙◌, ◌⊎◌, inl, inr, ⊎_elim, ℕ, nat_eq, true, false, List, [], None, is_some}
 use Rattle.std.specs.List.{list_any}
 use Rattle.vt_spec.specs.Language.Calls.{TaskName}
@@ -61,7 +62,8 @@ module _ (a : World ℕ) (set : List TaskName) (used : List ℕ) (lowers : List 
         nobody_still from.0.number y.number (sym (number_was y from.0 from.2))
         (alone.overlays from.0 from.1
         (layered_was n from.0 from.1
-        (subst (λ f. has_layer_on nat_eq n f ≡ true) from.2 (subst (λ i. has_layer_on nat_eq i y ≡ true) (sym same) has))));
+        (subst (λ f. has_layer_on nat_eq n f ≡ true) from.2
+        (subst (λ i. has_layer_on nat_eq i y ≡ true) (sym same) has))));
   }
 
   plain_still : (y merged : Filesystem ℕ) → Among y later.filesystems → Among merged later.filesystems
@@ -100,7 +102,8 @@ module _ (a : World ℕ) (set : List TaskName) (used : List ℕ) (lowers : List 
   pub stepped_ready : Ready later set used lowers
   stepped_ready = record {
     used_are = used_with_layers a set step theirs.numbered theirs.changing theirs.lowering kept_here ∙ it.used_are;
-    lowers_are = lowers_with_layers a set step theirs.numbered theirs.changing theirs.lowering kept_here ∙ it.lowers_are;
+    lowers_are = lowers_with_layers a set step theirs.numbered theirs.changing theirs.lowering kept_here
+        ∙ it.lowers_are;
     one = it.one;
     lives = it.lives;
     located = it.located;
