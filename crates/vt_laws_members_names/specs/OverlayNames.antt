@@ -14,7 +14,8 @@ use Rattle.vt_laws_members_changes.specs.Changes.{EndsAlike, IsCallOfTheirs}
 use Rattle.vt_laws_members_changes.specs.NameChanges.{EndsAlikeByOne, mounted_elsewhere}
 use Rattle.vt_laws_members_changes.specs.OverlayEdits.{OverlayChangeEndsAlike}
 
--- Each call that sets the opaque mark does in the part what it does in the world; through an overlay it is refused (O4),
+-- Each call that sets the opaque mark does in the part what it does in the world, and through an overlay it is refused
+-- (O4),
 abbrev pub AllOpaquesEndAlike : Type 0
 AllOpaquesEndAlike =
     (world : World ℕ) (names : List TaskName) (name : TaskName) (path : List ℕ) (mark : Bool)
@@ -85,7 +86,8 @@ OverlayRmdirsEndAlike =
     → (fresh : Fresh ℕ) → Serves nat_eq world fresh
     → (parent : Location ℕ) (entry : List ℕ) (directory : Location ℕ)
     → judge_in nat_eq fresh world task (Rmdir path) ≡ Ok (ToRemoveDirectory parent entry directory)
-    → is_overlay (filesystem_at nat_eq world parent) ≡ true → mounted_elsewhere world names task (Some directory) ≡ false
+    → is_overlay (filesystem_at nat_eq world parent) ≡ true
+    → mounted_elsewhere world names task (Some directory) ≡ false
     → EndsAlikeByOne world names name (Rmdir path) fresh
 
 -- and rename(2), if none stands on what it replaces.

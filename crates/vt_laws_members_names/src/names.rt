@@ -3,8 +3,8 @@ ghost use Rattle.vt_laws_members_names.specs.OverlayNames.{AllOpaquesEndAlike, A
 
 /// In a world with all invariants in which a set of tasks is sealed off, **each call of one of them that sets the
 /// opaque mark does in the part of the set what it does in the world** (`opaque`), granted or refused, whatever numbers
-/// are handed in. So does each call that makes a whiteout (`whiteout`), by one supply of numbers that the world does not
-/// use.
+/// are handed in. So does each call that makes a whiteout (`whiteout`), by one supply of numbers that the world does
+/// not use.
 ///
 /// Both are granted on plain filesystems alone: through an overlay the rules refuse them (O4).
 pub fn calls_of_theirs_that_hide_lower_layers_end_alike()
@@ -34,9 +34,9 @@ pub fn calls_of_theirs_that_make_names_through_overlays_end_alike()
 /// numbers that the world does not use: `unlink`, `rmdir` and `rename`.
 ///
 /// It leaves a whiteout in both where lower layers show something at the name, or in neither. The set uses the overlay
-/// and the filesystem of its upper layer alone: an overlay is no layer of another one, and an upper directory lies in no
-/// lower layer. So each inode of them is used in both or in none. What lost its last use goes in both, first from the
-/// overlay, then from the upper layer.
+/// and the filesystem of its upper layer alone: an overlay is no layer of another one, and an upper directory lies in
+/// no lower layer. So each inode of them is used in both or in none. What lost its last use goes in both, first from
+/// the overlay, then from the upper layer.
 ///
 /// Of `rmdir` and `rename` this asks that no mount of another namespace of theirs stands on what is removed or replaced
 /// (`mounted_elsewhere`), nor on its upper directory.

@@ -193,6 +193,9 @@ module _ (world : World ℕ) (names : List TaskName) (is : IsWorld nat_eq world)
     stood = stood_there;
     one_filesystem = numbers_in_part world names is;
     plain = plain_in_part world names is;
-    free = λ y m u. inl (record { itself = no_others_there y.number; overlays = λ merged n has. no_others_there merged.number });
+    free = λ y m u. inl (record {
+      itself = no_others_there y.number;
+      overlays = λ merged n has. no_others_there merged.number;
+    });
     cut = cut_in_part world names is set later later_part sees;
   }

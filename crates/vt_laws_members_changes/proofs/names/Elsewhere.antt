@@ -80,8 +80,8 @@ module _ (world : World ℕ) (names : List TaskName) (is : IsWorld nat_eq world)
         (points_of nat_eq world directory) from.1 in
         by from.0 at.0 (alone at.0 at.1) mount.mount_point refl at.2
       where
-        by : Among mount world.mounts → (at : ℕ × ℕ) → used_alone nat_eq world names at.0 ≡ true → (o : Option (Location ℕ))
-            → mount.mount_point ≡ o
+        by : Among mount world.mounts → (at : ℕ × ℕ) → used_alone nat_eq world names at.0 ≡ true
+            → (o : Option (Location ℕ)) → mount.mount_point ≡ o
             → holds_of (λ (point : Location ℕ). nat_eq point.node at.1
             && nat_eq (mount_at nat_eq world point).filesystem at.0) o ≡ true
             → is_own_namespace nat_eq world names n ≡ true

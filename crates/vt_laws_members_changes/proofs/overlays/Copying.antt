@@ -220,8 +220,8 @@ module _ (fresh : Fresh ℕ) (world : World ℕ) (names : List TaskName) (locati
       subst (λ f. Among f (with_filesystems w step).filesystems) (becomes fresh world location change overlay upper is can)
       (among-map step w.filesystems merged m)
 
-  changes_then : Copies change → (last : World ℕ) → Among merged_later last.filesystems → (x : Filesystem ℕ) → Among x world.filesystems
-      → ChangesFilesystem last [] x (step x)
+  changes_then : Copies change → (last : World ℕ) → Among merged_later last.filesystems → (x : Filesystem ℕ)
+      → Among x world.filesystems → ChangesFilesystem last [] x (step x)
   changes_then copies last m =
       among_from_all (λ x. ChangesFilesystem last [] x (step x)) world.filesystems
       (subst (λ l. All (λ x. ChangesFilesystem last l x (step x)) world.filesystems)

@@ -44,7 +44,8 @@ use Rattle.vt_laws_members_changes.proofs.tasks.Rights.{idle_end_alike}
 pub unwritten_run : (w : World ℕ) (name : TaskName) (call : Call) (supply : Fresh ℕ) (location : Location ℕ)
     (change : Change ℕ) (merged : Filesystem ℕ) (overlay : Overlay ℕ) → only_looks call ≡ false
     → filesystem_at nat_eq w location ≡ merged → merged.overlay ≡ Some overlay → overlay.upper ≡ None
-    → finished nat_eq w name call (changed_at nat_eq w location) (granted Done (with_change nat_eq supply w location change))
+    → finished nat_eq w name call (changed_at nat_eq w location)
+    (granted Done (with_change nat_eq supply w location change))
     ≡ with_tasks w name Done w.tasks
 unwritten_run w name call supply location change merged overlay looks same overlaid none =
     ap (λ b. finished_by nat_eq (b || false) w name (changed_at nat_eq w location)

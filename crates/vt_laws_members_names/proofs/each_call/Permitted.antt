@@ -78,11 +78,13 @@ either : {P : Type 0} (b : Bool) → ((b ≡ false) → P) → ((b ≡ true) →
 either true plain merged = merged refl
 either false plain merged = plain refl
 
-module _ (world : World ℕ) (names : List TaskName) (name : TaskName) (call : Call) (it : IsCallOfTheirs world names name call)
+module _ (world : World ℕ) (names : List TaskName) (name : TaskName) (call : Call)
+    (it : IsCallOfTheirs world names name call)
     (fresh : Fresh ℕ) where
   -- by its permit
   fit_ends : only_looks call ≡ false → ((task : Task ℕ) → task_called world name ≡ Some task → (permit : Permit ℕ)
-      → judge_in nat_eq fresh world task call ≡ Ok permit → Fits call permit → EndsAlike world names name call fresh fresh)
+      → judge_in nat_eq fresh world task call ≡ Ok permit → Fits call permit
+      → EndsAlike world names name call fresh fresh)
       → EndsAlike world names name call fresh fresh
   fit_ends looks ends =
       by_permit world names name call it fresh fresh looks (λ task called permit judged.
@@ -112,7 +114,8 @@ module _ (world : World ℕ) (names : List TaskName) (name : TaskName) (call : C
 pub each_mkdir_ends_alike : EachMkdirEndsAlike
 each_mkdir_ends_alike world names name path mode it fresh serves =
     fit_ends world names name (Mkdir path mode) it fresh refl (λ task called.
-    making_ends world names name (Mkdir path mode) it fresh serves task called (mkdirs_end_alike world names name path mode)
+    making_ends world names name (Mkdir path mode) it fresh serves task called
+    (mkdirs_end_alike world names name path mode)
     (overlay_mkdirs_end_alike world names name path mode))
 
 pub each_symlink_ends_alike : EachSymlinkEndsAlike
@@ -136,7 +139,8 @@ each_unlink_ends_alike world names name path it fresh serves =
 pub each_chmod_ends_alike : EachChmodEndsAlike
 each_chmod_ends_alike world names name path mode it fresh serves =
     fit_ends world names name (Chmod path mode) it fresh refl (λ task called.
-    change_ends world names name (Chmod path mode) it fresh serves task called (chmods_end_alike world names name path mode)
+    change_ends world names name (Chmod path mode) it fresh serves task called
+    (chmods_end_alike world names name path mode)
     (overlay_chmods_end_alike world names name path mode))
 
 pub each_chown_ends_alike : EachChownEndsAlike
@@ -175,7 +179,8 @@ each_open_ends_alike world names name path access how it fresh serves =
         (overlay_opens_end_alike world names name path access how it task called fresh serves file wanted judged)
     of task called (ToOpenNew directory entry node wanted) judged any =
         either (is_overlay (filesystem_at nat_eq world directory))
-        (new_opens_end_alike world names name path access how it task called fresh serves directory entry node wanted judged)
+        (new_opens_end_alike world names name path access how it task called fresh serves directory entry node wanted
+        judged)
         (overlay_new_opens_end_alike world names name path access how it task called fresh serves directory entry node
         wanted judged)
     of task called permit judged none = absurd none
@@ -196,7 +201,8 @@ each_part_write_ends_alike world names name descriptor offset (byte ∷ bytes) i
   where
     of : (task : Task ℕ) → task_called world name ≡ Some task → (permit : Permit ℕ)
         → judge_in nat_eq fresh world task (Pwrite descriptor offset (byte ∷ bytes)) ≡ Ok permit
-        → WritesPart (byte ∷ bytes) permit → EndsAlike world names name (Pwrite descriptor offset (byte ∷ bytes)) fresh fresh
+        → WritesPart (byte ∷ bytes) permit
+        → EndsAlike world names name (Pwrite descriptor offset (byte ∷ bytes)) fresh fresh
     of task called (ToWritePart file at written) judged same =
         either (is_overlay (filesystem_at nat_eq world file))
         (part_writes_end_alike world names name descriptor offset byte bytes it task called fresh fresh file at written

@@ -12,7 +12,8 @@ use Rattle.vt_laws_members_changes.specs.Changes.{EndsAlike, IsCallOfTheirs}
 use Rattle.vt_laws_members_changes.proofs.looks.Told.{ran}
 use Rattle.vt_laws_members_changes.proofs.tasks.Denied.{denial_ends_alike, run_by, unnamed_ends_alike}
 
-module _ (world : World ℕ) (names : List TaskName) (name : TaskName) (call : Call) (it : IsCallOfTheirs world names name call)
+module _ (world : World ℕ) (names : List TaskName) (name : TaskName) (call : Call)
+    (it : IsCallOfTheirs world names name call)
     (fresh other : Fresh ℕ) (looks : only_looks call ≡ false) where
   pub by_permit : ((task : Task ℕ) → task_called world name ≡ Some task → (permit : Permit ℕ)
       → judge_in nat_eq fresh world task call ≡ Ok permit → EndsAlike world names name call fresh other)

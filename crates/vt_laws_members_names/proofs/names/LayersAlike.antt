@@ -1,4 +1,5 @@
--- A change through an overlay makes the same in the part: lower layers of theirs show there what they show in the world.
+-- A change through an overlay makes the same in the part: lower layers of theirs show there what they show in the
+-- world.
 use Rattle.std.proofs.Common.{◌≡◌, refl, sym, ap, ◌∙◌, ℕ, suc, nat_eq, arith, Bool, true, false, cond, List, [], ◌∷◌, ◌++◌, Option, Some, None, is_some, map, not, option_and_then, subst, ◌+◌}
 use Rattle.std.specs.List.{list_any, slice_get}
 use Rattle.std.specs.Prelude.{⊤}
@@ -70,7 +71,8 @@ shown_alike [] (other ∷ others) none depth path = absurd none
 shown_alike (one ∷ ones) [] none depth path = absurd none
 shown_alike (one ∷ ones) (other ∷ others) same depth path =
     let leads = leads_alike one other same.0 same.1 path in
-    ap (λ o. shown_over (view_of one) depth o (cuts (view_of one) path) (shown_from (depth + 1) (map view_of ones) path))
+    ap (λ o. shown_over (view_of one) depth o (cuts (view_of one) path)
+    (shown_from (depth + 1) (map view_of ones) path))
     leads
     ∙ (λ i. shown_over (view_of one) depth ((view_of other).leads path) (cuts_alike one other same.0 same.1 path i)
     (shown_alike ones others same.2 (depth + 1) path i))
@@ -84,7 +86,8 @@ shown_alike (one ∷ ones) (other ∷ others) same depth path =
         ≡ shown_over (view_of other) depth o (cuts (view_of other) path) lower
     by None e = same_none (cuts (view_of other) path)
       where
-        same_none : (b : Bool) → shown_over (view_of one) depth None b lower ≡ shown_over (view_of other) depth None b lower
+        same_none : (b : Bool) → shown_over (view_of one) depth None b lower
+            ≡ shown_over (view_of other) depth None b lower
         same_none true = refl
         same_none false = refl
     by (Some object) e =
@@ -98,7 +101,8 @@ is_directory_at object layer = is_directory_node (layer.tree.node object)
 kind_alike : (ones others : List (OpenLayer ℕ)) → AllAlike ones others → (depth : ℕ) (path : List (List ℕ))
     (seen : Shown ℕ) → shown_from depth (map view_of others) path ≡ Some seen
     → (n : ℕ) × (seen.layer ≡ depth + n)
-    × (holds_of (is_directory_at seen.object) (slice_get ones n) ≡ holds_of (is_directory_at seen.object) (slice_get others n))
+    × (holds_of (is_directory_at seen.object) (slice_get ones n)
+    ≡ holds_of (is_directory_at seen.object) (slice_get others n))
 kind_alike [] [] same depth path seen e = none_is_some seen e
 kind_alike [] (other ∷ others) none depth path seen e = absurd none
 kind_alike (one ∷ ones) [] none depth path seen e = absurd none
@@ -139,7 +143,8 @@ kind_alike (one ∷ ones) (other ∷ others) same depth path seen e =
         )
 
 -- Two stacks of one directory and one mounter
-module _ (one other : Stack ℕ) (directory_same : one.directory ≡ other.directory) (mounter_same : one.mounter ≡ other.mounter)
+module _ (one other : Stack ℕ) (directory_same : one.directory ≡ other.directory)
+    (mounter_same : one.mounter ≡ other.mounter)
     (same : AllAlike one.lowers other.lowers) where
   lowers_shown : (merge : Merge ℕ) (directory : ℕ) (name : List ℕ)
       → shown_in_lowers_at nat_eq one merge directory name ≡ shown_in_lowers_at nat_eq other merge directory name

@@ -63,20 +63,24 @@ tasks_stay world names is sealed_off = record {
 }
 
 -- so ends a granted change of filesystems
-stepped_run : (w : World ℕ) (name : TaskName) (call : Call) (supply : Fresh ℕ) (location : Location ℕ) (change : Change ℕ)
+stepped_run : (w : World ℕ) (name : TaskName) (call : Call) (supply : Fresh ℕ) (location : Location ℕ)
+    (change : Change ℕ)
     (step : Filesystem ℕ → Filesystem ℕ) (numbers : List ℕ) → only_looks call ≡ false
     → with_change nat_eq supply w location change ≡ with_filesystems w step → changed_at nat_eq w location ≡ numbers
-    → finished nat_eq w name call (changed_at nat_eq w location) (granted Done (with_change nat_eq supply w location change))
+    → finished nat_eq w name call (changed_at nat_eq w location)
+    (granted Done (with_change nat_eq supply w location change))
     ≡ granted Done (numbers_raised nat_eq w name numbers (settled nat_eq (with_filesystems w step)))
 stepped_run w name call supply location change step numbers looks made listed =
     ap (λ b. finished_by nat_eq (b || false) w name (changed_at nat_eq w location)
     (granted Done (with_change nat_eq supply w location change))) looks
-    ∙ ap (λ l. granted Done (numbers_raised nat_eq w name l (settled nat_eq (with_change nat_eq supply w location change))))
+    ∙ ap (λ l. granted Done (numbers_raised nat_eq w name l
+    (settled nat_eq (with_change nat_eq supply w location change))))
     listed
     ∙ ap (λ v. granted Done (numbers_raised nat_eq w name numbers (settled nat_eq v))) made
 
 -- A granted call by which a name comes or goes through an overlay
-module _ (world : World ℕ) (names : List TaskName) (name : TaskName) (call : Call) (it : IsCallOfTheirs world names name call)
+module _ (world : World ℕ) (names : List TaskName) (name : TaskName) (call : Call)
+    (it : IsCallOfTheirs world names name call)
     (fresh : Fresh ℕ) (serves : Serves nat_eq world fresh) (task : Task ℕ) (found : task_called world name ≡ Some task)
     (looks : only_looks call ≡ false) (stays : grown names name call (Ok Done) ≡ names) (permit : Permit ℕ)
     (judged : judge_in nat_eq fresh world task call ≡ Ok permit) (location : Location ℕ) (change : Change ℕ)
@@ -127,7 +131,8 @@ module _ (world : World ℕ) (names : List TaskName) (name : TaskName) (call : C
           (two ∙ unwritten_run part name call supply location change merged overlay looks (sym alike) overlaid none)
       layered overlay overlaid (Some upper) has =
           let may = can overlay upper overlaid has in
-          changed_ends world names name call it supply location change overlay upper may direct alike world.tasks part.tasks
+          changed_ends world names name call it supply location change overlay upper may direct alike world.tasks
+          part.tasks
           (tasks_stay world names it.is it.sealed_off) (same_members world names)
           (λ t m. (among-from_filter (is_member_task names) world.tasks t m).1) direct task found fresh Done stays
           (one ∙ stepped_run world name call supply location change _ _ looks
@@ -145,7 +150,8 @@ module _ (world : World ℕ) (names : List TaskName) (name : TaskName) (call : C
 pub overlay_makings_end : (world : World ℕ) (names : List TaskName) (name : TaskName) (call : Call)
     → only_looks call ≡ false → grown names name call (Ok Done) ≡ names → OverlayMakingEndsAlike world names name call
 overlay_makings_end world names name call looks stays it task found fresh serves directory entry node judged is =
-    naming_through_ends world names name call it fresh serves task found looks stays (ToMake directory entry node) judged
+    naming_through_ends world names name call it fresh serves task found looks stays (ToMake directory entry node)
+    judged
     directory (Make directory.node entry (evens fresh 0) node) refl tt is
     (ap (run_by world names name call it fresh fresh world fresh task) judged)
     (ap (run_by world names name call it fresh fresh (part_of nat_eq world names) fresh task)
@@ -159,7 +165,8 @@ overlay_symlinks_end_alike world names name text path =
     overlay_makings_end world names name (SymlinkAt text path) refl refl
 
 pub overlay_new_files_end_alike : OverlayNewFilesEndAlike
-overlay_new_files_end_alike world names name path bytes = overlay_makings_end world names name (Write path bytes) refl refl
+overlay_new_files_end_alike world names name path bytes =
+    overlay_makings_end world names name (Write path bytes) refl refl
 
 -- calls that give or take a name
 pub overlay_changes_end : (world : World ℕ) (names : List TaskName) (name : TaskName) (call : Call)
@@ -186,7 +193,8 @@ links_name world fresh task asked permit other_way first second e location chang
 
 pub overlay_links_end_alike : OverlayLinksEndAlike
 overlay_links_end_alike world names name first second it task found fresh serves location change judged is =
-    overlay_changes_end world names name (LinkTo first second) it task found fresh serves refl refl location change judged
+    overlay_changes_end world names name (LinkTo first second) it task found fresh serves refl refl location change
+    judged
     (links_name world fresh task (LinkTo first second) (ToChange location change)
     (calls_are_granted nat_eq (looks_of nat_eq world) (overfills nat_eq fresh world task) task (LinkTo first second)
     (ToChange location change) judged) first second refl location change refl) is

@@ -87,7 +87,8 @@ module _ (world : World ℕ) (names : List TaskName) (is : IsWorld nat_eq world)
       (subst (λ o. Among upper (option_to_list o)) (sym has) (inl refl))))
 
 -- An overlay with an upper layer, in whose tree a name comes or goes
-module _ (world : World ℕ) (names : List TaskName) (name : TaskName) (call : Call) (it : IsCallOfTheirs world names name call)
+module _ (world : World ℕ) (names : List TaskName) (name : TaskName) (call : Call)
+    (it : IsCallOfTheirs world names name call)
     (supply : Fresh ℕ) (location : Location ℕ) (change : Change ℕ) (overlay : Overlay ℕ) (upper : Layer ℕ)
     (can : CanChange supply world location change overlay upper)
     (direct : Among (mount_at nat_eq world location).filesystem (used_directly nat_eq world names))
@@ -145,7 +146,8 @@ module _ (world : World ℕ) (names : List TaskName) (name : TaskName) (call : C
     kept : (x : Filesystem ℕ) → is_among nat_eq x.number used ≡ false → moved x ≡ x
     kept x unused =
         step_kept supply world names location change overlay upper it.is can direct alike x
-        (apart one.number one_used (nat_eq one.number x.number) refl) (apart two.number two_used (nat_eq two.number x.number) refl)
+        (apart one.number one_used (nat_eq one.number x.number) refl)
+        (apart two.number two_used (nat_eq two.number x.number) refl)
       where
         apart : (n : ℕ) → is_among nat_eq n used ≡ true → (b : Bool) → nat_eq n x.number ≡ b → nat_eq n x.number ≡ false
         apart n is true e =

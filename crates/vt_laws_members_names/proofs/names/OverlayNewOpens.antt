@@ -48,7 +48,8 @@ new_inserted new (first ∷ rest) = by (nat_lt new.number first.number) (new_ins
     by false later = inr later
 
 -- The caller opens a file where members get.
-module _ (world : World ℕ) (names : List TaskName) (name : TaskName) (call : Call) (it : IsCallOfTheirs world names name call)
+module _ (world : World ℕ) (names : List TaskName) (name : TaskName) (call : Call)
+    (it : IsCallOfTheirs world names name call)
     (task : Task ℕ) (found : task_called world name ≡ Some task) (file : Location ℕ) (wanted : Access)
     (ground : IsTheirs world names it.is.mounts file.mount) where
   abbrev pub mine : Task ℕ
@@ -122,13 +123,14 @@ opened_run : (w : World ℕ) (name : TaskName) (path : List ℕ) (access : Acces
     (record w { tasks = map (replaced_if_called (with_descriptor task file wanted)) w.tasks }) step)))
 opened_run w name path access how supply location change task file wanted step numbers made listed =
     ap (λ l. granted (Opened (free_number task)) (numbers_raised nat_eq w name l
-    (settled nat_eq (with_task (with_change nat_eq supply w location change) (with_descriptor task file wanted))))) listed
+    (settled nat_eq (with_task (with_change nat_eq supply w location change) (with_descriptor task file wanted)))))
+    listed
     ∙ ap (λ v. granted (Opened (free_number task)) (numbers_raised nat_eq w name numbers
     (settled nat_eq (with_task v (with_descriptor task file wanted))))) made
 
 pub overlay_new_opens_end_alike : OverlayNewOpensEndAlike
-overlay_new_opens_end_alike world names name path access how it task found fresh serves directory entry node wanted judged
-    is =
+overlay_new_opens_end_alike world names name path access how it task found fresh serves directory entry node wanted
+    judged is =
     by merged.overlay refl
   where
     call : Call
@@ -174,7 +176,8 @@ overlay_new_opens_end_alike world names name path access how it task found fresh
         (sym (ap (λ o. not (is_some o)) none)
         ∙ sym (ap (overlay_or false (λ (v : Overlay ℕ). not (is_some v.upper))) overlaid) ∙ spared.layer))
     layered overlay overlaid (Some upper) has =
-        let may = permits_can_change world fresh task call (ToOpenNew directory entry node wanted) directory change overlay
+        let may =
+        permits_can_change world fresh task call (ToOpenNew directory entry node wanted) directory change overlay
         upper it.is serves itself judged refl overlaid has in
         changed_ends world names name call it (odds fresh) directory change overlay upper may direct alike
         (map (replaced_if_called (with_descriptor task file wanted)) world.tasks)
@@ -184,7 +187,8 @@ overlay_new_opens_end_alike world names name path access how it task found fresh
         (stands world names name call it task found file wanted ground))
         (all_in_set world names name call it task found (with_descriptor task file wanted)
         (stands world names name call it task found file wanted ground))
-        (file_used world names name call it task found file wanted ground) task found fresh (Opened (free_number task)) refl
+        (file_used world names name call it task found file wanted ground) task found fresh
+        (Opened (free_number task)) refl
         (ap (run_by world names name call it fresh fresh world fresh task) judged
         ∙ opened_run world name path access how (odds fresh) directory change task file wanted _ _
         (changed_in_world world names name call it (odds fresh) directory change overlay upper may direct alike)

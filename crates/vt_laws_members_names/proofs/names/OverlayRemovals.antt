@@ -1,5 +1,5 @@
--- A call of theirs that removes a directory, or that renames, through an overlay ends in the part as in the world, if no
--- mount of another namespace of theirs is on what goes.
+-- A call of theirs that removes a directory, or that renames, through an overlay ends in the part as in the world, if
+-- no mount of another namespace of theirs is on what goes.
 use Rattle.std.proofs.Common.{◌≡◌, refl, sym, ap, subst, ◌∙◌, ⊎_elim, ℕ, nat_eq, true, false, true≢false, List, [], Option, Some, None, Ok, is_some}
 use Rattle.std.specs.Prelude.{option_map, option_to_list}
 use Rattle.vt_spec.specs.Language.Answers.Answer.{Done}
@@ -77,13 +77,15 @@ module _ (world : World ℕ) (names : List TaskName) (is : IsWorld nat_eq world)
           (λ none. absurd none) n
 
       above : (o : Option (Layer ℕ)) → overlay.upper ≡ o
-          → Among point (option_to_list (then_some o (λ layer. object_of layer (upper_object (overlay.real gone.node)))))
+          → Among point (option_to_list (then_some o
+          (λ layer. object_of layer (upper_object (overlay.real gone.node)))))
           → used_alone nat_eq world names point.0 ≡ true
       above None e n = absurd n
       above (Some layer) e n = of_object layer e (upper_object (overlay.real gone.node)) n
 
 -- The change is made after the mounts on what goes are taken away, and there are none.
-module _ (world : World ℕ) (names : List TaskName) (name : TaskName) (call : Call) (it : IsCallOfTheirs world names name call)
+module _ (world : World ℕ) (names : List TaskName) (name : TaskName) (call : Call)
+    (it : IsCallOfTheirs world names name call)
     (fresh : Fresh ℕ) (serves : Serves nat_eq world fresh) (task : Task ℕ) (found : task_called world name ≡ Some task)
     (looks : only_looks call ≡ false) (stays : grown names name call (Ok Done) ≡ names) (gone : Location ℕ)
     (permit : Permit ℕ) (judged : judge_in nat_eq fresh world task call ≡ Ok permit) (location : Location ℕ)
@@ -94,7 +96,8 @@ module _ (world : World ℕ) (names : List TaskName) (name : TaskName) (call : C
     (elsewhere : mounted_elsewhere world names task (Some gone) ≡ false)
     (runs : (w : World ℕ) → run_by world names name call it fresh fresh w fresh task (Ok permit)
     ≡ finished nat_eq w name call (changed_at nat_eq (without_mounts_on nat_eq w gone) location)
-    (granted Done (with_change nat_eq (numbers_left fresh permit) (without_mounts_on nat_eq w gone) location change))) where
+    (granted Done (with_change nat_eq (numbers_left fresh permit) (without_mounts_on nat_eq w gone) location
+    change))) where
   abbrev part : World ℕ
   part = part_of nat_eq world names
 
@@ -125,7 +128,8 @@ module _ (world : World ℕ) (names : List TaskName) (name : TaskName) (call : C
 
   pub removal_through_ends : EndsAlike world names name call fresh fresh
   removal_through_ends =
-      naming_through_ends world names name call it fresh serves task found looks stays permit judged location change asks
+      naming_through_ends world names name call it fresh serves task found looks stays permit judged location change
+      asks
       names_it is
       (ap (run_by world names name call it fresh fresh world fresh task) judged
       ∙ run_without world (none_taken world names it.is it.sealed_off gone none))
@@ -148,8 +152,8 @@ overlay_rmdirs_end_alike world names name path it task found fresh serves parent
     none (λ w. refl)
 
 pub overlay_renames_end_alike : OverlayRenamesEndAlike
-overlay_renames_end_alike world names name first second it task found fresh serves from old to new object replaced judged
-    is none =
+overlay_renames_end_alike world names name first second it task found fresh serves from old to new object replaced
+    judged is none =
     by replaced judged none
   where
     change : Change ℕ

@@ -34,7 +34,8 @@ use Rattle.vt_laws_members_names.proofs.names.SteppedReady.{ChangesTheirs, stepp
 module _ (before : World ℕ) (in_use : AllInUse before) (private_ones : DetachedArePrivate before) (set : List TaskName)
     (tasks : List (Task ℕ)) (step : Filesystem ℕ → Filesystem ℕ) (name : TaskName) (numbers used : List ℕ)
     (lowers : List (Layer ℕ))
-    (ready : Ready (without_dead_mounts nat_eq (with_filesystems (record before { tasks = tasks }) step)) set used lowers)
+    (ready : Ready (without_dead_mounts nat_eq (with_filesystems (record before { tasks = tasks }) step)) set used
+    lowers)
     (theirs : (n : ℕ) → Among n numbers → is_among nat_eq n used ≡ true) where
   abbrev pub changed : World ℕ
   changed = with_filesystems (record before { tasks = tasks }) step
@@ -62,7 +63,8 @@ module _ (before : World ℕ) (in_use : AllInUse before) (private_ones : Detache
       by true = same x
       by false = refl
 
-  raise_kept : (x : Filesystem ℕ) → is_among nat_eq x.number (used_filesystems nat_eq (settled nat_eq changed) set) ≡ false
+  raise_kept : (x : Filesystem ℕ) → is_among nat_eq x.number (used_filesystems nat_eq (settled nat_eq changed) set)
+      ≡ false
       → raise x ≡ x
   raise_kept x unused = by (list_any (λ n. nat_eq n x.number) numbers) refl
     where
@@ -115,7 +117,8 @@ module _ (world : World ℕ) (names set : List TaskName) (name : TaskName) (call
   abbrev pub living_part : World ℕ
   living_part = without_dead_mounts nat_eq now_part
 
-  module _ (theirs : ChangesTheirs living set used_now step) (theirs_there : ChangesTheirs living_part set used_now step)
+  module _ (theirs : ChangesTheirs living set used_now step)
+      (theirs_there : ChangesTheirs living_part set used_now step)
     where
       ready : Ready (without_dead_mounts nat_eq (with_filesystems now step)) set used_now lowers_now
       ready =
@@ -134,7 +137,8 @@ module _ (world : World ℕ) (names set : List TaskName) (name : TaskName) (call
           (now_less world names it.is set tasks tasks_too world.change part.change
           (sees_less world names it.is it.sealed_off set tasks world.change lets) same)
 
-      parts_stepped : part_of nat_eq (with_filesystems now step) set ≡ part_of nat_eq (with_filesystems now_part step) set
+      parts_stepped : part_of nat_eq (with_filesystems now step) set
+          ≡ part_of nat_eq (with_filesystems now_part step) set
       parts_stepped =
           part_with_layers now set step theirs.numbered theirs.changing theirs.lowering theirs.kept
           ∙ ap (λ w. with_filesystems w step)
@@ -160,18 +164,22 @@ module _ (world : World ℕ) (names set : List TaskName) (name : TaskName) (call
 
         parts_left : part_of nat_eq ends_here set ≡ part_of nat_eq ends_there set
         parts_left =
-            part_of_raised world (all_in_use world it.is) (private_in_world world it.is) set tasks step name numbers used_now
+            part_of_raised world (all_in_use world it.is) (private_in_world world it.is) set tasks step name numbers
+            used_now
             lowers_now ready used
             ∙ (λ i. record (with_filesystems (swept_parts i) (raised_if_changed nat_eq numbers)) {
               tasks = (raised_members set name tasks ∙ ap (map (raised_task name)) (sym same)
                   ∙ sym (raised_members set name tasks_too)) i;
             })
-            ∙ sym (part_of_raised part (part_in_use world names it.is it.sealed_off) (private_in_part world names it.is) set
+            ∙ sym (part_of_raised part (part_in_use world names it.is it.sealed_off)
+            (private_in_part world names it.is) set
             tasks_too step name numbers used_now lowers_now ready_there used)
 
-        pub stepped_ends : (task : Task ℕ) → task_called world name ≡ Some task → (fresh other : Fresh ℕ) (answer : Answer)
+        pub stepped_ends : (task : Task ℕ) → task_called world name ≡ Some task → (fresh other : Fresh ℕ)
+            (answer : Answer)
             → grown names name call (Ok answer) ≡ set → ran name call world fresh (Some task) ≡ granted answer ends_here
-            → ran name call part other (Some task) ≡ granted answer ends_there → EndsAlike world names name call fresh other
+            → ran name call part other (Some task) ≡ granted answer ends_there
+            → EndsAlike world names name call fresh other
         stepped_ends task called fresh other answer stays one two =
             let first : policy nat_eq fresh world name call ≡ granted answer ends_here =
             ap (ran name call world fresh) called ∙ one in
