@@ -60,7 +60,8 @@ found_before w new n other =
     (none_among (λ (f : Filesystem ℕ). nat_eq n f.number) new other)))
 
 -- what is used, by what is used directly
-pub used_how : (w : World ℕ) (names : List TaskName) (n : ℕ) → is_among nat_eq n (used_filesystems nat_eq w names) ≡ true
+pub used_how : (w : World ℕ) (names : List TaskName) (n : ℕ) → is_among nat_eq n (used_filesystems nat_eq w names)
+    ≡ true
     → Among n (used_directly nat_eq w names)
     ⊎ ((d : ℕ) × Among d (used_directly nat_eq w names) × Among n (change_layers (filesystem_numbered nat_eq w d)))
 used_how w names n h =
@@ -163,7 +164,7 @@ module _ (v : World ℕ) (names : List TaskName) (change : Mount ℕ → Mount �
       ∙ ap (λ l. map change (filter_map kept v.mounts) ++ l)
       (filter_map_all kept added (λ x m. own_kept x (it.ours x m)))
 
-  as_before : (x : Mount ℕ) → Among x v.mounts
+  pub as_before : (x : Mount ℕ) → Among x v.mounts
       → ((change x).number ≡ x.number) × ((change x).filesystem ≡ x.filesystem)
   as_before x m = by (owns x) refl
     where
@@ -188,7 +189,7 @@ module _ (v : World ℕ) (names : List TaskName) (change : Mount ℕ → Mount �
           absurd (true≢false (sym own ∙ ap owns (e ∙ (it.others x n f).0) ∙ f))
 
   -- a mount of before is found, and shows what it showed
-  shows_still : (number : ℕ) → is_among nat_eq number (map (λ (m : Mount ℕ). m.number) v.mounts) ≡ true
+  pub shows_still : (number : ℕ) → is_among nat_eq number (map (λ (m : Mount ℕ). m.number) v.mounts) ≡ true
       → (mount_in nat_eq u.mounts number).filesystem ≡ (mount_in nat_eq v.mounts number).filesystem
   shows_still number = search v.mounts (λ x m. m)
     where
@@ -333,7 +334,7 @@ module _ (v : World ℕ) (names : List TaskName) (change : Mount ℕ → Mount �
   changes overlay =
       map (λ (layer : Layer ℕ). layer.filesystem) (option_to_list overlay.upper ++ option_to_list overlay.work)
 
-  used_same : (n : ℕ) → fresh_one n ≡ false → is_among nat_eq n (used_filesystems nat_eq u names)
+  pub used_same : (n : ℕ) → fresh_one n ≡ false → is_among nat_eq n (used_filesystems nat_eq u names)
       ≡ is_among nat_eq n (used_filesystems nat_eq v names)
   used_same n other =
       same_truth (is_among nat_eq n (used_filesystems nat_eq u names))
@@ -348,7 +349,7 @@ module _ (v : World ℕ) (names : List TaskName) (change : Mount ℕ → Mount �
       (subst (Among n) (sym (of_same changes layer.0 layer.1)) layer.2))
       (used_how v names n h))
 
-  lowers_same : (test : Layer ℕ → Bool) → list_any test (own_lowers nat_eq u names)
+  pub lowers_same : (test : Layer ℕ → Bool) → list_any test (own_lowers nat_eq u names)
       ≡ list_any test (own_lowers nat_eq v names)
   lowers_same test =
       same_truth (list_any test (own_lowers nat_eq u names)) (list_any test (own_lowers nat_eq v names))
