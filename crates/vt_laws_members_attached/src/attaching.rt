@@ -10,7 +10,7 @@ ghost use Rattle.vt_laws_members_attached.specs.Attaching.{BindsEndAlike, MovesE
 /// Filesystem, mounts and groups take their numbers from the supply. So the call ends alike by one supply in both runs
 /// (`EndsAlikeByOne`), of numbers that the world does not use, each another.
 ///
-/// Nothing goes after a `mount plain` (`mount_plain`) and a `bind` (`bind`). After a `move` (`move_mount`), what nothing
+/// Nothing goes after a `mount plain` (`mount_plain`) and a `bind` (`bind`). After a `move` (`move_mount`) what nothing
 /// uses any longer goes in both. Not proved yet of `mount overlay`.
 pub fn calls_of_theirs_that_attach_mounts_end_alike()
     ensures mount_plain { PlainMountsEndAlike }
