@@ -31,8 +31,8 @@ module _ (w : World ℕ) (gone : List ℕ) where
         mounts = map (λ m. regrouped_mount b left_by (after_going nat_eq w gone m)) w.mounts;
         namespaces = filter (λ (n : Namespace ℕ). true) w.namespaces;
       }
-  taken_so b flag =
-      ap (λ c. regrouped_by nat_eq c left_by) flag
+  taken_so b lost =
+      ap (λ c. regrouped_by nat_eq c left_by) lost
       ∙ regroup_is b left_by
       ∙ (λ i. record (regrouped_so b left_by) {
         mounts = map_twice (regrouped_mount b left_by) (after_going nat_eq w gone) w.mounts i;
@@ -47,29 +47,34 @@ module _ (world : World ℕ) (names : List TaskName) (is : IsWorld nat_eq world)
   abbrev part : World ℕ
   part = part_of nat_eq world names
 
-  abbrev pub flag : Bool
-  flag = list_any (lost_a_group nat_eq (record world { mounts = map (after_going nat_eq world gone) world.mounts }))
+  -- whether some mount lost its group or its master
+  abbrev pub group_lost : Bool
+  group_lost =
+      list_any (lost_a_group nat_eq (record world { mounts = map (after_going nat_eq world gone) world.mounts }))
       (map (after_going nat_eq world gone) world.mounts)
 
-  abbrev pub lasts : ℕ → Bool
-  lasts n = true
+  abbrev pub all_last : ℕ → Bool
+  all_last n = true
 
-  abbrev pub fewer : SetIsLess world names is names world.tasks
-  fewer = less_of_fewer world names is names world.tasks (λ t m. m)
+  abbrev pub set_stays : SetIsLess world names is names world.tasks
+  set_stays = less_of_fewer world names is names world.tasks (λ t m. m)
 
-  abbrev pub v : World ℕ
-  v = ended world names is sealed_off names gone own_go lasts world.tasks part.tasks world.change part.change
-      (same_members world names) fewer flag
+  -- what is left of the world, and of the part
+  abbrev pub world_after : World ℕ
+  world_after =
+      ended world names is sealed_off names gone own_go all_last world.tasks part.tasks world.change part.change
+      (same_members world names) set_stays group_lost
 
-  abbrev pub v_part : World ℕ
-  v_part = ended_part world names is sealed_off names gone own_go lasts world.tasks part.tasks world.change part.change
-      (same_members world names) fewer flag
+  abbrev pub part_after : World ℕ
+  part_after =
+      ended_part world names is sealed_off names gone own_go all_last world.tasks part.tasks world.change part.change
+      (same_members world names) set_stays group_lost
 
-  pub world_taken : taken_away nat_eq world gone ≡ v
-  world_taken = taken_so world gone flag refl
+  pub world_taken : taken_away nat_eq world gone ≡ world_after
+  world_taken = taken_so world gone group_lost refl
 
-  pub part_taken : taken_away nat_eq part gone ≡ v_part
-  part_taken = taken_so part gone flag (sym (flags_same world names is sealed_off gone own_go))
+  pub part_taken : taken_away nat_eq part gone ≡ part_after
+  part_taken = taken_so part gone group_lost (sym (flags_same world names is sealed_off gone own_go))
 
   pub taken_parts : (name : TaskName) → MountInvariants nat_eq (taken_away nat_eq world gone)
       → MountInvariants nat_eq (taken_away nat_eq part gone)
@@ -77,8 +82,8 @@ module _ (world : World ℕ) (names : List TaskName) (is : IsWorld nat_eq world)
       ≡ part_of nat_eq (numbers_raised nat_eq part name [] (settled nat_eq (taken_away nat_eq part gone))) names
   taken_parts name kept_world kept_part =
       ap (λ w. part_of nat_eq (numbers_raised nat_eq world name [] (settled nat_eq w)) names) world_taken
-      ∙ detached_parts world names is sealed_off names gone own_go lasts world.tasks part.tasks world.change part.change
-      (same_members world names) fewer (λ l m. m)
-      (λ t m. (among-from_filter (is_member_task names) world.tasks t m).1) (λ m there out its. its) flag
+      ∙ detached_parts world names is sealed_off names gone own_go all_last world.tasks part.tasks world.change
+      part.change (same_members world names) set_stays (λ l m. m)
+      (λ t m. (among-from_filter (is_member_task names) world.tasks t m).1) (λ m there out its. its) group_lost
       (subst (MountInvariants nat_eq) world_taken kept_world) (subst (MountInvariants nat_eq) part_taken kept_part) name
       ∙ sym (ap (λ w. part_of nat_eq (numbers_raised nat_eq part name [] (settled nat_eq w)) names) part_taken)

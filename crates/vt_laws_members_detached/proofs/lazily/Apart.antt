@@ -23,7 +23,7 @@ use Rattle.vt_laws_members.proofs.judging.MountPoints.{part_mount}
 use Rattle.vt_laws_members_changes.proofs.letting_go.Heard.{IsHeard, above_heard, apart, heard_by_own}
 use Rattle.vt_laws_members_changes.proofs.letting_go.NamespaceLess.{ended, ended_by, ended_mount, ended_part, member_was, placed_so}
 use Rattle.vt_laws_members_changes.proofs.letting_go.Regrouped.{left, left_part, master_after}
-use Rattle.vt_laws_members_changes.proofs.letting_go.Taken.{fewer, lasts}
+use Rattle.vt_laws_members_changes.proofs.letting_go.Taken.{all_last, set_stays}
 
 -- a member receives from its group
 group_source : (kind : Propagation ℕ) (g : ℕ) → group_of kind ≡ Some g → source_of kind ≡ Some g
@@ -46,13 +46,14 @@ module _ (world : World ℕ) (names : List TaskName) (is : IsWorld nat_eq world)
   t = left world names is sealed_off gone own_go
 
   abbrev here : World ℕ
-  here = ended world names is sealed_off names gone own_go (lasts world names is sealed_off gone own_go) world.tasks
-      part.tasks world.change part.change (same_members world names) (fewer world names is sealed_off gone own_go) b
+  here = ended world names is sealed_off names gone own_go (all_last world names is sealed_off gone own_go) world.tasks
+      part.tasks world.change part.change (same_members world names) (set_stays world names is sealed_off gone own_go) b
 
   abbrev there : World ℕ
   there =
-      ended_part world names is sealed_off names gone own_go (lasts world names is sealed_off gone own_go) world.tasks
-      part.tasks world.change part.change (same_members world names) (fewer world names is sealed_off gone own_go) b
+      ended_part world names is sealed_off names gone own_go
+      (all_last world names is sealed_off gone own_go) world.tasks
+      part.tasks world.change part.change (same_members world names) (set_stays world names is sealed_off gone own_go) b
 
   abbrev after : Mount ℕ → Mount ℕ
   after = ended_mount b t world gone
@@ -136,7 +137,7 @@ module _ (world : World ℕ) (names : List TaskName) (is : IsWorld nat_eq world)
   group_was x g e =
       member_group g x (member_was b t world gone g x (ap (holds_of (nat_eq g)) e ∙ eq-eqb g g refl))
 
-  -- of whose groups and masters another mount is no member, from those it receives nothing
+  -- a mount receives nothing from one that is a member of none of these groups
   none_held : (z : Mount ℕ) (o : Option ℕ) → ((g : ℕ) → o ≡ Some g → is_member_of nat_eq g z ≡ true → ⊥)
       → holds_of (λ g. is_member_of nat_eq g z) o ≡ false
   none_held z None never = refl

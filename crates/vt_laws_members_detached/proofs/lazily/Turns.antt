@@ -24,7 +24,7 @@ use Rattle.vt_laws_members_changes.proofs.letting_go.LessSeen.{one_part}
 use Rattle.vt_laws_members_changes.proofs.letting_go.NamespaceLess.{ended_less, ended_mount, own_before, placed_so, shape_kept}
 use Rattle.vt_laws_members_changes.proofs.letting_go.PartMounts.{part_mounts}
 use Rattle.vt_laws_members_changes.proofs.letting_go.Regrouped.{left, left_part, mount_alike}
-use Rattle.vt_laws_members_changes.proofs.letting_go.Taken.{fewer, flag, lasts, part_taken, v, v_part, world_taken}
+use Rattle.vt_laws_members_changes.proofs.letting_go.Taken.{all_last, group_lost, part_after, part_taken, set_stays, world_after, world_taken}
 use Rattle.vt_laws_members_detached.proofs.lazily.Apart.{apart_here, apart_there}
 use Rattle.vt_laws_members_detached.proofs.lazily.Cleared.{cleared_keeps, going_same, keeps_before}
 use Rattle.vt_laws_members_detached.proofs.lazily.GoingAlike.{going_alike, going_own}
@@ -89,13 +89,13 @@ module _ (world : World ℕ) (names : List TaskName) (is : IsWorld nat_eq world)
       (it_there : TookAway part now_part gone) (mount : Mount ℕ) (at : Among mount world.mounts)
       (own : is_own world names theirs mount ≡ true) where
     abbrev b : Bool
-    b = flag world names is sealed_off gone own_go
+    b = group_lost world names is sealed_off gone own_go
 
     abbrev here : World ℕ
-    here = v world names is sealed_off gone own_go
+    here = world_after world names is sealed_off gone own_go
 
     abbrev there : World ℕ
-    there = v_part world names is sealed_off gone own_go
+    there = part_after world names is sealed_off gone own_go
 
     abbrev after : Mount ℕ → Mount ℕ
     after = ended_mount b (left world names is sealed_off gone own_go) world gone
@@ -170,8 +170,9 @@ module _ (world : World ℕ) (names : List TaskName) (is : IsWorld nat_eq world)
         ∙ ap (λ w. going nat_eq w (after mount))
         (one_part world names is names here there
         (ended_less world names is sealed_off names gone own_go
-        (lasts world names is sealed_off gone own_go) world.tasks
-        part.tasks world.change part.change (same_members world names) (fewer world names is sealed_off gone own_go) b))
+        (all_last world names is sealed_off gone own_go) world.tasks
+        part.tasks world.change part.change (same_members world names)
+        (set_stays world names is sealed_off gone own_go) b))
         ∙ going_alike here names kept_here (apart_here world names is sealed_off gone own_go b) (after mount)
         (among-map after world.mounts mount at) (own_after h)
 
@@ -182,9 +183,10 @@ module _ (world : World ℕ) (names : List TaskName) (is : IsWorld nat_eq world)
         let its = going_own here names kept_here (apart_here world names is sealed_off gone own_go b) (after mount)
         m.number (among-map after world.mounts mount at) (own_after h) (among_numbers list m.number later) in
         let from = among-from_map after world.mounts its.0 its.1 in
-        let was = own_before world names is sealed_off names gone own_go (lasts world names is sealed_off gone own_go)
+        let was = own_before world names is sealed_off names gone own_go
+        (all_last world names is sealed_off gone own_go)
         world.tasks part.tasks world.change part.change (same_members world names)
-        (fewer world names is sealed_off gone own_go) b from.0
+        (set_stays world names is sealed_off gone own_go) b from.0
         (ap (is_own world names theirs) (sym from.2) ∙ its.2) in
         let number : from.0.number ≡ m.number =
         sym (ap (λ (q : Mount ℕ). q.number) from.2
@@ -217,7 +219,8 @@ module _ (world : World ℕ) (names : List TaskName) (is : IsWorld nat_eq world)
             (unmounted_by now_part (is_some (mount_numbered nat_eq now_part mount.number).namespace))
             → (all : List ℕ) × OwnGo all
             × TookAway world (unmounted_by now (is_some (mount_numbered nat_eq now mount.number).namespace)) all
-            × TookAway part (unmounted_by now_part (is_some (mount_numbered nat_eq now_part mount.number).namespace)) all
+            × TookAway part
+            (unmounted_by now_part (is_some (mount_numbered nat_eq now_part mount.number).namespace)) all
         by true e f g k l =
             let taken : unmounted_by now (is_some (mount_numbered nat_eq now mount.number).namespace)
             ≡ taken_away nat_eq now list =

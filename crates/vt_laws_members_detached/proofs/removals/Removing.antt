@@ -45,7 +45,7 @@ use Rattle.vt_laws_members_changes.proofs.files.FilesEnding.{no_overlay}
 use Rattle.vt_laws_members_changes.proofs.files.FilesRaised.{swap}
 use Rattle.vt_laws_members_changes.proofs.files.OneFilesystem.{found_numbered}
 use Rattle.vt_laws_members_changes.proofs.letting_go.PartMounts.{part_mounts}
-use Rattle.vt_laws_members_changes.proofs.letting_go.Taken.{part_taken, v, v_part, world_taken}
+use Rattle.vt_laws_members_changes.proofs.letting_go.Taken.{part_after, part_taken, world_after, world_taken}
 use Rattle.vt_laws_members_changes.proofs.looks.Told.{member_called, ran, same_caller}
 use Rattle.vt_laws_members_changes.proofs.names.Elsewhere.{own_here, plain_points}
 use Rattle.vt_laws_members_changes.proofs.names.GrantedNames.{Names}
@@ -134,10 +134,10 @@ module _ (world : World ℕ) (names : List TaskName) (name : TaskName) (call : C
   own = own_go world names it.is gone on_gone only_own
 
   abbrev here : World ℕ
-  here = v world names it.is it.sealed_off list own
+  here = world_after world names it.is it.sealed_off list own
 
   abbrev there : World ℕ
-  there = v_part world names it.is it.sealed_off list own
+  there = part_after world names it.is it.sealed_off list own
 
   same_list : taken_away nat_eq part list ≡ without_mounts_on nat_eq part gone
   same_list = ap (taken_away nat_eq part) (sym (same_going world names it.is gone on_gone only_own))

@@ -14,7 +14,7 @@ use Rattle.vt_laws_part.proofs.part.PartOfPart.{is_own, same_members, used_direc
 use Rattle.vt_laws_members.proofs.judging.Grounds.{IsTheirs, its_mount}
 use Rattle.vt_laws_members_changes.proofs.letting_go.NamespaceLess.{ended_mount, filesystem_after, placed_so, shape_kept}
 use Rattle.vt_laws_members_changes.proofs.letting_go.Regrouped.{left, left_part}
-use Rattle.vt_laws_members_changes.proofs.letting_go.Taken.{fewer, flag, lasts, v, v_part}
+use Rattle.vt_laws_members_changes.proofs.letting_go.Taken.{all_last, group_lost, part_after, set_stays, world_after}
 
 -- mounts that keep their numbers and filesystems, by their numbers
 mapped_filesystem : (f : Mount ℕ → Mount ℕ) → ((m : Mount ℕ) → (f m).number ≡ m.number)
@@ -48,13 +48,13 @@ module _ (world : World ℕ) (names : List TaskName) (is : IsWorld nat_eq world)
   part = part_of nat_eq world names
 
   abbrev here : World ℕ
-  here = v world names is sealed_off gone own_go
+  here = world_after world names is sealed_off gone own_go
 
   abbrev there : World ℕ
-  there = v_part world names is sealed_off gone own_go
+  there = part_after world names is sealed_off gone own_go
 
   abbrev is_flagged : Bool
-  is_flagged = flag world names is sealed_off gone own_go
+  is_flagged = group_lost world names is sealed_off gone own_go
 
   abbrev after : Mount ℕ → Mount ℕ
   after = ended_mount is_flagged (left world names is sealed_off gone own_go) world gone
@@ -112,8 +112,8 @@ module _ (world : World ℕ) (names : List TaskName) (is : IsWorld nat_eq world)
         among-append_right shown placed number
         (subst (λ n. Among n placed)
         (filesystem_after world names is sealed_off names gone own_go
-        (lasts world names is sealed_off gone own_go) world.tasks part.tasks world.change part.change
-        (same_members world names) (fewer world names is sealed_off gone own_go) is_flagged on.0 on.1 l e
+        (all_last world names is sealed_off gone own_go) world.tasks part.tasks world.change part.change
+        (same_members world names) (set_stays world names is sealed_off gone own_go) is_flagged on.0 on.1 l e
         ∙ ap (λ k. (mount_numbered nat_eq world k).filesystem) (e ∙ on.2))
         (among-map (λ (k : Location ℕ). (mount_at nat_eq here k).filesystem) (locations theirs) l
         (among-flat_map locations_of theirs task.0 l task.1

@@ -32,7 +32,7 @@ use Rattle.vt_laws_members_changes.proofs.letting_go.NamespaceLess.{ended_less}
 use Rattle.vt_laws_members_changes.proofs.letting_go.Ready.{NoOthers, Ready}
 use Rattle.vt_laws_members_changes.proofs.letting_go.Sweep.{part_of_settled, swept_of}
 use Rattle.vt_laws_members_changes.proofs.letting_go.SweptPart.{changes_kept}
-use Rattle.vt_laws_members_changes.proofs.letting_go.Taken.{fewer, flag, lasts, part_taken, v, v_part, world_taken}
+use Rattle.vt_laws_members_changes.proofs.letting_go.Taken.{all_last, group_lost, part_after, part_taken, set_stays, world_after, world_taken}
 use Rattle.vt_laws_members_changes.proofs.tasks.Retasked.{retasked}
 use Rattle.vt_laws_members_detached.proofs.removals.WithTree.{ready_with_tree, swap_kept, swap_numbered, swap_overlaid}
 
@@ -119,7 +119,7 @@ module _ (world : World ℕ) (names : List TaskName) (is : IsWorld nat_eq world)
     (used : is_among nat_eq (mount_at nat_eq world location).filesystem (used_filesystems nat_eq world names) ≡ true)
     (alone : used_alone nat_eq world names (mount_at nat_eq world location).filesystem ≡ true)
     (still : is_among nat_eq (mount_at nat_eq world location).filesystem
-    (used_filesystems nat_eq (v world names is sealed_off gone own_go) names) ≡ true)
+    (used_filesystems nat_eq (world_after world names is sealed_off gone own_go) names) ≡ true)
     (files : FileTree ℕ) where
   abbrev part : World ℕ
   part = part_of nat_eq world names
@@ -134,10 +134,10 @@ module _ (world : World ℕ) (names : List TaskName) (is : IsWorld nat_eq world)
   h = swap old files
 
   abbrev here : World ℕ
-  here = v world names is sealed_off gone own_go
+  here = world_after world names is sealed_off gone own_go
 
   abbrev there : World ℕ
-  there = v_part world names is sealed_off gone own_go
+  there = part_after world names is sealed_off gone own_go
 
   abbrev pub changed_here : World ℕ
   changed_here = with_filesystems here h
@@ -170,25 +170,25 @@ module _ (world : World ℕ) (names : List TaskName) (is : IsWorld nat_eq world)
   ready_here : Ready (without_dead_mounts nat_eq changed_here) names used_now lowers_now
   ready_here =
       ready_with_tree (without_dead_mounts nat_eq here) names used_now lowers_now
-      (ended_ready world names is sealed_off names gone own_go (lasts world names is sealed_off gone own_go)
+      (ended_ready world names is sealed_off names gone own_go (all_last world names is sealed_off gone own_go)
       world.tasks part.tasks world.change part.change (same_members world names)
-      (fewer world names is sealed_off gone own_go) (λ l m. m) (λ m n out its. its)
-      (flag world names is sealed_off gone own_go) kept_here)
+      (set_stays world names is sealed_off gone own_go) (λ l m. m) (λ m n out its. its)
+      (group_lost world names is sealed_off gone own_go) kept_here)
       old files (one_in_world world names is number used)
-      (InWorld.alone world names is sealed_off names gone own_go (lasts world names is sealed_off gone own_go)
+      (InWorld.alone world names is sealed_off names gone own_go (all_last world names is sealed_off gone own_go)
       world.tasks part.tasks world.change part.change (same_members world names)
-      (fewer world names is sealed_off gone own_go) (λ l m. m) (λ m n out its. its)
-      (flag world names is sealed_off gone own_go) kept_here old.number
+      (set_stays world names is sealed_off gone own_go) (λ l m. m) (λ m n out its. its)
+      (group_lost world names is sealed_off gone own_go) kept_here old.number
       (ap (used_alone nat_eq world names) is_old ∙ alone))
       old_still
 
   ready_there : Ready (without_dead_mounts nat_eq changed_there) names used_now lowers_now
   ready_there =
       ready_with_tree (without_dead_mounts nat_eq there) names used_now lowers_now
-      (ended_part_ready world names is sealed_off names gone own_go (lasts world names is sealed_off gone own_go)
+      (ended_part_ready world names is sealed_off names gone own_go (all_last world names is sealed_off gone own_go)
       world.tasks part.tasks world.change part.change (same_members world names)
-      (fewer world names is sealed_off gone own_go) all_members (λ m n out its. its)
-      (flag world names is sealed_off gone own_go) kept_there)
+      (set_stays world names is sealed_off gone own_go) all_members (λ m n out its. its)
+      (group_lost world names is sealed_off gone own_go) kept_there)
       old files (one_in_part world names is number used)
       (record {
         itself = none_other old.number;
@@ -198,17 +198,17 @@ module _ (world : World ℕ) (names : List TaskName) (is : IsWorld nat_eq world)
     where
       none_other : (n : ℕ) → NoOthers (without_dead_mounts nat_eq there) names n
       none_other =
-          InPart.alone world names is sealed_off names gone own_go (lasts world names is sealed_off gone own_go)
+          InPart.alone world names is sealed_off names gone own_go (all_last world names is sealed_off gone own_go)
           world.tasks part.tasks world.change part.change (same_members world names)
-          (fewer world names is sealed_off gone own_go) all_members (λ m n out its. its)
-          (flag world names is sealed_off gone own_go) kept_there
+          (set_stays world names is sealed_off gone own_go) all_members (λ m n out its. its)
+          (group_lost world names is sealed_off gone own_go) kept_there
 
   -- their parts before the sweep
   abbrev is_less : AreLess world names names here there
   is_less =
-      ended_less world names is sealed_off names gone own_go (lasts world names is sealed_off gone own_go)
+      ended_less world names is sealed_off names gone own_go (all_last world names is sealed_off gone own_go)
       world.tasks part.tasks world.change part.change (same_members world names)
-      (fewer world names is sealed_off gone own_go) (flag world names is sealed_off gone own_go)
+      (set_stays world names is sealed_off gone own_go) (group_lost world names is sealed_off gone own_go)
 
   part_before : part_of nat_eq changed_here names ≡ with_filesystems (part_of nat_eq here names) h
   part_before =
@@ -245,9 +245,9 @@ module _ (world : World ℕ) (names : List TaskName) (is : IsWorld nat_eq world)
       (ap (is_among nat_eq old.number) (settled_used changed_here names used_now lowers_now ready_here) ∙ old_still)
       ∙ (λ i. record (with_filesystems (swept_alike i) (raise old.number)) {
         namespaces = (sym (raised_alike world names is sealed_off names gone own_go
-            (lasts world names is sealed_off gone own_go) world.tasks part.tasks world.change part.change
-            (same_members world names) (fewer world names is sealed_off gone own_go)
-            (flag world names is sealed_off gone own_go))
+            (all_last world names is sealed_off gone own_go) world.tasks part.tasks world.change part.change
+            (same_members world names) (set_stays world names is sealed_off gone own_go)
+            (group_lost world names is sealed_off gone own_go))
             ∙ ap (λ ts. filter (spaces ts)
             (map (raised_namespace nat_eq part (settled nat_eq there)) there.namespaces))
             (sym (same_members world names))) i;
