@@ -3,5 +3,9 @@ pub mod AsBefore
 pub mod EndsAsBefore
 pub mod FilesGoOn
 pub mod Granting
+pub mod Mirror
+pub mod ReplacedAsBefore
+pub mod TakenAsBefore
+pub mod TakingPermits
 pub mod TasksAsBefore
 pub mod TasksPermits

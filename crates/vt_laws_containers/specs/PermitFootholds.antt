@@ -4,7 +4,7 @@ use Rattle.vt_spec.specs.Language.Calls.{Call, TaskName}
 use Rattle.vt_spec.specs.Lists.{Fresh}
 use Rattle.vt_spec.specs.Machine.Judge.{judge_in}
 use Rattle.vt_spec.specs.Machine.Permits.{Permit}
-use Rattle.vt_spec.specs.Machine.Permits.Permit.{Allowed, ToChange, ToClose, ToFork, ToList, ToListMounts, ToMake, ToOpen, ToOpenNew, ToRead, ToReadPart, ToSetCredentials, ToSetDirectory, ToSetRoot, ToSetUmask, ToStat, ToWritePart}
+use Rattle.vt_spec.specs.Machine.Permits.Permit.{Allowed, ToChange, ToClose, ToEnterNamespace, ToExit, ToFork, ToList, ToListMounts, ToMake, ToOpen, ToOpenNew, ToPivot, ToRead, ToReadPart, ToSetCredentials, ToSetDirectory, ToSetFlags, ToSetRoot, ToSetUmask, ToStat, ToUnmount, ToWritePart}
 use Rattle.vt_spec.specs.Machine.Policy.{only_looks, policy}
 use Rattle.vt_spec.specs.Machine.Run.{Serves}
 use Rattle.vt_spec.specs.Machine.World.{Task, World, task_called}
@@ -64,3 +64,22 @@ is_of_files permit = false
 
 abbrev pub FilesGiveNoFoothold : Type 0
 FilesGiveNoFoothold = GrantsGiveNoFoothold is_of_files
+
+-- a permit to unmount, or to leave a namespace, which ends with its last task
+abbrev pub is_of_detaching : Permit ℕ → Bool
+is_of_detaching ToExit = true
+is_of_detaching (ToEnterNamespace namespace) = true
+is_of_detaching (ToUnmount mount) = true
+is_of_detaching permit = false
+
+abbrev pub DetachingGivesNoFoothold : Type 0
+DetachingGivesNoFoothold = GrantsGiveNoFoothold is_of_detaching
+
+-- a permit to set the flags of a mount, or to exchange the root mount: mount_setattr(2), pivot_root(2)
+abbrev pub is_of_replacing : Permit ℕ → Bool
+is_of_replacing (ToSetFlags mount flags) = true
+is_of_replacing (ToPivot new put) = true
+is_of_replacing permit = false
+
+abbrev pub ReplacingGivesNoFoothold : Type 0
+ReplacingGivesNoFoothold = GrantsGiveNoFoothold is_of_replacing

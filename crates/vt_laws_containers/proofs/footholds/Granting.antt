@@ -12,7 +12,7 @@ use Rattle.vt_spec.specs.Machine.Judge.{Judgement, judge_in}
 use Rattle.vt_spec.specs.Machine.Outcomes.{Outcome, after}
 use Rattle.vt_spec.specs.Machine.Permits.{Permit}
 use Rattle.vt_spec.specs.Machine.Permits.Permit.{Allowed, ToList, ToListMounts, ToRead, ToReadPart, ToStat}
-use Rattle.vt_spec.specs.Machine.Policy.{filesystems_changed_by, only_looks, policy}
+use Rattle.vt_spec.specs.Machine.Policy.{filesystems_changed_by, numbers_raised, only_looks, policy}
 use Rattle.vt_spec.specs.Machine.Run.{Serves}
 use Rattle.vt_spec.specs.Machine.Sealed.{locations, members, sealed}
 use Rattle.vt_spec.specs.Machine.Settled.{settled}
@@ -113,10 +113,16 @@ module _ (world : World ℕ) (names : List TaskName) (name : TaskName) (call : C
   after_is : IsWorld nat_eq after_call
   after_is = every_call_keeps_worlds world fresh name call it.is serves few
 
+  -- what a permit leaves is a world, after the sweep and with change numbers raised
+  abbrev pub EndsInAWorld : Task ℕ → Permit ℕ → Type 0
+  EndsInAWorld task permit =
+      IsWorld nat_eq (numbers_raised nat_eq world name (filesystems_changed nat_eq world permit)
+      (settled nat_eq (apply nat_eq fresh world task permit).world))
+
   -- what a granted call is permitted leaves others as they were
   abbrev pub Permits : Type 0
   Permits = (task : Task ℕ) → task_called world name ≡ Some task → (permit : Permit ℕ)
-      → judge_in nat_eq fresh world task call ≡ Ok permit
+      → judge_in nat_eq fresh world task call ≡ Ok permit → EndsInAWorld task permit
       → OthersAsBefore world (apply nat_eq fresh world task permit).world names
       (grown names name call (apply nat_eq fresh world task permit).answer)
 
@@ -135,23 +141,27 @@ module _ (world : World ℕ) (names : List TaskName) (name : TaskName) (call : C
           (leaves_others_out world after_call names set it.is after_is
           (subst (λ w. OthersAsBefore world w names set) (sym did.left)
           (raised_as_before world (settled nat_eq done) names set
-          (swept_as_before world done names set (permits did.task did.called did.permit did.judged)) world name
+          (swept_as_before world done names set
+          (permits did.task did.called did.permit did.judged (subst (IsWorld nat_eq) did.left after_is))) world name
           (filesystems_changed nat_eq world did.permit) it.theirs)))
 
   -- which is one
   pub one_permit : (task : Task ℕ) → task_called world name ≡ Some task → (permit : Permit ℕ)
       → judge_in nat_eq fresh world task call ≡ Ok permit
-      → OthersAsBefore world (apply nat_eq fresh world task permit).world names
-      (grown names name call (apply nat_eq fresh world task permit).answer)
+      → (EndsInAWorld task permit → OthersAsBefore world (apply nat_eq fresh world task permit).world names
+      (grown names name call (apply nat_eq fresh world task permit).answer))
       → Permits
   one_permit task called permit judged before other called_too given judged_too =
       let same : task ≡ other = same_Some task other (sym called ∙ called_too) in
       let alike : Path (Result (Permit ℕ) Deny) (Ok permit) (Ok given) =
       sym judged ∙ ap (λ t. judge_in nat_eq fresh world t call) same ∙ judged_too in
-      subst (λ t. OthersAsBefore world (apply nat_eq fresh world t given).world names
-      (grown names name call (apply nat_eq fresh world t given).answer)) same
-      (subst (λ p. OthersAsBefore world (apply nat_eq fresh world task p).world names
-      (grown names name call (apply nat_eq fresh world task p).answer)) (same_permit permit given alike) before)
+      subst (λ t. Leaves t given) same
+      (subst (λ p. Leaves task p) (same_permit permit given alike) before)
     where
+      Leaves : Task ℕ → Permit ℕ → Type 0
+      Leaves t p =
+          EndsInAWorld t p → OthersAsBefore world (apply nat_eq fresh world t p).world names
+          (grown names name call (apply nat_eq fresh world t p).answer)
+
       same_permit : (a b : Permit ℕ) → Path (Result (Permit ℕ) Deny) (Ok a) (Ok b) → a ≡ b
       same_permit a b e = cc

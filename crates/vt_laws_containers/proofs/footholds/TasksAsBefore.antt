@@ -103,24 +103,16 @@ pub tasks_beside : (world : World ℕ) (names : List TaskName) (is : IsWorld nat
 tasks_beside world names is filesystems files =
     record { own = λ n. refl; others = refl; located = λ location m. inl m; files = files }
 
--- A task in the place of the caller
-pub caller_beside : (world : World ℕ) (names : List TaskName) (name : TaskName) (call : Call)
+-- A task in the place of the caller leaves the others.
+pub others_unmoved : (world : World ℕ) (names : List TaskName) (name : TaskName) (call : Call)
     (it : IsCallOfTheirs world names name call) (task : Task ℕ) → task_called world name ≡ Some task
-    → (mine : Task ℕ) → StandsOnTheirs world names name call it task mine → mine.namespace ≡ task.namespace
-    → (filesystems : List (Filesystem ℕ))
-    → ((filesystem : Filesystem ℕ) → Among filesystem filesystems → GoesOn world names filesystem)
-    → StandsBeside world names names it.is (map (replaced_if_called mine) world.tasks) filesystems
-caller_beside world names name call it task called mine stands spaced filesystems files = record {
-  own = λ n.
-      ap (list_any (λ (t : Task ℕ). nat_eq n t.namespace))
-      (of_set world names name call it task called mine stands world.tasks)
-      ∙ spaces_kept world names name call it task called mine stands.named spaced n;
-  others = filter-map (λ (t : Task ℕ). not (is_member_task names t)) (replaced_if_called mine) world.tasks
-      (λ t. ap (λ n. not (is_among same_name n names)) (name-replaced_if_called mine t))
-      ∙ map_itself (replaced_if_called mine) (outsiders world names) (λ t m. unmoved t m);
-  located = places_left world names name call it task called mine stands;
-  files = files;
-}
+    → (mine : Task ℕ) → mine.name ≡ task.name
+    → filter (λ (t : Task ℕ). not (is_member_task names t)) (map (replaced_if_called mine) world.tasks)
+    ≡ outsiders world names
+others_unmoved world names name call it task called mine named =
+    filter-map (λ (t : Task ℕ). not (is_member_task names t)) (replaced_if_called mine) world.tasks
+    (λ t. ap (λ n. not (is_among same_name n names)) (name-replaced_if_called mine t))
+    ∙ map_itself (replaced_if_called mine) (outsiders world names) (λ t m. unmoved t m)
   where
     member : is_member_task names task ≡ true
     member =
@@ -134,7 +126,24 @@ caller_beside world names name call it task called mine stands spaced filesystem
         (λ its. absurd (true≢false (sym member ∙ ap (is_member_task names) its.1
         ∙ not-true (is_member_task names t) from.1)))
         (λ same. same)
-        (replaced_how world names name call it task called mine stands.named t from.0)
+        (replaced_how world names name call it task called mine named t from.0)
+
+-- It stands where members get.
+pub caller_beside : (world : World ℕ) (names : List TaskName) (name : TaskName) (call : Call)
+    (it : IsCallOfTheirs world names name call) (task : Task ℕ) → task_called world name ≡ Some task
+    → (mine : Task ℕ) → StandsOnTheirs world names name call it task mine → mine.namespace ≡ task.namespace
+    → (filesystems : List (Filesystem ℕ))
+    → ((filesystem : Filesystem ℕ) → Among filesystem filesystems → GoesOn world names filesystem)
+    → StandsBeside world names names it.is (map (replaced_if_called mine) world.tasks) filesystems
+caller_beside world names name call it task called mine stands spaced filesystems files = record {
+  own = λ n.
+      ap (list_any (λ (t : Task ℕ). nat_eq n t.namespace))
+      (of_set world names name call it task called mine stands world.tasks)
+      ∙ spaces_kept world names name call it task called mine stands.named spaced n;
+  others = others_unmoved world names name call it task called mine stands.named;
+  located = places_left world names name call it task called mine stands;
+  files = files;
+}
 
 -- A filter of what is changed
 filter_changed : (p q : Task ℕ → Bool) (f : Task ℕ → Task ℕ) (list : List (Task ℕ))

@@ -31,7 +31,7 @@ use Rattle.vt_laws_containers.specs.Footholds.{GivesNoFoothold}
 use Rattle.vt_laws_containers.specs.PermitFootholds.{DenialsGiveNoFoothold, FilesGiveNoFoothold, LooksGiveNoFoothold, TasksGiveNoFoothold, is_of_files, is_of_tasks}
 use Rattle.vt_laws_containers.proofs.footholds.AsBefore.{GoesOn, OthersAsBefore}
 use Rattle.vt_laws_containers.proofs.footholds.FilesGoOn.{ChangesFiles, change_changes_files, copy_changes_files, write_changes_files}
-use Rattle.vt_laws_containers.proofs.footholds.Granting.{as_itself, granted_out, looks_out, one_permit, refused_out}
+use Rattle.vt_laws_containers.proofs.footholds.Granting.{EndsInAWorld, as_itself, granted_out, looks_out, one_permit, refused_out}
 use Rattle.vt_laws_containers.proofs.footholds.TasksAsBefore.{caller_beside, child_beside, tasks_as_before, tasks_beside}
 use Rattle.vt_laws_containers.proofs.scripts.Called.{exit_if, is_exit, left_all}
 
@@ -180,7 +180,7 @@ module _ (world : World ℕ) (names : List TaskName) (name : TaskName) (call : C
       (ap (λ (l : Location ℕ). is_theirs world names l.mount) (ap (place_of place) its.1) ∙ its.2)
 
   -- where the set stays
-  kept : (permit : Permit ℕ) → judge_in nat_eq fresh world task call ≡ Ok permit → ends_task permit ≡ false
+  pub kept : (permit : Permit ℕ) → judge_in nat_eq fresh world task call ≡ Ok permit → ends_task permit ≡ false
       → (w : World ℕ) → OthersAsBefore world w names names → OthersAsBefore world w names (left names name call)
   kept permit judged other w before = subst (OthersAsBefore world w names) (sym (stays permit judged other)) before
 
@@ -280,7 +280,8 @@ module _ (world : World ℕ) (names : List TaskName) (name : TaskName) (call : C
   of_files permit judged e = absurd (true≢false (sym e))
 
   -- by the one permit of the call
-  pub permit_out : (permit : Permit ℕ) → judge_in nat_eq fresh world task call ≡ Ok permit → Before permit
+  pub permit_out : (permit : Permit ℕ) → judge_in nat_eq fresh world task call ≡ Ok permit
+      → (EndsInAWorld world names name call it fresh serves few task permit → Before permit)
       → GivesNoFoothold world names name call fresh
   permit_out permit judged before = by (only_looks call) refl
     where
@@ -299,9 +300,9 @@ denials_give_no_foothold world names name call it fresh refused = refused_out wo
 pub tasks_give_no_foothold : TasksGiveNoFoothold
 tasks_give_no_foothold world names name call it few fresh serves task called permit judged is_one =
     permit_out world names name call it few fresh serves task called permit judged
-    (of_tasks world names name call it few fresh serves task called permit judged is_one)
+    (λ ends. of_tasks world names name call it few fresh serves task called permit judged is_one)
 
 pub files_give_no_foothold : FilesGiveNoFoothold
 files_give_no_foothold world names name call it few fresh serves task called permit judged is_one =
     permit_out world names name call it few fresh serves task called permit judged
-    (of_files world names name call it few fresh serves task called permit judged is_one)
+    (λ ends. of_files world names name call it few fresh serves task called permit judged is_one)

@@ -321,7 +321,7 @@ alike (Some call ∷ calls) few number full lone names both rest =
             given))
 
 -- The calls of a script's lines
-lines_are_few : (grammar : Grammar) (lines : List (List ℕ)) → AreFew (map (asked grammar) lines)
+pub lines_are_few : (grammar : Grammar) (lines : List (List ℕ)) → AreFew (map (asked grammar) lines)
 lines_are_few grammar [] = tt
 lines_are_few grammar (line ∷ lines) = (line_is_few, lines_are_few grammar lines)
   where
