@@ -1,5 +1,5 @@
 -- The layers of an overlay that a task of a sealed set mounts lie in filesystems that the set uses.
-use Rattle.std.proofs.Common.{◌≡◌, refl, sym, ap, subst, ◌∙◌, inl, ⊎_elim, ℕ, nat_eq, true, List, [], ◌∷◌, ◌++◌, Option, Some, None, Ok, Err, Result, map, not}
+use Rattle.std.proofs.Common.{◌≡◌, refl, sym, subst, inl, ⊎_elim, ℕ, nat_eq, true, List, [], ◌∷◌, ◌++◌, Option, Some, None, Ok, Err, Result}
 use Rattle.std.specs.Prelude.{IfOk, option_map, option_to_list}
 use Rattle.vt_spec.specs.declared.errors.Deny.{Deny}
 use Rattle.vt_spec.specs.Errors.{and_then}
@@ -12,7 +12,7 @@ use Rattle.vt_spec.specs.Machine.Looks.{looks_of}
 use Rattle.vt_spec.specs.Machine.Mounts.{Location}
 use Rattle.vt_spec.specs.Machine.Permits.{Permit}
 use Rattle.vt_spec.specs.Machine.Permits.Permit.{ToMountOverlay}
-use Rattle.vt_spec.specs.Machine.Rules.Mounting.{LayerLocations, destination_walk, each_walked, layer_at, layer_locations, layers_walked, overlay_at, source_walk, walked_if_given, work_walked}
+use Rattle.vt_spec.specs.Machine.Rules.Mounting.{LayerLocations, each_walked, layer_at, layer_locations, layers_walked, overlay_at, source_walk, walked_if_given, work_walked}
 use Rattle.vt_spec.specs.Machine.Sealed.{members, sealed, used_directly, used_filesystems}
 use Rattle.vt_spec.specs.Machine.Walking.{Here, Stop, walk_end}
 use Rattle.vt_spec.specs.Machine.World.{Layer, Overlay, Task, World, layers_of, mount_at, shown_layers}
@@ -27,8 +27,8 @@ use Rattle.vt_laws_members.specs.Judging.{is_theirs}
 use Rattle.vt_laws_members.proofs.judging.AllJudged.{owned}
 use Rattle.vt_laws_members.proofs.judging.Grounds.{theirs_from}
 use Rattle.vt_laws_members.proofs.judging.SeenInPart.{theirs_directly}
-use Rattle.vt_laws_members.proofs.judging.WalksLead.{destination_agrees, source_agrees}
-use Rattle.vt_laws_members_changes.proofs.letting_go.Moving.{On, StandsHere, alike, one, other}
+use Rattle.vt_laws_members_changes.proofs.letting_go.Moving.{StandsHere}
+use Rattle.vt_laws_members_attached.proofs.attaching.Destination.{at_destination, at_source}
 
 -- what a result gives, if it is none of a refusal
 then_ok : {A B : Type 0} (Q : A → Type 0) (R : B → Type 0) (r : Result A Deny) (next : A → Result B Deny) → IfOk r Q
@@ -51,24 +51,12 @@ module _ (world : World ℕ) (names : List TaskName) (is : IsWorld nat_eq world)
   abbrev StandsThere : Here ℕ → Type 0
   StandsThere = StandsHere world names is sealed_off task member
 
-  at_source : (path : List ℕ) → IfOk (source_walk nat_eq (looks_of nat_eq world) task path) StandsThere
-  at_source path =
-      let it = alike world names is sealed_off task member in
-      (source_agrees (one world names is sealed_off task member) (other world names is sealed_off task member) task
-      (On world names is sealed_off task member) it.walks it.directory it.rules.removed path).1
-
-  at_destination : (path : List ℕ) → IfOk (destination_walk nat_eq (looks_of nat_eq world) task path) StandsThere
-  at_destination path =
-      let it = alike world names is sealed_off task member in
-      (destination_agrees (one world names is sealed_off task member) (other world names is sealed_off task member) task
-      (On world names is sealed_off task member) it.walks it.directory it.rules.removed path).1
-
   -- Walks of the layers
   each_at : (paths : List (List ℕ)) → IfOk (each_walked nat_eq (looks_of nat_eq world) task paths) (Each At)
   each_at [] = λ l m. absurd m
   each_at (path ∷ paths) =
       then_ok StandsThere (Each At) (walk_end (source_walk nat_eq (looks_of nat_eq world) task path)) _
-      (end_ok StandsThere (source_walk nat_eq (looks_of nat_eq world) task path) (at_source path)) (λ here on.
+      (end_ok StandsThere (source_walk nat_eq (looks_of nat_eq world) task path) (at_source world names is sealed_off task member path)) (λ here on.
       then_ok (Each At) (Each At) (each_walked nat_eq (looks_of nat_eq world) task paths) _ (each_at paths)
       (λ rest all l m. ⊎_elim (λ same. subst At (sym same) on) (λ later. all l later) m))
 
@@ -78,7 +66,7 @@ module _ (world : World ℕ) (names : List TaskName) (is : IsWorld nat_eq world)
   given_at (Some path) =
       then_ok StandsThere (λ place. Each At (option_to_list place))
       (walk_end (source_walk nat_eq (looks_of nat_eq world) task path)) _
-      (end_ok StandsThere (source_walk nat_eq (looks_of nat_eq world) task path) (at_source path))
+      (end_ok StandsThere (source_walk nat_eq (looks_of nat_eq world) task path) (at_source world names is sealed_off task member path))
       (λ here on l m. ⊎_elim (λ same. subst At (sym same) on) (λ none. absurd none) m)
 
   layers_at : (words : OverlayWords) → IfOk (layers_walked nat_eq (looks_of nat_eq world) task words) AreAt
@@ -166,7 +154,7 @@ module _ (world : World ℕ) (names : List TaskName) (is : IsWorld nat_eq world)
         here = here.location;
         places = places;
         is_so = refl;
-        on = subst (λ r. IfOk r StandsThere) end (at_destination path);
+        on = subst (λ r. IfOk r StandsThere) end (at_destination world names is sealed_off task member path);
         own = owned world names is sealed_off task member here.location passed.0;
         all = subst (λ r. IfOk r AreAt) walked (layers_at words);
         are_layers = (has_layers world task places are layered, shown_plain world task places are layered);

@@ -1,8 +1,8 @@
 -- A new filesystem, of which the layers lie in what a sealed set uses, is mounted in the part as in the world.
-use Rattle.std.proofs.Common.{◌≡◌, refl, sym, ap, subst, ◌∙◌, inl, inr, ⊎_elim, ℕ, nat_eq, true, false, List, [], ◌∷◌, Option, Some, None, is_some, map, ◌||◌, eq-eqb}
+use Rattle.std.proofs.Common.{◌≡◌, refl, sym, ap, subst, ◌∙◌, inl, inr, ⊎_elim, ℕ, nat_eq, true, false, List, [], ◌∷◌, Some, None, ◌||◌, eq-eqb}
 use Rattle.std.specs.List.{list_any}
 use Rattle.vt_spec.specs.Language.Calls.{MountFlags, TaskName}
-use Rattle.vt_spec.specs.Lists.{Fresh, holds_of, is_among, odds}
+use Rattle.vt_spec.specs.Lists.{Fresh, is_among, odds}
 use Rattle.vt_spec.specs.Machine.Attach.{Copies, attached_by, copies_from}
 use Rattle.vt_spec.specs.Machine.Invariants.{IsWorld}
 use Rattle.vt_spec.specs.Machine.Locked.{of_overlay}
@@ -10,25 +10,22 @@ use Rattle.vt_spec.specs.Machine.Mounts.{Location, Mount, source_of}
 use Rattle.vt_spec.specs.Machine.NewMounts.{mounted, new_mount}
 use Rattle.vt_spec.specs.Machine.Policy.{numbers_raised}
 use Rattle.vt_spec.specs.Machine.Run.{Serves}
-use Rattle.vt_spec.specs.Machine.Sealed.{is_own_namespace, members, part_of, sealed, used_directly, used_filesystems}
+use Rattle.vt_spec.specs.Machine.Sealed.{members, part_of, sealed, used_directly, used_filesystems}
 use Rattle.vt_spec.specs.Machine.Settled.{settled}
-use Rattle.vt_spec.specs.Machine.World.{Filesystem, Layer, World, all_locations, layers_of, mount_at}
-use Rattle.vt_spec.proofs.Lists.{Among, list_all_from_among}
+use Rattle.vt_spec.specs.Machine.World.{Filesystem, Layer, World, layers_of, mount_at}
+use Rattle.vt_spec.proofs.Lists.{Among}
 use Rattle.vt_spec.proofs.Options.{none_is_some}
-use Rattle.vt_laws_letting_go.specs.Attaching.{is_attached}
-use Rattle.vt_laws_letting_go.specs.Keeping.{LocationsStand, has_only_named}
+use Rattle.vt_laws_letting_go.specs.Keeping.{has_only_named}
 use Rattle.vt_laws_letting_go.proofs.mounting.AttachedSwept.{new_filesystems_keep_all}
-use Rattle.vt_laws_letting_go.proofs.mounting.MountsSwept.{mounts_stand}
 use Rattle.vt_laws_letting_go.proofs.sweeps.OfWorlds.{all_in_use, locations_of_worlds_stand, mounts_of_worlds_stand}
 use Rattle.vt_laws_part.proofs.part.PartOfPart.{is_own}
 use Rattle.vt_laws_members.specs.Judging.{is_theirs}
-use Rattle.vt_laws_members.proofs.judging.Grounds.{IsTheirs, its_mount, same_mount, theirs_from}
-use Rattle.vt_laws_members_changes.proofs.letting_go.PartMounts.{part_mounts}
+use Rattle.vt_laws_members.proofs.judging.Grounds.{IsTheirs, theirs_from}
 use Rattle.vt_laws_members_changes.proofs.part.SettledPart.{part_in_use}
-use Rattle.vt_laws_members_attached.proofs.attaching.AttachedAlike.{copies_alike, grows}
-use Rattle.vt_laws_members_attached.proofs.attaching.CopiesAlike.{base_part, parts, parts_alike, push}
-use Rattle.vt_laws_members_attached.proofs.attaching.PartGrows.{located_there}
-use Rattle.vt_laws_members_attached.proofs.attaching.PushedUp.{ShowTheirs, all_copies}
+use Rattle.vt_laws_members_attached.proofs.attaching.AttachedAlike.{copies_alike}
+use Rattle.vt_laws_members_attached.proofs.attaching.CopiesAlike.{base_part, parts, parts_alike}
+use Rattle.vt_laws_members_attached.proofs.attaching.Destination.{locations_stand_there, mounts_stand_there, placed, placed_there, there}
+use Rattle.vt_laws_members_attached.proofs.attaching.PushedUp.{ShowTheirs}
 use Rattle.vt_laws_members_attached.proofs.attaching.Unused.{filesystem_unlike, group_new, used_unlike}
 
 module _ (world : World ℕ) (names : List TaskName) (is : IsWorld nat_eq world)
@@ -45,8 +42,8 @@ module _ (world : World ℕ) (names : List TaskName) (is : IsWorld nat_eq world)
   theirs : IsTheirs world names is.mounts here.mount
   theirs = theirs_from world names is.mounts here.mount on
 
-  there : Among (mount_at nat_eq world here) world.mounts
-  there = subst (λ m. Among m world.mounts) (sym (its_mount world names is.mounts here.mount theirs)) theirs.1
+  here_there : Among (mount_at nat_eq world here) world.mounts
+  here_there = there world names is sealed_off here theirs own
 
   abbrev mount : Mount ℕ
   mount = new_mount new_one.number new_one.files.tree.root flags
@@ -63,9 +60,9 @@ module _ (world : World ℕ) (names : List TaskName) (is : IsWorld nat_eq world)
   unused n used = unlike n (used_unlike world names is fresh serves n used 0)
 
   abbrev new : Copies ℕ
-  new = copies_from nat_eq (odds fresh) (parts world names is sealed_off (new_one ∷ []) unused here there own) origins
+  new = copies_from nat_eq (odds fresh) (parts world names is sealed_off (new_one ∷ []) unused here here_there own) origins
 
-  shows : ShowTheirs world names is sealed_off (new_one ∷ []) unused here there own new false origins
+  shows : ShowTheirs world names is sealed_off (new_one ∷ []) unused here here_there own new false origins
   shows = record {
     shown = λ o m. inr (⊎_elim (λ same. ap (λ (x : Mount ℕ). nat_eq x.filesystem new_one.number || false) same
         ∙ ap (λ b. b || false) (eq-eqb new_one.number new_one.number refl)) (λ none. absurd none) m);
@@ -88,27 +85,6 @@ module _ (world : World ℕ) (names : List TaskName) (is : IsWorld nat_eq world)
   new_groups : (a b : ℕ) → world.master (new.image a b) ≡ None
   new_groups a b = group_new world names is fresh serves _
 
-  placed : is_attached world here.mount ≡ true
-  placed = by (mount_at nat_eq world here).namespace own
-    where
-      by : (o : Option ℕ) → holds_of (is_own_namespace nat_eq world names) o ≡ true → is_some o ≡ true
-      by None h = h
-      by (Some n) h = refl
-
-  placed_there : is_attached part here.mount ≡ true
-  placed_there =
-      ap (λ (m : Mount ℕ). is_some m.namespace) (same_mount world names is.mounts here.mount theirs) ∙ placed
-
-  located_in_part : LocationsStand part
-  located_in_part =
-      list_all_from_among (λ (l : Location ℕ). is_among nat_eq l.mount (map (λ (m : Mount ℕ). m.number) part.mounts))
-      (all_locations part)
-      (λ l m. located_there world names
-      (push world names is sealed_off (new_one ∷ []) unused here there own new false origins)
-      (all_copies world names is sealed_off (new_one ∷ []) unused here there own new false origins)
-      (new_one ∷ []) _ part.master
-      (grows world names is sealed_off (new_one ∷ []) unused here there own new origins new_groups sources shows) l m)
-
   abbrev pub now : World ℕ
   now = mounted nat_eq (odds fresh) world here new_one flags
 
@@ -119,25 +95,27 @@ module _ (world : World ℕ) (names : List TaskName) (is : IsWorld nat_eq world)
   pub settled_here : settled nat_eq now ≡ now
   settled_here =
       new_filesystems_keep_all (odds fresh) world here new_one flags (all_in_use world is)
-      (mounts_of_worlds_stand world is) (locations_of_worlds_stand world is) placed named
+      (mounts_of_worlds_stand world is) (locations_of_worlds_stand world is)
+      (placed world names is sealed_off here theirs own) named
 
   pub settled_there : settled nat_eq now_there ≡ now_there
   settled_there =
       new_filesystems_keep_all (odds fresh) part here new_one flags (part_in_use world names is sealed_off)
-      (mounts_stand part (part_mounts world names is sealed_off)) located_in_part placed_there named
+      (mounts_stand_there world names is sealed_off) (locations_stand_there world names is)
+      (placed_there world names is sealed_off here theirs own) named
 
   -- the numbers are handed out to the same parts
   same_numbers : now_there ≡ attached_by nat_eq
-      (base_part world names is sealed_off (new_one ∷ []) unused here there own) new here false origins
+      (base_part world names is sealed_off (new_one ∷ []) unused here here_there own) new here false origins
   same_numbers =
       ap (λ l. attached_by nat_eq
-      (base_part world names is sealed_off (new_one ∷ []) unused here there own)
+      (base_part world names is sealed_off (new_one ∷ []) unused here here_there own)
       (copies_from nat_eq (odds fresh) l origins) here false origins)
-      (parts_alike world names is sealed_off (new_one ∷ []) unused here there own)
+      (parts_alike world names is sealed_off (new_one ∷ []) unused here here_there own)
 
   pub mounted_alike : (name : TaskName) → part_of nat_eq (numbers_raised nat_eq world name [] now) names
       ≡ part_of nat_eq (numbers_raised nat_eq part name [] now_there) names
   mounted_alike name =
-      copies_alike world names is sealed_off (new_one ∷ []) unused here there own new origins new_groups sources
+      copies_alike world names is sealed_off (new_one ∷ []) unused here here_there own new origins new_groups sources
       shows name
       ∙ sym (ap (λ w. part_of nat_eq (numbers_raised nat_eq part name [] w) names) same_numbers)

@@ -1,5 +1,5 @@
 -- The overlay that is made of layers which a sealed set uses is the same in the part of the set.
-use Rattle.std.proofs.Common.{◌≡◌, ◌≤◌, refl, sym, ap, subst, ◌∙◌, inl, inr, true≢false, arith, ℕ, zero, suc, ◌+◌, nat_eq, true, List, [], ◌∷◌, ◌++◌, flat_map, length, map, Bool, Option, Some, None, is_some, option_and_then, slice_get}
+use Rattle.std.proofs.Common.{◌≡◌, ◌≤◌, refl, sym, ap, subst, ◌∙◌, inl, inr, true≢false, arith, ℕ, zero, suc, ◌+◌, nat_eq, true, List, [], ◌∷◌, ◌++◌, flat_map, length, map, not, Bool, Option, Some, None, is_some, option_and_then, slice_get}
 use Rattle.std.proofs.lemmas.Grind.{common_steps}
 use Rattle.std.specs.List.{filter_map, find, sum}
 use Rattle.std.specs.Prelude.{option_map, unwrap_or}
@@ -14,7 +14,7 @@ use Rattle.vt_spec.specs.Machine.Layers.{OpenLayer, Shown, names_shown, paths_fr
 use Rattle.vt_spec.specs.Machine.Merging.{merged_at, merged_inodes, merged_objects}
 use Rattle.vt_spec.specs.Machine.NewMounts.{inode_count, overlay_filesystem, overlay_of_inodes}
 use Rattle.vt_spec.specs.Machine.Sealed.{part_of, used_filesystems}
-use Rattle.vt_spec.specs.Machine.World.{Filesystem, Layer, Overlay, World, filesystem_numbered, no_filesystem, open_layer, shown_layers}
+use Rattle.vt_spec.specs.Machine.World.{Filesystem, Layer, Overlay, World, filesystem_numbered, is_overlay, no_filesystem, open_layer, shown_layers}
 use Rattle.vt_spec.specs.Tree.{is_directory_node}
 use Rattle.vt_spec.specs.TreeInvariant.{IsTree, entry_at, led}
 use Rattle.vt_spec.proofs.Lists.{Among, among_from_list_all, contains_from_among, map_alike}
@@ -148,20 +148,25 @@ module _ (world : World ℕ) (names : List TaskName) (is : IsWorld nat_eq world)
       → length path ≤ inode_count part
   in_layer layer m path object e =
       let n = layer.filesystem in
-      let directory = (and_parts _ _ (among_from_list_all (is_plain_layer nat_eq world) (shown_layers overlay)
+      let directory = (and_parts (not (is_overlay (filesystem_numbered nat_eq world n)))
+      (is_directory_node ((filesystem_numbered nat_eq world n).files.tree.node layer.directory)) (among_from_list_all (is_plain_layer nat_eq world) (shown_layers overlay)
       are_layers.1 layer m)).1 in
       let here = found_there world n layer.directory directory in
       let there = found_there part n layer.directory
       (ap (λ (f : Filesystem ℕ). is_directory_node (f.files.tree.node layer.directory))
       (found world names n (used layer m)) ∙ directory) in
-      let few = led_bounded (filesystem_numbered nat_eq world n).files
+      let few : length path ≤ length (filesystem_numbered nat_eq world n).files.numbers =
+      led_bounded (filesystem_numbered nat_eq world n).files
       (all_found (λ f. IsTree f.files.tree) (λ (f : Filesystem ℕ). nat_eq n f.number) world.filesystems is.files.trees
       (filesystem_numbered nat_eq world n) here)
       (all_found (λ f. ListsNumbers nat_eq f.files) (λ (f : Filesystem ℕ). nat_eq n f.number) world.filesystems
       is.files.numbers (filesystem_numbered nat_eq world n) here) layer.directory object path e in
-      let some = in_sum (λ (f : Filesystem ℕ). nat_eq n f.number) part.filesystems (filesystem_numbered nat_eq part n)
+      let some : length (filesystem_numbered nat_eq part n).files.numbers ≤ inode_count part =
+      in_sum (λ (f : Filesystem ℕ). nat_eq n f.number) part.filesystems (filesystem_numbered nat_eq part n)
       there in
-      let same = ap (λ (f : Filesystem ℕ). length f.files.numbers) (found world names n (used layer m)) in
+      let same : length (filesystem_numbered nat_eq part n).files.numbers
+      ≡ length (filesystem_numbered nat_eq world n).files.numbers =
+      ap (λ (f : Filesystem ℕ). length f.files.numbers) (found world names n (used layer m)) in
       omega (arith, few, some, same)
 
   bounded_there : Bounded (opened world) (inode_count part)
