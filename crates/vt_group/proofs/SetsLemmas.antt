@@ -1,13 +1,13 @@
 -- What is under groups, once one set of them changed.
-use Rattle.std.proofs.Common.{◌≡◌, ◌∷◌, arith, length, BuildHasherDefault, FoldHasher, Bool, true, false, cond, List, [], Option, None, Some, option_map, refl, sym, ap, ◌∙◌, eq-eqb, true≢false}
+use Rattle.std.proofs.Common.{◌≡◌, Bool, true, false, cond, List, [], Option, None, option_map, refl, sym, ap, ◌∙◌, eq-eqb, true≢false}
 use Rattle.std.proofs.lemmas.Bool.{eqb-true}
-use Rattle.std.specs.HashSet.{HashSet}
-use Rattle.std.specs.List.{AllZip, list_any}
+use Rattle.std.specs.List.{list_any}
 use Rattle.std.specs.Map.{lookup}
 use Rattle.std.specs.Prelude.{if◌then◌else◌, unwrap_or, ◌&&◌}
 use Rattle.vt_location.specs.declared.numbers.GroupId.{GroupId}
+use Rattle.vt_group.specs.declared.set.Set.{Set}
 use Rattle.vt_group.specs.declared.sets.Sets.{Sets}
-use Rattle.vt_group.specs.Sets.{has, kept_in, same_group}
+use Rattle.vt_group.specs.Sets.{elements, has, kept_in, same_group}
 
 -- groups that are the same are one
 pub same_id : (a b : GroupId) → same_group a b ≡ true → b ≡ a
@@ -15,16 +15,16 @@ same_id a b same = λ i. record { count = sym (eqb-true a.count b.count same) i 
 
 module _ {T : Type 0} (eq : T → T → Bool) (old new : Sets T) (group : GroupId) where
   -- another set under the group
-  pub kept-written : (found : Option (HashSet T (BuildHasherDefault FoldHasher)))
+  pub kept-written : (found : Option (Set T))
       → ((at : GroupId) → lookup (same_group at) new.sets.entries
       ≡ cond (same_group group at) found (lookup (same_group at) old.sets.entries))
       → (at : GroupId) → kept_in at new
-      ≡ (if same_group group at then unwrap_or (option_map (λ set. set.keys) found) [] else kept_in at old)
+      ≡ (if same_group group at then unwrap_or (option_map elements found) [] else kept_in at old)
   kept-written found writes at =
-      ap (λ o. unwrap_or (option_map (λ set. set.keys) o) []) (writes at) ∙ by (same_group group at)
+      ap (λ o. unwrap_or (option_map elements o) []) (writes at) ∙ by (same_group group at)
     where
-      by : (b : Bool) → unwrap_or (option_map (λ set. set.keys) (cond b found (lookup (same_group at) old.sets.entries))) []
-          ≡ (if b then unwrap_or (option_map (λ set. set.keys) found) [] else kept_in at old)
+      by : (b : Bool) → unwrap_or (option_map elements (cond b found (lookup (same_group at) old.sets.entries))) []
+          ≡ (if b then unwrap_or (option_map elements found) [] else kept_in at old)
       by true = refl
       by false = refl
 
@@ -106,46 +106,3 @@ module _ {T : Type 0} (eq : T → T → Bool) (old new : Sets T) (group : GroupI
 pub dropped-empty : {A : Type 0} (b : Bool) (found rest : Option A) → cond b None (cond b found rest) ≡ cond b None rest
 dropped-empty true found rest = refl
 dropped-empty false found rest = refl
-
--- an empty list has nothing
-pub nothing-kept : {T : Type 0} (test : T → Bool) (keys : List T) → length keys ≡ 0 → list_any test keys ≡ false
-nothing-kept test [] none = refl
-nothing-kept test (key ∷ keys) none = absurd (omega (arith, none))
-
--- a clone has what was there
-pub same_keys : {T : Type 0} (Clone : T → T → Type 0) (same_ones : (a b : T) → Clone a b → b ≡ a)
-    (keys copies : List T) → AllZip Clone keys copies → copies ≡ keys
-same_keys Clone same_ones [] [] zip = refl
-same_keys Clone same_ones [] (copy ∷ copies) zip = absurd zip
-same_keys Clone same_ones (key ∷ keys) [] zip = absurd zip
-same_keys Clone same_ones (key ∷ keys) (copy ∷ copies) zip =
-    λ i. same_ones key copy zip.0 i ∷ same_keys Clone same_ones keys copies zip.1 i
-
--- and so under each group
-module _ {T : Type 0} (GroupClone : GroupId → GroupId → Type 0) (Clone : T → T → Type 0)
-    (same_groups : (a b : GroupId) → GroupClone a b → b ≡ a) (same_ones : (a b : T) → Clone a b → b ≡ a) where
-  abbrev Entry : Type 0
-  Entry = GroupId × HashSet T (BuildHasherDefault FoldHasher)
-
-  -- sets that are cloned have what the first ones have
-  pub kept_cloned : (entries copies : List Entry)
-      → AllZip (λ one copy. GroupClone one.0 copy.0 × AllZip Clone one.1.keys copy.1.keys) entries copies
-      → (at : GroupId) → unwrap_or (option_map (λ set. set.keys) (lookup (same_group at) copies)) []
-      ≡ unwrap_or (option_map (λ set. set.keys) (lookup (same_group at) entries)) []
-  kept_cloned [] [] zip at = refl
-  kept_cloned [] (copy ∷ copies) zip at = absurd zip
-  kept_cloned (entry ∷ entries) [] zip at = absurd zip
-  kept_cloned (entry ∷ entries) (copy ∷ copies) zip at =
-      ap (λ (group : GroupId). unwrap_or (option_map (λ set. set.keys)
-      (cond (same_group at group) (Some copy.1) (lookup (same_group at) copies))) [])
-      (same_groups entry.0 copy.0 zip.0.0)
-      ∙ by (same_group at entry.0) (same_keys Clone same_ones entry.1.keys copy.1.keys zip.0.1)
-      (kept_cloned entries copies zip.1 at)
-    where
-      by : (b : Bool) → copy.1.keys ≡ entry.1.keys
-          → unwrap_or (option_map (λ set. set.keys) (lookup (same_group at) copies)) []
-          ≡ unwrap_or (option_map (λ set. set.keys) (lookup (same_group at) entries)) []
-          → unwrap_or (option_map (λ set. set.keys) (cond b (Some copy.1) (lookup (same_group at) copies))) []
-          ≡ unwrap_or (option_map (λ set. set.keys) (cond b (Some entry.1) (lookup (same_group at) entries))) []
-      by true same rest = same
-      by false same rest = rest

@@ -19,6 +19,7 @@ use crate::listed::Listed;
 use crate::names::Names;
 use crate::places::{Places, forget_lower, forget_untyped};
 use crate::propagation::{own_group, source};
+use crate::set::Element;
 use crate::sets::{Sets, keep_lower, keep_typed};
 use std::alloc::{AllocError, Global};
 use std::collections::LinkedList;
@@ -384,7 +385,7 @@ impl Index {
 }
 
 // Puts one under a name of a group.
-fn put<T: Eq + Hash + Copy + Clone + Drop>(
+fn put<T: Element>(
     names: &mut Names,
     sets: &mut Sets<T>,
     places: &mut Places<T>,
@@ -402,7 +403,7 @@ fn put<T: Eq + Hash + Copy + Clone + Drop>(
 }
 
 // Takes one out from under a name of its group, unless it stays there. It returns that name.
-fn take_out<T: Eq + Hash + Copy + Clone + Drop>(
+fn take_out<T: Element>(
     sets: &mut Sets<T>,
     places: &mut Places<T>,
     names: &LinkedList<GroupId>,
@@ -421,7 +422,7 @@ fn take_out<T: Eq + Hash + Copy + Clone + Drop>(
 }
 
 // The same from under the name that is noted for it, if it is there.
-fn take_out_noted<T: Eq + Hash + Copy + Clone + Drop>(
+fn take_out_noted<T: Element>(
     sets: &mut Sets<T>,
     places: &mut Places<T>,
     stays: &LinkedList<GroupId>,
@@ -441,7 +442,7 @@ fn take_out_noted<T: Eq + Hash + Copy + Clone + Drop>(
 }
 
 // The name that is noted for one, unless it stays there.
-fn noted_name<T: Eq + Hash + Copy + Clone + Drop>(
+fn noted_name<T: Element>(
     places: &Places<T>,
     stays: &LinkedList<GroupId>,
     one: T,
@@ -456,7 +457,7 @@ fn noted_name<T: Eq + Hash + Copy + Clone + Drop>(
 }
 
 // The same from under the first of these names under which it is.
-fn take_out_found<T: Eq + Hash + Copy + Clone + Drop>(
+fn take_out_found<T: Element>(
     sets: &mut Sets<T>,
     places: &mut Places<T>,
     names: &LinkedList<GroupId>,
@@ -475,7 +476,7 @@ fn take_out_found<T: Eq + Hash + Copy + Clone + Drop>(
 }
 
 // The name that one is to be taken out from under: the first of these under which it is.
-fn name_over<T: Eq + Hash + Copy + Clone + Drop>(
+fn name_over<T: Element>(
     sets: &Sets<T>,
     names: &LinkedList<GroupId>,
     stays: &LinkedList<GroupId>,
@@ -492,12 +493,7 @@ fn name_over<T: Eq + Hash + Copy + Clone + Drop>(
 }
 
 // Whether one is under a name, and does not stay there.
-fn leaves<T: Eq + Hash + Copy + Clone + Drop>(
-    sets: &Sets<T>,
-    name: GroupId,
-    stays: &LinkedList<GroupId>,
-    one: T,
-) -> bool
+fn leaves<T: Element>(sets: &Sets<T>, name: GroupId, stays: &LinkedList<GroupId>, one: T) -> bool
     ensures { result ≡ true → list_any (λ other. same_group other name) stays.now ≡ false }
 {
     sets.contains(name, &one) && !stays.contains(&name)

@@ -11,6 +11,7 @@ mod listed;
 mod names;
 mod places;
 mod propagation;
+mod set;
 mod sets;
 mod unused;
 

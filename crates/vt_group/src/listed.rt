@@ -2,6 +2,7 @@
 ghost use Rattle.std.specs.Prelude.{◌≡◌, ◌++◌, List, flat_map};
 ghost use Rattle.vt_group.specs.Sets.{kept_in};
 
+use crate::set::Element;
 use crate::sets::Sets;
 use std::collections::LinkedList;
 use std::collections::linked_list::Iter;
@@ -26,7 +27,7 @@ impl<'a, T: Eq + Hash> Model for Listed<'a, T> {
     ghost view = { λ l. l.here.now ++ flat_map (λ name. kept_in name l.sets.now) l.names };
 }
 
-impl<'a, T: Eq + Hash + Copy + Clone + Drop> Listed<'a, T> {
+impl<'a, T: Element> Listed<'a, T> {
     /// All that is kept under these names.
     pub(crate) fn new(names: &'a LinkedList<GroupId>, sets: &'a Sets<T>) -> Self
         ensures { result ≡ flat_map (λ name. kept_in name sets.now) names.now }
@@ -39,7 +40,7 @@ impl<'a, T: Eq + Hash + Copy + Clone + Drop> Listed<'a, T> {
     }
 }
 
-impl<'a, T: Eq + Hash + Copy + Clone + Drop> Iterator for Listed<'a, T> {
+impl<'a, T: Element> Iterator for Listed<'a, T> {
     type Item = T;
 
     ghost use Rattle.std.specs.Iterator.{YieldsFirst, item_count};

@@ -6,7 +6,8 @@ ghost use Rattle.vt_group.specs.ByNumber.{value_at};
 ghost use Rattle.vt_group.specs.Sets.{same_id, has, kept_in, same_group};
 
 use crate::by_number::ByNumber;
-use indexmap::{IndexMap, IndexSet};
+use crate::set::{self, Element, Set};
+use indexmap::IndexMap;
 use std::alloc::{AllocError, Global};
 use std::hash::Hash;
 use vt_location::{GroupId, MountId, Propagation};
@@ -14,10 +15,10 @@ use vt_location::{GroupId, MountId, Propagation};
 /// Sets, each under a group. None is empty.
 #[derive(Debug, Drop)]
 pub(crate) struct Sets<T: Eq + Hash> {
-    sets: IndexMap<GroupId, IndexSet<T>>,
+    sets: IndexMap<GroupId, Set<T>>,
 }
 
-impl<T: Eq + Hash + Copy + Clone + Drop> Sets<T> {
+impl<T: Element> Sets<T> {
     /// No sets. It does not allocate.
     pub(crate) fn new(alloc: Global) -> Self {
         Sets {
@@ -51,14 +52,14 @@ impl<T: Eq + Hash + Copy + Clone + Drop> Sets<T> {
         ensures kept { (at : GroupNumber) (other : T) → has T.eq at other self.old ≡ true
             → has T.eq at other self.new ≡ true }
     {
-        if let Some(set) = self.sets.get_mut(&group) {
-            set.insert(one)?;
-            return Ok(());
+        let alloc = *self.sets.allocator();
+        match self.sets.get_mut(&group) {
+            Some(set) => set.insert(alloc, one),
+            None => {
+                self.sets.insert(group, Set::Few(Some(one)))?;
+                Ok(())
+            }
         }
-        let mut set = IndexSet::new(*self.sets.allocator());
-        set.insert(one)?;
-        self.sets.insert(group, set)?;
-        Ok(())
     }
 
     /// Takes out one from under a group, and returns whether it was there. It does not allocate.
@@ -69,7 +70,7 @@ impl<T: Eq + Hash + Copy + Clone + Drop> Sets<T> {
         let Some(set) = self.sets.get_mut(&group) else {
             return false;
         };
-        let was_there = set.swap_remove(&one);
+        let was_there = set.remove(&one);
         if set.is_empty() {
             self.sets.swap_remove(&group);
         }
@@ -85,7 +86,7 @@ pub(crate) fn keep_typed(sets: &mut Sets<MountId>, group: GroupId, types: &ByNum
     let Some(set) = sets.sets.get_mut(&group) else {
         return;
     };
-    set.retain(|mount| types.has(mount.count));
+    set::keep_typed(set, types);
     if set.is_empty() {
         sets.sets.swap_remove(&group);
     }
@@ -99,7 +100,7 @@ pub(crate) fn keep_lower(sets: &mut Sets<GroupId>, group: GroupId, above: &ByNum
     let Some(set) = sets.sets.get_mut(&group) else {
         return;
     };
-    set.retain(|lower| above.has(lower.count));
+    set::keep_lower(set, above);
     if set.is_empty() {
         sets.sets.swap_remove(&group);
     }

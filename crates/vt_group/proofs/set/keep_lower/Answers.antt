@@ -1,0 +1,16 @@
+use Rattle.std.proofs.Common.{ap, is_some, rules, sym, ◌∙◌}
+use Rattle.std.proofs.lemmas.Fn.{filter_same}
+use Rattle.std.specs.List.{list_any}
+use Rattle.vt_location.specs.declared.numbers.GroupId.{GroupId}
+use Rattle.vt_group.specs.ByNumber.{value_at}
+use Rattle.vt_group.specs.Sets.{elements, same_group}
+use Rattle.vt_group.proofs.IndexLemmas.{any-kept}
+use Rattle.vt_group.proofs.set.keep_lower.Goals as goal
+
+pub returns-in-Many : goal.returns-in-Many
+returns-in-Many c lower some was =
+    any-kept (λ (id : GroupId). id.count) (value_at c.args.above.now) lower.count c.in-Many.many.keys
+    c.retain.new.self.keys
+    (filter_same _ (λ (id : GroupId). is_some (value_at c.args.above.now id.count)) _
+    (λ x b f' k. search rules) _ _ c.retain.ensures.filtered) some
+    (sym (ap (λ set. list_any (same_group lower) (elements set)) c.in-Many.is) ∙ was)
