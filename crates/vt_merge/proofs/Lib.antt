@@ -6,6 +6,7 @@ pub mod NamesFollowed
 pub mod NamesHad
 pub mod NamesSorted
 pub mod NamesTaken
+pub mod NamesThere
 pub mod TreesLent
 pub mod UnderNames
 pub mod PathEnds

@@ -71,7 +71,7 @@ same_names names entries p q alike =
     ∙ sym (is_some-find name_cmp name entries))))
 
 -- a name is among those that are shown if something is shown there
-name_is_shown : (layers : List (OpenLayer ℕ)) (path : List (List ℕ)) (name : List ℕ)
+pub name_is_shown : (layers : List (OpenLayer ℕ)) (path : List (List ℕ)) (name : List ℕ)
     → list_any (is_name name) (names_shown layers path) ≡ is_some (shown layers (path ++ name ∷ []))
 name_is_shown layers path name =
     same_truth _ _

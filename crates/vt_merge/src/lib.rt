@@ -16,6 +16,6 @@ pub use entries::slot_of;
 pub use following::led_to;
 pub use layers::{LayerRef, MergedDirectory, Real};
 pub use merging::{MOST_LAYERS, MergedDirectories, merged_dirs, merged_dirs_at};
-pub use naming::merged_names;
+pub use naming::{has_names, merged_names};
 pub use showing::{real_of, shown};
-pub use ways::{Front, Names, Way};
+pub use ways::{Front, Names, Way, starts_with};

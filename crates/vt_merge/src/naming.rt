@@ -1,5 +1,7 @@
 //! The names of merged directories.
-ghost use Rattle.std.specs.Prelude.{◌≡◌, ◌≤◌, ◌∷◌, [], IfOk, is_some, length, map};
+ghost use Rattle.std.specs.List.{list_any};
+ghost use Rattle.std.specs.Prelude.{◌≡◌, ◌≤◌, ◌∷◌, [], IfOk, is_some, length, map, not};
+ghost use Rattle.vt_spec.specs.Lists.{is_empty_list};
 ghost use Rattle.vt_spec.specs.Machine.Layers.{names_shown};
 ghost use Rattle.vt_laws_layers.specs.Layers.Directories.{shown_in};
 ghost use Rattle.vt_spec.specs.Tree.{names_in};
@@ -34,6 +36,46 @@ pub fn merged_names<W: Way>(
     names.sort_unstable();
     names.dedup();
     Ok(names)
+}
+
+/// Whether layers show a name in the directory at a path: ENOTEMPTY of rmdir(2). It does not allocate.
+pub fn has_names<W: Way>(trees: &Filesystems, layers: &[LayerRef], path: &W) -> bool
+    requires { length layers.now ≤ MOST_LAYERS }
+    ensures { result
+        ≡ not (is_empty_list (names_shown (layers_of trees.now layers.now) (W.names path.now))) }
+{
+    let merged = merged_dirs_at(trees, layers, path);
+    let directories = merged.as_slice();
+    for top in directories {
+        if shows_any_of(trees, directories, top.directory) {
+            return true;
+        }
+    }
+    false
+}
+
+// Whether merged directories show something under a name of this directory.
+fn shows_any_of(trees: &Filesystems, merged: &[MergedDirectory], directory: InodeRef) -> bool
+    ensures { result ≡ list_any (λ name. is_some (shown_in (placed_views trees.now merged.now) (name ∷ [])))
+        (names_in ((files_at trees.now directory.filesystem.count).tree.node (inode_of directory))) }
+{
+    match trees.node(directory.node_ref()) {
+        Some(node) => shows_one(trees, merged, node.kept_names()),
+        None => false,
+    }
+}
+
+// Whether merged directories show something under one of these names.
+fn shows_one(trees: &Filesystems, merged: &[MergedDirectory], names: &[Vec<u8>]) -> bool
+    ensures { result
+        ≡ list_any (λ name. is_some (shown_in (placed_views trees.now merged.now) (name.items ∷ []))) names.now }
+{
+    for name in names {
+        if shows(trees, merged, name.as_slice()) {
+            return true;
+        }
+    }
+    false
 }
 
 // The names of all these directories, one directory after the other.

@@ -1,5 +1,5 @@
 //! Ways: paths as lists of names, however these are kept.
-ghost use Rattle.std.specs.Prelude.{◌≡◌, ◌<◌, ℕ, List, Some, length, map, slice_get};
+ghost use Rattle.std.specs.Prelude.{◌≡◌, ◌≢◌, ◌<◌, ◌++◌, ℕ, List, Some, false, length, map, slice_get, true};
 ghost use Rattle.vt_spec.specs.Lists.{without_last};
 
 /// A path as a list of names. A look takes the names one after the other, so that no list of them has to be made.
@@ -50,4 +50,20 @@ impl<'a, W: Way> Way for Front<'a, W> {
     fn name(&self, index: usize) -> &[u8] {
         self.path.name(index)
     }
+}
+
+/// Whether a path begins with another one. It does not allocate.
+pub fn starts_with<W: Way, V: Way>(path: &W, front: &V) -> bool
+    ensures yes { result ≡ true → (rest : List (List ℕ)) × (V.names front.now ++ rest ≡ W.names path.now) }
+    ensures no { result ≡ false → (rest : List (List ℕ)) → V.names front.now ++ rest ≢ W.names path.now }
+{
+    if path.len() < front.len() {
+        return false;
+    }
+    for index in 0..front.len() {
+        if path.name(index) != front.name(index) {
+            return false;
+        }
+    }
+    true
 }

@@ -1,3 +1,4 @@
+pub mod KeptNames
 pub mod ListedLemmas
 pub mod Named
 pub mod RankLemmas

@@ -251,7 +251,7 @@ module _ {A : Type 0} where
   abbrev pub entry_seen : Vec ℕ A × ℕ → List ℕ × ℕ
   entry_seen entry = (entry.0.items, entry.1)
 
-  absent : (name : List ℕ) (es : List (Vec ℕ A × ℕ)) → AllByRecursion (λ key. is_name name key ≡ false) (keys_of es)
+  pub absent : (name : List ℕ) (es : List (Vec ℕ A × ℕ)) → AllByRecursion (λ key. is_name name key ≡ false) (keys_of es)
       → lookup (is_name name) es ≡ None
   absent name [] apart = refl
   absent name (e ∷ es) apart =

@@ -1,6 +1,7 @@
 //! The entries of a directory: a map from names, which contracts see in the order of the names' bytes.
 ghost use Rattle.std.specs.Prelude.{◌≡◌, [], find, map, nat_eq, true, IsSome, IsTrue, IsOk, IfOk, ◌↔◌, OnOk, OnErr, option_copied, option_map};
 ghost use Rattle.std.specs.FinMap.Entries.{is_sorted};
+ghost use Rattle.std.specs.List.Sorted.{IsPermutation};
 ghost use Rattle.vt_spec.specs.Tree.{name_cmp, entry_named, with_entry};
 ghost use Rattle.vt_spec.specs.Language.Changes.{without_entry};
 ghost use Rattle.vt_node.specs.Listed.{HasOneName};
@@ -73,6 +74,13 @@ impl DirectoryEntries {
         let mut names = copied_names(alloc, self.by_name.keys().as_slice())?;
         names.sort_unstable();
         Ok(names)
+    }
+
+    /// The names, each once, in the order in which they are kept. It does not allocate.
+    pub fn kept_names(&self) -> &[Vec<u8>]
+        ensures { IsPermutation (map (λ name. name.items) result.now) (map (λ entry. entry.0) self.now) }
+    {
+        self.by_name.keys().as_slice()
     }
 
     /// The name that leads to a number which has one name at most. It passes over the entries.

@@ -1,5 +1,6 @@
 //! Nodes: their attributes, and what they hold by their kind.
 ghost use Rattle.std.specs.FinMap.Entries.{is_sorted};
+ghost use Rattle.std.specs.List.Sorted.{IsPermutation};
 ghost use Rattle.std.specs.Prelude.{◌≡◌, [], true, ◌+◌, ◌<◌, ◌^◌, find, map, length, nat_eq, not, take, drop, IsSome, IsOk, IfOk, OnOk, OnErr, option_copied, option_map};
 ghost use Rattle.vt_spec.specs.declared.attributes.Kind.TheVariants.{Dir, File};
 ghost use Rattle.vt_spec.specs.Rights.{is_directory};
@@ -234,6 +235,17 @@ impl Node {
         match &self.content {
             Content::Directory { entries, .. } => entries.names(alloc),
             _ => Ok(Vec::new(alloc)),
+        }
+    }
+
+    /// The names of a directory, each once, in no order; any other node has none. It does not allocate.
+    pub fn kept_names(&self) -> &[Vec<u8>]
+        ensures { IsPermutation (map (λ name. name.items) result.now)
+            (map (λ entry. entry.0) (entries_of self.now.content)) }
+    {
+        match &self.content {
+            Content::Directory { entries, .. } => entries.kept_names(),
+            _ => &[],
         }
     }
 

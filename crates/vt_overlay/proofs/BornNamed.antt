@@ -1,18 +1,17 @@
 -- A node that was born below is at one path: the way to the directory in which it was born, and the name of its rank.
-use Rattle.std.proofs.Common.{◌≡◌, ◌≢◌, ◌∙◌, ◌<◌, ◌≤◌, ◌∷◌, ◌++◌, ◌&&◌, [], ap, Bool, eqb-true, false, length, List, nat_eq, None, Option, option_and_then, refl, Some, subst, sym, true, true≢false, ℕ, slice_get}
+use Rattle.std.proofs.Common.{◌≡◌, ◌≢◌, ◌∙◌, ◌∷◌, ◌++◌, [], ap, Bool, eqb-true, false, length, List, nat_eq, None, Option, option_and_then, refl, Some, subst, sym, true, true≢false, ℕ, slice_get}
 use Rattle.std.proofs.lemmas.Option.{same_Some}
 use Rattle.std.specs.Cmp.{tied_itself}
 use Rattle.std.specs.Cmp.Lexicographic.{nat_list_cmp_total}
 use Rattle.std.specs.Ordering.{is_eq, is_lt}
 use Rattle.std.specs.declared.cmp.Ordering.{Ordering}
 use Rattle.std.specs.declared.cmp.Ordering.TheVariants.{Less, Equal, Greater}
-use Rattle.std.specs.Prelude.{filter, find, if◌then◌else◌, is_some, unwrap_or}
+use Rattle.std.specs.Prelude.{filter, find, if◌then◌else◌, unwrap_or}
 use Rattle.vt_spec.proofs.Found.{found_passes}
 use Rattle.vt_spec.proofs.Options.{none_is_some}
 use Rattle.vt_spec.proofs.Truths.{and_true_left, and_true_right}
 use Rattle.vt_spec.specs.Lists.{last_or, then_some, without_last}
 use Rattle.vt_spec.specs.Machine.Layers.{Shown, shown}
-use Rattle.vt_spec.specs.Machine.Merging.{is_root_path}
 use Rattle.vt_spec.specs.Tree.{Node, Tree, entries_in, entries_of, entry_named, is_directory_node, name_cmp}
 use Rattle.vt_spec.specs.TreeInvariant.{IsDirectory, IsTree, entry_at, led}
 use Rattle.vt_laws_layers.proofs.layers.ShownNames.{last_name}
@@ -26,11 +25,10 @@ use Rattle.vt_location.specs.Births.{born_in}
 use Rattle.vt_location.specs.Locations.{inode_of, number_of}
 use Rattle.vt_location.specs.Numbers.{exchanged, inode_number}
 use Rattle.vt_fs.specs.FilesystemsValue.{Filesystems, files_at, node_seen}
-use Rattle.vt_merge.specs.LayerValue.{layer_of}
 use Rattle.vt_merge.specs.declared.layers.LayerRef.{LayerRef}
 use Rattle.vt_node.proofs.RankLemmas.{before, found_is_there, ranked_is_found, ranked_is_there}
 use Rattle.vt_node.specs.Ranks.{name_ranked, rank_among}
-use Rattle.vt_overlay.specs.MergedTree.{AreLayers, IsLayer, OverlayValue, birth_at, born_below, node_born, object_shown, rank_at, slot_at}
+use Rattle.vt_overlay.specs.MergedTree.{IsLayer, OverlayValue, birth_at, born_below, node_born, object_shown, rank_at, slot_at}
 use Rattle.vt_overlay.proofs.BirthsFound.{Birthplace, IsBorn, has_last, in_slot, is_born}
 use Rattle.vt_overlay.proofs.RanksSeen.{ranked_seen}
 use Rattle.vt_overlay.proofs.TreeFound.{IsAt, found_at, found_is, found_is_at, in_layer, layers}

@@ -1,5 +1,5 @@
 -- A directory that has a way: its entries and its parent in the tree.
-use Rattle.std.proofs.Common.{◌≡◌, ◌≢◌, ◌∙◌, ◌∷◌, ◌++◌, ◌||◌, [], ap, Bool, cond, false, List, None, Option, option_map, refl, Some, subst, sym, true, true≢false, ℕ}
+use Rattle.std.proofs.Common.{◌≡◌, ◌∙◌, ◌∷◌, ◌++◌, ◌||◌, [], ap, Bool, cond, false, List, None, Option, option_map, refl, Some, subst, sym, true, true≢false, ℕ}
 use Rattle.std.proofs.lemmas.Option.{same_Some}
 use Rattle.std.specs.List.{cons_option, filter_map, list_any}
 use Rattle.std.specs.Prelude.{if◌then◌else◌, is_some, nat_eq, unwrap_or}
@@ -24,7 +24,7 @@ use Rattle.vt_overlay.specs.MergedTree.{AreLayers, OverlayValue, directory_path,
 use Rattle.vt_overlay.proofs.TreeFound.{layers, layers_are, number_is_shown, open_layers}
 
 -- the name of an entry that is made of names with numbers
-abbrev with_names : (List ℕ → Option ℕ) → List (List ℕ) → Entries ℕ
+abbrev pub with_names : (List ℕ → Option ℕ) → List (List ℕ) → Entries ℕ
 with_names number names = filter_map (λ name. option_map (λ n. (name, n)) (number name)) names
 
 entry_listed : (number : List ℕ → Option ℕ) (name : List ℕ) (names : List (List ℕ))
@@ -157,7 +157,7 @@ module _ (trees : Filesystems) (overlay : OverlayValue) (are : AreLayers trees o
       by None p e = none_is_some way (sym e)
       by (Some path) p e = there path p (is_directory_node (inode_there path)) refl e
 
-  no_directory_at : (number : ℕ) → None ≡ directory_path trees overlay number
+  pub no_directory_at : (number : ℕ) → None ≡ directory_path trees overlay number
       → is_directory_node ((merged_tree trees overlay).node number) ≡ false
   no_directory_at number e = by (path_at trees overlay number) refl e
     where
@@ -199,6 +199,10 @@ module _ (trees : Filesystems) (overlay : OverlayValue) (are : AreLayers trees o
         has_parts (parent_shown (real_number trees overlay) (plain_world trees) (overlay_seen overlay) way) number
         (entries_shown (real_number trees overlay) (plain_world trees) (overlay_seen overlay) way) (inode_there way)
         at.directory
+
+    pub entries_are : entries_in ((merged_tree trees overlay).node number)
+        ≡ entries_shown (real_number trees overlay) (plain_world trees) (overlay_seen overlay) way
+    entries_are = ap entries_in at.node ∙ parts.entries_are
 
     pub entry_of : (name : List ℕ) → number_at trees overlay (way ++ name ∷ [])
         ≡ entry_named name (entries_in ((merged_tree trees overlay).node number))

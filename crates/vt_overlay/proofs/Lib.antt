@@ -1,8 +1,10 @@
 pub mod BirthsFound
 pub mod BornNamed
 pub mod DirectoriesSeen
+pub mod DirectoriesUnder
 pub mod NamesFound
 pub mod NodesShown
+pub mod PathsDown
 pub mod ObjectsAlike
 pub mod RanksSeen
 pub mod RootFound

@@ -1,11 +1,10 @@
 -- The node that is shown at a path: its number, and where it was born.
-use Rattle.std.proofs.Common.{◌≡◌, ◌≢◌, ◌∙◌, ◌∷◌, ◌+◌, [], arith, ap, Bool, false, length, List, None, Option, option_map, refl, Some, subst, suc, sym, true, true≢false, zero, ℕ, slice_get}
+use Rattle.std.proofs.Common.{◌≡◌, ◌≢◌, ◌∙◌, ◌∷◌, ◌+◌, [], arith, ap, length, List, None, option_map, Some, subst, suc, sym, zero, ℕ, slice_get}
 use Rattle.std.proofs.lemmas.Option.{same_Some}
 use Rattle.std.specs.Prelude.{if◌then◌else◌, unwrap_or}
 use Rattle.vt_spec.proofs.Options.{none_is_some}
 use Rattle.vt_spec.specs.Lists.{last_or, then_some, without_last}
-use Rattle.vt_spec.specs.Machine.Layers.{Shown, at_path, shown}
-use Rattle.vt_spec.specs.Machine.Merging.{is_root_path}
+use Rattle.vt_spec.specs.Machine.Layers.{at_path, shown}
 use Rattle.vt_spec.specs.Tree.{Tree, entries_in, is_directory_node}
 use Rattle.vt_location.specs.declared.births.Birth.{Birth}
 use Rattle.vt_location.specs.declared.births.Birth.TheVariants.{Below, Here}
@@ -15,7 +14,7 @@ use Rattle.vt_fs.specs.FilesystemsValue.{Filesystems, files_at}
 use Rattle.vt_merge.specs.LayerValue.{layer_of}
 use Rattle.vt_merge.specs.declared.layers.LayerRef.{LayerRef}
 use Rattle.vt_node.specs.Ranks.{rank_among}
-use Rattle.vt_overlay.specs.MergedTree.{AreLayers, OverlayValue, birth_at, node_born, number_at, rank_at, real_number, slot_at}
+use Rattle.vt_overlay.specs.MergedTree.{AreLayers, OverlayValue, birth_at, number_at, rank_at, real_number, slot_at}
 use Rattle.vt_overlay.proofs.BirthsFound.{has_last, no_names, some_names}
 use Rattle.vt_overlay.proofs.TreeFound.{in_layer, layers, number_of_shown, real_is, real_of}
 

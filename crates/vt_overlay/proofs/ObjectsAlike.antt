@@ -1,5 +1,5 @@
 -- A node has what its real object has, but for names, parent and mark.
-use Rattle.std.proofs.Common.{◌≡◌, ◌∙◌, ap, List, None, Option, refl, Some, sym, ℕ, slice_get}
+use Rattle.std.proofs.Common.{◌≡◌, ◌∙◌, ◌∷◌, [], ap, List, map, None, Option, refl, Some, sym, ℕ, slice_get}
 use Rattle.std.proofs.lemmas.Option.{same_Some, slice_get-map}
 use Rattle.std.specs.Prelude.{nat_eq, option_map}
 use Rattle.vt_spec.proofs.Options.{none_is_some}
@@ -7,17 +7,20 @@ use Rattle.vt_spec.specs.Lists.{then_some}
 use Rattle.vt_spec.specs.Machine.Invariants.{node_shown}
 use Rattle.vt_spec.specs.Machine.Layers.{OpenLayer, Shown, shown}
 use Rattle.vt_spec.specs.Machine.Merging.{layer_node}
+use Rattle.vt_spec.specs.Machine.Renaming.{renamed_content, renamed_entry}
 use Rattle.vt_spec.specs.Tree.{Content, Entries, Node}
 use Rattle.vt_spec.specs.Tree.Content.{Directory, Regular, Symlink, Whiteout}
 use Rattle.vt_laws_merging.specs.MergedTrees.{entries_shown, node_as, parent_shown}
 use Rattle.vt_laws_seen.specs.TreesSeen.{node_by}
+use Rattle.vt_location.proofs.NumberLemmas.{exchanged_back}
 use Rattle.vt_location.specs.declared.numbers.FilesystemId.{FilesystemId}
 use Rattle.vt_location.specs.Locations.{inode_of}
+use Rattle.vt_location.specs.Numbers.{exchanged}
 use Rattle.vt_fs.specs.FilesystemsValue.{Filesystems, files_at, node_seen}
 use Rattle.vt_merge.specs.LayerValue.{layer_of, seen_of}
 use Rattle.vt_merge.specs.declared.layers.LayerRef.{LayerRef}
 use Rattle.vt_merge.specs.declared.layers.Real.{Real}
-use Rattle.vt_overlay.specs.Alike.{ObjectsAreAlike, front, real_inode}
+use Rattle.vt_overlay.specs.Alike.{ObjectsAreAlike, front, lent_at, real_inode, real_lent}
 use Rattle.vt_overlay.specs.MergedTree.{AreLayers, OverlayValue, longest, merged_tree, object_shown, overlay_seen, path_at, plain_world, real_number}
 use Rattle.vt_overlay.proofs.TreeFound.{layers, layers_are}
 
@@ -45,6 +48,25 @@ objects_alike trees overlay number = by (path_at trees overlay number)
         alike_as (parent_shown (real_number trees overlay) (plain_world trees) (overlay_seen overlay) path)
         (entries_shown (real_number trees overlay) (plain_world trees) (overlay_seen overlay) path)
         (node_shown nat_eq (plain_world trees) (overlay_seen overlay) path)
+
+-- an inode that is seen twice by other numbers is itself
+pub seen_twice : (f : ℕ) (node : Option (Node ℕ)) → option_map (node_seen f) (option_map (node_seen f) node) ≡ node
+seen_twice f None = refl
+seen_twice f (Some node) = λ i. Some (record { attr = node.attr; content = content_back node.content i })
+  where
+    entries_back : (entries : Entries ℕ)
+        → map (renamed_entry (exchanged f) (exchanged f)) (map (renamed_entry (exchanged f) (exchanged f)) entries)
+        ≡ entries
+    entries_back [] = refl
+    entries_back (entry ∷ entries) = λ i. (entry.0, exchanged_back f entry.1 i) ∷ entries_back entries i
+
+    content_back : (content : Content ℕ)
+        → renamed_content (exchanged f) (exchanged f) (renamed_content (exchanged f) (exchanged f) content) ≡ content
+    content_back (Directory parent entries opaque) =
+        λ i. Directory (exchanged_back f parent i) (entries_back entries i) opaque
+    content_back (Regular bytes) = refl
+    content_back (Symlink text) = refl
+    content_back Whiteout = refl
 
 -- the inode of the real object is that of what is shown
 module _ (trees : Filesystems) (overlay : OverlayValue) (are : AreLayers trees overlay.lowers) (number : ℕ) where
@@ -96,3 +118,32 @@ module _ (trees : Filesystems) (overlay : OverlayValue) (are : AreLayers trees o
           (slice_get-map (layer_of trees) overlay.lowers real.layer ∙ ap (option_map (layer_of trees)) e)
           ∙ ap (λ (f : FilesystemId). (files_at trees f.count).tree.node (inode_of real.inode))
           (same_Some lower.directory.filesystem real.inode.filesystem t)
+
+  -- what is lent of the real object
+  pub none_lent : None ≡ object_shown trees overlay number → None ≡ real_lent trees overlay number
+  none_lent is =
+      ap (λ o. then_some o (λ (seen : Shown ℕ).
+      then_some (slice_get overlay.lowers seen.layer) (lent_at trees seen.object))) is
+
+  pub some_lent : (real : Real) → Some (seen_of real) ≡ object_shown trees overlay number
+      → option_map (λ (layer : LayerRef). layer.directory.filesystem) (slice_get overlay.lowers real.layer)
+      ≡ Some real.inode.filesystem
+      → (node : Option (Node ℕ)) → option_map (node_seen real.inode.filesystem.count) node
+      ≡ (files_at trees real.inode.filesystem.count).tree.node (inode_of real.inode)
+      → node ≡ real_lent trees overlay number
+  some_lent real is tree node seen =
+      sym (seen_twice real.inode.filesystem.count node)
+      ∙ ap (option_map (node_seen real.inode.filesystem.count)) seen
+      ∙ in_layer (slice_get overlay.lowers real.layer) tree
+      ∙ ap (λ o. then_some o (λ (seen : Shown ℕ).
+      then_some (slice_get overlay.lowers seen.layer) (lent_at trees seen.object))) is
+    where
+      in_layer : (o : Option LayerRef)
+          → option_map (λ (layer : LayerRef). layer.directory.filesystem) o ≡ Some real.inode.filesystem
+          → option_map (node_seen real.inode.filesystem.count)
+          ((files_at trees real.inode.filesystem.count).tree.node (inode_of real.inode))
+          ≡ then_some o (lent_at trees (inode_of real.inode))
+      in_layer None t = none_is_some real.inode.filesystem t
+      in_layer (Some lower) t =
+          ap (λ (f : FilesystemId). option_map (node_seen f.count) ((files_at trees f.count).tree.node (inode_of real.inode)))
+          (sym (same_Some lower.directory.filesystem real.inode.filesystem t))

@@ -1,5 +1,5 @@
 -- Ranks by slots are ranks by the numbers of inodes.
-use Rattle.std.proofs.Common.{◌≡◌, ◌∙◌, ◌∷◌, ◌&&◌, [], ap, Bool, eq-eqb, eqb-true, false, length, List, map, nat_eq, None, option_map, Option, refl, Some, suc, sym, true, ℕ}
+use Rattle.std.proofs.Common.{◌≡◌, ◌∙◌, ◌∷◌, ◌&&◌, [], ap, Bool, eq-eqb, eqb-true, false, length, List, map, nat_eq, option_map, refl, Some, suc, sym, true, ℕ}
 use Rattle.std.specs.Ordering.{is_lt}
 use Rattle.std.specs.Prelude.{filter, find, if◌then◌else◌}
 use Rattle.vt_spec.specs.Machine.Renaming.{renamed_entry}

@@ -38,6 +38,10 @@ top_shown trees (first ∷ lowers) top e is =
     ∙ ap (λ b. when (not b) (record { layer = 0; object = inode_of top.directory }))
     (directory_no_whiteout ((files_at trees top.directory.filesystem.count).tree.node (inode_of top.directory)) is)
 
+pub no_name : (path : List (List ℕ)) → is_root_path path ≡ true → path ≡ []
+no_name [] e = refl
+no_name (name ∷ path) e = absurd (true≢false (sym e))
+
 no_first : (lowers : List LayerRef) (place : ℕ) (lower : LayerRef) → slice_get lowers 0 ≡ None
     → slice_get lowers place ≡ Some lower → ⊥
 no_first [] place lower none e = none_is_some lower e
@@ -51,10 +55,6 @@ module _ (trees : Filesystems) (overlay : OverlayValue) (are : AreLayers trees o
   pub record IsRoot (path : List (List ℕ)) (lower : LayerRef) : Type 0 where
     pub nameless : path ≡ []
     pub in_slot_of_top : slot_at trees lower [] ≡ slot
-
-  no_name : (path : List (List ℕ)) → is_root_path path ≡ true → path ≡ []
-  no_name [] e = refl
-  no_name (name ∷ path) e = absurd (true≢false (sym e))
 
   pub is_root : (path : List (List ℕ)) (at : IsAt trees overlay are path root_number) → IsRoot path at.lower
   unfolding is_here

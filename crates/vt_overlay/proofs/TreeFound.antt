@@ -145,7 +145,7 @@ module _ (trees : Filesystems) (overlay : OverlayValue) (are : AreLayers trees o
           × Rattle.vt_spec.specs.TreeInvariant.IsDirectory l.tree l.directory)
           (same_Some (layer_of trees lower) layer m) ((are place lower s).tree, (are place lower s).directory)
 
-  bounded : (path : List (List ℕ)) (seen : Shown ℕ) → shown layers path ≡ Some seen
+  pub bounded : (path : List (List ℕ)) (seen : Shown ℕ) → shown layers path ≡ Some seen
       → length path ≤ longest trees overlay.lowers
   bounded path seen e =
       let at = in_layer path seen e in
@@ -171,11 +171,9 @@ module _ (trees : Filesystems) (overlay : OverlayValue) (are : AreLayers trees o
   abbrev passes : ℕ → List (List ℕ) → Bool
   passes number path = holds_of (nat_eq number) (number_at path)
 
-  pub found_is_at : (number : ℕ) (path : List (List ℕ)) → found_at number ≡ Some path → IsAt path number
-  found_is_at number path e =
-      by (shown layers path) refl (shown_number number (number_at path)
-      (found_passes (passes number)
-      (paths_from (longest trees overlay.lowers) (layers_shown world (overlay_seen overlay)) []) path e))
+  -- a number that is shown at a path
+  pub numbered_is_at : (number : ℕ) (path : List (List ℕ)) → number_at path ≡ Some number → IsAt path number
+  numbered_is_at number path numbered = by (shown layers path) refl numbered
     where
       by : (o : Option (Shown ℕ)) → shown layers path ≡ o → number_at path ≡ Some number → IsAt path number
       by None s n =
@@ -192,6 +190,12 @@ module _ (trees : Filesystems) (overlay : OverlayValue) (are : AreLayers trees o
             leads = at.2;
             numbered = same_Some _ number (sym (number_of_shown path seen at.0 s at.1) ∙ n);
           }
+
+  pub found_is_at : (number : ℕ) (path : List (List ℕ)) → found_at number ≡ Some path → IsAt path number
+  found_is_at number path e =
+      numbered_is_at number path (shown_number number (number_at path)
+      (found_passes (passes number)
+      (paths_from (longest trees overlay.lowers) (layers_shown world (overlay_seen overlay)) []) path e))
 
   -- and one that is at a path is found
   pub at_is_found : (number : ℕ) (path : List (List ℕ)) → IsAt path number → found_at number ≢ None

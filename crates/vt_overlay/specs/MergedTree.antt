@@ -1,16 +1,17 @@
 -- The tree of an overlay without an upper layer, as a function of the trees of its layers: the kernel's overlayfs
 -- document, "upper and lower" and "multiple lower layers".
-use Rattle.std.specs.Prelude.{List, None, Option, Some, [], false, if◌then◌else◌, length, map, option_map, slice_get, unwrap_or, ℕ, nat_eq, ◌+◌, ◌∷◌, ◌≡◌}
+use Rattle.std.specs.Prelude.{List, None, Option, Some, [], false, filter_map, if◌then◌else◌, length, map, option_map, slice_get, unwrap_or, ℕ, nat_eq, ◌+◌, ◌∷◌, ◌≡◌}
+use Rattle.vt_spec.specs.FileTree.{FileTree}
 use Rattle.vt_spec.specs.Lists.{last_or, then_some, without_last}
 use Rattle.vt_spec.specs.Machine.Invariants.{node_shown}
-use Rattle.vt_spec.specs.Machine.Layers.{Shown, at_path, node_at_path, shown}
+use Rattle.vt_spec.specs.Machine.Layers.{Shown, at_path, node_at_path, paths_from, shown}
 use Rattle.vt_spec.specs.Machine.Merging.{is_root_path}
 use Rattle.vt_spec.specs.Machine.World.{Layer, Overlay, Real, World}
 use Rattle.vt_spec.specs.Machine.World.Real.{Lower, Upper}
 use Rattle.vt_spec.specs.Rights.{Credentials}
 use Rattle.vt_spec.specs.Tree.{Tree, entries_in, is_directory_node}
 use Rattle.vt_spec.specs.TreeInvariant.{IsDirectory, IsTree}
-use Rattle.vt_laws_merging.specs.MergedTrees.{number_shown}
+use Rattle.vt_laws_merging.specs.MergedTrees.{layers_shown, number_shown}
 use Rattle.vt_laws_seen.specs.TreesSeen.{path_numbered, tree_seen}
 use Rattle.vt_node.specs.Ranks.{rank_among}
 use Rattle.vt_location.specs.declared.births.Birth.{Birth}
@@ -109,6 +110,16 @@ merged_tree trees overlay =
 abbrev pub number_at : Filesystems → OverlayValue → List (List ℕ) → Option ℕ
 number_at trees overlay path =
     number_shown (real_number trees overlay) (plain_world trees) (overlay_seen overlay) path
+
+-- the numbers of all that is shown, and the tree with these beside it
+abbrev pub numbers_shown : Filesystems → OverlayValue → List ℕ
+numbers_shown trees overlay =
+    filter_map (number_at trees overlay)
+    (paths_from (longest trees overlay.lowers) (layers_shown (plain_world trees) (overlay_seen overlay)) [])
+
+abbrev pub merged_files : Filesystems → OverlayValue → FileTree ℕ
+merged_files trees overlay =
+    record { tree = merged_tree trees overlay; numbers = numbers_shown trees overlay }
 
 -- the path at which a node is
 abbrev pub path_at : Filesystems → OverlayValue → ℕ → Option (List (List ℕ))

@@ -5,6 +5,7 @@
 mod laws;
 mod nodes;
 mod overlays;
+mod paths;
 
 pub use laws::nodes_are_like_their_real_objects;
 pub use overlays::Overlay;

@@ -11,7 +11,7 @@ ghost use Rattle.vt_merge.specs.LayerValue.{layers_of, seen_of};
 ghost use Rattle.vt_merge.specs.declared.layers.LayerRef.{LayerRef as Layer};
 ghost use Rattle.vt_merge.specs.declared.merging.TheConstants.{MOST_LAYERS};
 ghost use Rattle.vt_node.specs.Ranks.{rank_among};
-ghost use Rattle.vt_overlay.specs.Alike.{front};
+ghost use Rattle.vt_overlay.specs.Alike.{front, real_lent};
 ghost use Rattle.vt_overlay.specs.MergedTree.{AreLayers, birth_at, born_below, born_here, merged_tree, number_at, object_shown};
 
 use crate::overlays::{Overlay, inode_in};
@@ -57,7 +57,8 @@ impl Overlay {
         requires layers { AreLayers trees.now self.now.lowers }
         requires few { length self.now.lowers ≤ MOST_LAYERS }
         requires own { node.filesystem ≡ self.now.number }
-        ensures { front (option_copied result) ≡ front ((merged_tree trees.now self.now).node (number_of node)) }
+        ensures alike { front (option_copied result) ≡ front ((merged_tree trees.now self.now).node (number_of node)) }
+        ensures lent { option_copied result ≡ real_lent trees.now self.now (number_of node) }
     {
         let real = self.object(trees, node)?;
         real_of(trees, real)

@@ -1,21 +1,22 @@
 //! Overlays without an upper layer, and the real objects of their directories.
-ghost use Rattle.std.specs.Prelude.{◌≡◌, ◌≤◌, ◌^◌, ℕ, IfOk, Some, length, map, nat_eq, nat_lt, option_map, slice_get, true};
-ghost use Rattle.vt_spec.specs.Lists.{holds_of, then_some};
+ghost use Rattle.std.specs.Prelude.{◌≡◌, ◌≤◌, ◌^◌, ℕ, [], IfOk, IsOk, length, map, nat_eq, nat_lt, not, option_map, slice_get, true};
+ghost use Rattle.vt_spec.specs.FileTree.{is_directory_under, is_removed};
+ghost use Rattle.vt_spec.specs.Lists.{holds_of, is_empty_list};
 ghost use Rattle.vt_spec.specs.Machine.Layers.{Shown, shown};
-ghost use Rattle.vt_spec.specs.Tree.{names_in, parent_in};
+ghost use Rattle.vt_spec.specs.Tree.{entries_in, names_in, parent_in};
 ghost use Rattle.vt_location.specs.Locations.{inode_of, number_of};
 ghost use Rattle.vt_location.specs.Numbers.{exchanged};
 ghost use Rattle.vt_fs.specs.FilesystemsValue.{files_at};
-ghost use Rattle.vt_merge.specs.LayerValue.{layers_of, seen_of};
+ghost use Rattle.vt_merge.specs.LayerValue.{layers_of};
 ghost use Rattle.vt_merge.specs.declared.merging.TheConstants.{MOST_LAYERS};
-ghost use Rattle.vt_overlay.specs.MergedTree.{AreLayers, born_below, born_here, directory_path, merged_tree};
+ghost use Rattle.vt_overlay.specs.MergedTree.{AreLayers, born_below, born_here, directory_path, merged_files, merged_tree};
 
 use std::alloc::{AllocError, Global};
 use std::marker::Model;
 use vt_cred::Cred;
 use vt_fs::Filesystems;
 use vt_location::{Birth, FilesystemId, InodeRef, NodeRef};
-use vt_merge::{LayerRef, Real, Way, WayDown, merged_names, shown, way_down};
+use vt_merge::{LayerRef, Way, WayDown, has_names, merged_names, shown, starts_with, way_down};
 
 /// An overlay without an upper layer: its number, its lower layers from the top, and the credentials that it was
 /// mounted with.
@@ -114,21 +115,52 @@ impl Overlay {
         Some(way)
     }
 
-    /// The real object of a directory: what the layers show at its way. It does not allocate.
-    pub fn directory(&self, trees: &Filesystems, node: NodeRef) -> Option<Real>
+    /// Whether a directory has entries: ENOTEMPTY of rmdir(2). What is no directory has none. It does not allocate.
+    pub fn is_nonempty(&self, trees: &Filesystems, node: NodeRef) -> bool
         requires layers { AreLayers trees.now self.now.lowers }
         requires few { length self.now.lowers ≤ MOST_LAYERS }
         requires own { node.filesystem ≡ self.now.number }
-        ensures { option_map seen_of result
-            ≡ then_some (directory_path trees.now self.now (number_of node))
-            (λ path. shown (layers_of trees.now self.now.lowers) path) }
+        ensures { result
+            ≡ not (is_empty_list (entries_in ((merged_tree trees.now self.now).node (number_of node)))) }
     {
-        let way = self.way(trees, node)?;
-        shown(trees, self.lowers.as_slice(), &way)
+        match self.way(trees, node) {
+            Some(way) => has_names(trees, self.lowers.as_slice(), &way),
+            None => false,
+        }
     }
 
-    /// The names of a directory, in the order of their bytes: readdir(3). What is no directory has none. It fails only
-    /// if an allocation does.
+    /// Whether a directory is another one, or lies under it: the way to that one begins its own. It does not allocate.
+    pub fn is_under(&self, trees: &Filesystems, top: NodeRef, directory: NodeRef) -> bool
+        requires layers { AreLayers trees.now self.now.lowers }
+        requires few { length self.now.lowers ≤ MOST_LAYERS }
+        requires own { directory.filesystem ≡ self.now.number }
+        requires one_filesystem { top.filesystem ≡ self.now.number }
+        ensures { result ≡ is_directory_under nat_eq (merged_files trees.now self.now) (number_of top)
+            (number_of directory) }
+    {
+        let Some(lower) = self.way(trees, directory) else {
+            return top.is_same(directory);
+        };
+        match self.way(trees, top) {
+            Some(upper) => starts_with(&lower, &upper),
+            None => top.is_same(directory),
+        }
+    }
+
+    /// Whether a directory other than the root has no name. Without an upper layer no directory loses its name; what is
+    /// no directory counts as removed. It does not allocate.
+    pub fn is_removed(&self, trees: &Filesystems, directory: NodeRef) -> bool
+        requires layers { AreLayers trees.now self.now.lowers }
+        requires few { length self.now.lowers ≤ MOST_LAYERS }
+        requires own { directory.filesystem ≡ self.now.number }
+        ensures { result ≡ is_removed nat_eq (merged_tree trees.now self.now) (number_of directory) }
+    {
+        self.way(trees, directory).is_none()
+    }
+
+    /// The names of a directory, in the order of their bytes: readdir(3). What is no directory has none.
+    ///
+    /// It fails only if an allocation does, and an empty list needs none.
     pub fn names(
         &self,
         alloc: Global,
@@ -138,9 +170,13 @@ impl Overlay {
         requires layers { AreLayers trees.now self.now.lowers }
         requires few { length self.now.lowers ≤ MOST_LAYERS }
         requires own { node.filesystem ≡ self.now.number }
-        ensures { IfOk result (λ names. map (λ name. name.items) names.items
+        ensures ok { IfOk result (λ names. map (λ name. name.items) names.items
             ≡ names_in ((merged_tree trees.now self.now).node (number_of node))) }
+        ensures empty { entries_in ((merged_tree trees.now self.now).node (number_of node)) ≡ [] → IsOk result }
     {
+        if !self.is_nonempty(trees, node) {
+            return Ok(Vec::new(alloc));
+        }
         match self.way(trees, node) {
             Some(way) => merged_names(alloc, trees, self.lowers.as_slice(), &way),
             None => Ok(Vec::new(alloc)),

@@ -1,5 +1,4 @@
 use Rattle.std.proofs.Common.{◌≡◌, ◌-◌, ◌∙◌, arith, length, sym}
-use Rattle.vt_spec.specs.Lists.{without_last}
 use Rattle.vt_merge.proofs.PathEnds.{length-without_last}
 use Rattle.vt_merge.proofs.ways.FrontWay.len.Goals as goal
 

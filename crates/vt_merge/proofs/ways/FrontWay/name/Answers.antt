@@ -1,4 +1,4 @@
-use Rattle.std.proofs.Common.{◌≡◌, ◌-◌, ◌∙◌, arith, length}
+use Rattle.std.proofs.Common.{◌∙◌, arith}
 use Rattle.vt_merge.proofs.PathEnds.{in_front, length-without_last}
 use Rattle.vt_merge.proofs.ways.FrontWay.name.Goals as goal
 

@@ -7,8 +7,8 @@ use Rattle.vt_overlay.specs.MergedTree.{OverlayValue}
 use Rattle.vt_overlay.proofs.NamesFound.{names_of_none, names_of_way}
 use Rattle.vt_overlay.proofs.overlays.Overlay.names.Goals as goal
 
-pub returns-in-Some : goal.returns-in-Some
-returns-in-Some c =
+pub returns-in-Some-clause-ok : goal.returns-in-Some-clause-ok
+returns-in-Some-clause-ok c =
     let layers : c.as_slice.result.now ≡ c.args.self.now.lowers =
     c.as_slice.ensures.value ∙ ap (λ (overlay : OverlayValue). overlay.lowers) c.self.view_is in
     let shows = ap (λ l. names_shown (layers_of c.args.trees.now l) c.in-Some.way) layers
@@ -16,8 +16,8 @@ returns-in-Some c =
     (sym c.in-Some.is ∙ c.way.ensures) in
     IfOk-weaker c.merged_names.result _ _ (λ names is. is ∙ shows) c.merged_names.ensures
 
-pub returns-in-None : goal.returns-in-None
-returns-in-None c =
-    ap (map (λ name. name.items)) c.new.ensures.items
+pub returns-in-None-clause-ok : goal.returns-in-None-clause-ok
+returns-in-None-clause-ok c =
+    ap (map (λ name. name.items)) c.new-in-None.ensures.items
     ∙ names_of_none c.args.trees.now c.args.self.now c.requires.layers (number_of c.args.node)
     (sym c.in-None.is ∙ c.way.ensures)

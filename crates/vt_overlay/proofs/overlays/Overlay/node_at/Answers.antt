@@ -1,4 +1,4 @@
-use Rattle.std.proofs.Common.{None, Some, ap, option_map, rules, subst, sym, ◌≡◌, ◌∙◌, slice_get}
+use Rattle.std.proofs.Common.{None, Some, ap, option_map, sym, ◌≡◌, ◌∙◌, slice_get}
 use Rattle.std.proofs.lemmas.Option.{same_Some}
 use Rattle.vt_spec.proofs.Options.{none_is_some}
 use Rattle.vt_spec.specs.Machine.Layers.{shown}
@@ -8,7 +8,7 @@ use Rattle.vt_location.specs.Locations.{inode_of, number_of}
 use Rattle.vt_location.specs.Numbers.{exchanged}
 use Rattle.vt_merge.specs.LayerValue.{layers_of, seen_of}
 use Rattle.vt_merge.specs.declared.layers.LayerRef.{LayerRef}
-use Rattle.vt_overlay.specs.MergedTree.{OverlayValue, birth_at, number_at}
+use Rattle.vt_overlay.specs.MergedTree.{OverlayValue, birth_at}
 use Rattle.vt_overlay.proofs.NodesShown.{no_number, node_is}
 use Rattle.vt_overlay.proofs.TreeFound.{in_layer}
 use Rattle.vt_overlay.proofs.overlays.Overlay.node_at.Goals as goal
