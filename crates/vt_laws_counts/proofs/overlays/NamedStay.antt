@@ -16,7 +16,7 @@ use Rattle.vt_laws_counts.proofs.using.Exchanged.{found_mapped, numbers_mapped}
 use Rattle.vt_laws_counts.proofs.using.Swept.{found_is, not_found}
 
 -- a filter of what is changed
-filter_stays : {A : Type 0} (step : A → A) (p : A → Bool) (list : List A)
+pub filter_stays : {A : Type 0} (step : A → A) (p : A → Bool) (list : List A)
     → ((a : A) → Among a list → p (step a) ≡ p a) → ((a : A) → Among a list → p a ≡ true → step a ≡ a)
     → filter p (map step list) ≡ filter p list
 filter_stays step p [] same stays = refl

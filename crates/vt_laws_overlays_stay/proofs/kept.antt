@@ -1,0 +1,3 @@
+-- What the proofs of src/kept.rt use.
+pub mod OverlaysLeft
+pub mod OverlaysSwept

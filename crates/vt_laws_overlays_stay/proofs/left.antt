@@ -1,0 +1,2 @@
+-- What the proofs of src/left.rt use.
+pub mod Given

@@ -1,0 +1,48 @@
+-- A permit leaves overlays without an upper layer as they are: such an overlay is read-only (the kernel's overlayfs
+-- document, "multiple lower layers").
+use Rattle.std.specs.Prelude.{filter, nat_eq, ℕ, ◌≡◌}
+use Rattle.vt_spec.specs.Lists.{Fresh}
+use Rattle.vt_spec.specs.Machine.Apply.{apply}
+use Rattle.vt_spec.specs.Machine.Invariants.{IsWorld}
+use Rattle.vt_spec.specs.Machine.Permits.{Permit}
+use Rattle.vt_spec.specs.Machine.SameWorlds.{SameWorlds}
+use Rattle.vt_spec.specs.Machine.Settled.{is_mounted, settled}
+use Rattle.vt_spec.specs.Machine.World.{Task, World, is_overlay}
+use Rattle.vt_laws_rules.specs.Plain.{IsPlain}
+use Rattle.vt_laws_counts.specs.BesideOverlays.{OverlaysHaveNoUpper}
+use Rattle.vt_laws_counts.specs.OverlaysStay.{OverlaysAreNamed}
+use Rattle.vt_laws_permits.specs.Left.{IsGiven, left_by}
+
+-- Before the sweep all overlays are there, in their order, as they were.
+abbrev pub PermitsLeaveOverlays : Type 0
+PermitsLeaveOverlays =
+    (world : World ℕ) (fresh : Fresh ℕ) (task : Task ℕ) (permit : Permit ℕ) → IsWorld nat_eq world
+    → OverlaysHaveNoUpper world → IsGiven fresh world task permit
+    → filter is_overlay (apply nat_eq fresh world task permit).world.filesystems ≡ filter is_overlay world.filesystems
+
+-- After it those are there that are mounted, as they were, where all their inodes have names.
+abbrev pub MountedOverlaysStay : Type 0
+MountedOverlaysStay =
+    (world : World ℕ) (fresh : Fresh ℕ) (task : Task ℕ) (permit : Permit ℕ) → IsWorld nat_eq world
+    → OverlaysHaveNoUpper world → OverlaysAreNamed world → IsGiven fresh world task permit
+    → filter is_overlay (left_by fresh world task permit).filesystems
+    ≡ filter (λ merged. is_mounted nat_eq (left_by fresh world task permit) merged.number)
+    (filter is_overlay world.filesystems)
+
+-- The sweep gives no overlay an upper layer,
+abbrev pub SweepsGiveNoUpper : Type 0
+SweepsGiveNoUpper = (world : World ℕ) → OverlaysHaveNoUpper world → OverlaysHaveNoUpper (settled nat_eq world)
+
+-- and takes no name.
+abbrev pub SweepsKeepNames : Type 0
+SweepsKeepNames = (world : World ℕ) → OverlaysAreNamed world → OverlaysAreNamed (settled nat_eq world)
+
+-- In a world of plain filesystems no overlay has an upper layer, and all have names,
+abbrev pub PlainWorldsHaveNoOverlays : Type 0
+PlainWorldsHaveNoOverlays = (world : World ℕ) → IsPlain world → OverlaysHaveNoUpper world × OverlaysAreNamed world
+
+-- and where none has an upper layer in one world, none has in the same world but for change numbers and the order of
+-- the numbers beside trees.
+abbrev pub SameWorldsHaveNoUpperAlike : Type 0
+SameWorldsHaveNoUpperAlike =
+    (one other : World ℕ) → SameWorlds one other → OverlaysHaveNoUpper one → OverlaysHaveNoUpper other
